@@ -1,0 +1,12 @@
+pub mod CofactorLaws
+pub mod CommonDenominator
+pub mod DivisorLaws
+pub mod FormulaLaws
+pub mod FractionOrder
+pub mod LowestLaws
+pub mod OrderLaws
+pub mod RangeLaws
+pub mod RatioLaws
+pub mod Signs
+pub mod TextLaws
+pub mod Whole

@@ -1,0 +1,15 @@
+use Rattle.std.specs.Prelude.{ℕ, zero, suc, ◌%◌, ℤ, pos, unsigned_abs}
+
+-- Euclid's remainders, so many at most
+abbrev pub gcd_within : ℕ → ℕ → ℕ → ℕ
+gcd_within zero a b = a
+gcd_within (suc steps) a zero = a
+gcd_within (suc steps) a (suc b) = gcd_within steps (suc b) (a % suc b)
+
+-- the greatest common divisor of two numbers, 0 for two zeros
+unfoldable pub gcd : ℕ → ℕ → ℕ
+gcd a b = gcd_within (suc b) a b
+
+-- the same of whole numbers with a sign
+abbrev pub int_gcd : ℤ → ℤ → ℤ
+int_gcd a b = pos (gcd (unsigned_abs a) (unsigned_abs b))

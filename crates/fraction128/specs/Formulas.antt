@@ -1,0 +1,48 @@
+use Rattle.std.specs.Prelude.{ℤ, ◌+ℤ◌, ◌*ℤ◌, ◌^◌, Bool, Option, Some, None, Result, Ok, Err, List, [], ◌∷◌, nat_lt, int_div, unsigned_abs, if◌then◌else◌}
+use Rattle.std.specs.List.{list_all}
+use Rattle.fraction128.specs.Arithmetic.{sum_of_quotients}
+use Rattle.fraction128.specs.Divisor.{int_gcd}
+use Rattle.fraction128.specs.declared.fraction.Fraction.{Fraction}
+
+-- p over q
+pub record Ratio : Type 0 where
+  pub numerator : ℤ
+  pub denominator : ℤ
+
+-- a fraction's two numbers
+abbrev pub ratio_of : Fraction → Ratio
+ratio_of x = record { numerator = x.numerator; denominator = x.denominator }
+
+-- the fraction that was answered, None for an overflow
+abbrev pub answered : {E : Type 0} → Result Fraction E → Option Ratio
+answered (Ok x) = Some (ratio_of x)
+answered (Err e) = None
+
+-- the next value, if there is this one
+abbrev pub then_some : {A B : Type 0} → Option A → (A → Option B) → Option B
+then_some None next = None
+then_some (Some a) next = next a
+
+-- whether each number is in range
+abbrev pub are_in_range : List ℤ → Bool
+are_in_range numbers = list_all (λ z. nat_lt (unsigned_abs z) (2 ^ 127)) numbers
+
+-- p over q in lowest terms
+abbrev pub in_lowest_terms : ℤ → ℤ → Ratio
+in_lowest_terms p q = record { numerator = int_div p (int_gcd p q); denominator = int_div q (int_gcd p q) }
+
+-- the sum of two fractions, over the least common multiple of their denominators; None where a number of the formula leaves the range
+abbrev pub added : Ratio → Ratio → Option Ratio
+added x y =
+    let common = int_gcd x.denominator y.denominator in
+    let p = x.numerator *ℤ int_div y.denominator common +ℤ y.numerator *ℤ int_div x.denominator common in
+    let q = int_div x.denominator common *ℤ y.denominator in
+    if are_in_range (sum_of_quotients x.numerator x.denominator y.numerator y.denominator) then Some (in_lowest_terms p q) else None
+
+-- k times a fraction, where what k and the denominator share is divided out first; None where a number of the formula leaves the range
+abbrev pub scaled : Ratio → ℤ → Option Ratio
+scaled x k =
+    let common = int_gcd k x.denominator in
+    let p = x.numerator *ℤ int_div k common in
+    let q = int_div x.denominator common in
+    if are_in_range (p ∷ q ∷ []) then Some (record { numerator = p; denominator = q }) else None

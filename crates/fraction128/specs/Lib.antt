@@ -1,0 +1,5 @@
+pub mod Arithmetic
+pub mod Divisor
+pub mod Formulas
+pub mod Range
+pub mod Spelling

@@ -1,0 +1,43 @@
+ghost use Rattle.std.specs.Prelude.{◌≡◌, ◌<◌, ◌*◌, ◌*ℤ◌};
+ghost use Rattle.std.specs.Ordering.{nat_cmp, int_cmp};
+
+use crate::Fraction;
+use std::cmp::Ordering;
+
+impl Fraction {
+    /// The order of the two fractions. It is exact and never refuses.
+    pub fn compare(self, other: Fraction) -> Ordering
+        ensures { result ≡
+            int_cmp (self.numerator *ℤ other.denominator) (other.numerator *ℤ self.denominator) }
+    {
+        let (a, b) = (self.numerator, self.denominator.unsigned_abs());
+        let (c, d) = (other.numerator, other.denominator.unsigned_abs());
+        match (a < 0, c < 0) {
+            (false, false) => compare_sizes(a.unsigned_abs(), b, c.unsigned_abs(), d),
+            (false, true) => Ordering::Greater,
+            (true, false) => Ordering::Less,
+            (true, true) => compare_sizes(c.unsigned_abs(), d, a.unsigned_abs(), b),
+        }
+    }
+}
+
+/// The order of `a/b` and `c/d`. Whole parts decide, and where they are equal, the remainders turned
+/// upside down: no product is formed, so none can overflow.
+fn compare_sizes(a: u128, b: u128, c: u128, d: u128) -> Ordering
+    requires first { 0 < b }
+    requires second { 0 < d }
+    ensures { result ≡ nat_cmp (a * d) (c * b) }
+{
+    if b == d {
+        return a.cmp(&c);
+    }
+    let (first, second) = (a / b, c / d);
+    if first != second {
+        return first.cmp(&second);
+    }
+    let (first_rest, second_rest) = (a % b, c % d);
+    if first_rest == 0 || second_rest == 0 {
+        return first_rest.cmp(&second_rest);
+    }
+    compare_sizes(d, second_rest, b, first_rest)
+}

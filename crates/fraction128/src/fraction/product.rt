@@ -1,0 +1,41 @@
+ghost use Rattle.std.specs.Prelude.{◌≢◌, pos, IfOk, OnOk, OnErr};
+ghost use Rattle.fraction128.specs.Arithmetic.{IsProduct, IsQuotient, scaled_numbers, divided_numbers};
+ghost use Rattle.fraction128.specs.Range.{InRange, AllInRange};
+
+use crate::divisor::Cofactors;
+use crate::range::product;
+use crate::{Fraction, Overflow};
+
+impl Fraction {
+    /// The fraction times a whole number in range. What the factor and the denominator share is divided
+    /// out first, and then it overflows exactly where the numerator leaves the range.
+    pub fn scale(self, factor: i128) -> Result<Fraction, Overflow>
+        requires { InRange factor }
+        ensures value { IfOk result (λ z. IsProduct self factor z) }
+        ensures fits { OnOk result (AllInRange (scaled_numbers self factor)) }
+        ensures overflow { OnErr result (¬ AllInRange (scaled_numbers self factor)) }
+    {
+        let parts = Cofactors::of(factor, self.denominator);
+        let numerator = product(self.numerator, parts.first)?;
+        Ok(Fraction::from_lowest_terms(numerator, parts.second))
+    }
+
+    /// The fraction divided by a whole number in range that is not 0. What the divisor and the numerator
+    /// share is divided out first, and then it overflows exactly where the denominator leaves the range.
+    pub fn divide(self, divisor: i128) -> Result<Fraction, Overflow>
+        requires in_range { InRange divisor }
+        requires not_zero { divisor ≢ pos 0 }
+        ensures value { IfOk result (λ z. IsQuotient self divisor z) }
+        ensures fits { OnOk result (AllInRange (divided_numbers self divisor)) }
+        ensures overflow { OnErr result (¬ AllInRange (divided_numbers self divisor)) }
+    {
+        let parts = Cofactors::of(self.numerator, divisor);
+        let denominator = product(self.denominator, parts.second.abs())?;
+        let quotient = Fraction::from_lowest_terms(parts.first, denominator);
+        if divisor < 0 {
+            Ok(quotient.negated())
+        } else {
+            Ok(quotient)
+        }
+    }
+}

@@ -1,0 +1,45 @@
+ghost use Rattle.std.specs.Prelude.{IfOk, OnOk, OnErr};
+ghost use Rattle.fraction128.specs.Arithmetic.{IsSum, IsDifference, IsMiddle, sum_numbers, difference_numbers, MiddleInRange};
+ghost use Rattle.fraction128.specs.Range.{AllInRange};
+
+use crate::divisor::Cofactors;
+use crate::range::{product, sum_of_products};
+use crate::{Fraction, Overflow};
+
+impl Fraction {
+    /// The sum. It overflows exactly where a number of the formula over the least common multiple of
+    /// the denominators is out of range.
+    pub fn add(self, other: Fraction) -> Result<Fraction, Overflow>
+        ensures value { IfOk result (λ z. IsSum self other z) }
+        ensures fits { OnOk result (AllInRange (sum_numbers self other)) }
+        ensures overflow { OnErr result (¬ AllInRange (sum_numbers self other)) }
+    {
+        let parts = Cofactors::of(self.denominator, other.denominator);
+        let numerator = sum_of_products(
+            self.numerator,
+            parts.second,
+            other.numerator,
+            parts.first,
+        )?;
+        let denominator = product(parts.first, other.denominator)?;
+        Ok(Fraction::reduced(numerator, denominator))
+    }
+
+    /// The difference. It overflows where the sum with the negative does.
+    pub fn sub(self, other: Fraction) -> Result<Fraction, Overflow>
+        ensures value { IfOk result (λ z. IsDifference self other z) }
+        ensures fits { OnOk result (AllInRange (difference_numbers self other)) }
+        ensures overflow { OnErr result (¬ AllInRange (difference_numbers self other)) }
+    {
+        self.add(other.negated())
+    }
+
+    /// The fraction half way between the two. It overflows where the sum does, or the sum divided by 2.
+    pub fn middle(self, other: Fraction) -> Result<Fraction, Overflow>
+        ensures value { IfOk result (λ z. IsMiddle self other z) }
+        ensures fits { OnOk result (MiddleInRange self other) }
+        ensures overflow { OnErr result (¬ MiddleInRange self other) }
+    {
+        self.add(other)?.divide(2)
+    }
+}
