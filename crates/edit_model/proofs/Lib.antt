@@ -1,0 +1,11 @@
+pub mod BitSets
+pub mod FieldNames
+pub mod FieldNumbers
+pub mod Kept
+pub mod NameLemmas
+pub mod Rising
+pub mod RowPointLaws
+pub mod TableLemmas
+pub mod TrialCallers
+pub mod TrialLaws
+pub mod TrialSteps

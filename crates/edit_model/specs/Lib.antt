@@ -1,0 +1,11 @@
+pub mod Bounds
+pub mod Changes
+pub mod Corrections
+pub mod FieldSets
+pub mod Indexes
+pub mod Parts
+pub mod Points
+pub mod RowPoints
+pub mod Rows
+pub mod Surveys
+pub mod Trials

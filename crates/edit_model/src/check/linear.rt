@@ -1,0 +1,45 @@
+ghost use Rattle.std.specs.Prelude.{◌≡◌, ◌≤◌, ◌^◌, ◌↔◌, All, IsTrue, map, unsigned_abs};
+ghost use Rattle.std.specs.List.Sorted.{IsStrictlyIncreasing};
+ghost use Rattle.edit_model.specs.Surveys.{IsTerm};
+
+use crate::field::{Field, Kind};
+use crate::rule::{Linear, Term};
+
+/// The largest factor of a term, in absolute value.
+const MOST_FACTOR: u64 = 1_000_000_000;
+
+/// The largest constant of a test, in absolute value.
+const MOST_CONSTANT: u64 = 1_000_000_000_000_000;
+
+// Whether the term is of a numerical field, with a factor within the limits.
+fn is_term(fields: &[Field], term: &Term) -> bool
+    ensures { IsTrue result ↔ IsTerm fields.now term.now }
+{
+    let numerical = match fields.get(term.field as usize) {
+        Some(field) => matches!(field.kind, Kind::Number { .. }),
+        None => false,
+    };
+    numerical && term.factor != 0 && term.factor.unsigned_abs() <= MOST_FACTOR
+}
+
+// Whether each term is of a later field than the term before it.
+fn are_rising(terms: &[Term]) -> bool
+    ensures { IsTrue result ↔ IsStrictlyIncreasing (map (λ t. t.field) terms.now) }
+{
+    for i in 1..terms.len() {
+        if terms[i].field <= terms[i - 1].field {
+            return false;
+        }
+    }
+    true
+}
+
+/// Whether the terms are in rising field order and within the limits, and the constant is.
+pub(crate) fn is_linear(fields: &[Field], linear: &Linear) -> bool
+    ensures { IsTrue result ↔ (IsStrictlyIncreasing (map (λ t. t.field) linear.now.terms) × All (IsTerm fields.now) linear.now.terms × (unsigned_abs linear.now.constant ≤ 10 ^ 15)) }
+{
+    let terms = linear.terms.as_slice();
+    are_rising(terms)
+        && terms.iter().all(|term| is_term(fields, term))
+        && linear.constant.unsigned_abs() <= MOST_CONSTANT
+}

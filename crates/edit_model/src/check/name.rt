@@ -1,0 +1,74 @@
+ghost use Rattle.std.specs.Prelude.{◌≡◌, ◌≢◌, ◌==◌, ◌||◌, ◌≤◌, ◌↔◌, All, IsTrue, length};
+ghost use Rattle.std.specs.List.{list_all, list_any};
+ghost use Rattle.std.specs.Str.{bytes_eq};
+ghost use Rattle.edit_model.specs.Surveys.{IsName, is_code, is_digit, is_letter, is_name, reserved_words};
+
+use crate::name::Name;
+
+fn is_ascii_letter(byte: u8) -> bool
+    ensures { result ≡ is_letter byte }
+{
+    matches!(byte, b'A'..=b'Z' | b'a'..=b'z')
+}
+
+fn is_ascii_digit(byte: u8) -> bool
+    ensures { result ≡ is_digit byte }
+{
+    matches!(byte, b'0'..=b'9')
+}
+
+// Whether the bytes are letters, digits and `_`.
+fn are_name_bytes(bytes: &[u8]) -> bool
+    ensures { result ≡ list_all (λ b. is_letter b || (is_digit b || (b == 95))) bytes.now }
+{
+    bytes.iter().all(|b| is_ascii_letter(*b) || is_ascii_digit(*b) || *b == b'_')
+}
+
+// A letter, then letters, digits and `_`.
+fn has_name_form(bytes: &[u8]) -> bool
+    ensures { result ≡ is_name bytes.now }
+{
+    match bytes.split_first() {
+        None => false,
+        Some((first, rest)) => is_ascii_letter(*first) && are_name_bytes(rest),
+    }
+}
+
+// Whether the bytes are a word of the rule language.
+fn is_reserved(bytes: &[u8]) -> bool
+    ensures { result ≡ list_any (λ word. bytes_eq bytes.now word) reserved_words }
+{
+    bytes == b"number".as_slice()
+        || bytes == b"code".as_slice()
+        || bytes == b"weight".as_slice()
+        || bytes == b"scale".as_slice()
+        || bytes == b"in".as_slice()
+        || bytes == b"not".as_slice()
+        || bytes == b"if".as_slice()
+        || bytes == b"and".as_slice()
+        || bytes == b"then".as_slice()
+}
+
+/// Whether a field may have the name.
+pub(crate) fn is_field_name(name: &Name) -> bool
+    ensures { IsTrue result ↔ IsName name.now }
+{
+    let bytes = name.as_bytes();
+    has_name_form(bytes) && !is_reserved(bytes)
+}
+
+// Whether each byte may stand in a code.
+fn are_code_bytes(bytes: &[u8]) -> bool
+    ensures { result ≡ is_code bytes.now }
+{
+    bytes.iter().all(|b| {
+        is_ascii_letter(*b) || is_ascii_digit(*b) || *b == b'_' || *b == b'-' || *b == b'.'
+    })
+}
+
+/// Whether the name may be a code.
+pub(crate) fn is_code_name(name: &Name) -> bool
+    ensures { IsTrue result ↔ (IsTrue (is_code name.now) × (1 ≤ length name.now) × (length name.now ≤ 32)) }
+{
+    are_code_bytes(name.as_bytes())
+}

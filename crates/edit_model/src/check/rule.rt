@@ -1,0 +1,78 @@
+ghost use Rattle.std.specs.Prelude.{◌<◌, ◌^◌, ◌↔◌, IsTrue};
+ghost use Rattle.edit_model.specs.Surveys.{HasCodes, HasForm, IsCodeTest, IsOrderTest, IsRule, IsTest};
+
+use crate::check::linear::is_linear;
+use crate::field::{Field, Kind};
+use crate::rule::{Compare, Rule, Test};
+
+// Whether the set, as bits, has no code but the first ones, so many, and is not empty.
+fn fits_codes(set: u64, count: usize) -> bool
+    ensures { IsTrue result ↔ ((0 < set) × (set < 2 ^ count)) }
+{
+    set != 0 && (count >= 64 || set >> count == 0)
+}
+
+// Whether the set of codes, as bits, is inside the field's codes and not empty.
+fn has_codes(kind: &Kind, set: u64) -> bool
+    ensures { IsTrue result ↔ HasCodes kind.now set }
+{
+    match kind {
+        Kind::Number { .. } => false,
+        Kind::Code { codes } => fits_codes(set, codes.len()),
+    }
+}
+
+// Whether the test's fields are there, of the kind that it needs, and its numbers are within the limits.
+fn is_test(fields: &[Field], test: &Test) -> bool
+    ensures { IsTrue result ↔ IsTest fields.now test.now }
+{
+    match test {
+        Test::Number(linear) => is_linear(fields, linear),
+        Test::Codes { field, codes, .. } => match fields.get(*field as usize) {
+            Some(of) => has_codes(&of.kind, *codes),
+            None => false,
+        },
+    }
+}
+
+fn is_code_test(test: &Test) -> bool
+    ensures { IsTrue result ↔ IsCodeTest test.now }
+{
+    matches!(test, Test::Codes { .. })
+}
+
+// Whether the test is a comparison that is no equation.
+fn is_order_test(test: &Test) -> bool
+    ensures { IsTrue result ↔ IsOrderTest test.now }
+{
+    match test {
+        Test::Number(linear) => linear.compare != Compare::Eq,
+        Test::Codes { .. } => false,
+    }
+}
+
+// Whether the rule has one of the two forms that the editor takes.
+fn has_form(rule: &Rule) -> bool
+    ensures { IsTrue result ↔ HasForm rule.now }
+{
+    let conditions = rule.conditions.as_slice();
+    if conditions.iter().all(is_code_test) {
+        return true;
+    }
+    match conditions {
+        [only] => is_order_test(only) && is_code_test(&rule.conclusion),
+        _ => false,
+    }
+}
+
+/// Whether the rule's tests fit the fields, and it has a form that the editor takes.
+pub(crate) fn is_rule(fields: &[Field], rule: &Rule) -> bool
+    ensures { IsTrue result ↔ IsRule fields.now rule.now }
+{
+    rule.conditions
+        .as_slice()
+        .iter()
+        .all(|test| is_test(fields, test))
+        && is_test(fields, &rule.conclusion)
+        && has_form(rule)
+}

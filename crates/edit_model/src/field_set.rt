@@ -1,0 +1,62 @@
+ghost use Rattle.std.specs.Prelude.{◌≡◌, ◌≢◌, ℕ, ◌<◌, true, false};
+ghost use Rattle.edit_model.specs.FieldSets.{has_number};
+
+use std::marker::Model;
+
+/// A set of field numbers below 64.
+#[derive(Clone, Copy, Debug, PartialEq, Eq)]
+pub struct FieldSet {
+    bits: u64,
+}
+
+impl Model for FieldSet {
+    ghost use Rattle.std.specs.Prelude.{ℕ};
+
+    ghost Value = { ℕ };
+
+    ghost view = { λ s. s.bits };
+
+    ghost inverse = { λ n. record { bits = n } };
+}
+
+impl FieldSet {
+    /// The set without fields.
+    pub fn empty() -> FieldSet
+        ensures { (f : ℕ) → has_number result f ≡ false }
+    {
+        FieldSet { bits: 0 }
+    }
+
+    /// The set with one field more, which may be in it already.
+    pub fn with(self, field: u32) -> FieldSet
+        requires { field < 64 }
+        ensures has { has_number result field ≡ true }
+        ensures others { (f : ℕ) → f ≢ field → has_number result f ≡ has_number self f }
+    {
+        FieldSet {
+            bits: self.bits | (1 << field),
+        }
+    }
+
+    /// Whether the set has the field.
+    pub fn has(self, field: u32) -> bool
+        requires { field < 64 }
+        ensures { result ≡ has_number self field }
+    {
+        (self.bits >> field) & 1 == 1
+    }
+}
+
+#[cfg(test)]
+mod tests {
+    use super::*;
+
+    #[test]
+    fn a_set_has_the_fields_that_it_was_given(rt: HostRuntime) {
+        let set = FieldSet::empty().with(0).with(63).with(5).with(5);
+        for field in 0..64 {
+            let given = field == 0 || field == 5 || field == 63;
+            assert_eq!(rt; set.has(field), given, "at {field}");
+        }
+    }
+}

@@ -1,0 +1,54 @@
+//! What a survey keeps beside its parts, so that it is not looked for each time.
+ghost use Rattle.std.specs.Prelude.{◌≡◌, ◌≢◌, ◌∷◌, ◌++◌, [], ◌≤◌, if◌then◌else◌, AllPairs, IfOk, OnOk, length};
+ghost use Rattle.edit_model.specs.Corrections.{numbers_from};
+ghost use Rattle.edit_model.specs.Indexes.{is_of_kind, names_of};
+
+use crate::fault::SurveyFault;
+use crate::field::{Field, Kind};
+use crate::name_table::NameTable;
+use foundation::OutOfMemory;
+use std::alloc::Global;
+
+/// The table of the fields' names. Malformed where two of them are the same.
+pub(crate) fn name_table(alloc: Global, fields: &[Field]) -> Result<NameTable, SurveyFault>
+    ensures ok { IfOk result (λ table. (table ≡ names_of fields.now) × AllPairs (λ f g. f.name ≢ g.name) fields.now) }
+    ensures malformed { result ≡ Err SurveyFault.Malformed → ¬ AllPairs (λ f g. f.name ≢ g.name) fields.now }
+{
+    let mut table = NameTable::new(alloc);
+    for field in fields {
+        if !table.insert(alloc, &field.name)? {
+            return Err(SurveyFault::Malformed);
+        }
+    }
+    Ok(table)
+}
+
+// Puts the number last where it is wanted.
+fn push_if(wanted: bool, numbers: &mut Vec<u32>, number: u32) -> Result<(), OutOfMemory>
+    ensures { OnOk result (numbers.new.items ≡ (if wanted then numbers.old.items ++ number ∷ [] else numbers.old.items)) }
+{
+    if wanted {
+        numbers.push(number)?;
+    }
+    Ok(())
+}
+
+/// The numbers of the numerical fields, or else of the categorical ones, in declared order.
+pub(crate) fn field_numbers(
+    alloc: Global,
+    fields: &[Field],
+    numerical: bool,
+) -> Result<Vec<u32>, OutOfMemory>
+    requires { length fields.now ≤ 64 }
+    ensures { IfOk result (λ numbers. numbers.items ≡ numbers_from (is_of_kind numerical) 0 fields.now) }
+{
+    let mut numbers = Vec::new(alloc);
+    for (i, field) in fields.iter().enumerate() {
+        push_if(
+            field.kind.is_numerical() == numerical,
+            &mut numbers,
+            i as u32,
+        )?;
+    }
+    Ok(numbers)
+}

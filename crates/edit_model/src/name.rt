@@ -1,0 +1,69 @@
+ghost use Rattle.std.specs.Prelude.{◌≡◌, ◌≤◌, ◌<◌, ◌⊎◌, length, take, IfSome, IfNone};
+
+use std::marker::Model;
+
+/// The longest name or code, in bytes.
+const LONGEST: usize = 32;
+
+/// The name of a field, or a code: 1 to 32 bytes.
+#[derive(Debug, Drop)]
+pub struct Name {
+    bytes: [u8; 32],
+    size: usize,
+}
+
+impl Model for Name {
+    ghost use Rattle.std.specs.Prelude.{ℕ, ◌≤◌, List, take};
+
+    ghost Value = { List ℕ };
+
+    ghost view = { λ n. take n.size n.bytes };
+
+    ghost invariant = { λ n. (1 ≤ n.size) × (n.size ≤ 32) };
+}
+
+impl Name {
+    /// The name of these bytes, or None where there are not 1 to 32 of them. No memory.
+    pub fn new(bytes: &[u8]) -> Option<Name>
+        ensures some { IfSome result (λ name. name ≡ bytes.now) }
+        ensures none { IfNone result ((length bytes.now < 1) ⊎ (32 < length bytes.now)) }
+    {
+        if bytes.is_empty() || bytes.len() > LONGEST {
+            return None;
+        }
+        let mut held = [0; LONGEST];
+        held[..bytes.len()].copy_from_slice(bytes);
+        Some(Name {
+            bytes: held,
+            size: bytes.len(),
+        })
+    }
+
+    /// The bytes. No memory.
+    pub fn as_bytes(&self) -> &[u8]
+        ensures bytes { result.now ≡ self.now }
+        ensures size { (1 ≤ length self.now) × (length self.now ≤ 32) }
+    {
+        &self.bytes[..self.size]
+    }
+}
+
+#[cfg(test)]
+mod tests {
+    use super::*;
+
+    #[test]
+    fn a_name_has_1_to_32_bytes(rt: HostRuntime) {
+        for (bytes, fits) in [
+            (b"".as_slice(), false),
+            (b"T", true),
+            (b"abcdefghijklmnopqrstuvwxyz012345", true),
+            (b"abcdefghijklmnopqrstuvwxyz0123456", false),
+        ] {
+            match Name::new(bytes) {
+                Some(name) => assert!(rt; fits && name.as_bytes() == bytes),
+                None => assert!(rt; !fits),
+            }
+        }
+    }
+}

@@ -1,0 +1,48 @@
+ghost use Rattle.std.specs.Prelude.{◌≡◌, ◌≢◌, ◌∷◌, ◌++◌, [], All, IfOk, MatchBool, position};
+ghost use Rattle.std.specs.Str.{bytes_eq};
+
+use crate::name::Name;
+use foundation::OutOfMemory;
+use indexmap::IndexSet;
+use std::alloc::Global;
+use std::marker::Model;
+
+/// Distinct names, in the order in which they were put in. A name's place is found in constant time.
+#[derive(Debug, Drop)]
+pub(crate) struct NameTable {
+    names: IndexSet<Vec<u8>>,
+}
+
+impl Model for NameTable {
+    ghost use Rattle.std.specs.Prelude.{List, map, ℕ};
+
+    ghost Value = { List (List ℕ) };
+
+    ghost view = { λ t. map (λ key. key.items) t.names.keys };
+}
+
+impl NameTable {
+    /// The table without names.
+    pub(crate) fn new(alloc: Global) -> NameTable
+        ensures { result ≡ [] }
+    {
+        NameTable {
+            names: IndexSet::new(alloc),
+        }
+    }
+
+    /// Puts the name last, and answers whether it is new. A name that is there already stays in its place.
+    pub(crate) fn insert(&mut self, alloc: Global, name: &Name) -> Result<bool, OutOfMemory>
+        ensures { IfOk result (λ added. MatchBool added ((self.new ≡ self.old ++ name.now ∷ []) × All (λ n. n ≢ name.now) self.old) (¬ All (λ n. n ≢ name.now) self.old)) }
+    {
+        let key = Vec::from_slice(alloc, name.as_bytes())?;
+        Ok(self.names.insert(key)?)
+    }
+
+    /// The place of the name, from 0. No memory.
+    pub(crate) fn find(&self, name: &[u8]) -> Option<usize>
+        ensures { result ≡ position (bytes_eq name.now) self.now }
+    {
+        self.names.get_index_of(name)
+    }
+}

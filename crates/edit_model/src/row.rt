@@ -1,0 +1,58 @@
+ghost use Rattle.std.specs.Prelude.{◌≡◌, ◌<◌, List, length, IfOk};
+ghost use Rattle.edit_model.specs.Rows.{IsRow, value_of};
+
+use crate::survey::Survey;
+use crate::value::Value;
+use foundation::OutOfMemory;
+use std::alloc::Global;
+use std::marker::Model;
+
+/// A record of a survey: one value for each field, in declared order.
+#[derive(Debug, Drop)]
+pub struct Row {
+    values: Vec<Value>,
+}
+
+impl Model for Row {
+    ghost use Rattle.std.specs.Prelude.{List};
+    ghost use Rattle.edit_model.specs.declared.value.Value as value;
+
+    ghost Value = { List value.Value };
+
+    ghost view = { λ r. r.values.items };
+}
+
+impl Row {
+    /// The record of these values. There is one for each field of the survey, of the field's kind or
+    /// Bad. No memory.
+    pub fn new(survey: &Survey, values: Vec<Value>) -> Row
+        requires { IsRow survey.now.fields values.items }
+        ensures { result ≡ values.items }
+    {
+        let _ = survey;
+        Row { values }
+    }
+
+    /// The value at the field of this number. No memory.
+    pub fn value(&self, field: u32) -> &Value
+        requires { field < length self.now }
+        ensures { result.now ≡ value_of self.now field }
+    {
+        &self.values[field as usize]
+    }
+
+    /// All values, in declared order. No memory.
+    pub fn values(&self) -> &[Value]
+        ensures { result.now ≡ self.now }
+    {
+        self.values.as_slice()
+    }
+
+    /// An equal record.
+    pub fn copy(&self, alloc: Global) -> Result<Row, OutOfMemory>
+        ensures { IfOk result (λ row. row ≡ self.now) }
+    {
+        let values = Vec::from_slice(alloc, self.values.as_slice())?;
+        Ok(Row { values })
+    }
+}

@@ -1,0 +1,98 @@
+ghost use Rattle.std.specs.Prelude.{◌≡◌, ◌≢◌, All, IfNone, IfOk, IfSome, IsSomeAnd, slice_get};
+ghost use Rattle.edit_model.specs.Indexes.{code_fields, number_fields};
+ghost use Rattle.edit_model.specs.Parts.{SurveyParts, parts_of};
+ghost use Rattle.edit_model.specs.Surveys.{IsWellFormed};
+
+use crate::check::are_in_form;
+use crate::fault::SurveyFault;
+use crate::field::Field;
+use crate::index::{field_numbers, name_table};
+use crate::name_table::NameTable;
+use crate::rule::Rule;
+use std::alloc::Global;
+use std::marker::Model;
+
+/// A questionnaire's fields and the edit rules over them, in declared order. It is well formed.
+#[derive(Debug, Drop)]
+pub struct Survey {
+    fields: Vec<Field>,
+    rules: Vec<Rule>,
+    names: NameTable,
+    numbers: Vec<u32>,
+    categories: Vec<u32>,
+}
+
+impl Model for Survey {
+    ghost use Rattle.edit_model.specs.Indexes.{IsKept};
+    ghost use Rattle.edit_model.specs.Parts.{SurveyParts, parts_of};
+
+    ghost Value = { SurveyParts };
+
+    ghost view = { λ s. parts_of s.fields.items s.rules.items };
+
+    ghost invariant = { λ s. IsKept (parts_of s.fields.items s.rules.items) s.names s.numbers.items s.categories.items };
+}
+
+impl Survey {
+    /// The survey of these fields and rules, or Malformed exactly where they are not well formed.
+    pub fn new(alloc: Global, fields: Vec<Field>, rules: Vec<Rule>) -> Result<Survey, SurveyFault>
+        ensures ok { IfOk result (λ survey. (survey ≡ parts_of fields.items rules.items) × IsWellFormed survey) }
+        ensures malformed { result ≡ Err SurveyFault.Malformed → ¬ IsWellFormed (parts_of fields.items rules.items) }
+    {
+        let declared = fields.as_slice();
+        if !are_in_form(declared, &rules) {
+            return Err(SurveyFault::Malformed);
+        }
+        let names = name_table(alloc, declared)?;
+        let numbers = field_numbers(alloc, declared, true)?;
+        let categories = field_numbers(alloc, declared, false)?;
+        Ok(Survey {
+            fields,
+            rules,
+            names,
+            numbers,
+            categories,
+        })
+    }
+
+    /// The fields, in declared order. No memory.
+    pub fn fields(&self) -> &[Field]
+        ensures fields { result.now ≡ self.now.fields }
+        ensures well_formed { IsWellFormed self.now }
+    {
+        self.fields.as_slice()
+    }
+
+    /// The rules, in declared order. No memory.
+    pub fn rules(&self) -> &[Rule]
+        ensures rules { result.now ≡ self.now.rules }
+        ensures well_formed { IsWellFormed self.now }
+    {
+        self.rules.as_slice()
+    }
+
+    /// The number of the field with this name. No memory.
+    pub fn find(&self, name: &[u8]) -> Option<u32>
+        ensures found { IfSome result (λ i. IsSomeAnd (slice_get self.now.fields i) (λ f. f.name ≡ name.now)) }
+        ensures none { IfNone result (All (λ f. f.name ≢ name.now) self.now.fields) }
+    {
+        match self.names.find(name) {
+            Some(place) => Some(place as u32),
+            None => None,
+        }
+    }
+
+    /// The numbers of the numerical fields, in declared order. No memory.
+    pub fn numbers(&self) -> &[u32]
+        ensures { result.now ≡ number_fields self.now.fields }
+    {
+        self.numbers.as_slice()
+    }
+
+    /// The numbers of the categorical fields, in declared order. No memory.
+    pub fn codes(&self) -> &[u32]
+        ensures { result.now ≡ code_fields self.now.fields }
+    {
+        self.categories.as_slice()
+    }
+}

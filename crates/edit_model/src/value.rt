@@ -1,0 +1,12 @@
+use fraction128::Fraction;
+
+/// What a record holds in a field.
+#[derive(Clone, Copy, Debug, PartialEq, Eq)]
+pub enum Value {
+    /// The number of one of the field's codes, from 0.
+    Code(u8),
+    /// A number, exactly.
+    Number(Fraction),
+    /// Missing or faulty: every correction changes it.
+    Bad,
+}
