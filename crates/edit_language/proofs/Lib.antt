@@ -1,0 +1,7 @@
+mod BoundLaws
+mod DeclarationLaws
+pub mod GrammarLaws
+mod NameLaws
+mod NumeralLaws
+mod SurveyLaws
+mod TextLaws

@@ -1,0 +1,4 @@
+pub mod Grammar
+pub mod Lines
+pub mod Numerals
+pub mod Statements
