@@ -1,0 +1,10 @@
+pub mod HeaderLaws
+pub mod Numerals
+pub mod RecordLaws
+pub mod RowsRead
+pub mod SheetLaws
+pub mod SheetRead
+pub mod StreamLaws
+pub mod ValueLaws
+pub mod WritingLaws
+pub mod FieldCount

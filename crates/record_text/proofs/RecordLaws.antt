@@ -1,0 +1,43 @@
+use Rattle.std.proofs.Common.{Bor, ◌≡◌, ◌∙◌, sym, ap, ℕ, zero, suc, ◌+◌, ◌<◌, ◌≤◌, List, [], ◌∷◌, ◌++◌, length, take, get_or, Option, Some, None, refl, arith}
+use Rattle.std.specs.Prelude.{IsSome, option_map}
+use Rattle.std.specs.List.{range_with_len}
+use Rattle.std.proofs.lemmas.List.FromFn.{map-range_with_len_more}
+use Rattle.std.proofs.lemmas.List.{map-id, take_all, take_more}
+use Rattle.csv.specs.Records.{field_at}
+use Rattle.csv.proofs.RecordFacts.{field-get, field-there}
+
+-- what a record gives at a place is the text there
+pub text_there : (r : Option (Bor (List ℕ))) (texts : List (List ℕ)) (i : ℕ) → option_map (λ s. s.now) r ≡ field_at texts i → i < length texts → IsSome r
+text_there None texts i e lt = absurd (field-there texts i lt (sym e))
+text_there (Some s) texts i e lt = refl
+
+pub text_is : (s : Bor (List ℕ)) (r : Option (Bor (List ℕ))) (texts : List (List ℕ)) (i : ℕ) → option_map (λ s. s.now) r ≡ field_at texts i → r ≡ Some s → s.now ≡ get_or texts i []
+text_is s r texts i e is = sym (field-get texts i s.now (sym e ∙ ap (option_map (λ (t : Bor (List ℕ)). t.now)) is))
+
+-- a place where there is a text, and one where there is none
+pub field_within : (texts : List (List ℕ)) (i : ℕ) (x : List ℕ) → Some x ≡ field_at texts i → i < length texts
+unfolding field_at
+field_within [] i x e = cc e
+field_within (t ∷ texts) zero x e = omega arith
+field_within (t ∷ texts) (suc i) x e = omega (arith, field_within texts i x e)
+
+pub field_past : (texts : List (List ℕ)) (i : ℕ) → None ≡ field_at texts i → length texts ≤ i
+unfolding field_at
+field_past [] i e = omega arith
+field_past (t ∷ texts) zero e = cc e
+field_past (t ∷ texts) (suc i) e = omega (arith, field_past texts i e)
+
+-- a copy with one text more, and with all of them
+pub copied_more : (texts done : List (List ℕ)) (x : List ℕ) (i j : ℕ) → done ≡ take i texts → Some x ≡ field_at texts i → j ≡ i + 1
+    → done ++ x ∷ [] ≡ take j texts
+copied_more texts done x i j e at next =
+    let here = field_within texts i x at in
+    let x-is : get_or texts i [] ≡ x = field-get texts i x (sym at) in
+    ap (λ (ts : List (List ℕ)). ts ++ x ∷ []) e ∙ ap (λ (t : List ℕ). take i texts ++ t ∷ []) (sym x-is) ∙ sym (take_more texts i [] here) ∙ ap (λ (k : ℕ). take k texts) (sym next)
+
+pub copied_all : (texts done : List (List ℕ)) (i : ℕ) → done ≡ take i texts → None ≡ field_at texts i → done ≡ texts
+copied_all texts done i e at = e ∙ take_all i texts (field_past texts i at)
+
+-- the first numbers, with one more
+pub first_more : (n : ℕ) → range_with_len 0 (n + 1) ≡ range_with_len 0 n ++ n ∷ []
+first_more n = simp map-id at (map-range_with_len_more (λ (k : ℕ). k) 0 n n (omega arith))

@@ -1,0 +1,34 @@
+use Rattle.std.specs.Prelude.{◌≡◌, ℕ, ◌≤◌, Bool, true, false, List, [], length, Some, None}
+use Rattle.std.specs.Borrow.{Bor}
+use Rattle.csv.specs.Machine.{next_record}
+use Rattle.csv.specs.Reading.{AreRecords, Ready, default_config, reader_config, reader_state, reader_trim, source_of}
+use Rattle.csv.specs.declared.parser.State.{State}
+use Rattle.csv.specs.declared.reader.Reader.{Reader}
+use Rattle.csv.specs.declared.reader.Trim.TheVariants as trim
+use Rattle.edit_model.specs.declared.field.Field.{Field}
+use Rattle.edit_model.specs.declared.value.Value.{Value}
+use Rattle.record_text.specs.Values.{AreRows}
+
+-- a place in a record file: the state of csv's reader there, and the bytes that are left
+pub record Place : Type 0 where
+  pub state : State
+  pub left : List ℕ
+
+-- csv's reader stands at the place; it reads by its default settings, and takes the first record as any other
+pub record IsAt (reader : Reader (Bor (List ℕ))) (here : Place) : Type 0 where
+  pub plain : reader_trim reader ≡ trim.None
+  pub config : reader_config reader ≡ default_config
+  pub ready : Ready reader
+  pub state : reader_state reader ≡ here.state
+  pub left : source_of (λ bytes. Some bytes.now) reader ≡ Some here.left
+
+-- what one read does: it finds the next record's texts, and the reader stands behind them, or there is no further record
+abbrev pub Reads : Place → Bool → List (List ℕ) → Reader (Bor (List ℕ)) → Type 0
+Reads here true texts reader = (there : Place) × IsAt reader there × (next_record default_config here.state [] [] here.left ≡ Some (texts, there.state, there.left))
+Reads here false texts reader = next_record default_config here.state [] [] here.left ≡ None
+
+-- these are all the records from a place on, few enough, and each has a value for each field
+pub record AreRowsFrom (fields : List Field) (here : Place) (raws : List (List (List ℕ))) (rows : List (List Value)) : Type 0 where
+  pub records : AreRecords default_config here.state here.left raws
+  pub few : length raws ≤ 200000
+  pub values : AreRows fields raws rows

@@ -1,0 +1,20 @@
+//! Record files: comma-separated texts, split and written by the crate `csv`. The form is stated in
+//! `specs/Sheets.antt` and `specs/Values.antt`. Begin with [`read_records`], [`Sheet`] and [`write_rows`].
+#![tactic(auto)]
+
+mod fault;
+mod field_text;
+mod reading;
+mod sheet;
+mod stream;
+mod texts;
+mod writing;
+
+pub use fault::SheetFault;
+pub use reading::read_records;
+pub use sheet::{Sheet, SheetRows};
+pub use texts::Texts;
+pub use writing::write_rows;
+
+#[cfg(test)]
+mod tests;

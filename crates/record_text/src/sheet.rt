@@ -1,0 +1,115 @@
+ghost use Rattle.std.specs.Prelude.{◌≡◌, ◌<◌, ◌≤◌, ◌==◌, [], length, slice_index, slice_index_or};
+ghost use Rattle.record_text.specs.Sheets.{SheetParts};
+
+use crate::texts::Texts;
+use edit_model::Row;
+use foundation::Sequence;
+use std::marker::Model;
+
+/// A record file as read: its header, the column of each field, and for each row its texts and its values.
+#[derive(Debug, Drop)]
+pub struct Sheet {
+    header: Texts,
+    columns: Vec<u32>,
+    raws: Vec<Texts>,
+    rows: Vec<Row>,
+}
+
+impl Model for Sheet {
+    ghost use Rattle.std.specs.Prelude.{◌≡◌, ◌≤◌, length};
+    ghost use Rattle.record_text.specs.Sheets.{SheetParts};
+
+    ghost Value = { SheetParts };
+
+    ghost view = { λ s. record { header = s.header; columns = s.columns.items; raws = s.raws.items; rows = s.rows.items } };
+
+    ghost invariant = { λ s. (length s.raws.items ≡ length s.rows.items) × (length s.rows.items ≤ 200000) };
+}
+
+/// The parts of a sheet: the header, and the texts and the values of its rows, in the order of the file.
+#[derive(Debug, Drop)]
+pub struct SheetRows {
+    pub header: Texts,
+    pub raws: Sequence<Texts>,
+    pub rows: Sequence<Row>,
+}
+
+impl Sheet {
+    /// The sheet of these parts. There are as many `raws` as `rows`, and at most 200,000. No memory.
+    pub(crate) fn from_parts(
+        header: Texts,
+        columns: Vec<u32>,
+        raws: Vec<Texts>,
+        rows: Vec<Row>,
+    ) -> Sheet
+        requires equal { length raws.items ≡ length rows.items }
+        requires few { length rows.items ≤ 200000 }
+        ensures { result ≡ record { header = header; columns = columns.items; raws = raws.items; rows = rows.items } }
+    {
+        Sheet {
+            header,
+            columns,
+            raws,
+            rows,
+        }
+    }
+
+    /// How many rows there are. No memory.
+    pub fn len(&self) -> u32
+        ensures rows { result ≡ length self.now.rows }
+        ensures raws { result ≡ length self.now.raws }
+    {
+        self.rows.len() as u32
+    }
+
+    /// Whether there is no row. No memory.
+    pub fn is_empty(&self) -> bool
+        ensures { result ≡ (length self.now.rows == 0) }
+    {
+        self.rows.is_empty()
+    }
+
+    /// The values of the row of this number, from 0. No memory.
+    pub fn row(&self, row_no: u32) -> &Row
+        requires { row_no < length self.now.rows }
+        ensures { result.now ≡ slice_index_or self.now.rows row_no [] }
+    {
+        &self.rows[row_no as usize]
+    }
+
+    /// The texts of the header. No memory.
+    pub fn header(&self) -> &Texts
+        ensures { result.now ≡ self.now.header }
+    {
+        &self.header
+    }
+
+    /// The texts of the row of this number, from 0. No memory.
+    pub fn raw(&self, row_no: u32) -> &Texts
+        requires { row_no < length self.now.raws }
+        ensures { result.now ≡ slice_index_or self.now.raws row_no [] }
+    {
+        &self.raws[row_no as usize]
+    }
+
+    /// The column, from 0, in which a field stands. No memory.
+    pub fn column(&self, field: u32) -> u32
+        requires { field < length self.now.columns }
+        ensures { result ≡ slice_index self.now.columns field }
+    {
+        self.columns[field as usize]
+    }
+
+    /// The parts of the sheet, without a copy. No memory.
+    pub fn into_parts(self) -> SheetRows
+        ensures header { result.header ≡ self.header }
+        ensures raws { result.raws ≡ self.raws }
+        ensures rows { result.rows ≡ self.rows }
+    {
+        SheetRows {
+            header: self.header,
+            raws: Sequence::from_vec(self.raws),
+            rows: Sequence::from_vec(self.rows),
+        }
+    }
+}

@@ -1,0 +1,91 @@
+ghost use Rattle.std.specs.Prelude.{◌≡◌, ◌<◌, ◌==◌, ◌++◌, ◌∷◌, [], IfOk, OnErr, OnOk, length, slice_index_or};
+ghost use Rattle.csv.specs.Records.{fields_of};
+
+use csv::ByteRecord;
+use foundation::OutOfMemory;
+use std::alloc::Global;
+use std::marker::Model;
+
+/// The texts of one record's fields, in order. They share one piece of memory.
+#[derive(Debug, Drop)]
+pub struct Texts {
+    record: ByteRecord,
+}
+
+impl Model for Texts {
+    ghost use Rattle.std.specs.Prelude.{◌≡◌, ℕ, List, []};
+    ghost use Rattle.csv.specs.Records.{fields_of, partial_of};
+
+    ghost Value = { List (List ℕ) };
+
+    ghost view = { λ t. fields_of t.record };
+
+    ghost invariant = { λ t. partial_of t.record ≡ [] };
+}
+
+impl Texts {
+    /// No texts yet. Takes no memory.
+    pub fn new(alloc: Global) -> Texts
+        ensures { result ≡ [] }
+    {
+        Texts {
+            record: ByteRecord::new(alloc),
+        }
+    }
+
+    /// The texts of a record that csv gave.
+    pub(crate) fn of_record(alloc: Global, csv_record: &ByteRecord) -> Result<Texts, OutOfMemory>
+        ensures { IfOk result (λ texts. texts ≡ fields_of csv_record.now) }
+    {
+        let mut copy = ByteRecord::with_capacity(
+            alloc,
+            csv_record.as_slice().len(),
+            csv_record.len(),
+        )?;
+        for text in csv_record {
+            copy.push_field(text)?;
+        }
+        Ok(Texts { record: copy })
+    }
+
+    /// Adds a text at the end. Where memory is refused, no text is left.
+    pub fn push(&mut self, text: &[u8]) -> Result<(), OutOfMemory>
+        ensures added { OnOk result (self.new ≡ self.old ++ text.now ∷ []) }
+        ensures refused { OnErr result (self.new ≡ []) }
+    {
+        if self.record.push_field(text).is_err() {
+            self.record.clear();
+            return Err(OutOfMemory);
+        }
+        Ok(())
+    }
+
+    /// The text at a place, from 0. No memory.
+    pub fn get(&self, place: usize) -> &[u8]
+        requires { place < length self.now }
+        ensures { result.now ≡ slice_index_or self.now place [] }
+    {
+        self.record.get(place).unwrap()
+    }
+
+    /// How many texts there are. No memory.
+    pub fn len(&self) -> usize
+        ensures { result ≡ length self.now }
+    {
+        self.record.len()
+    }
+
+    /// Whether there are none. No memory.
+    pub fn is_empty(&self) -> bool
+        ensures { result ≡ (length self.now == 0) }
+    {
+        self.record.is_empty()
+    }
+
+    /// The record that holds the texts. No memory.
+    pub(crate) fn as_record(&self) -> &ByteRecord
+        ensures { fields_of result.now ≡ self.now }
+    {
+        &self.record
+    }
+}

@@ -1,0 +1,28 @@
+ghost use Rattle.std.specs.Prelude.{◌≡◌, IfOk};
+ghost use Rattle.record_text.specs.Texts.{AreEquallyLong, records_text};
+
+use crate::texts::Texts;
+use csv::WriterBuilder;
+use foundation::OutOfMemory;
+use std::alloc::Global;
+
+/// The records as csv's default writer writes them, each ended by a line feed. They are equally long, and
+/// have at least one field each.
+///
+/// Writing into memory gives no output error, and equally long records none of lengths, so csv refuses
+/// only for want of memory.
+pub fn write_rows(alloc: Global, rows: &[Texts]) -> Result<Vec<u8>, OutOfMemory>
+    requires { AreEquallyLong rows.now }
+    ensures { IfOk result (λ bytes. bytes.items ≡ records_text rows.now) }
+{
+    let mut writer = WriterBuilder::new().from_writer(Vec::new(alloc));
+    for texts in rows {
+        if writer.write_byte_record(texts.as_record()).is_err() {
+            return Err(OutOfMemory);
+        }
+    }
+    match writer.into_inner() {
+        Ok(bytes) => Ok(bytes),
+        Err(_) => Err(OutOfMemory),
+    }
+}
