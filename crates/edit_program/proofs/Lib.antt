@@ -1,0 +1,4 @@
+mod FileLaws
+mod MemoryLaws
+mod ReleasedLaws
+mod RunLaws

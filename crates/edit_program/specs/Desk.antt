@@ -1,0 +1,73 @@
+-- What the calls of a desk do to its files, and what they leave on record.
+use Rattle.std.specs.Prelude.{◌≡◌, ◌≢◌, ◌⊎◌, ⊤, ℕ, ◌+◌, ◌-◌, ◌^◌, ◌<◌, ◌≤◌, min, Bool, true, false, Option, Some, None, IsSomeAnd, Result, Ok, Err, List, [], ◌∷◌, length, take, Vec}
+use Rattle.std.specs.declared.alloc.Global.{Global}
+use Rattle.edit_program.specs.declared.desk.calls.FetchError.{FetchError}
+use Rattle.edit_program.specs.declared.desk.calls.FetchError.TheVariants as fetch
+use Rattle.edit_program.specs.declared.desk.calls.StoreError.{StoreError}
+use Rattle.edit_program.specs.declared.desk.calls.StoreError.TheVariants as store
+
+-- the bytes that stand under each name, or nothing where no file has that name
+abbrev pub Files : Type 0
+Files = List ℕ → Option (List ℕ)
+
+-- a call on a desk: whether it was a store or a fetch, under which name, and whether it failed
+pub record Asked : Type 0 where
+  pub store : Bool
+  pub name : List ℕ
+  pub failed : Bool
+
+-- the file of that name has more bytes than the limit
+abbrev pub IsLonger : Files → List ℕ → ℕ → Type 0
+IsLonger files name limit = IsSomeAnd (files name) (λ bytes. limit < length bytes)
+
+-- what a fetch may answer: the bytes of the file, within the limit, or that the file is too long
+abbrev pub Fetches : Files → List ℕ → ℕ → Result (Vec ℕ Global) FetchError → Type 0
+Fetches files name limit (Ok bytes) = (files name ≡ Some bytes.items) × (length bytes.items ≤ limit)
+Fetches files name limit (Err (fetch.TooLong taken)) = (taken ≡ limit + 1) × IsLonger files name limit
+Fetches files name limit (Err fetch.Failed) = ⊤
+Fetches files name limit (Err fetch.OutOfMemory) = ⊤
+
+-- what a reading of these bytes may answer: all of them, within the limit, or that they are too many
+abbrev pub ReadsWhole : List ℕ → ℕ → Result (Vec ℕ Global) FetchError → Type 0
+ReadsWhole left limit (Ok bytes) = (bytes.items ≡ left) × (length left ≤ limit)
+ReadsWhole left limit (Err (fetch.TooLong taken)) = (taken ≡ limit + 1) × (limit < length left)
+ReadsWhole left limit (Err fetch.Failed) = ⊤
+ReadsWhole left limit (Err fetch.OutOfMemory) = ⊤
+
+-- every name but this one has what it had
+abbrev pub SameElsewhere : Files → Files → List ℕ → Type 0
+SameElsewhere old new name = (other : List ℕ) → other ≢ name → new other ≡ old other
+
+-- the first bytes of these stand under the name
+abbrev pub HoldsPrefix : Files → List ℕ → List ℕ → Type 0
+HoldsPrefix files name bytes = (kept : ℕ) × (files name ≡ Some (take kept bytes))
+
+-- what a store does: it puts all the bytes under the name, or fails with some of them put there or none, or does nothing for want of memory
+abbrev pub Stores : Files → Files → List ℕ → List ℕ → Result (Unit {0}) StoreError → Type 0
+Stores old new name bytes (Ok done) = (new name ≡ Some bytes) × SameElsewhere old new name
+Stores old new name bytes (Err store.Failed) = (HoldsPrefix new name bytes ⊎ (new name ≡ old name)) × SameElsewhere old new name
+Stores old new name bytes (Err store.OutOfMemory) = new ≡ old
+
+-- a fetch is put on record, but for one that ended for want of memory
+abbrev pub fetch_record : List ℕ → Result (Vec ℕ Global) FetchError → List Asked
+fetch_record name (Ok bytes) = record { store = false; name = name; failed = false } ∷ []
+fetch_record name (Err (fetch.TooLong taken)) = record { store = false; name = name; failed = false } ∷ []
+fetch_record name (Err fetch.Failed) = record { store = false; name = name; failed = true } ∷ []
+fetch_record name (Err fetch.OutOfMemory) = []
+
+-- a store is put on record, but for one that ended for want of memory
+abbrev pub store_record : List ℕ → Result (Unit {0}) StoreError → List Asked
+store_record name (Ok done) = record { store = true; name = name; failed = false } ∷ []
+store_record name (Err store.Failed) = record { store = true; name = name; failed = true } ∷ []
+store_record name (Err store.OutOfMemory) = []
+
+-- both values are told and stand in this relation, or neither is told
+abbrev pub BothTell : {A : Type 0} → Option A → Option A → (A → A → Type 0) → Type 0
+BothTell None None P = ⊤
+BothTell None (Some new) P = ⊥
+BothTell (Some old) None P = ⊥
+BothTell (Some old) (Some new) P = P old new
+
+-- the count of faults rose, or stands at the end of its range
+abbrev pub Rose : ℕ → ℕ → Type 0
+Rose before now = min (before + 1) (2 ^ 64 - 1) ≤ now

@@ -1,0 +1,6 @@
+pub mod Desk
+pub mod Memory
+pub mod Released
+pub mod Run
+pub mod Status
+pub mod Words

@@ -1,0 +1,78 @@
+ghost use Rattle.std.specs.Prelude.{◌≡◌, ◌≤◌, ◌++◌, ℕ, List, Option, IfSome, IsErrOf};
+ghost use Rattle.edit_program.specs.Desk.{Files, Asked, Fetches, Stores, BothTell, Rose, fetch_record, store_record};
+ghost use Rattle.edit_program.specs.declared.desk.calls.FetchError.TheVariants as fetch;
+ghost use Rattle.edit_program.specs.declared.desk.calls.StoreError.TheVariants as store;
+
+use foundation::OutOfMemory;
+use std::alloc::{AllocError, Global};
+
+/// Why a fetch gave no bytes.
+#[derive(Clone, Copy, Debug, PartialEq, Eq)]
+pub enum FetchError {
+    /// The file is not there, or could not be read.
+    Failed,
+    /// The file has more bytes than the limit; `taken` is one more than the limit.
+    TooLong { taken: u64 },
+    /// Memory was refused, and the call is not on record.
+    OutOfMemory,
+}
+
+/// Why a store did not put all the bytes.
+#[derive(Clone, Copy, Debug, PartialEq, Eq)]
+pub enum StoreError {
+    /// The file could not be written. Some first bytes of it may stand there.
+    Failed,
+    /// Memory was refused. Nothing has changed, and the call is not on record.
+    OutOfMemory,
+}
+
+impl From<AllocError> for FetchError {
+    ghost from_gives = { λ _ error. error ≡ fetch.OutOfMemory };
+
+    fn from(_refused: AllocError) -> Self {
+        FetchError::OutOfMemory
+    }
+}
+
+impl From<AllocError> for StoreError {
+    ghost from_gives = { λ _ error. error ≡ store.OutOfMemory };
+
+    fn from(_refused: AllocError) -> Self {
+        StoreError::OutOfMemory
+    }
+}
+
+impl From<OutOfMemory> for StoreError {
+    ghost from_gives = { λ _ error. error ≡ store.OutOfMemory };
+
+    fn from(_refused: OutOfMemory) -> Self {
+        StoreError::OutOfMemory
+    }
+}
+
+/// A place that files come from and go to, each under a name.
+pub trait Desk {
+    /// What stands under each name, where the desk tells it.
+    ghost files: { Self → Option Files };
+
+    /// The calls on record, the oldest first, where the desk tells them.
+    ghost calls: { Self → Option (List Asked) };
+
+    /// How many faults the desk has met. At the last number of 64 bits it may stand still.
+    ghost faults: { Self → ℕ };
+
+    /// The bytes of a file, at most `limit` of them. No file is changed.
+    fn fetch(&mut self, alloc: Global, name: &str, limit: u64) -> Result<Vec<u8>, FetchError>
+        ensures files { files self.new ≡ files self.old }
+        ensures bytes { IfSome (files self.old) (λ told. Fetches told name.now limit result) }
+        ensures calls { BothTell (calls self.old) (calls self.new) (λ old new. new ≡ old ++ fetch_record name.now result) }
+        ensures later { faults self.old ≤ faults self.new }
+        ensures failed { IsErrOf result FetchError.Failed → Rose (faults self.old) (faults self.new) };
+
+    /// Puts the bytes under the name, in the place of what stood there.
+    fn store(&mut self, alloc: Global, name: &str, bytes: &[u8]) -> Result<(), StoreError>
+        ensures files { BothTell (files self.old) (files self.new) (λ old new. Stores old new name.now bytes.now result) }
+        ensures calls { BothTell (calls self.old) (calls self.new) (λ old new. new ≡ old ++ store_record name.now result) }
+        ensures later { faults self.old ≤ faults self.new }
+        ensures failed { IsErrOf result StoreError.Failed → Rose (faults self.old) (faults self.new) };
+}

@@ -1,0 +1,172 @@
+ghost use Rattle.std.specs.Prelude.{◌≡◌, ◌≤◌, ◌<◌, ℕ, None, IfOk, IfSome, IsErrOf, OnOk, length, take, vec_len};
+ghost use Rattle.edit_program.specs.Desk.{ReadsWhole, Rose};
+ghost use Rattle.std.specs.Io.KnownBytes.{Appends};
+
+use crate::desk::calls::{Desk, FetchError, StoreError};
+use std::alloc::{AllocError, Global};
+use std::fs;
+use std::io::{ErrorKind, Read, Write};
+use std::marker::Model;
+use std::rt::Files;
+
+/// How many bytes a fetch asks of a file at a time.
+const CHUNK: usize = 65_536;
+
+/// The files of the system, under their paths. What they hold is not told, so of their bytes nothing is
+/// claimed. Contracts see the count of faults alone: it rises at each error that the system reports.
+#[derive(Drop)]
+pub struct FileDesk<R: Files + Drop> {
+    rt: R,
+    faults: u64,
+}
+
+impl<R: Files + Drop> Model for FileDesk<R> {
+    ghost use Rattle.std.specs.Prelude.{ℕ};
+
+    ghost Value = { ℕ };
+
+    ghost view = { λ d. d.faults };
+}
+
+impl<R: Files + Drop> FileDesk<R> {
+    /// A desk over the system's files, which has met no fault.
+    pub fn new(rt: R) -> Self
+        ensures { result ≡ 0 }
+    {
+        FileDesk { rt, faults: 0 }
+    }
+}
+
+impl<R: Files + Drop> Desk for FileDesk<R> {
+    ghost files = { λ _. None };
+
+    ghost calls = { λ _. None };
+
+    ghost faults = { λ d. d };
+
+    fn fetch(&mut self, alloc: Global, name: &str, limit: u64) -> Result<Vec<u8>, FetchError> {
+        match fs::open(&self.rt, name) {
+            Ok(mut file) => {
+                let mut chunk = zeros(alloc, CHUNK)?;
+                read_within(alloc, &mut file, &mut chunk, limit, &mut self.faults)
+            }
+            Err(_) => {
+                raise(&mut self.faults);
+                Err(FetchError::Failed)
+            }
+        }
+    }
+
+    fn store(&mut self, _alloc: Global, name: &str, bytes: &[u8]) -> Result<(), StoreError> {
+        match fs::create(&self.rt, name) {
+            Ok(mut file) => write_whole(&mut file, bytes, &mut self.faults),
+            Err(_) => {
+                raise(&mut self.faults);
+                Err(StoreError::Failed)
+            }
+        }
+    }
+}
+
+// Counts one more fault, as far as 64 bits go.
+fn raise(faults: &mut u64)
+    ensures later { faults.old ≤ faults.new }
+    ensures rose { Rose faults.old faults.new }
+{
+    *faults = faults.saturating_add(1);
+}
+
+// A buffer of this many bytes.
+fn zeros(alloc: Global, len: usize) -> Result<Vec<u8>, AllocError>
+    ensures { IfOk result (λ buffer. vec_len buffer ≡ len) }
+{
+    vec![in alloc; 0; len]
+}
+
+// Reads a file to its end by way of the chunk, or to the first byte past the limit. An interrupted read
+// is tried again.
+fn read_within<F: Read>(
+    alloc: Global,
+    file: &mut F,
+    chunk: &mut [u8],
+    limit: u64,
+    faults: &mut u64,
+) -> Result<Vec<u8>, FetchError>
+    requires { 0 < length chunk.old }
+    ensures bytes { IfSome (F.remaining file.old) (λ left. ReadsWhole left limit result) }
+    ensures later { faults.old ≤ faults.new }
+    ensures failed { IsErrOf result FetchError.Failed → Rose faults.old faults.new }
+{
+    let mut bytes = Vec::new(alloc);
+    for _ in 0..u64::MAX {
+        let room = limit.saturating_sub(bytes.len() as u64);
+        let asked = room.saturating_add(1).min(chunk.len() as u64) as usize;
+        match file.read(&mut chunk[..asked]) {
+            Ok(0) => return Ok(bytes),
+            Ok(count) if count as u64 > room => {
+                return Err(FetchError::TooLong {
+                    taken: limit.saturating_add(1),
+                });
+            }
+            Ok(count) => bytes.extend_from_slice(&chunk[..count])?,
+            Err(error) => {
+                raise(faults);
+                if error.kind() != ErrorKind::Interrupted {
+                    return Err(FetchError::Failed);
+                }
+            }
+        }
+    }
+    raise(faults);
+    Err(FetchError::Failed)
+}
+
+// Writes all the bytes. An interrupted write is tried again, and a file that takes nothing is a fault.
+fn write_whole<F: Write>(file: &mut F, bytes: &[u8], faults: &mut u64) -> Result<(), StoreError>
+    ensures whole { OnOk result (Appends (F.contents file.old) (F.contents file.new) bytes.now) }
+    ensures part { (kept : ℕ) × Appends (F.contents file.old) (F.contents file.new) (take kept bytes.now) }
+    ensures later { faults.old ≤ faults.new }
+    ensures failed { IsErrOf result StoreError.Failed → Rose faults.old faults.new }
+{
+    let mut rest = bytes;
+    for _ in 0..u64::MAX {
+        if rest.is_empty() {
+            return Ok(());
+        }
+        match file.write(rest) {
+            Ok(0) => break,
+            Ok(count) => rest = &rest[count..],
+            Err(error) => {
+                raise(faults);
+                if error.kind() != ErrorKind::Interrupted {
+                    return Err(StoreError::Failed);
+                }
+            }
+        }
+    }
+    raise(faults);
+    Err(StoreError::Failed)
+}
+
+#[cfg(test)]
+mod tests {
+    use super::*;
+    use std::test::Fail;
+    use std::{env, process};
+
+    #[test]
+    fn five_bytes_come_back(rt: HostRuntime) -> Result<(), Fail> {
+        let alloc = rt.alloc();
+        let name = format!(in alloc; "edit-program-desk-{}", process::id(rt.process()))?;
+        let folder = env::temp_dir(&rt)?.join(alloc, name.as_str())?;
+        let file = folder.join(alloc, "five")?;
+        fs::create_dir(&rt, folder.as_path())?;
+        let mut desk = FileDesk::new(rt.clone()?);
+        let stored = desk.store(alloc, file.as_str(), b"12345");
+        let fetched = desk.fetch(alloc, file.as_str(), 5);
+        fs::remove_dir_all(&rt, folder.as_path())?;
+        stored?;
+        assert_eq!(rt; fetched?.as_slice(), b"12345".as_slice());
+        Ok(())
+    }
+}

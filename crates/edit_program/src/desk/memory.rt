@@ -1,0 +1,249 @@
+ghost use Rattle.std.specs.Prelude.{◌≡◌, ◌⊎◌, ◌+◌, ◌==◌, ◌≤◌, ◌++◌, [], Some, None, IfSome, IfNone, IsSome, IsErr, IsErrOf, OnOk, OnErr, take, find, option_copied};
+ghost use Rattle.edit_program.specs.Desk.{Fetches, Stores, Rose, SameElsewhere, fetch_record, store_record};
+ghost use Rattle.edit_program.specs.Memory.{under, named_files, next_failure, faults_of};
+
+use crate::desk::calls::{Desk, FetchError, StoreError};
+use foundation::OutOfMemory;
+use std::alloc::Global;
+use std::collections::BTreeMap;
+use std::marker::Model;
+
+/// A call that is to fail, by its number: fetches and stores are counted together, from 1.
+#[derive(Clone, Copy, Debug, PartialEq, Eq)]
+pub struct Failure {
+    pub call: u64,
+    /// How many of the first bytes a store that fails puts all the same.
+    pub keep: u64,
+}
+
+/// One call on record.
+#[derive(Debug, Drop)]
+struct Call {
+    store: bool,
+    name: String,
+    failed: bool,
+}
+
+/// Files in memory. Calls fail where they were told to, and where a fetch finds no file of its name.
+#[derive(Drop)]
+pub struct MemoryDesk {
+    files: BTreeMap<String, Vec<u8>>,
+    calls: Vec<Call>,
+    failures: Vec<Failure>,
+}
+
+impl Model for MemoryDesk {
+    ghost use Rattle.std.specs.Prelude.{map};
+    ghost use Rattle.edit_program.specs.Memory.{Memory, named_files, asked};
+
+    ghost Value = { Memory };
+
+    ghost view = { λ d. record { files = named_files d.files; calls = map asked d.calls.items; failures = d.failures.items } };
+}
+
+impl MemoryDesk {
+    /// A desk with these files, no calls on record, and these failures to come.
+    pub fn new(alloc: Global, files: BTreeMap<String, Vec<u8>>, failures: Vec<Failure>) -> Self
+        ensures { result ≡ record { files = named_files files; calls = []; failures = failures.items } }
+    {
+        MemoryDesk {
+            files,
+            calls: Vec::new(alloc),
+            failures,
+        }
+    }
+
+    /// The bytes under a name, where a file has it.
+    #[tactic(auto, using(crate::proofs::MemoryLaws::under_named))]
+    pub fn file(&self, name: &str) -> Option<&[u8]>
+        ensures { option_copied result ≡ under self.now.files name.now }
+    {
+        match self.files.get(name) {
+            None => None,
+            Some(bytes) => Some(bytes.as_slice()),
+        }
+    }
+
+    // The failure that was asked for the next call.
+    fn due_failure(&self) -> Option<Failure>
+        ensures { result ≡ next_failure self.now }
+    {
+        failure_of(&self.failures, self.calls.len() as u64 + 1)
+    }
+}
+
+impl Desk for MemoryDesk {
+    ghost use Rattle.edit_program.specs.Memory.{under, faults_of};
+
+    ghost files = { λ d. Some (under d.files) };
+
+    ghost calls = { λ d. Some d.calls };
+
+    ghost faults = { faults_of };
+
+    fn fetch(&mut self, alloc: Global, name: &str, limit: u64) -> Result<Vec<u8>, FetchError>
+        ensures files { self.new.files ≡ self.old.files }
+        ensures bytes { Fetches (under self.old.files) name.now limit result }
+        ensures calls { self.new.calls ≡ self.old.calls ++ fetch_record name.now result }
+        ensures later { faults_of self.old ≤ faults_of self.new }
+        ensures failed { IsErrOf result FetchError.Failed → Rose (faults_of self.old) (faults_of self.new) }
+        ensures failures { self.new.failures ≡ self.old.failures }
+        ensures cause { IsErrOf result FetchError.Failed → IsSome (next_failure self.old) ⊎ (under self.old.files name.now ≡ None) }
+        ensures due { IsSome (next_failure self.old) → IsErrOf result FetchError.Failed ⊎ IsErrOf result FetchError.OutOfMemory }
+    {
+        let failure = self.due_failure();
+        self.calls.reserve(1)?;
+        let asked = String::from_str(alloc, name)?;
+        let answer = bytes_within(alloc, &self.files, failure, name, limit);
+        if let Err(FetchError::OutOfMemory) = answer {
+            return answer;
+        }
+        self.calls.push_reserved(Call {
+            store: false,
+            name: asked,
+            failed: matches!(answer, Err(FetchError::Failed)),
+        });
+        answer
+    }
+
+    fn store(&mut self, alloc: Global, name: &str, bytes: &[u8]) -> Result<(), StoreError>
+        ensures files { Stores (under self.old.files) (under self.new.files) name.now bytes.now result }
+        ensures calls { self.new.calls ≡ self.old.calls ++ store_record name.now result }
+        ensures later { faults_of self.old ≤ faults_of self.new }
+        ensures failed { IsErrOf result StoreError.Failed → Rose (faults_of self.old) (faults_of self.new) }
+        ensures failures { self.new.failures ≡ self.old.failures }
+        ensures cause { IsErrOf result StoreError.Failed → IsSome (next_failure self.old) }
+        ensures due { IfSome (next_failure self.old) (λ f. IsErr result × (IsErrOf result StoreError.Failed → under self.new.files name.now ≡ Some (take f.keep bytes.now))) }
+    {
+        let failure = self.due_failure();
+        self.calls.reserve(1)?;
+        let asked = String::from_str(alloc, name)?;
+        put(alloc, &mut self.files, name, kept(bytes, failure))?;
+        self.calls.push_reserved(Call {
+            store: true,
+            name: asked,
+            failed: failure.is_some(),
+        });
+        match failure {
+            None => Ok(()),
+            Some(_) => Err(StoreError::Failed),
+        }
+    }
+}
+
+// The failure that was asked for the call of this number.
+fn failure_of(failures: &[Failure], number: u64) -> Option<Failure>
+    ensures { result ≡ find (λ f. f.call == number) failures.now }
+{
+    failures.iter().copied().find(|f| f.call == number)
+}
+
+// The bytes that a store puts: all, or the first that a failure keeps.
+fn kept(bytes: &[u8], failure: Option<Failure>) -> &[u8]
+    ensures all { IfNone failure (result.now ≡ bytes.now) }
+    ensures some { IfSome failure (λ f. result.now ≡ take f.keep bytes.now) }
+{
+    match failure {
+        None => bytes,
+        Some(f) => &bytes[..bytes.len().min(f.keep as usize)],
+    }
+}
+
+// The bytes of a file that has at most `limit` of them, where no failure was asked for.
+#[tactic(auto, using(crate::proofs::MemoryLaws::under_named))]
+fn bytes_within(
+    alloc: Global,
+    files: &BTreeMap<String, Vec<u8>>,
+    failure: Option<Failure>,
+    name: &str,
+    limit: u64,
+) -> Result<Vec<u8>, FetchError>
+    ensures bytes { Fetches (under (named_files files.now)) name.now limit result }
+    ensures cause { IsErrOf result FetchError.Failed → IsSome failure ⊎ (under (named_files files.now) name.now ≡ None) }
+    ensures due { IsSome failure → IsErrOf result FetchError.Failed }
+{
+    if failure.is_some() {
+        return Err(FetchError::Failed);
+    }
+    let Some(bytes) = files.get(name) else {
+        return Err(FetchError::Failed);
+    };
+    if bytes.len() as u64 > limit {
+        return Err(FetchError::TooLong { taken: limit + 1 });
+    }
+    Ok(bytes.to_vec(alloc)?)
+}
+
+// Puts the bytes under the name, or changes nothing.
+#[tactic(auto, using(crate::proofs::MemoryLaws::under_named))]
+fn put(
+    alloc: Global,
+    files: &mut BTreeMap<String, Vec<u8>>,
+    name: &str,
+    bytes: &[u8],
+) -> Result<(), OutOfMemory>
+    ensures here { OnOk result (under (named_files files.new) name.now ≡ Some bytes.now) }
+    ensures others { OnOk result (SameElsewhere (under (named_files files.old)) (under (named_files files.new)) name.now) }
+    ensures unchanged { OnErr result (named_files files.new ≡ named_files files.old) }
+{
+    let name = String::from_str(alloc, name)?;
+    let bytes = bytes.to_vec(alloc)?;
+    files.insert(name, bytes)?;
+    Ok(())
+}
+
+#[cfg(test)]
+mod tests {
+    use super::*;
+    use std::test::Fail;
+
+    // A desk with the file `rules`, of the bytes `abc`.
+    fn desk_with_rules(alloc: Global, failures: &[Failure]) -> Result<MemoryDesk, Fail> {
+        let mut files = BTreeMap::new(alloc);
+        files.insert(String::from_str(alloc, "rules")?, b"abc".to_vec(alloc)?)?;
+        Ok(MemoryDesk::new(alloc, files, failures.to_vec(alloc)?))
+    }
+
+    #[test]
+    fn a_fetch_gives_a_whole_file_or_says_why_not(rt: HostRuntime) -> Result<(), Fail> {
+        let alloc = rt.alloc();
+        let mut desk = desk_with_rules(alloc, &[])?;
+        let bytes = desk.fetch(alloc, "rules", 3)?;
+        assert_eq!(rt; bytes.as_slice(), b"abc".as_slice());
+        let refused = [
+            ("rules", 2, FetchError::TooLong { taken: 3 }),
+            ("rules", 0, FetchError::TooLong { taken: 1 }),
+            ("records", 9, FetchError::Failed),
+        ];
+        for (name, limit, error) in refused {
+            assert_eq!(rt;
+                desk.fetch(alloc, name, limit).err(),
+                Some(error),
+                "at {name} {limit}"
+            );
+        }
+        Ok(())
+    }
+
+    #[test]
+    fn a_store_that_fails_keeps_the_bytes_asked_for(rt: HostRuntime) -> Result<(), Fail> {
+        let alloc = rt.alloc();
+        for (keep, kept) in [(0, b"".as_slice()), (3, b"hel"), (9, b"hello")] {
+            let mut desk = desk_with_rules(alloc, &[Failure { call: 2, keep }])?;
+            desk.store(alloc, "rules", b"first")?;
+            assert_eq!(rt;
+                desk.store(alloc, "released", b"hello"),
+                Err(StoreError::Failed)
+            );
+            assert_eq!(rt; desk.file("released"), Some(kept), "at {keep}");
+            assert_eq!(rt; desk.file("rules"), Some(b"first".as_slice()), "at {keep}");
+            desk.store(alloc, "released", b"again")?;
+            assert_eq!(rt;
+                desk.file("released"),
+                Some(b"again".as_slice()),
+                "at {keep}"
+            );
+        }
+        Ok(())
+    }
+}

@@ -1,0 +1,24 @@
+//! The program: it reads the words of the command line, fetches the files that they name, edits the
+//! records and stores the result. Begin with [`edit::fh_main`].
+#![tactic(auto)]
+
+pub mod desk;
+pub mod edit;
+mod release;
+mod released_row;
+pub mod status;
+#[cfg(test)]
+mod tests;
+pub mod words;
+
+use desk::FileDesk;
+use std::process::ExitCode;
+
+fn main(rt: HostRuntime) -> ExitCode {
+    let alloc = rt.alloc();
+    let outcome = match words::after_program_name(&rt) {
+        Ok(words) => edit::fh_main(alloc, &words, &mut FileDesk::new(rt)),
+        Err(outcome) => outcome,
+    };
+    ExitCode::from(outcome.number())
+}

@@ -1,0 +1,42 @@
+ghost use Rattle.std.specs.Prelude.{◌≡◌};
+
+/// How a run of the program ended.
+#[derive(Clone, Copy, Debug, PartialEq, Eq)]
+pub enum Status {
+    /// Every record was released.
+    Done,
+    /// Some record has no consistent correction and was left out.
+    SomeUnresolved,
+    /// The words are no command.
+    Usage,
+    /// A file could not be read.
+    ReadFault,
+    /// A file could not be written.
+    WriteFault,
+    /// Memory was refused.
+    OutOfMemory,
+    /// A file has more bytes than its limit.
+    TooLong,
+    /// The rules or the records have a form that the program does not serve.
+    Unbuilt,
+}
+
+impl Status {
+    ghost use Rattle.edit_program.specs.Status.{status_number};
+
+    /// The number that the process ends with.
+    pub fn number(self) -> u8
+        ensures { result ≡ status_number self }
+    {
+        match self {
+            Status::Done => 0,
+            Status::SomeUnresolved => 1,
+            Status::Usage => 2,
+            Status::ReadFault => 5,
+            Status::WriteFault => 6,
+            Status::OutOfMemory => 7,
+            Status::TooLong => 8,
+            Status::Unbuilt => 10,
+        }
+    }
+}

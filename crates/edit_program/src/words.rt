@@ -1,0 +1,148 @@
+ghost use Rattle.std.specs.Prelude.{◌≡◌, ◌↔◌, ◌⊎◌, IfErr, IfSome, IfNone, IsTrue, codes, map, string_bytes};
+ghost use Rattle.edit_program.specs.Words.{IsEdit, IsNoCommand, IsFileName, AreFileNames};
+
+use crate::status::Status;
+use std::env;
+use std::io::ErrorKind;
+use std::rt::Env;
+
+/// The names that the command `edit` was given.
+#[derive(Clone, Copy, Debug, PartialEq, Eq)]
+pub struct EditWords<'a> {
+    /// The file of the rules.
+    pub rules: &'a str,
+    /// The file of the records.
+    pub records: &'a str,
+    /// The file that the released records go to.
+    pub released: &'a str,
+}
+
+/// The words after the program's name, or the status to end with: a word that is not UTF-8 makes them no
+/// command.
+pub fn after_program_name<R: Env + AllocGlobal>(rt: &R) -> Result<Vec<String>, Status>
+    ensures { IfErr result (λ outcome. (outcome ≡ Status.Usage) ⊎ (outcome ≡ Status.OutOfMemory)) }
+{
+    match env::args(rt) {
+        Ok(all) => all
+            .skip(1)
+            .collect(rt.alloc())
+            .map_err(|_| Status::OutOfMemory),
+        Err(error) if error.kind() == ErrorKind::OutOfMemory => Err(Status::OutOfMemory),
+        Err(_) => Err(Status::Usage),
+    }
+}
+
+/// Reads the words after the program's name as the command
+/// `edit --rules NAME --records NAME --released NAME`, in this order. No name is empty or begins with `-`,
+/// and the three differ.
+pub fn edit_words(words: &[String]) -> Option<EditWords<'_>>
+    ensures some { IfSome result (λ e. IsEdit (map string_bytes words.now) e.rules.now e.records.now e.released.now) }
+    ensures none { IfNone result (IsNoCommand (map string_bytes words.now)) }
+{
+    let [
+        command,
+        rules_option,
+        rules,
+        records_option,
+        records,
+        released_option,
+        released,
+    ] = words
+    else {
+        return None;
+    };
+    if !is_form(
+        command.as_str(),
+        rules_option.as_str(),
+        records_option.as_str(),
+        released_option.as_str(),
+    ) {
+        return None;
+    }
+    if !are_file_names(rules.as_str(), records.as_str(), released.as_str()) {
+        return None;
+    }
+    Some(EditWords {
+        rules: rules.as_str(),
+        records: records.as_str(),
+        released: released.as_str(),
+    })
+}
+
+// Whether the words that are no names stand where `edit` has them.
+fn is_form(command: &str, first: &str, second: &str, third: &str) -> bool
+    ensures { IsTrue result ↔ ((command.now ≡ codes "edit") × (first.now ≡ codes "--rules") × (second.now ≡ codes "--records") × (third.now ≡ codes "--released")) }
+{
+    command == "edit" && first == "--rules" && second == "--records" && third == "--released"
+}
+
+// Whether the three may name files, and differ.
+fn are_file_names(rules: &str, records: &str, released: &str) -> bool
+    ensures { IsTrue result ↔ AreFileNames rules.now records.now released.now }
+{
+    is_file_name(rules)
+        && is_file_name(records)
+        && is_file_name(released)
+        && rules != records
+        && records != released
+        && released != rules
+}
+
+// Whether the text may name a file.
+fn is_file_name(name: &str) -> bool
+    ensures { IsTrue result ↔ IsFileName name.now }
+{
+    match name.as_bytes().first() {
+        None => false,
+        Some(first) => *first != b'-',
+    }
+}
+
+#[cfg(test)]
+mod tests {
+    use super::*;
+    use std::alloc::Global;
+    use std::test::Fail;
+
+    // The words of a line, parted by single spaces.
+    fn words_of(alloc: Global, line: &str) -> Result<Vec<String>, Fail> {
+        let mut words = Vec::new(alloc);
+        for word in line.split(' ') {
+            words.push(String::from_str(alloc, word)?)?;
+        }
+        Ok(words)
+    }
+
+    #[test]
+    fn only_the_form_of_edit_is_taken(rt: HostRuntime) -> Result<(), Fail> {
+        let cases = [
+            ("edit --rules r.txt --records c.csv --released d", true),
+            ("edit --rules r --records c --released", false),
+            ("edit --rules r --records c --released d e", false),
+            ("edit --records c --rules r --released d", false),
+            ("edit --rules r --records c --released c", false),
+            ("edit --rules r --records c --released r", false),
+            ("edit --rules r --records r --released d", false),
+            ("edit --rules -r --records c --released d", false),
+            ("edit --rules r --records c --released ", false),
+            ("edit --rules=r --records c --released d", false),
+            ("check --rules r --records c --released d", false),
+            ("", false),
+        ];
+        for (line, is_taken) in cases {
+            let words = words_of(rt.alloc(), line)?;
+            assert_eq!(rt; edit_words(&words).is_some(), is_taken, "at {line}");
+        }
+        Ok(())
+    }
+
+    #[test]
+    fn each_name_is_found(rt: HostRuntime) -> Result<(), Fail> {
+        let words = words_of(rt.alloc(), "edit --rules a --records b --released c-")?;
+        let names = edit_words(&words).ok_or("the words are of the form")?;
+        assert_eq!(rt; names.rules, "a");
+        assert_eq!(rt; names.records, "b");
+        assert_eq!(rt; names.released, "c-");
+        Ok(())
+    }
+}
