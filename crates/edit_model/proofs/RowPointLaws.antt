@@ -5,13 +5,30 @@ use Rattle.fraction128.proofs.Signs.{above-*}
 use Rattle.fraction128.proofs.Whole.{parts, ring, same_dif}
 use Rattle.fraction128.specs.declared.fraction.Fraction.{Fraction}
 use Rattle.edit_model.specs.Points.{HasCodesFrom, IsInDomain, Point}
-use Rattle.edit_model.specs.RowPoints.{Agrees, code_in, numerator_over, product_of_denominators}
+use Rattle.edit_model.specs.RowPoints.{Agrees, code_in}
 use Rattle.edit_model.specs.Rows.{IsOfKind, IsRow, value_of}
 use Rattle.edit_model.specs.declared.field.Field.{Field}
 use Rattle.edit_model.specs.declared.field.Kind.{Kind}
 use Rattle.edit_model.specs.declared.field.Kind.TheVariants as kind
 use Rattle.edit_model.specs.declared.value.Value.{Value}
 use Rattle.edit_model.specs.declared.value.Value.TheVariants.{Code, Number, Bad}
+
+-- the product of the denominators of a record's numbers
+abbrev pub product_of_denominators : List Value → ℤ
+product_of_denominators [] = pos 1
+product_of_denominators (Number x ∷ values) = x.denominator *ℤ product_of_denominators values
+product_of_denominators (Code c ∷ values) = product_of_denominators values
+product_of_denominators (Bad ∷ values) = product_of_denominators values
+
+-- the numerator of a record's number over that product; `before` is the product of the denominators of what stands before the values
+abbrev pub numerator_over : ℤ → List Value → ℕ → ℤ
+numerator_over before [] i = pos 0
+numerator_over before (Number x ∷ values) zero = x.numerator *ℤ (before *ℤ product_of_denominators values)
+numerator_over before (Number x ∷ values) (suc i) = numerator_over (before *ℤ x.denominator) values i
+numerator_over before (Code c ∷ values) zero = pos 0
+numerator_over before (Code c ∷ values) (suc i) = numerator_over before values i
+numerator_over before (Bad ∷ values) zero = pos 0
+numerator_over before (Bad ∷ values) (suc i) = numerator_over before values i
 
 -- the product of the denominators is positive
 pub denominators_above : (row : List Value) → pos 0 <ℤ product_of_denominators row

@@ -52,9 +52,17 @@ abbrev pub numbers_from : (Kind → Bool) → ℕ → List Field → List ℕ
 numbers_from test i [] = []
 numbers_from test i (field ∷ fields) = if test field.kind then i ∷ numbers_from test (suc i) fields else numbers_from test (suc i) fields
 
+-- the numbers of the numerical fields, in declared order
+abbrev pub number_fields : List Field → List ℕ
+number_fields fields = numbers_from is_numerical 0 fields
+
+-- the numbers of the categorical fields, in declared order
+abbrev pub code_fields : List Field → List ℕ
+code_fields fields = numbers_from (λ k. not (is_numerical k)) 0 fields
+
 -- the order in which fields are looked at: the numerical ones as declared, then the categorical ones
 abbrev pub path_order : List Field → List ℕ
-path_order fields = numbers_from is_numerical 0 fields ++ numbers_from (λ k. not (is_numerical k)) 0 fields
+path_order fields = number_fields fields ++ code_fields fields
 
 -- whether the point differs from the record, field by field in path order: false for kept, true for changed
 abbrev pub word_of : SurveyParts → List Value → Point → List Bool

@@ -1,5 +1,5 @@
 use Rattle.std.specs.Prelude.{◌≡◌, ℕ, not, Bool, if◌then◌else◌, List, map}
-use Rattle.edit_model.specs.Corrections.{is_numerical, numbers_from}
+use Rattle.edit_model.specs.Corrections.{code_fields, is_numerical, number_fields}
 use Rattle.edit_model.specs.Parts.{SurveyParts}
 use Rattle.edit_model.specs.Surveys.{IsWellFormed}
 use Rattle.edit_model.specs.declared.field.Field.{Field}
@@ -12,14 +12,6 @@ names_of fields = map (λ (f : Field). f.name) fields
 -- whether the kind is the one that is asked for: numerical, or categorical
 abbrev pub is_of_kind : Bool → Kind → Bool
 is_of_kind numerical k = if numerical then is_numerical k else not (is_numerical k)
-
--- the numbers of the numerical fields, in declared order
-abbrev pub number_fields : List Field → List ℕ
-number_fields fields = numbers_from is_numerical 0 fields
-
--- the numbers of the categorical fields, in declared order
-abbrev pub code_fields : List Field → List ℕ
-code_fields fields = numbers_from (λ k. not (is_numerical k)) 0 fields
 
 -- what is kept of every survey: it is well formed, and beside its parts stand its names and its fields of each kind
 pub record IsKept (survey : SurveyParts) (names : List (List ℕ)) (numbers categories : List ℕ) : Type 0 where

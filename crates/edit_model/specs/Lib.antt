@@ -1,6 +1,7 @@
 pub mod Bounds
 pub mod Changes
 pub mod Corrections
+pub mod Faults
 pub mod FieldSets
 pub mod Indexes
 pub mod Parts

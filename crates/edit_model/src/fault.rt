@@ -11,6 +11,11 @@ pub enum SurveyFault {
 }
 
 impl fmt::Display for SurveyFault {
+    ghost use Rattle.std.specs.Prelude.{Some};
+    ghost use Rattle.edit_model.specs.Faults.{fault_text};
+
+    ghost output = { λ fault. Some (fault_text fault) };
+
     fn fmt<W: fmt::Write>(&self, f: &mut fmt::Formatter<W>) -> fmt::Result {
         f.write_str(match self {
             SurveyFault::Malformed => "the survey is not well formed",

@@ -1,5 +1,5 @@
 ghost use Rattle.std.specs.Prelude.{◌≡◌, ◌≢◌, All, IfNone, IfOk, IfSome, IsSomeAnd, slice_get};
-ghost use Rattle.edit_model.specs.Indexes.{code_fields, number_fields};
+ghost use Rattle.edit_model.specs.Corrections.{code_fields, number_fields};
 ghost use Rattle.edit_model.specs.Parts.{SurveyParts, parts_of};
 ghost use Rattle.edit_model.specs.Surveys.{IsWellFormed};
 

@@ -63,7 +63,7 @@ fn sum_of(linear: &Linear, row: &Row) -> Result<Fraction, Overflow>
 fn constant_of(linear: &Linear) -> Fraction
     ensures { ratio_of result ≡ record { numerator = linear.now.constant; denominator = pos 1 } }
 {
-    Fraction::reduced(i128::from(linear.constant), 1)
+    Fraction::whole(i128::from(linear.constant))
 }
 
 // The sum with the factor times the record's value; a value that is no number adds nothing.

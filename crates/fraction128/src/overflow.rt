@@ -5,6 +5,10 @@ use std::{error, fmt};
 pub struct Overflow;
 
 impl fmt::Display for Overflow {
+    ghost use Rattle.std.specs.Prelude.{Some, codes};
+
+    ghost output = { λ _. Some (codes "a number is out of range") };
+
     fn fmt<W: fmt::Write>(&self, f: &mut fmt::Formatter<W>) -> fmt::Result {
         f.write_str("a number is out of range")
     }
