@@ -1,0 +1,39 @@
+ghost use Rattle.std.specs.Prelude.{IfOk};
+ghost use Rattle.rule_grammar.specs.LineTexts.{IsLineText};
+
+use crate::cursor::Cursor;
+use crate::parser::{Fault, is_over, statement};
+use crate::statement::Statement;
+use foundation::OutOfMemory;
+use std::alloc::Global;
+
+/// What the text of a line is.
+#[derive(Debug, Drop)]
+pub enum LineText {
+    /// Blanks alone, or no byte.
+    Empty,
+    /// A declaration or a rule.
+    Says(Statement),
+    /// Something that is no statement.
+    Unreadable,
+}
+
+/// Reads the text of a line: what stands before its comment.
+#[tactic(auto, using(crate::proofs::LineLaws::line_empty, crate::proofs::LineLaws::line_unread, crate::proofs::LineLaws::line_left))]
+pub fn read_line(alloc: Global, text: &[u8]) -> Result<LineText, OutOfMemory>
+    ensures { IfOk result (λ line. IsLineText text.now line) }
+{
+    let mut cursor = Cursor::new(text);
+    if is_over(&cursor) {
+        return Ok(LineText::Empty);
+    }
+    let says = match statement(alloc, &mut cursor) {
+        Ok(says) => says,
+        Err(Fault::Unreadable) => return Ok(LineText::Unreadable),
+        Err(Fault::OutOfMemory) => return Err(OutOfMemory),
+    };
+    if !is_over(&cursor) {
+        return Ok(LineText::Unreadable);
+    }
+    Ok(LineText::Says(says))
+}

@@ -1,0 +1,79 @@
+ghost use Rattle.std.specs.Prelude.{◌∷◌};
+ghost use Rattle.rule_grammar.specs.Parsing.{Parses, and_test_at, and_tests_at, conditional_at, rule_at, then_at};
+
+use crate::cursor::Cursor;
+use crate::parser::fault::Fault;
+use crate::parser::field_tests::test;
+use crate::parser::marks::{has_word, take_word};
+use crate::statement::{RuleText, TestText};
+use crate::token::Keyword;
+use foundation::Sequence;
+use std::alloc::Global;
+
+/// `and` and a test.
+fn and_test(alloc: Global, cursor: &mut Cursor) -> Result<TestText, Fault>
+    ensures { Parses (and_test_at cursor.old) cursor.new result }
+{
+    if !take_word(cursor, Keyword::And) {
+        return Err(Fault::Unreadable);
+    }
+    test(alloc, cursor)
+}
+
+/// The conditions behind the first, each with its `and`, as many as there are.
+#[tactic(auto, using(crate::proofs::ManyLaws::many_more, crate::proofs::ManyLaws::many_ends, crate::proofs::ManyLaws::many_fails, crate::proofs::ManyLaws::prefixed_first, crate::proofs::TestLaws::and_test_shortens))]
+fn and_tests(
+    alloc: Global,
+    cursor: &mut Cursor,
+    first: TestText,
+) -> Result<Sequence<TestText>, Fault>
+    ensures { Parses (and_tests_at first cursor.old) cursor.new result }
+{
+    let mut tests = Vec::new(alloc);
+    tests.push(first)?;
+    while has_word(cursor, Keyword::And) {
+        tests.push(and_test(alloc, cursor)?)?;
+    }
+    Ok(Sequence::from_vec(tests))
+}
+
+/// `then` and the test that follows from these conditions.
+fn conclusion(
+    alloc: Global,
+    cursor: &mut Cursor,
+    conditions: Sequence<TestText>,
+) -> Result<RuleText, Fault>
+    ensures { Parses (then_at conditions cursor.old) cursor.new result }
+{
+    if !take_word(cursor, Keyword::Then) {
+        return Err(Fault::Unreadable);
+    }
+    let conclusion = test(alloc, cursor)?;
+    Ok(RuleText {
+        conditions,
+        conclusion,
+    })
+}
+
+/// A rule with conditions, whose `if` is taken.
+fn conditional(alloc: Global, cursor: &mut Cursor) -> Result<RuleText, Fault>
+    ensures { Parses (conditional_at cursor.old) cursor.new result }
+{
+    let first = test(alloc, cursor)?;
+    let conditions = and_tests(alloc, cursor, first)?;
+    conclusion(alloc, cursor, conditions)
+}
+
+/// A rule.
+pub(crate) fn rule(alloc: Global, cursor: &mut Cursor) -> Result<RuleText, Fault>
+    ensures { Parses (rule_at cursor.old) cursor.new result }
+{
+    if take_word(cursor, Keyword::If) {
+        return conditional(alloc, cursor);
+    }
+    let conclusion = test(alloc, cursor)?;
+    Ok(RuleText {
+        conditions: Sequence::from_vec(Vec::new(alloc)),
+        conclusion,
+    })
+}

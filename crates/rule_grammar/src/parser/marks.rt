@@ -1,0 +1,108 @@
+ghost use Rattle.std.specs.Prelude.{◌≡◌, if◌then◌else◌};
+ghost use Rattle.rule_grammar.specs.Parsing.{Reads, begins, code_at, compare_at, ends, is_comma, is_name_token, is_sign, is_word, name_at, numeral_at, rest_of, sign_at};
+
+use crate::cursor::Cursor;
+use crate::token::{Keyword, Numeral, Sign, Token};
+use edit_model::{Compare, Name};
+
+/// Whether no token is left.
+pub(crate) fn is_over(cursor: &Cursor) -> bool
+    ensures { result ≡ ends cursor.now }
+{
+    cursor.front().is_none()
+}
+
+/// Whether this keyword is at the front. It is taken where it is.
+pub(crate) fn take_word(cursor: &mut Cursor, wanted: Keyword) -> bool
+    ensures found { result ≡ begins (is_word wanted) cursor.old }
+    ensures left { cursor.new ≡ (if result then rest_of cursor.old else cursor.old) }
+{
+    match cursor.front() {
+        Some(Token::Keyword(word)) if *word == wanted => {
+            cursor.take();
+            true
+        }
+        _ => false,
+    }
+}
+
+/// Whether this keyword is at the front. It is left there.
+pub(crate) fn has_word(cursor: &Cursor, wanted: Keyword) -> bool
+    ensures { result ≡ begins (is_word wanted) cursor.now }
+{
+    match cursor.front() {
+        Some(Token::Keyword(word)) => *word == wanted,
+        _ => false,
+    }
+}
+
+/// Whether the name of a field is at the front. It is left there.
+pub(crate) fn has_name(cursor: &Cursor) -> bool
+    ensures { result ≡ begins is_name_token cursor.now }
+{
+    matches!(cursor.front(), Some(Token::Name(_)))
+}
+
+/// Whether a sign is at the front. It is left there.
+pub(crate) fn has_sign(cursor: &Cursor) -> bool
+    ensures { result ≡ begins is_sign cursor.now }
+{
+    matches!(cursor.front(), Some(Token::Sign(_)))
+}
+
+/// Whether a comma is at the front. It is left there.
+pub(crate) fn has_comma(cursor: &Cursor) -> bool
+    ensures { result ≡ begins is_comma cursor.now }
+{
+    matches!(cursor.front(), Some(Token::Comma))
+}
+
+/// Takes the name of a field.
+pub(crate) fn take_name(cursor: &mut Cursor) -> Option<Name>
+    ensures { Reads (name_at cursor.old) cursor.new result }
+{
+    match cursor.take() {
+        Some(Token::Name(name)) => Some(name),
+        _ => None,
+    }
+}
+
+/// Takes a numeral.
+pub(crate) fn take_numeral(cursor: &mut Cursor) -> Option<Numeral>
+    ensures { Reads (numeral_at cursor.old) cursor.new result }
+{
+    match cursor.take() {
+        Some(Token::Numeral(number)) => Some(number),
+        _ => None,
+    }
+}
+
+/// Takes a code.
+pub(crate) fn take_code(cursor: &mut Cursor) -> Option<Name>
+    ensures { Reads (code_at cursor.old) cursor.new result }
+{
+    match cursor.take() {
+        Some(Token::Code(code)) => Some(code),
+        _ => None,
+    }
+}
+
+/// Takes a sign.
+pub(crate) fn take_sign(cursor: &mut Cursor) -> Option<Sign>
+    ensures { Reads (sign_at cursor.old) cursor.new result }
+{
+    match cursor.take() {
+        Some(Token::Sign(sign)) => Some(sign),
+        _ => None,
+    }
+}
+
+/// Takes a comparison.
+pub(crate) fn take_compare(cursor: &mut Cursor) -> Option<Compare>
+    ensures { Reads (compare_at cursor.old) cursor.new result }
+{
+    match cursor.take() {
+        Some(Token::Compare(compare)) => Some(compare),
+        _ => None,
+    }
+}

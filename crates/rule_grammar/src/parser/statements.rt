@@ -1,0 +1,26 @@
+ghost use Rattle.rule_grammar.specs.Parsing.{Parses, statement_at};
+
+use crate::cursor::Cursor;
+use crate::parser::conditions::rule;
+use crate::parser::declarations::{code, number};
+use crate::parser::fault::Fault;
+use crate::parser::marks::take_word;
+use crate::statement::Statement;
+use crate::token::Keyword;
+use std::alloc::Global;
+
+/// A statement at the front of the tokens.
+pub(crate) fn statement(alloc: Global, cursor: &mut Cursor) -> Result<Statement, Fault>
+    ensures { Parses (statement_at cursor.old) cursor.new result }
+{
+    if take_word(cursor, Keyword::Number) {
+        let declaration = number(cursor).ok_or(Fault::Unreadable)?;
+        return Ok(Statement::Declaration(declaration));
+    }
+    if take_word(cursor, Keyword::Code) {
+        let declaration = code(alloc, cursor)?;
+        return Ok(Statement::Declaration(declaration));
+    }
+    let rule = rule(alloc, cursor)?;
+    Ok(Statement::Rule(rule))
+}

@@ -1,0 +1,83 @@
+//! What a line says, as it is written: each choice that the grammar leaves to the writer is kept.
+use crate::token::{Numeral, Sign};
+use edit_model::{Compare, Name};
+use foundation::Sequence;
+
+/// One term of a sum: `2 A` or `2 * A`, `A`, or `2`.
+#[derive(Debug, Drop)]
+pub enum TermText {
+    /// A factor and a field, with a `*` between them or not.
+    Product {
+        factor: Numeral,
+        times: bool,
+        field: Name,
+    },
+    Field(Name),
+    Constant(Numeral),
+}
+
+/// A sign and a term.
+#[derive(Debug, Drop)]
+pub struct SignedTerm {
+    pub sign: Sign,
+    pub term: TermText,
+}
+
+/// A sum: a term, with a sign in front or not, and further terms with their signs.
+#[derive(Debug, Drop)]
+pub struct SumText {
+    pub sign: Option<Sign>,
+    pub first: TermText,
+    pub rest: Sequence<SignedTerm>,
+}
+
+/// The codes between two braces, at least one.
+#[derive(Debug, Drop)]
+pub struct CodeList {
+    pub first: Name,
+    pub rest: Sequence<Name>,
+}
+
+/// A test: `A in {x, y}`, `A not in {x}`, or two sums with a comparison between them.
+#[derive(Debug, Drop)]
+pub enum TestText {
+    Codes {
+        field: Name,
+        negated: bool,
+        list: CodeList,
+    },
+    Sums {
+        left: SumText,
+        compare: Compare,
+        right: SumText,
+    },
+}
+
+/// A rule: its conditions between `if` and `then`, or none, and its conclusion.
+#[derive(Debug, Drop)]
+pub struct RuleText {
+    pub conditions: Sequence<TestText>,
+    pub conclusion: TestText,
+}
+
+/// The declaration of a field. A weight or a scale that is not written is None.
+#[derive(Debug, Drop)]
+pub enum Declaration {
+    Number {
+        name: Name,
+        weight: Option<Numeral>,
+        scale: Option<Numeral>,
+    },
+    Code {
+        name: Name,
+        weight: Option<Numeral>,
+        list: CodeList,
+    },
+}
+
+/// What one line says.
+#[derive(Debug, Drop)]
+pub enum Statement {
+    Declaration(Declaration),
+    Rule(RuleText),
+}
