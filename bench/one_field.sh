@@ -12,6 +12,7 @@ top=$(cd "$(dirname "$0")/.." && pwd)
 work=$(mktemp -d)
 trap 'rm -rf "$work"' EXIT
 fields=16
+further=10
 
 make_rules() {
     for field in $(seq 1 $fields); do echo "number F$field weight $field"; done
@@ -21,19 +22,33 @@ make_rules() {
     done
 }
 
-# About a tenth of the values are missing or past their bounds.
+# Ten further columns, which pass through, and then the fields. About a tenth of the values are missing or past
+# their bounds; of the others some are fractions, some decimals, and some have blanks around them.
 make_records() {
-    awk -v rows="$1" -v fields=$fields 'BEGIN {
+    awk -v rows="$1" -v fields=$fields -v further=$further '
+    function further_text(r, c) {
+        if (c == 1) return r
+        if (c == 2) return "\"town, " r % 97 "\""
+        if (c == 3) return ""
+        return "x" int(rand() * 1000)
+    }
+    function number_text() {
+        draw = int(rand() * 20)
+        if (draw == 0) return ""
+        if (draw == 1) return 100000 + int(rand() * 100000)
+        if (draw <= 3) return 7 * (60 + int(rand() * 800)) + int(rand() * 7) "/7"
+        if (draw <= 6) return sprintf("%d.%02d", 60 + int(rand() * 800), int(rand() * 100))
+        if (draw <= 8) return " " 60 + int(rand() * 800) "\t"
+        return 60 + int(rand() * 800)
+    }
+    BEGIN {
         srand(7)
+        for (c = 1; c <= further; c++) printf "X%d,", c
         for (f = 1; f <= fields; f++) printf "F%d%s", f, f < fields ? "," : "\n"
-        for (r = 1; r <= rows; r++)
-            for (f = 1; f <= fields; f++) {
-                draw = int(rand() * 20)
-                if (draw == 0) text = ""
-                else if (draw == 1) text = 100000 + int(rand() * 100000)
-                else text = 60 + int(rand() * 800)
-                printf "%s%s", text, f < fields ? "," : "\n"
-            }
+        for (r = 1; r <= rows; r++) {
+            for (c = 1; c <= further; c++) printf "%s,", further_text(r, c)
+            for (f = 1; f <= fields; f++) printf "%s%s", number_text(), f < fields ? "," : "\n"
+        }
     }'
 }
 

@@ -1,10 +1,12 @@
 """The yardstick of one_field.sh: what a plain script does for the same job.
 
 Usage: one_field.py RULES RECORDS RELEASED. Rules are bounds of one field; a field that is missing or out
-of its bounds takes 0 where the bounds allow 0, and else the end that is nearest to 0.
+of its bounds takes 0 where the bounds allow 0, and else the end that is nearest to 0. Numbers are digits,
+decimals or fractions, with blanks around them or without; columns that are no field pass through.
 """
 import csv
 import sys
+from fractions import Fraction
 
 
 def read_bounds(path):
@@ -22,12 +24,19 @@ def read_bounds(path):
                 ends[0] = bound if ends[0] is None else max(ends[0], bound)
             else:
                 ends[1] = bound if ends[1] is None else min(ends[1], bound)
-    return [bounds[name] for name in names]
+    return bounds
+
+
+def number_of(text):
+    if "/" in text or "." in text:
+        return Fraction(text)
+    return int(text)
 
 
 def corrected(text, low, high):
-    if text:
-        value = int(text)
+    number = text.strip(" \t")
+    if number:
+        value = number_of(number)
         if (low is None or low <= value) and (high is None or value <= high):
             return text
     if low is not None and low > 0:
@@ -39,14 +48,19 @@ def corrected(text, low, high):
 
 def main():
     bounds = read_bounds(sys.argv[1])
-    possible = all(low is None or high is None or low <= high for low, high in bounds)
+    possible = all(low is None or high is None or low <= high for low, high in bounds.values())
     with open(sys.argv[2], newline="") as records, open(sys.argv[3], "w", newline="") as released:
         reader = csv.reader(records)
         writer = csv.writer(released, lineterminator="\n")
-        writer.writerow(next(reader))
+        header = next(reader)
+        writer.writerow(header)
+        names = [text.strip(" \t") for text in header]
+        columns = [(names.index(name), low, high) for name, (low, high) in bounds.items()]
         for row in reader:
             if possible:
-                writer.writerow([corrected(text, low, high) for text, (low, high) in zip(row, bounds)])
+                for column, low, high in columns:
+                    row[column] = corrected(row[column], low, high)
+                writer.writerow(row)
 
 
 main()

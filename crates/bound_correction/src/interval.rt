@@ -79,7 +79,7 @@ impl Interval {
         {
             return high;
         }
-        Fraction::reduced(0, 1)
+        Fraction::whole(0)
     }
 
     /// Whether the number is between the ends.

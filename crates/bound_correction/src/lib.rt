@@ -7,9 +7,11 @@ mod bounds;
 mod change;
 mod interval;
 mod limit;
+mod served;
 #[cfg(test)]
 mod tests;
 
 pub use bounds::{Bounds, bounds_of};
 pub use change::least_change;
 pub use interval::Interval;
+pub use served::is_bounded;

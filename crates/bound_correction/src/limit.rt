@@ -62,8 +62,8 @@ fn root_of(linear: &Linear, term: &Term) -> Fraction
 {
     let constant = i128::from(linear.constant);
     if term.factor > 0 {
-        Fraction::reduced(-constant, 1)
+        Fraction::whole(-constant)
     } else {
-        Fraction::reduced(constant, 1)
+        Fraction::whole(constant)
     }
 }

@@ -1,103 +1,322 @@
--- A rule text is read in one way, line after line.
-use Rattle.std.proofs.Common.{◌≡◌, ◌≢◌, ◌⊎◌, ℕ, ℤ, ◌<◌, length, List, [], ◌∷◌, ◌++◌, refl, sym, ap, ◌∙◌, subst, inl, inr, arith}
-use Rattle.std.specs.Prelude.{All}
-use Rattle.std.proofs.lemmas.Option.{slice_get_within}
-use Rattle.std.proofs.lemmas.List.Elements.{All-nil}
-use Rattle.edit_model.specs.Bounds.{IsBound, IsBounded}
+-- A rule text is read in one way, line after line, and its first fault is one.
+use Rattle.std.proofs.Common.{◌≡◌, ◌≢◌, ◌⊎◌, ℕ, ◌+◌, ◌-◌, ◌<◌, ◌≤◌, ◌==◌, Bool, true, false, if◌then◌else◌, List, [], ◌∷◌, ◌++◌, length, Option, Some, None, Result, Ok, Err, IfErr, IfOk, refl, sym, ap, ◌∙◌, subst, inl, inr, arith, append_assoc, length-append}
+use Rattle.std.specs.List.{after_first, before_first, list_any, position_or_len, slice_split}
+use Rattle.std.proofs.lemmas.Bool.{both_ways}
+use Rattle.std.proofs.lemmas.List.{length-drop}
+use Rattle.std.proofs.lemmas.List.Splits.{slice_split_first, slice_split_none}
+use Rattle.std.proofs.lemmas.List.Sums.{fails_before_first}
 use Rattle.edit_model.specs.Parts.{SurveyParts}
-use Rattle.edit_model.specs.Surveys.{IsField, IsNumber, IsRule, IsWellFormed}
-use Rattle.edit_model.specs.declared.field.Field.{Field}
-use Rattle.edit_model.specs.declared.rule.Compare.{Compare}
-use Rattle.edit_model.specs.declared.rule.Compare.TheVariants.{Ge, Le}
-use Rattle.edit_model.specs.declared.rule.Rule.{Rule}
-use Rattle.edit_language.specs.Grammar.{IsNewName, no_statements, with_field, with_rule, Adds, AddsAll, Continues, IsRuleText}
-use Rattle.edit_language.specs.Lines.{IsFree, text_of_lines}
-use Rattle.edit_language.specs.Statements.{IsSign, Declares, Compares}
-use Rattle.edit_language.proofs.BoundLaws.{no_bound_in_declaration, bounded_once}
-use Rattle.edit_language.proofs.DeclarationLaws.{declared_once}
-use Rattle.edit_language.proofs.SurveyLaws.{field_kept, field_keeps_bounds, rule_kept, rule_keeps_bounds}
-use Rattle.edit_language.proofs.TextLaws.{not_free, parted_once}
+use Rattle.rule_grammar.specs.LineTexts.{IsLineText}
+use Rattle.rule_grammar.specs.declared.line.LineText.{LineText}
+use Rattle.rule_grammar.specs.declared.line.LineText.TheVariants as line_text
+use Rattle.rule_grammar.specs.Statements.{statement_tokens, conditions_tokens, test_tokens, sign_tokens, term_tokens}
+use Rattle.rule_grammar.specs.Tokens.{tokens_of}
+use Rattle.rule_grammar.specs.declared.statement.Declaration.TheVariants as declaration
+use Rattle.rule_grammar.specs.declared.statement.Statement.{Statement as Written}
+use Rattle.rule_grammar.specs.declared.statement.Statement.TheVariants as statement
+use Rattle.rule_grammar.specs.declared.statement.TermText.{TermText}
+use Rattle.rule_grammar.specs.declared.statement.TermText.TheVariants as term
+use Rattle.rule_grammar.specs.declared.statement.TestText.{TestText}
+use Rattle.rule_grammar.specs.declared.statement.TestText.TheVariants as test
+use Rattle.rule_grammar.specs.declared.token.Sign.{Sign}
+use Rattle.rule_grammar.specs.declared.token.Token.{Token}
+use Rattle.edit_language.specs.Faults.{fault_of}
+use Rattle.edit_language.specs.Grammar.{Adds, AddsAll, HasFault, IsRuleText, IsRulesFault, Says, SaysNothing, no_statements}
+use Rattle.edit_language.specs.Lines.{has_bad_byte, is_bad_byte, lines_of, read_part}
+use Rattle.edit_language.specs.Meaning.{extended}
+use Rattle.edit_language.specs.Reading.{IsFaultOf, IsFaultOfLine, IsFaultOfStatement, IsNoRuleText, IsOnlyFaultOf}
+use Rattle.edit_language.specs.declared.fault.RulesFault.{RulesFault}
+use Rattle.edit_language.specs.declared.fault.RulesFault.TheVariants as faults
+use Rattle.edit_language.specs.declared.fault.RulesKind.{RulesKind}
+use Rattle.edit_language.specs.declared.fault.RulesKind.TheVariants.{BadByte, Syntax, UnknownField, DoubleField, UnknownCode, DoubleCode, NumberRange, TooMany, ConditionForm}
+use Rattle.rule_grammar.proofs.StatementLaws.{one_statement}
 
--- nothing is well-formed
-pub nothing_formed : IsWellFormed no_statements × IsBounded no_statements
-nothing_formed = (record { few_fields = omega arith; few_rules = omega arith; names = λ i j d below within. absurd (omega arith); fields = All-nil IsField; rules = All-nil (IsRule []) }, record { numerical = All-nil (λ (f : Field). IsNumber f.kind); rules = All-nil (IsBound []) })
+-- ---- statements
 
--- a line that sets a bound adds nothing where there is no room for a rule
-pub no_room_for_rule : (line : List ℕ) (before : SurveyParts) (number : ℕ) (compare : Compare) (bound : ℤ) → All IsField before.fields → Compares line before.fields number compare bound → ¬ (length before.rules < 500) → (after : SurveyParts) → ¬ Adds line before after
-no_room_for_rule line before number compare bound all compares full after (inl field) = no_bound_in_declaration line field.field before.fields all field.declared number compare bound compares
-no_room_for_rule line before number compare bound all compares full after (inr rule) = full rule.few
+-- a statement has tokens
+pub some_token : (s : Written) → statement_tokens s ≡ [] → ⊥
+some_token (statement.Declaration (declaration.Number name weight scale)) e = cc
+some_token (statement.Declaration (declaration.Code name weight list)) e = cc
+some_token (statement.Rule r) e = in_rule r.conditions r.conclusion e
+  where
+    in_sum : (sign : Option Sign) (t : TermText) (more rest : List Token) → sign_tokens sign ++ term_tokens t ++ more ++ rest ≡ [] → ⊥
+    in_sum (Some sign) t more rest e = cc
+    in_sum None (term.Product factor times field) more rest e = cc
+    in_sum None (term.Field field) more rest e = cc
+    in_sum None (term.Constant number) more rest e = cc
 
--- a line that sets no bound adds nothing where its field is not taken
-pub no_room_for_field : (line : List ℕ) (before : SurveyParts) (field : Field) → ((number : ℕ) (compare : Compare) (bound : ℤ) → ¬ Compares line before.fields number compare bound) → Declares line field → (IsNewName field.name before.fields → ¬ (length before.fields < 64)) → (after : SurveyParts) → ¬ Adds line before after
-no_room_for_field line before field unbounded declares full after (inl other) = full (subst (λ (f : Field). IsNewName f.name before.fields) (declared_once line other.field field other.declared declares) other.new_name) other.few
-no_room_for_field line before field unbounded declares full after (inr rule) = unbounded rule.bounded.number rule.bounded.compare rule.bounded.bound rule.bounded.form
+    in_test : (t : TestText) → test_tokens t ≡ [] → ⊥
+    in_test (test.Codes field negated list) e = cc
+    in_test (test.Sums left compare right) e = in_sum left.sign left.first _ _ e
 
--- a line that neither declares nor bounds adds nothing
-pub adds_nothing : (line : List ℕ) (before : SurveyParts) → ((number : ℕ) (compare : Compare) (bound : ℤ) → ¬ Compares line before.fields number compare bound) → ((field : Field) → ¬ Declares line field) → (after : SurveyParts) → ¬ Adds line before after
-adds_nothing line before unbounded undeclared after (inl field) = undeclared field.field field.declared
-adds_nothing line before unbounded undeclared after (inr rule) = unbounded rule.bounded.number rule.bounded.compare rule.bounded.bound rule.bounded.form
+    in_rule : (conditions : List TestText) (conclusion : TestText) → conditions_tokens conditions ++ test_tokens conclusion ≡ [] → ⊥
+    in_rule [] conclusion e = in_test conclusion e
+    in_rule (first ∷ rest) conclusion e = cc
 
-order_of : (sign : List ℕ) (compare : Compare) → IsSign sign compare → (compare ≡ Ge) ⊎ (compare ≡ Le)
-order_of sign compare is_sign = elim is_sign [ inl least ↦ inl least.1 | inr most ↦ inr most.1 ]
+-- a line says one thing
+pub says_once : (line : List ℕ) (s t : Written) → Says line s → Says line t → s ≡ t
+says_once line s t first second = one_statement s t (sym first.tokens ∙ second.tokens)
 
--- a line more keeps the survey well-formed, with bounds alone
-pub adds_keeps : (line : List ℕ) (before after : SurveyParts) → IsWellFormed before → IsBounded before → Adds line before after → IsWellFormed after × IsBounded after
-adds_keeps line before after formed bounded (inl field) = rw field.extended (field_kept before field.field formed field.declared.limits field.new_name field.few, field_keeps_bounds before field.field bounded field.declared.numerical)
-adds_keeps line before after formed bounded (inr rule) =
-    let form = rule.bounded.form in
-    let within = slice_get_within before.fields rule.bounded.number form.field form.declared in
-    rw (rule.extended, rule.bounded.meaning) (rule_kept before rule.bounded.number rule.bounded.compare rule.bounded.bound formed bounded within form.is_bound.limit rule.few, rule_keeps_bounds before rule.bounded.number rule.bounded.compare rule.bounded.bound bounded within (order_of form.sign rule.bounded.compare form.is_sign))
+-- a line that says something is not empty
+pub says_some : (line : List ℕ) (s : Written) → Says line s → tokens_of (read_part line) ≡ [] → ⊥
+says_some line s says empty = some_token s (sym says.tokens ∙ empty)
+
+-- ---- faults
+
+-- where a test is for another kind, the kind is that of a later one
+not_first : (kind other : RulesKind) (b : Bool) (later : Option RulesKind) → other ≢ kind → (if b then Some other else later) ≡ Some kind → later ≡ Some kind
+not_first kind other true later differs e = absurd (differs cc)
+not_first kind other false later differs e = e
+
+-- a statement has neither of the first two kinds
+module _ (kind : RulesKind) (unknown : UnknownField ≢ kind) (double : DoubleField ≢ kind) (code : UnknownCode ≢ kind) (twice : DoubleCode ≢ kind) (range : NumberRange ≢ kind) (many : TooMany ≢ kind) (form : ConditionForm ≢ kind) where
+  pub no_such_fault : (before : SurveyParts) (s : Written) → fault_of before s ≡ Some kind → ⊥
+  no_such_fault before (statement.Declaration (declaration.Number name weight scale)) e =
+      let last : None ≡ Some kind = not_first kind TooMany _ _ many (not_first kind NumberRange _ _ range (not_first kind DoubleField _ _ double e)) in cc
+  no_such_fault before (statement.Declaration (declaration.Code name weight list)) e =
+      let last : None ≡ Some kind = not_first kind TooMany _ _ many (not_first kind NumberRange _ _ range (not_first kind DoubleCode _ _ twice (not_first kind DoubleField _ _ double e))) in cc
+  no_such_fault before (statement.Rule r) e =
+      let last : None ≡ Some kind = not_first kind ConditionForm _ _ form (not_first kind TooMany _ _ many (not_first kind NumberRange _ _ range (not_first kind DoubleCode _ _ twice (not_first kind UnknownCode _ _ code (not_first kind UnknownField _ _ unknown e))))) in cc
+
+no_bad_byte : (before : SurveyParts) (s : Written) → fault_of before s ≡ Some BadByte → ⊥
+no_bad_byte = no_such_fault BadByte (λ d. cc) (λ d. cc) (λ d. cc) (λ d. cc) (λ d. cc) (λ d. cc) (λ d. cc)
+
+no_syntax : (before : SurveyParts) (s : Written) → fault_of before s ≡ Some Syntax → ⊥
+no_syntax = no_such_fault Syntax (λ d. cc) (λ d. cc) (λ d. cc) (λ d. cc) (λ d. cc) (λ d. cc) (λ d. cc)
+
+-- the fault of a statement is that of its line
+pub fault_of_line : (line : List ℕ) (before : SurveyParts) (s : Written) (kind : RulesKind) → Says line s → fault_of before s ≡ Some kind → HasFault line before kind
+fault_of_line line before s BadByte says e = absurd (no_bad_byte before s e)
+fault_of_line line before s Syntax says e = absurd (no_syntax before s e)
+fault_of_line line before s UnknownField says e = (s, says, e)
+fault_of_line line before s DoubleField says e = (s, says, e)
+fault_of_line line before s UnknownCode says e = (s, says, e)
+fault_of_line line before s DoubleCode says e = (s, says, e)
+fault_of_line line before s NumberRange says e = (s, says, e)
+fault_of_line line before s TooMany says e = (s, says, e)
+fault_of_line line before s ConditionForm says e = (s, says, e)
+
+-- a fault is of one of three sorts
+IsSort : List ℕ → SurveyParts → RulesKind → Type 0
+IsSort line before kind = ((kind ≡ BadByte) × (has_bad_byte line ≡ true)) ⊎ (((kind ≡ Syntax) × SaysNothing line) ⊎ ((s : Written) × Says line s × (fault_of before s ≡ Some kind)))
+
+sort_of : (line : List ℕ) (before : SurveyParts) (kind : RulesKind) → HasFault line before kind → IsSort line before kind
+unfolding IsSort
+sort_of line before BadByte h = inl (refl, h)
+sort_of line before Syntax h = inr (inl (refl, h))
+sort_of line before UnknownField h = inr (inr h)
+sort_of line before DoubleField h = inr (inr h)
+sort_of line before UnknownCode h = inr (inr h)
+sort_of line before DoubleCode h = inr (inr h)
+sort_of line before NumberRange h = inr (inr h)
+sort_of line before TooMany h = inr (inr h)
+sort_of line before ConditionForm h = inr (inr h)
+
+-- a line has one least fault
+pub faults_once : (line : List ℕ) (before : SurveyParts) (k l : RulesKind) → HasFault line before k → HasFault line before l → k ≡ l
+unfolding IsSort
+faults_once line before k l first second = by (sort_of line before k first) (sort_of line before l second)
+  where
+    by : IsSort line before k → IsSort line before l → k ≡ l
+    by (inl a) (inl b) = a.0 ∙ sym b.0
+    by (inl a) (inr (inl b)) = absurd (both_ways (has_bad_byte line) b.1.clean a.1)
+    by (inl a) (inr (inr b)) = absurd (both_ways (has_bad_byte line) b.1.clean a.1)
+    by (inr (inl a)) (inl b) = absurd (both_ways (has_bad_byte line) a.1.clean b.1)
+    by (inr (inl a)) (inr (inl b)) = a.0 ∙ sym b.0
+    by (inr (inl a)) (inr (inr b)) = absurd (a.1.unsaid b.0 b.1.tokens)
+    by (inr (inr a)) (inl b) = absurd (both_ways (has_bad_byte line) a.1.clean b.1)
+    by (inr (inr a)) (inr (inl b)) = absurd (b.1.unsaid a.0 a.1.tokens)
+    by (inr (inr a)) (inr (inr b)) =
+        let same : a.0 ≡ b.0 = says_once line a.0 b.0 a.1 b.1 in
+        let kinds : Some k ≡ Some l = sym a.2 ∙ ap (fault_of before) same ∙ b.2 in cc
+
+-- a line with a fault adds nothing
+pub fault_stops : (line : List ℕ) (before after : SurveyParts) (kind : RulesKind) → HasFault line before kind → Adds line before after → ⊥
+unfolding IsSort
+fault_stops line before after kind fault adds = by (sort_of line before kind fault) adds
+  where
+    by : IsSort line before kind → Adds line before after → ⊥
+    by (inl a) (inl b) = both_ways (has_bad_byte line) b.0.clean a.1
+    by (inl a) (inr b) = both_ways (has_bad_byte line) b.says.clean a.1
+    by (inr (inl a)) (inl b) = a.1.not_empty b.0.tokens
+    by (inr (inl a)) (inr b) = a.1.unsaid b.statement b.says.tokens
+    by (inr (inr a)) (inl b) = says_some line a.0 a.1 b.0.tokens
+    by (inr (inr a)) (inr b) =
+        let same : a.0 ≡ b.statement = says_once line a.0 b.statement a.1 b.says in
+        let kinds : Some kind ≡ None = sym a.2 ∙ ap (fault_of before) same ∙ b.faultless in cc
+
+-- a line with a fault is not empty
+pub fault_needs_bytes : (before : SurveyParts) (kind : RulesKind) → HasFault [] before kind → ⊥
+fault_needs_bytes before kind fault = fault_stops [] before before kind fault (inl (record { clean = refl; tokens = refl }, refl))
 
 -- a line adds one thing
-pub adds_once : (line : List ℕ) (before a b : SurveyParts) → IsWellFormed before → Adds line before a → Adds line before b → a ≡ b
-adds_once line before a b formed (inl first) (inl second) = first.extended ∙ ap (λ (f : Field). with_field before f) (declared_once line first.field second.field first.declared second.declared) ∙ sym second.extended
-adds_once line before a b formed (inl first) (inr second) = absurd (no_bound_in_declaration line first.field before.fields formed.fields first.declared second.bounded.number second.bounded.compare second.bounded.bound second.bounded.form)
-adds_once line before a b formed (inr first) (inl second) = absurd (no_bound_in_declaration line second.field before.fields formed.fields second.declared first.bounded.number first.bounded.compare first.bounded.bound first.bounded.form)
-adds_once line before a b formed (inr first) (inr second) = first.extended ∙ ap (λ (r : Rule). with_rule before r) (bounded_once line before.fields first.rule second.rule formed.fields formed.names first.bounded second.bounded) ∙ sym second.extended
+pub adds_once : (line : List ℕ) (before a b : SurveyParts) → Adds line before a → Adds line before b → a ≡ b
+adds_once line before a b (inl first) (inl second) = first.1 ∙ sym second.1
+adds_once line before a b (inl first) (inr second) = absurd (says_some line second.statement second.says first.0.tokens)
+adds_once line before a b (inr first) (inl second) = absurd (says_some line first.statement first.says second.0.tokens)
+adds_once line before a b (inr first) (inr second) = first.grown ∙ ap (extended before) (says_once line first.statement second.statement first.says second.says) ∙ sym second.grown
 
--- a text that is not empty is read only where an LF stands in it
-pub no_line : (text : List ℕ) (before after : SurveyParts) → 0 < length text → IsFree 10 text → ¬ Continues text before after
-no_line text before after some free read = go read.lines read.text read.adds
-  where
-    go : (lines : List (List ℕ)) → text ≡ text_of_lines lines → AddsAll lines before after → ⊥
-    go [] e adds = absurd (omega (arith, ap (λ (bytes : List ℕ). length bytes) e))
-    go (line ∷ lines) e adds = not_free 10 line (text_of_lines lines) (subst (IsFree 10) e free)
+-- ---- texts
 
--- what is read of a text is read of its first line and then of the others
-pub first_line : (text line rest : List ℕ) (before after : SurveyParts) → text ≡ line ++ 10 ∷ rest → IsFree 10 line → Continues text before after → (next : SurveyParts) × Adds line before next × Continues rest next after
-first_line text line rest before after parts free read = go read.lines read.text read.adds
-  where
-    go : (lines : List (List ℕ)) → text ≡ text_of_lines lines → AddsAll lines before after → (next : SurveyParts) × Adds line before next × Continues rest next after
-    go [] e adds = absurd (not_free 10 line rest (subst (IsFree 10) (sym e ∙ parts) (All-nil (λ b. b ≢ 10))))
-    go (other ∷ lines) e adds =
-        let same = parted_once 10 line other rest (text_of_lines lines) free adds.1 (sym parts ∙ e) in
-        (adds.0, subst (λ (l : List ℕ). Adds l before adds.0) (sym same.0) adds.2, record { lines = lines; text = same.1; adds = adds.3 })
+-- lines that add up, and one line more
+pub adds_more : (lines : List (List ℕ)) (line : List ℕ) (a b c : SurveyParts) → AddsAll lines a b → Adds line b c → AddsAll (lines ++ line ∷ []) a c
+adds_more [] line a b c all one = (c, subst (λ (s : SurveyParts). Adds line s c) all one, refl)
+adds_more (first ∷ lines) line a b c all one = (all.0, all.1, adds_more lines line all.0 b c all.2 one)
 
--- once its first line is taken, what is read of a text is read of the others
-pub other_lines : (text line rest : List ℕ) (before next after : SurveyParts) → IsWellFormed before → text ≡ line ++ 10 ∷ rest → IsFree 10 line → Adds line before next → Continues text before after → Continues rest next after
-other_lines text line rest before next after formed parts free adds read =
-    let first = first_line text line rest before after parts free read in
-    subst (λ (s : SurveyParts). Continues rest s after) (adds_once line before first.0 next formed first.1 adds) first.2
-
--- what is read of the first line and then of the others is read of the text
-pub line_before : (text line rest : List ℕ) (before next after : SurveyParts) → text ≡ line ++ 10 ∷ rest → IsFree 10 line → Adds line before next → Continues rest next after → Continues text before after
-line_before text line rest before next after parts free adds read = record { lines = line ∷ read.lines; text = parts ∙ ap (λ (bytes : List ℕ). line ++ 10 ∷ bytes) read.text; adds = (next, free, adds, read.adds) }
-
--- where no bytes are left, all of the text is read
-pub read_to_end : (bytes rest : List ℕ) (draft survey : SurveyParts) → length rest ≡ 0 → survey ≡ draft → ((after : SurveyParts) → Continues rest draft after → IsRuleText bytes after) → IsRuleText bytes survey
-read_to_end bytes [] draft survey e same read = rw same (read draft (record { lines = []; text = refl; adds = refl }))
-read_to_end bytes (b ∷ rest) draft survey e same read = absurd (omega (arith, e))
-
-all_once : (lines others : List (List ℕ)) (before a b : SurveyParts) → IsWellFormed before → IsBounded before → text_of_lines lines ≡ text_of_lines others → AddsAll lines before a → AddsAll others before b → a ≡ b
-all_once [] [] before a b formed bounded e first second = first ∙ sym second
-all_once [] (line ∷ others) before a b formed bounded e first second = absurd (not_free 10 line (text_of_lines others) (subst (IsFree 10) e (All-nil (λ b. b ≢ 10))))
-all_once (line ∷ lines) [] before a b formed bounded e first second = absurd (not_free 10 line (text_of_lines lines) (subst (IsFree 10) (sym e) (All-nil (λ b. b ≢ 10))))
-all_once (line ∷ lines) (other ∷ others) before a b formed bounded e first second =
-    let same = parted_once 10 line other (text_of_lines lines) (text_of_lines others) first.1 second.1 e in
-    let next : first.0 ≡ second.0 = adds_once other before first.0 second.0 formed (subst (λ (l : List ℕ). Adds l before first.0) same.0 first.2) second.2 in
-    let kept = adds_keeps other before second.0 formed bounded second.2 in
-    all_once lines others second.0 a b kept.0 kept.1 same.1 (subst (λ (s : SurveyParts). AddsAll lines s a) next first.3) second.3
+-- lines add up to one survey
+pub all_once : (lines : List (List ℕ)) (before a b : SurveyParts) → AddsAll lines before a → AddsAll lines before b → a ≡ b
+all_once [] before a b first second = first ∙ sym second
+all_once (line ∷ lines) before a b first second =
+    let next : first.0 ≡ second.0 = adds_once line before first.0 second.0 first.1 second.1 in
+    all_once lines second.0 a b (subst (λ (s : SurveyParts). AddsAll lines s a) next first.2) second.2
 
 -- a text is the rule text of one survey
 pub rule_text_once : (bytes : List ℕ) (a b : SurveyParts) → IsRuleText bytes a → IsRuleText bytes b → a ≡ b
-rule_text_once bytes a b first second = all_once first.lines second.lines no_statements a b nothing_formed.0 nothing_formed.1 (sym first.text ∙ second.text) first.adds second.adds
+rule_text_once bytes a b first second = all_once (lines_of bytes) no_statements a b first second
+
+-- lines of which one has a fault add up to nothing
+fault_stops_all : (earlier : List (List ℕ)) (line : List ℕ) (later : List (List ℕ)) (before at after : SurveyParts) (kind : RulesKind) → AddsAll earlier before at → HasFault line at kind → AddsAll (earlier ++ line ∷ later) before after → ⊥
+fault_stops_all [] line later before at after kind read fault all = fault_stops line before all.0 kind (subst (λ (s : SurveyParts). HasFault line s kind) read fault) all.1
+fault_stops_all (first ∷ earlier) line later before at after kind read fault all =
+    let next : all.0 ≡ read.0 = adds_once first before all.0 read.0 all.1 read.1 in
+    fault_stops_all earlier line later read.0 at after kind read.2 fault (subst (λ (s : SurveyParts). AddsAll (earlier ++ line ∷ later) s after) next all.2)
+
+-- a text that has a fault is no rule text
+pub no_rule_text : (bytes : List ℕ) (number : ℕ) (kind : RulesKind) → IsRulesFault bytes number kind → (survey : SurveyParts) → ¬ IsRuleText bytes survey
+no_rule_text bytes number kind fault survey text = fault_stops_all fault.earlier fault.line fault.later no_statements fault.before survey kind fault.read fault.fault (subst (λ (lines : List (List ℕ)). AddsAll lines no_statements survey) fault.split text)
+
+-- the first fault of lines is one
+first_once : (e : List (List ℕ)) (m : List ℕ) (r : List (List ℕ)) (f : List (List ℕ)) (n : List ℕ) (q : List (List ℕ)) (before a b : SurveyParts) (k l : RulesKind) → e ++ m ∷ r ≡ f ++ n ∷ q
+    → AddsAll e before a → HasFault m a k → AddsAll f before b → HasFault n b l → (length e ≡ length f) × (k ≡ l)
+first_once [] m r [] n q before a b k l same read fault also other =
+    let line : m ≡ n = cc in
+    (refl, faults_once n before k l (subst (λ (t : List ℕ). HasFault t before k) line (subst (λ (s : SurveyParts). HasFault m s k) read fault)) (subst (λ (s : SurveyParts). HasFault n s l) also other))
+first_once [] m r (g ∷ f) n q before a b k l same read fault also other =
+    let line : m ≡ g = cc in
+    absurd (fault_stops g before also.0 k (subst (λ (t : List ℕ). HasFault t before k) line (subst (λ (s : SurveyParts). HasFault m s k) read fault)) also.1)
+first_once (d ∷ e) m r [] n q before a b k l same read fault also other =
+    let line : n ≡ d = cc in
+    absurd (fault_stops d before read.0 l (subst (λ (t : List ℕ). HasFault t before l) line (subst (λ (s : SurveyParts). HasFault n s l) also other)) read.1)
+first_once (d ∷ e) m r (g ∷ f) n q before a b k l same read fault also other =
+    let line : d ≡ g = cc in
+    let rest : e ++ m ∷ r ≡ f ++ n ∷ q = cc in
+    let next : read.0 ≡ also.0 = adds_once g before read.0 also.0 (subst (λ (t : List ℕ). Adds t before read.0) line read.1) also.1 in
+    let both = first_once e m r f n q also.0 a b k l rest (subst (λ (s : SurveyParts). AddsAll e s a) next read.2) fault also.2 other in
+    (omega (arith, both.0), both.1)
+
+-- a text has one first fault
+pub rules_fault_once : (bytes : List ℕ) (m n : ℕ) (k l : RulesKind) → IsRulesFault bytes m k → IsRulesFault bytes n l → (m ≡ n) × (k ≡ l)
+rules_fault_once bytes m n k l first second =
+    let both = first_once first.earlier first.line first.later second.earlier second.line second.later no_statements first.before second.before k l (sym first.split ∙ second.split) first.read first.fault second.read second.fault in
+    (first.counted ∙ ap (λ (n : ℕ). n + 1) both.0 ∙ sym second.counted, both.1)
+
+-- ---- reading line after line
+
+-- the lines that are read make the draft, and the rest of the text has the other lines
+pub record IsReadTo (bytes rest : List ℕ) (number : ℕ) (draft : SurveyParts) : Type 0 where
+  pub earlier : List (List ℕ)
+  pub split : lines_of bytes ≡ earlier ++ slice_split (λ b. b == 10) rest
+  pub counted : length earlier ≡ number
+  pub read : AddsAll earlier no_statements draft
+  pub within : number + length rest ≤ length bytes
+
+-- one line more
+pub read_more : (bytes rest : List ℕ) (number : ℕ) (draft next : SurveyParts) (line after : List ℕ) → IsReadTo bytes rest number draft → line ≡ before_first (λ b. b == 10) rest → after ≡ after_first (λ b. b == 10) rest → position_or_len (λ b. b == 10) rest < length rest → Adds line draft next → IsReadTo bytes after (number + 1) next
+read_more bytes rest number draft next line after so_far is_line is_after ended adds =
+    let cut : slice_split (λ b. b == 10) rest ≡ line ∷ slice_split (λ b. b == 10) after = slice_split_first (λ b. b == 10) rest 0 ended ∙ rw (is_line, is_after) refl in
+    record {
+      earlier = so_far.earlier ++ line ∷ [];
+      split = so_far.split ∙ ap (λ (lines : List (List ℕ)). so_far.earlier ++ lines) cut ∙ sym (append_assoc so_far.earlier (line ∷ []) (slice_split (λ b. b == 10) after));
+      counted = length-append so_far.earlier (line ∷ []) ∙ ap (λ (n : ℕ). n + 1) so_far.counted;
+      read = adds_more so_far.earlier line no_statements draft next so_far.read adds;
+      within = let left : length after ≡ length rest - (position_or_len (λ b. b == 10) rest + 1) = ap (λ (bs : List ℕ). length bs) is_after ∙ length-drop (position_or_len (λ b. b == 10) rest + 1) rest in
+          let bound = so_far.within in omega arith;
+    }
+
+-- the fault of the line that comes next
+pub fault_at : (bytes rest : List ℕ) (number : ℕ) (draft : SurveyParts) (line after : List ℕ) (kind : RulesKind) → IsReadTo bytes rest number draft → line ≡ before_first (λ b. b == 10) rest → after ≡ after_first (λ b. b == 10) rest → position_or_len (λ b. b == 10) rest < length rest → HasFault line draft kind → IsRulesFault bytes (number + 1) kind
+fault_at bytes rest number draft line after kind so_far is_line is_after ended fault =
+    let cut : slice_split (λ b. b == 10) rest ≡ line ∷ slice_split (λ b. b == 10) after = slice_split_first (λ b. b == 10) rest 0 ended ∙ rw (is_line, is_after) refl in
+    record {
+      earlier = so_far.earlier;
+      line = line;
+      later = slice_split (λ b. b == 10) after;
+      before = draft;
+      split = so_far.split ∙ ap (λ (lines : List (List ℕ)). so_far.earlier ++ lines) cut;
+      counted = ap (λ (n : ℕ). n + 1) (sym so_far.counted);
+      read = so_far.read;
+      fault = fault;
+    }
+
+-- the last line has no line feed
+last_line : (rest : List ℕ) → position_or_len (λ b. b == 10) rest ≡ length rest → slice_split (λ b. b == 10) rest ≡ rest ∷ []
+last_line rest none = slice_split_none (λ b. b == 10) rest (λ k d below. fails_before_first (λ b. b == 10) rest k d (omega arith))
+
+-- its fault
+pub fault_at_last : (bytes rest : List ℕ) (number : ℕ) (draft : SurveyParts) (kind : RulesKind) → IsReadTo bytes rest number draft → position_or_len (λ b. b == 10) rest ≡ length rest → HasFault rest draft kind → IsRulesFault bytes (number + 1) kind
+fault_at_last bytes rest number draft kind so_far none fault =
+    record {
+      earlier = so_far.earlier;
+      line = rest;
+      later = [];
+      before = draft;
+      split = so_far.split ∙ ap (λ (lines : List (List ℕ)). so_far.earlier ++ lines) (last_line rest none);
+      counted = ap (λ (n : ℕ). n + 1) (sym so_far.counted);
+      read = so_far.read;
+      fault = fault;
+    }
+
+-- all lines are read
+pub read_all : (bytes rest : List ℕ) (number : ℕ) (draft survey : SurveyParts) → IsReadTo bytes rest number draft → position_or_len (λ b. b == 10) rest ≡ length rest → Adds rest draft survey → IsRuleText bytes survey
+read_all bytes rest number draft survey so_far none adds =
+    let lines : lines_of bytes ≡ so_far.earlier ++ rest ∷ [] = so_far.split ∙ ap (λ (lines : List (List ℕ)). so_far.earlier ++ lines) (last_line rest none) in
+    subst (λ (ls : List (List ℕ)). AddsAll ls no_statements survey) (sym lines) (adds_more so_far.earlier rest no_statements draft survey so_far.read adds)
+
+-- ---- what an answer says
+
+-- the fault of a statement, told of its line
+pub told_of_line : (line : List ℕ) (before : SurveyParts) (number : ℕ) (s : Written) (fault : RulesFault) → Says line s → IsFaultOfStatement s before number fault → IsFaultOfLine line before number fault
+told_of_line line before number s (faults.At at kind) says told = (told.0, fault_of_line line before s kind says told.1)
+told_of_line line before number s faults.OutOfMemory says told = tt
+
+-- the same of an answer
+pub told_by_line : {A : Type 0} (line : List ℕ) (before : SurveyParts) (number : ℕ) (s : Written) (answer : Result A RulesFault) → Says line s → IfErr answer (λ fault. IsFaultOfStatement s before number fault) → IfErr answer (λ fault. IsFaultOfLine line before number fault)
+told_by_line line before number s (Ok x) says told = tt
+told_by_line line before number s (Err fault) says told = told_of_line line before number s fault says told
+
+-- an answer that hands on a fault
+pub handed_on : {A : Type 0} (answer : Result A RulesFault) (P : RulesFault → Type 0) (told fault : RulesFault) → answer ≡ Err told → told ≡ fault → P fault → IfErr answer P
+handed_on answer P told fault is same holds = rw (is, same) holds
+
+-- what the reader of a line found is what the line says
+pub says_of : (line text : List ℕ) (found : LineText) (s : Written) → text ≡ read_part line → list_any is_bad_byte text ≡ false → found ≡ line_text.Says s → IsLineText text found → Says line s
+says_of line text found s part clean is read =
+    let says : IsLineText text (line_text.Says s) = subst (λ (l : LineText). IsLineText text l) is read in
+    record { clean = ap (list_any is_bad_byte) (sym part) ∙ clean; tokens = ap tokens_of (sym part) ∙ says.0 }
+
+-- the fault is the text's, its only one, and the text is no rule text
+IsAnswer : List ℕ → RulesFault → Type 0
+IsAnswer bytes fault = IsFaultOf bytes fault × IsOnlyFaultOf bytes fault × IsNoRuleText bytes fault
+
+answer_of : (bytes : List ℕ) (number : ℕ) (kind : RulesKind) → IsRulesFault bytes number kind → IsAnswer bytes (faults.At number kind)
+unfolding IsAnswer
+answer_of bytes number kind fault = (fault, (λ n k also. rules_fault_once bytes n number k kind also fault), no_rule_text bytes number kind fault)
+
+-- the fault of the line that comes next, told of the text
+pub told_next : (bytes rest : List ℕ) (number : ℕ) (draft : SurveyParts) (line after : List ℕ) (fault : RulesFault) → IsReadTo bytes rest number draft → line ≡ before_first (λ b. b == 10) rest → after ≡ after_first (λ b. b == 10) rest → position_or_len (λ b. b == 10) rest < length rest → IsFaultOfLine line draft (number + 1) fault
+    → IsFaultOf bytes fault × IsOnlyFaultOf bytes fault × IsNoRuleText bytes fault
+unfolding IsAnswer
+told_next bytes rest number draft line after (faults.At at kind) so_far is_line is_after ended told = subst (λ (n : ℕ). IsAnswer bytes (faults.At n kind)) (sym told.0) (answer_of bytes (number + 1) kind (fault_at bytes rest number draft line after kind so_far is_line is_after ended told.1))
+told_next bytes rest number draft line after faults.OutOfMemory so_far is_line is_after ended told = (tt, tt, tt)
+
+-- the fault of the last line
+pub told_last : (bytes rest : List ℕ) (number : ℕ) (draft : SurveyParts) (fault : RulesFault) → IsReadTo bytes rest number draft → position_or_len (λ b. b == 10) rest ≡ length rest → IsFaultOfLine rest draft (number + 1) fault
+    → IsFaultOf bytes fault × IsOnlyFaultOf bytes fault × IsNoRuleText bytes fault
+unfolding IsAnswer
+told_last bytes rest number draft (faults.At at kind) so_far none told = subst (λ (n : ℕ). IsAnswer bytes (faults.At n kind)) (sym told.0) (answer_of bytes (number + 1) kind (fault_at_last bytes rest number draft kind so_far none told.1))
+told_last bytes rest number draft faults.OutOfMemory so_far none told = (tt, tt, tt)
+
+-- the survey that is made of the draft is the text's, and its only one
+pub made_of : (answer : Result SurveyParts RulesFault) (bytes : List ℕ) (draft : SurveyParts) → IfOk answer (λ survey. survey ≡ draft) → IsRuleText bytes draft → IfOk answer (λ survey. IsRuleText bytes survey) × IfOk answer (λ survey. (other : SurveyParts) → IsRuleText bytes other → other ≡ survey)
+made_of (Ok survey) bytes draft same text = (rw same text, λ other also. rule_text_once bytes other draft also text ∙ sym same)
+made_of (Err fault) bytes draft same text = (tt, tt)

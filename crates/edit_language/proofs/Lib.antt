@@ -1,7 +1,17 @@
-mod BoundLaws
-mod DeclarationLaws
+mod CodeLaws
+mod FieldLaws
 pub mod GrammarLaws
-mod NameLaws
-mod NumeralLaws
-mod SurveyLaws
-mod TextLaws
+mod LineLaws
+pub mod PrintingCodes
+pub mod PrintingFaults
+pub mod PrintingFields
+pub mod PrintingLaw
+pub mod PrintingNames
+pub mod PrintingPieces
+pub mod PrintingRules
+pub mod PrintingStatements
+pub mod PrintingSteps
+pub mod PrintingSums
+pub mod PrintingTests
+pub mod SurveyLaws
+mod TestLaws

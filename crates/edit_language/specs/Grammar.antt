@@ -1,56 +1,68 @@
-use Rattle.std.specs.Prelude.{◌≡◌, ◌≢◌, ◌⊎◌, ℕ, ◌<◌, List, [], ◌∷◌, ◌++◌, length, All}
+-- Which texts are rule texts, and what is the first fault of those that are none.
+use Rattle.std.specs.Prelude.{◌≡◌, ◌≢◌, ◌⊎◌, ◌+◌, ℕ, false, true, Some, None, List, [], ◌∷◌, ◌++◌, length}
 use Rattle.edit_model.specs.Parts.{SurveyParts}
-use Rattle.edit_model.specs.declared.field.Field.{Field}
-use Rattle.edit_model.specs.declared.rule.Rule.{Rule}
-use Rattle.edit_language.specs.Lines.{IsLine, text_of_lines}
-use Rattle.edit_language.specs.Statements.{Declares, Bounds}
+use Rattle.rule_grammar.specs.Statements.{statement_tokens}
+use Rattle.rule_grammar.specs.Tokens.{tokens_of}
+use Rattle.rule_grammar.specs.declared.statement.Statement.{Statement as Written}
+use Rattle.edit_language.specs.Faults.{fault_of}
+use Rattle.edit_language.specs.Lines.{has_bad_byte, lines_of, read_part}
+use Rattle.edit_language.specs.Meaning.{extended}
+use Rattle.edit_language.specs.declared.fault.RulesKind.{RulesKind}
+use Rattle.edit_language.specs.declared.fault.RulesKind.TheVariants.{BadByte, Syntax}
 
 -- the survey without fields and rules
 abbrev pub no_statements : SurveyParts
 no_statements = record { fields = []; rules = [] }
 
--- no field has the name
-abbrev pub IsNewName : List ℕ → List Field → Type 0
-IsNewName name fields = All (λ (field : Field). field.name ≢ name) fields
+-- the line says this
+pub record Says (line : List ℕ) (statement : Written) : Type 0 where
+  pub clean : has_bad_byte line ≡ false
+  pub tokens : tokens_of (read_part line) ≡ statement_tokens statement
 
--- the survey with one field more
-abbrev pub with_field : SurveyParts → Field → SurveyParts
-with_field survey field = record { fields = survey.fields ++ field ∷ []; rules = survey.rules }
+-- nothing stands on the line, but blanks and a comment
+pub record IsEmptyLine (line : List ℕ) : Type 0 where
+  pub clean : has_bad_byte line ≡ false
+  pub tokens : tokens_of (read_part line) ≡ []
 
--- the survey with one rule more
-abbrev pub with_rule : SurveyParts → Rule → SurveyParts
-with_rule survey rule = record { fields = survey.fields; rules = survey.rules ++ rule ∷ [] }
+-- the line says something that has no fault after the lines before it, and the survey grows by that
+pub record AddsStatement (line : List ℕ) (before after : SurveyParts) : Type 0 where
+  pub statement : Written
+  pub says : Says line statement
+  pub faultless : fault_of before statement ≡ None
+  pub grown : after ≡ extended before statement
 
--- the line declares a further field: no field before it has the name, and there are fewer than 64
-pub record AddsField (line : List ℕ) (before after : SurveyParts) : Type 0 where
-  pub field : Field
-  pub declared : Declares line field
-  pub new_name : IsNewName field.name before.fields
-  pub few : length before.fields < 64
-  pub extended : after ≡ with_field before field
-
--- the line sets a further bound, where there are fewer than 500 rules
-pub record AddsRule (line : List ℕ) (before after : SurveyParts) : Type 0 where
-  pub rule : Rule
-  pub bounded : Bounds line before.fields rule
-  pub few : length before.rules < 500
-  pub extended : after ≡ with_rule before rule
-
--- what a line adds to the survey of the lines before it: a field or a rule
+-- what a line adds to the survey of the lines before it
 abbrev pub Adds : List ℕ → SurveyParts → SurveyParts → Type 0
-Adds line before after = AddsField line before after ⊎ AddsRule line before after
+Adds line before after = (IsEmptyLine line × (after ≡ before)) ⊎ AddsStatement line before after
 
 -- what the lines add to a survey, in order
 abbrev pub AddsAll : List (List ℕ) → SurveyParts → SurveyParts → Type 0
 AddsAll [] before after = after ≡ before
-AddsAll (line ∷ lines) before after = (next : SurveyParts) × IsLine line × Adds line before next × AddsAll lines next after
+AddsAll (line ∷ lines) before after = (next : SurveyParts) × Adds line before next × AddsAll lines next after
 
--- the bytes are lines that add up from one survey to the other
-pub record Continues (bytes : List ℕ) (before after : SurveyParts) : Type 0 where
-  pub lines : List (List ℕ)
-  pub text : bytes ≡ text_of_lines lines
-  pub adds : AddsAll lines before after
-
--- a rule text: its lines declare the survey's fields and set its bounds, from nothing
+-- a rule text: its lines, one after the other, make the survey
 abbrev pub IsRuleText : List ℕ → SurveyParts → Type 0
-IsRuleText bytes survey = Continues bytes no_statements survey
+IsRuleText bytes survey = AddsAll (lines_of bytes) no_statements survey
+
+-- something stands on the line, its bytes are right, and it is no statement
+pub record SaysNothing (line : List ℕ) : Type 0 where
+  pub clean : has_bad_byte line ≡ false
+  pub not_empty : tokens_of (read_part line) ≢ []
+  pub unsaid : (statement : Written) → tokens_of (read_part line) ≢ statement_tokens statement
+
+-- the least kind of fault that the line has after the lines before it
+abbrev pub HasFault : List ℕ → SurveyParts → RulesKind → Type 0
+HasFault line before BadByte = has_bad_byte line ≡ true
+HasFault line before Syntax = SaysNothing line
+HasFault line before kind = (statement : Written) × Says line statement × (fault_of before statement ≡ Some kind)
+
+-- the first line that has a fault, from 1, and its least kind: the lines before it make a survey
+pub record IsRulesFault (bytes : List ℕ) (number : ℕ) (kind : RulesKind) : Type 0 where
+  pub earlier : List (List ℕ)
+  pub line : List ℕ
+  pub later : List (List ℕ)
+  pub before : SurveyParts
+  pub split : lines_of bytes ≡ earlier ++ line ∷ later
+  pub counted : number ≡ length earlier + 1
+  pub read : AddsAll earlier no_statements before
+  pub fault : HasFault line before kind

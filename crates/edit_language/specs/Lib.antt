@@ -1,4 +1,8 @@
+pub mod Faults
 pub mod Grammar
 pub mod Lines
-pub mod Numerals
-pub mod Statements
+pub mod Meaning
+pub mod Printing
+pub mod Reading
+pub mod Sums
+pub mod Weights

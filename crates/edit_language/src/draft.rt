@@ -1,28 +1,23 @@
-ghost use Rattle.std.specs.Prelude.{◌≡◌, ◌⊎◌, ◌<◌, ◌≤◌, ◌^◌, Err, IfErr, IfOk, OnOk, length, unsigned_abs};
-ghost use Rattle.edit_model.specs.Bounds.{IsBounded};
-ghost use Rattle.edit_model.specs.Parts.{SurveyParts};
-ghost use Rattle.edit_model.specs.Surveys.{IsWellFormed, IsField};
-ghost use Rattle.edit_model.specs.declared.field.Kind.TheVariants as kind;
-ghost use Rattle.edit_model.specs.declared.rule.Compare.TheVariants.{Ge, Le};
-ghost use Rattle.edit_language.specs.Grammar.{Adds, IsNewName, no_statements, with_field, with_rule};
-ghost use Rattle.edit_language.specs.Statements.{bound_rule};
+ghost use Rattle.std.specs.Prelude.{◌≡◌, ◌+◌, ◌<◌, ◌^◌, None, IfErr, IfOk, OnOk, length};
+ghost use Rattle.edit_model.specs.Surveys.{IsWellFormed};
+ghost use Rattle.rule_grammar.specs.Names.{GivesNames};
+ghost use Rattle.edit_language.specs.Faults.{declaration_fault, fault_of, rule_fault};
+ghost use Rattle.edit_language.specs.Grammar.{Adds, no_statements};
+ghost use Rattle.edit_language.specs.Meaning.{extended};
+ghost use Rattle.edit_language.specs.Reading.{IsFaultOfLine, IsFaultOfStatement};
 ghost use Rattle.edit_language.specs.declared.fault.RulesFault.TheVariants as faults;
 
-use crate::bound::{Bound, read_bound_line};
-use crate::declaration::read_declaration;
-use crate::fault::RulesFault;
-use crate::field::field_number;
+use crate::fault::{RulesFault, RulesKind};
+use crate::first_fault::fault_of;
+use crate::line::{has_bad_byte, read_part};
+use crate::meaning::{field_of, rule_of};
 use edit_model::{Field, Rule, Survey, SurveyFault};
+use foundation::OutOfMemory;
+use rule_grammar::{Declaration, LineText, RuleText, Statement, read_line};
 use std::alloc::Global;
 use std::marker::Model;
 
-/// The most fields of a survey.
-const MOST_FIELDS: usize = 64;
-
-/// The most rules of a survey.
-const MOST_RULES: usize = 500;
-
-/// What the lines before have declared and set.
+/// What the lines before have declared and set. It is well formed.
 #[derive(Drop)]
 pub(crate) struct Draft {
     fields: Vec<Field>,
@@ -30,15 +25,14 @@ pub(crate) struct Draft {
 }
 
 impl Model for Draft {
-    ghost use Rattle.edit_model.specs.Bounds.{IsBounded};
-    ghost use Rattle.edit_model.specs.Parts.{SurveyParts};
+    ghost use Rattle.edit_model.specs.Parts.{SurveyParts, parts_of};
     ghost use Rattle.edit_model.specs.Surveys.{IsWellFormed};
 
     ghost Value = { SurveyParts };
 
-    ghost view = { λ d. record { fields = d.fields.items; rules = d.rules.items } };
+    ghost view = { λ d. parts_of d.fields.items d.rules.items };
 
-    ghost invariant = { λ d. IsWellFormed (record { fields = d.fields.items; rules = d.rules.items }) × IsBounded (record { fields = d.fields.items; rules = d.rules.items }) };
+    ghost invariant = { λ d. IsWellFormed (parts_of d.fields.items d.rules.items) };
 }
 
 impl Draft {
@@ -52,60 +46,110 @@ impl Draft {
         }
     }
 
-    /// Takes the statement that stands on the line.
-    pub(crate) fn take_line(&mut self, alloc: Global, line: &[u8]) -> Result<(), RulesFault>
-        ensures ok { OnOk result (Adds line.now self.old self.new) }
-        ensures unbuilt { result ≡ Err faults.Unbuilt → (after : SurveyParts) → ¬ Adds line.now self.old after }
+    // Takes a declaration that has no fault.
+    fn declare(&mut self, declaration: Declaration) -> Result<(), OutOfMemory>
+        requires names { GivesNames (Statement.Declaration declaration) }
+        requires faultless { declaration_fault self.old declaration ≡ None }
+        ensures { OnOk result (self.new ≡ extended self.old (Statement.Declaration declaration)) }
     {
-        match read_bound_line(line, self.fields.as_slice()) {
-            Some(bound) => self.take_bound(alloc, bound),
-            None => match read_declaration(line) {
-                Some(field) => self.take_field(field),
-                None => Err(RulesFault::Unbuilt),
-            },
-        }
-    }
-
-    /// Takes a further field. `Unbuilt` where its name is taken or there are 64 fields.
-    fn take_field(&mut self, field: Field) -> Result<(), RulesFault>
-        requires limits { IsField field }
-        requires numerical { field.kind ≡ kind.Number 1 }
-        ensures new_name { OnOk result (IsNewName field.name self.old.fields) }
-        ensures few { OnOk result (length self.old.fields < 64) }
-        ensures extended { OnOk result (self.new ≡ with_field self.old field) }
-        ensures unbuilt { result ≡ Err faults.Unbuilt → IsNewName field.name self.old.fields → ¬ (length self.old.fields < 64) }
-    {
-        if self.fields.len() >= MOST_FIELDS
-            || field_number(self.fields.as_slice(), field.name.as_bytes()).is_some()
-        {
-            return Err(RulesFault::Unbuilt);
-        }
-        self.fields.push(field)?;
+        self.fields.push(field_of(declaration)?)?;
         Ok(())
     }
 
-    /// Takes a further bound. `Unbuilt` where there are 500 rules.
-    fn take_bound(&mut self, alloc: Global, bound: Bound) -> Result<(), RulesFault>
-        requires declared { bound.field < length self.old.fields }
-        requires order { (bound.compare ≡ Ge) ⊎ (bound.compare ≡ Le) }
-        requires limit { unsigned_abs bound.bound ≤ 10 ^ 15 }
-        ensures few { OnOk result (length self.old.rules < 500) }
-        ensures extended { OnOk result (self.new ≡ with_rule self.old (bound_rule bound.field bound.compare bound.bound)) }
-        ensures unbuilt { result ≡ Err faults.Unbuilt → ¬ (length self.old.rules < 500) }
+    // Takes a rule that has no fault.
+    fn set(&mut self, alloc: Global, rule: &RuleText) -> Result<(), OutOfMemory>
+        requires { rule_fault self.old rule.now ≡ None }
+        ensures { OnOk result (self.new ≡ extended self.old (Statement.Rule rule.now)) }
     {
-        if self.rules.len() >= MOST_RULES {
-            return Err(RulesFault::Unbuilt);
-        }
-        self.rules.push(bound.into_rule(alloc)?)?;
+        let made = rule_of(alloc, self.fields.as_slice(), rule)?;
+        self.rules.push(made)?;
         Ok(())
+    }
+
+    // Takes a statement that has no fault.
+    fn extend(&mut self, alloc: Global, statement: Statement) -> Result<(), OutOfMemory>
+        requires names { GivesNames statement }
+        requires faultless { fault_of self.old statement ≡ None }
+        ensures { OnOk result (self.new ≡ extended self.old statement) }
+    {
+        match statement {
+            Statement::Declaration(declaration) => self.declare(declaration),
+            Statement::Rule(rule) => self.set(alloc, &rule),
+        }
+    }
+
+    // Takes the statement on the line of this number, where it has no fault.
+    fn take_statement(
+        &mut self,
+        alloc: Global,
+        statement: Statement,
+        number: u32,
+    ) -> Result<(), RulesFault>
+        requires { GivesNames statement }
+        ensures faultless { OnOk result (fault_of self.old statement ≡ None) }
+        ensures extended { OnOk result (self.new ≡ extended self.old statement) }
+        ensures fault { IfErr result (λ fault. IsFaultOfStatement statement self.old number fault) }
+    {
+        match fault_of(
+            alloc,
+            self.fields.as_slice(),
+            self.rules.as_slice(),
+            &statement,
+        )? {
+            Some(kind) => Err(RulesFault::At { line: number, kind }),
+            None => Ok(self.extend(alloc, statement)?),
+        }
+    }
+
+    /// Takes what the line of this number says, where it has no fault.
+    pub(crate) fn take_line(
+        &mut self,
+        alloc: Global,
+        line: &[u8],
+        number: u32,
+    ) -> Result<(), RulesFault>
+        ensures adds { OnOk result (Adds line.now self.old self.new) }
+        ensures fault { IfErr result (λ fault. IsFaultOfLine line.now self.old number fault) }
+    {
+        let text = read_part(line);
+        if has_bad_byte(text) {
+            return Err(RulesFault::At {
+                line: number,
+                kind: RulesKind::BadByte,
+            });
+        }
+        match read_line(alloc, text)? {
+            LineText::Empty => Ok(()),
+            LineText::Says(statement) => self.take_statement(alloc, statement, number),
+            LineText::Unreadable => Err(RulesFault::At {
+                line: number,
+                kind: RulesKind::Syntax,
+            }),
+        }
+    }
+
+    /// Takes what the last line says, behind so many other lines. An empty line says nothing.
+    pub(crate) fn take_last_line(
+        &mut self,
+        alloc: Global,
+        line: &[u8],
+        earlier: u32,
+    ) -> Result<(), RulesFault>
+        requires { earlier + length line.now < 2 ^ 32 }
+        ensures adds { OnOk result (Adds line.now self.old self.new) }
+        ensures fault { IfErr result (λ fault. IsFaultOfLine line.now self.old (earlier + 1) fault) }
+    {
+        if line.is_empty() {
+            return Ok(());
+        }
+        self.take_line(alloc, line, earlier + 1)
     }
 
     /// The survey of all lines.
     pub(crate) fn into_survey(self, alloc: Global) -> Result<Survey, RulesFault>
         ensures survey { IfOk result (λ survey. survey ≡ self) }
         ensures well_formed { IfOk result (λ survey. IsWellFormed survey) }
-        ensures bounded { IfOk result (λ survey. IsBounded survey) }
-        ensures refused { IfErr result (λ fault. fault ≡ faults.OutOfMemory) }
+        ensures fault { IfErr result (λ fault. fault ≡ faults.OutOfMemory) }
     {
         match Survey::new(alloc, self.fields, self.rules) {
             Ok(survey) => Ok(survey),

@@ -1,34 +1,34 @@
-ghost use Rattle.std.specs.Prelude.{◌≡◌, IfOk, Err};
-ghost use Rattle.edit_model.specs.Bounds.{IsBounded};
+ghost use Rattle.std.specs.Prelude.{◌≡◌, ◌<◌, ◌^◌, IfErr, IfOk, length};
 ghost use Rattle.edit_model.specs.Parts.{SurveyParts};
 ghost use Rattle.edit_model.specs.Surveys.{IsWellFormed};
 ghost use Rattle.edit_language.specs.Grammar.{IsRuleText};
+ghost use Rattle.edit_language.specs.Reading.{IsFaultOf, IsNoRuleText, IsOnlyFaultOf};
 
 use crate::draft::Draft;
 use crate::fault::RulesFault;
-use crate::text::split_at_byte;
+use crate::line::{first_line, without_mark};
 use edit_model::Survey;
 use std::alloc::Global;
 
-/// The survey that the rule text declares, in memory that does not grow with the bytes. `Unbuilt` where
-/// the bytes are not of the form: lines ended by LF, each `number NAME`, `number NAME weight NUM`,
-/// `NAME >= BOUND` or `NAME <= BOUND`, of at most 64 fields, declared before they are bounded, and 500
-/// bounds. Reading ends at the first line that is not.
+/// The survey that a rule text of fewer than 2^32 bytes declares. `At` exactly where the bytes are no rule
+/// text: the first line that has a fault, from 1, and the least kind of fault that it has.
 pub fn read_rules(alloc: Global, bytes: &[u8]) -> Result<Survey, RulesFault>
+    requires { length bytes.now < 2 ^ 32 }
     ensures survey { IfOk result (λ survey. IsRuleText bytes.now survey) }
     ensures only { IfOk result (λ survey. (other : SurveyParts) → IsRuleText bytes.now other → other ≡ survey) }
     ensures well_formed { IfOk result (λ survey. IsWellFormed survey) }
-    ensures bounded { IfOk result (λ survey. IsBounded survey) }
-    ensures unbuilt { result ≡ Err RulesFault.Unbuilt → (survey : SurveyParts) → ¬ IsRuleText bytes.now survey }
+    ensures fault { IfErr result (λ fault. IsFaultOf bytes.now fault) }
+    ensures first { IfErr result (λ fault. IsOnlyFaultOf bytes.now fault) }
+    ensures unread { IfErr result (λ fault. IsNoRuleText bytes.now fault) }
 {
     let mut draft = Draft::new(alloc);
-    let mut rest = bytes;
-    while !rest.is_empty() {
-        let Some((line, after)) = split_at_byte(rest, b'\n') else {
-            return Err(RulesFault::Unbuilt);
-        };
-        draft.take_line(alloc, line)?;
+    let mut rest = without_mark(bytes);
+    let mut number = 0;
+    while let Some((line, after)) = first_line(rest) {
+        number += 1;
+        draft.take_line(alloc, line, number)?;
         rest = after;
     }
+    draft.take_last_line(alloc, rest, number)?;
     draft.into_survey(alloc)
 }

@@ -1,149 +1,297 @@
 use crate::{RulesFault, read_rules};
-use edit_model::{Survey, Test};
+use edit_model::{Compare, Field, Kind, Survey, Test};
 use std::alloc::Global;
 use std::test::Fail;
 
-/// The fields with their weights, and each bound as `factor field compare constant`.
-fn shown(alloc: Global, survey: &Survey) -> Result<String, Fail> {
-    let mut text = String::new(alloc);
-    for field in survey.fields() {
-        let name = str::from_utf8(field.name.as_bytes())
-            .ok()
-            .ok_or("a name is ASCII")?;
-        let weight = field.weight;
-        text.push_str(format!(in alloc; "{name} {weight}; ")?.as_str())?;
+/// Reads a rule text of fewer than 2^32 bytes.
+fn read(alloc: Global, text: &[u8]) -> Result<Result<Survey, RulesFault>, Fail> {
+    if text.len() >= 1 << 32 {
+        return Err(Fail::from("a long text"));
     }
-    for rule in survey.rules() {
-        if let Test::Number(linear) = &rule.conclusion {
-            for term in linear.terms.as_slice() {
-                let factor = term.factor;
-                let field = term.field;
-                let compare = linear.compare;
-                let constant = linear.constant;
-                let bound = format!(in alloc; "{factor} {field} {compare:?} {constant}; ")?;
-                text.push_str(bound.as_str())?;
-            }
-        }
-    }
-    Ok(text)
+    Ok(read_rules(alloc, text))
 }
 
-/// A text of so many fields, and so many bounds of the first.
-fn text_of(alloc: Global, fields: u32, bounds: u32) -> Result<String, Fail> {
-    let mut text = String::new(alloc);
-    for number in 0..fields {
-        text.push_str(format!(in alloc; "number F{number}\n")?.as_str())?;
+/// The line and the number of the kind of the text's first fault, or 0 and 0 where it has none.
+fn first_fault(alloc: Global, text: &[u8]) -> Result<(u32, u8), Fail> {
+    match read(alloc, text)? {
+        Ok(_) => Ok((0, 0)),
+        Err(RulesFault::At { line, kind }) => Ok((line, kind.number())),
+        Err(RulesFault::OutOfMemory) => Err(Fail::from("out of memory")),
     }
-    for number in 0..bounds {
-        text.push_str(format!(in alloc; "F0 >= {number}\n")?.as_str())?;
+}
+
+/// The text so many times, each with its number and what closes it behind it.
+fn numbered(alloc: Global, text: &str, close: &str, count: usize) -> Result<String, Fail> {
+    let mut all = String::new(alloc);
+    for i in 0..count {
+        all.push_str(format!(in alloc; "{text}{i}{close}")?.as_str())?;
     }
-    Ok(text)
+    Ok(all)
 }
 
 #[test]
-fn rule_texts_are_read(rt: HostRuntime) -> Result<(), Fail> {
-    for (text, want) in [
-        ("", ""),
-        ("number A\n", "A 1; "),
-        ("number A weight 1000\n", "A 1000; "),
-        ("number a_9 weight 007\n", "a_9 7; "),
-        (
-            "number abcdefghijklmnopqrstuvwxyz012345\n",
-            "abcdefghijklmnopqrstuvwxyz012345 1; ",
-        ),
-        ("number A\nA >= 3\n", "A 1; 1 0 Ge -3; "),
-        ("number A\nA <= -1\n", "A 1; 1 0 Le 1; "),
-        ("number A\nA >= 00\nA <= -05\n", "A 1; 1 0 Ge 0; 1 0 Le 5; "),
-        (
-            "number A\nA >= -1000000000000000\nA <= 0001000000000000000\n",
-            "A 1; 1 0 Ge 1000000000000000; 1 0 Le -1000000000000000; ",
-        ),
-        (
-            "number A\nA >= 3\nnumber B weight 2\nA <= 9\nB <= 5\n",
-            "A 1; B 2; 1 0 Ge -3; 1 0 Le -9; 1 1 Le -5; ",
-        ),
+fn the_first_fault_is_told_by_line_and_kind(rt: HostRuntime) -> Result<(), Fail> {
+    for (text, line, kind) in [
+        (b"number A\nnumber A".as_slice(), 2, 4),
+        (b"A >= 0", 1, 3),
+        (b"number A\n0.5 A >= 0", 2, 7),
+        (b"number A\ncode B in {x, y}\nif A = 0 then B in {x}", 3, 9),
+        (b"code B in {x, x}", 1, 6),
+        (b"number A >= 0", 1, 2),
+        (b"\xC3", 1, 1),
+        (b"", 0, 0),
     ] {
-        let survey = read_rules(rt.alloc(), text.as_bytes()).ok().ok_or(text)?;
-        let read = shown(rt.alloc(), &survey)?;
-        assert_eq!(rt; read.as_str(), want, "of {text}");
+        assert_eq!(rt; first_fault(rt.alloc(), text)?, (line, kind), "at {text:?}");
     }
     Ok(())
 }
 
 #[test]
-fn other_texts_are_refused(rt: HostRuntime) {
-    for text in [
-        "\n",
-        "number A",
-        "number A\n\n",
-        "number A\r\n",
-        "number  A\n",
-        " number A\n",
-        "number A \n",
-        "number\tA\n",
-        "number\n",
-        "number \n",
-        "number 9A\n",
-        "number A-B\n",
-        "number weight\n",
-        "number number\n",
-        "number abcdefghijklmnopqrstuvwxyz0123456\n",
-        "number A\nnumber A\n",
-        "number A weight\n",
-        "number A weight \n",
-        "number A weight 0\n",
-        "number A weight 1001\n",
-        "number A weight -1\n",
-        "number A weight  2\n",
-        "number A scale 2\n",
-        "code A\n",
-        "A >= 3\nnumber A\n",
-        "number A\nB >= 3\n",
-        "number A\nA > 3\n",
-        "number A\nA = 3\n",
-        "number A\nA >=3\n",
-        "number A\nA >=\n",
-        "number A\nA >= \n",
-        "number A\nA >= -\n",
-        "number A\nA >= -0\n",
-        "number A\nA >= -00\n",
-        "number A\nA >= +3\n",
-        "number A\nA >= 3.0\n",
-        "number A\nA >=  3\n",
-        "number A\nA >= 3 \n",
-        "number A\nA >= 3",
-        "number A\nA >= 1000000000000001\n",
-        "number A\nA <= -1000000000000001\n",
-        "number A\nA <= 18446744073709551616\n",
-        "number A\n2 A >= 3\n",
+fn of_the_kinds_of_a_line_the_least_is_told(rt: HostRuntime) -> Result<(), Fail> {
+    for (text, line, kind) in [
+        (b"number A \x00".as_slice(), 1, 1),
+        (b"A >= \xC3", 1, 1),
+        (b"number", 1, 2),
+        (b"number number", 1, 2),
+        (b"0.5 A >= >= 0", 1, 2),
+        (b"0.5 A >= 0", 1, 3),
+        (b"code B in {x}\nif B in {y} then A in {y, y}", 2, 3),
+        (b"number A\nA in {x}", 2, 3),
+        (b"code B in {x}\nB >= 0", 2, 3),
+        (b"number A\nnumber A weight 0", 2, 4),
+        (b"number A\ncode A in {x, x}", 2, 4),
+        (b"code B in {x}\nB in {y}", 2, 5),
+        (b"code B in {x}\nB in {y, y}", 2, 5),
+        (b"code B in {x}\nB in {x, x}", 2, 6),
+        (b"code B weight 0 in {x, y, x}", 1, 6),
+        (
+            b"number A\ncode B in {x}\nif 0.5 A = 0 then B in {x, x}",
+            3,
+            6,
+        ),
+        (b"number A weight 0", 1, 7),
+        (b"number A\ncode B in {x}\nif 0.5 A = 0 then B in {x}", 3, 7),
+        (b"number A\ncode B in {x}\nif A > 0 then A > 1", 3, 9),
+        (
+            b"number A\ncode B in {x}\nif A > 0 and B in {x} then B in {x}",
+            3,
+            9,
+        ),
+        (
+            b"number A\ncode B in {x}\nif B in {x} and A > 0 then B in {x}",
+            3,
+            9,
+        ),
+        (b"number A\ncode B in {x}\nif A > 0 then B in {x}", 0, 0),
+        (b"number A\n\xC3\nnumber A", 2, 1),
+        (b"number A\nnumber A\n\xC3", 2, 4),
     ] {
-        let read = read_rules(rt.alloc(), text.as_bytes());
-        assert!(rt; matches!(read, Err(RulesFault::Unbuilt)), "at {text}");
+        assert_eq!(rt; first_fault(rt.alloc(), text)?, (line, kind), "at {text:?}");
+    }
+    Ok(())
+}
+
+#[test]
+fn numbers_are_held_to_their_limits(rt: HostRuntime) -> Result<(), Fail> {
+    for (text, line, kind) in [
+        (b"number A weight 1000 scale 1000000000000".as_slice(), 0, 0),
+        (b"number A weight 1001", 1, 7),
+        (b"number A scale 1000000000001", 1, 7),
+        (b"number A scale 0", 1, 7),
+        (b"number A weight 007", 0, 0),
+        (b"code B weight 1001 in {x}", 1, 7),
+        (b"code B weight 1.0 in {x}", 1, 7),
+        (b"number A\n1000000000 A >= 0", 0, 0),
+        (b"number A\n1000000001 A >= 0", 2, 7),
+        (b"number A\n600000000 A + 400000000 A >= 0", 0, 0),
+        (b"number A\n600000000 A + 400000001 A >= 0", 2, 7),
+        (b"number A\n600000000 A >= 600000000 A", 0, 0),
+        (b"number A\n600000000 A >= -600000000 A", 2, 7),
+        (b"1000000000000000 >= 0", 0, 0),
+        (b"1000000000000001 >= 0", 1, 7),
+        (b"1000000000000000 >= -1", 1, 7),
+        (b"1000000000000001 >= 1000000000000001", 1, 7),
+    ] {
+        assert_eq!(rt; first_fault(rt.alloc(), text)?, (line, kind), "at {text:?}");
+    }
+    Ok(())
+}
+
+#[test]
+fn marks_and_comments_mean_nothing(rt: HostRuntime) -> Result<(), Fail> {
+    for (text, line, kind) in [
+        (b"\n\r\n \t\n# \x00\xFF\r\n".as_slice(), 0, 0),
+        (b"\xEF\xBB\xBFnumber A\r\nA >= 0 # \xC3\r\nA\t>=\t1\r", 0, 0),
+        (b"\xEF\xBB\xBF\xEF\xBB\xBFnumber A", 1, 1),
+        (b"number A\n\xEF\xBB\xBFA >= 0", 2, 1),
+        (b"number\rA", 1, 1),
+        (b"number A\r\r\n", 1, 1),
+        (b"number A\n\x00", 2, 1),
+        (b"number A\n\n\nA", 4, 2),
+    ] {
+        assert_eq!(rt; first_fault(rt.alloc(), text)?, (line, kind), "at {text:?}");
+    }
+    Ok(())
+}
+
+#[test]
+fn fields_codes_and_rules_are_counted(rt: HostRuntime) -> Result<(), Fail> {
+    let alloc = rt.alloc();
+    let fields = numbered(alloc, "number A", "\n", 64)?;
+    let codes = numbered(alloc, "x", ",", 63)?;
+    let rules = numbered(alloc, "A >= ", "\n", 500)?;
+    let digits = numbered(alloc, "10000000", "0", 100)?;
+    let (fields, codes, rules) = (fields.as_str(), codes.as_str(), rules.as_str());
+    for (before, many, behind, line, kind) in [
+        ("", fields, "", 0, 0),
+        ("", fields, "number B", 65, 8),
+        ("", fields, "number B weight 0", 65, 7),
+        ("", fields, "number A1", 65, 4),
+        ("code B in {", codes, "y}", 0, 0),
+        ("code B in {", codes, "y,z}", 1, 8),
+        ("code B in {", codes, "y,x1}", 1, 6),
+        ("number A\n", rules, "", 0, 0),
+        ("number A\n", rules, "A >= 0", 502, 8),
+        ("number A\n", rules, "if A = 0 then A = 0", 502, 8),
+        ("number A\n", rules, "number B", 0, 0),
+        ("number A\n", digits.as_str(), " A >= 0", 2, 7),
+    ] {
+        let text = format!(in alloc; "{before}{many}{behind}")?;
+        let found = first_fault(alloc, text.as_bytes())?;
+        assert_eq!(rt; found, (line, kind), "at {behind}");
+    }
+    Ok(())
+}
+
+/// Whether the test is the linear one with these terms, each of a field and a factor.
+fn is_linear(test: &Test, terms: &[(u32, i64)], constant: i64, compare: Compare) -> bool {
+    match test {
+        Test::Number(linear) => {
+            linear.constant == constant
+                && linear.compare == compare
+                && linear.terms.len() == terms.len()
+                && linear.terms.as_slice().iter().zip(terms).all(|(
+                    term,
+                    (field, factor),
+                )| term.field == *field && term.factor == *factor)
+        }
+        Test::Codes { .. } => false,
     }
 }
 
 #[test]
-fn sixty_four_fields_and_five_hundred_bounds_are_the_most(rt: HostRuntime) -> Result<(), Fail> {
-    for (fields, bounds, fits) in [(64, 500, true), (65, 0, false), (1, 501, false)] {
-        let text = text_of(rt.alloc(), fields, bounds)?;
-        let read = read_rules(rt.alloc(), text.as_bytes());
-        assert_eq!(rt;
-            read.is_ok(),
-            fits,
-            "at {fields} fields and {bounds} bounds"
-        );
+fn a_linear_test_is_moved_to_its_left_side(rt: HostRuntime) -> Result<(), Fail> {
+    let alloc = rt.alloc();
+    for (rule, terms, constant, compare) in [
+        (
+            "10 Profit <= 6 Turnover",
+            [(0, -6), (1, 10)].as_slice(),
+            0,
+            Compare::Le,
+        ),
+        ("Turnover - Turnover >= 0", &[], 0, Compare::Ge),
+        ("2 >= 1", &[], 1, Compare::Ge),
+        (
+            "2 * Profit + 3 > 5 - Profit + 4",
+            &[(1, 3)],
+            -6,
+            Compare::Gt,
+        ),
+        ("- 2 Turnover < +1", &[(0, -2)], -1, Compare::Lt),
+        ("3 = Profit", &[(1, -1)], 3, Compare::Eq),
+        (
+            "Profit + Turnover + Profit = 0 Turnover",
+            &[(0, 1), (1, 2)],
+            0,
+            Compare::Eq,
+        ),
+    ] {
+        let text = format!(in alloc; "number Turnover\nnumber Profit\n{rule}")?;
+        let survey = read(alloc, text.as_bytes())??;
+        match survey.rules() {
+            [only] => {
+                assert!(rt; only.conditions.is_empty());
+                assert!(rt;
+                    is_linear(&only.conclusion, terms, constant, compare),
+                    "at {rule}"
+                );
+            }
+            _ => return Err(Fail::from("one rule")),
+        }
+    }
+    Ok(())
+}
+
+/// Whether the test is the one on codes of this field and set.
+fn is_on_codes(test: &Test, field: u32, negated: bool, codes: u64) -> bool {
+    match test {
+        Test::Number(_) => false,
+        Test::Codes {
+            field: f,
+            negated: n,
+            codes: set,
+        } => *f == field && *n == negated && *set == codes,
+    }
+}
+
+/// Whether the field has this name, this weight and, where it is numerical, this scale.
+fn is_number(field: &Field, name: &[u8], weight: u32, scale: u64) -> bool {
+    let scales = match &field.kind {
+        Kind::Number { scale: s } => *s == scale,
+        Kind::Code { .. } => false,
+    };
+    field.name.as_bytes() == name && field.weight == weight && scales
+}
+
+#[test]
+fn fields_and_sets_of_codes_are_those_that_are_written(rt: HostRuntime) -> Result<(), Fail> {
+    let survey = read(
+        rt.alloc(),
+        b"number A\nnumber B_2 weight 3 scale 1000\ncode Size weight 7 in {small, medium, 3-a.b_C}\n\
+        if Size in {3-a.b_C} and Size not in {medium} then Size in {medium, small}",
+    )??;
+    match survey.fields() {
+        [a, b, size] => {
+            assert!(rt; is_number(a, b"A", 1, 1));
+            assert!(rt; is_number(b, b"B_2", 3, 1000));
+            assert!(rt; size.name.as_bytes() == b"Size".as_slice() && size.weight == 7);
+            match &size.kind {
+                Kind::Number { .. } => return Err(Fail::from("codes")),
+                Kind::Code { codes } => match codes.as_slice() {
+                    [_, _, last] => assert!(rt; last.as_bytes() == b"3-a.b_C".as_slice()),
+                    _ => return Err(Fail::from("three codes")),
+                },
+            }
+        }
+        _ => return Err(Fail::from("three fields")),
+    }
+    match survey.rules() {
+        [only] => {
+            match only.conditions.as_slice() {
+                [first, second] => {
+                    assert!(rt; is_on_codes(first, 2, false, 0b100));
+                    assert!(rt; is_on_codes(second, 2, true, 0b010));
+                }
+                _ => return Err(Fail::from("two conditions")),
+            }
+            assert!(rt; is_on_codes(&only.conclusion, 2, false, 0b011));
+        }
+        _ => return Err(Fail::from("one rule")),
     }
     Ok(())
 }
 
 #[test]
 fn a_fault_is_told_in_words(rt: HostRuntime) -> Result<(), Fail> {
-    for (fault, words) in [
-        (RulesFault::Unbuilt, "a rule text that is not of the form"),
-        (RulesFault::OutOfMemory, "out of memory"),
-    ] {
-        let told = format!(in rt.alloc(); "{fault}")?;
-        assert_eq!(rt; told.as_str(), words);
+    let alloc = rt.alloc();
+    match read(alloc, b"number A\n0.5 A >= 0")? {
+        Ok(_) => return Err(Fail::from("a fault")),
+        Err(fault) => {
+            assert_eq!(rt;
+                format!(in alloc; "{fault}")?.as_str(),
+                "line 2 kind 7 NumberRange"
+            );
+        }
     }
     Ok(())
 }

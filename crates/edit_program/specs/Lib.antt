@@ -1,4 +1,5 @@
 pub mod Desk
+pub mod Layouts
 pub mod Memory
 pub mod Released
 pub mod Run

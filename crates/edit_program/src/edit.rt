@@ -1,15 +1,19 @@
-ghost use Rattle.std.specs.Prelude.{◌≡◌, ◌≢◌, ◌↔◌, ◌≤◌, ℕ, IfErr, IfOk, IfSome, List, map, string_bytes};
+ghost use Rattle.std.specs.Prelude.{◌≡◌, ◌≢◌, ◌↔◌, ◌≤◌, ◌⊎◌, ℕ, IfErr, IfOk, IfSome, List, length, map, string_bytes};
+ghost use Rattle.edit_language.specs.Grammar.{IsRuleText};
 ghost use Rattle.edit_model.specs.Bounds.{IsBounded};
-ghost use Rattle.edit_program.specs.Desk.{BothTell, IsLonger, Rose};
+ghost use Rattle.edit_model.specs.Parts.{SurveyParts};
+ghost use Rattle.edit_model.specs.Surveys.{IsWellFormed};
+ghost use Rattle.edit_program.specs.Desk.{BothTell, Rose};
 ghost use Rattle.edit_program.specs.Released.{HasReleased};
-ghost use Rattle.edit_program.specs.Run.{HasStoredNothing, HoldsNoRecords, HoldsNoRules, HoldsRecords, HoldsRules, IsCutOff, IsEdited, IsRefusal, ShowsCause, fetch_status, most_bytes};
+ghost use Rattle.edit_program.specs.Run.{HasStoredNothing, HoldsRecords, HoldsServed, IsCutOff, IsEdited, IsRecordsRefusal, IsRulesRefusal, ReadsAs, ShowsCause, fetch_status, most_bytes, sheet_status};
 ghost use Rattle.edit_program.specs.Words.{ForNames, IsNoCommand};
-ghost use Rattle.record_text.specs.Sheets.{IsSheet};
+ghost use Rattle.record_text.specs.Sheets.{IsSheet, SheetParts};
 
 use crate::desk::{Desk, FetchError, StoreError};
 use crate::release::release_sheet;
 use crate::status::Status;
 use crate::words::edit_words;
+use bound_correction::is_bounded;
 use edit_language::{RulesFault, read_rules};
 use edit_model::Survey;
 use record_text::{Sheet, SheetFault, read_records};
@@ -28,7 +32,7 @@ pub fn fh_main<D: Desk>(alloc: Global, words: &[String], desk: &mut D) -> Status
     // The release guarantee: what stands in the released file after statuses 0 and 1.
     ensures edited { HasReleased result → ForNames (map string_bytes words.now) (λ rules records released. BothTell (D.files desk.old) (D.files desk.new) (λ before after. IsEdited before after rules records released result)) }
 
-    // A file that is too long, and a form that the program does not serve, exactly where they are.
+    // A file that is too long or has no reading, and rules that are not served, exactly where they are.
     ensures cause { ForNames (map string_bytes words.now) (λ rules records _. ShowsCause (D.files desk.old) rules records result) }
 
     // A fault of the desk in this very call.
@@ -74,11 +78,13 @@ fn edit<D: Desk>(alloc: Global, rules: &str, records: &str, released: &str, desk
     }
 }
 
-/// The survey that the rule file of that name reads as.
+/// The survey that the rule file of that name reads as, where it is served.
 fn fetch_survey<D: Desk>(alloc: Global, name: &str, desk: &mut D) -> Result<Survey, Status>
-    ensures read { IfOk result (λ survey. IfSome (D.files desk.old) (λ files. HoldsRules files name.now survey)) }
+    ensures read { IfOk result (λ survey. IfSome (D.files desk.old) (λ files. HoldsServed files name.now survey)) }
+    ensures well_formed { IfOk result (λ survey. IsWellFormed survey) }
     ensures bounded { IfOk result (λ survey. IsBounded survey) }
-    ensures refused { IfErr result (IsRefusal (IfSome (D.files desk.old) (λ files. IsLonger files name.now most_bytes)) (IfSome (D.files desk.old) (λ files. HoldsNoRules files name.now)) (Rose (D.faults desk.old) (D.faults desk.new))) }
+    ensures refused { IfErr result (IsRulesRefusal (D.files desk.old) name.now) }
+    ensures read_fault { IfErr result (λ status. status ≡ Status.ReadFault → Rose (D.faults desk.old) (D.faults desk.new)) }
     ensures unchanged { D.files desk.new ≡ D.files desk.old }
     ensures later { D.faults desk.old ≤ D.faults desk.new }
 {
@@ -86,9 +92,27 @@ fn fetch_survey<D: Desk>(alloc: Global, name: &str, desk: &mut D) -> Result<Surv
         Ok(bytes) => bytes,
         Err(error) => return Err(status_of_fetch(error)),
     };
-    match read_rules(alloc, &bytes) {
+    let survey = match read_survey(alloc, &bytes) {
+        Ok(survey) => survey,
+        Err(refused) => return Err(refused),
+    };
+    if is_bounded(&survey) {
+        Ok(survey)
+    } else {
+        Err(Status::Unbuilt)
+    }
+}
+
+/// The survey that the bytes read as.
+fn read_survey(alloc: Global, bytes: &[u8]) -> Result<Survey, Status>
+    requires { length bytes.now ≤ most_bytes }
+    ensures read { IfOk result (λ survey. ReadsAs bytes.now survey) }
+    ensures well_formed { IfOk result (λ survey. IsWellFormed survey) }
+    ensures refused { IfErr result (λ status. (status ≡ Status.OutOfMemory) ⊎ ((status ≡ Status.Rules) × ((survey : SurveyParts) → ¬ IsRuleText bytes.now survey))) }
+{
+    match read_rules(alloc, bytes) {
         Ok(survey) => Ok(survey),
-        Err(RulesFault::Unbuilt) => Err(Status::Unbuilt),
+        Err(RulesFault::At { .. }) => Err(Status::Rules),
         Err(RulesFault::OutOfMemory) => Err(Status::OutOfMemory),
     }
 }
@@ -100,10 +124,10 @@ fn fetch_sheet<D: Desk>(
     survey: &Survey,
     desk: &mut D,
 ) -> Result<Sheet, Status>
-    requires bounded { IsBounded survey.now }
     ensures read { IfOk result (λ sheet. IfSome (D.files desk.old) (λ files. HoldsRecords files name.now survey.now.fields sheet)) }
     ensures sheet { IfOk result (λ sheet. (bytes : List ℕ) × IsSheet survey.now.fields bytes sheet) }
-    ensures refused { IfErr result (IsRefusal (IfSome (D.files desk.old) (λ files. IsLonger files name.now most_bytes)) (IfSome (D.files desk.old) (λ files. HoldsNoRecords files name.now survey.now.fields)) (Rose (D.faults desk.old) (D.faults desk.new))) }
+    ensures refused { IfErr result (IsRecordsRefusal (D.files desk.old) name.now survey.now.fields) }
+    ensures read_fault { IfErr result (λ status. status ≡ Status.ReadFault → Rose (D.faults desk.old) (D.faults desk.new)) }
     ensures unchanged { D.files desk.new ≡ D.files desk.old }
     ensures later { D.faults desk.old ≤ D.faults desk.new }
 {
@@ -111,10 +135,35 @@ fn fetch_sheet<D: Desk>(
         Ok(bytes) => bytes,
         Err(error) => return Err(status_of_fetch(error)),
     };
-    match read_records(alloc, survey, &bytes) {
+    match read_sheet(alloc, survey, &bytes) {
         Ok(sheet) => Ok(sheet),
-        Err(SheetFault::Unbuilt) => Err(Status::Unbuilt),
-        Err(SheetFault::OutOfMemory) => Err(Status::OutOfMemory),
+        Err(refused) => Err(refused),
+    }
+}
+
+/// The sheet of the survey's records that the bytes read as.
+fn read_sheet(alloc: Global, survey: &Survey, bytes: &[u8]) -> Result<Sheet, Status>
+    ensures read { IfOk result (λ sheet. IsSheet survey.now.fields bytes.now sheet) }
+    ensures refused { IfErr result (λ status. (status ≡ Status.OutOfMemory) ⊎ ((status ≡ Status.Records) × ((sheet : SheetParts) → ¬ IsSheet survey.now.fields bytes.now sheet))) }
+{
+    match read_records(alloc, survey, bytes) {
+        Ok(sheet) => Ok(sheet),
+        Err(fault) => Err(status_of_sheet(fault)),
+    }
+}
+
+/// The status that records without a reading end the call with.
+fn status_of_sheet(fault: SheetFault) -> Status
+    ensures { result ≡ sheet_status fault }
+{
+    match fault {
+        SheetFault::OutOfMemory => Status::OutOfMemory,
+        SheetFault::NoHeader
+        | SheetFault::TooManyColumns
+        | SheetFault::NoColumn { .. }
+        | SheetFault::DoubleColumn { .. }
+        | SheetFault::TooManyRows
+        | SheetFault::RowLength { .. } => Status::Records,
     }
 }
 

@@ -4,6 +4,7 @@
 
 pub mod desk;
 pub mod edit;
+mod layout;
 mod release;
 mod released_row;
 pub mod status;

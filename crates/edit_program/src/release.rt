@@ -1,9 +1,11 @@
 ghost use Rattle.std.specs.Prelude.{ℕ, List, IfOk};
 ghost use Rattle.bound_correction.specs.Bounds.{AreBoundsOf};
 ghost use Rattle.edit_model.specs.Bounds.{IsBounded};
+ghost use Rattle.edit_model.specs.Surveys.{IsWellFormed};
 ghost use Rattle.edit_program.specs.Released.{IsContradictory, IsRelease};
 ghost use Rattle.record_text.specs.Sheets.{IsSheet};
 
+use crate::layout::Layout;
 use crate::released_row::released_rows;
 use crate::status::Status;
 use bound_correction::{Bounds, bounds_of};
@@ -22,6 +24,7 @@ pub struct Release {
 /// What is released of a sheet: the header, and each record that has a correction, corrected at the least
 /// weight. The rules of the survey bound one numerical field each, and the sheet is one of its records.
 pub fn release_sheet(alloc: Global, survey: &Survey, sheet: Sheet) -> Result<Release, OutOfMemory>
+    requires well_formed { IsWellFormed survey.now }
     requires bounded { IsBounded survey.now }
     requires read { (bytes : List ℕ) × IsSheet survey.now.fields bytes sheet }
     ensures { IfOk result (λ release. IsRelease survey.now sheet release.bytes.items release.status) }
@@ -39,20 +42,27 @@ fn corrected(
     bounds: &Bounds,
     sheet: Sheet,
 ) -> Result<Release, OutOfMemory>
+    requires well_formed { IsWellFormed survey.now }
     requires bounds { AreBoundsOf survey.now bounds.now }
     requires read { (bytes : List ℕ) × IsSheet survey.now.fields bytes sheet }
     ensures { IfOk result (λ release. IsRelease survey.now sheet release.bytes.items release.status) }
 {
-    let SheetRows { header, raws, rows } = sheet.into_parts();
+    let SheetRows {
+        header,
+        columns,
+        raws,
+        rows,
+    } = sheet.into_parts();
+    let layout = Layout::new(alloc, columns, header.len())?;
     let released = released_rows(
         alloc,
         survey,
         bounds,
+        &layout,
         header,
-        raws.as_slice(),
+        raws.into_vec(),
         rows.as_slice(),
     )?;
-    drop(raws);
     drop(rows);
     let bytes = write_rows(alloc, &released)?;
     Ok(Release {

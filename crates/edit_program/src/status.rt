@@ -9,6 +9,10 @@ pub enum Status {
     SomeUnresolved,
     /// The words are no command.
     Usage,
+    /// The rule file has no reading.
+    Rules,
+    /// The record file has no reading.
+    Records,
     /// A file could not be read.
     ReadFault,
     /// A file could not be written.
@@ -17,7 +21,8 @@ pub enum Status {
     OutOfMemory,
     /// A file has more bytes than its limit.
     TooLong,
-    /// The rules or the records have a form that the program does not serve.
+    /// The rules have a form that the program does not serve yet: a categorical field, or a rule that
+    /// bounds no single field.
     Unbuilt,
 }
 
@@ -32,6 +37,8 @@ impl Status {
             Status::Done => 0,
             Status::SomeUnresolved => 1,
             Status::Usage => 2,
+            Status::Rules => 3,
+            Status::Records => 4,
             Status::ReadFault => 5,
             Status::WriteFault => 6,
             Status::OutOfMemory => 7,

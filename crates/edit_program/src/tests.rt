@@ -17,7 +17,7 @@ struct Case {
     released: Option<&'static str>,
 }
 
-const CASES: [Case; 12] = [
+const CASES: [Case; 28] = [
     Case {
         shows: "values out of bounds and missing ones take the allowed number nearest to 0",
         rules: "number A\nnumber B weight 2\nA >= 3\nA <= 9\nB <= 5\n",
@@ -54,11 +54,60 @@ const CASES: [Case; 12] = [
         released: None,
     },
     Case {
-        shows: "records of other columns are not served",
-        rules: "number A\nA >= 3\n",
-        records: "id,A\n1,4\n",
+        shows: "an equation is not served",
+        rules: "number A\nA = 3\n",
+        records: "A\n4\n",
         status: Status::Unbuilt,
         released: None,
+    },
+    Case {
+        shows: "a factor of 2 is not served",
+        rules: "number A\n2 A >= 3\n",
+        records: "A\n4\n",
+        status: Status::Unbuilt,
+        released: None,
+    },
+    Case {
+        shows: "a rule of two fields is not served",
+        rules: "number A\nnumber B\nA - B >= 3\n",
+        records: "A,B\n4,1\n",
+        status: Status::Unbuilt,
+        released: None,
+    },
+    Case {
+        shows: "a rule of no field is not served",
+        rules: "number A\n1 >= 0\n",
+        records: "A\n4\n",
+        status: Status::Unbuilt,
+        released: None,
+    },
+    Case {
+        shows: "a categorical field is not served",
+        rules: "number A\ncode B in {x}\nA >= 3\n",
+        records: "A,B\n4,x\n",
+        status: Status::Unbuilt,
+        released: None,
+    },
+    Case {
+        shows: "a name that is not declared is a fault of the rules",
+        rules: "A >= 0\n",
+        records: "A\n4\n",
+        status: Status::Rules,
+        released: None,
+    },
+    Case {
+        shows: "a decimal number is a fault of the rules",
+        rules: "number A\nA >= 0.5\n",
+        records: "A\n4\n",
+        status: Status::Rules,
+        released: None,
+    },
+    Case {
+        shows: "comments, blanks and any side of a comparison are read",
+        rules: "# bounds\r\nnumber A # in units\r\n\t3 <= A\r\n0 <= 9 - A",
+        records: "A\n2\n10\n",
+        status: Status::Done,
+        released: Some("A\n3\n3\n"),
     },
     Case {
         shows: "a field that is kept has the bytes that were read",
@@ -101,6 +150,69 @@ const CASES: [Case; 12] = [
         records: "A\n\"\"\n",
         status: Status::Done,
         released: Some("A\n0\n"),
+    },
+    Case {
+        shows: "a byte order mark goes, and a decimal keeps its bytes",
+        rules: "number A\nA >= 0\n",
+        records: "\u{FEFF}id,A\r\n1,.5\r\n",
+        status: Status::Done,
+        released: Some("id,A\n1,.5\n"),
+    },
+    Case {
+        shows: "a header alone is released",
+        rules: "number A\nA >= 0\n",
+        records: "A\n",
+        status: Status::Done,
+        released: Some("A\n"),
+    },
+    Case {
+        shows: "no bytes are no header",
+        rules: "number A\nA >= 0\n",
+        records: "",
+        status: Status::Records,
+        released: None,
+    },
+    Case {
+        shows: "a short row is a fault of the records",
+        rules: "number A\nA >= 0\n",
+        records: "id,A\n7\n",
+        status: Status::Records,
+        released: None,
+    },
+    Case {
+        shows: "a field without a column is a fault of the records",
+        rules: "number A\nA >= 0\n",
+        records: "id,B\n1,7\n",
+        status: Status::Records,
+        released: None,
+    },
+    Case {
+        shows: "further columns keep their bytes",
+        rules: "number A\nA >= 0\n",
+        records: "id,A\n\"x, y\",007.50\n",
+        status: Status::Done,
+        released: Some("id,A\n\"x, y\",007.50\n"),
+    },
+    Case {
+        shows: "what is no numeral is changed",
+        rules: "number A\nA >= 0\n",
+        records: "id,A\n1,1e3\n2,abc\n",
+        status: Status::Done,
+        released: Some("id,A\n1,0\n2,0\n"),
+    },
+    Case {
+        shows: "columns stand in any order, with blanks around their names",
+        rules: "number A\nnumber B\nA >= 3\nB <= 5\n",
+        records: "B , id,\tA\n6,x,1\n5,y,3\n",
+        status: Status::Done,
+        released: Some("B , id,\tA\n0,x,3\n5,y,3\n"),
+    },
+    Case {
+        shows: "fractions are compared exactly",
+        rules: "number A\nA >= 1\nA <= 2\n",
+        records: "A\n7/3\n 5/3 \n",
+        status: Status::Done,
+        released: Some("A\n1\n 5/3 \n"),
     },
 ];
 
@@ -196,12 +308,22 @@ fn faults_of_the_desk_end_the_run(rt: HostRuntime) -> Result<(), Fail> {
         );
         assert!(rt; is_held(&desk, "d", released), "at call {call}");
     }
-    for (rules, records) in [(None, Some(records)), (Some(rules), None)] {
+    Ok(())
+}
+
+#[test]
+fn the_first_refusal_ends_the_run(rt: HostRuntime) -> Result<(), Fail> {
+    let alloc = rt.alloc();
+    for (rules, records, status) in [
+        (None, Some("A\n1\n"), Status::ReadFault),
+        (Some("number A\nA >= 3\n"), None, Status::ReadFault),
+        (Some("number A\nA >= B\n"), None, Status::Rules),
+        (Some("number A\nA > 3\n"), None, Status::Unbuilt),
+        (Some("number A\nA > 3\n"), Some(""), Status::Unbuilt),
+        (Some("number A\nA >= B\n"), Some(""), Status::Rules),
+    ] {
         let mut desk = desk_of(alloc, rules, records, &[])?;
-        assert_eq!(rt;
-            fh_main(alloc, &words(alloc)?, &mut desk),
-            Status::ReadFault
-        );
+        assert_eq!(rt; fh_main(alloc, &words(alloc)?, &mut desk), status);
         assert!(rt; is_held(&desk, "d", None));
     }
     Ok(())

@@ -1,5 +1,5 @@
-ghost use Rattle.std.specs.Prelude.{◌≡◌, ◌↔◌, ◌⊎◌, IfErr, IfSome, IfNone, IsTrue, codes, map, string_bytes};
-ghost use Rattle.edit_program.specs.Words.{IsEdit, IsNoCommand, IsFileName, AreFileNames};
+ghost use Rattle.std.specs.Prelude.{◌≡◌, ◌≢◌, ◌↔◌, ◌⊎◌, ◌∷◌, [], ℕ, List, IfErr, IfSome, IfNone, IsTrue, length, map, string_bytes};
+ghost use Rattle.edit_program.specs.Words.{AreFileNames, IsEdit, IsFileName, IsNoCommand, values_of};
 
 use crate::status::Status;
 use std::env;
@@ -32,48 +32,49 @@ pub fn after_program_name<R: Env + AllocGlobal>(rt: &R) -> Result<Vec<String>, S
     }
 }
 
-/// Reads the words after the program's name as the command
-/// `edit --rules NAME --records NAME --released NAME`, in this order. No name is empty or begins with `-`,
+/// Reads the words after the program's name as the command `edit` with the options `--rules NAME`,
+/// `--records NAME` and `--released NAME`, each once, in any order. No name is empty or begins with `-`,
 /// and the three differ.
 pub fn edit_words(words: &[String]) -> Option<EditWords<'_>>
     ensures some { IfSome result (λ e. IsEdit (map string_bytes words.now) e.rules.now e.records.now e.released.now) }
     ensures none { IfNone result (IsNoCommand (map string_bytes words.now)) }
 {
-    let [
-        command,
-        rules_option,
-        rules,
-        records_option,
-        records,
-        released_option,
-        released,
-    ] = words
-    else {
-        return None;
-    };
-    if !is_form(
-        command.as_str(),
-        rules_option.as_str(),
-        records_option.as_str(),
-        released_option.as_str(),
-    ) {
+    let (command, options) = words.split_first()?;
+    if command.as_str() != "edit" || options.len() != 6 {
         return None;
     }
-    if !are_file_names(rules.as_str(), records.as_str(), released.as_str()) {
+    let rules = value_of("--rules", options)?;
+    let records = value_of("--records", options)?;
+    let released = value_of("--released", options)?;
+    if !are_file_names(rules, records, released) {
         return None;
     }
     Some(EditWords {
-        rules: rules.as_str(),
-        records: records.as_str(),
-        released: released.as_str(),
+        rules,
+        records,
+        released,
     })
 }
 
-// Whether the words that are no names stand where `edit` has them.
-fn is_form(command: &str, first: &str, second: &str, third: &str) -> bool
-    ensures { IsTrue result ↔ ((command.now ≡ codes "edit") × (first.now ≡ codes "--rules") × (second.now ≡ codes "--records") × (third.now ≡ codes "--released")) }
+// The value of the option among three options and their values, where the option stands once.
+fn value_of<'a>(option: &str, words: &'a [String]) -> Option<&'a str>
+    requires { length words.now ≡ 6 }
+    ensures some { IfSome result (λ value. values_of option.now (map string_bytes words.now) ≡ value.now ∷ []) }
+    ensures none { IfNone result ((value : List ℕ) → values_of option.now (map string_bytes words.now) ≢ value ∷ []) }
 {
-    command == "edit" && first == "--rules" && second == "--records" && third == "--released"
+    let [a, first, b, second, c, third] = words else {
+        unreachable!()
+    };
+    match (
+        a.as_str() == option,
+        b.as_str() == option,
+        c.as_str() == option,
+    ) {
+        (true, false, false) => Some(first.as_str()),
+        (false, true, false) => Some(second.as_str()),
+        (false, false, true) => Some(third.as_str()),
+        _ => None,
+    }
 }
 
 // Whether the three may name files, and differ.
@@ -119,7 +120,16 @@ mod tests {
             ("edit --rules r.txt --records c.csv --released d", true),
             ("edit --rules r --records c --released", false),
             ("edit --rules r --records c --released d e", false),
-            ("edit --records c --rules r --released d", false),
+            ("edit --records c --rules r --released d", true),
+            ("edit --released d --records c --rules r", true),
+            ("edit --rules r --rules r --released d", false),
+            ("edit --rules r --records c --rules s", false),
+            ("edit --rules r --records c --limit 1", false),
+            (
+                "edit --rules r --records c --released d --released e",
+                false,
+            ),
+            ("edit r --rules c --records d --released", false),
             ("edit --rules r --records c --released c", false),
             ("edit --rules r --records c --released r", false),
             ("edit --rules r --records r --released d", false),
@@ -138,11 +148,16 @@ mod tests {
 
     #[test]
     fn each_name_is_found(rt: HostRuntime) -> Result<(), Fail> {
-        let words = words_of(rt.alloc(), "edit --rules a --records b --released c-")?;
-        let names = edit_words(&words).ok_or("the words are of the form")?;
-        assert_eq!(rt; names.rules, "a");
-        assert_eq!(rt; names.records, "b");
-        assert_eq!(rt; names.released, "c-");
+        for line in [
+            "edit --rules a --records b --released c-",
+            "edit --released c- --rules a --records b",
+        ] {
+            let words = words_of(rt.alloc(), line)?;
+            let names = edit_words(&words).ok_or("the words are of the form")?;
+            assert_eq!(rt; names.rules, "a", "at {line}");
+            assert_eq!(rt; names.records, "b", "at {line}");
+            assert_eq!(rt; names.released, "c-", "at {line}");
+        }
         Ok(())
     }
 }

@@ -1,14 +1,12 @@
--- A record has a field, and so has the header of a sheet.
+-- A record has a field.
 use Rattle.std.proofs.Common.{◌≡◌, ℕ, ◌≤◌, Bool, true, false, if◌then◌else◌, List, [], ◌∷◌, ◌++◌, length, Option, Some, None, length-append, arith, refl}
 use Rattle.csv.specs.Machine.{next_record, step, is_end, ends_at_end, fields_after, field_after, Read}
-use Rattle.csv.specs.Reading.{Reached}
+use Rattle.csv.specs.Reading.{AreRecords, Reached}
 use Rattle.csv.specs.declared.parser.Action.{Action}
 use Rattle.csv.specs.declared.parser.Config.{Config}
 use Rattle.csv.specs.declared.parser.Action.TheVariants as act
 use Rattle.csv.specs.declared.parser.State.{State}
 use Rattle.csv.specs.declared.parser.State.TheVariants as st
-use Rattle.edit_model.specs.declared.field.Field.{Field}
-use Rattle.record_text.specs.Sheets.{SheetParts, IsSheet}
 
 with_last : (fields : List (List ℕ)) (field : List ℕ) → 1 ≤ length (fields ++ field ∷ [])
 with_last fields field = simp length-append (omega arith)
@@ -39,10 +37,7 @@ has_field cfg s fields field (c ∷ rest) p e =
     (next_record cfg (step cfg s c).0 (fields_after (step cfg s c).1 fields field) (field_after (step cfg s c).1 c field) rest) p refl
     (has_field cfg (step cfg s c).0 (fields_after (step cfg s c).1 fields field) (field_after (step cfg s c).1 c field) rest p) e
 
--- the header of a sheet has at least one text
-pub header_has_field : (fields : List Field) (bytes : List ℕ) (sheet : SheetParts) → IsSheet fields bytes sheet → 1 ≤ length sheet.header
+-- the first of a text's records has at least one text
+pub first_has_field : (cfg : Config) (s : State) (xs : List ℕ) (first : List (List ℕ)) (rest : List (List (List ℕ))) → AreRecords cfg s xs (first ∷ rest) → 1 ≤ length first
 unfolding Reached
-header_has_field fields bytes sheet is =
-    let (s2, ys, reached, ended) = is.records in
-    let (p, found, same, further) = reached in
-    rw same (has_field _ _ _ _ _ p found)
+first_has_field cfg s xs first rest (t, ys, (p, found, same, further), ended) = rw same (has_field cfg s [] [] xs p found)

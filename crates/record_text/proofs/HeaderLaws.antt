@@ -1,46 +1,34 @@
-use Rattle.std.proofs.Common.{◌≡◌, ◌∙◌, sym, ap, ℕ, zero, suc, ◌<◌, ◌≤◌, List, [], ◌∷◌, length, map, take, get_or, Option, Some, None, arith}
-use Rattle.std.proofs.lemmas.List.{length-map, take_all}
+use Rattle.std.proofs.Common.{◌≡◌, ◌∙◌, ap, refl, ℕ, zero, suc, ◌+◌, ◌==◌, if◌then◌else◌, List, [], ◌∷◌, ◌++◌, false, length, take, Some, None, arith}
+use Rattle.std.proofs.lemmas.Bool.Decides.{nat_tests}
+use Rattle.std.proofs.lemmas.List.{take_all}
 use Rattle.csv.specs.Records.{field_at}
-use Rattle.edit_model.specs.declared.field.Field.{Field}
+use Rattle.record_text.specs.Trimming.{header_of, without_marks}
+use Rattle.record_text.proofs.RecordLaws.{copied_more, field_past}
 
--- the fields' names, in order
-abbrev pub names : List Field → List (List ℕ)
-names fields = map (λ (f : Field). f.name) fields
-
--- the name at a place
-pub name_there : (fields : List Field) (i : ℕ) (f : Field) → i < length fields → f ≡ get_or fields i f → field_at (names fields) i ≡ Some f.name
+-- one text of the header more, and all of them
+pub header_more : (texts done : List (List ℕ)) (x y : List ℕ) (i j : ℕ) → done ≡ header_of (take i texts) → Some x ≡ field_at texts i → y ≡ (if length done == 0 then without_marks x else x) → j ≡ i + 1
+    → done ++ y ∷ [] ≡ header_of (take j texts)
 unfolding field_at
-name_there [] i f lt e = absurd (omega arith)
-name_there (g ∷ fields) zero f lt e = ap (λ (h : Field). Some h.name) (sym e)
-name_there (g ∷ fields) (suc i) f lt e = name_there fields i f (omega arith) e
+header_more [] done x y i j e at shown next = cc at
+header_more (t ∷ texts) [] x y zero j e at shown next =
+    let first : x ≡ t = cc at in
+    let one : j ≡ 1 = omega arith in
+    rw (one, shown, first) refl
+header_more (t ∷ texts) (d ∷ done) x y zero j e at shown next = cc e
+header_more (t ∷ texts) [] x y (suc i) j e at shown next = cc e
+header_more (t ∷ texts) (d ∷ done) x y (suc i) j e at shown next =
+    let head : d ≡ without_marks t = cc e in
+    let rest : done ≡ take i texts = cc e in
+    let more : done ++ x ∷ [] ≡ take (i + 1) texts = copied_more texts done x i (i + 1) rest at refl in
+    let far : j ≡ suc (i + 1) = omega arith in
+    let later : (length (d ∷ done) == 0) ≡ false = grind (arith, nat_tests) in
+    let same : y ≡ x = shown ∙ rw later refl in
+    rw (far, same, head, more) refl
 
--- texts that are the names up to a place, and one place more
-pub names_more : (fields : List Field) (texts : List (List ℕ)) (i : ℕ) (f : Field) (x : List ℕ) → take i texts ≡ take i (names fields) → i < length fields → f ≡ get_or fields i f
-    → Some x ≡ field_at texts i → x ≡ f.name → take (suc i) texts ≡ take (suc i) (names fields)
-unfolding field_at
-names_more fields [] i f x h lt e at same = cc at
-names_more [] (t ∷ texts) i f x h lt e at same = absurd (omega arith)
-names_more (g ∷ fields) (t ∷ texts) zero f x h lt e at same = let first : t ≡ g.name = cc (at, same, e) in ap (λ (u : List ℕ). u ∷ []) first
-names_more (g ∷ fields) (t ∷ texts) (suc i) f x h lt e at same =
-    let first : t ≡ g.name = cc h in
-    let rest : take i texts ≡ take i (names fields) = cc h in
-    ap (λ (u : List ℕ). u ∷ take (suc i) texts) first ∙ ap (λ (us : List (List ℕ)). g.name ∷ us) (names_more fields texts i f x rest (omega arith) e at same)
+pub header_all : (texts done : List (List ℕ)) (i : ℕ) → done ≡ header_of (take i texts) → None ≡ field_at texts i → done ≡ header_of texts
+header_all texts done i e at = e ∙ ap header_of (take_all i texts (field_past texts i at))
 
-pub names_all : (fields : List Field) (texts : List (List ℕ)) (i : ℕ) → length texts ≡ length fields → length fields ≤ i → take i texts ≡ take i (names fields) → texts ≡ names fields
-names_all fields texts i same past h =
-    let all : length texts ≤ i = omega arith in
-    let named : length (names fields) ≤ i = omega (arith, length-map fields (λ (f : Field). f.name)) in
-    sym (take_all i texts all) ∙ h ∙ take_all i (names fields) named
-
--- where the texts are the names, each text is its field's name
-pub text_is_name : (fields : List Field) (texts : List (List ℕ)) (i : ℕ) (f : Field) (x : List ℕ) → texts ≡ names fields → i < length fields → f ≡ get_or fields i f → Some x ≡ field_at texts i → x ≡ f.name
-text_is_name fields texts i f x named lt e at =
-    let there = name_there fields i f lt e in
-    let both : Some x ≡ Some f.name = rw named at at ∙ there in
-    cc both
-
-pub name_not_missing : (fields : List Field) (texts : List (List ℕ)) (i : ℕ) (f : Field) → texts ≡ names fields → i < length fields → f ≡ get_or fields i f → None ≡ field_at texts i → ⊥
-name_not_missing fields texts i f named lt e at =
-    let there = name_there fields i f lt e in
-    let both : ◌≡◌ {A = Option (List ℕ)} None (Some f.name) = rw named at at ∙ there in
-    cc both
+-- the header has as many texts as the first record
+pub header_length : (texts : List (List ℕ)) → length (header_of texts) ≡ length texts
+header_length [] = refl
+header_length (t ∷ texts) = refl

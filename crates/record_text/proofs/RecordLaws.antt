@@ -1,8 +1,6 @@
 use Rattle.std.proofs.Common.{Bor, ◌≡◌, ◌∙◌, sym, ap, ℕ, zero, suc, ◌+◌, ◌<◌, ◌≤◌, List, [], ◌∷◌, ◌++◌, length, take, get_or, Option, Some, None, refl, arith}
 use Rattle.std.specs.Prelude.{IsSome, option_map}
-use Rattle.std.specs.List.{range_with_len}
-use Rattle.std.proofs.lemmas.List.FromFn.{map-range_with_len_more}
-use Rattle.std.proofs.lemmas.List.{map-id, take_all, take_more}
+use Rattle.std.proofs.lemmas.List.{take_all, take_more}
 use Rattle.csv.specs.Records.{field_at}
 use Rattle.csv.proofs.RecordFacts.{field-get, field-there}
 
@@ -37,7 +35,3 @@ copied_more texts done x i j e at next =
 
 pub copied_all : (texts done : List (List ℕ)) (i : ℕ) → done ≡ take i texts → None ≡ field_at texts i → done ≡ texts
 copied_all texts done i e at = e ∙ take_all i texts (field_past texts i at)
-
--- the first numbers, with one more
-pub first_more : (n : ℕ) → range_with_len 0 (n + 1) ≡ range_with_len 0 n ++ n ∷ []
-first_more n = simp map-id at (map-range_with_len_more (λ (k : ℕ). k) 0 n n (omega arith))

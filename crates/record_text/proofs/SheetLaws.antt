@@ -1,103 +1,100 @@
-use Rattle.std.proofs.Common.{◌≡◌, ◌∙◌, sym, ap, subst, ℕ, zero, suc, ◌<◌, List, [], ◌∷◌, ◌++◌, length, get_or, None, refl, arith, append-nil}
-use Rattle.std.specs.Prelude.{All}
-use Rattle.std.proofs.lemmas.List.{length-map}
+-- What a sheet, and a fault, of a record file say: there is one of them, and callers may rely on what follows here.
+use Rattle.std.proofs.Common.{◌≡◌, ◌≢◌, ◌∙◌, sym, ap, ℕ, ◌<◌, ◌≤◌, List, ◌∷◌, length, Some, Result, Ok, Err, All, AllPairs, arith}
+use Rattle.std.specs.Result.{IfErr}
 use Rattle.std.specs.List.{AllByRecursion}
-use Rattle.csv.specs.Machine.{Read, next_record}
-use Rattle.csv.specs.Reading.{AreRecords, Reached, default_config, strip_bom}
-use Rattle.csv.specs.declared.parser.Config.{Config}
-use Rattle.csv.specs.declared.parser.State.{State}
+use Rattle.csv.specs.Reading.{default_config, strip_bom}
 use Rattle.csv.specs.declared.parser.State.TheVariants as st
 use Rattle.edit_model.specs.Rows.{IsRow}
-use Rattle.edit_model.specs.Surveys.{IsNumber}
 use Rattle.edit_model.specs.declared.field.Field.{Field}
-use Rattle.edit_model.specs.declared.value.Value.{Value}
-use Rattle.record_text.specs.Sheets.{IsSheet, SheetParts}
+use Rattle.record_text.specs.Faults.{sheet_fault}
+use Rattle.record_text.specs.Sheets.{AreRecordsOf, IsSheet, IsSheetFault, SheetParts}
 use Rattle.record_text.specs.Texts.{AreEquallyLong}
-use Rattle.record_text.specs.Values.{AreRows, AreValues}
-use Rattle.record_text.proofs.FieldCount.{header_has_field}
-use Rattle.record_text.proofs.ValueLaws.{texts_length, values_are_row}
+use Rattle.record_text.specs.declared.fault.SheetFault.{SheetFault}
+use Rattle.record_text.specs.declared.fault.SheetFault.TheVariants.{OutOfMemory}
+use Rattle.record_text.proofs.AllRecords.{same_records}
+use Rattle.record_text.proofs.ColumnLaws.{columns_distinct, columns_within, one_column_each, same_columns}
+use Rattle.record_text.proofs.FaultLaws.{faultless_parts, few_rows, rows_equally_long}
+use Rattle.record_text.proofs.FieldCount.{first_has_field}
+use Rattle.record_text.proofs.HeaderLaws.{header_length}
+use Rattle.record_text.proofs.ValueLaws.{all_are_rows, rows_length}
+use Rattle.record_text.proofs.ValueOnce.{rows_once}
 
--- all records of a text begin with those that were reached in it, and the others are those from there on
-pub records_follow : (cfg : Config) (s t : State) (xs ys : List ℕ) (done all : List (List (List ℕ))) → Reached cfg s xs done t ys → AreRecords cfg s xs all
-    → (rest : List (List (List ℕ))) × (all ≡ done ++ rest) × AreRecords cfg t ys rest
-unfolding Reached
-records_follow cfg s t xs ys [] all reached records = (all, refl, rw (reached.0, reached.1) at records)
-records_follow cfg s t xs ys (d ∷ done) [] reached records =
-    let none : next_record cfg s [] [] xs ≡ None = rw (records.2.0, records.2.1) records.3 in
-    cc (none, reached.1)
-records_follow cfg s t xs ys (d ∷ done) (a ∷ all) reached records =
-    let same : records.2.0 ≡ reached.0 = cc (records.2.1, reached.1) in
-    let first : a ≡ d = records.2.2 ∙ ap (λ (p : Read). p.0) same ∙ sym reached.2 in
-    let later : AreRecords cfg reached.0.1 reached.0.2 all = subst (λ (p : Read). AreRecords cfg p.1 p.2 all) same (records.0, records.1, records.2.3, records.3) in
-    let (rest, more, after) = records_follow cfg reached.0.1 t reached.0.2 ys done all reached.3 later in
-    (rest, ap (λ (r : List (List ℕ)). r ∷ all) first ∙ ap (λ (rs : List (List (List ℕ))). d ∷ rs) more, after)
+-- ---- one answer
 
--- a text has one list of records
-pub same_records : (cfg : Config) (s : State) (xs : List ℕ) (a b : List (List (List ℕ))) → AreRecords cfg s xs a → AreRecords cfg s xs b → b ≡ a
-unfolding Reached
-same_records cfg s xs a b (t, ys, reached, none) records =
-    let (rest, all, after) = records_follow cfg s t xs ys a b reached records in
-    none_left rest all after
-  where
-    none_left : (rest : List (List (List ℕ))) → b ≡ a ++ rest → AreRecords cfg t ys rest → b ≡ a
-    none_left [] all after = all ∙ append-nil a
-    none_left (r ∷ rest) all after = cc (none, after.2.1)
+-- bytes have one list of records
+records_of : (bytes : List ℕ) (a b : List (List (List ℕ))) → AreRecordsOf bytes a → AreRecordsOf bytes b → b ≡ a
+records_of bytes a b = same_records default_config st.StartRecord (strip_bom (strip_bom bytes)) a b
 
--- bytes have one sheet: one header, the same columns, the same texts, and the values that the texts stand for
-pub same_sheet : (fields : List Field) (bytes : List ℕ) (a b : SheetParts) → IsSheet fields bytes a → IsSheet fields bytes b
-    → (a.header ≡ b.header) × (a.columns ≡ b.columns) × (a.raws ≡ b.raws) × AreRows fields a.raws b.rows
+-- bytes have one fault
+pub same_sheet_fault : (fields : List Field) (bytes : List ℕ) (a b : SheetFault) → IsSheetFault fields bytes a → IsSheetFault fields bytes b → a ≡ b
+same_sheet_fault fields bytes a b is other =
+    let records = records_of bytes is.records other.records is.given other.given in
+    let found : sheet_fault fields other.records ≡ Some a = ap (sheet_fault fields) records ∙ is.found in
+    cc (found, other.found)
+
+-- bytes with a fault have no sheet
+pub sheet_excludes_fault : (fields : List Field) (bytes : List ℕ) (sheet : SheetParts) (fault : SheetFault) → IsSheet fields bytes sheet → ¬ IsSheetFault fields bytes fault
+sheet_excludes_fault fields bytes sheet fault is other =
+    let records = records_of bytes (is.first ∷ sheet.raws) other.records is.given other.given in
+    let found : sheet_fault fields (is.first ∷ sheet.raws) ≡ Some fault = ap (sheet_fault fields) (sym records) ∙ other.found in
+    cc (found, is.faultless)
+
+-- so where a fault is answered there is no sheet
+pub unread_by_fault : {T : Type 0} (fields : List Field) (bytes : List ℕ) (r : Result T SheetFault) → IfErr r (λ e. e ≢ OutOfMemory → IsSheetFault fields bytes e)
+    → IfErr r (λ e. e ≢ OutOfMemory → (sheet : SheetParts) → ¬ IsSheet fields bytes sheet)
+unread_by_fault fields bytes (Ok t) found = tt
+unread_by_fault fields bytes (Err e) found = λ other sheet is. sheet_excludes_fault fields bytes sheet e is (found other)
+
+-- bytes have one sheet: one header, and the same columns, texts and values
+pub same_sheet : (fields : List Field) (bytes : List ℕ) (a b : SheetParts) → IsSheet fields bytes a → IsSheet fields bytes b → (a.header ≡ b.header) × (a.columns ≡ b.columns) × (a.raws ≡ b.raws) × (a.rows ≡ b.rows)
 same_sheet fields bytes a b is other =
-    let records = same_records default_config st.StartRecord (strip_bom bytes) (b.header ∷ b.raws) (a.header ∷ a.raws) other.records is.records in
+    let records = records_of bytes (other.first ∷ b.raws) (is.first ∷ a.raws) other.given is.given in
+    let first : is.first ≡ other.first = cc records in
     let raws : a.raws ≡ b.raws = cc records in
-    (is.header ∙ sym other.header, is.columns ∙ sym other.columns, raws, rw raws other.values)
+    let header : a.header ≡ b.header = cc (is.header, other.header, first) in
+    let columns : a.columns ≡ b.columns = same_columns fields b.header a.columns b.columns (rw header at is.columns) other.columns in
+    (header, columns, raws, rows_once fields b.columns b.raws a.rows b.rows (rw (columns, raws) at is.values) other.values)
 
--- the header has a text for each field
-pub header_length : (fields : List Field) (bytes : List ℕ) (sheet : SheetParts) → IsSheet fields bytes sheet → length sheet.header ≡ length fields
-header_length fields bytes sheet is = ap (λ (texts : List (List ℕ)). length texts) is.header ∙ length-map fields (λ (f : Field). f.name)
+-- ---- what a sheet is like
 
--- a survey that has a sheet has a field
-pub has_field : (fields : List Field) (bytes : List ℕ) (sheet : SheetParts) → IsSheet fields bytes sheet → 0 < length fields
-has_field fields bytes sheet is =
-    let some = header_has_field fields bytes sheet is in
-    let names = header_length fields bytes sheet is in
-    omega arith
+module _ (fields : List Field) (bytes : List ℕ) (sheet : SheetParts) (is : IsSheet fields bytes sheet) where
+  first_length : length sheet.header ≡ length is.first
+  first_length = ap (λ (texts : List (List ℕ)). length texts) is.header ∙ header_length is.first
 
--- the texts and the values of the row of a number belong together
-pub values_at : (fields : List Field) (raws : List (List (List ℕ))) (rows : List (List Value)) (i : ℕ) → AreRows fields raws rows → i < length rows → AreValues fields (get_or raws i []) (get_or rows i [])
-values_at fields [] [] i h lt = absurd (omega arith)
-values_at fields [] (row ∷ rows) i h lt = absurd h
-values_at fields (raw ∷ raws) [] i h lt = absurd h
-values_at fields (raw ∷ raws) (row ∷ rows) zero h lt = h.0
-values_at fields (raw ∷ raws) (row ∷ rows) (suc i) h lt = values_at fields raws rows i h.1 (omega arith)
+  -- the header has at least one text
+  pub header_has_text : 1 ≤ length sheet.header
+  header_has_text =
+      let some = first_has_field default_config st.StartRecord (strip_bom (strip_bom bytes)) is.first sheet.raws is.given in
+      omega (arith, first_length)
 
--- each row is a record of the survey
-pub row_at : (fields : List Field) (bytes : List ℕ) (sheet : SheetParts) (i : ℕ) → All (λ (f : Field). IsNumber f.kind) fields → IsSheet fields bytes sheet → i < length sheet.rows
-    → IsRow fields (get_or sheet.rows i [])
-row_at fields bytes sheet i numerical is lt = values_are_row fields (get_or sheet.raws i []) (get_or sheet.rows i []) numerical (values_at fields sheet.raws sheet.rows i is.values lt)
+  -- each row has as many texts as the header
+  pub raws_as_long_as_header : AllByRecursion (λ raw. length raw ≡ length sheet.header) sheet.raws
+  raws_as_long_as_header = rw first_length (rows_equally_long 0 (length is.first) sheet.raws (faultless_parts fields is.first sheet.raws is.faultless).2)
 
--- and has a text for each field
-pub texts_at : (fields : List Field) (bytes : List ℕ) (sheet : SheetParts) (i : ℕ) → IsSheet fields bytes sheet → i < length sheet.rows → length (get_or sheet.raws i []) ≡ length fields
-texts_at fields bytes sheet i is lt = texts_length fields (get_or sheet.raws i []) (get_or sheet.rows i []) (values_at fields sheet.raws sheet.rows i is.values lt)
+  -- there are as many texts as values of rows, at most 200,000
+  pub as_many_raws_as_rows : length sheet.raws ≡ length sheet.rows
+  as_many_raws_as_rows = rows_length fields sheet.columns sheet.raws sheet.rows is.values
 
--- the same of all rows
-all_rows : (fields : List Field) (raws : List (List (List ℕ))) (rows : List (List Value)) → All (λ (f : Field). IsNumber f.kind) fields → AreRows fields raws rows → AllByRecursion (IsRow fields) rows
-all_rows fields [] [] numerical h = tt
-all_rows fields [] (row ∷ rows) numerical h = absurd h
-all_rows fields (raw ∷ raws) [] numerical h = absurd h
-all_rows fields (raw ∷ raws) (row ∷ rows) numerical h = (values_are_row fields raw row numerical h.0, all_rows fields raws rows numerical h.1)
+  pub few_sheet_rows : length sheet.rows ≤ 200000
+  few_sheet_rows =
+      let few = few_rows 0 (length is.first) sheet.raws (omega arith) (faultless_parts fields is.first sheet.raws is.faultless).2 in
+      omega (arith, as_many_raws_as_rows)
 
-pub rows_are_records : (fields : List Field) (bytes : List ℕ) (sheet : SheetParts) → All (λ (f : Field). IsNumber f.kind) fields → IsSheet fields bytes sheet → AllByRecursion (IsRow fields) sheet.rows
-rows_are_records fields bytes sheet numerical is = all_rows fields sheet.raws sheet.rows numerical is.values
+  -- there is one column for each field, and it is one of the header's
+  pub one_column_a_field : length sheet.columns ≡ length fields
+  one_column_a_field = one_column_each fields sheet.header sheet.columns is.columns
 
-all_texts : (fields : List Field) (raws : List (List (List ℕ))) (rows : List (List Value)) → AreRows fields raws rows → AllByRecursion (λ texts. length texts ≡ length fields) raws
-all_texts fields [] [] h = tt
-all_texts fields [] (row ∷ rows) h = absurd h
-all_texts fields (raw ∷ raws) [] h = absurd h
-all_texts fields (raw ∷ raws) (row ∷ rows) h = (texts_length fields raw row h.0, all_texts fields raws rows h.1)
+  pub columns_in_header : All (λ column. column < length sheet.header) sheet.columns
+  columns_in_header = columns_within fields sheet.header sheet.columns is.columns
 
--- the header and the texts of all rows may be written
-pub sheet_is_written : (fields : List Field) (bytes : List ℕ) (sheet : SheetParts) → IsSheet fields bytes sheet → AreEquallyLong (sheet.header ∷ sheet.raws)
-sheet_is_written fields bytes sheet is =
-    let size = header_length fields bytes sheet is in
-    let some = has_field fields bytes sheet is in
-    (omega arith, rw size (all_texts fields sheet.raws sheet.rows is.values))
+  -- fields of distinct names have distinct columns
+  pub distinct_columns : AllPairs (λ (f : Field) (g : Field). f.name ≢ g.name) fields → AllPairs (λ (c : ℕ) (d : ℕ). c ≢ d) sheet.columns
+  distinct_columns names = columns_distinct fields sheet.header sheet.columns names is.columns
+
+  -- each row is a record of the survey
+  pub rows_are_records : AllByRecursion (IsRow fields) sheet.rows
+  rows_are_records = all_are_rows fields sheet.columns sheet.raws sheet.rows is.values
+
+  -- the header and the texts of all rows may be written
+  pub sheet_is_written : AreEquallyLong (sheet.header ∷ sheet.raws)
+  sheet_is_written = (header_has_text, raws_as_long_as_header)

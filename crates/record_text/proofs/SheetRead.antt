@@ -1,58 +1,61 @@
-use Rattle.std.proofs.Common.{◌≡◌, ◌≢◌, ◌∙◌, sym, ℕ, List, [], ◌∷◌, length, Some, None, refl}
-use Rattle.std.specs.List.{range_with_len}
+use Rattle.std.proofs.Common.{◌≡◌, refl, ℕ, List, [], ◌∷◌, length, Some, None, true, false, nat_lt}
 use Rattle.csv.specs.Machine.{next_record}
 use Rattle.csv.specs.Reading.{AreRecords, Reached, default_config, strip_bom}
 use Rattle.csv.specs.declared.parser.State.TheVariants as st
 use Rattle.edit_model.specs.declared.field.Field.{Field}
-use Rattle.edit_model.specs.declared.value.Value.{Value}
-use Rattle.record_text.specs.Places.{AreRowsFrom, Place}
-use Rattle.record_text.specs.Sheets.{IsSheet, SheetParts}
-use Rattle.record_text.proofs.HeaderLaws.{names}
-use Rattle.record_text.proofs.SheetLaws.{records_follow}
+use Rattle.record_text.specs.Columns.{StandIn}
+use Rattle.record_text.specs.Faults.{column_fault, sheet_fault}
+use Rattle.record_text.specs.Places.{AreRowsFrom, IsRowFault, Place}
+use Rattle.record_text.specs.Sheets.{AreRecordsOf, IsSheet, IsSheetFault, SheetParts}
+use Rattle.record_text.specs.Trimming.{header_of}
+use Rattle.record_text.specs.declared.fault.SheetFault.{SheetFault}
+use Rattle.record_text.specs.declared.fault.SheetFault.TheVariants.{NoHeader, TooManyColumns}
+use Rattle.record_text.proofs.AllRecords.{has_records}
+use Rattle.record_text.proofs.ColumnLaws.{stand_faultless}
 
 -- the place before the first record
 abbrev pub start_of : List ℕ → Place
-start_of bytes = record { state = st.StartRecord; left = strip_bom bytes }
+start_of bytes = record { state = st.StartRecord; left = strip_bom (strip_bom bytes) }
 
--- the first record of the bytes has these texts, and the second begins there
-abbrev pub BeginsWith : List ℕ → List (List ℕ) → Place → Type 0
-BeginsWith bytes texts there = next_record default_config st.StartRecord [] [] (strip_bom bytes) ≡ Some (texts, there.state, there.left)
-
--- bytes without a record have no sheet
-pub no_sheet_without_record : (fields : List Field) (bytes : List ℕ) (sheet : SheetParts) → next_record default_config st.StartRecord [] [] (strip_bom bytes) ≡ None → ¬ IsSheet fields bytes sheet
+-- bytes without a record
+pub no_header : (fields : List Field) (bytes : List ℕ) → next_record default_config st.StartRecord [] [] (strip_bom (strip_bom bytes)) ≡ None → IsSheetFault fields bytes NoHeader
 unfolding Reached
-no_sheet_without_record fields bytes sheet none is = cc (none, is.records.2.1)
+no_header fields bytes none = record { records = []; given = (st.StartRecord, strip_bom (strip_bom bytes), (refl, refl), none); found = refl }
 
--- the records of a sheet, from the second on
-later_records : (fields : List Field) (bytes : List ℕ) (texts : List (List ℕ)) (there : Place) (sheet : SheetParts) → BeginsWith bytes texts there → IsSheet fields bytes sheet
-    → (sheet.header ≡ texts) × AreRecords default_config there.state there.left sheet.raws
-unfolding Reached
-later_records fields bytes texts there sheet begins is =
-    let first : Reached default_config st.StartRecord (strip_bom bytes) (texts ∷ []) there.state there.left = ((texts, there.state, there.left), begins, refl, (refl, refl)) in
-    let (rest, all, after) = records_follow default_config st.StartRecord there.state (strip_bom bytes) there.left (texts ∷ []) (sheet.header ∷ sheet.raws) first is.records in
-    let header : sheet.header ≡ texts = cc all in
-    let raws : sheet.raws ≡ rest = cc all in
-    (header, rw raws after)
+-- bytes whose first record has these texts, and whose second begins there
+module _ (fields : List Field) (bytes : List ℕ) (texts : List (List ℕ)) (there : Place)
+    (begins : next_record default_config st.StartRecord [] [] (strip_bom (strip_bom bytes)) ≡ Some (texts, there.state, there.left)) where
+  -- the first record and those behind it are all records
+  all_records : (rest : List (List (List ℕ))) → AreRecords default_config there.state there.left rest → AreRecordsOf bytes (texts ∷ rest)
+  unfolding Reached
+  all_records rest (t, ys, reached, ended) = (t, ys, ((texts, there.state, there.left), begins, refl, reached), ended)
 
-pub no_sheet_by_header : (fields : List Field) (bytes : List ℕ) (texts : List (List ℕ)) (there : Place) (sheet : SheetParts) → BeginsWith bytes texts there → texts ≢ names fields → ¬ IsSheet fields bytes sheet
-no_sheet_by_header fields bytes texts there sheet begins other is =
-    let later = later_records fields bytes texts there sheet begins is in
-    other (sym later.0 ∙ is.header)
+  fault_in_header : (fault : SheetFault) → ((rest : List (List (List ℕ))) → sheet_fault fields (texts ∷ rest) ≡ Some fault) → IsSheetFault fields bytes fault
+  fault_in_header fault found =
+      let (rest, records) = has_records default_config there.state there.left in
+      record { records = texts ∷ rest; given = all_records rest records; found = found rest }
 
-pub no_sheet_by_rows : (fields : List Field) (bytes : List ℕ) (texts : List (List ℕ)) (there : Place) (sheet : SheetParts) → BeginsWith bytes texts there
-    → ((raws : List (List (List ℕ))) (rows : List (List Value)) → ¬ AreRowsFrom fields there raws rows) → ¬ IsSheet fields bytes sheet
-no_sheet_by_rows fields bytes texts there sheet begins none is =
-    let later = later_records fields bytes texts there sheet begins is in
-    none sheet.raws sheet.rows (record { records = later.1; few = is.few; values = is.values })
+  pub too_many_columns : nat_lt 256 (length texts) ≡ true → IsSheetFault fields bytes TooManyColumns
+  too_many_columns many = fault_in_header TooManyColumns (λ rest. rw many refl)
 
--- the header and the rows behind it are the sheet
-pub sheet_read : (fields : List Field) (bytes : List ℕ) (texts : List (List ℕ)) (there : Place) (sheet : SheetParts) → BeginsWith bytes texts there → texts ≡ names fields
-    → AreRowsFrom fields there sheet.raws sheet.rows → sheet.header ≡ texts → sheet.columns ≡ range_with_len 0 (length fields) → IsSheet fields bytes sheet
-unfolding Reached
-sheet_read fields bytes texts there sheet begins named rows header columns = record {
-  records = (rows.records.0, rows.records.1, ((texts, there.state, there.left), begins, header, rows.records.2), rows.records.3);
-  header = header ∙ named;
-  columns = columns;
-  few = rows.few;
-  values = rows.values;
-}
+  pub faulty_columns : (fault : SheetFault) → nat_lt 256 (length texts) ≡ false → column_fault 0 fields (header_of texts) ≡ Some fault → IsSheetFault fields bytes fault
+  faulty_columns fault few found = fault_in_header fault (λ rest. rw (few, found) refl)
+
+  pub faulty_rows : (fault : SheetFault) (columns : List ℕ) → nat_lt 256 (length texts) ≡ false → StandIn fields (header_of texts) columns → IsRowFault (length texts) there fault → IsSheetFault fields bytes fault
+  faulty_rows fault columns few stand row = record {
+    records = texts ∷ row.raws;
+    given = all_records row.raws row.records;
+    found = rw (few, stand_faultless fields (header_of texts) columns 0 stand) row.found;
+  }
+
+  -- nothing is wrong, and these are the parts of the sheet
+  pub sheet_read : (sheet : SheetParts) → nat_lt 256 (length texts) ≡ false → sheet.header ≡ header_of texts → StandIn fields (header_of texts) sheet.columns
+      → AreRowsFrom fields sheet.columns (length texts) there sheet.raws sheet.rows → IsSheet fields bytes sheet
+  sheet_read sheet few header stand rows = record {
+    first = texts;
+    given = all_records sheet.raws rows.records;
+    faultless = rw (few, stand_faultless fields (header_of texts) sheet.columns 0 stand) rows.faultless;
+    header = header;
+    columns = rw header stand;
+    values = rows.values;
+  }

@@ -1,98 +1,76 @@
-use Rattle.std.proofs.Common.{◌≡◌, refl, ℕ, zero, suc, ◌≤◌, List, [], ◌∷◌, ◌++◌, length, take, true, false, Bool, Some, arith}
-use Rattle.std.proofs.lemmas.List.{take_all}
-use Rattle.std.specs.Prelude.{All, ◌==◌, neg_ℤ, pos, ℤ}
-use Rattle.std.specs.Bool.{MatchBool}
-use Rattle.std.specs.Str.Parse.{digits_value}
-use Rattle.csv.specs.Records.{field_at}
+use Rattle.std.proofs.Common.{◌≡◌, refl, ℕ, zero, suc, ◌<◌, List, [], ◌∷◌, ◌++◌, length, take, get_or, arith}
+use Rattle.std.proofs.lemmas.List.Quantifiers.{position-Some}
+use Rattle.std.specs.List.{AllByRecursion}
+use Rattle.std.specs.Str.{bytes_eq}
 use Rattle.edit_model.specs.Rows.{IsOfKind, IsRow}
-use Rattle.edit_model.specs.Surveys.{IsNumber}
 use Rattle.edit_model.specs.declared.field.Field.{Field}
 use Rattle.edit_model.specs.declared.field.Kind.{Kind}
 use Rattle.edit_model.specs.declared.field.Kind.TheVariants as kind
 use Rattle.edit_model.specs.declared.value.Value.{Value}
-use Rattle.record_text.specs.Values.{AreRows, AreValues, IsShortNumeral, IsValueText, IsWhole}
+use Rattle.edit_model.specs.declared.value.Value.TheVariants.{Code, Number, Bad}
+use Rattle.record_text.specs.Trimming.{trimmed}
+use Rattle.record_text.specs.Values.{AreRows, AreValues, IsValueText}
 
--- there are as many texts as fields
-pub texts_length : (fields : List Field) (texts : List (List ℕ)) (values : List Value) → AreValues fields texts values → length texts ≡ length fields
-texts_length [] [] [] h = refl
-texts_length [] [] (v ∷ values) h = absurd h
-texts_length [] (t ∷ texts) [] h = absurd h
-texts_length [] (t ∷ texts) (v ∷ values) h = absurd h
-texts_length (f ∷ fields) [] [] h = absurd h
-texts_length (f ∷ fields) [] (v ∷ values) h = absurd h
-texts_length (f ∷ fields) (t ∷ texts) [] h = absurd h
-texts_length (f ∷ fields) (t ∷ texts) (v ∷ values) h = omega (arith, texts_length fields texts values h.1)
+-- ---- one row
 
--- one text and its value more
-pub values_more : (fields : List Field) (texts : List (List ℕ)) (values : List Value) (i : ℕ) (x : List ℕ) (v : Value) → length texts ≡ length fields
-    → AreValues (take i fields) (take i texts) values → Some x ≡ field_at texts i → IsValueText x v → AreValues (take (suc i) fields) (take (suc i) texts) (values ++ v ∷ [])
-unfolding field_at
-values_more fields [] values i x v same h at value = cc at
-values_more [] (t ∷ texts) values i x v same h at value = absurd (omega arith)
-values_more (f ∷ fields) (t ∷ texts) [] zero x v same h at value = let e : x ≡ t = cc at in (rw e at value, tt)
-values_more (f ∷ fields) (t ∷ texts) (w ∷ values) zero x v same h at value = absurd h
-values_more (f ∷ fields) (t ∷ texts) [] (suc i) x v same h at value = absurd h
-values_more (f ∷ fields) (t ∷ texts) (w ∷ values) (suc i) x v same h at value = (h.0, values_more fields texts values i x v (omega arith) h.1 at value)
+-- the value of one field more
+pub values_more : (fields : List Field) (columns : List ℕ) (raw : List (List ℕ)) (values : List Value) (i : ℕ) (field : Field) (v : Value) → i < length fields → length columns ≡ length fields
+    → field ≡ get_or fields i field → AreValues (take i fields) (take i columns) raw values → IsValueText field.kind (get_or raw (get_or columns i 0) []) v
+    → AreValues (take (suc i) fields) (take (suc i) columns) raw (values ++ v ∷ [])
+values_more [] columns raw values i field v lt same e h value = absurd (omega arith)
+values_more (f ∷ fields) [] raw values i field v lt same e h value = absurd (omega arith)
+values_more (f ∷ fields) (c ∷ columns) raw [] zero field v lt same e h value = (rw e at value, tt)
+values_more (f ∷ fields) (c ∷ columns) raw (w ∷ values) zero field v lt same e h value = absurd h
+values_more (f ∷ fields) (c ∷ columns) raw [] (suc i) field v lt same e h value = absurd h
+values_more (f ∷ fields) (c ∷ columns) raw (w ∷ values) (suc i) field v lt same e h value = (h.0, values_more fields columns raw values i field v (omega arith) (omega arith) e h.1 value)
 
--- all of them
-pub values_all : (fields : List Field) (texts : List (List ℕ)) (values : List Value) (i : ℕ) → length texts ≡ length fields → length texts ≤ i
-    → AreValues (take i fields) (take i texts) values → AreValues fields texts values
-values_all fields texts values i same past h =
-    let all : length fields ≤ i = omega arith in
-    rw (take_all i fields all, take_all i texts past) at h
+-- the value of a text is of the field's kind, or Bad
+value_is_of_kind : (k : Kind) (text : List ℕ) (v : Value) → IsValueText k text v → IsOfKind k v
+value_is_of_kind (kind.Number scale) text (Number x) is = tt
+value_is_of_kind (kind.Number scale) text (Code c) is = absurd is
+value_is_of_kind (kind.Number scale) text Bad is = tt
+value_is_of_kind (kind.Code codes) text (Number x) is = absurd is
+value_is_of_kind (kind.Code codes) text (Code c) is = (position-Some (λ code. bytes_eq code (trimmed text)) codes c [] is).0
+value_is_of_kind (kind.Code codes) text Bad is = tt
 
--- each text has a value
-pub text_has_value : (fields : List Field) (texts : List (List ℕ)) (values : List Value) (i : ℕ) (x : List ℕ) → AreValues fields texts values → Some x ≡ field_at texts i → (v : Value) × IsValueText x v
-unfolding field_at
-text_has_value fields [] values i x h at = cc at
-text_has_value [] (t ∷ texts) [] i x h at = absurd h
-text_has_value [] (t ∷ texts) (v ∷ values) i x h at = absurd h
-text_has_value (f ∷ fields) (t ∷ texts) [] i x h at = absurd h
-text_has_value (f ∷ fields) (t ∷ texts) (v ∷ values) zero x h at = let e : x ≡ t = cc at in (v, rw e h.0)
-text_has_value (f ∷ fields) (t ∷ texts) (v ∷ values) (suc i) x h at = text_has_value fields texts values i x h.1 at
+-- the values of a row's texts are a record of the survey
+pub values_are_row : (fields : List Field) (columns : List ℕ) (raw : List (List ℕ)) (values : List Value) → AreValues fields columns raw values → IsRow fields values
+values_are_row [] [] raw [] h = tt
+values_are_row [] [] raw (v ∷ values) h = absurd h
+values_are_row [] (c ∷ columns) raw values h = absurd h
+values_are_row (f ∷ fields) [] raw values h = absurd h
+values_are_row (f ∷ fields) (c ∷ columns) raw [] h = absurd h
+values_are_row (f ∷ fields) (c ∷ columns) raw (v ∷ values) h = (value_is_of_kind f.kind (get_or raw c []) v h.0, values_are_row fields columns raw values h.1)
 
--- a whole number is a value of a numerical field
-whole_is_number : (k : Kind) (v : Value) (z : ℤ) → IsNumber k → IsWhole v z → IsOfKind k v
-whole_is_number (kind.Number scale) v z number whole = rw whole.1 tt
-whole_is_number (kind.Code codes) v z number whole = absurd number
+-- ---- all rows
 
-signed_is_number : (k : Kind) (v : Value) (b : Bool) (P Q : Type 0) (y z : ℤ) → IsNumber k → MatchBool b (P × IsWhole v y) (Q × IsWhole v z) → IsOfKind k v
-signed_is_number k v true P Q y z number h = whole_is_number k v y number h.1
-signed_is_number k v false P Q y z number h = whole_is_number k v z number h.1
+-- a row more
+pub rows_more : (fields : List Field) (columns : List ℕ) (raws : List (List (List ℕ))) (rows : List (List Value)) (raw : List (List ℕ)) (values : List Value)
+    → AreRows fields columns raws rows → AreValues fields columns raw values → AreRows fields columns (raws ++ raw ∷ []) (rows ++ values ∷ [])
+rows_more fields columns [] [] raw values h row = (row, tt)
+rows_more fields columns [] (w ∷ rows) raw values h row = absurd h
+rows_more fields columns (r ∷ raws) [] raw values h row = absurd h
+rows_more fields columns (r ∷ raws) (w ∷ rows) raw values h row = (h.0, rows_more fields columns raws rows raw values h.1 row)
 
-text_is_number : (k : Kind) (text : List ℕ) (v : Value) → IsNumber k → IsValueText text v → IsOfKind k v
-text_is_number k [] v number missing = rw missing tt
-text_is_number k (b ∷ bs) v number h = signed_is_number k v (b == 45) (IsShortNumeral bs) (IsShortNumeral (b ∷ bs)) (neg_ℤ (pos (digits_value 10 bs))) (pos (digits_value 10 (b ∷ bs))) number h
+-- there are as many texts as values
+pub rows_length : (fields : List Field) (columns : List ℕ) (raws : List (List (List ℕ))) (rows : List (List Value)) → AreRows fields columns raws rows → length raws ≡ length rows
+rows_length fields columns [] [] h = refl
+rows_length fields columns [] (w ∷ rows) h = absurd h
+rows_length fields columns (r ∷ raws) [] h = absurd h
+rows_length fields columns (r ∷ raws) (w ∷ rows) h = omega (arith, rows_length fields columns raws rows h.1)
 
--- values of numerical fields are a row of the survey
-pub values_are_row : (fields : List Field) (texts : List (List ℕ)) (values : List Value) → All (λ (f : Field). IsNumber f.kind) fields → AreValues fields texts values → IsRow fields values
-values_are_row [] [] [] numerical h = tt
-values_are_row [] [] (v ∷ values) numerical h = absurd h
-values_are_row [] (t ∷ texts) [] numerical h = absurd h
-values_are_row [] (t ∷ texts) (v ∷ values) numerical h = absurd h
-values_are_row (f ∷ fields) [] [] numerical h = absurd h
-values_are_row (f ∷ fields) [] (v ∷ values) numerical h = absurd h
-values_are_row (f ∷ fields) (t ∷ texts) [] numerical h = absurd h
-values_are_row (f ∷ fields) (t ∷ texts) (v ∷ values) numerical h =
-    (text_is_number f.kind t v (numerical zero f (omega arith)) h.0, values_are_row fields texts values (λ k d lt. numerical (suc k) d (omega arith)) h.1)
+-- the texts and the values of the row of a number belong together
+pub values_at : (fields : List Field) (columns : List ℕ) (raws : List (List (List ℕ))) (rows : List (List Value)) (i : ℕ) → AreRows fields columns raws rows → i < length rows
+    → AreValues fields columns (get_or raws i []) (get_or rows i [])
+values_at fields columns [] [] i h lt = absurd (omega arith)
+values_at fields columns [] (row ∷ rows) i h lt = absurd h
+values_at fields columns (raw ∷ raws) [] i h lt = absurd h
+values_at fields columns (raw ∷ raws) (row ∷ rows) zero h lt = h.0
+values_at fields columns (raw ∷ raws) (row ∷ rows) (suc i) h lt = values_at fields columns raws rows i h.1 (omega arith)
 
--- a row more, and the row among others
-pub rows_more : (fields : List Field) (raws : List (List (List ℕ))) (rows : List (List Value)) (texts : List (List ℕ)) (values : List Value)
-    → AreRows fields raws rows → AreValues fields texts values → AreRows fields (raws ++ texts ∷ []) (rows ++ values ∷ [])
-rows_more fields [] [] texts values h row = (row, tt)
-rows_more fields [] (w ∷ rows) texts values h row = absurd h
-rows_more fields (r ∷ raws) [] texts values h row = absurd h
-rows_more fields (r ∷ raws) (w ∷ rows) texts values h row = (h.0, rows_more fields raws rows texts values h.1 row)
-
-pub row_among : (fields : List Field) (raws rest : List (List (List ℕ))) (rows : List (List Value)) (texts : List (List ℕ))
-    → AreRows fields ((raws ++ texts ∷ []) ++ rest) rows → (values : List Value) × AreValues fields texts values
-row_among fields [] rest [] texts h = absurd h
-row_among fields [] rest (w ∷ rows) texts h = (w, h.0)
-row_among fields (r ∷ raws) rest [] texts h = absurd h
-row_among fields (r ∷ raws) rest (w ∷ rows) texts h = row_among fields raws rest rows texts h.1
-
-pub rows_length : (fields : List Field) (raws : List (List (List ℕ))) (rows : List (List Value)) → AreRows fields raws rows → length raws ≡ length rows
-rows_length fields [] [] h = refl
-rows_length fields [] (w ∷ rows) h = absurd h
-rows_length fields (r ∷ raws) [] h = absurd h
-rows_length fields (r ∷ raws) (w ∷ rows) h = omega (arith, rows_length fields raws rows h.1)
+-- each row is a record of the survey
+pub all_are_rows : (fields : List Field) (columns : List ℕ) (raws : List (List (List ℕ))) (rows : List (List Value)) → AreRows fields columns raws rows → AllByRecursion (IsRow fields) rows
+all_are_rows fields columns [] [] h = tt
+all_are_rows fields columns [] (row ∷ rows) h = absurd h
+all_are_rows fields columns (raw ∷ raws) [] h = absurd h
+all_are_rows fields columns (raw ∷ raws) (row ∷ rows) h = (values_are_row fields columns raw row h.0, all_are_rows fields columns raws rows h.1)

@@ -1,4 +1,4 @@
-use Rattle.std.specs.Prelude.{◌≡◌, ℕ, ◌≤◌, Bool, true, false, List, [], length, Some, None}
+use Rattle.std.specs.Prelude.{◌≡◌, ℕ, Bool, true, false, List, [], Some, None}
 use Rattle.std.specs.Borrow.{Bor}
 use Rattle.csv.specs.Machine.{next_record}
 use Rattle.csv.specs.Reading.{AreRecords, Ready, default_config, reader_config, reader_state, reader_trim, source_of}
@@ -7,7 +7,9 @@ use Rattle.csv.specs.declared.reader.Reader.{Reader}
 use Rattle.csv.specs.declared.reader.Trim.TheVariants as trim
 use Rattle.edit_model.specs.declared.field.Field.{Field}
 use Rattle.edit_model.specs.declared.value.Value.{Value}
+use Rattle.record_text.specs.Faults.{row_fault}
 use Rattle.record_text.specs.Values.{AreRows}
+use Rattle.record_text.specs.declared.fault.SheetFault.{SheetFault}
 
 -- a place in a record file: the state of csv's reader there, and the bytes that are left
 pub record Place : Type 0 where
@@ -27,8 +29,14 @@ abbrev pub Reads : Place → Bool → List (List ℕ) → Reader (Bor (List ℕ)
 Reads here true texts reader = (there : Place) × IsAt reader there × (next_record default_config here.state [] [] here.left ≡ Some (texts, there.state, there.left))
 Reads here false texts reader = next_record default_config here.state [] [] here.left ≡ None
 
--- these are all the records from a place on, few enough, and each has a value for each field
-pub record AreRowsFrom (fields : List Field) (here : Place) (raws : List (List (List ℕ))) (rows : List (List Value)) : Type 0 where
+-- these are all the records from a place on, none of them is faulty, and these are their values
+pub record AreRowsFrom (fields : List Field) (columns : List ℕ) (width : ℕ) (here : Place) (raws : List (List (List ℕ))) (rows : List (List Value)) : Type 0 where
   pub records : AreRecords default_config here.state here.left raws
-  pub few : length raws ≤ 200000
-  pub values : AreRows fields raws rows
+  pub faultless : row_fault 0 width raws ≡ None
+  pub values : AreRows fields columns raws rows
+
+-- the first faulty record from a place on has this fault
+pub record IsRowFault (width : ℕ) (here : Place) (fault : SheetFault) : Type 0 where
+  pub raws : List (List (List ℕ))
+  pub records : AreRecords default_config here.state here.left raws
+  pub found : row_fault 0 width raws ≡ Some fault

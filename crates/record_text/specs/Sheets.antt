@@ -1,10 +1,13 @@
-use Rattle.std.specs.Prelude.{◌≡◌, ℕ, ◌≤◌, List, ◌∷◌, length, map}
-use Rattle.std.specs.List.{range_with_len}
+use Rattle.std.specs.Prelude.{◌≡◌, ℕ, List, ◌∷◌, Some, None}
 use Rattle.csv.specs.Reading.{AreRecords, default_config, strip_bom}
 use Rattle.csv.specs.declared.parser.State.TheVariants as st
 use Rattle.edit_model.specs.declared.field.Field.{Field}
 use Rattle.edit_model.specs.declared.value.Value.{Value}
+use Rattle.record_text.specs.Columns.{StandIn}
+use Rattle.record_text.specs.Faults.{sheet_fault}
+use Rattle.record_text.specs.Trimming.{header_of}
 use Rattle.record_text.specs.Values.{AreRows}
+use Rattle.record_text.specs.declared.fault.SheetFault.{SheetFault}
 
 -- a record file as read: the header's texts, the column of each field, and for each row its texts and its values
 pub record SheetParts : Type 0 where
@@ -13,10 +16,21 @@ pub record SheetParts : Type 0 where
   pub raws : List (List (List ℕ))
   pub rows : List (List Value)
 
--- the sheet that the bytes give for these fields: csv's records are the header and the rows, the header is the fields' names in order, and each row has a text and its value for each field
+-- the records that csv gives by its default settings; one byte order mark is taken off before, and csv takes off one more
+abbrev pub AreRecordsOf : List ℕ → List (List (List ℕ)) → Type 0
+AreRecordsOf bytes records = AreRecords default_config st.StartRecord (strip_bom (strip_bom bytes)) records
+
+-- the sheet that the bytes give for these fields: nothing is wrong with their records, which are the header and the rows; each field stands in its column, and each row has the values of its texts there
 pub record IsSheet (fields : List Field) (bytes : List ℕ) (sheet : SheetParts) : Type 0 where
-  pub records : AreRecords default_config st.StartRecord (strip_bom bytes) (sheet.header ∷ sheet.raws)
-  pub header : sheet.header ≡ map (λ (f : Field). f.name) fields
-  pub columns : sheet.columns ≡ range_with_len 0 (length fields)
-  pub few : length sheet.raws ≤ 200000
-  pub values : AreRows fields sheet.raws sheet.rows
+  pub first : List (List ℕ)
+  pub given : AreRecordsOf bytes (first ∷ sheet.raws)
+  pub faultless : sheet_fault fields (first ∷ sheet.raws) ≡ None
+  pub header : sheet.header ≡ header_of first
+  pub columns : StandIn fields sheet.header sheet.columns
+  pub values : AreRows fields sheet.columns sheet.raws sheet.rows
+
+-- what is wrong with the bytes' records
+pub record IsSheetFault (fields : List Field) (bytes : List ℕ) (fault : SheetFault) : Type 0 where
+  pub records : List (List (List ℕ))
+  pub given : AreRecordsOf bytes records
+  pub found : sheet_fault fields records ≡ Some fault

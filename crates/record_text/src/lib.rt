@@ -1,13 +1,16 @@
-//! Record files: comma-separated texts, split and written by the crate `csv`. The form is stated in
-//! `specs/Sheets.antt` and `specs/Values.antt`. Begin with [`read_records`], [`Sheet`] and [`write_rows`].
+//! Record files: comma-separated texts, split and written by the crate `csv`. What the bytes of a file
+//! give is stated in `specs/Sheets.antt`, over `specs/Faults.antt` and `specs/Values.antt`. Begin with [`read_records`], [`Sheet`] and [`write_rows`].
 #![tactic(auto)]
 
+mod columns;
 mod fault;
 mod field_text;
+mod numeral;
 mod reading;
 mod sheet;
 mod stream;
 mod texts;
+mod trim;
 mod writing;
 
 pub use fault::SheetFault;

@@ -26,10 +26,12 @@ impl Model for Sheet {
     ghost invariant = { λ s. (length s.raws.items ≡ length s.rows.items) × (length s.rows.items ≤ 200000) };
 }
 
-/// The parts of a sheet: the header, and the texts and the values of its rows, in the order of the file.
+/// The parts of a sheet: the header, the column of each field, and the texts and the values of its rows, in
+/// the order of the file.
 #[derive(Debug, Drop)]
 pub struct SheetRows {
     pub header: Texts,
+    pub columns: Sequence<u32>,
     pub raws: Sequence<Texts>,
     pub rows: Sequence<Row>,
 }
@@ -100,14 +102,23 @@ impl Sheet {
         self.columns[field as usize]
     }
 
+    /// The column, from 0, of each field, in declared order. No memory.
+    pub fn columns(&self) -> &[u32]
+        ensures { result.now ≡ self.now.columns }
+    {
+        &self.columns
+    }
+
     /// The parts of the sheet, without a copy. No memory.
     pub fn into_parts(self) -> SheetRows
         ensures header { result.header ≡ self.header }
+        ensures columns { result.columns ≡ self.columns }
         ensures raws { result.raws ≡ self.raws }
         ensures rows { result.rows ≡ self.rows }
     {
         SheetRows {
             header: self.header,
+            columns: Sequence::from_vec(self.columns),
             raws: Sequence::from_vec(self.raws),
             rows: Sequence::from_vec(self.rows),
         }

@@ -1,6 +1,8 @@
 ghost use Rattle.std.specs.Prelude.{◌≡◌, ◌<◌, ◌==◌, ◌++◌, ◌∷◌, [], IfOk, OnErr, OnOk, length, slice_index_or};
 ghost use Rattle.csv.specs.Records.{fields_of};
+ghost use Rattle.record_text.specs.Trimming.{header_of};
 
+use crate::trim::header_text;
 use csv::ByteRecord;
 use foundation::OutOfMemory;
 use std::alloc::Global;
@@ -44,6 +46,17 @@ impl Texts {
         )?;
         for text in csv_record {
             copy.push_field(text)?;
+        }
+        Ok(Texts { record: copy })
+    }
+
+    /// The texts of the header that csv gave: the first is without byte order marks in front.
+    pub(crate) fn of_header(alloc: Global, csv_record: &ByteRecord) -> Result<Texts, OutOfMemory>
+        ensures { IfOk result (λ texts. texts ≡ header_of (fields_of csv_record.now)) }
+    {
+        let mut copy = ByteRecord::new(alloc);
+        for text in csv_record {
+            copy.push_field(header_text(copy.is_empty(), text))?;
         }
         Ok(Texts { record: copy })
     }

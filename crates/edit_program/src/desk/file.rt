@@ -93,6 +93,7 @@ fn read_within<F: Read>(
     faults: &mut u64,
 ) -> Result<Vec<u8>, FetchError>
     requires { 0 < length chunk.old }
+    ensures within { IfOk result (λ bytes. length bytes.items ≤ limit) }
     ensures bytes { IfSome (F.remaining file.old) (λ left. ReadsWhole left limit result) }
     ensures later { faults.old ≤ faults.new }
     ensures failed { IsErrOf result FetchError.Failed → Rose faults.old faults.new }

@@ -1,36 +1,53 @@
-use Rattle.std.proofs.Common.{◌≡◌, ◌<◌, ◌∙◌, ℕ, List, length, Result, Ok, Err, IfOk, arith, refl, sym}
-use Rattle.std.proofs.lemmas.Bool.Decides.{nat_tests}
 use Rattle.std.proofs.lemmas.Result.{err_from_is_err_and}
-use Rattle.edit_model.specs.Parts.{SurveyParts}
-use Rattle.edit_language.specs.Grammar.{Adds, IsRuleText}
-use Rattle.edit_language.proofs.GrammarLaws.{adds_keeps, other_lines, no_line, first_line, line_before, read_to_end, rule_text_once}
-use Rattle.edit_language.specs.declared.fault.RulesFault.{RulesFault}
+use Rattle.edit_language.specs.Reading.{IsFaultOf, IsNoRuleText, IsOnlyFaultOf}
+use Rattle.edit_language.proofs.GrammarLaws.{handed_on, made_of, read_all, read_more, told_last, told_next}
 use Rattle.edit_language.proofs.reading.read_rules.Goals as goal
 
-pub returns-in_default-clause-unbuilt : goal.returns-in_default-clause-unbuilt
-returns-in_default-clause-unbuilt c = λ refused survey read.
-    let some : 0 < length c.loop-rest.rest.now = grind (arith, nat_tests) in
-    no_line c.loop-rest.rest.now c.loop-rest.draft survey some c.in_default.ensures.none (c.loop-rest.invariant.2 survey read)
+pub returns-in_err-take_line-clause-fault : goal.returns-in_err-take_line-clause-fault
+returns-in_err-take_line-clause-fault c =
+    let told = told_next c.args.bytes.now c.loop-line.rest.now c.loop-line.number c.loop-line.draft c.in-Some.line.now c.in-Some.after.now c.in_err-take_line.field-0.0 c.loop-line.invariant c.in-Some.ensures.line c.in-Some.ensures.rest c.in-Some.ensures.ended c.in_err-take_line.ensures.fault in
+    let answer = err_from_is_err_and c.from_residual.result c.from_residual.ensures.1 in
+    handed_on c.from_residual.result (λ fault. IsFaultOf c.args.bytes.now fault) answer.0 c.in_err-take_line.field-0.0 answer.1 answer.2 told.0
 
-pub returns-in_err-take_line-clause-unbuilt : goal.returns-in_err-take_line-clause-unbuilt
-returns-in_err-take_line-clause-unbuilt c = λ refused survey read.
-    let fault = err_from_is_err_and c.from_residual.result c.from_residual.ensures.1 in
-    let unbuilt : (next : SurveyParts) → ¬ Adds c.in-Some.line.now c.loop-rest.draft next = c.in_err-take_line.ensures.unbuilt cc in
-    let first = first_line c.loop-rest.rest.now c.in-Some.line.now c.in-Some.after.now c.loop-rest.draft survey c.in-Some.ensures.whole c.in-Some.ensures.first (c.loop-rest.invariant.2 survey read) in
-    unbuilt first.0 first.1
+pub returns-in_err-take_line-clause-first : goal.returns-in_err-take_line-clause-first
+returns-in_err-take_line-clause-first c =
+    let told = told_next c.args.bytes.now c.loop-line.rest.now c.loop-line.number c.loop-line.draft c.in-Some.line.now c.in-Some.after.now c.in_err-take_line.field-0.0 c.loop-line.invariant c.in-Some.ensures.line c.in-Some.ensures.rest c.in-Some.ensures.ended c.in_err-take_line.ensures.fault in
+    let answer = err_from_is_err_and c.from_residual.result c.from_residual.ensures.1 in
+    handed_on c.from_residual.result (λ fault. IsOnlyFaultOf c.args.bytes.now fault) answer.0 c.in_err-take_line.field-0.0 answer.1 answer.2 told.1
 
-pub loop-rest-preserved : goal.loop-rest-preserved
-loop-rest-preserved c =
-    let adds : Adds c.in-Some.line.now c.loop-rest.draft c.take_line.new.self = c.in_ok-take_line.ensures.ok in
-    let kept = adds_keeps c.in-Some.line.now c.loop-rest.draft c.take_line.new.self c.loop-rest.invariant.0 c.loop-rest.invariant.1 adds in
-    (kept.0, kept.1, λ survey read. other_lines c.loop-rest.rest.now c.in-Some.line.now c.in-Some.after.now c.loop-rest.draft c.take_line.new.self survey c.loop-rest.invariant.0 c.in-Some.ensures.whole c.in-Some.ensures.first adds (c.loop-rest.invariant.2 survey read), λ survey read. c.loop-rest.invariant.3 survey (line_before c.loop-rest.rest.now c.in-Some.line.now c.in-Some.after.now c.loop-rest.draft c.take_line.new.self survey c.in-Some.ensures.whole c.in-Some.ensures.first adds read))
+pub returns-in_err-take_line-clause-unread : goal.returns-in_err-take_line-clause-unread
+returns-in_err-take_line-clause-unread c =
+    let told = told_next c.args.bytes.now c.loop-line.rest.now c.loop-line.number c.loop-line.draft c.in-Some.line.now c.in-Some.after.now c.in_err-take_line.field-0.0 c.loop-line.invariant c.in-Some.ensures.line c.in-Some.ensures.rest c.in-Some.ensures.ended c.in_err-take_line.ensures.fault in
+    let answer = err_from_is_err_and c.from_residual.result c.from_residual.ensures.1 in
+    handed_on c.from_residual.result (λ fault. IsNoRuleText c.args.bytes.now fault) answer.0 c.in_err-take_line.field-0.0 answer.1 answer.2 told.2
 
--- the text reads as the draft alone, and so as nothing but the survey that is the draft
-only_survey : (bytes : List ℕ) (made : Result SurveyParts RulesFault) (draft : SurveyParts) → IfOk made (λ survey. survey ≡ draft) → IsRuleText bytes draft → IfOk made (λ survey. (other : SurveyParts) → IsRuleText bytes other → other ≡ survey)
-only_survey bytes (Ok survey) draft same read = λ other also. rule_text_once bytes other draft also read ∙ sym same
-only_survey bytes (Err fault) draft same read = tt
+pub loop-line-preserved : goal.loop-line-preserved
+loop-line-preserved c = read_more c.args.bytes.now c.loop-line.rest.now c.loop-line.number c.loop-line.draft c.take_line.new.self c.in-Some.line.now c.in-Some.after.now c.loop-line.invariant c.in-Some.ensures.line c.in-Some.ensures.rest c.in-Some.ensures.ended c.in_ok-take_line.ensures.adds
+
+pub returns-in_err-take_last_line-clause-fault : goal.returns-in_err-take_last_line-clause-fault
+returns-in_err-take_last_line-clause-fault c =
+    let told = told_last c.args.bytes.now c.loop-line.rest.now c.loop-line.number c.loop-line.draft c.in_err-take_last_line.field-0.0 c.loop-line.invariant c.in_default.ensures.none c.in_err-take_last_line.ensures.fault in
+    let answer = err_from_is_err_and c.from_residual-in_err-take_last_line.result c.from_residual-in_err-take_last_line.ensures.1 in
+    handed_on c.from_residual-in_err-take_last_line.result (λ fault. IsFaultOf c.args.bytes.now fault) answer.0 c.in_err-take_last_line.field-0.0 answer.1 answer.2 told.0
+
+pub returns-in_err-take_last_line-clause-first : goal.returns-in_err-take_last_line-clause-first
+returns-in_err-take_last_line-clause-first c =
+    let told = told_last c.args.bytes.now c.loop-line.rest.now c.loop-line.number c.loop-line.draft c.in_err-take_last_line.field-0.0 c.loop-line.invariant c.in_default.ensures.none c.in_err-take_last_line.ensures.fault in
+    let answer = err_from_is_err_and c.from_residual-in_err-take_last_line.result c.from_residual-in_err-take_last_line.ensures.1 in
+    handed_on c.from_residual-in_err-take_last_line.result (λ fault. IsOnlyFaultOf c.args.bytes.now fault) answer.0 c.in_err-take_last_line.field-0.0 answer.1 answer.2 told.1
+
+pub returns-in_err-take_last_line-clause-unread : goal.returns-in_err-take_last_line-clause-unread
+returns-in_err-take_last_line-clause-unread c =
+    let told = told_last c.args.bytes.now c.loop-line.rest.now c.loop-line.number c.loop-line.draft c.in_err-take_last_line.field-0.0 c.loop-line.invariant c.in_default.ensures.none c.in_err-take_last_line.ensures.fault in
+    let answer = err_from_is_err_and c.from_residual-in_err-take_last_line.result c.from_residual-in_err-take_last_line.ensures.1 in
+    handed_on c.from_residual-in_err-take_last_line.result (λ fault. IsNoRuleText c.args.bytes.now fault) answer.0 c.in_err-take_last_line.field-0.0 answer.1 answer.2 told.2
+
+pub returns-clause-survey : goal.returns-clause-survey
+returns-clause-survey c =
+    let text = read_all c.args.bytes.now c.loop-line.rest.now c.loop-line.number c.loop-line.draft c.take_last_line.new.self c.loop-line.invariant c.in_default.ensures.none c.in_ok-take_last_line.ensures.adds in
+    (made_of c.into_survey.result c.args.bytes.now c.take_last_line.new.self c.into_survey.ensures.survey text).0
 
 pub returns-clause-only : goal.returns-clause-only
 returns-clause-only c =
-    let read : IsRuleText c.args.bytes.now c.loop-rest.draft = read_to_end c.args.bytes.now c.loop-rest.rest.now c.loop-rest.draft c.loop-rest.draft (grind (arith, nat_tests)) refl c.loop-rest.invariant.3 in
-    only_survey c.args.bytes.now c.into_survey.result c.loop-rest.draft c.into_survey.ensures.survey read
+    let text = read_all c.args.bytes.now c.loop-line.rest.now c.loop-line.number c.loop-line.draft c.take_last_line.new.self c.loop-line.invariant c.in_default.ensures.none c.in_ok-take_last_line.ensures.adds in
+    (made_of c.into_survey.result c.args.bytes.now c.take_last_line.new.self c.into_survey.ensures.survey text).1

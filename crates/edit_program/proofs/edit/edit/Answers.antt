@@ -1,11 +1,12 @@
-use Rattle.edit_program.proofs.RunLaws.{both_read, cut_off, edited, not_nothing, not_read_fault, not_too_long, not_unbuilt, not_usage, not_write_fault, records_refused, rules_refused}
+use Rattle.std.proofs.Common.{refl}
+use Rattle.edit_program.proofs.RunLaws.{both_read, cut_off, edited, no_refusal, not_nothing, not_read_fault, not_usage, not_write_fault, records_refused, rules_refused}
 use Rattle.edit_program.proofs.edit.edit.Goals as goal
 
 pub returns-in-Err-clause-cause : goal.returns-in-Err-clause-cause
-returns-in-Err-clause-cause g c = rules_refused (g.D.Desk.files c.args.desk.now) _ _ _ _ c.in-Err.ensures.refused
+returns-in-Err-clause-cause g c = rules_refused (g.D.Desk.files c.args.desk.now) _ _ _ c.in-Err.ensures.refused
 
 pub returns-in-Err-fetch_sheet-clause-cause : goal.returns-in-Err-fetch_sheet-clause-cause
-returns-in-Err-fetch_sheet-clause-cause g c = records_refused (g.D.Desk.files c.args.desk.now) _ _ c.in-Ok.survey _ _ c.in-Ok.ensures.read (rw c.in-Ok.ensures.unchanged at c.in-Err-fetch_sheet.ensures.refused)
+returns-in-Err-fetch_sheet-clause-cause g c = records_refused (g.D.Desk.files c.args.desk.now) _ _ c.in-Ok.survey _ c.in-Ok.ensures.read (rw c.in-Ok.ensures.unchanged at c.in-Err-fetch_sheet.ensures.refused)
 
 pub returns-in-Ok-store-clause-command : goal.returns-in-Ok-store-clause-command
 returns-in-Ok-store-clause-command g c = not_usage _ c.in-Ok-release_sheet.ensures.ended
@@ -19,7 +20,7 @@ returns-in-Ok-store-clause-edited g c = λ released.
 pub returns-in-Ok-store-clause-cause : goal.returns-in-Ok-store-clause-cause
 returns-in-Ok-store-clause-cause g c =
     both_read (g.D.Desk.files c.args.desk.now) _ _ c.in-Ok.survey c.in-Ok-fetch_sheet.sheet _ c.in-Ok.ensures.read (rw c.in-Ok.ensures.unchanged at c.in-Ok-fetch_sheet.ensures.read)
-    (not_too_long _ c.in-Ok-release_sheet.ensures.ended) (not_unbuilt _ c.in-Ok-release_sheet.ensures.ended)
+    (no_refusal _ c.in-Ok-release_sheet.ensures.ended)
 
 pub returns-in-Ok-store-clause-read_fault : goal.returns-in-Ok-store-clause-read_fault
 returns-in-Ok-store-clause-read_fault g c = λ e. absurd (not_read_fault _ c.in-Ok-release_sheet.ensures.ended e)
@@ -35,7 +36,7 @@ returns-in-Ok-store-clause-cut_off g c = λ e. absurd (not_write_fault _ c.in-Ok
 
 pub returns-in-Err-Failed-clause-cause : goal.returns-in-Err-Failed-clause-cause
 returns-in-Err-Failed-clause-cause g c =
-    both_read (g.D.Desk.files c.args.desk.now) _ _ c.in-Ok.survey c.in-Ok-fetch_sheet.sheet _ c.in-Ok.ensures.read (rw c.in-Ok.ensures.unchanged at c.in-Ok-fetch_sheet.ensures.read) (λ e. cc) (λ e. cc)
+    both_read (g.D.Desk.files c.args.desk.now) _ _ c.in-Ok.survey c.in-Ok-fetch_sheet.sheet _ c.in-Ok.ensures.read (rw c.in-Ok.ensures.unchanged at c.in-Ok-fetch_sheet.ensures.read) refl
 
 pub returns-in-Err-Failed-clause-cut_off : goal.returns-in-Err-Failed-clause-cut_off
 returns-in-Err-Failed-clause-cut_off g c = λ e.

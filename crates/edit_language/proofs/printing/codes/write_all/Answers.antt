@@ -1,0 +1,5 @@
+use Rattle.edit_language.proofs.PrintingSteps.{list_more}
+use Rattle.edit_language.proofs.printing.codes.write_all.Goals as goal
+
+pub loop-i-preserved : goal.loop-i-preserved
+loop-i-preserved c = list_more c.args.text.now.items c.args.list.now c.loop-i.i c.index-list-i.result c.loop-i.text.items _ c.loop-i-test.true c.index-list-i.is c.loop-i.invariant c.in_ok-write_item.ensures

@@ -1,0 +1,258 @@
+//! The least kind of fault of a statement, seen from the fields and the rules before it.
+ghost use Rattle.std.specs.Prelude.{◌≡◌, List, IfOk};
+ghost use Rattle.std.specs.List.{list_all, list_any};
+ghost use Rattle.std.specs.Str.{bytes_eq};
+ghost use Rattle.edit_model.specs.Parts.{parts_of};
+ghost use Rattle.edit_language.specs.Faults.{declaration_fault, fault_of, has_double_code, has_form, has_known_codes, is_equation, is_known_test, is_large_test, is_sums, rule_fault, tests_of};
+
+use crate::codes::{has_double, has_double_code};
+use crate::fault::RulesKind;
+use crate::names::{has_known_codes, is_known_test};
+use crate::numbers::is_outside;
+use crate::sums::are_large_sums;
+use edit_model::{Compare, Field, Name, Rule};
+use foundation::OutOfMemory;
+use rule_grammar::{CodeList, Declaration, Numeral, RuleText, Statement, TestText};
+use std::alloc::Global;
+
+/// The most fields of a survey.
+const MOST_FIELDS: usize = 64;
+
+/// The most codes of a field.
+const MOST_CODES: usize = 64;
+
+/// The most rules of a survey.
+const MOST_RULES: usize = 500;
+
+/// The largest weight of a field.
+const MOST_WEIGHT: u64 = 1000;
+
+/// The largest scale of a numerical field.
+const MOST_SCALE: u64 = 1_000_000_000_000;
+
+// Whether a field has the name.
+fn is_declared(fields: &[Field], name: &Name) -> bool
+    ensures { result ≡ list_any (λ f. bytes_eq f.name name.now) fields.now }
+{
+    fields.iter().any(|f| f.name.as_bytes() == name.as_bytes())
+}
+
+// The fault of the declaration of a numerical field.
+fn number_fault(
+    fields: &[Field],
+    name: &Name,
+    weight: Option<Numeral>,
+    scale: Option<Numeral>,
+) -> Option<RulesKind>
+    ensures { (rules : List Rule) → result ≡ declaration_fault (parts_of fields.now rules) (Declaration.Number name.now weight scale) }
+{
+    if is_declared(fields, name) {
+        Some(RulesKind::DoubleField)
+    } else if is_outside(MOST_WEIGHT, weight) || is_outside(MOST_SCALE, scale) {
+        Some(RulesKind::NumberRange)
+    } else if fields.len() >= MOST_FIELDS {
+        Some(RulesKind::TooMany)
+    } else {
+        None
+    }
+}
+
+// The fault of the declaration of a categorical field.
+fn code_fault(
+    alloc: Global,
+    fields: &[Field],
+    name: &Name,
+    weight: Option<Numeral>,
+    list: &CodeList,
+) -> Result<Option<RulesKind>, OutOfMemory>
+    ensures { IfOk result (λ fault. (rules : List Rule) → fault ≡ declaration_fault (parts_of fields.now rules) (Declaration.Code name.now weight list.now)) }
+{
+    if is_declared(fields, name) {
+        Ok(Some(RulesKind::DoubleField))
+    } else if has_double(alloc, list)? {
+        Ok(Some(RulesKind::DoubleCode))
+    } else if is_outside(MOST_WEIGHT, weight) {
+        Ok(Some(RulesKind::NumberRange))
+    } else if fields.len() >= MOST_FIELDS || list.rest.len() >= MOST_CODES {
+        Ok(Some(RulesKind::TooMany))
+    } else {
+        Ok(None)
+    }
+}
+
+// The same of all these tests.
+fn are_known_tests(fields: &[Field], tests: &[TestText]) -> bool
+    ensures { result ≡ list_all (λ t. is_known_test fields.now t) tests.now }
+{
+    tests.iter().all(|test| is_known_test(fields, test))
+}
+
+// Whether each name of the rule is of a field of the kind that its place needs.
+fn is_known_rule(fields: &[Field], rule: &RuleText) -> bool
+    ensures { result ≡ list_all (λ t. is_known_test fields.now t) (tests_of rule.now) }
+{
+    are_known_tests(fields, rule.conditions.as_slice()) && is_known_test(fields, &rule.conclusion)
+}
+
+// Whether each code of these tests is a code of its field.
+fn have_known_codes(fields: &[Field], tests: &[TestText]) -> bool
+    ensures { result ≡ list_all (λ t. has_known_codes fields.now t) tests.now }
+{
+    tests.iter().all(|test| has_known_codes(fields, test))
+}
+
+// Whether each code of the rule is a code of its field.
+fn has_rule_known_codes(fields: &[Field], rule: &RuleText) -> bool
+    ensures { result ≡ list_all (λ t. has_known_codes fields.now t) (tests_of rule.now) }
+{
+    have_known_codes(fields, rule.conditions.as_slice())
+        && has_known_codes(fields, &rule.conclusion)
+}
+
+// Whether a code stands twice in a list of these tests.
+fn have_double_codes(alloc: Global, tests: &[TestText]) -> Result<bool, OutOfMemory>
+    ensures { IfOk result (λ double. double ≡ list_any has_double_code tests.now) }
+{
+    for test in tests {
+        if has_double_code(alloc, test)? {
+            return Ok(true);
+        }
+    }
+    Ok(false)
+}
+
+// Whether a code stands twice in a list of the rule.
+fn has_rule_double_code(alloc: Global, rule: &RuleText) -> Result<bool, OutOfMemory>
+    ensures { IfOk result (λ double. double ≡ list_any has_double_code (tests_of rule.now)) }
+{
+    if have_double_codes(alloc, rule.conditions.as_slice())? {
+        return Ok(true);
+    }
+    has_double_code(alloc, &rule.conclusion)
+}
+
+// Whether a number of the test, or what its terms add up to, is out of its limits.
+fn is_large_test(fields: &[Field], test: &TestText) -> bool
+    ensures { result ≡ is_large_test fields.now test.now }
+{
+    match test {
+        TestText::Codes { .. } => false,
+        TestText::Sums { left, right, .. } => are_large_sums(fields, left, right),
+    }
+}
+
+// The same of any of these tests.
+fn are_large_tests(fields: &[Field], tests: &[TestText]) -> bool
+    ensures { result ≡ list_any (λ t. is_large_test fields.now t) tests.now }
+{
+    tests.iter().any(|test| is_large_test(fields, test))
+}
+
+// Whether a number of the rule is out of its limits.
+fn is_large_rule(fields: &[Field], rule: &RuleText) -> bool
+    ensures { result ≡ list_any (λ t. is_large_test fields.now t) (tests_of rule.now) }
+{
+    are_large_tests(fields, rule.conditions.as_slice()) || is_large_test(fields, &rule.conclusion)
+}
+
+// Whether the test is a number test.
+fn is_sums(test: &TestText) -> bool
+    ensures { result ≡ is_sums test.now }
+{
+    matches!(test, TestText::Sums { .. })
+}
+
+// Whether one of these tests is.
+fn are_sums(tests: &[TestText]) -> bool
+    ensures { result ≡ list_any is_sums tests.now }
+{
+    tests.iter().any(|test| is_sums(test))
+}
+
+// Whether the test is an equation.
+fn is_equation(test: &TestText) -> bool
+    ensures { result ≡ is_equation test.now }
+{
+    match test {
+        TestText::Codes { .. } => false,
+        TestText::Sums { compare, .. } => match compare {
+            Compare::Eq => true,
+            Compare::Ge | Compare::Gt | Compare::Le | Compare::Lt => false,
+        },
+    }
+}
+
+// Whether one of these tests is.
+fn are_equations(tests: &[TestText]) -> bool
+    ensures { result ≡ list_any is_equation tests.now }
+{
+    tests.iter().any(|test| is_equation(test))
+}
+
+// Whether a number test among the conditions is the only one, is no equation, and implies a code test.
+fn has_form(rule: &RuleText) -> bool
+    ensures { result ≡ has_form rule.now }
+{
+    let conditions = rule.conditions.as_slice();
+    !are_sums(conditions)
+        || (conditions.len() == 1 && !are_equations(conditions) && !is_sums(&rule.conclusion))
+}
+
+// The fault of a rule over the fields before it.
+fn rule_fault(
+    alloc: Global,
+    fields: &[Field],
+    rules: &[Rule],
+    rule: &RuleText,
+) -> Result<Option<RulesKind>, OutOfMemory>
+    ensures { IfOk result (λ fault. fault ≡ rule_fault (parts_of fields.now rules.now) rule.now) }
+{
+    if !is_known_rule(fields, rule) {
+        Ok(Some(RulesKind::UnknownField))
+    } else if !has_rule_known_codes(fields, rule) {
+        Ok(Some(RulesKind::UnknownCode))
+    } else if has_rule_double_code(alloc, rule)? {
+        Ok(Some(RulesKind::DoubleCode))
+    } else if is_large_rule(fields, rule) {
+        Ok(Some(RulesKind::NumberRange))
+    } else if rules.len() >= MOST_RULES {
+        Ok(Some(RulesKind::TooMany))
+    } else if !has_form(rule) {
+        Ok(Some(RulesKind::ConditionForm))
+    } else {
+        Ok(None)
+    }
+}
+
+// The fault of a declaration.
+fn declaration_fault(
+    alloc: Global,
+    fields: &[Field],
+    declaration: &Declaration,
+) -> Result<Option<RulesKind>, OutOfMemory>
+    ensures { IfOk result (λ fault. (rules : List Rule) → fault ≡ declaration_fault (parts_of fields.now rules) declaration.now) }
+{
+    match declaration {
+        Declaration::Number {
+            name,
+            weight,
+            scale,
+        } => Ok(number_fault(fields, name, *weight, *scale)),
+        Declaration::Code { name, weight, list } => code_fault(alloc, fields, name, *weight, list),
+    }
+}
+
+/// The least kind of fault that the statement has after these fields and rules.
+pub(crate) fn fault_of(
+    alloc: Global,
+    fields: &[Field],
+    rules: &[Rule],
+    statement: &Statement,
+) -> Result<Option<RulesKind>, OutOfMemory>
+    ensures { IfOk result (λ fault. fault ≡ fault_of (parts_of fields.now rules.now) statement.now) }
+{
+    match statement {
+        Statement::Declaration(declaration) => declaration_fault(alloc, fields, declaration),
+        Statement::Rule(rule) => rule_fault(alloc, fields, rules, rule),
+    }
+}

@@ -1,0 +1,76 @@
+//! The lines of a rule text, and what of a line is read.
+ghost use Rattle.std.specs.Prelude.{◌≡◌, ◌==◌, ◌<◌, IfNone, IfSome, length, position};
+ghost use Rattle.std.specs.List.{after_first, before_first, list_any, position_or_len};
+ghost use Rattle.edit_language.specs.Lines.{is_bad_byte, read_part, without_mark, without_return};
+
+/// The text without a byte order mark at its front.
+pub(crate) fn without_mark(bytes: &[u8]) -> &[u8]
+    ensures { result.now ≡ without_mark bytes.now }
+{
+    if bytes.starts_with(b"\xEF\xBB\xBF") {
+        &bytes[3..]
+    } else {
+        bytes
+    }
+}
+
+// The first place of the byte.
+fn place_of(text: &[u8], byte: u8) -> Option<usize>
+    ensures { result ≡ position (λ b. b == byte) text.now }
+{
+    text.iter().position(|b| *b == byte)
+}
+
+/// The line before the first line feed and the text after it, or None where the text has none.
+pub(crate) fn first_line(text: &[u8]) -> Option<(&[u8], &[u8])>
+    ensures line { IfSome result (λ parts. parts.0.now ≡ before_first (λ b. b == 10) text.now) }
+    ensures rest { IfSome result (λ parts. parts.1.now ≡ after_first (λ b. b == 10) text.now) }
+    ensures ended { IfSome result (λ parts. position_or_len (λ b. b == 10) text.now < length text.now) }
+    ensures none { IfNone result (position_or_len (λ b. b == 10) text.now ≡ length text.now) }
+{
+    match place_of(text, b'\n') {
+        Some(place) => Some((&text[..place], &text[place + 1..])),
+        None => None,
+    }
+}
+
+// The line without a carriage return at its end.
+fn without_return(line: &[u8]) -> &[u8]
+    ensures { result.now ≡ without_return line.now }
+{
+    match line.strip_suffix(b"\r") {
+        Some(front) => front,
+        None => line,
+    }
+}
+
+// What stands before the comment.
+fn before_comment(line: &[u8]) -> &[u8]
+    ensures { result.now ≡ before_first (λ b. b == 35) line.now }
+{
+    match place_of(line, b'#') {
+        Some(place) => &line[..place],
+        None => line,
+    }
+}
+
+/// What of a line is read.
+pub(crate) fn read_part(line: &[u8]) -> &[u8]
+    ensures { result.now ≡ read_part line.now }
+{
+    before_comment(without_return(line))
+}
+
+// Whether the byte is neither a printable ASCII byte nor a tab.
+fn is_bad_byte(byte: u8) -> bool
+    ensures { result ≡ is_bad_byte byte }
+{
+    !((32 <= byte && byte <= 126) || byte == b'\t')
+}
+
+/// Whether a byte is bad.
+pub(crate) fn has_bad_byte(text: &[u8]) -> bool
+    ensures { result ≡ list_any is_bad_byte text.now }
+{
+    text.iter().any(|b| is_bad_byte(*b))
+}

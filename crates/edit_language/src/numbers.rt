@@ -1,0 +1,47 @@
+//! The numbers that a statement has, and their limits.
+ghost use Rattle.std.specs.Prelude.{◌≡◌};
+ghost use Rattle.edit_language.specs.Faults.{is_above, is_outside};
+ghost use Rattle.edit_language.specs.Meaning.{number_in, number_or_one};
+
+use rule_grammar::Numeral;
+
+/// The number that a numeral spells, 0 where it is out of range.
+pub(crate) fn number_in(numeral: Numeral) -> u64
+    ensures { result ≡ number_in numeral }
+{
+    match numeral {
+        Numeral::Whole(number) => number,
+        Numeral::OutOfRange => 0,
+    }
+}
+
+/// The number that a numeral spells, 1 where there is none.
+pub(crate) fn number_or_one(numeral: Option<Numeral>) -> u64
+    ensures { result ≡ number_or_one numeral }
+{
+    match numeral {
+        None => 1,
+        Some(numeral) => number_in(numeral),
+    }
+}
+
+/// Whether the numeral is no whole number, or is above the limit.
+pub(crate) fn is_above(limit: u64, numeral: Numeral) -> bool
+    ensures { result ≡ is_above limit numeral }
+{
+    match numeral {
+        Numeral::Whole(number) => limit < number,
+        Numeral::OutOfRange => true,
+    }
+}
+
+/// Whether the numeral is written, and no whole number from 1 to the limit.
+pub(crate) fn is_outside(limit: u64, numeral: Option<Numeral>) -> bool
+    ensures { result ≡ is_outside limit numeral }
+{
+    match numeral {
+        None => false,
+        Some(Numeral::Whole(number)) => number < 1 || limit < number,
+        Some(Numeral::OutOfRange) => true,
+    }
+}

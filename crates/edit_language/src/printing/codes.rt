@@ -1,0 +1,53 @@
+//! Lists of codes between braces.
+ghost use Rattle.std.specs.Prelude.{◌≡◌, ◌==◌, ◌++◌, Bool, List, [], codes, if◌then◌else◌, OnOk};
+ghost use Rattle.std.specs.Int.{bit_at};
+ghost use Rattle.edit_language.specs.Printing.{braced, codes_of_set};
+
+use edit_model::Name;
+use foundation::OutOfMemory;
+
+// Appends all codes, between braces.
+pub(super) fn write_all(text: &mut Vec<u8>, list: &[Name]) -> Result<(), OutOfMemory>
+    ensures { OnOk result (text.new.items ≡ text.old.items ++ braced list.now) }
+{
+    text.push(b'{')?;
+    for (i, code) in list.iter().enumerate() {
+        write_item(text, i == 0, code)?;
+    }
+    text.push(b'}')?;
+    Ok(())
+}
+
+// Appends the codes that are in the set, between braces.
+pub(super) fn write_set(text: &mut Vec<u8>, list: &[Name], set: u64) -> Result<(), OutOfMemory>
+    ensures { OnOk result (text.new.items ≡ text.old.items ++ braced (codes_of_set set 0 list.now)) }
+{
+    text.push(b'{')?;
+    let mut first = true;
+    for (i, code) in list.iter().enumerate() {
+        if is_in(set, i) {
+            write_item(text, first, code)?;
+            first = false;
+        }
+    }
+    text.push(b'}')?;
+    Ok(())
+}
+
+// Appends a code; before all but the first stands a comma.
+fn write_item(text: &mut Vec<u8>, first: bool, code: &Name) -> Result<(), OutOfMemory>
+    ensures { OnOk result (text.new.items ≡ text.old.items ++ (if first then [] else codes ", ") ++ code.now) }
+{
+    if !first {
+        text.extend_from_slice(b", ")?;
+    }
+    text.extend_from_slice(code.as_bytes())?;
+    Ok(())
+}
+
+// Whether the set, as bits, has the code of this number.
+fn is_in(set: u64, code: usize) -> bool
+    ensures { result ≡ (bit_at set code == 1) }
+{
+    code < 64 && (set >> code) & 1 == 1
+}

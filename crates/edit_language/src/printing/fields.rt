@@ -1,0 +1,45 @@
+//! Declarations.
+ghost use Rattle.std.specs.Prelude.{◌≡◌, ◌++◌, OnOk};
+ghost use Rattle.edit_language.specs.Printing.{field_line, kind_text, kind_word};
+
+use super::codes::write_all;
+use super::sums::write_number;
+use edit_model::{Field, Kind};
+use foundation::OutOfMemory;
+
+// Appends the field's declaration; weight and scale are always written.
+pub(super) fn write_field(text: &mut Vec<u8>, field: &Field) -> Result<(), OutOfMemory>
+    ensures { OnOk result (text.new.items ≡ text.old.items ++ field_line field.now) }
+{
+    text.extend_from_slice(kind_word(&field.kind))?;
+    text.extend_from_slice(field.name.as_bytes())?;
+    text.extend_from_slice(b" weight ")?;
+    write_number(text, u64::from(field.weight))?;
+    write_kind(text, &field.kind)
+}
+
+// The word that begins the declaration of a field of this kind.
+fn kind_word(kind: &Kind) -> &'static [u8]
+    ensures { result.now ≡ kind_word kind.now }
+{
+    match kind {
+        Kind::Number { .. } => b"number ",
+        Kind::Code { .. } => b"code ",
+    }
+}
+
+// Appends what stands behind a field's weight.
+fn write_kind(text: &mut Vec<u8>, kind: &Kind) -> Result<(), OutOfMemory>
+    ensures { OnOk result (text.new.items ≡ text.old.items ++ kind_text kind.now) }
+{
+    match kind {
+        Kind::Number { scale } => {
+            text.extend_from_slice(b" scale ")?;
+            write_number(text, *scale)
+        }
+        Kind::Code { codes } => {
+            text.extend_from_slice(b" in ")?;
+            write_all(text, codes.as_slice())
+        }
+    }
+}

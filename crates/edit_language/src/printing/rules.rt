@@ -1,0 +1,95 @@
+//! Rules and their tests.
+ghost use Rattle.std.specs.Prelude.{◌≡◌, ◌++◌, slice_get, OnOk};
+ghost use Rattle.edit_language.specs.Meaning.{codes_in, codes_of};
+ghost use Rattle.edit_language.specs.Printing.{conditions_text, later_conditions_text, rule_line, test_text};
+
+use super::codes::write_set;
+use super::sums::{name_at, write_linear};
+use edit_model::{Field, Kind, Name, Rule, Test};
+use foundation::OutOfMemory;
+
+// Appends the rule.
+pub(super) fn write_rule(
+    text: &mut Vec<u8>,
+    fields: &[Field],
+    rule: &Rule,
+) -> Result<(), OutOfMemory>
+    ensures { OnOk result (text.new.items ≡ text.old.items ++ rule_line fields.now rule.now) }
+{
+    write_conditions(text, fields, rule.conditions.as_slice())?;
+    write_test(text, fields, &rule.conclusion)
+}
+
+// Appends the conditions, between `if` and `then`; nothing where there is none.
+fn write_conditions(
+    text: &mut Vec<u8>,
+    fields: &[Field],
+    conditions: &[Test],
+) -> Result<(), OutOfMemory>
+    ensures { OnOk result (text.new.items ≡ text.old.items ++ conditions_text fields.now conditions.now) }
+{
+    match conditions.split_first() {
+        None => Ok(()),
+        Some((first, rest)) => {
+            text.extend_from_slice(b"if ")?;
+            write_test(text, fields, first)?;
+            write_later_conditions(text, fields, rest)?;
+            text.extend_from_slice(b" then ")?;
+            Ok(())
+        }
+    }
+}
+
+// Appends the conditions behind the first.
+fn write_later_conditions(
+    text: &mut Vec<u8>,
+    fields: &[Field],
+    conditions: &[Test],
+) -> Result<(), OutOfMemory>
+    ensures { OnOk result (text.new.items ≡ text.old.items ++ later_conditions_text fields.now conditions.now) }
+{
+    for condition in conditions {
+        text.extend_from_slice(b" and ")?;
+        write_test(text, fields, condition)?;
+    }
+    Ok(())
+}
+
+// Appends the test.
+fn write_test(text: &mut Vec<u8>, fields: &[Field], test: &Test) -> Result<(), OutOfMemory>
+    ensures { OnOk result (text.new.items ≡ text.old.items ++ test_text fields.now test.now) }
+{
+    match test {
+        Test::Number(linear) => write_linear(text, fields, linear),
+        Test::Codes {
+            field,
+            negated,
+            codes,
+        } => {
+            text.extend_from_slice(name_at(fields, *field))?;
+            let joint: &[u8] = if *negated { b" not in " } else { b" in " };
+            text.extend_from_slice(joint)?;
+            write_set(text, codes_at(fields, *field), *codes)
+        }
+    }
+}
+
+// The codes of the field with this number; none where it is numerical.
+fn codes_at(fields: &[Field], number: u32) -> &[Name]
+    ensures { result.now ≡ codes_of (slice_get fields.now number) }
+{
+    match fields.get(number as usize) {
+        Some(field) => codes_in(&field.kind),
+        None => &[],
+    }
+}
+
+// The codes of a kind; none where it is numerical.
+fn codes_in(kind: &Kind) -> &[Name]
+    ensures { result.now ≡ codes_in kind.now }
+{
+    match kind {
+        Kind::Number { .. } => &[],
+        Kind::Code { codes } => codes.as_slice(),
+    }
+}

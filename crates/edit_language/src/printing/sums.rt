@@ -1,0 +1,142 @@
+//! Sums of terms and their comparison with 0.
+ghost use Rattle.std.specs.Prelude.{◌≡◌, ◌++◌, OnOk};
+ghost use Rattle.std.specs.Fmt.{decimal};
+ghost use Rattle.edit_language.specs.Printing.{compare_text, joint_text, later_constant_text, later_terms_text, linear_text, name_at, sign_text, sum_text, term_text, terms_text};
+
+use edit_model::{Compare, Field, Linear, Term};
+use foundation::OutOfMemory;
+use itoa::Buffer;
+
+// Appends the linear test.
+pub(super) fn write_linear(
+    text: &mut Vec<u8>,
+    fields: &[Field],
+    linear: &Linear,
+) -> Result<(), OutOfMemory>
+    ensures { OnOk result (text.new.items ≡ text.old.items ++ linear_text fields.now linear.now) }
+{
+    write_sum(text, fields, linear.terms.as_slice(), linear.constant)?;
+    text.extend_from_slice(compare_text(linear.compare))?;
+    Ok(())
+}
+
+// Appends the number in decimal.
+pub(super) fn write_number(text: &mut Vec<u8>, number: u64) -> Result<(), OutOfMemory>
+    ensures { OnOk result (text.new.items ≡ text.old.items ++ decimal number) }
+{
+    let mut buffer = Buffer::new();
+    text.extend_from_slice(buffer.format(number).as_bytes())?;
+    Ok(())
+}
+
+// The name of the field with this number.
+pub(super) fn name_at(fields: &[Field], number: u32) -> &[u8]
+    ensures { result.now ≡ name_at fields.now number }
+{
+    match fields.get(number as usize) {
+        Some(field) => field.name.as_bytes(),
+        None => b"",
+    }
+}
+
+// Appends the terms in order and then the constant; the constant alone where there is no term.
+fn write_sum(
+    text: &mut Vec<u8>,
+    fields: &[Field],
+    terms: &[Term],
+    constant: i64,
+) -> Result<(), OutOfMemory>
+    ensures { OnOk result (text.new.items ≡ text.old.items ++ sum_text fields.now terms.now constant) }
+{
+    match terms.split_first() {
+        None => {
+            let mut buffer = Buffer::new();
+            text.extend_from_slice(buffer.format(constant).as_bytes())?;
+            Ok(())
+        }
+        Some((first, rest)) => {
+            write_terms(text, fields, first, rest)?;
+            write_later_constant(text, constant)
+        }
+    }
+}
+
+// Appends the terms in order.
+fn write_terms(
+    text: &mut Vec<u8>,
+    fields: &[Field],
+    first: &Term,
+    rest: &[Term],
+) -> Result<(), OutOfMemory>
+    ensures { OnOk result (text.new.items ≡ text.old.items ++ terms_text fields.now first.now rest.now) }
+{
+    text.extend_from_slice(sign_text(first.factor))?;
+    write_product(text, fields, first)?;
+    write_later_terms(text, fields, rest)
+}
+
+// Appends the terms behind the first.
+fn write_later_terms(
+    text: &mut Vec<u8>,
+    fields: &[Field],
+    terms: &[Term],
+) -> Result<(), OutOfMemory>
+    ensures { OnOk result (text.new.items ≡ text.old.items ++ later_terms_text fields.now terms.now) }
+{
+    for term in terms {
+        text.extend_from_slice(joint_text(term.factor))?;
+        write_product(text, fields, term)?;
+    }
+    Ok(())
+}
+
+// Appends a constant behind terms, where it is not 0.
+fn write_later_constant(text: &mut Vec<u8>, constant: i64) -> Result<(), OutOfMemory>
+    ensures { OnOk result (text.new.items ≡ text.old.items ++ later_constant_text constant) }
+{
+    if constant != 0 {
+        text.extend_from_slice(joint_text(constant))?;
+        write_number(text, constant.unsigned_abs())?;
+    }
+    Ok(())
+}
+
+// Appends the factor of a term without its sign, and its field; the factor 1 is not written.
+fn write_product(text: &mut Vec<u8>, fields: &[Field], term: &Term) -> Result<(), OutOfMemory>
+    ensures { OnOk result (text.new.items ≡ text.old.items ++ term_text fields.now term.now) }
+{
+    let factor = term.factor.unsigned_abs();
+    if factor != 1 {
+        write_number(text, factor)?;
+        text.push(b' ')?;
+    }
+    text.extend_from_slice(name_at(fields, term.field))?;
+    Ok(())
+}
+
+// The sign in front of a number.
+fn sign_text(number: i64) -> &'static [u8]
+    ensures { result.now ≡ sign_text number }
+{
+    if number < 0 { b"-" } else { b"" }
+}
+
+// What joins a number to the terms before it.
+fn joint_text(number: i64) -> &'static [u8]
+    ensures { result.now ≡ joint_text number }
+{
+    if number < 0 { b" - " } else { b" + " }
+}
+
+// The comparison with 0.
+fn compare_text(compare: Compare) -> &'static [u8]
+    ensures { result.now ≡ compare_text compare }
+{
+    match compare {
+        Compare::Ge => b" >= 0",
+        Compare::Gt => b" > 0",
+        Compare::Le => b" <= 0",
+        Compare::Lt => b" < 0",
+        Compare::Eq => b" = 0",
+    }
+}

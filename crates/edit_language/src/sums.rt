@@ -1,0 +1,245 @@
+//! Linear tests: everything is moved to the left side, and the terms of each field are added up.
+ghost use Rattle.std.specs.Prelude.{◌≡◌, ◌++◌, ◌∷◌, [], ◌+◌, ◌*◌, ◌^◌, ◌≤◌, ◌||◌, false, length, nat_lt, option_map, pos, unsigned_abs, if◌then◌else◌, IfOk, OnOk};
+ghost use Rattle.std.specs.List.{list_any};
+ghost use Rattle.std.specs.Ordering.{int_eq};
+ghost use Rattle.edit_language.specs.Faults.{is_large_sum, is_large_term};
+ghost use Rattle.edit_language.specs.Meaning.{constant_in, factor_in, moved_constant, moved_factor, moved_terms, signed, terms_of};
+ghost use Rattle.edit_language.specs.Sums.{part_in, parts_added, parts_moved};
+
+use crate::numbers::{is_above, number_in};
+use edit_model::{Field, Name, Term};
+use foundation::OutOfMemory;
+use rule_grammar::{Sign, SignedTerm, SumText, TermText};
+use std::alloc::Global;
+
+/// The largest factor, in absolute value.
+const MOST_FACTOR: u64 = 1_000_000_000;
+
+/// The largest constant, in absolute value.
+const MOST_CONSTANT: u64 = 1_000_000_000_000_000;
+
+// Whether the number of the term is no whole number, or above its limit.
+fn is_large_term(term: &TermText) -> bool
+    ensures { result ≡ is_large_term term.now }
+{
+    match term {
+        TermText::Product { factor, .. } => is_above(MOST_FACTOR, *factor),
+        TermText::Field(_) => false,
+        TermText::Constant(number) => is_above(MOST_CONSTANT, *number),
+    }
+}
+
+// The same of any of these terms.
+fn are_large_terms(terms: &[SignedTerm]) -> bool
+    ensures { result ≡ list_any (λ t. is_large_term t.term) terms.now }
+{
+    terms.iter().any(|signed| is_large_term(&signed.term))
+}
+
+// The same of any term of a sum.
+fn is_large_sum(sum: &SumText) -> bool
+    ensures { result ≡ is_large_sum sum.now }
+{
+    is_large_term(&sum.first) || are_large_terms(sum.rest.as_slice())
+}
+
+// What a term is to the field with this name.
+fn factor_in(name: &Name, term: &TermText) -> u64
+    ensures { result ≡ factor_in name.now term.now }
+{
+    match term {
+        TermText::Product { factor, field, .. } => {
+            if field.as_bytes() == name.as_bytes() {
+                number_in(*factor)
+            } else {
+                0
+            }
+        }
+        TermText::Field(field) => {
+            if field.as_bytes() == name.as_bytes() {
+                1
+            } else {
+                0
+            }
+        }
+        TermText::Constant(_) => 0,
+    }
+}
+
+// What a term is, where it is no field's.
+fn constant_in(term: &TermText) -> u64
+    ensures { result ≡ constant_in term.now }
+{
+    match term {
+        TermText::Product { .. } | TermText::Field(_) => 0,
+        TermText::Constant(number) => number_in(*number),
+    }
+}
+
+// What a term is to the field with this name, or to the constant.
+fn part_in(name: Option<&Name>, term: &TermText) -> u64
+    requires { is_large_term term.now ≡ false }
+    ensures value { result ≡ part_in (option_map (λ n. n.now) name.entry) term.now }
+    ensures size { result ≤ 10 ^ 15 }
+{
+    match name {
+        None => constant_in(term),
+        Some(name) => factor_in(name, term),
+    }
+}
+
+// The number with its sign.
+fn signed(sign: Sign, number: u64) -> i128
+    ensures value { result ≡ signed sign number }
+    ensures size { unsigned_abs result ≡ number }
+{
+    match sign {
+        Sign::Plus => i128::from(number),
+        Sign::Minus => -i128::from(number),
+    }
+}
+
+// What the terms are to the field with this name, or to the constant.
+fn parts_added(name: Option<&Name>, terms: &[SignedTerm]) -> i128
+    requires { list_any (λ t. is_large_term t.term) terms.now ≡ false }
+    ensures value { result ≡ parts_added (option_map (λ n. n.now) name.entry) terms.now }
+    ensures size { unsigned_abs result ≤ 10 ^ 15 * length terms.now }
+{
+    let mut total = 0;
+    for term in terms {
+        total += signed(term.sign, part_in(name, &term.term));
+    }
+    total
+}
+
+// The same of all terms of a sum.
+fn sum_added(name: Option<&Name>, sum: &SumText) -> i128
+    requires { is_large_sum sum.now ≡ false }
+    ensures value { result ≡ parts_added (option_map (λ n. n.now) name.entry) (terms_of sum.now) }
+    ensures size { unsigned_abs result ≤ 10 ^ 15 + 10 ^ 15 * 2 ^ 64 }
+{
+    let sign = sum.sign.unwrap_or(Sign::Plus);
+    let first = signed(sign, part_in(name, &sum.first));
+    let rest = parts_added(name, sum.rest.as_slice());
+    first + rest
+}
+
+// The same of the left side without the right.
+fn parts_moved(name: Option<&Name>, left: &SumText, right: &SumText) -> i128
+    requires left { is_large_sum left.now ≡ false }
+    requires right { is_large_sum right.now ≡ false }
+    ensures { result ≡ parts_moved (option_map (λ n. n.now) name.entry) left.now right.now }
+{
+    let taken = sum_added(name, right);
+    sum_added(name, left) - taken
+}
+
+// The factor of the field with this name, moved to the left side.
+fn moved_factor(left: &SumText, right: &SumText, name: &Name) -> i128
+    requires left { is_large_sum left.now ≡ false }
+    requires right { is_large_sum right.now ≡ false }
+    ensures { result ≡ moved_factor left.now right.now name.now }
+{
+    parts_moved(Some(name), left, right)
+}
+
+// The constant, moved to the left side.
+fn moved_constant(left: &SumText, right: &SumText) -> i128
+    requires left { is_large_sum left.now ≡ false }
+    requires right { is_large_sum right.now ≡ false }
+    ensures { result ≡ moved_constant left.now right.now }
+{
+    parts_moved(None, left, right)
+}
+
+// Whether the factor of the field with this name is above its limit once it is added up.
+fn is_large_factor(left: &SumText, right: &SumText, name: &Name) -> bool
+    requires left { is_large_sum left.now ≡ false }
+    requires right { is_large_sum right.now ≡ false }
+    ensures { result ≡ nat_lt (10 ^ 9) (unsigned_abs (moved_factor left.now right.now name.now)) }
+{
+    u128::from(MOST_FACTOR) < moved_factor(left, right, name).unsigned_abs()
+}
+
+// The same of any field.
+fn are_large_factors(fields: &[Field], left: &SumText, right: &SumText) -> bool
+    requires left { is_large_sum left.now ≡ false }
+    requires right { is_large_sum right.now ≡ false }
+    ensures { result ≡ list_any (λ f. nat_lt (10 ^ 9) (unsigned_abs (moved_factor left.now right.now f.name))) fields.now }
+{
+    for field in fields {
+        if is_large_factor(left, right, &field.name) {
+            return true;
+        }
+    }
+    false
+}
+
+// The same of the constant.
+fn is_large_constant(left: &SumText, right: &SumText) -> bool
+    requires left { is_large_sum left.now ≡ false }
+    requires right { is_large_sum right.now ≡ false }
+    ensures { result ≡ nat_lt (10 ^ 15) (unsigned_abs (moved_constant left.now right.now)) }
+{
+    u128::from(MOST_CONSTANT) < moved_constant(left, right).unsigned_abs()
+}
+
+/// Whether a number of the test, or a factor or the constant that is added up, is out of its limits.
+pub(crate) fn are_large_sums(fields: &[Field], left: &SumText, right: &SumText) -> bool
+    ensures { result ≡ (is_large_sum left.now || (is_large_sum right.now || (list_any (λ f. nat_lt (10 ^ 9) (unsigned_abs (moved_factor left.now right.now f.name))) fields.now || nat_lt (10 ^ 15) (unsigned_abs (moved_constant left.now right.now))))) }
+{
+    is_large_sum(left)
+        || is_large_sum(right)
+        || are_large_factors(fields, left, right)
+        || is_large_constant(left, right)
+}
+
+// Puts the term last where its factor is not 0.
+fn push_term(terms: &mut Vec<Term>, field: u32, factor: i64) -> Result<(), OutOfMemory>
+    ensures { OnOk result (terms.new.items ≡ (if int_eq factor (pos 0) then terms.old.items else terms.old.items ++ record { field = field; factor = factor } ∷ [])) }
+{
+    if factor != 0 {
+        terms.push(Term { field, factor })?;
+    }
+    Ok(())
+}
+
+// The factor of the field with this name, where it is within its limit.
+fn small_factor(left: &SumText, right: &SumText, name: &Name) -> i64
+    requires left { is_large_sum left.now ≡ false }
+    requires right { is_large_sum right.now ≡ false }
+    requires small { nat_lt (10 ^ 9) (unsigned_abs (moved_factor left.now right.now name.now)) ≡ false }
+    ensures { result ≡ moved_factor left.now right.now name.now }
+{
+    moved_factor(left, right, name) as i64
+}
+
+/// The constant, where it is within its limit.
+pub(crate) fn small_constant(left: &SumText, right: &SumText) -> i64
+    requires left { is_large_sum left.now ≡ false }
+    requires right { is_large_sum right.now ≡ false }
+    requires small { nat_lt (10 ^ 15) (unsigned_abs (moved_constant left.now right.now)) ≡ false }
+    ensures { result ≡ moved_constant left.now right.now }
+{
+    moved_constant(left, right) as i64
+}
+
+/// The terms of the fields whose factor is not 0, in declared order.
+pub(crate) fn moved_terms(
+    alloc: Global,
+    fields: &[Field],
+    left: &SumText,
+    right: &SumText,
+) -> Result<Vec<Term>, OutOfMemory>
+    requires few { length fields.now ≤ 64 }
+    requires left { is_large_sum left.now ≡ false }
+    requires right { is_large_sum right.now ≡ false }
+    requires small { list_any (λ f. nat_lt (10 ^ 9) (unsigned_abs (moved_factor left.now right.now f.name))) fields.now ≡ false }
+    ensures { IfOk result (λ terms. terms.items ≡ moved_terms left.now right.now 0 fields.now) }
+{
+    let mut terms = Vec::new(alloc);
+    for (i, field) in fields.iter().enumerate() {
+        push_term(&mut terms, i as u32, small_factor(left, right, &field.name))?;
+    }
+    Ok(terms)
+}

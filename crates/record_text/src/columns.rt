@@ -1,0 +1,61 @@
+ghost use Rattle.std.specs.Prelude.{◌≡◌, ◌≢◌, ◌≤◌, ◌+◌, ◌∷◌, [], IfErr, IfOk, IfSome, ◌<◌, MatchOption, Some, drop, length};
+ghost use Rattle.record_text.specs.Columns.{StandIn, columns_from, columns_of};
+ghost use Rattle.record_text.specs.Faults.{column_fault, field_fault};
+
+use crate::fault::SheetFault;
+use crate::texts::Texts;
+use crate::trim::trimmed;
+use edit_model::Field;
+use std::alloc::Global;
+
+/// The most columns that a header has.
+pub(crate) const MOST_COLUMNS: usize = 256;
+
+/// The column of each field, in declared order: the one whose header text is the field's name. The fault
+/// is that of the first field that stands in other than one.
+pub(crate) fn find_columns(
+    alloc: Global,
+    fields: &[Field],
+    header: &Texts,
+) -> Result<Vec<u32>, SheetFault>
+    requires few_fields { length fields.now ≤ 64 }
+    requires few_columns { length header.now ≤ 256 }
+    ensures columns { IfOk result (λ columns. StandIn fields.now header.now columns.items) }
+    ensures fault { IfErr result (λ e. e ≢ SheetFault.OutOfMemory → column_fault 0 fields.now header.now ≡ Some e) }
+{
+    let mut columns = Vec::with_capacity(alloc, fields.len())?;
+    for (number, field) in fields.iter().enumerate() {
+        let column = find_column(number as u32, field.name.as_bytes(), header)?;
+        columns.push(column)?;
+    }
+    Ok(columns)
+}
+
+/// The one column of the field of this number and name.
+fn find_column(field: u32, name: &[u8], header: &Texts) -> Result<u32, SheetFault>
+    requires { length header.now ≤ 256 }
+    ensures column { IfOk result (λ column. columns_of name.now header.now ≡ column ∷ []) }
+    ensures fault { IfErr result (λ e. field_fault field (columns_of name.now header.now) ≡ Some e) }
+{
+    let Some(column) = next_column(0, name, header) else {
+        return Err(SheetFault::NoColumn { field });
+    };
+    if next_column(column + 1, name, header).is_some() {
+        return Err(SheetFault::DoubleColumn { field });
+    }
+    Ok(column as u32)
+}
+
+/// The first column, from this number on, whose text is the name.
+fn next_column(from: usize, name: &[u8], header: &Texts) -> Option<usize>
+    requires { from ≤ length header.now }
+    ensures within { IfSome result (λ column. column < length header.now) }
+    ensures columns { MatchOption result (columns_from from name.now (drop from header.now) ≡ []) (λ column. columns_from from name.now (drop from header.now) ≡ column ∷ columns_from (column + 1) name.now (drop (column + 1) header.now)) }
+{
+    for column in from..header.len() {
+        if trimmed(header.get(column)) == name {
+            return Some(column);
+        }
+    }
+    None
+}

@@ -1,0 +1,152 @@
+ghost use Rattle.std.specs.Prelude.{◌≡◌, ◌<◌, ◌≤◌, ◌^◌, ◌*ℤ◌, IfSome, IfNone, ℕ, pos, position};
+ghost use Rattle.std.specs.Str.Parse.{digits_value};
+ghost use Rattle.fraction128.specs.declared.fraction.Fraction.{Fraction as Spelled};
+ghost use Rattle.record_text.specs.Numerals.{AreDigits, IsDecimal, IsNumeral, IsQuotient, IsUnsigned, has_minus, is_mark, signed, without_sign};
+
+use fraction128::Fraction;
+
+/// The most digits before a point.
+const MOST_WHOLE: usize = 15;
+
+/// The most digits behind a point.
+const MOST_DECIMALS: usize = 6;
+
+/// The most digits above a stroke.
+const MOST_ABOVE: usize = 21;
+
+/// The most digits below a stroke.
+const MOST_BELOW: usize = 7;
+
+/// The greatest denominator.
+const MOST_DENOMINATOR: u128 = 1_000_000;
+
+/// What a numeral spells without its sign.
+#[derive(Clone, Copy)]
+struct Ratio {
+    numerator: u128,
+    denominator: u128,
+}
+
+/// The fraction that a numeral spells, or None where the text is none. No memory.
+pub(crate) fn fraction_of_text(text: &[u8]) -> Option<Fraction>
+    ensures some { IfSome result (λ x. IsNumeral text.now x) }
+    ensures none { IfNone result ((x : Spelled) → ¬ IsNumeral text.now x) }
+{
+    let ratio = unsigned_ratio(without_sign(text))?;
+    Some(signed_fraction(has_minus(text), ratio))
+}
+
+fn has_minus(text: &[u8]) -> bool
+    ensures { result ≡ has_minus text.now }
+{
+    match text.split_first() {
+        Some((first, _)) => *first == b'-',
+        None => false,
+    }
+}
+
+fn without_sign(text: &[u8]) -> &[u8]
+    ensures { result.now ≡ without_sign text.now }
+{
+    match text.split_first() {
+        Some((first, rest)) => {
+            if *first == b'+' || *first == b'-' {
+                rest
+            } else {
+                text
+            }
+        }
+        None => text,
+    }
+}
+
+fn signed_fraction(minus: bool, ratio: Ratio) -> Fraction
+    requires numerator { ratio.numerator < 10 ^ 21 }
+    requires denominator { (1 ≤ ratio.denominator) × (ratio.denominator ≤ 1000000) }
+    ensures { result.numerator *ℤ pos ratio.denominator ≡ signed minus ratio.numerator *ℤ result.denominator }
+{
+    let size = ratio.numerator as i128;
+    let denominator = ratio.denominator as i128;
+    if minus {
+        Fraction::reduced(-size, denominator)
+    } else {
+        Fraction::reduced(size, denominator)
+    }
+}
+
+/// What a numeral without a sign spells: digits, digits with a point among them, or a quotient.
+fn unsigned_ratio(text: &[u8]) -> Option<Ratio>
+    ensures some { IfSome result (λ ratio. IsUnsigned text.now ratio.numerator ratio.denominator) }
+    ensures none { IfNone result ((numerator denominator : ℕ) → ¬ IsUnsigned text.now numerator denominator) }
+{
+    let Some(place) = mark_place(text) else {
+        return decimal_ratio(text, &[]);
+    };
+    let front = &text[..place];
+    let behind = &text[place + 1..];
+    if text[place] == b'.' {
+        decimal_ratio(front, behind)
+    } else {
+        quotient_ratio(front, behind)
+    }
+}
+
+/// The place of the first point or stroke.
+fn mark_place(text: &[u8]) -> Option<usize>
+    ensures { result ≡ position is_mark text.now }
+{
+    text.iter().position(|b| *b == b'.' || *b == b'/')
+}
+
+fn decimal_ratio(whole: &[u8], decimals: &[u8]) -> Option<Ratio>
+    ensures some { IfSome result (λ ratio. IsDecimal whole.now decimals.now ratio.numerator ratio.denominator) }
+    ensures none { IfNone result ((numerator denominator : ℕ) → ¬ IsDecimal whole.now decimals.now numerator denominator) }
+{
+    if whole.is_empty() && decimals.is_empty() {
+        return None;
+    }
+    let before = number_of_digits(whole, MOST_WHOLE)?;
+    let behind = number_of_digits(decimals, MOST_DECIMALS)?;
+    let denominator = 10_u128.pow(decimals.len() as u32);
+    Some(Ratio {
+        numerator: before * denominator + behind,
+        denominator,
+    })
+}
+
+fn quotient_ratio(above: &[u8], below: &[u8]) -> Option<Ratio>
+    ensures some { IfSome result (λ ratio. IsQuotient above.now below.now ratio.numerator ratio.denominator) }
+    ensures none { IfNone result ((numerator denominator : ℕ) → ¬ IsQuotient above.now below.now numerator denominator) }
+{
+    if above.is_empty() {
+        return None;
+    }
+    let numerator = number_of_digits(above, MOST_ABOVE)?;
+    let denominator = number_of_digits(below, MOST_BELOW)?;
+    if denominator == 0 || denominator > MOST_DENOMINATOR {
+        return None;
+    }
+    Some(Ratio {
+        numerator,
+        denominator,
+    })
+}
+
+/// The number that at most so many digits spell, 0 for none.
+fn number_of_digits(digits: &[u8], most: usize) -> Option<u128>
+    requires { most ≤ 21 }
+    ensures some { IfSome result (λ n. AreDigits most digits.now × (n ≡ digits_value 10 digits.now)) }
+    ensures none { IfNone result (¬ AreDigits most digits.now) }
+{
+    if digits.len() > most {
+        return None;
+    }
+    let mut number = 0;
+    for digit in digits {
+        if !digit.is_ascii_digit() {
+            return None;
+        }
+        number = number * 10 + u128::from(*digit - b'0');
+    }
+    Some(number)
+}
