@@ -1,0 +1,11 @@
+pub mod DivisionLaws
+pub mod Enough
+pub mod Members
+pub mod OneField
+pub mod ReductionLaws
+pub mod SetLaws
+pub mod ShapeLaws
+pub mod SubsumptionLaws
+pub mod SumCallers
+pub mod SumLaws
+pub mod SumSteps

@@ -1,0 +1,61 @@
+use Rattle.std.proofs.Common.{◌≡◌, zero, suc, ◌++◌, ◌||◌, Bool, true, false, if◌then◌else◌, List, [], ◌∷◌, All, ◌⊎◌, inl, inr, refl, sym, ap, ◌∙◌, subst, arith}
+use Rattle.std.specs.List.{filter, list_any}
+use Rattle.edit_line.specs.Reductions.{IsIn}
+
+-- Elements of lists.
+
+pub in-left : {X : Type 0} (x : X) (xs ys : List X) → IsIn x xs → IsIn x (xs ++ ys)
+in-left x [] ys h = absurd h
+in-left x (z ∷ xs) ys (inl e) = inl e
+in-left x (z ∷ xs) ys (inr h) = inr (in-left x xs ys h)
+
+pub in-right : {X : Type 0} (x : X) (xs ys : List X) → IsIn x ys → IsIn x (xs ++ ys)
+in-right x [] ys h = h
+in-right x (z ∷ xs) ys h = inr (in-right x xs ys h)
+
+pub in-either : {X : Type 0} (x : X) (xs ys : List X) → IsIn x (xs ++ ys) → IsIn x xs ⊎ IsIn x ys
+in-either x [] ys h = inr h
+in-either x (z ∷ xs) ys (inl e) = inl (inl e)
+in-either x (z ∷ xs) ys (inr h) = elim (in-either x xs ys h) [ inl there ↦ inl (inr there) | inr there ↦ inr there ]
+
+-- an element that passes the test stays in the filtered list
+pub in-filter : {X : Type 0} (test : X → Bool) (x : X) (xs : List X) → test x ≡ true → IsIn x xs → IsIn x (filter test xs)
+in-filter test x [] passes h = absurd h
+in-filter test x (y ∷ ys) passes h = by (test y) refl (in-filter test x ys passes) h
+  where
+    by : (b : Bool) → test y ≡ b → (IsIn x ys → IsIn x (filter test ys)) → (x ≡ y) ⊎ IsIn x ys → IsIn x (if b then y ∷ filter test ys else filter test ys)
+    by true e rest (inl same) = inl same
+    by true e rest (inr there) = inr (rest there)
+    by false e rest (inl same) = absurd (cc (sym e ∙ ap test (sym same) ∙ passes))
+    by false e rest (inr there) = rest there
+
+-- what stays in the filtered list was there, and passes the test
+pub in-filter-out : {X : Type 0} (test : X → Bool) (x : X) (xs : List X) → IsIn x (filter test xs) → IsIn x xs × (test x ≡ true)
+in-filter-out test x [] h = absurd h
+in-filter-out test x (y ∷ ys) h = by (test y) refl (in-filter-out test x ys) h
+  where
+    by : (b : Bool) → test y ≡ b → (IsIn x (filter test ys) → IsIn x ys × (test x ≡ true)) → IsIn x (if b then y ∷ filter test ys else filter test ys) → IsIn x (y ∷ ys) × (test x ≡ true)
+    by true e rest (inl same) = (inl same, ap test same ∙ e)
+    by true e rest (inr there) = let (was, passes) = rest there in (inr was, passes)
+    by false e rest there = let (was, passes) = rest there in (inr was, passes)
+
+-- an element of a list whose elements all have P
+pub in-all : {X : Type 0} (P : X → Type 0) (x : X) (xs : List X) → All P xs → IsIn x xs → P x
+in-all P x [] all h = absurd h
+in-all P x (y ∷ ys) all (inl same) = subst P (sym same) (all 0 y (omega arith))
+in-all P x (y ∷ ys) all (inr there) = in-all P x ys (λ k d below. all (suc k) d (omega arith)) there
+
+-- and the other way round
+pub all-in : {X : Type 0} (P : X → Type 0) (xs : List X) → ((x : X) → IsIn x xs → P x) → All P xs
+all-in P [] each k d below = absurd (omega arith)
+all-in P (x ∷ xs) each zero d below = each x (inl refl)
+all-in P (x ∷ xs) each (suc k) d below = all-in P xs (λ y there. each y (inr there)) k d (omega arith)
+
+-- an element that passes where some element does
+pub in-any : {X : Type 0} (test : X → Bool) (xs : List X) → list_any test xs ≡ true → (x : X) × IsIn x xs × (test x ≡ true)
+in-any test [] h = absurd (cc)
+in-any {X} test (y ∷ ys) h = by (test y) refl (in-any test ys) h
+  where
+    by : (b : Bool) → test y ≡ b → (list_any test ys ≡ true → (x : X) × IsIn x ys × (test x ≡ true)) → (b || list_any test ys) ≡ true → (x : X) × IsIn x (y ∷ ys) × (test x ≡ true)
+    by true e rest any = (y, inl refl, e)
+    by false e rest any = let (x, there, passes) = rest any in (x, inr there, passes)

@@ -1,0 +1,167 @@
+use Rattle.std.proofs.Common.{◌≡◌, ◌≢◌, ℕ, Bool, true, false, not, if◌then◌else◌, List, [], ◌∷◌, Option, Some, None, Result, Ok, Err, IfOk, IfErr, map, ℤ, pos, ◌<ℤ◌, ◌+ℤ◌, ◌*ℤ◌, refl, sym, ap, ◌∙◌, subst, arith}
+use Rattle.std.specs.Bool.{one_answer}
+use Rattle.std.specs.Ordering.{int_eq}
+use Rattle.std.proofs.lemmas.Bool.Decides.{Decides-int_eq}
+use Rattle.std.proofs.lemmas.Int.{ints}
+use Rattle.fraction128.proofs.CommonDenominator.{over_product, over_sum}
+use Rattle.fraction128.proofs.RatioLaws.{added-value, scaled-value}
+use Rattle.fraction128.proofs.Whole.{parts, ring, same_dif}
+use Rattle.fraction128.specs.Formulas.{Ratio, added, ratio_of, scaled, then_some}
+use Rattle.fraction128.specs.declared.fraction.Fraction.{Fraction}
+use Rattle.edit_model.specs.Points.{Point}
+use Rattle.edit_model.specs.RowPoints.{Agrees}
+use Rattle.edit_model.specs.Rows.{value_of}
+use Rattle.edit_model.specs.Trials.{IsNumberValue, sum_with}
+use Rattle.edit_model.specs.Corrections.{differs_from}
+use Rattle.edit_model.specs.declared.value.Value.{Value}
+use Rattle.edit_model.specs.declared.value.Value.TheVariants.{Code, Number, Bad}
+use Rattle.edit_line.specs.Lines.{IsEnough, LineParts, amount, weighted}
+use Rattle.edit_line.specs.Shapes.{number_fields}
+use Rattle.edit_line.specs.Subsumption.{is_enough}
+use Rattle.edit_line.specs.Sums.{AgreesWith, AtFactors, HasNumbers, fails_at, fails_by, next_sum, or_field, sum_at, sum_from, whole}
+use Rattle.edit_line.specs.declared.overflow.LineOverflow.{LineOverflow}
+use Rattle.edit_line.proofs.Enough.{IsEnough-times, IsEnough_cancel, is_enough-Decides}
+
+-- A line's sum at a record is its amount at each point that agrees with the record.
+
+-- a value that leads on to an answer
+led_on : {A B : Type 0} (o : Option A) (next : A → Option B) (b : B) → then_some o next ≡ Some b → (a : A) × (o ≡ Some a) × (next a ≡ Some b)
+led_on None next b e = absurd (cc)
+led_on (Some a) next b e = (a, refl, e)
+
+-- a sum that leads on to an answer
+field_on : (f : ℕ) (o : Option Ratio) (next : Ratio → Result Ratio ℕ) (s : Ratio) → or_field f o next ≡ Ok s → (sum : Ratio) × (o ≡ Some sum) × (next sum ≡ Ok s)
+field_on f None next s e = absurd (cc)
+field_on f (Some sum) next s e = (sum, refl, e)
+
+some_same : {A : Type 0} (a b : A) → Some a ≡ Some b → a ≡ b
+some_same a b e = cc
+
+ok_same : {A : Type 0} (a b : A) (r : Result A ℕ) → r ≡ Ok a → r ≡ Ok b → a ≡ b
+ok_same a b r first second = cc
+
+nothing_more : (l : ℤ) → pos 0 +ℤ l ≡ l
+nothing_more l = rw (parts l) (simp ring (same_dif _ _ _ _ (omega arith)))
+
+regrouped : (w l a n : ℤ) → w +ℤ (l +ℤ n *ℤ a) ≡ (a *ℤ n +ℤ w) +ℤ l
+regrouped w l a n = rw (parts w, parts l, parts a, parts n) (simp ring (same_dif _ _ _ _ (omega arith)))
+
+no_term : (w l a n : ℤ) → a ≡ pos 0 → w +ℤ l ≡ (a *ℤ n +ℤ w) +ℤ l
+no_term w l a n is = rw (is, parts w, parts l, parts n) (simp ring (same_dif _ _ _ _ (omega arith)))
+
+over_one : (n d : ℤ) → n *ℤ d ≡ n *ℤ d *ℤ pos 1
+over_one n d = rw (parts n, parts d) (simp ring (same_dif _ _ _ _ (omega arith)))
+
+-- a point that has the number's value at a field
+number_agrees : (x : Fraction) (p : Point) (f : ℕ) → differs_from (Number x) p f ≡ false → x.numerator *ℤ p.denominator ≡ p.numerator f *ℤ x.denominator
+number_agrees x p f same = sym ((Decides-int_eq (p.numerator f *ℤ x.denominator) (x.numerator *ℤ p.denominator)).0 (true_from_not _ same))
+  where
+    true_from_not : (b : Bool) → not b ≡ false → b ≡ true
+    true_from_not true h = refl
+    true_from_not false h = sym h
+
+module _ (p : Point) where
+  -- the sum so far is l over the point's denominator
+  pub IsOverPoint : Ratio → ℤ → Type 0
+  IsOverPoint s l = (s.numerator *ℤ p.denominator ≡ l *ℤ s.denominator) × (pos 0 <ℤ s.denominator)
+
+  with-value : (sum s : Ratio) (k l : ℤ) (v : Value) (f : ℕ) → IsNumberValue v → differs_from v p f ≡ false → IsOverPoint sum l → sum_with sum k v ≡ Some s
+      → IsOverPoint s (l +ℤ p.numerator f *ℤ k)
+  unfolding IsOverPoint
+  with-value sum s k l Bad f is same before e = absurd is
+  with-value sum s k l (Code c) f is same before e = absurd is
+  with-value sum s k l (Number x) f is same before e =
+      let (y, first, second) = led_on (scaled (ratio_of x) k) (λ y. added sum y) s e in
+      let product = scaled-value (ratio_of x) k y x.positive first in
+      let total = added-value sum y s before.1 product.1 second in
+      let y_over : y.numerator *ℤ p.denominator ≡ p.numerator f *ℤ k *ℤ y.denominator =
+      over_product x.numerator x.denominator y.numerator y.denominator (p.numerator f) p.denominator k x.positive (number_agrees x p f same) product.0 in
+      (over_sum sum.numerator sum.denominator y.numerator y.denominator s.numerator s.denominator l (p.numerator f *ℤ k) p.denominator before.1 product.1 before.0 y_over total.0, total.1)
+
+  -- one factor more
+  next-over : (sum s : Ratio) (a l w : ℤ) (v : Value) (f : ℕ) → (a ≢ pos 0 → IsNumberValue v) → (a ≢ pos 0 → differs_from v p f ≡ false) → IsOverPoint sum l → next_sum a v sum ≡ Some s
+      → (m : ℤ) × IsOverPoint s m × (w +ℤ m ≡ (a *ℤ p.numerator f +ℤ w) +ℤ l)
+  unfolding IsOverPoint
+  next-over sum s a l w v f number agrees before e = by (int_eq a (pos 0)) refl e
+    where
+      by : (b : Bool) → int_eq a (pos 0) ≡ b → (if b then Some sum else sum_with sum a v) ≡ Some s
+          → (m : ℤ) × ((s.numerator *ℤ p.denominator ≡ m *ℤ s.denominator) × (pos 0 <ℤ s.denominator)) × (w +ℤ m ≡ (a *ℤ p.numerator f +ℤ w) +ℤ l)
+      by true is h = (l, subst (λ (r : Ratio). (r.numerator *ℤ p.denominator ≡ l *ℤ r.denominator) × (pos 0 <ℤ r.denominator)) (some_same sum s h) before, no_term w l a (p.numerator f) ((Decides-int_eq a (pos 0)).0 is))
+      by false is h =
+          let apart : a ≢ pos 0 = λ same. absurd (cc (sym is ∙ (Decides-int_eq a (pos 0)).1 same)) in
+          (l +ℤ p.numerator f *ℤ a, with-value sum s a l v f (number apart) (agrees apart) before h, regrouped w l a (p.numerator f))
+
+  -- all factors
+  sum_from-over : (fields : List ℕ) (factors : List ℤ) (row : List Value) (sum s : Ratio) (l : ℤ)
+      → AtFactors (λ f. IsNumberValue (value_of row f)) fields factors → AtFactors (λ f. Agrees row p f) fields factors
+      → IsOverPoint sum l → sum_from fields factors row sum ≡ Ok s → IsOverPoint s (weighted factors (map p.numerator fields) +ℤ l)
+  sum_from-over [] factors row sum s l held agreed before e = ended (weighted_none factors) (ok_same sum s (Ok sum) refl e) before
+    where
+      weighted_none : (factors : List ℤ) → weighted factors [] ≡ pos 0
+      weighted_none [] = refl
+      weighted_none (a ∷ factors) = refl
+
+      ended : weighted factors [] ≡ pos 0 → sum ≡ s → IsOverPoint sum l → IsOverPoint s (weighted factors [] +ℤ l)
+      ended none same h = subst (λ (z : ℤ). IsOverPoint s z) (sym (ap (λ (z : ℤ). z +ℤ l) none ∙ nothing_more l)) (subst (λ (r : Ratio). IsOverPoint r l) same h)
+  sum_from-over (f ∷ fields) [] row sum s l held agreed before e = subst (λ (z : ℤ). IsOverPoint s z) (sym (nothing_more l)) (subst (λ (r : Ratio). IsOverPoint r l) (ok_same sum s (Ok sum) refl e) before)
+  sum_from-over (f ∷ fields) (a ∷ factors) row sum s l held agreed before e =
+      let (next, first, second) = field_on f (next_sum a (value_of row f) sum) (λ next. sum_from fields factors row next) s e in
+      let (m, here, same) = next-over sum next a l (weighted factors (map p.numerator fields)) (value_of row f) f held.0 agreed.0 before first in
+      subst (λ (z : ℤ). IsOverPoint s z) same (sum_from-over fields factors row next s m held.1 agreed.1 here second)
+
+  -- the sum of a line is its amount, over the point's denominator
+  pub sum_at-over : (line : LineParts) (row : List Value) (s : Ratio) → HasNumbers row line → AgreesWith row p line → sum_at line row ≡ Ok s
+      → (s.numerator *ℤ p.denominator ≡ amount line p *ℤ s.denominator) × (pos 0 <ℤ s.denominator)
+  unfolding IsOverPoint
+  sum_at-over line row s held agreed e =
+      sum_from-over (number_fields line.shape) line.factors row (record { numerator = line.constant; denominator = pos 1 }) s (line.constant *ℤ p.denominator) held agreed
+      (over_one line.constant p.denominator, omega (arith, ints)) e
+
+-- two numbers of one sign are enough alike
+alike : (strict : Bool) (a b d e : ℤ) → pos 0 <ℤ d → pos 0 <ℤ e → a *ℤ d ≡ b *ℤ e → is_enough strict a ≡ is_enough strict b
+alike strict a b d e d_above e_above same =
+    one_answer (is_enough strict a) (is_enough strict b) (is_enough-Decides strict a) (
+      λ h. IsEnough_cancel strict a d d_above (subst (λ (z : ℤ). IsEnough strict z) (sym same) (IsEnough-times strict b e e_above ((is_enough-Decides strict b).0 h))),
+      λ h. (is_enough-Decides strict b).1 (IsEnough_cancel strict b e e_above (subst (λ (z : ℤ). IsEnough strict z) same (IsEnough-times strict a d d_above h))),
+    )
+
+-- whether a line fails at a record is whether its amount is not enough at a point that agrees with the record
+pub fails_at-truth : (line : LineParts) (row : List Value) (p : Point) (failed : Bool) → HasNumbers row line → AgreesWith row p line → fails_at line row ≡ Ok failed
+    → failed ≡ not (is_enough line.strict (amount line p))
+fails_at-truth line row p failed held agreed e = by (sum_at line row) refl e
+  where
+    by : (r : Result Ratio ℕ) → sum_at line row ≡ r → fails_by line.strict r ≡ Ok failed → failed ≡ not (is_enough line.strict (amount line p))
+    by (Ok s) is h =
+        let over = sum_at-over p line row s held agreed is in
+        sym (ok_same _ failed _ refl h) ∙ ap not (alike line.strict s.numerator (amount line p) p.denominator s.denominator p.positive over.1 over.0)
+    by (Err f) is h = absurd (cc)
+
+-- ---- what the calls answer
+
+-- the sum over a line's own fields and numbers
+pub sum-is : (line : LineParts) (row : List Value) (fields : List ℕ) (factors : List ℤ) (constant : ℤ) → fields ≡ number_fields line.shape → factors ≡ line.factors → constant ≡ line.constant
+    → sum_from fields factors row (whole constant) ≡ sum_at line row
+sum-is line row fields factors constant same_fields same_factors same_constant =
+    ap (λ fs. sum_from fs factors row (whole constant)) same_fields ∙ ap (λ (ks : List ℤ). sum_from (number_fields line.shape) ks row (whole constant)) same_factors ∙ ap (λ (k : ℤ). sum_from (number_fields line.shape) line.factors row (whole k)) same_constant
+
+-- a value that was answered
+module _ (line : LineParts) (row : List Value) (sum : Result Ratio ℕ) (same : sum ≡ sum_at line row) where
+  pub value-answered : (r : Result Fraction LineOverflow) → IfOk r (λ x. sum ≡ Ok (ratio_of x)) → IfOk r (λ x. sum_at line row ≡ Ok (ratio_of x))
+  value-answered (Ok x) e = sym same ∙ e
+  value-answered (Err fault) e = tt
+
+  pub overflow-answered : (r : Result Fraction LineOverflow) → IfErr r (λ fault. sum ≡ Err fault.field) → IfErr r (λ fault. sum_at line row ≡ Err fault.field)
+  overflow-answered (Ok x) e = tt
+  overflow-answered (Err fault) e = sym same ∙ e
+
+  pub amount-answered : (r : Result Fraction LineOverflow) → HasNumbers row line → IfOk r (λ x. sum ≡ Ok (ratio_of x))
+      → IfOk r (λ x. (p : Point) → AgreesWith row p line → x.numerator *ℤ p.denominator ≡ amount line p *ℤ x.denominator)
+  amount-answered (Ok x) held e = λ p agrees. (sum_at-over p line row (ratio_of x) held agrees (sym same ∙ e)).0
+  amount-answered (Err fault) held e = tt
+
+-- whether a line fails, from its sum
+pub fails-answered : (line : LineParts) (row : List Value) (p : Point) (sum : Fraction) (strict enough : Bool) (n : ℤ) → HasNumbers row line → AgreesWith row p line → sum_at line row ≡ Ok (ratio_of sum)
+    → strict ≡ line.strict → n ≡ sum.numerator → enough ≡ is_enough strict n → not enough ≡ not (is_enough line.strict (amount line p))
+fails-answered line row p sum strict enough n held agrees e same number is =
+    let answer : fails_at line row ≡ Ok (not (is_enough line.strict sum.numerator)) = ap (fails_by line.strict) e in
+    ap not (is ∙ ap (λ b. is_enough b n) same ∙ ap (λ (k : ℤ). is_enough line.strict k) number) ∙ fails_at-truth line row p _ held agrees answer

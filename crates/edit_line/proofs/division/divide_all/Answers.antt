@@ -1,0 +1,15 @@
+use Rattle.std.proofs.Common.{FitsSigned, int_div, rules}
+use Rattle.std.proofs.lemmas.Int.{to_z-of_z}
+use Rattle.std.proofs.lemmas.List.Edits.{map_over_more}
+use mir.Syntax.{w128}
+use Rattle.edit_line.proofs.division.divide_all.Goals as goal
+
+pub loop-i-preserved : goal.loop-i-preserved
+loop-i-preserved c =
+    let divisor_fits : FitsSigned w128 c.args.divisor = search rules in
+    let number_fits : FitsSigned w128 c.index.result.now = search rules in
+    let quotient_fits : FitsSigned w128 c.quotient.result = search rules in
+    let before = simp to_z-of_z at c.loop-i.invariant in
+    let is = simp to_z-of_z at c.quotient.ensures in
+    let more = map_over_more (λ z. int_div z c.args.divisor) c.args.numbers.now.items c.loop-i.numbers.items c.loop-i.i c.index.result.now (search rules) before c.index.ensures in
+    simp to_z-of_z (rw is more)

@@ -1,0 +1,6 @@
+use Rattle.std.proofs.Common.{◌≡◌}
+use Rattle.edit_line.specs.Reductions.{reduce_derived}
+use Rattle.edit_line.proofs.reduction.reduce.Given as goal
+
+abbrev pub invariant-loop-line : goal.invariant-loop-line
+invariant-loop-line l = l.kept.items ≡ reduce_derived l.yielded

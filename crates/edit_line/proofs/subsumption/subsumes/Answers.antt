@@ -1,0 +1,20 @@
+use Rattle.std.proofs.Common.{◌≡◌, true}
+use Rattle.edit_line.specs.Sets.{all_inside}
+use Rattle.edit_line.specs.Subsumption.{is_false, same_all}
+use Rattle.edit_line.proofs.SubsumptionLaws.{subsumes-false, subsumes-follows, subsumes-tight}
+use Rattle.edit_line.proofs.subsumption.subsumes.Goals as goal
+
+pub returns-then-is_false-clause-follows : goal.returns-then-is_false-clause-follows
+returns-then-is_false-clause-follows c =
+    let a = c.args.a.now in
+    let b = c.args.b.now in
+    let lie : all_inside b.sets a.sets ≡ true = cc (c.sets.ensures.sets, c.sets-2.ensures.sets) in
+    let never : is_false a ≡ true = cc in λ shape _. subsumes-follows a b shape (subsumes-false a b lie never)
+
+pub returns-then-eq-clause-follows : goal.returns-then-eq-clause-follows
+returns-then-eq-clause-follows c =
+    let a = c.args.a.now in
+    let b = c.args.b.now in
+    let lie : all_inside b.sets a.sets ≡ true = cc (c.sets.ensures.sets, c.sets-2.ensures.sets) in
+    let equal : same_all a.factors b.factors ≡ true = cc (c.factors.ensures.factors, c.factors-else-is_false.ensures.factors) in
+    λ shape tighter. subsumes-follows a b shape (subsumes-tight a b lie equal (cc (c.is_tighter.ensures, tighter)))

@@ -1,0 +1,14 @@
+use Rattle.std.proofs.Common.{◌≡◌, FitsSigned, rules, to_z, of_z}
+use Rattle.std.proofs.lemmas.Int.{to_z-of_z}
+use mir.Syntax.{w128}
+use Rattle.fraction128.proofs.RatioLaws.{added-answered, scaled-answered}
+use Rattle.edit_model.proofs.TrialSteps.{with_number}
+use Rattle.edit_line.proofs.sum.with_value.Goals as goal
+
+pub returns-in_ok-scale-in-Number : goal.returns-in_ok-scale-in-Number
+returns-in_ok-scale-in-Number c =
+    let fits : FitsSigned w128 c.args.factor = search rules in
+    let given : to_z w128 (of_z w128 c.args.factor) ≡ c.args.factor = to_z-of_z w128 c.args.factor fits in
+    with_number c.args.sum c.in-Number.number c.in_ok-scale-in-Number.field-0 c.args.factor _ _ c.scale.result c.add.result c.in-Number.is given
+    (scaled-answered c.in-Number.number _ c.scale.result c.scale.ensures.value c.scale.ensures.fits c.scale.ensures.overflow) c.in_ok-scale-in-Number.was
+    (added-answered c.args.sum c.in_ok-scale-in-Number.field-0 c.add.result c.add.ensures.value c.add.ensures.fits c.add.ensures.overflow)

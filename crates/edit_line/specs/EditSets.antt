@@ -1,0 +1,30 @@
+use Rattle.std.specs.Prelude.{◌≡◌, ℕ, List, All, map}
+use Rattle.std.specs.List.Sorted.{IsStrictlyIncreasing}
+use Rattle.edit_line.specs.Lines.{LineParts}
+use Rattle.edit_line.specs.Reductions.{reduce_derived}
+use Rattle.edit_line.specs.Shapes.{Domain}
+use Rattle.edit_line.specs.declared.derived.Derived.{Derived}
+use Rattle.edit_line.specs.declared.derived.Origin.TheVariants.{Base}
+
+-- numbered lines over a survey's fields
+pub record EditsParts : Type 0 where
+  pub shape : List Domain
+  pub lines : List (ℕ × LineParts)
+
+-- the lines are over these fields, and each number is greater than those before it
+pub record AreEdits (shape : List Domain) (lines : List (ℕ × LineParts)) : Type 0 where
+  pub over : All (λ (e : ℕ × LineParts). e.1.shape ≡ shape) lines
+  pub rising : IsStrictlyIncreasing (map (λ (e : ℕ × LineParts). e.0) lines)
+
+-- the edits of these lines
+abbrev pub edits_of : List Domain → List (ℕ × LineParts) → EditsParts
+edits_of shape lines = record { shape = shape; lines = lines }
+
+-- the numbered edits as lines with their origins
+abbrev pub base_lines : List (ℕ × LineParts) → List Derived
+base_lines edits = map (λ (e : ℕ × LineParts). record { line = e.1; origin = Base e.0 }) edits
+
+-- what is kept of all edits: they are edits, and beside them stand their reduced lines
+pub record IsReducedOf (shape : List Domain) (lines : List (ℕ × LineParts)) (reduced : List Derived) : Type 0 where
+  pub edits : AreEdits shape lines
+  pub lines_are : reduced ≡ reduce_derived (base_lines lines)

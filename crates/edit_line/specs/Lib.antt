@@ -1,0 +1,10 @@
+pub mod Boxes
+pub mod Divisors
+pub mod EditSets
+pub mod Lines
+pub mod Places
+pub mod Reductions
+pub mod Sets
+pub mod Shapes
+pub mod Subsumption
+pub mod Sums

@@ -1,0 +1,40 @@
+use Rattle.std.specs.Prelude.{◌≡◌, ◌⊎◌, ◌||◌, not, true, List, [], ◌∷◌, ◌++◌, map, if◌then◌else◌}
+use Rattle.std.specs.List.{filter, fold, list_any}
+use Rattle.edit_line.specs.Lines.{Follows, LineParts}
+use Rattle.edit_line.specs.Subsumption.{is_trivial, subsumes}
+use Rattle.edit_line.specs.declared.derived.Derived.{Derived}
+
+-- the kept lines with one more, unless it is trivial or one of them subsumes it; those that it subsumes are removed
+abbrev pub with_line : List LineParts → LineParts → List LineParts
+with_line kept line =
+    if is_trivial line || list_any (λ a. subsumes a line) kept
+    then kept
+    else filter (λ b. not (subsumes line b)) kept ++ line ∷ []
+
+-- the lines without trivial and subsumed ones
+abbrev pub reduce : List LineParts → List LineParts
+reduce lines = fold with_line [] lines
+
+-- the same of lines with their origins
+abbrev pub with_derived : List Derived → Derived → List Derived
+with_derived kept new =
+    if is_trivial new.line || list_any (λ (a : Derived). subsumes a.line new.line) kept
+    then kept
+    else filter (λ (b : Derived). not (subsumes new.line b.line)) kept ++ new ∷ []
+
+-- the derived lines, with their origins, without trivial and subsumed ones
+abbrev pub reduce_derived : List Derived → List Derived
+reduce_derived lines = fold with_derived [] lines
+
+-- the lines alone
+abbrev pub lines_of : List Derived → List LineParts
+lines_of derived = map (λ (d : Derived). d.line) derived
+
+-- the element stands in the list
+abbrev pub IsIn : {X : Type 0} → X → List X → Type 0
+IsIn x [] = ⊥
+IsIn x (y ∷ ys) = (x ≡ y) ⊎ IsIn x ys
+
+-- the line is trivial, or follows from one of the kept lines
+abbrev pub IsCovered : List LineParts → LineParts → Type 0
+IsCovered kept line = (is_trivial line ≡ true) ⊎ ((s : LineParts) × IsIn s kept × Follows (s ∷ []) line)

@@ -1,0 +1,73 @@
+ghost use Rattle.std.specs.Prelude.{◌≡◌, IfOk};
+ghost use Rattle.edit_line.specs.Boxes.{IsBox, box_of};
+ghost use Rattle.edit_line.specs.Sets.{AreSets};
+ghost use Rattle.edit_line.specs.Shapes.{domains_of, shape_of, whole_sets};
+
+use crate::shape::Shape;
+use edit_model::Survey;
+use foundation::OutOfMemory;
+use std::alloc::Global;
+use std::marker::Model;
+
+/// A box of codes: a set, as bits, for each categorical field in declared order. No set is empty or has
+/// a code that the field has not.
+#[derive(Debug, Drop)]
+pub struct CodeBox {
+    sets: Vec<u64>,
+    shape: Shape,
+}
+
+impl Model for CodeBox {
+    ghost use Rattle.edit_line.specs.Boxes.{BoxParts, IsBox, box_of};
+    ghost use Rattle.edit_line.specs.Shapes.{domains_of};
+
+    ghost Value = { BoxParts };
+
+    ghost view = { λ b. box_of (domains_of b.shape.count b.shape.codes) b.sets.items };
+
+    ghost invariant = { λ b. IsBox (box_of (domains_of b.shape.count b.shape.codes) b.sets.items) };
+}
+
+impl CodeBox {
+    /// The box of these sets, over the survey's fields. No memory.
+    pub fn new(survey: &Survey, sets: Vec<u64>) -> CodeBox
+        requires { IsBox (box_of (shape_of survey.now.fields) sets.items) }
+        ensures { result ≡ box_of (shape_of survey.now.fields) sets.items }
+    {
+        CodeBox::over(Shape::of(survey), sets)
+    }
+
+    /// The box of these sets, over fields of this shape. No memory.
+    pub fn over(shape: Shape, sets: Vec<u64>) -> CodeBox
+        requires { IsBox (box_of (domains_of shape.count shape.codes) sets.items) }
+        ensures { result ≡ box_of (domains_of shape.count shape.codes) sets.items }
+    {
+        CodeBox { sets, shape }
+    }
+
+    /// The set of codes, as bits, of each categorical field, in declared order. No memory.
+    pub fn sets(&self) -> &[u64]
+        ensures sets { result.now ≡ self.now.sets }
+        ensures fit { AreSets self.now.sets (whole_sets self.now.shape) }
+    {
+        self.sets.as_slice()
+    }
+
+    /// The shape of the survey. No memory.
+    pub fn shape(&self) -> Shape
+        ensures { domains_of result.count result.codes ≡ self.now.shape }
+    {
+        self.shape
+    }
+
+    /// An equal box.
+    pub fn copy(&self, alloc: Global) -> Result<CodeBox, OutOfMemory>
+        ensures { IfOk result (λ copy. copy ≡ self.now) }
+    {
+        let sets = Vec::from_slice(alloc, self.sets.as_slice())?;
+        Ok(CodeBox {
+            sets,
+            shape: self.shape,
+        })
+    }
+}

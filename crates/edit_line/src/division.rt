@@ -1,0 +1,50 @@
+//! The numbers of a line, divided by their greatest common divisor.
+ghost use Rattle.std.specs.Prelude.{◌≡◌, ◌<ℤ◌, ◌∷◌, All, int_div, map, pos};
+ghost use Rattle.fraction128.specs.Range.{InRange};
+ghost use Rattle.edit_line.specs.Divisors.{gcd_all};
+ghost use Rattle.edit_line.specs.Divisors as divisors;
+
+use fraction128::gcd;
+
+/// The greatest common divisor of the numbers, or 1 where they are all 0. They are in range. No memory.
+pub fn divisor_of(factors: &[i128], constant: i128) -> i128
+    requires factors { All InRange factors.now }
+    requires constant { InRange constant }
+    ensures value { result ≡ divisors.divisor_of factors.now constant }
+    ensures positive { pos 0 <ℤ result }
+    ensures in_range { InRange result }
+{
+    let divisor = gcd_of(factors, constant);
+    if divisor == 0 { 1 } else { divisor }
+}
+
+/// Divides each of the numbers by the positive divisor, toward zero. No memory.
+pub fn divide_all(numbers: &mut Vec<i128>, divisor: i128)
+    requires { pos 0 <ℤ divisor }
+    ensures { numbers.new.items ≡ map (λ c. int_div c divisor) numbers.old.items }
+{
+    for i in 0..numbers.len() {
+        numbers[i] = quotient(numbers[i], divisor);
+    }
+}
+
+/// The quotient by a positive divisor, rounded toward zero. No memory.
+pub fn quotient(number: i128, divisor: i128) -> i128
+    requires { pos 0 <ℤ divisor }
+    ensures { result ≡ int_div number divisor }
+{
+    number / divisor
+}
+
+// The greatest common divisor of the numbers.
+fn gcd_of(factors: &[i128], constant: i128) -> i128
+    requires factors { All InRange factors.now }
+    requires constant { InRange constant }
+    ensures { result ≡ pos (gcd_all (constant ∷ factors.now)) }
+{
+    let mut divisor = gcd(0, constant);
+    for factor in factors {
+        divisor = gcd(divisor, *factor);
+    }
+    divisor
+}

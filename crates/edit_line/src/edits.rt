@@ -1,0 +1,88 @@
+ghost use Rattle.std.specs.Prelude.{◌≡◌, IfOk};
+ghost use Rattle.edit_line.specs.EditSets.{AreEdits, base_lines, edits_of};
+ghost use Rattle.edit_line.specs.Reductions.{reduce_derived};
+ghost use Rattle.edit_line.specs.Shapes.{domains_of, shape_of};
+
+use crate::derived::{Derived, Origin};
+use crate::line::Line;
+use crate::reduction::reduce;
+use crate::shape::Shape;
+use edit_model::Survey;
+use foundation::OutOfMemory;
+use std::alloc::Global;
+use std::marker::Model;
+
+/// Numbered lines over a survey's fields, and the lines that elimination begins with, which are these
+/// reduced. Each number is greater than those before it.
+#[derive(Debug, Drop)]
+pub struct Edits {
+    shape: Shape,
+    lines: Vec<(u32, Line)>,
+    reduced: Vec<Derived>,
+}
+
+impl Model for Edits {
+    ghost use Rattle.edit_line.specs.EditSets.{EditsParts, IsReducedOf, edits_of};
+    ghost use Rattle.edit_line.specs.Shapes.{domains_of};
+
+    ghost Value = { EditsParts };
+
+    ghost view = { λ e. edits_of (domains_of e.shape.count e.shape.codes) e.lines.items };
+
+    ghost invariant = { λ e. IsReducedOf (domains_of e.shape.count e.shape.codes) e.lines.items e.reduced.items };
+}
+
+impl Edits {
+    /// The edits of these lines over the survey's fields.
+    pub fn new(
+        alloc: Global,
+        survey: &Survey,
+        lines: Vec<(u32, Line)>,
+    ) -> Result<Edits, OutOfMemory>
+        requires { AreEdits (shape_of survey.now.fields) lines.items }
+        ensures { IfOk result (λ edits. edits ≡ edits_of (shape_of survey.now.fields) lines.items) }
+    {
+        let reduced = reduce(alloc, base_lines(alloc, &lines)?)?;
+        Ok(Edits {
+            shape: Shape::of(survey),
+            lines,
+            reduced,
+        })
+    }
+
+    /// The lines with their numbers, in order. No memory.
+    pub fn lines(&self) -> &[(u32, Line)]
+        ensures lines { result.now ≡ self.now.lines }
+        ensures fit { AreEdits self.now.shape self.now.lines }
+    {
+        self.lines.as_slice()
+    }
+
+    /// The shape of the survey. No memory.
+    pub fn shape(&self) -> Shape
+        ensures { domains_of result.count result.codes ≡ self.now.shape }
+    {
+        self.shape
+    }
+
+    /// The lines of the edits, reduced, each with the number of its edit as its origin. No memory.
+    pub fn reduced(&self) -> &[Derived]
+        ensures { result.now ≡ reduce_derived (base_lines self.now.lines) }
+    {
+        self.reduced.as_slice()
+    }
+}
+
+// The lines, each with its number as its origin.
+fn base_lines(alloc: Global, lines: &[(u32, Line)]) -> Result<Vec<Derived>, OutOfMemory>
+    ensures { IfOk result (λ base. base.items ≡ base_lines lines.now) }
+{
+    let mut base = Vec::new(alloc);
+    for (number, line) in lines {
+        base.push(Derived {
+            line: line.copy(alloc)?,
+            origin: Origin::Base(u64::from(*number)),
+        })?;
+    }
+    Ok(base)
+}

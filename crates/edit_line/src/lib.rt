@@ -1,0 +1,31 @@
+//! Linear edits, as elimination takes them: IF each code is in its set THEN a sum of factor * value and a
+//! constant is at least 0, or above it. Begin with [`Line`]; its meaning is in `specs/Lines.antt`. The
+//! contracts say what a line's sum is at a record ([`value_at`], [`fails`]), when one line makes another
+//! needless ([`subsumes`]), and that a list without its needless lines ([`reduce`]) says the same.
+#![tactic(auto)]
+
+mod code_box;
+mod derived;
+mod division;
+mod edits;
+mod line;
+mod overflow;
+mod place;
+mod reduction;
+mod shape;
+mod subsumption;
+mod sum;
+#[cfg(test)]
+mod tests;
+
+pub use code_box::CodeBox;
+pub use derived::{Derived, Origin};
+pub use division::{divide_all, divisor_of, quotient};
+pub use edits::Edits;
+pub use line::Line;
+pub use overflow::LineOverflow;
+pub use place::Place;
+pub use reduction::reduce;
+pub use shape::Shape;
+pub use subsumption::subsumes;
+pub use sum::{fails, value_at};

@@ -1,0 +1,67 @@
+ghost use Rattle.std.specs.Prelude.{◌≡◌, [], ◌∷◌, true};
+ghost use Rattle.edit_line.specs.Lines.{Follows};
+ghost use Rattle.edit_line.specs.Sets.{all_inside};
+ghost use Rattle.edit_line.specs.Subsumption.{has_no_factor, is_enough, is_false, is_tighter, is_trivial, subsumes};
+
+use crate::line::Line;
+
+/// Whether a subsumes b: each set of b is inside a's, and a is false wherever its codes are, or both have
+/// the same factors and a's constant is less, or equal where a is strict or b is not. Then b says nothing
+/// that a does not say. No memory.
+pub fn subsumes(a: &Line, b: &Line) -> bool
+    ensures exact { result ≡ subsumes a.now b.now }
+    ensures follows { b.now.shape ≡ a.now.shape → result ≡ true → Follows (a.now ∷ []) b.now }
+{
+    are_inside(b.sets(), a.sets())
+        && (is_false(a) || (a.factors() == b.factors() && is_tighter(a, b)))
+}
+
+/// Whether the line has no factor, and always holds. No memory.
+pub(crate) fn is_trivial(line: &Line) -> bool
+    ensures { result ≡ is_trivial line.now }
+{
+    has_no_factor(line) && is_enough(line.strict(), line.constant())
+}
+
+/// Whether a number is above 0, or, where it need not be strictly, at least 0.
+pub(crate) fn is_enough(strict: bool, number: i128) -> bool
+    ensures { result ≡ is_enough strict number }
+{
+    if strict { number > 0 } else { number >= 0 }
+}
+
+// Whether the line has no factor, and never holds where its codes are.
+fn is_false(line: &Line) -> bool
+    ensures { result ≡ is_false line.now }
+{
+    has_no_factor(line) && !is_enough(line.strict(), line.constant())
+}
+
+// Whether no numerical field stands in the line.
+fn has_no_factor(line: &Line) -> bool
+    ensures { result ≡ has_no_factor line.now }
+{
+    line.factors().iter().all(|factor| *factor == 0)
+}
+
+// Whether a's constant is less, or is equal and a is strict or b is not.
+fn is_tighter(a: &Line, b: &Line) -> bool
+    ensures { result ≡ is_tighter a.now b.now }
+{
+    a.constant() < b.constant() || (a.constant() == b.constant() && (a.strict() || !b.strict()))
+}
+
+// Whether each set of the first lies inside that of the second.
+fn are_inside(first: &[u64], second: &[u64]) -> bool
+    ensures { result ≡ all_inside first.now second.now }
+{
+    if first.len() < second.len() {
+        return false;
+    }
+    for i in 0..second.len() {
+        if first[i] & second[i] != first[i] {
+            return false;
+        }
+    }
+    true
+}
