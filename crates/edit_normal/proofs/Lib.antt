@@ -1,0 +1,6 @@
+pub mod LineSteps
+pub mod NormalLaws
+pub mod Pushes
+pub mod RuleForms
+pub mod SumLaws
+pub mod TestSets

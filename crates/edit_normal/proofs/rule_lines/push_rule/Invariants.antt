@@ -1,0 +1,12 @@
+use Rattle.std.proofs.Common.{◌≡◌, drop}
+use Rattle.edit_line.specs.Sets.{AreWithin}
+use Rattle.edit_line.specs.Shapes.{whole_sets}
+use Rattle.edit_normal.specs.NormalForm.{implied_lines}
+use Rattle.edit_normal.proofs.rule_lines.push_rule.Given as goal
+
+abbrev pub invariant-loop-condition : goal.invariant-loop-condition
+invariant-loop-condition l = record {
+  same : implied_lines l.layout l.sets.items (drop l.condition-index l.rule.conditions) l.rule.conclusion ≡ implied_lines l.layout (whole_sets l.layout) l.rule.conditions l.rule.conclusion;
+  within : AreWithin l.sets.items (whole_sets l.layout);
+  unchanged : l.lines.items ≡ l.fn.lines.items;
+}

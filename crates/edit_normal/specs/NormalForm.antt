@@ -1,0 +1,81 @@
+use Rattle.std.specs.Prelude.{ℕ, ℤ, ◌==◌, not, Bool, true, false, List, [], ◌∷◌, map, bit_and, bit_xor, pos, negsuc, slice_index_or, slice_set, if◌then◌else◌}
+use Rattle.std.specs.List.{filter}
+use lib.IntN.{neg_ℤ}
+use Rattle.edit_model.specs.declared.rule.Compare.{Compare}
+use Rattle.edit_model.specs.declared.rule.Compare.TheVariants.{Ge, Gt, Le, Lt, Eq}
+use Rattle.edit_model.specs.declared.rule.Linear.{Linear}
+use Rattle.edit_model.specs.declared.rule.Rule.{Rule}
+use Rattle.edit_model.specs.declared.rule.Term.{Term}
+use Rattle.edit_model.specs.declared.rule.Test.{Test}
+use Rattle.edit_model.specs.declared.rule.Test.TheVariants.{Number, Codes}
+use Rattle.edit_line.specs.Divisors.{reduced}
+use Rattle.edit_line.specs.Lines.{LineParts, parts_of}
+use Rattle.edit_line.specs.Sets.{has_codes}
+use Rattle.edit_line.specs.Shapes.{Domain, code_fields, number_fields, place_in, whole_sets}
+
+-- ---- the codes at which a rule asks for something
+
+-- the codes that meet a code test, of all the field's codes
+abbrev pub test_set : ℕ → Bool → ℕ → ℕ
+test_set whole negated codes = if negated then bit_xor whole codes else codes
+
+-- the sets, narrowed at the field to the codes that meet the test
+abbrev pub narrowed : List Domain → List ℕ → ℕ → Bool → ℕ → List ℕ
+narrowed shape sets field negated codes =
+    let place = place_in (code_fields shape) field in
+    slice_set sets place (bit_and (slice_index_or sets place 0) (test_set (slice_index_or (whole_sets shape) place 0) negated codes))
+
+-- ---- what it asks for
+
+-- the factor of a field in a linear test, 0 where it has no term
+abbrev pub term_factor : List Term → ℕ → ℤ
+term_factor [] f = pos 0
+term_factor (term ∷ terms) f = if term.field == f then term.factor else term_factor terms f
+
+-- the line that says that the sum of a linear test is at least 0, or above it, where the codes are in the sets
+abbrev pub line_of : List Domain → List ℕ → Linear → Bool → LineParts
+line_of shape sets e strict = reduced (parts_of shape sets (map (term_factor e.terms) (number_fields shape)) e.constant strict)
+
+-- the same of the negative of the sum
+abbrev pub negative_line_of : List Domain → List ℕ → Linear → Bool → LineParts
+negative_line_of shape sets e strict = reduced (parts_of shape sets (map (λ f. neg_ℤ (term_factor e.terms f)) (number_fields shape)) (neg_ℤ e.constant) strict)
+
+-- the line -1 >= 0, which holds nowhere in the sets
+abbrev pub never : List Domain → List ℕ → LineParts
+never shape sets = parts_of shape sets (map (λ f. pos 0) (number_fields shape)) (negsuc 0) false
+
+-- the lines that say that the sum compares with 0 so, where the codes are in the sets
+abbrev pub compare_lines : List Domain → List ℕ → Linear → Compare → List LineParts
+compare_lines shape sets e Ge = line_of shape sets e false ∷ []
+compare_lines shape sets e Gt = line_of shape sets e true ∷ []
+compare_lines shape sets e Le = negative_line_of shape sets e false ∷ []
+compare_lines shape sets e Lt = negative_line_of shape sets e true ∷ []
+compare_lines shape sets e Eq = line_of shape sets e false ∷ negative_line_of shape sets e false ∷ []
+
+-- the lines that say that the sum does not compare with 0 so; an equation is no condition
+abbrev pub contrary_lines : List Domain → List ℕ → Linear → Compare → List LineParts
+contrary_lines shape sets e Ge = negative_line_of shape sets e true ∷ []
+contrary_lines shape sets e Gt = negative_line_of shape sets e false ∷ []
+contrary_lines shape sets e Le = line_of shape sets e true ∷ []
+contrary_lines shape sets e Lt = line_of shape sets e false ∷ []
+contrary_lines shape sets e Eq = []
+
+-- the lines of a conclusion, where the codes are in the sets
+abbrev pub conclusion_lines : List Domain → List ℕ → Test → List LineParts
+conclusion_lines shape sets (Number e) = compare_lines shape sets e e.compare
+conclusion_lines shape sets (Codes field negated codes) = never shape (narrowed shape sets field (not negated) codes) ∷ []
+
+-- the lines of a comparison as the last condition: where the conclusion fails, so must it
+abbrev pub condition_lines : List Domain → List ℕ → Linear → Test → List LineParts
+condition_lines shape sets e (Codes field negated codes) = contrary_lines shape (narrowed shape sets field (not negated) codes) e e.compare
+condition_lines shape sets e (Number c) = []
+
+-- IF the conditions that are left THEN the conclusion, where the codes are in the sets
+abbrev pub implied_lines : List Domain → List ℕ → List Test → Test → List LineParts
+implied_lines shape sets [] conclusion = conclusion_lines shape sets conclusion
+implied_lines shape sets (Codes field negated codes ∷ conditions) conclusion = implied_lines shape (narrowed shape sets field negated codes) conditions conclusion
+implied_lines shape sets (Number e ∷ conditions) conclusion = condition_lines shape sets e conclusion
+
+-- the normal form of a rule: its lines, but for those with an empty set (Fellegi and Holt 1976, for code tests)
+abbrev pub normal_lines_of : List Domain → Rule → List LineParts
+normal_lines_of shape rule = filter (λ line. has_codes line.sets) (implied_lines shape (whole_sets shape) rule.conditions rule.conclusion)

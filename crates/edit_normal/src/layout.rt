@@ -1,0 +1,88 @@
+ghost use Rattle.std.specs.Prelude.{◌≡◌, ◌<◌, IfOk};
+ghost use Rattle.edit_line.specs.Shapes.{code_fields, domains_of, number_fields, place_in, shape_of, whole_sets};
+
+use edit_line::Shape;
+use edit_model::Survey;
+use foundation::OutOfMemory;
+use std::alloc::Global;
+use std::marker::Model;
+
+/// A survey's shape, with what is looked up for each line: the fields of each kind, and the whole set of
+/// each categorical field. Contracts see the shape.
+#[derive(Drop)]
+pub(crate) struct Layout {
+    shape: Shape,
+    numbers: Vec<u32>,
+    categories: Vec<u32>,
+    wholes: Vec<u64>,
+}
+
+impl Model for Layout {
+    ghost use Rattle.std.specs.Prelude.{List};
+    ghost use Rattle.edit_line.specs.Shapes.{Domain, domains_of};
+    ghost use Rattle.edit_normal.specs.Layouts.{IsLayout};
+
+    ghost Value = { List Domain };
+
+    ghost view = { λ l. domains_of l.shape.count l.shape.codes };
+
+    ghost invariant = { λ l. IsLayout (domains_of l.shape.count l.shape.codes) l.numbers.items l.categories.items l.wholes.items };
+}
+
+impl Layout {
+    /// The layout of the survey.
+    pub(crate) fn of(alloc: Global, survey: &Survey) -> Result<Layout, OutOfMemory>
+        ensures { IfOk result (λ layout. layout ≡ shape_of survey.now.fields) }
+    {
+        let shape = Shape::of(survey);
+        let numbers = Vec::from_slice(alloc, survey.numbers())?;
+        let categories = Vec::from_slice(alloc, survey.codes())?;
+        let wholes = shape.whole_sets(alloc)?;
+        Ok(Layout {
+            shape,
+            numbers,
+            categories,
+            wholes,
+        })
+    }
+
+    /// The shape.
+    pub(crate) fn shape(&self) -> Shape
+        ensures { domains_of result.count result.codes ≡ self.now }
+    {
+        self.shape
+    }
+
+    /// The numerical fields, in declared order.
+    pub(crate) fn numbers(&self) -> &[u32]
+        ensures { result.now ≡ number_fields self.now }
+    {
+        self.numbers.as_slice()
+    }
+
+    /// The whole set of each categorical field, in declared order.
+    pub(crate) fn wholes(&self) -> &[u64]
+        ensures { result.now ≡ whole_sets self.now }
+    {
+        self.wholes.as_slice()
+    }
+
+    /// The place of a field among the categorical ones.
+    pub(crate) fn place(&self, field: u32) -> usize
+        ensures { result ≡ place_in (code_fields self.now) field }
+    {
+        place_among(&self.categories, field)
+    }
+}
+
+// The place of the field in the list, past the end where it is not there.
+fn place_among(fields: &[u32], field: u32) -> usize
+    ensures { result ≡ place_in fields.now field }
+{
+    for (place, other) in fields.iter().enumerate() {
+        if *other == field {
+            return place;
+        }
+    }
+    fields.len()
+}

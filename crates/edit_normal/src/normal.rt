@@ -1,0 +1,31 @@
+ghost use Rattle.std.specs.Prelude.{◌≡◌, ◌↔◌, ◌≤◌, ◌==◌, ℕ, Some, IfOk, count_by, slice_get};
+ghost use Rattle.edit_model.specs.Points.{HasCodesFrom, Holds, Point};
+ghost use Rattle.edit_model.specs.declared.rule.Rule.{Rule as AnyRule};
+ghost use Rattle.edit_line.specs.Shapes.{shape_of};
+ghost use Rattle.edit_normal.specs.RuleLines.{LinesHold, lines_from};
+
+use crate::layout::Layout;
+use crate::rule_line::RuleLine;
+use crate::rule_lines::push_rule;
+use edit_model::Survey;
+use foundation::OutOfMemory;
+use std::alloc::Global;
+
+/// The lines of each rule, in order: the normal form of an edit (Fellegi and Holt 1976; De Waal, Pannekoek
+/// and Scholtus 2011, on edits that mix codes and numbers). A rule has at most two lines, and they all hold
+/// at a point exactly where the rule does. A line with an empty set of codes says nothing and is left out.
+pub fn normal_lines(alloc: Global, survey: &Survey) -> Result<Vec<RuleLine>, OutOfMemory>
+    ensures exact { IfOk result (λ lines. lines.items ≡ lines_from (shape_of survey.now.fields) 0 survey.now.rules) }
+    ensures few { IfOk result (λ lines. (i : ℕ) → count_by (λ l. l.rule == i) lines.items ≤ 2) }
+    ensures same { IfOk result (λ lines. (i : ℕ) (rule : AnyRule) (p : Point)
+        → slice_get survey.now.rules i ≡ Some rule
+        → HasCodesFrom 0 survey.now.fields p
+        → LinesHold lines.items i p ↔ Holds rule p) }
+{
+    let layout = Layout::of(alloc, survey)?;
+    let mut lines = Vec::new(alloc);
+    for (number, rule) in survey.rules().iter().enumerate() {
+        push_rule(alloc, &layout, number as u32, rule, &mut lines)?;
+    }
+    Ok(lines)
+}

@@ -1,0 +1,188 @@
+//! The lines of one rule.
+ghost use Rattle.std.specs.Prelude.{◌≡◌, [], ◌∷◌, All, OnOk};
+ghost use Rattle.edit_line.specs.Sets.{AreWithin, has_codes};
+ghost use Rattle.edit_line.specs.Shapes.{whole_sets};
+ghost use Rattle.edit_normal.specs.NormalForm.{compare_lines, condition_lines, conclusion_lines, contrary_lines, implied_lines, never};
+ghost use Rattle.edit_normal.specs.Sides.{joined_by, side_line};
+ghost use Rattle.edit_normal.specs.Fits.{FitsCodes};
+
+use crate::layout::Layout;
+use crate::narrow::{narrow, narrow_where_false};
+use crate::rule_line::RuleLine;
+use crate::side::{Side, side_line};
+use edit_line::Line;
+use edit_model::{Compare, Linear, Rule, Test};
+use foundation::OutOfMemory;
+use std::alloc::Global;
+
+/// Appends the lines of the rule of this number.
+pub(crate) fn push_rule(
+    alloc: Global,
+    layout: &Layout,
+    number: u32,
+    rule: &Rule,
+    lines: &mut Vec<RuleLine>,
+) -> Result<(), OutOfMemory>
+    requires conditions { All (FitsCodes layout.now) rule.now.conditions }
+    requires conclusion { FitsCodes layout.now rule.now.conclusion }
+    ensures { OnOk result (lines.new.items ≡ joined_by lines.old.items number (implied_lines layout.now (whole_sets layout.now) rule.now.conditions rule.now.conclusion)) }
+{
+    let mut sets = Vec::from_slice(alloc, layout.wholes())?;
+    for condition in rule.conditions.as_slice() {
+        match condition {
+            Test::Codes {
+                field,
+                negated,
+                codes,
+            } => narrow(layout, &mut sets, *field, *negated, *codes),
+            Test::Number(linear) => {
+                return push_condition(alloc, layout, sets, linear, &rule.conclusion, number, lines);
+            }
+        }
+    }
+    push_conclusion(alloc, layout, sets, &rule.conclusion, number, lines)
+}
+
+// Appends the lines of a conclusion, where the codes are in the sets.
+fn push_conclusion(
+    alloc: Global,
+    layout: &Layout,
+    mut sets: Vec<u64>,
+    conclusion: &Test,
+    rule: u32,
+    lines: &mut Vec<RuleLine>,
+) -> Result<(), OutOfMemory>
+    requires within { AreWithin sets.items (whole_sets layout.now) }
+    requires fits { FitsCodes layout.now conclusion.now }
+    ensures { OnOk result (lines.new.items ≡ joined_by lines.old.items rule (conclusion_lines layout.now sets.items conclusion.now)) }
+{
+    match conclusion {
+        Test::Number(linear) => push_compare(alloc, layout, &sets, linear, rule, lines),
+        Test::Codes {
+            field,
+            negated,
+            codes,
+        } => {
+            narrow_where_false(layout, &mut sets, *field, *negated, *codes);
+            push_never(alloc, layout, sets, rule, lines)
+        }
+    }
+}
+
+// Appends the lines of a comparison as the last condition, where the codes are in the sets.
+fn push_condition(
+    alloc: Global,
+    layout: &Layout,
+    mut sets: Vec<u64>,
+    linear: &Linear,
+    conclusion: &Test,
+    rule: u32,
+    lines: &mut Vec<RuleLine>,
+) -> Result<(), OutOfMemory>
+    requires within { AreWithin sets.items (whole_sets layout.now) }
+    requires fits { FitsCodes layout.now conclusion.now }
+    ensures { OnOk result (lines.new.items ≡ joined_by lines.old.items rule (condition_lines layout.now sets.items linear.now conclusion.now)) }
+{
+    match conclusion {
+        Test::Number(_) => Ok(()),
+        Test::Codes {
+            field,
+            negated,
+            codes,
+        } => {
+            narrow_where_false(layout, &mut sets, *field, *negated, *codes);
+            push_contrary(alloc, layout, &sets, linear, rule, lines)
+        }
+    }
+}
+
+// Appends the lines that say that the sum compares so.
+fn push_compare(
+    alloc: Global,
+    layout: &Layout,
+    sets: &[u64],
+    linear: &Linear,
+    rule: u32,
+    lines: &mut Vec<RuleLine>,
+) -> Result<(), OutOfMemory>
+    requires { AreWithin sets.now (whole_sets layout.now) }
+    ensures { OnOk result (lines.new.items ≡ joined_by lines.old.items rule (compare_lines layout.now sets.now linear.now linear.now.compare)) }
+{
+    match linear.compare {
+        Compare::Ge => push_side(alloc, layout, sets, linear, Side::AtLeast, rule, lines),
+        Compare::Gt => push_side(alloc, layout, sets, linear, Side::Above, rule, lines),
+        Compare::Le => push_side(alloc, layout, sets, linear, Side::AtMost, rule, lines),
+        Compare::Lt => push_side(alloc, layout, sets, linear, Side::Below, rule, lines),
+        Compare::Eq => {
+            push_side(alloc, layout, sets, linear, Side::AtLeast, rule, lines)?;
+            push_side(alloc, layout, sets, linear, Side::AtMost, rule, lines)
+        }
+    }
+}
+
+// Appends the line that says that the sum does not compare so.
+fn push_contrary(
+    alloc: Global,
+    layout: &Layout,
+    sets: &[u64],
+    linear: &Linear,
+    rule: u32,
+    lines: &mut Vec<RuleLine>,
+) -> Result<(), OutOfMemory>
+    requires { AreWithin sets.now (whole_sets layout.now) }
+    ensures { OnOk result (lines.new.items ≡ joined_by lines.old.items rule (contrary_lines layout.now sets.now linear.now linear.now.compare)) }
+{
+    match linear.compare {
+        Compare::Ge => push_side(alloc, layout, sets, linear, Side::Below, rule, lines),
+        Compare::Gt => push_side(alloc, layout, sets, linear, Side::AtMost, rule, lines),
+        Compare::Le => push_side(alloc, layout, sets, linear, Side::Above, rule, lines),
+        Compare::Lt => push_side(alloc, layout, sets, linear, Side::AtLeast, rule, lines),
+        Compare::Eq => Ok(()),
+    }
+}
+
+// Appends the line that says that the sum is on this side of 0, unless a set is empty.
+fn push_side(
+    alloc: Global,
+    layout: &Layout,
+    sets: &[u64],
+    linear: &Linear,
+    side: Side,
+    rule: u32,
+    lines: &mut Vec<RuleLine>,
+) -> Result<(), OutOfMemory>
+    requires { AreWithin sets.now (whole_sets layout.now) }
+    ensures { OnOk result (lines.new.items ≡ joined_by lines.old.items rule (side_line layout.now sets.now linear.now side ∷ [])) }
+{
+    if have_codes(sets) {
+        let line = side_line(alloc, layout, sets, linear, side)?;
+        lines.push(RuleLine { rule, line })?;
+    }
+    Ok(())
+}
+
+// Appends the line -1 >= 0, unless a set is empty.
+fn push_never(
+    alloc: Global,
+    layout: &Layout,
+    sets: Vec<u64>,
+    rule: u32,
+    lines: &mut Vec<RuleLine>,
+) -> Result<(), OutOfMemory>
+    requires { AreWithin sets.items (whole_sets layout.now) }
+    ensures { OnOk result (lines.new.items ≡ joined_by lines.old.items rule (never layout.now sets.items ∷ [])) }
+{
+    if have_codes(&sets) {
+        let factors = vec![in alloc; 0; layout.numbers().len()]?;
+        let line = Line::over(layout.shape(), sets, factors, -1, false);
+        lines.push(RuleLine { rule, line })?;
+    }
+    Ok(())
+}
+
+// Whether no set is empty.
+fn have_codes(sets: &[u64]) -> bool
+    ensures { result ≡ has_codes sets.now }
+{
+    sets.iter().all(|set| *set != 0)
+}

@@ -1,0 +1,95 @@
+//! A line that says on which side of 0 the sum of a linear test is.
+ghost use Rattle.std.specs.Prelude.{◌≡◌, All, IfOk, map};
+ghost use Rattle.fraction128.specs.Range.{InRange};
+ghost use Rattle.edit_line.specs.Sets.{AreSets};
+ghost use Rattle.edit_line.specs.Shapes.{whole_sets};
+ghost use Rattle.edit_normal.specs.NormalForm.{term_factor};
+ghost use Rattle.edit_normal.specs.Sides.{is_negative, is_strict, side_line, signed};
+
+use crate::layout::Layout;
+use edit_line::Line;
+use edit_model::Linear;
+use foundation::OutOfMemory;
+use std::alloc::Global;
+
+/// A side of 0.
+#[derive(Clone, Copy)]
+pub(crate) enum Side {
+    AtLeast,
+    Above,
+    AtMost,
+    Below,
+}
+
+impl Side {
+    /// Whether the line is that of the negative of the sum.
+    fn is_negative(self) -> bool
+        ensures { result ≡ is_negative self }
+    {
+        matches!(self, Side::AtMost | Side::Below)
+    }
+
+    /// Whether the line is strict.
+    fn is_strict(self) -> bool
+        ensures { result ≡ is_strict self }
+    {
+        matches!(self, Side::Above | Side::Below)
+    }
+}
+
+/// The line that says that the test's sum is on this side of 0 where the codes are in the sets.
+pub(crate) fn side_line(
+    alloc: Global,
+    layout: &Layout,
+    sets: &[u64],
+    linear: &Linear,
+    side: Side,
+) -> Result<Line, OutOfMemory>
+    requires { AreSets sets.now (whole_sets layout.now) }
+    ensures { IfOk result (λ line. line ≡ side_line layout.now sets.now linear.now side) }
+{
+    let negative = side.is_negative();
+    let sets = Vec::from_slice(alloc, sets)?;
+    let factors = factors_of(alloc, layout.numbers(), linear, negative)?;
+    let constant = signed(linear.constant, negative);
+    Ok(Line::divided(layout.shape(), sets, factors, constant, side.is_strict()))
+}
+
+// The factor of each field in the test, or its negative.
+fn factors_of(
+    alloc: Global,
+    fields: &[u32],
+    linear: &Linear,
+    negative: bool,
+) -> Result<Vec<i128>, OutOfMemory>
+    ensures factors { IfOk result (λ v. v.items ≡ map (λ f. signed negative (term_factor linear.now.terms f)) fields.now) }
+    ensures in_range { IfOk result (λ v. All InRange v.items) }
+{
+    let mut factors = Vec::new(alloc);
+    for field in fields {
+        factors.push(factor_at(linear, *field, negative))?;
+    }
+    Ok(factors)
+}
+
+// The factor of the field in the test, or its negative; 0 where it has no term.
+fn factor_at(linear: &Linear, field: u32, negative: bool) -> i128
+    ensures factor { result ≡ signed negative (term_factor linear.now.terms field) }
+    ensures in_range { InRange result }
+{
+    for term in linear.terms.as_slice() {
+        if term.field == field {
+            return signed(term.factor, negative);
+        }
+    }
+    0
+}
+
+// The number, or its negative.
+fn signed(number: i64, negative: bool) -> i128
+    ensures value { result ≡ signed negative number }
+    ensures in_range { InRange result }
+{
+    let wide = i128::from(number);
+    if negative { -wide } else { wide }
+}
