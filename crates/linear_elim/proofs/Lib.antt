@@ -1,0 +1,20 @@
+pub mod BetweenLaws
+pub mod CombinationLaws
+pub mod CountLaws
+pub mod ListMembers
+pub mod OriginLaws
+pub mod OverflowLaws
+pub mod PairLaws
+pub mod PointLaws
+pub mod ResultLaws
+pub mod ShapeLaws
+pub mod StepLaws
+pub mod SystemLaws
+mod WorkedSystems
+mod ColumnLaws
+mod CombineSteps
+mod SixFields
+mod StepClauses
+mod StepLoops
+mod SumSteps
+mod SystemLoops

@@ -1,0 +1,275 @@
+use Rattle.std.proofs.Common.{◌≡◌, ◌&&◌, ◌||◌, not, Bool, true, false, ℕ, List, All, ◌⊎◌, inl, inr, length, map, ℤ, pos, int_lt, ◌<ℤ◌, ◌+ℤ◌, ◌-ℤ◌, ◌*ℤ◌, refl, sym, ap, ◌∙◌, subst, arith}
+use Rattle.std.specs.List.{filter}
+use Rattle.std.proofs.lemmas.Int.{ints}
+use Rattle.std.proofs.lemmas.List.{length-map}
+use Rattle.fraction128.proofs.Whole.{comm, parts, ring, same_dif}
+use Rattle.edit_model.specs.Points.{Point}
+use Rattle.edit_line.specs.Lines.{AllHold, HasShape, HaveShape, IsEnough, LineHolds, LineParts, amount, factor}
+use Rattle.edit_line.specs.Reductions.{IsIn}
+use Rattle.edit_line.specs.Sets.{AllInside, is_inside}
+use Rattle.edit_line.specs.Shapes.{Domain, IsNumerical, code_fields, codes_at}
+use Rattle.edit_line.proofs.Enough.{IsEnough-times, IsEnough_cancel}
+use Rattle.edit_line.proofs.Members.{all-in, in-all, in-either, in-filter, in-filter-out, in-left, in-right}
+use Rattle.edit_line.proofs.ReductionLaws.{HaveShape-reduce, all-reduce, holds-reduce, reduce-holds}
+use Rattle.edit_line.proofs.SetLaws.{both_true, is_inside-Decides}
+use Rattle.linear_elim.specs.Combinations.{all_meet, combination, first_multiplier, second_multiplier, is_flat, is_lower, is_upper, meets}
+use Rattle.linear_elim.specs.PointChanges.{DiffersOnlyAt}
+use Rattle.linear_elim.specs.Steps.{combinations, eliminated, is_opposite, step}
+use Rattle.linear_elim.proofs.BetweenLaws.{IsWithin, LeavesValue, between, by_sign}
+use Rattle.linear_elim.proofs.CombinationLaws.{LineHolds-combined, amount-combined, inside-all_meet, inside-meets}
+use Rattle.linear_elim.proofs.ListMembers.{in-flat_map, in-flat_map-out, in-map, in-map-out}
+use Rattle.linear_elim.proofs.PairLaws.{HasShape-combination, combination-flat, combination-is, combination_divisor, multipliers-cancel}
+use Rattle.linear_elim.proofs.PointLaws.{LineHolds-others, holds-put, put, put-code, put-differs, rest_at}
+
+-- One step of elimination: its lines hold at a point exactly where some value at the field makes the lines hold.
+
+-- ---- the lines of a step
+
+-- the tests of a factor's sign
+pub above_tells : (a : ℤ) → int_lt (pos 0) a ≡ true → pos 0 <ℤ a
+above_tells a h = grind (arith, ints)
+
+pub below_tells : (a : ℤ) → int_lt a (pos 0) ≡ true → a <ℤ pos 0
+below_tells a h = grind (arith, ints)
+
+above_told : (a : ℤ) → pos 0 <ℤ a → int_lt (pos 0) a ≡ true
+above_told a h = grind (arith, ints)
+
+below_told : (a : ℤ) → a <ℤ pos 0 → int_lt a (pos 0) ≡ true
+below_told a h = grind (arith, ints)
+
+clash : (b : Bool) → b ≡ true → not b ≡ true → ⊥
+clash true e h = cc
+clash false e h = cc
+
+none_tells : (a : ℤ) → (not (int_lt (pos 0) a) && not (int_lt a (pos 0))) ≡ true → a ≡ pos 0
+none_tells a h = elim (by_sign a) [
+  | inl above ↦ absurd (clash (int_lt (pos 0) a) (above_told a above) (both_true _ _ h).0)
+  | inr other ↦ elim other [ inl none ↦ none | inr below ↦ absurd (clash (int_lt a (pos 0)) (below_told a below) (both_true _ _ h).1) ]
+]
+
+none_told : (a : ℤ) → a ≡ pos 0 → (not (int_lt (pos 0) a) && not (int_lt a (pos 0))) ≡ true
+none_told a e = rw e refl
+
+-- two of the lines that the step combines
+pub record IsOppositePair (lines : List LineParts) (f : ℕ) (s t : LineParts) : Type 0 where
+  pub first : IsIn s lines
+  pub second : IsIn t lines
+  pub above : pos 0 <ℤ factor s f
+  pub below : factor t f <ℤ pos 0
+  pub meet : all_meet s.sets t.sets ≡ true
+
+module _ (lines : List LineParts) (f : ℕ) where
+  -- a line of the step is a line without the field, or the combination of an opposite pair
+  pub from-eliminated : (line : LineParts) → IsIn line (eliminated lines f)
+      → (IsIn line lines × (factor line f ≡ pos 0)) ⊎ ((s : LineParts) × (t : LineParts) × IsOppositePair lines f s t × (line ≡ combination s t f))
+  from-eliminated line there = elim (in-either line (filter (is_flat f) lines) (combinations lines f) there) [
+    | inl flat ↦ (let (was, none) = in-filter-out (is_flat f) line lines flat in inl (was, none_tells (factor line f) none))
+    | inr pair ↦ (
+        let (s, s_there, from) = in-flat_map-out (λ s. map (λ t. combination s t f) (filter (is_opposite f s) lines)) line (filter (is_lower f) lines) pair in
+        let (t, t_there, same) = in-map-out (λ t. combination s t f) line (filter (is_opposite f s) lines) from in
+        let (s_in, lower) = in-filter-out (is_lower f) s lines s_there in
+        let (t_in, opposite) = in-filter-out (is_opposite f s) t lines t_there in
+        let (upper, meet) = both_true _ _ opposite in
+        inr (s, t, record { first = s_in; second = t_in; above = above_tells (factor s f) lower; below = below_tells (factor t f) upper; meet = meet }, same)
+        )
+  ]
+
+  -- and the other way round
+  pub flat-eliminated : (line : LineParts) → IsIn line lines → factor line f ≡ pos 0 → IsIn line (eliminated lines f)
+  flat-eliminated line there none = in-left line (filter (is_flat f) lines) (combinations lines f) (in-filter (is_flat f) line lines (none_told (factor line f) none) there)
+
+  pub pair-eliminated : (s t : LineParts) → IsOppositePair lines f s t → IsIn (combination s t f) (eliminated lines f)
+  pair-eliminated s t pair =
+      in-right (combination s t f) (filter (is_flat f) lines) (combinations lines f)
+      (in-flat_map (λ s. map (λ t. combination s t f) (filter (is_opposite f s) lines)) s (combination s t f) (filter (is_lower f) lines)
+      (in-filter (is_lower f) s lines (above_told (factor s f) pair.above) pair.first)
+      (in-map (λ t. combination s t f) t (filter (is_opposite f s) lines) (in-filter (is_opposite f s) t lines (both (is_upper f t) _ (below_told (factor t f) pair.below) pair.meet) pair.second)))
+    where
+      both : (a b : Bool) → a ≡ true → b ≡ true → (a && b) ≡ true
+      both a b e h = rw (e, h) refl
+
+  -- ---- what the lines of a step are
+
+  module _ (shape : List Domain) (over : HaveShape shape lines) where
+    has : (line : LineParts) → IsIn line lines → HasShape shape line
+    has line there = in-all (λ l. HasShape shape l) line lines over there
+
+    same_shape : (s t : LineParts) → IsOppositePair lines f s t → t.shape ≡ s.shape
+    same_shape s t pair = (has t pair.second).same ∙ sym (has s pair.first).same
+
+    pub HaveShape-eliminated : HaveShape shape (eliminated lines f)
+    HaveShape-eliminated = all-in (λ l. HasShape shape l) (eliminated lines f) (λ line there. elim (from-eliminated line there) [
+      | inl flat ↦ has line flat.0
+      | inr combined ↦ (
+          let (s, t, pair, same) = combined in
+          subst (λ (l : LineParts). HasShape shape l) (sym same) (HasShape-combination shape s t f (has s pair.first) (has t pair.second))
+          )
+    ])
+
+    pub flat-all : All (λ line. factor line f ≡ pos 0) (eliminated lines f)
+    flat-all = all-in (λ line. factor line f ≡ pos 0) (eliminated lines f) (λ line there. elim (from-eliminated line there) [
+      | inl flat ↦ flat.1
+      | inr combined ↦ (let (s, t, pair, same) = combined in ap (λ (l : LineParts). factor l f) same ∙ combination-flat s t f (same_shape s t pair))
+    ])
+
+    -- ---- from the lines to the step
+
+    combination-holds : (s t : LineParts) (q : Point) → IsOppositePair lines f s t → LineHolds s q → LineHolds t q → LineHolds (combination s t f) q
+    combination-holds s t q pair s_holds t_holds =
+        let is = combination-is s t f (same_shape s t pair) pair.above pair.below in
+        LineHolds-combined (first_multiplier s t f) (second_multiplier s t f) (combination_divisor s t f) s t (combination s t f) q is.m_above is.n_above is.g_above is.combined s_holds t_holds
+
+    pub eliminated-holds : (p q : Point) → IsNumerical shape f → DiffersOnlyAt f p q → AllHold lines q → AllHold (eliminated lines f) p
+    eliminated-holds p q number differs holds = all-in (λ line. LineHolds line p) (eliminated lines f) (λ line there. at line there (from-eliminated line there))
+      where
+        here : (line : LineParts) → IsIn line lines → LineHolds line q
+        here line there = in-all (λ l. LineHolds l q) line lines holds there
+
+        on : (line : LineParts) → line.shape ≡ shape → factor line f ≡ pos 0 → LineHolds line q → LineHolds line p
+        on line same none at_q = LineHolds-others line p q f (subst (λ (s : List Domain). IsNumerical s f) (sym same) number) differs none at_q
+
+        at : (line : LineParts) → IsIn line (eliminated lines f) → (IsIn line lines × (factor line f ≡ pos 0)) ⊎ ((s : LineParts) × (t : LineParts) × IsOppositePair lines f s t × (line ≡ combination s t f)) → LineHolds line p
+        at line there (inl flat) = on line (has line flat.0).same flat.1 (here line flat.0)
+        at line there (inr combined) =
+            let (s, t, pair, same) = combined in
+            on line (in-all (λ l. HasShape shape l) line (eliminated lines f) HaveShape-eliminated there).same (in-all (λ l. factor l f ≡ pos 0) line (eliminated lines f) flat-all there)
+            (subst (λ (l : LineParts). LineHolds l q) (sym same) (combination-holds s t q pair (here s pair.first) (here t pair.second)))
+
+    -- where the lines hold, the step's do
+    pub eliminated-follows : (p : Point) → AllHold lines p → AllHold (eliminated lines f) p
+    eliminated-follows p holds = all-in (λ line. LineHolds line p) (eliminated lines f) (λ line there. at line (from-eliminated line there))
+      where
+        here : (line : LineParts) → IsIn line lines → LineHolds line p
+        here line there = in-all (λ l. LineHolds l p) line lines holds there
+
+        at : (line : LineParts) → (IsIn line lines × (factor line f ≡ pos 0)) ⊎ ((s : LineParts) × (t : LineParts) × IsOppositePair lines f s t × (line ≡ combination s t f)) → LineHolds line p
+        at line (inl flat) = here line flat.0
+        at line (inr combined) =
+            let (s, t, pair, same) = combined in
+            subst (λ (l : LineParts). LineHolds l p) (sym same) (combination-holds s t p pair (here s pair.first) (here t pair.second))
+
+    -- ---- from the step to the lines
+
+    -- the lower and the upper lines whose sets have the point's codes
+    abbrev lower_bounds : Point → List LineParts
+    lower_bounds p = filter (λ l. is_lower f l && is_inside l.sets (codes_at l.shape p)) lines
+
+    abbrev upper_bounds : Point → List LineParts
+    upper_bounds p = filter (λ l. is_upper f l && is_inside l.sets (codes_at l.shape p)) lines
+
+    -- what a combination that is enough says of its two lines
+    crossed : (m n a b x y z : ℤ) → m *ℤ a +ℤ n *ℤ b ≡ pos 0 → (m *ℤ y +ℤ n *ℤ z) *ℤ a ≡ (a *ℤ (z -ℤ b *ℤ x) -ℤ b *ℤ (y -ℤ a *ℤ x)) *ℤ n
+    crossed m n a b x y z e = opened m n a b x y z ∙ ap (λ (k : ℤ). (a *ℤ (z -ℤ b *ℤ x) -ℤ b *ℤ (y -ℤ a *ℤ x)) *ℤ n +ℤ k *ℤ y) e ∙ closed _ y
+      where
+        opened : (m n a b x y z : ℤ) → (m *ℤ y +ℤ n *ℤ z) *ℤ a ≡ (a *ℤ (z -ℤ b *ℤ x) -ℤ b *ℤ (y -ℤ a *ℤ x)) *ℤ n +ℤ (m *ℤ a +ℤ n *ℤ b) *ℤ y
+        opened m n a b x y z = rw (parts m, parts n, parts a, parts b, parts x, parts y, parts z) (simp ring (same_dif _ _ _ _ (omega arith)))
+
+        closed : (u y : ℤ) → u +ℤ pos 0 *ℤ y ≡ u
+        closed u y = rw (parts u, parts y) (simp ring (same_dif _ _ _ _ (omega arith)))
+
+    leaves_from : (m n g a b x y z w : ℤ) (strict : Bool) → pos 0 <ℤ n → pos 0 <ℤ g → pos 0 <ℤ a → g *ℤ w ≡ m *ℤ y +ℤ n *ℤ z → m *ℤ a +ℤ n *ℤ b ≡ pos 0
+        → IsEnough strict w → IsEnough strict (a *ℤ (z -ℤ b *ℤ x) -ℤ b *ℤ (y -ℤ a *ℤ x))
+    leaves_from m n g a b x y z w strict n_above g_above a_above sum none enough =
+        IsEnough_cancel strict _ n n_above (subst (λ (k : ℤ). IsEnough strict k) (ap (λ (k : ℤ). k *ℤ a) (comm w g ∙ sum) ∙ crossed m n a b x y z none)
+        (IsEnough-times strict (w *ℤ g) a a_above (IsEnough-times strict w g g_above enough)))
+
+    pair_leaves : (p : Point) (s t : LineParts) → IsOppositePair lines f s t → AllInside s.sets (codes_at s.shape p) → AllInside t.sets (codes_at t.shape p) → LineHolds (combination s t f) p
+        → LeavesValue (λ l. factor l f) (λ l. rest_at l f p) (λ (l : LineParts). l.strict) s t
+    pair_leaves p s t pair s_inside t_inside holds =
+        let same = same_shape s t pair in
+        let is = combination-is s t f same pair.above pair.below in
+        let inside : AllInside (meets s.sets t.sets) (codes_at s.shape p) = inside-meets s.sets t.sets (codes_at s.shape p) s_inside (subst (λ (d : List Domain). AllInside t.sets (codes_at d p)) same t_inside) in
+        let in_line : AllInside (combination s t f).sets (codes_at (combination s t f).shape p) =
+        subst (λ (d : List Domain). AllInside (combination s t f).sets (codes_at d p)) (sym is.combined.shape) (subst (λ (sets : List ℕ). AllInside sets (codes_at s.shape p)) (sym is.combined.sets) inside) in
+        leaves_from (first_multiplier s t f) (second_multiplier s t f) (combination_divisor s t f) (factor s f) (factor t f) (p.numerator f) (amount s p) (amount t p) (amount (combination s t f) p) (s.strict || t.strict) is.n_above is.g_above pair.above
+        (amount-combined (first_multiplier s t f) (second_multiplier s t f) (combination_divisor s t f) s t (combination s t f) p is.combined)
+        (multipliers-cancel s t f)
+        (subst (λ (b : Bool). IsEnough b (amount (combination s t f) p)) is.combined.strict (holds.enough in_line))
+
+    pub eliminated-lifts : (p : Point) → AllHold (eliminated lines f) p → (q : Point) × DiffersOnlyAt f p q × ((i : ℕ) → q.code i ≡ p.code i) × AllHold lines q
+    eliminated-lifts p holds =
+        let (v, d, low, high) = between (λ l. factor l f) (λ l. rest_at l f p) (λ (l : LineParts). l.strict) (lower_bounds p) (upper_bounds p) rising falling leaves in
+        (put p f (p.code f) v d low.above, put-differs p f (p.code f) v d low.above, put-code p f v d low.above, all-in (λ l. LineHolds l (put p f (p.code f) v d low.above)) lines (λ line there. with_value line v d low high there))
+      where
+        here : (line : LineParts) → IsIn line (eliminated lines f) → LineHolds line p
+        here line there = in-all (λ l. LineHolds l p) line (eliminated lines f) holds there
+
+        lower_tells : (s : LineParts) → IsIn s (lower_bounds p) → IsIn s lines × (pos 0 <ℤ factor s f) × AllInside s.sets (codes_at s.shape p)
+        lower_tells s there =
+            let (was, test) = in-filter-out (λ l. is_lower f l && is_inside l.sets (codes_at l.shape p)) s lines there in
+            let (lower, inside) = both_true _ _ test in
+            (was, above_tells (factor s f) lower, (is_inside-Decides s.sets (codes_at s.shape p)).0 inside)
+
+        upper_tells : (t : LineParts) → IsIn t (upper_bounds p) → IsIn t lines × (factor t f <ℤ pos 0) × AllInside t.sets (codes_at t.shape p)
+        upper_tells t there =
+            let (was, test) = in-filter-out (λ l. is_upper f l && is_inside l.sets (codes_at l.shape p)) t lines there in
+            let (upper, inside) = both_true _ _ test in
+            (was, below_tells (factor t f) upper, (is_inside-Decides t.sets (codes_at t.shape p)).0 inside)
+
+        rising : (s : LineParts) → IsIn s (lower_bounds p) → pos 0 <ℤ factor s f
+        rising s there = (lower_tells s there).1
+
+        falling : (t : LineParts) → IsIn t (upper_bounds p) → factor t f <ℤ pos 0
+        falling t there = (upper_tells t there).1
+
+        leaves : (s t : LineParts) → IsIn s (lower_bounds p) → IsIn t (upper_bounds p) → LeavesValue (λ l. factor l f) (λ l. rest_at l f p) (λ (l : LineParts). l.strict) s t
+        leaves s t s_there t_there =
+            let (s_in, above, s_inside) = lower_tells s s_there in
+            let (t_in, below, t_inside) = upper_tells t t_there in
+            let same : t.shape ≡ s.shape = (has t t_in).same ∙ sym (has s s_in).same in
+            let sets : length s.sets ≡ length (codes_at s.shape p) =
+            (has s s_in).sets ∙ sym (length-map (code_fields shape) p.code) ∙ ap (λ (d : List Domain). length (codes_at d p)) (sym (has s s_in).same) in
+            let pair : IsOppositePair lines f s t = record {
+              first = s_in;
+              second = t_in;
+              above = above;
+              below = below;
+              meet = inside-all_meet s.sets t.sets (codes_at s.shape p) (omega (arith, sets)) s_inside (subst (λ (d : List Domain). AllInside t.sets (codes_at d p)) same t_inside);
+            } in
+            pair_leaves p s t pair s_inside t_inside (here (combination s t f) (pair-eliminated s t pair))
+
+        both : (a b : Bool) → a ≡ true → b ≡ true → (a && b) ≡ true
+        both a b e h = rw (e, h) refl
+
+        no_part : (a v r x d : ℤ) → a ≡ pos 0 → r *ℤ d ≡ a *ℤ v +ℤ (r -ℤ a *ℤ x) *ℤ d
+        no_part a v r x d e = rw (e, parts v, parts r, parts x, parts d) (simp ring (same_dif _ _ _ _ (omega arith)))
+
+        with_value : (line : LineParts) (v d : ℤ)
+            → (low : IsWithin (λ l. factor l f) (λ l. rest_at l f p) (λ (l : LineParts). l.strict) (lower_bounds p) v d)
+            → IsWithin (λ l. factor l f) (λ l. rest_at l f p) (λ (l : LineParts). l.strict) (upper_bounds p) v d
+            → IsIn line lines → LineHolds line (put p f (p.code f) v d low.above)
+        with_value line v d low high there = holds-put line p f v d low.above (λ inside. by inside (by_sign (factor line f)))
+          where
+            by : AllInside line.sets (codes_at line.shape p) → (pos 0 <ℤ factor line f) ⊎ ((factor line f ≡ pos 0) ⊎ (factor line f <ℤ pos 0)) → IsEnough line.strict (factor line f *ℤ v +ℤ rest_at line f p *ℤ d)
+            by inside (inl above) =
+                low.within line (in-filter (λ l. is_lower f l && is_inside l.sets (codes_at l.shape p)) line lines (both _ _ (above_told (factor line f) above) ((is_inside-Decides line.sets (codes_at line.shape p)).1 inside)) there)
+            by inside (inr (inl none)) =
+                subst (λ (k : ℤ). IsEnough line.strict k) (no_part (factor line f) v (amount line p) (p.numerator f) d none)
+                (IsEnough-times line.strict (amount line p) d low.above ((here line (flat-eliminated line there none)).enough inside))
+            by inside (inr (inr below)) =
+                high.within line (in-filter (λ l. is_upper f l && is_inside l.sets (codes_at l.shape p)) line lines (both _ _ (below_told (factor line f) below) ((is_inside-Decides line.sets (codes_at line.shape p)).1 inside)) there)
+
+-- ---- the step, reduced
+
+module _ (shape : List Domain) (lines : List LineParts) (f : ℕ) (over : HaveShape shape lines) where
+  -- the step's lines are over the fields of the lines
+  pub HaveShape-step : HaveShape shape (step lines f)
+  HaveShape-step = HaveShape-reduce shape (eliminated lines f) (HaveShape-eliminated lines f shape over)
+
+  -- the field stands in none of them
+  pub step-flat : All (λ line. factor line f ≡ pos 0) (step lines f)
+  step-flat = all-reduce (λ line. factor line f ≡ pos 0) (eliminated lines f) (flat-all lines f shape over)
+
+  -- where the lines hold, they do
+  pub step-follows : (p : Point) → AllHold lines p → AllHold (step lines f) p
+  step-follows p holds = reduce-holds (eliminated lines f) p (eliminated-follows lines f shape over p holds)
+
+  -- they hold at a point where some value at the field makes the lines hold
+  pub step-holds : (p q : Point) → IsNumerical shape f → DiffersOnlyAt f p q → AllHold lines q → AllHold (step lines f) p
+  step-holds p q number differs holds = reduce-holds (eliminated lines f) p (eliminated-holds lines f shape over p q number differs holds)
+
+  -- and where they hold, some value at the field makes the lines hold
+  pub step-lifts : (p : Point) → AllHold (step lines f) p → (q : Point) × DiffersOnlyAt f p q × ((i : ℕ) → q.code i ≡ p.code i) × AllHold lines q
+  step-lifts p holds =
+      eliminated-lifts lines f shape over p (holds-reduce shape (eliminated lines f) p (λ k d below. (HaveShape-eliminated lines f shape over k d below).same) holds)

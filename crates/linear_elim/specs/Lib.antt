@@ -1,0 +1,11 @@
+pub mod Answers
+pub mod Combinations
+pub mod Origins
+pub mod Overflows
+pub mod Parts
+pub mod PointChanges
+pub mod Steps
+pub mod Systems
+pub mod Told
+pub mod Helds
+pub mod SixNumbers

@@ -1,0 +1,53 @@
+use Rattle.std.specs.Prelude.{◌≡◌, ℕ, ◌<◌, true, false, List, ◌∷◌, ◌++◌, Option, Some, None, Ok, get_or, length, pos, slice_get, ℤ}
+use Rattle.edit_line.specs.Lines.{LineParts}
+use Rattle.edit_line.specs.Places.{place_of}
+use Rattle.edit_line.specs.Shapes.{number_fields}
+use Rattle.edit_line.specs.declared.derived.Derived.{Derived}
+use Rattle.linear_elim.specs.Combinations.{first_multiplier, first_overflow, is_lower, numbers, second_multiplier, sum_fits}
+use Rattle.linear_elim.specs.Steps.{StepOverflow, is_opposite}
+use Rattle.linear_elim.specs.Systems.{SystemOverflow, fold_result}
+
+-- s and t are combined at the field
+pub record AreCombined (f : ℕ) (s t : LineParts) : Type 0 where
+  pub lower : is_lower f s ≡ true
+  pub opposite : is_opposite f s t ≡ true
+
+-- the first place at which a number of the combination of s and t leaves the range
+abbrev pub overflow_of : LineParts → LineParts → ℕ → Option ℕ
+overflow_of s t f = first_overflow 0 (first_multiplier s t f) (second_multiplier s t f) (numbers s) (numbers t)
+
+-- no number leaves the range in the pairs of these two lines of the list
+abbrev pub PairFits : List Derived → ℕ → ℕ → ℕ → Type 0
+PairFits lines f i j = (s t : Derived) → slice_get lines i ≡ Some s → slice_get lines j ≡ Some t → AreCombined f s.line t.line → overflow_of s.line t.line f ≡ None
+
+-- no number of any combination leaves the range
+abbrev pub AllPairsFit : List Derived → ℕ → Type 0
+AllPairsFit lines f = (i j : ℕ) → PairFits lines f i j
+
+-- the overflow is at the first pair of lines whose combination leaves the range, and at the first place there
+pub record IsFirstOverflow (lines : List Derived) (f : ℕ) (o : StepOverflow) : Type 0 where
+  pub s : Derived
+  pub t : Derived
+  pub first : slice_get lines o.first ≡ Some s
+  pub second : slice_get lines o.second ≡ Some t
+  pub combined : AreCombined f s.line t.line
+  pub number : ℕ
+  pub leaves : overflow_of s.line t.line f ≡ Some number
+  pub place : o.place ≡ place_of (number_fields s.line.shape) number
+  pub earlier_rows : (i j : ℕ) → i < o.first → PairFits lines f i j
+  pub earlier_pairs : (j : ℕ) → j < o.second → PairFits lines f o.first j
+
+-- the fold over the fields stopped at one of them, where the step from the lines so far overflowed
+pub record IsFoldOverflow (lines : List Derived) (fields : List ℕ) (o : SystemOverflow) : Type 0 where
+  pub before : List ℕ
+  pub after : List ℕ
+  pub fields_are : fields ≡ before ++ o.field ∷ after
+  pub reached : List Derived
+  pub reached_are : fold_result lines before ≡ Ok reached
+  pub overflow : IsFirstOverflow reached o.field o.step
+
+-- the number at this place of the combination leaves the range, and no earlier one does
+pub record IsFirstPlace (m n : ℤ) (first second : List ℤ) (place : ℕ) : Type 0 where
+  pub here : sum_fits m n (get_or first place (pos 0)) (get_or second place (pos 0)) ≡ false
+  pub within : place < length first
+  pub earlier : (k : ℕ) → k < place → sum_fits m n (get_or first k (pos 0)) (get_or second k (pos 0)) ≡ true

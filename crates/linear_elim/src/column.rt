@@ -1,0 +1,110 @@
+ghost use Rattle.std.specs.Prelude.{◌≡◌, ◌≤◌, length, map};
+ghost use Rattle.fraction128.specs.Range.{InRange};
+ghost use Rattle.edit_line.specs.Lines.{factor};
+ghost use Rattle.edit_line.specs.Places.{place_of};
+ghost use Rattle.edit_line.specs.Shapes.{domain_with, domains_of, number_fields, place_in};
+ghost use Rattle.linear_elim.specs.Combinations.{is_flat, is_lower, is_upper};
+
+use edit_line::{Line, Place, Shape};
+
+/// A numerical field of a survey's shape, with its place among the numerical fields.
+#[derive(Clone, Copy)]
+pub(crate) struct Column {
+    pub(crate) shape: Shape,
+    pub(crate) field: u32,
+    place: usize,
+    pub ghost at: { place ≡ place_in (number_fields (domains_of shape.count shape.codes)) field },
+}
+
+impl Column {
+    /// The column of a field. No memory.
+    pub(crate) fn of(shape: Shape, field: u32) -> Column
+        ensures shape { result.shape ≡ shape }
+        ensures field { result.field ≡ field }
+    {
+        Column {
+            shape,
+            field,
+            place: place_in(shape.code_counts(), field),
+        }
+    }
+
+    /// The line's factor at the field. No memory.
+    pub(crate) fn factor(&self, line: &Line) -> i128
+        requires { line.now.shape ≡ domains_of self.now.shape.count self.now.shape.codes }
+        ensures value { result ≡ factor line.now self.now.field }
+        ensures in_range { InRange result }
+    {
+        match line.factors().get(self.place) {
+            Some(factor) => *factor,
+            None => 0,
+        }
+    }
+
+    /// Whether the line bounds the field from below. No memory.
+    pub(crate) fn is_lower(&self, line: &Line) -> bool
+        requires { line.now.shape ≡ domains_of self.now.shape.count self.now.shape.codes }
+        ensures { result ≡ is_lower self.now.field line.now }
+    {
+        self.factor(line) > 0
+    }
+
+    /// Whether the line bounds the field from above. No memory.
+    pub(crate) fn is_upper(&self, line: &Line) -> bool
+        requires { line.now.shape ≡ domains_of self.now.shape.count self.now.shape.codes }
+        ensures { result ≡ is_upper self.now.field line.now }
+    {
+        self.factor(line) < 0
+    }
+
+    /// Whether the field does not stand in the line. No memory.
+    pub(crate) fn is_flat(&self, line: &Line) -> bool
+        requires { line.now.shape ≡ domains_of self.now.shape.count self.now.shape.codes }
+        ensures { result ≡ is_flat self.now.field line.now }
+    {
+        self.factor(line) == 0
+    }
+
+    /// The name of a place among a line's factors and its constant. No memory.
+    pub(crate) fn place_at(&self, place: usize) -> Place
+        ensures { result ≡ place_of (number_fields (domains_of self.now.shape.count self.now.shape.codes)) place }
+    {
+        place_at(self.shape.code_counts(), place)
+    }
+}
+
+// The name of a place among the factors at the numerical fields, of which each has 0 codes, and the
+// constant.
+fn place_at(counts: &[u8], place: usize) -> Place
+    requires { length counts.now ≤ 64 }
+    ensures { result ≡ place_of (number_fields (map domain_with counts.now)) place }
+{
+    let mut left = place;
+    for (i, count) in counts.iter().enumerate() {
+        if *count == 0 {
+            if left == 0 {
+                return Place::Field(i as u32);
+            }
+            left -= 1;
+        }
+    }
+    Place::Constant
+}
+
+// The place of the field among the numerical ones, of which each has 0 codes; past them all where it is
+// none of them.
+fn place_in(counts: &[u8], field: u32) -> usize
+    requires { length counts.now ≤ 64 }
+    ensures { result ≡ place_in (number_fields (map domain_with counts.now)) field }
+{
+    let mut place = 0;
+    for (i, count) in counts.iter().enumerate() {
+        if *count == 0 {
+            if i as u32 == field {
+                return place;
+            }
+            place += 1;
+        }
+    }
+    place
+}

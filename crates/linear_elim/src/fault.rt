@@ -1,0 +1,130 @@
+use edit_line::Place;
+use foundation::OutOfMemory;
+use std::alloc::{AllocError, AllocFailed};
+use std::{error, fmt};
+
+/// Why two lines have no combination.
+#[derive(Clone, Copy, Debug, PartialEq, Eq)]
+pub(crate) enum PlaceFault {
+    /// The number at this place among the factors and the constant is out of range.
+    Overflow(usize),
+    /// Memory was refused.
+    OutOfMemory,
+}
+
+/// Why a step has no lines.
+#[derive(Clone, Copy, Debug, PartialEq, Eq)]
+pub enum StepFault {
+    /// A number of the combination of two lines is out of range. The lines are named by their places in
+    /// the list that the step took.
+    Overflow {
+        first: u64,
+        second: u64,
+        place: Place,
+    },
+    /// Memory was refused.
+    OutOfMemory,
+}
+
+impl fmt::Display for StepFault {
+    fn fmt<W: fmt::Write>(&self, f: &mut fmt::Formatter<W>) -> fmt::Result {
+        f.write_str(match self {
+            StepFault::Overflow { .. } => "a number of a combination is out of range",
+            StepFault::OutOfMemory => "out of memory",
+        })
+    }
+}
+
+impl error::Error for StepFault {}
+
+/// Why there is no system.
+#[derive(Clone, Copy, Debug, PartialEq, Eq)]
+pub enum SystemFault {
+    /// In the step at this field a number of the combination of two lines is out of range. The lines are
+    /// named by their places in the list that the step took.
+    Overflow {
+        field: u32,
+        first: u64,
+        second: u64,
+        place: Place,
+    },
+    /// Memory was refused.
+    OutOfMemory,
+}
+
+impl fmt::Display for SystemFault {
+    fn fmt<W: fmt::Write>(&self, f: &mut fmt::Formatter<W>) -> fmt::Result {
+        f.write_str(match self {
+            SystemFault::Overflow { .. } => "a number of a combination is out of range",
+            SystemFault::OutOfMemory => "out of memory",
+        })
+    }
+}
+
+impl error::Error for SystemFault {}
+
+impl From<AllocError> for PlaceFault {
+    ghost use Rattle.std.specs.Prelude.{◌≡◌};
+    ghost use Rattle.linear_elim.specs.declared.fault.PlaceFault.TheVariants as faults;
+
+    ghost from_gives = { λ _ fault. fault ≡ faults.OutOfMemory };
+
+    fn from(_refused: AllocError) -> Self {
+        PlaceFault::OutOfMemory
+    }
+}
+
+impl<T: Drop> From<AllocFailed<T>> for PlaceFault {
+    ghost use Rattle.std.specs.Prelude.{◌≡◌};
+    ghost use Rattle.linear_elim.specs.declared.fault.PlaceFault.TheVariants as faults;
+
+    ghost from_gives = { λ _ fault. fault ≡ faults.OutOfMemory };
+
+    fn from(_refused: AllocFailed<T>) -> Self {
+        PlaceFault::OutOfMemory
+    }
+}
+
+impl From<OutOfMemory> for PlaceFault {
+    ghost use Rattle.std.specs.Prelude.{◌≡◌};
+    ghost use Rattle.linear_elim.specs.declared.fault.PlaceFault.TheVariants as faults;
+
+    ghost from_gives = { λ _ fault. fault ≡ faults.OutOfMemory };
+
+    fn from(_refused: OutOfMemory) -> Self {
+        PlaceFault::OutOfMemory
+    }
+}
+
+impl From<OutOfMemory> for StepFault {
+    ghost use Rattle.std.specs.Prelude.{◌≡◌};
+    ghost use Rattle.linear_elim.specs.declared.fault.StepFault.TheVariants as faults;
+
+    ghost from_gives = { λ _ fault. fault ≡ faults.OutOfMemory };
+
+    fn from(_refused: OutOfMemory) -> Self {
+        StepFault::OutOfMemory
+    }
+}
+
+impl From<OutOfMemory> for SystemFault {
+    ghost use Rattle.std.specs.Prelude.{◌≡◌};
+    ghost use Rattle.linear_elim.specs.declared.fault.SystemFault.TheVariants as faults;
+
+    ghost from_gives = { λ _ fault. fault ≡ faults.OutOfMemory };
+
+    fn from(_refused: OutOfMemory) -> Self {
+        SystemFault::OutOfMemory
+    }
+}
+
+impl<T: Drop> From<AllocFailed<T>> for StepFault {
+    ghost use Rattle.std.specs.Prelude.{◌≡◌};
+    ghost use Rattle.linear_elim.specs.declared.fault.StepFault.TheVariants as faults;
+
+    ghost from_gives = { λ _ fault. fault ≡ faults.OutOfMemory };
+
+    fn from(_refused: AllocFailed<T>) -> Self {
+        StepFault::OutOfMemory
+    }
+}

@@ -1,0 +1,130 @@
+ghost use Rattle.std.specs.Prelude.{◌≡◌, ◌+◌, ◌≤◌, ◌<◌, ◌↔◌, [], ◌∷◌, All, IfOk, OnOk, map, IfErr, IfSome};
+ghost use Rattle.std.specs.Arc.{arc_value};
+ghost use Rattle.std.specs.List.{filter};
+ghost use Rattle.edit_model.specs.FieldSets.{has_number};
+ghost use Rattle.edit_model.specs.Points.{Point};
+ghost use Rattle.edit_line.specs.Lines.{AllHold, HaveShape, IsLine};
+ghost use Rattle.edit_line.specs.EditSets.{base_lines};
+ghost use Rattle.edit_line.specs.Reductions.{lines_of, reduce_derived};
+ghost use Rattle.edit_line.specs.Shapes.{domain_with, number_fields, numbers_from};
+ghost use Rattle.linear_elim.specs.Answers.{Answers};
+ghost use Rattle.linear_elim.specs.Overflows.{IsFoldOverflow};
+ghost use Rattle.linear_elim.specs.PointChanges.{CanHoldIn};
+ghost use Rattle.linear_elim.specs.Steps.{OneShape};
+ghost use Rattle.linear_elim.specs.Systems.{AreNumerical, chosen_fields, fold_count, fold_result, system_at, system_count};
+ghost use Rattle.linear_elim.specs.Told.{told_system};
+
+use crate::elimination::counted_step;
+use crate::fault::{StepFault, SystemFault};
+use crate::system::System;
+use edit_line::{Derived, Edits};
+use edit_model::FieldSet;
+use foundation::{OutOfMemory, Steps};
+use std::alloc::Global;
+use std::sync::Arc;
+use std::sync::ledger::Ledger;
+
+/// The derived system of the edits without the fields, which are all numerical: the fold of the step over
+/// them in declared order, from the reduced edits. One step is counted for each pair that is combined. It
+/// overflows where a step does, with the field of that step.
+pub fn fold_system<L: Ledger>(
+    alloc: Global,
+    edits: &Arc<Edits>,
+    fields: FieldSet,
+    steps: &mut Steps<L>,
+) -> Result<System, SystemFault>
+    requires { AreNumerical (arc_value edits.now).shape fields }
+    ensures edits { IfOk result (λ system. system.edits ≡ arc_value edits.now) }
+    ensures fields { IfOk result (λ system. system.fields ≡ fields) }
+    ensures lifts { IfOk result (λ system. (p : Point) → AllHold (lines_of system.lines) p ↔ CanHoldIn (map (λ e. e.1) (arc_value edits.now).lines) (chosen_fields (arc_value edits.now).shape fields) p) }
+    ensures exact { Answers (λ system. system.lines) told_system result (system_at (arc_value edits.now) fields) }
+    ensures overflow { IfErr result (λ fault. IfSome (told_system fault) (λ o. IsFoldOverflow (reduce_derived (base_lines (arc_value edits.now).lines)) (chosen_fields (arc_value edits.now).shape fields) o)) }
+    ensures counted { OnOk result (steps.new ≡ steps.old + system_count (arc_value edits.now).lines (chosen_fields (arc_value edits.now).shape fields)) }
+    ensures few { steps.new ≤ steps.old + system_count (arc_value edits.now).lines (chosen_fields (arc_value edits.now).shape fields) }
+{
+    match fold_lines(alloc, edits, fields, steps) {
+        Ok(lines) => Ok(System::of(share(edits)?, fields, lines)),
+        Err(fault) => Err(fault),
+    }
+}
+
+// The same edits, owned once more.
+fn share(edits: &Arc<Edits>) -> Result<Arc<Edits>, OutOfMemory>
+    ensures { IfOk result (λ other. arc_value other ≡ arc_value edits.now) }
+{
+    Ok(Arc::try_clone(edits)?)
+}
+
+// The lines of the system.
+fn fold_lines<L: Ledger>(
+    alloc: Global,
+    edits: &Edits,
+    fields: FieldSet,
+    steps: &mut Steps<L>,
+) -> Result<Vec<Derived>, SystemFault>
+    ensures exact { Answers (λ v. v.items) told_system result (system_at edits.now fields) }
+    ensures over { IfOk result (λ v. HaveShape edits.now.shape (lines_of v.items)) }
+    ensures lifts { IfOk result (λ v. (p : Point) → AllHold (lines_of v.items) p ↔ CanHoldIn (map (λ e. e.1) edits.now.lines) (chosen_fields edits.now.shape fields) p) }
+    ensures counted { OnOk result (steps.new ≡ steps.old + system_count edits.now.lines (chosen_fields edits.now.shape fields)) }
+    ensures few { steps.new ≤ steps.old + system_count edits.now.lines (chosen_fields edits.now.shape fields) }
+{
+    let shape = edits.shape();
+    let _over = edits.lines(); // read for what it says: all lines are over one shape
+    let mut lines = copy_all(alloc, edits.reduced())?;
+    for (field, count) in shape.code_counts().iter().enumerate() {
+        lines = match next_lines(alloc, lines, *count, field as u32, fields, steps) {
+            Ok(next) => next,
+            Err(fault) => return Err(fault),
+        };
+    }
+    Ok(lines)
+}
+
+// Equal lines.
+fn copy_all(alloc: Global, lines: &[Derived]) -> Result<Vec<Derived>, OutOfMemory>
+    ensures copies { IfOk result (λ v. v.items ≡ lines.now) }
+    ensures lines { IfOk result (λ v. All (λ d. IsLine d.line) v.items) }
+{
+    let mut copies = Vec::with_capacity(alloc, lines.len())?;
+    for line in lines {
+        copies.push(line.copy(alloc)?)?;
+    }
+    Ok(copies)
+}
+
+// The lines after the field, which has so many codes: if it is numerical and in the set, those of the
+// step at it.
+fn next_lines<L: Ledger>(
+    alloc: Global,
+    lines: Vec<Derived>,
+    count: u8,
+    field: u32,
+    fields: FieldSet,
+    steps: &mut Steps<L>,
+) -> Result<Vec<Derived>, SystemFault>
+    requires shape { OneShape lines.items }
+    requires field { field < 64 }
+    ensures exact { Answers (λ v. v.items) told_system result (fold_result lines.items (filter (has_number fields) (numbers_from field (domain_with count ∷ [])))) }
+    ensures counted { OnOk result (steps.new ≡ steps.old + fold_count lines.items (filter (has_number fields) (numbers_from field (domain_with count ∷ [])))) }
+    ensures few { steps.new ≤ steps.old + fold_count lines.items (filter (has_number fields) (numbers_from field (domain_with count ∷ []))) }
+{
+    if count > 0 || !fields.has(field) {
+        return Ok(lines);
+    }
+    match counted_step(alloc, &lines, field, steps) {
+        Ok(next) => Ok(next),
+        Err(
+            StepFault::Overflow {
+                first,
+                second,
+                place,
+            },
+        ) => Err(SystemFault::Overflow {
+            field,
+            first,
+            second,
+            place,
+        }),
+        Err(StepFault::OutOfMemory) => Err(SystemFault::OutOfMemory),
+    }
+}

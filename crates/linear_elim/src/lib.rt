@@ -1,0 +1,27 @@
+//! Elimination of numerical fields from linear edits, by Fourier and Motzkin: [`step`] eliminates one
+//! field, [`fold_system`] a set of them. The definitions are in `specs/Steps.antt` and
+//! `specs/Systems.antt`. The contracts say exactly which lines come out, with their origins, or which
+//! number first leaves the range; and that the lines that come out hold at a point exactly where some
+//! values at the eliminated fields make the given lines hold.
+#![tactic(auto)]
+
+mod arithmetic;
+mod column;
+mod combine;
+mod elimination;
+mod fault;
+mod fold;
+mod held;
+mod pair_count;
+mod system;
+mod systems;
+#[cfg(test)]
+mod tests;
+
+pub use elimination::step;
+pub use fault::{StepFault, SystemFault};
+pub use fold::fold_system;
+pub use held::Held;
+pub use pair_count::pairs;
+pub use system::System;
+pub use systems::{Recompute, Systems};

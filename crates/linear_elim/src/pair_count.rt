@@ -1,0 +1,52 @@
+ghost use Rattle.std.specs.Prelude.{◌≡◌, ◌≤◌, All, length};
+ghost use Rattle.edit_line.specs.Reductions.{lines_of};
+ghost use Rattle.edit_line.specs.Shapes.{domains_of};
+ghost use Rattle.linear_elim.specs.Steps.{OneShape, combinations, is_opposite, pairs_count, row_count};
+
+use crate::column::Column;
+use crate::combine::all_meet;
+use edit_line::{Derived, Line};
+
+/// The number of pairs of lines that the step at the field combines: the one bounds the field from below,
+/// the other from above, and all their sets meet. The lines are over one survey's fields. No memory.
+pub fn pairs(lines: &[Derived], field: u32) -> u128
+    requires { OneShape lines.now }
+    ensures exact { result ≡ pairs_count lines.now field }
+    ensures combinations { result ≡ length (combinations (lines_of lines.now) field) }
+{
+    let Some(head) = lines.first() else {
+        return 0;
+    };
+    let column = Column::of(head.line.shape(), field);
+    let mut pairs = 0;
+    for s in lines {
+        pairs += row_pairs(&column, lines, s) as u128;
+    }
+    pairs
+}
+
+// The number of lines that are opposite to the line and meet it, if it bounds the field from below.
+fn row_pairs(column: &Column, lines: &[Derived], s: &Derived) -> usize
+    requires s_over { s.now.line.shape ≡ domains_of column.now.shape.count column.now.shape.codes }
+    requires over { All (λ t. t.line.shape ≡ domains_of column.now.shape.count column.now.shape.codes) lines.now }
+    ensures count { result ≡ row_count column.now.field lines.now s.now }
+    ensures few { result ≤ length lines.now }
+{
+    if !column.is_lower(&s.line) {
+        return 0;
+    }
+    let mut count = 0;
+    for t in lines {
+        count += usize::from(is_opposite(column, &s.line, &t.line));
+    }
+    count
+}
+
+/// Whether `t` bounds the field from above, and all its sets meet those of `s`. No memory.
+pub(crate) fn is_opposite(column: &Column, s: &Line, t: &Line) -> bool
+    requires s_over { s.now.shape ≡ domains_of column.now.shape.count column.now.shape.codes }
+    requires t_over { t.now.shape ≡ domains_of column.now.shape.count column.now.shape.codes }
+    ensures { result ≡ is_opposite column.now.field s.now t.now }
+{
+    column.is_upper(t) && all_meet(s.sets(), t.sets())
+}

@@ -1,0 +1,72 @@
+ghost use Rattle.std.specs.Prelude.{◌≡◌};
+ghost use Rattle.std.specs.Arc.{arc_value};
+ghost use Rattle.linear_elim.specs.Parts.{IsOver, Lifts, parts_of_system};
+ghost use Rattle.linear_elim.specs.Systems.{IsSystem};
+
+use edit_line::{Derived, Edits};
+use edit_model::FieldSet;
+use std::marker::Model;
+use std::sync::Arc;
+
+/// Edits, a set of numerical fields, and the lines of the edits' derived system without these fields: the
+/// fold of the step over the fields in declared order, from the reduced edits.
+#[derive(Drop)]
+pub struct System {
+    edits: Arc<Edits>,
+    fields: FieldSet,
+    lines: Vec<Derived>,
+}
+
+impl Model for System {
+    ghost use Rattle.std.specs.Arc.{arc_value};
+    ghost use Rattle.linear_elim.specs.Parts.{IsOver, Lifts, parts_of_system};
+    ghost use Rattle.linear_elim.specs.Systems.{IsSystem, SystemParts};
+
+    ghost Value = { SystemParts };
+
+    ghost view = { λ s. parts_of_system (arc_value s.edits) s.fields s.lines.items };
+
+    ghost invariant = { λ s. IsSystem (parts_of_system (arc_value s.edits) s.fields s.lines.items)
+        × IsOver (parts_of_system (arc_value s.edits) s.fields s.lines.items)
+        × Lifts (parts_of_system (arc_value s.edits) s.fields s.lines.items) };
+}
+
+impl System {
+    /// The system of these edits, fields and lines. No memory.
+    pub(crate) fn of(edits: Arc<Edits>, fields: FieldSet, lines: Vec<Derived>) -> System
+        requires system { IsSystem (parts_of_system (arc_value edits) fields lines.items) }
+        requires over { IsOver (parts_of_system (arc_value edits) fields lines.items) }
+        requires lifts { Lifts (parts_of_system (arc_value edits) fields lines.items) }
+        ensures { result ≡ parts_of_system (arc_value edits) fields lines.items }
+    {
+        System {
+            edits,
+            fields,
+            lines,
+        }
+    }
+
+    /// The edits. No memory.
+    pub fn edits(&self) -> &Arc<Edits>
+        ensures { arc_value result.now ≡ self.now.edits }
+    {
+        &self.edits
+    }
+
+    /// The fields that were eliminated, all numerical. No memory.
+    pub fn fields(&self) -> FieldSet
+        ensures { result ≡ self.now.fields }
+    {
+        self.fields
+    }
+
+    /// The lines, in order, with their origins in the lines of the last step. No memory.
+    pub fn lines(&self) -> &[Derived]
+        ensures lines { result.now ≡ self.now.lines }
+        ensures system { IsSystem self.now }
+        ensures over { IsOver self.now }
+        ensures lifts { Lifts self.now }
+    {
+        self.lines.as_slice()
+    }
+}

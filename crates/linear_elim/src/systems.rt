@@ -1,0 +1,71 @@
+ghost use Rattle.std.specs.Prelude.{◌≡◌, ◌+◌, ◌≤◌, ℕ, Bool, true, IfOk, OnOk};
+ghost use Rattle.std.specs.Arc.{arc_value};
+ghost use Rattle.edit_line.specs.EditSets.{EditsParts};
+ghost use Rattle.linear_elim.specs.Answers.{Answers};
+ghost use Rattle.linear_elim.specs.Helds.{system_held};
+ghost use Rattle.linear_elim.specs.Systems.{AreNumerical, chosen_fields, system_at, system_count};
+ghost use Rattle.linear_elim.specs.Told.{told_system};
+
+use crate::fault::SystemFault;
+use crate::fold::fold_system;
+use crate::held::Held;
+use edit_line::Edits;
+use edit_model::FieldSet;
+use foundation::Steps;
+use std::alloc::Global;
+use std::sync::Arc;
+use std::sync::ledger::Ledger;
+
+/// A source of derived systems. It may keep some, and then need not fold them again; what it answers is
+/// always what [`fold_system`] answers.
+pub trait Systems {
+    /// The edits whose systems it gives.
+    ghost serves: { Self → EditsParts → Type 0 };
+
+    /// The sets of numerical fields, as bits, whose systems it keeps.
+    ghost keeps: { Self → ℕ → Bool };
+
+    /// The system of the edits without the fields, which are all numerical, or the overflow at which its
+    /// fold stops. At most one step is counted for each pair that the fold combines.
+    fn system<L: Ledger>(
+        &mut self,
+        alloc: Global,
+        edits: &Arc<Edits>,
+        fields: FieldSet,
+        steps: &mut Steps<L>,
+    ) -> Result<Held, SystemFault>
+        requires numerical { AreNumerical (arc_value edits.now).shape fields }
+        requires served { serves self.old (arc_value edits.now) }
+        ensures edits { IfOk result (λ held. (system_held held).edits ≡ arc_value edits.now) }
+        ensures fields { IfOk result (λ held. (system_held held).fields ≡ fields) }
+        ensures exact { Answers (λ held. (system_held held).lines) told_system result (system_at (arc_value edits.now) fields) }
+        ensures few { steps.new ≤ steps.old + system_count (arc_value edits.now).lines (chosen_fields (arc_value edits.now).shape fields) }
+        ensures serves { (e : EditsParts) → serves self.old e → serves self.new e }
+        ensures keeps { (f : ℕ) → keeps self.old f ≡ true → keeps self.new f ≡ true }
+        ensures kept { OnOk result (keeps self.new fields ≡ true) };
+}
+
+/// The source that folds each system anew.
+#[derive(Clone, Copy, Debug, PartialEq, Eq)]
+pub struct Recompute;
+
+impl Systems for Recompute {
+    ghost use Rattle.std.specs.Prelude.{true};
+
+    ghost serves = { λ _ _. Unit {0} };
+
+    ghost keeps = { λ _ _. true };
+
+    fn system<L: Ledger>(
+        &mut self,
+        alloc: Global,
+        edits: &Arc<Edits>,
+        fields: FieldSet,
+        steps: &mut Steps<L>,
+    ) -> Result<Held, SystemFault> {
+        match fold_system(alloc, edits, fields, steps) {
+            Ok(system) => Ok(Held::Own(system)),
+            Err(fault) => Err(fault),
+        }
+    }
+}
