@@ -1,0 +1,17 @@
+use Rattle.std.proofs.Common.{◌≡◌, List, ap, arith, subst, sym, ◌∙◌}
+use Rattle.std.specs.List.{flat_map}
+use Rattle.std.proofs.lemmas.List.{take_all}
+use Rattle.edit_line.specs.Shapes.{domains_of}
+use Rattle.categ_combine.specs.BoxLists.{AreBoxesOver, reduce_from}
+use Rattle.categ_combine.specs.Covers.{row_of, with_code_from}
+use Rattle.categ_combine.specs.declared.box_from.BoxFrom.{BoxFrom}
+use Rattle.categ_combine.proofs.OriginLaws.{over-with_code}
+use Rattle.categ_combine.proofs.cover.with_code.Goals as goal
+
+pub returns-clause-over : goal.returns-clause-over
+returns-clause-over c =
+    let is : c.loop-cover.next.items ≡ with_code_from c.args.spot.now.place c.args.spot.now.whole c.args.boxes.now c.args.covers.now c.args.code =
+    c.loop-cover.invariant ∙ ap (λ (cs : List BoxFrom). reduce_from (flat_map (row_of c.args.spot.now.place c.args.spot.now.whole c.args.code c.args.boxes.now) cs)) (take_all c.loop-cover.cover-index c.args.covers.now (omega arith)) in
+    subst (λ (bs : List BoxFrom). AreBoxesOver (domains_of c.args.spot.now.shape.count c.args.spot.now.shape.codes) bs) (sym is) (
+    over-with_code c.args.spot.now.place c.args.spot.now.whole (domains_of c.args.spot.now.shape.count c.args.spot.now.shape.codes) c.args.boxes.now c.args.covers.now c.args.code c.requires.covers
+    )

@@ -1,0 +1,33 @@
+use Rattle.std.proofs.Common.{◌≡◌, ◌<◌, ◌↔◌, List, ◌∙◌}
+use Rattle.edit_model.specs.Points.{Point}
+use Rattle.edit_line.specs.Shapes.{Domain, HasCodes, domains_of}
+use Rattle.categ_combine.specs.BoxLists.{AreBoxes, AreBoxesOver, Avoids, reduce_from, sets_of}
+use Rattle.categ_combine.specs.CodeFields.{size_of, with_code_at}
+use Rattle.categ_combine.specs.Each.{each_from}
+use Rattle.categ_combine.specs.Fixing.{fixed, fixed_one}
+use Rattle.categ_combine.proofs.StepLaws.{first-shape, fixed-same, fixed-sets, if_ok}
+use Rattle.categ_combine.proofs.fixing.fix.Goals as goal
+
+pub returns-in_ok-spot-in-Some-clause-sets : goal.returns-in_ok-spot-in-Some-clause-sets
+returns-in_ok-spot-in-Some-clause-sets c =
+    let boxes = c.args.boxes.now in
+    let spot = c.in_ok-spot-in-Some.spot in
+    let own = domains_of c.shape.result.count c.shape.result.codes in
+    if_ok (λ left. left.items ≡ reduce_from (each_from (fixed_one spot.place spot.whole c.args.code) 0 boxes)) (λ left. AreBoxes boxes)
+    (λ left. (shape : List Domain) → AreBoxesOver shape boxes → c.args.code < size_of shape c.args.field → sets_of left.items ≡ fixed shape (sets_of boxes) c.args.field c.args.code)
+    c.fix_at.result (
+    λ left is fit. λ shape over below.
+    fixed-sets own shape boxes left.items c.args.field c.args.code spot.place spot.whole (c.shape.ensures ∙ first-shape boxes c.in-Some.first.now shape c.in-Some.ensures.value over) c.in_ok-spot-in-Some.ensures.place c.in_ok-spot-in-Some.ensures.whole is
+    ) c.fix_at.ensures.left c.fix_at.ensures.fit
+
+pub returns-in_ok-spot-in-Some-clause-same : goal.returns-in_ok-spot-in-Some-clause-same
+returns-in_ok-spot-in-Some-clause-same c =
+    let boxes = c.args.boxes.now in
+    let spot = c.in_ok-spot-in-Some.spot in
+    let own = domains_of c.shape.result.count c.shape.result.codes in
+    if_ok (λ left. left.items ≡ reduce_from (each_from (fixed_one spot.place spot.whole c.args.code) 0 boxes)) (λ left. AreBoxes boxes)
+    (λ left. (shape : List Domain) (p : Point) → AreBoxesOver shape boxes → c.args.code < size_of shape c.args.field → HasCodes 0 shape p → Avoids shape (sets_of left.items) p ↔ Avoids shape (sets_of boxes) (with_code_at p c.args.field c.args.code))
+    c.fix_at.result (
+    λ left is fit. λ shape p over below held.
+    fixed-same own shape boxes left.items c.args.field c.args.code spot.place spot.whole (c.shape.ensures ∙ first-shape boxes c.in-Some.first.now shape c.in-Some.ensures.value over) c.in_ok-spot-in-Some.ensures.place c.in_ok-spot-in-Some.ensures.whole is p over fit below held
+    ) c.fix_at.ensures.left c.fix_at.ensures.fit

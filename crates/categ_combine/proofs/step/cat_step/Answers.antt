@@ -1,0 +1,53 @@
+use Rattle.std.proofs.Common.{◌≡◌, ◌<◌, ◌↔◌, ℕ, List, ap, arith, sym, ◌∙◌}
+use Rattle.edit_model.specs.Points.{Point}
+use Rattle.edit_line.specs.Shapes.{Domain, HasCodes, domains_of}
+use Rattle.categ_combine.specs.BoxLists.{AreBoxes, AreBoxesOver, Avoids, sets_of}
+use Rattle.categ_combine.specs.CodeFields.{TakesCodes, size_of, with_code_at}
+use Rattle.categ_combine.specs.Covers.{cover_count, covered, covered_from}
+use Rattle.categ_combine.specs.Steps.{IsDone}
+use Rattle.categ_combine.specs.declared.box_from.BoxFrom.{BoxFrom}
+use Rattle.categ_combine.proofs.OriginLaws.{sets-covered}
+use Rattle.categ_combine.proofs.StepLaws.{done-same, done-sets, first-shape, if_ok, none-count, none-covered, none-first}
+use Rattle.categ_combine.proofs.step.cat_step.Goals as goal
+
+pub returns-in-None-clause-exact : goal.returns-in-None-clause-exact
+returns-in-None-clause-exact c = λ shape over takes.
+    let none = none-first c.args.boxes.now c.in-None.ensures.value in (
+      cc (c.from_vec.ensures, c.new.ensures.items, none-covered shape c.args.field takes, ap (λ (bs : List BoxFrom). covered_from shape bs c.args.field) none),
+      sym (ap (λ (bs : List BoxFrom). cover_count shape (sets_of bs) c.args.field) none ∙ none-count shape c.args.field),
+    )
+
+pub returns-in-None-clause-passed : goal.returns-in-None-clause-passed
+returns-in-None-clause-passed c = λ shape over takes.
+    let none = none-first c.args.boxes.now c.in-None.ensures.value in
+    let count = ap (λ (bs : List BoxFrom). cover_count shape (sets_of bs) c.args.field) none ∙ none-count shape c.args.field in
+    (λ no_pairs. absurd no_pairs, λ past. absurd (omega (arith, past, count)))
+
+pub returns-in-None-clause-sets : goal.returns-in-None-clause-sets
+returns-in-None-clause-sets c = λ shape over takes.
+    let none = none-first c.args.boxes.now c.in-None.ensures.value in
+    let exact : c.from_vec.result ≡ covered_from shape c.args.boxes.now c.args.field = cc (c.from_vec.ensures, c.new.ensures.items, none-covered shape c.args.field takes, ap (λ (bs : List BoxFrom). covered_from shape bs c.args.field) none) in
+    ap (λ (bs : List BoxFrom). sets_of bs) exact ∙ sets-covered shape c.args.boxes.now c.args.field
+
+pub returns-in-Some-clause-sets : goal.returns-in-Some-clause-sets
+returns-in-Some-clause-sets c =
+    let boxes = c.args.boxes.now in
+    let own = domains_of c.shape.result.count c.shape.result.codes in
+    if_ok (λ told. IsDone told (λ left pairs. (left ≡ covered_from own boxes c.args.field) × (pairs ≡ cover_count own (sets_of boxes) c.args.field))) (λ told. IsDone told (λ left pairs. AreBoxes boxes))
+    (λ told. (shape : List Domain) → AreBoxesOver shape boxes → TakesCodes shape c.args.field → IsDone told (λ left pairs. sets_of left ≡ covered shape (sets_of boxes) c.args.field))
+    c.step_over.result (
+    λ told are fit. λ shape over takes.
+    done-sets own shape boxes c.args.field (c.shape.ensures ∙ first-shape boxes c.in-Some.first.now shape c.in-Some.ensures.value over) told are
+    ) c.step_over.ensures.exact c.step_over.ensures.fit
+
+pub returns-in-Some-clause-same : goal.returns-in-Some-clause-same
+returns-in-Some-clause-same c =
+    let boxes = c.args.boxes.now in
+    let own = domains_of c.shape.result.count c.shape.result.codes in
+    if_ok (λ told. IsDone told (λ left pairs. (left ≡ covered_from own boxes c.args.field) × (pairs ≡ cover_count own (sets_of boxes) c.args.field))) (λ told. IsDone told (λ left pairs. AreBoxes boxes))
+    (λ told. (shape : List Domain) (p : Point) → AreBoxesOver shape boxes → TakesCodes shape c.args.field → HasCodes 0 shape p
+    → IsDone told (λ left pairs. Avoids shape (sets_of left) p ↔ ((code : ℕ) × (code < size_of shape c.args.field) × Avoids shape (sets_of boxes) (with_code_at p c.args.field code))))
+    c.step_over.result (
+    λ told are fit. λ shape p over takes held.
+    done-same own shape boxes c.args.field (c.shape.ensures ∙ first-shape boxes c.in-Some.first.now shape c.in-Some.ensures.value over) p over takes held told are fit
+    ) c.step_over.ensures.exact c.step_over.ensures.fit

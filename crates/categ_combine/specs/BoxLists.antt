@@ -1,0 +1,60 @@
+use Rattle.std.specs.Prelude.{◌≡◌, ◌<◌, ℕ, not, Bool, List, [], ◌∷◌, ◌++◌, All, IsTrue, if◌then◌else◌, map}
+use Rattle.std.specs.List.{filter, fold, list_any}
+use Rattle.edit_model.specs.Points.{Point}
+use Rattle.edit_line.specs.Boxes.{IsBox}
+use Rattle.edit_line.specs.Sets.{all_inside, is_inside}
+use Rattle.edit_line.specs.Shapes.{Domain, codes_at}
+use Rattle.categ_combine.specs.CodeFields.{TakesCodes, size_of}
+use Rattle.categ_combine.specs.declared.box_from.BoxFrom.{BoxFrom}
+
+-- A box's sets, one for each categorical field in declared order, stand for the box.
+
+-- whether the codes avoid the boxes: no box has them all
+abbrev pub avoid : List (List ℕ) → List ℕ → Bool
+avoid boxes codes = not (list_any (λ b. is_inside b codes) boxes)
+
+-- the point's codes avoid the boxes
+abbrev pub Avoids : List Domain → List (List ℕ) → Point → Type 0
+Avoids shape boxes p = IsTrue (avoid boxes (codes_at shape p))
+
+-- the kept boxes with one more, unless it lies inside one of them; those that lie inside it are removed
+abbrev pub with_box : List (List ℕ) → List ℕ → List (List ℕ)
+with_box kept box =
+    if list_any (λ b. all_inside box b) kept
+    then kept
+    else filter (λ b. not (all_inside b box)) kept ++ box ∷ []
+
+-- the boxes without those that lie inside another
+abbrev pub reduce_boxes : List (List ℕ) → List (List ℕ)
+reduce_boxes boxes = fold with_box [] boxes
+
+-- the same of boxes with their origins
+abbrev pub with_from : List BoxFrom → BoxFrom → List BoxFrom
+with_from kept new =
+    if list_any (λ (b : BoxFrom). all_inside new.code_box.sets b.code_box.sets) kept
+    then kept
+    else filter (λ (b : BoxFrom). not (all_inside b.code_box.sets new.code_box.sets)) kept ++ new ∷ []
+
+-- the boxes, with their origins, without those that lie inside another
+abbrev pub reduce_from : List BoxFrom → List BoxFrom
+reduce_from boxes = fold with_from [] boxes
+
+-- the sets of each box
+abbrev pub sets_of : List BoxFrom → List (List ℕ)
+sets_of boxes = map (λ (b : BoxFrom). b.code_box.sets) boxes
+
+-- the boxes are over the fields of this shape
+abbrev pub AreBoxesOver : List Domain → List BoxFrom → Type 0
+AreBoxesOver shape boxes = All (λ (b : BoxFrom). b.code_box.shape ≡ shape) boxes
+
+-- each set of each box has a code, and none but its field's
+abbrev pub AreBoxes : List BoxFrom → Type 0
+AreBoxes boxes = All (λ (b : BoxFrom). IsBox b.code_box) boxes
+
+-- the boxes are over the fields of one shape, in which the field is categorical
+abbrev pub HaveCodeField : List BoxFrom → ℕ → Type 0
+HaveCodeField boxes f = (shape : List Domain) × AreBoxesOver shape boxes × TakesCodes shape f
+
+-- the boxes are over the fields of one shape, in which the field has the code
+abbrev pub HaveCode : List BoxFrom → ℕ → ℕ → Type 0
+HaveCode boxes f code = (shape : List Domain) × AreBoxesOver shape boxes × (code < size_of shape f)

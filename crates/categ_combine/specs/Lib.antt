@@ -1,0 +1,9 @@
+pub mod BoxLists
+pub mod CodeFields
+pub mod Covers
+pub mod Each
+pub mod FailingBoxes
+pub mod Fixing
+pub mod Spots
+pub mod Steps
+pub mod Texts

@@ -1,0 +1,69 @@
+ghost use Rattle.std.specs.Prelude.{◌≡◌, ◌≤◌, IfOk, length, nat_lt, slice_index_or, take};
+ghost use Rattle.std.specs.List.{filter};
+ghost use Rattle.edit_line.specs.Boxes.{IsBox};
+ghost use Rattle.edit_line.specs.Sets.{has};
+ghost use Rattle.edit_line.specs.Shapes.{domains_of};
+ghost use Rattle.categ_combine.specs.CodeFields.{TakesCodes, place_of, size_of, whole_of};
+
+use crate::box_from::BoxFrom;
+use crate::spot::Spot;
+use edit_line::Shape;
+use foundation::OutOfMemory;
+use std::alloc::Global;
+
+/// Where the field stands among the categorical ones.
+pub(crate) fn spot_of(alloc: Global, shape: Shape, field: u32) -> Result<Spot, OutOfMemory>
+    requires { TakesCodes (domains_of shape.count shape.codes) field }
+    ensures place { IfOk result (λ spot. spot.place ≡ place_of (domains_of shape.count shape.codes) field) }
+    ensures whole { IfOk result (λ spot. spot.whole ≡ whole_of (domains_of shape.count shape.codes) field) }
+    ensures shape { IfOk result (λ spot. spot.shape ≡ shape) }
+{
+    let place = place_of(&shape, field);
+    let whole = shape.whole_sets(alloc)?[place];
+    Ok(Spot {
+        shape,
+        place,
+        whole,
+    })
+}
+
+/// How many codes the field has.
+pub(crate) fn size_of(shape: &Shape, field: u32) -> u8
+    requires { TakesCodes (domains_of shape.now.count shape.now.codes) field }
+    ensures { result ≡ size_of (domains_of shape.now.count shape.now.codes) field }
+{
+    shape.code_counts()[field as usize]
+}
+
+// The field's place among the categorical ones.
+fn place_of(shape: &Shape, field: u32) -> usize
+    requires { TakesCodes (domains_of shape.now.count shape.now.codes) field }
+    ensures { result ≡ place_of (domains_of shape.now.count shape.now.codes) field }
+{
+    code_fields_before(shape.code_counts(), field as usize)
+}
+
+// How many of the first fields, so many, have codes.
+fn code_fields_before(counts: &[u8], field: usize) -> usize
+    requires { field ≤ length counts.now }
+    ensures { result ≡ length (filter (λ k. nat_lt 0 k) (take field counts.now)) }
+{
+    let before = &counts[..field];
+    before.iter().filter(|k| **k > 0).count()
+}
+
+/// The box's set at the field.
+pub(crate) fn set_at(b: &BoxFrom, spot: &Spot) -> u64
+    requires { b.now.code_box.shape ≡ domains_of spot.now.shape.count spot.now.shape.codes }
+    ensures set { result ≡ slice_index_or b.now.code_box.sets spot.now.place 0 }
+    ensures fit { IsBox b.now.code_box }
+{
+    b.sets()[spot.place]
+}
+
+/// Whether the set has the code.
+pub(crate) fn has_code(set: u64, code: u8) -> bool
+    ensures { result ≡ has set code }
+{
+    code < 64 && (set >> code) & 1 == 1
+}

@@ -1,0 +1,131 @@
+//! The covers of a field's codes: intersections of one box for each code, made whole at the field.
+ghost use Rattle.std.specs.Prelude.{◌≡◌, ◌++◌, [], ◌∷◌, IfOk, OnOk, length};
+ghost use Rattle.std.specs.List.{fold};
+ghost use Rattle.edit_line.specs.Sets.{has_codes};
+ghost use Rattle.edit_line.specs.Shapes.{domains_of};
+ghost use Rattle.categ_combine.specs.BoxLists.{AreBoxesOver, with_from};
+ghost use Rattle.categ_combine.specs.Covers.{joined_for, meets, parts_of, row_of, takes_part, with_code_from};
+
+use crate::box_from::{BoxFrom, BoxOrigin};
+use crate::code_field::{has_code, set_at};
+use crate::reduction::take_in;
+use crate::spot::Spot;
+use edit_line::CodeBox;
+use foundation::{OutOfMemory, Sequence};
+use std::alloc::Global;
+
+/// The covers of one more code: what each has in common with each box that takes part for the code,
+/// without those that lie inside another.
+pub(crate) fn with_code(
+    alloc: Global,
+    boxes: &[BoxFrom],
+    covers: &[BoxFrom],
+    spot: &Spot,
+    code: u8,
+) -> Result<Vec<BoxFrom>, OutOfMemory>
+    requires boxes { AreBoxesOver (domains_of spot.now.shape.count spot.now.shape.codes) boxes.now }
+    requires covers { AreBoxesOver (domains_of spot.now.shape.count spot.now.shape.codes) covers.now }
+    ensures next { IfOk result (λ next. next.items ≡ with_code_from spot.now.place spot.now.whole boxes.now covers.now code) }
+    ensures over { IfOk result (λ next. AreBoxesOver (domains_of spot.now.shape.count spot.now.shape.codes) next.items) }
+{
+    let mut next = Vec::new(alloc);
+    for cover in covers {
+        take_row(alloc, &mut next, boxes, cover, spot, code)?;
+    }
+    Ok(next)
+}
+
+/// Whether the box takes part for the code: it is not whole at the field, and has the code there.
+pub(crate) fn takes_part(b: &BoxFrom, spot: &Spot, code: u8) -> bool
+    requires { b.now.code_box.shape ≡ domains_of spot.now.shape.count spot.now.shape.codes }
+    ensures { result ≡ takes_part spot.now.place spot.now.whole code b.now.code_box.sets }
+{
+    let set = set_at(b, spot);
+    set != spot.whole && has_code(set, code)
+}
+
+// Takes what the cover has in common with each box that takes part for the code into the next covers.
+fn take_row(
+    alloc: Global,
+    next: &mut Vec<BoxFrom>,
+    boxes: &[BoxFrom],
+    cover: &BoxFrom,
+    spot: &Spot,
+    code: u8,
+) -> Result<(), OutOfMemory>
+    requires boxes { AreBoxesOver (domains_of spot.now.shape.count spot.now.shape.codes) boxes.now }
+    requires cover { cover.now.code_box.shape ≡ domains_of spot.now.shape.count spot.now.shape.codes }
+    ensures { OnOk result (next.new.items ≡ fold with_from next.old.items (row_of spot.now.place spot.now.whole code boxes.now cover.now)) }
+{
+    for (i, b) in boxes.iter().enumerate() {
+        take_joined(alloc, next, cover, spot, code, i as u64, b)?;
+    }
+    Ok(())
+}
+
+// Takes the cover with the box as its next part into the next covers, where the box takes part for the
+// code and that leaves codes.
+fn take_joined(
+    alloc: Global,
+    next: &mut Vec<BoxFrom>,
+    cover: &BoxFrom,
+    spot: &Spot,
+    code: u8,
+    place: u64,
+    b: &BoxFrom,
+) -> Result<(), OutOfMemory>
+    requires cover { cover.now.code_box.shape ≡ domains_of spot.now.shape.count spot.now.shape.codes }
+    requires other { b.now.code_box.shape ≡ domains_of spot.now.shape.count spot.now.shape.codes }
+    ensures { OnOk result (next.new.items ≡ fold with_from next.old.items (joined_for spot.now.place spot.now.whole code cover.now place b.now)) }
+{
+    if !takes_part(b, spot, code) {
+        return Ok(());
+    }
+    let mut sets = meets(alloc, cover.sets(), b.sets())?;
+    sets[spot.place] = spot.whole;
+    if !has_codes(&sets) {
+        return Ok(());
+    }
+    let parts = longer(alloc, parts_of(&cover.origin), place)?;
+    let code_box = CodeBox::over(cover.shape(), sets);
+    let origin = BoxOrigin::Cover(Sequence::from_vec(parts));
+    take_in(next, BoxFrom { code_box, origin })
+}
+
+// The codes that both have, field by field.
+fn meets(alloc: Global, first: &[u64], second: &[u64]) -> Result<Vec<u64>, OutOfMemory>
+    requires { length first.now ≡ length second.now }
+    ensures { IfOk result (λ sets. sets.items ≡ meets first.now second.now) }
+{
+    let mut sets = Vec::from_slice(alloc, first)?;
+    for i in 0..second.len() {
+        sets[i] &= second[i];
+    }
+    Ok(sets)
+}
+
+// Whether no set is empty.
+fn has_codes(sets: &[u64]) -> bool
+    ensures { result ≡ has_codes sets.now }
+{
+    sets.iter().all(|set| *set != 0)
+}
+
+// The parts of a cover; another box has none.
+fn parts_of(origin: &BoxOrigin) -> &[u64]
+    ensures { result.now ≡ parts_of origin.now }
+{
+    match origin {
+        BoxOrigin::Cover(parts) => parts.as_slice(),
+        BoxOrigin::Failing(_) | BoxOrigin::Unchanged(_) | BoxOrigin::Fixed(_) => &[],
+    }
+}
+
+// The list with one more number.
+fn longer(alloc: Global, parts: &[u64], part: u64) -> Result<Vec<u64>, OutOfMemory>
+    ensures { IfOk result (λ all. all.items ≡ parts.now ++ part ∷ []) }
+{
+    let mut all = Vec::from_slice(alloc, parts)?;
+    all.push(part)?;
+    Ok(all)
+}

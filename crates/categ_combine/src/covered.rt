@@ -1,0 +1,14 @@
+use crate::box_from::BoxFrom;
+use foundation::Sequence;
+
+/// What the elimination of a categorical field gives.
+#[derive(Debug, Drop)]
+pub enum Covered {
+    /// The boxes without the field, and how many pairs of a cover and a box were looked at.
+    Done {
+        boxes: Sequence<BoxFrom>,
+        pairs: u64,
+    },
+    /// There are more pairs than may be looked at.
+    Passed,
+}

@@ -1,0 +1,76 @@
+ghost use Rattle.std.specs.Prelude.{◌≡◌, ◌↔◌, [], All, Err, IfOk, Ok, OnOk, ℕ};
+ghost use Rattle.edit_model.specs.Points.{Point};
+ghost use Rattle.edit_line.specs.Lines.{AllHold};
+ghost use Rattle.edit_line.specs.Reductions.{lines_of};
+ghost use Rattle.edit_line.specs.Shapes.{shape_of};
+ghost use Rattle.edit_line.specs.Sums.{AgreesWith, HasNumbers};
+ghost use Rattle.categ_combine.specs.BoxLists.{Avoids, sets_of};
+ghost use Rattle.categ_combine.specs.FailingBoxes.{failing_boxes, failing_from, taken};
+ghost use Rattle.categ_combine.specs.declared.fault.BoxFault.TheVariants.{Overflow};
+
+use crate::box_from::{BoxFrom, BoxOrigin};
+use crate::fault::BoxFault;
+use crate::reduction::take_in;
+use edit_line::{CodeBox, Derived, Line, fails};
+use edit_model::{Row, Survey};
+use foundation::OutOfMemory;
+use std::alloc::Global;
+
+/// The boxes of codes that the lines forbid at the record: the sets of the lines that fail there, in
+/// order, without those that lie inside another. Each has the place of its line as its origin. No field
+/// with a factor other than 0 is Bad. Overflow exactly where a line's sum leaves the range, at the first
+/// line of which it does and at the first field. At a point that agrees with the record, the lines all
+/// hold exactly where the codes avoid the boxes.
+pub fn boxes_of(
+    alloc: Global,
+    survey: &Survey,
+    lines: &[Derived],
+    row: &Row,
+) -> Result<Vec<BoxFrom>, BoxFault>
+    requires shape { All (λ derived. derived.line.shape ≡ shape_of survey.now.fields) lines.now }
+    requires numbers { All (λ derived. HasNumbers row.now derived.line) lines.now }
+    ensures exact { IfOk result (λ boxes. failing_from 0 lines.now row.now [] ≡ Ok boxes.items) }
+    ensures sets { IfOk result (λ boxes. failing_boxes (lines_of lines.now) row.now ≡ Ok (sets_of boxes.items)) }
+    ensures overflow { (line field : ℕ) → result ≡ Err (Overflow line field) → failing_boxes (lines_of lines.now) row.now ≡ Err (record { line = line; field = field }) }
+    ensures forbid { IfOk result (λ boxes. (p : Point)
+        → All (λ derived. AgreesWith row.now p derived.line) lines.now
+        → AllHold (lines_of lines.now) p ↔ Avoids (shape_of survey.now.fields) (sets_of boxes.items) p) }
+{
+    let mut kept = Vec::new(alloc);
+    for (i, derived) in lines.iter().enumerate() {
+        match fails(survey, &derived.line, row) {
+            Ok(failed) => take_line(alloc, &mut kept, i as u64, &derived.line, failed)?,
+            Err(overflow) => {
+                return Err(BoxFault::Overflow {
+                    line: i as u64,
+                    field: overflow.field,
+                });
+            }
+        }
+    }
+    Ok(kept)
+}
+
+// Takes the sets of the line at the place into the kept boxes, where it fails.
+fn take_line(
+    alloc: Global,
+    kept: &mut Vec<BoxFrom>,
+    place: u64,
+    line: &Line,
+    failed: bool,
+) -> Result<(), OutOfMemory>
+    ensures { OnOk result (kept.new.items ≡ taken kept.old.items place line.now failed) }
+{
+    if !failed {
+        return Ok(());
+    }
+    let sets = Vec::from_slice(alloc, line.sets())?;
+    let code_box = CodeBox::over(line.shape(), sets);
+    take_in(
+        kept,
+        BoxFrom {
+            code_box,
+            origin: BoxOrigin::Failing(place),
+        },
+    )
+}

@@ -1,0 +1,13 @@
+ghost use Rattle.edit_line.specs.Shapes.{domains_of};
+ghost use Rattle.categ_combine.specs.Spots.{IsSpot};
+
+use edit_line::Shape;
+
+/// A categorical field: its place among the categorical fields of the shape, and the set of all its codes.
+#[derive(Clone, Copy)]
+pub(crate) struct Spot {
+    pub(crate) shape: Shape,
+    pub(crate) place: usize,
+    pub(crate) whole: u64,
+    pub ghost stands: { IsSpot (domains_of shape.count shape.codes) place whole },
+}

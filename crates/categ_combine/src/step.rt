@@ -1,0 +1,200 @@
+ghost use Rattle.std.specs.Prelude.{◌≡◌, ◌<◌, ◌≤◌, ◌*◌, ◌↔◌, [], ◌∷◌, ◌++◌, IfNone, IfOk, IfSome, List, OnOk, length, ℕ};
+ghost use Rattle.std.specs.List.{filter, fold};
+ghost use Rattle.edit_model.specs.Points.{Point};
+ghost use Rattle.edit_line.specs.Boxes.{IsBox};
+ghost use Rattle.edit_line.specs.Shapes.{Domain, HasCodes, domains_of, whole_sets};
+ghost use Rattle.categ_combine.specs.BoxLists.{AreBoxes, AreBoxesOver, Avoids, HaveCodeField, reduce_from, sets_of, with_from};
+ghost use Rattle.categ_combine.specs.CodeFields.{TakesCodes, codes_up, size_of, with_code_at};
+ghost use Rattle.categ_combine.specs.Covers.{code_pairs, cover_count, covered, covered_from, first_cover, takes_part, unchanged_one, with_code_from};
+ghost use Rattle.categ_combine.specs.Each.{each_from};
+ghost use Rattle.categ_combine.specs.Steps.{IsDone, IsPassed};
+
+use crate::box_from::{BoxFrom, BoxOrigin};
+use crate::code_field::{set_at, size_of, spot_of};
+use crate::cover::{takes_part, with_code};
+use crate::covered::Covered;
+use crate::reduction::take_in;
+use crate::spot::Spot;
+use edit_line::{CodeBox, Shape};
+use foundation::{OutOfMemory, Sequence};
+use std::alloc::Global;
+
+/// The covers that are left, and the pairs that were looked at.
+#[derive(Debug, Drop)]
+struct Covers {
+    boxes: Vec<BoxFrom>,
+    pairs: u64,
+}
+
+/// The boxes without a categorical field (Fellegi and Holt 1976): those that are whole there, and for
+/// each choice of one other box for each code, that has it, what they have in common on the other fields.
+/// The origin of such a cover names its boxes, in the order of the codes. At most `most` pairs of a cover
+/// of the codes so far and a box are looked at: `Passed` comes exactly where there are more.
+pub fn cat_step(
+    alloc: Global,
+    boxes: &[BoxFrom],
+    field: u32,
+    most: u64,
+) -> Result<Covered, OutOfMemory>
+    requires { HaveCodeField boxes.now field }
+    ensures exact { IfOk result (λ told. (shape : List Domain)
+        → AreBoxesOver shape boxes.now → TakesCodes shape field
+        → IsDone told (λ left pairs. (left ≡ covered_from shape boxes.now field) × (pairs ≡ cover_count shape (sets_of boxes.now) field))) }
+    ensures passed { IfOk result (λ told. (shape : List Domain)
+        → AreBoxesOver shape boxes.now → TakesCodes shape field
+        → IsPassed told ↔ (most < cover_count shape (sets_of boxes.now) field)) }
+    ensures sets { IfOk result (λ told. (shape : List Domain)
+        → AreBoxesOver shape boxes.now → TakesCodes shape field
+        → IsDone told (λ left pairs. sets_of left ≡ covered shape (sets_of boxes.now) field)) }
+    ensures same { IfOk result (λ told. (shape : List Domain) (p : Point)
+        → AreBoxesOver shape boxes.now → TakesCodes shape field → HasCodes 0 shape p
+        → IsDone told (λ left pairs. Avoids shape (sets_of left) p
+        ↔ ((code : ℕ) × (code < size_of shape field) × Avoids shape (sets_of boxes.now) (with_code_at p field code)))) }
+{
+    match boxes.first() {
+        None => Ok(Covered::Done {
+            boxes: Sequence::from_vec(Vec::new(alloc)),
+            pairs: 0,
+        }),
+        Some(first) => step_over(alloc, first.shape(), boxes, field, most),
+    }
+}
+
+// The boxes without the field of the shape that they are over.
+fn step_over(
+    alloc: Global,
+    shape: Shape,
+    boxes: &[BoxFrom],
+    field: u32,
+    most: u64,
+) -> Result<Covered, OutOfMemory>
+    requires over { AreBoxesOver (domains_of shape.count shape.codes) boxes.now }
+    requires field { TakesCodes (domains_of shape.count shape.codes) field }
+    ensures exact { IfOk result (λ told. IsDone told (λ left pairs.
+        (left ≡ covered_from (domains_of shape.count shape.codes) boxes.now field)
+        × (pairs ≡ cover_count (domains_of shape.count shape.codes) (sets_of boxes.now) field))) }
+    ensures passed { IfOk result (λ told. IsPassed told ↔ (most < cover_count (domains_of shape.count shape.codes) (sets_of boxes.now) field)) }
+    ensures fit { IfOk result (λ told. IsDone told (λ left pairs. AreBoxes boxes.now)) }
+{
+    let spot = spot_of(alloc, shape, field)?;
+    let size = size_of(&shape, field);
+    match covers_of(alloc, boxes, &spot, size, most)? {
+        None => Ok(Covered::Passed),
+        Some(covers) => {
+            let kept = with_covers(unchanged(alloc, boxes, &spot)?, covers.boxes)?;
+            Ok(Covered::Done {
+                boxes: Sequence::from_vec(kept),
+                pairs: covers.pairs,
+            })
+        }
+    }
+}
+
+// The covers of so many codes, or none where more pairs than `most` would be looked at.
+fn covers_of(
+    alloc: Global,
+    boxes: &[BoxFrom],
+    spot: &Spot,
+    size: u8,
+    most: u64,
+) -> Result<Option<Covers>, OutOfMemory>
+    requires { AreBoxesOver (domains_of spot.now.shape.count spot.now.shape.codes) boxes.now }
+    ensures covers { IfOk result (λ found. IfSome found (λ covers. covers.boxes.items
+        ≡ fold (λ covers code. with_code_from spot.now.place spot.now.whole boxes.now covers code) (first_cover (domains_of spot.now.shape.count spot.now.shape.codes) ∷ []) (codes_up 0 size))) }
+    ensures pairs { IfOk result (λ found. IfSome found (λ covers. (covers.pairs ≤ most) × (covers.pairs
+        ≡ code_pairs spot.now.place spot.now.whole (sets_of boxes.now) (whole_sets (domains_of spot.now.shape.count spot.now.shape.codes) ∷ []) (codes_up 0 size)))) }
+    ensures passed { IfOk result (λ found. IfNone found (most
+        < code_pairs spot.now.place spot.now.whole (sets_of boxes.now) (whole_sets (domains_of spot.now.shape.count spot.now.shape.codes) ∷ []) (codes_up 0 size))) }
+{
+    let mut covers = Vec::new(alloc);
+    covers.push(first_cover(alloc, spot)?)?;
+    let mut pairs = 0;
+    for code in 0..size {
+        let more = pairs_for(boxes, covers.len(), spot, code);
+        if more > u128::from(most - pairs) {
+            return Ok(None);
+        }
+        pairs += more as u64;
+        covers = with_code(alloc, boxes, &covers, spot, code)?;
+    }
+    Ok(Some(Covers {
+        boxes: covers,
+        pairs,
+    }))
+}
+
+// The box of all codes, the cover of no code.
+fn first_cover(alloc: Global, spot: &Spot) -> Result<BoxFrom, OutOfMemory>
+    ensures { IfOk result (λ cover. cover ≡ first_cover (domains_of spot.now.shape.count spot.now.shape.codes)) }
+{
+    let sets = spot.shape.whole_sets(alloc)?;
+    Ok(BoxFrom {
+        code_box: CodeBox::over(spot.shape, sets),
+        origin: BoxOrigin::Cover(Sequence::from_vec(Vec::new(alloc))),
+    })
+}
+
+// The pairs of so many covers and the boxes that take part for the code.
+fn pairs_for(boxes: &[BoxFrom], covers: usize, spot: &Spot, code: u8) -> u128
+    requires { AreBoxesOver (domains_of spot.now.shape.count spot.now.shape.codes) boxes.now }
+    ensures { result ≡ covers * length (filter (λ b. takes_part spot.now.place spot.now.whole code b.code_box.sets) boxes.now) }
+{
+    let parts = parts_for(boxes, spot, code);
+    covers as u128 * parts as u128
+}
+
+// How many of the boxes take part for the code.
+fn parts_for(boxes: &[BoxFrom], spot: &Spot, code: u8) -> usize
+    requires { AreBoxesOver (domains_of spot.now.shape.count spot.now.shape.codes) boxes.now }
+    ensures { result ≡ length (filter (λ b. takes_part spot.now.place spot.now.whole code b.code_box.sets) boxes.now) }
+{
+    boxes.iter().filter(|b| takes_part(b, spot, code)).count()
+}
+
+// The boxes that are whole at the field, without those that lie inside another.
+fn unchanged(alloc: Global, boxes: &[BoxFrom], spot: &Spot) -> Result<Vec<BoxFrom>, OutOfMemory>
+    requires { AreBoxesOver (domains_of spot.now.shape.count spot.now.shape.codes) boxes.now }
+    ensures kept { IfOk result (λ kept. kept.items ≡ reduce_from (each_from (unchanged_one spot.now.place spot.now.whole) 0 boxes.now)) }
+    ensures fit { OnOk result (AreBoxes boxes.now) }
+{
+    let mut kept = Vec::new(alloc);
+    for (i, b) in boxes.iter().enumerate() {
+        take_unchanged(alloc, &mut kept, spot, i as u64, b)?;
+    }
+    Ok(kept)
+}
+
+// Takes the box at a place into the kept ones, where it is whole at the field.
+fn take_unchanged(
+    alloc: Global,
+    kept: &mut Vec<BoxFrom>,
+    spot: &Spot,
+    i: u64,
+    b: &BoxFrom,
+) -> Result<(), OutOfMemory>
+    requires { b.now.code_box.shape ≡ domains_of spot.now.shape.count spot.now.shape.codes }
+    ensures kept { OnOk result (kept.new.items ≡ fold with_from kept.old.items (unchanged_one spot.now.place spot.now.whole i b.now)) }
+    ensures fit { IsBox b.now.code_box }
+{
+    if set_at(b, spot) != spot.whole {
+        return Ok(());
+    }
+    let code_box = b.code_box.copy(alloc)?;
+    take_in(
+        kept,
+        BoxFrom {
+            code_box,
+            origin: BoxOrigin::Unchanged(i),
+        },
+    )
+}
+
+// The kept boxes with the covers, without those that lie inside another.
+fn with_covers(mut kept: Vec<BoxFrom>, covers: Vec<BoxFrom>) -> Result<Vec<BoxFrom>, OutOfMemory>
+    ensures { IfOk result (λ all. all.items ≡ fold with_from kept.items covers.items) }
+{
+    for cover in covers {
+        take_in(&mut kept, cover)?;
+    }
+    Ok(kept)
+}
