@@ -14,7 +14,7 @@ use Rattle.edit_line.proofs.SetLaws.{is_inside-Decides}
 use Rattle.edit_line.proofs.SumLaws.{fails_at-truth}
 use Rattle.categ_combine.specs.BoxLists.{Avoids, with_box}
 use Rattle.categ_combine.specs.FailingBoxes.{boxes_from, failing_boxes, or_line}
-use Rattle.categ_combine.proofs.OtherFields.{inside-grows}
+use Rattle.edit_line.proofs.OtherFields.{inside-grows}
 use Rattle.categ_combine.proofs.ReducedBoxes.{any-with_box}
 
 -- Which codes avoid the boxes of a record: those of the points that agree with it and at which its lines hold.

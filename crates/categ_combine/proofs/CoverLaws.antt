@@ -6,11 +6,11 @@ use Rattle.edit_line.specs.Sets.{is_inside}
 use Rattle.edit_line.specs.Shapes.{Domain, HasCodes, code_fields, codes_at, whole_sets}
 use Rattle.edit_line.proofs.ShapeLaws.{length-wholes}
 use Rattle.categ_combine.specs.BoxLists.{Avoids, avoid}
-use Rattle.categ_combine.specs.CodeFields.{TakesCodes, codes_of, place_of, size_of, whole_of, with_code_at}
+use Rattle.edit_line.specs.CodeFields.{TakesCodes, codes_of, place_of, size_of, whole_of, with_code_at}
 use Rattle.categ_combine.specs.Covers.{covered}
 use Rattle.categ_combine.specs.Fixing.{fixed}
 use Rattle.categ_combine.proofs.CoverSteps.{any-covered, any-fixed}
-use Rattle.categ_combine.proofs.PointCodes.{codes_at-with, length-codes_at, not_all, place_of-below, some-code, whole_of-all, whole_of-code, wholes-inside}
+use Rattle.edit_line.proofs.PointCodes.{codes_at-with, length-codes_at, not_all, place_of-below, some-code, whole_of-all, whole_of-code, wholes-inside}
 
 -- Which codes avoid the boxes that elimination leaves, and those that a code leaves.
 

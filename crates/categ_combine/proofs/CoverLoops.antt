@@ -3,7 +3,7 @@ use Rattle.std.specs.List.{filter, fold}
 use Rattle.std.proofs.lemmas.List.{length-map}
 use Rattle.edit_line.specs.Shapes.{Domain, whole_sets}
 use Rattle.categ_combine.specs.BoxLists.{AreBoxesOver, sets_of}
-use Rattle.categ_combine.specs.CodeFields.{codes_up}
+use Rattle.edit_line.specs.CodeFields.{codes_up}
 use Rattle.categ_combine.specs.Covers.{code_pairs, first_cover, takes_part, with_code, with_code_from}
 use Rattle.categ_combine.specs.declared.box_from.BoxFrom.{BoxFrom}
 use Rattle.categ_combine.proofs.OriginLaws.{length-parts, sets-with_code}

@@ -7,10 +7,11 @@ use Rattle.edit_line.specs.Sets.{has, has_codes, is_inside}
 use Rattle.edit_line.proofs.Members.{in-filter-out}
 use Rattle.edit_line.proofs.SetLaws.{both_true}
 use Rattle.categ_combine.specs.BoxLists.{reduce_boxes}
-use Rattle.categ_combine.specs.Covers.{is_whole_at, meets, meets_but, takes_part, with_code}
-use Rattle.categ_combine.proofs.OtherFields.{inside-grows, inside-has_codes, inside-with, inside_but, inside_but-grows, inside_but-meets, length-meets, length-set, set-set, set-whole}
+use Rattle.edit_line.specs.Combinations.{meets}
+use Rattle.categ_combine.specs.Covers.{is_whole_at, meets_but, takes_part, with_code}
+use Rattle.edit_line.proofs.OtherFields.{inside-grows, inside-has_codes, inside-with, inside_but, inside_but-grows, inside_but-meets, length-meets, length-set, set-set, set-whole}
 use Rattle.categ_combine.proofs.ReducedBoxes.{any-reduce, in-reduce}
-use Rattle.categ_combine.proofs.TestLists.{and-any, and_grouped, any-agree, any-and, any-filter, any-flat_map, any-map, any-split, in-flat_map, in-map}
+use Rattle.edit_line.proofs.TestLists.{and-any, and_grouped, any-agree, any-and, any-filter, any-flat_map, any-map, any-split, in-flat_map, in-map}
 
 -- Which codes the covers have: some cover has them exactly where, for each code of the field, a box has them with that code.
 

@@ -6,10 +6,7 @@ pub mod EachLaws
 pub mod FailingLaws
 pub mod MeetLaws
 pub mod OriginLaws
-pub mod OtherFields
-pub mod PointCodes
 pub mod ReducedBoxes
 pub mod SpotLaws
 pub mod StepLaws
-pub mod TestLists
 pub mod TwoFields

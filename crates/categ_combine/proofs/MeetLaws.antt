@@ -1,5 +1,5 @@
 use Rattle.std.proofs.Common.{◌≡◌, ℕ, zero, suc, ◌<◌, List, [], ◌∷◌, ◌++◌, bit_and, drop, length, slice_index_or, slice_set, take, refl, ap, arith}
-use Rattle.categ_combine.specs.Covers.{meets}
+use Rattle.edit_line.specs.Combinations.{meets}
 
 -- Two boxes' intersection, field by field.
 

@@ -6,14 +6,14 @@ use Rattle.edit_line.specs.Sets.{has, has_codes}
 use Rattle.edit_line.specs.Shapes.{Domain}
 use Rattle.edit_line.proofs.Members.{all-in, in-all, in-either}
 use Rattle.categ_combine.specs.BoxLists.{AreBoxesOver, reduce_boxes, sets_of}
-use Rattle.categ_combine.specs.CodeFields.{codes_of, place_of, whole_of}
+use Rattle.edit_line.specs.CodeFields.{codes_of, place_of, whole_of}
 use Rattle.categ_combine.specs.Covers.{covered, covered_from, covers_from, first_cover, from_of, is_whole_at, joined_for, meets_but, parts_of, row_of, takes_part, unchanged_one, with_code, with_code_from}
 use Rattle.categ_combine.specs.Each.{each_from}
 use Rattle.categ_combine.specs.Fixing.{fixed, fixed_from, fixed_one}
 use Rattle.categ_combine.specs.declared.box_from.BoxFrom.{BoxFrom}
 use Rattle.categ_combine.specs.declared.box_from.BoxOrigin.TheVariants.{Cover, Fixed, Unchanged}
 use Rattle.categ_combine.proofs.ReducedBoxes.{in-reduce_from, sets-reduce}
-use Rattle.categ_combine.proofs.TestLists.{in-flat_map}
+use Rattle.edit_line.proofs.TestLists.{in-flat_map}
 
 -- Boxes with their origins, and without.
 

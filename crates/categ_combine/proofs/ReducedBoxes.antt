@@ -8,7 +8,7 @@ use Rattle.edit_line.specs.Sets.{all_inside}
 use Rattle.edit_line.proofs.Members.{in-any, in-either, in-filter-out}
 use Rattle.categ_combine.specs.BoxLists.{reduce_boxes, reduce_from, sets_of, with_box, with_from}
 use Rattle.categ_combine.specs.declared.box_from.BoxFrom.{BoxFrom}
-use Rattle.categ_combine.proofs.TestLists.{any-map, or_grouped, or_none}
+use Rattle.edit_line.proofs.TestLists.{any-map, or_grouped, or_none}
 
 -- Boxes without those that lie inside another.
 

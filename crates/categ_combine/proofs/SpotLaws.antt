@@ -6,10 +6,10 @@ use Rattle.edit_line.specs.Sets.{AreSets, AreWithin, has_codes}
 use Rattle.edit_line.specs.Shapes.{Categorical, Domain, Numerical, codes_from, domain_with, place_in, whole_sets}
 use Rattle.edit_line.proofs.SetLaws.{AreSets-within}
 use Rattle.edit_line.proofs.ShapeLaws.{length-wholes}
-use Rattle.categ_combine.specs.CodeFields.{TakesCodes, place_of, size_from, size_of, whole_of}
-use Rattle.categ_combine.specs.Covers.{meets}
+use Rattle.edit_line.specs.CodeFields.{TakesCodes, place_of, size_from, size_of, whole_of}
+use Rattle.edit_line.specs.Combinations.{meets}
 use Rattle.categ_combine.specs.Spots.{IsSpot}
-use Rattle.categ_combine.proofs.PointCodes.{place_of-below, whole_of-is}
+use Rattle.edit_line.proofs.PointCodes.{place_of-below, whole_of-is}
 
 -- A field's place in a box, and the sets of a box there.
 

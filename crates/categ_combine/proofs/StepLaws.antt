@@ -6,7 +6,7 @@ use Rattle.edit_line.specs.Shapes.{Domain, HasCodes, codes_at, whole_sets}
 use Rattle.edit_line.proofs.Members.{in-all}
 use Rattle.edit_line.proofs.ShapeLaws.{length-wholes}
 use Rattle.categ_combine.specs.BoxLists.{AreBoxes, AreBoxesOver, Avoids, avoid, reduce_from, sets_of}
-use Rattle.categ_combine.specs.CodeFields.{TakesCodes, codes_of, codes_up, place_of, size_of, whole_of, with_code_at}
+use Rattle.edit_line.specs.CodeFields.{TakesCodes, codes_of, codes_up, place_of, size_of, whole_of, with_code_at}
 use Rattle.categ_combine.specs.Covers.{code_pairs, cover_count, covered, covered_from, first_cover, row_of, with_code, with_code_from}
 use Rattle.categ_combine.specs.Each.{each_from}
 use Rattle.categ_combine.specs.Fixing.{fixed, fixed_from, fixed_one}
@@ -17,7 +17,7 @@ use Rattle.categ_combine.specs.declared.covered.Covered.TheVariants.{Done, Passe
 use Rattle.categ_combine.proofs.CoverLaws.{HaveSets, covered-holds, covered-lifts, fixed-avoids}
 use Rattle.categ_combine.proofs.OriginLaws.{sets-covered, sets-fixed_from}
 use Rattle.categ_combine.proofs.SpotLaws.{AreSets-length}
-use Rattle.categ_combine.proofs.TestLists.{in-map}
+use Rattle.edit_line.proofs.TestLists.{in-map}
 
 -- What the public calls say of their answers, from the exact ones.
 

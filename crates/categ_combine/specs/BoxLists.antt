@@ -4,7 +4,7 @@ use Rattle.edit_model.specs.Points.{Point}
 use Rattle.edit_line.specs.Boxes.{IsBox}
 use Rattle.edit_line.specs.Sets.{all_inside, is_inside}
 use Rattle.edit_line.specs.Shapes.{Domain, codes_at}
-use Rattle.categ_combine.specs.CodeFields.{TakesCodes, size_of}
+use Rattle.edit_line.specs.CodeFields.{TakesCodes, size_of}
 use Rattle.categ_combine.specs.declared.box_from.BoxFrom.{BoxFrom}
 
 -- A box's sets, one for each categorical field in declared order, stand for the box.

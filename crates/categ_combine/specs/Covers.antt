@@ -4,17 +4,12 @@ use Rattle.edit_line.specs.Boxes.{box_of}
 use Rattle.edit_line.specs.Sets.{has, has_codes}
 use Rattle.edit_line.specs.Shapes.{Domain, whole_sets}
 use Rattle.categ_combine.specs.BoxLists.{reduce_boxes, reduce_from}
-use Rattle.categ_combine.specs.CodeFields.{codes_of, place_of, whole_of}
+use Rattle.edit_line.specs.CodeFields.{codes_of, place_of, whole_of}
+use Rattle.edit_line.specs.Combinations.{meets}
 use Rattle.categ_combine.specs.Each.{each_from}
 use Rattle.categ_combine.specs.declared.box_from.BoxFrom.{BoxFrom}
 use Rattle.categ_combine.specs.declared.box_from.BoxOrigin.{BoxOrigin}
 use Rattle.categ_combine.specs.declared.box_from.BoxOrigin.TheVariants.{Cover, Failing, Fixed, Unchanged}
-
--- the codes that both have, field by field
-abbrev pub meets : List ℕ → List ℕ → List ℕ
-meets (s ∷ first) (t ∷ second) = bit_and s t ∷ meets first second
-meets [] second = second
-meets first [] = first
 
 -- two boxes' intersection on the other fields, and the whole set at the place
 abbrev pub meets_but : ℕ → ℕ → List ℕ → List ℕ → List ℕ

@@ -3,7 +3,7 @@ use Rattle.std.specs.List.{filter}
 use Rattle.edit_line.specs.Sets.{has}
 use Rattle.edit_line.specs.Shapes.{Domain}
 use Rattle.categ_combine.specs.BoxLists.{reduce_boxes, reduce_from}
-use Rattle.categ_combine.specs.CodeFields.{place_of, whole_of}
+use Rattle.edit_line.specs.CodeFields.{place_of, whole_of}
 use Rattle.categ_combine.specs.Covers.{from_of, is_whole_at}
 use Rattle.categ_combine.specs.Each.{each_from}
 use Rattle.categ_combine.specs.declared.box_from.BoxFrom.{BoxFrom}

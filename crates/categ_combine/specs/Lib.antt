@@ -1,5 +1,4 @@
 pub mod BoxLists
-pub mod CodeFields
 pub mod Covers
 pub mod Each
 pub mod FailingBoxes

@@ -3,7 +3,7 @@ ghost use Rattle.std.specs.List.{filter};
 ghost use Rattle.edit_line.specs.Boxes.{IsBox};
 ghost use Rattle.edit_line.specs.Sets.{has};
 ghost use Rattle.edit_line.specs.Shapes.{domains_of};
-ghost use Rattle.categ_combine.specs.CodeFields.{TakesCodes, place_of, size_of, whole_of};
+ghost use Rattle.edit_line.specs.CodeFields.{TakesCodes, place_of, size_of, whole_of};
 
 use crate::box_from::BoxFrom;
 use crate::spot::Spot;

@@ -4,7 +4,8 @@ ghost use Rattle.std.specs.List.{fold};
 ghost use Rattle.edit_line.specs.Sets.{has_codes};
 ghost use Rattle.edit_line.specs.Shapes.{domains_of};
 ghost use Rattle.categ_combine.specs.BoxLists.{AreBoxesOver, with_from};
-ghost use Rattle.categ_combine.specs.Covers.{joined_for, meets, parts_of, row_of, takes_part, with_code_from};
+ghost use Rattle.edit_line.specs.Combinations.{meets};
+ghost use Rattle.categ_combine.specs.Covers.{joined_for, parts_of, row_of, takes_part, with_code_from};
 
 use crate::box_from::{BoxFrom, BoxOrigin};
 use crate::code_field::{has_code, set_at};

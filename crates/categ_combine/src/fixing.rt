@@ -4,7 +4,7 @@ ghost use Rattle.edit_model.specs.Points.{Point};
 ghost use Rattle.edit_line.specs.Boxes.{IsBox, box_of};
 ghost use Rattle.edit_line.specs.Shapes.{Domain, HasCodes, domains_of};
 ghost use Rattle.categ_combine.specs.BoxLists.{AreBoxes, AreBoxesOver, Avoids, HaveCode, reduce_from, sets_of, with_from};
-ghost use Rattle.categ_combine.specs.CodeFields.{size_of, with_code_at};
+ghost use Rattle.edit_line.specs.CodeFields.{size_of, with_code_at};
 ghost use Rattle.categ_combine.specs.Each.{each_from};
 ghost use Rattle.categ_combine.specs.Fixing.{fixed, fixed_from, fixed_one};
 

@@ -4,7 +4,7 @@ ghost use Rattle.edit_model.specs.Points.{Point};
 ghost use Rattle.edit_line.specs.Boxes.{IsBox};
 ghost use Rattle.edit_line.specs.Shapes.{Domain, HasCodes, domains_of, whole_sets};
 ghost use Rattle.categ_combine.specs.BoxLists.{AreBoxes, AreBoxesOver, Avoids, HaveCodeField, reduce_from, sets_of, with_from};
-ghost use Rattle.categ_combine.specs.CodeFields.{TakesCodes, codes_up, size_of, with_code_at};
+ghost use Rattle.edit_line.specs.CodeFields.{TakesCodes, codes_up, size_of, with_code_at};
 ghost use Rattle.categ_combine.specs.Covers.{code_pairs, cover_count, covered, covered_from, first_cover, takes_part, unchanged_one, with_code_from};
 ghost use Rattle.categ_combine.specs.Each.{each_from};
 ghost use Rattle.categ_combine.specs.Steps.{IsDone, IsPassed};

@@ -1,7 +1,10 @@
+pub mod CombinationLaws
 pub mod DivisionLaws
 pub mod Enough
 pub mod Members
 pub mod OneField
+pub mod OtherFields
+pub mod PointCodes
 pub mod ReductionLaws
 pub mod SetLaws
 pub mod ShapeLaws
@@ -9,3 +12,4 @@ pub mod SubsumptionLaws
 pub mod SumCallers
 pub mod SumLaws
 pub mod SumSteps
+pub mod TestLists

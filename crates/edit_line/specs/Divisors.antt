@@ -20,8 +20,10 @@ or_one (suc n) = suc n
 abbrev pub divisor_of : List ℤ → ℤ → ℤ
 divisor_of factors constant = pos (or_one (gcd_all (constant ∷ factors)))
 
+-- the line, its numbers divided by g
+abbrev pub divided_by : ℤ → LineParts → LineParts
+divided_by g line = record line { factors = map (λ c. int_div c g) line.factors; constant = int_div line.constant g }
+
 -- the line, its numbers divided by their greatest common divisor
 unfoldable pub reduced : LineParts → LineParts
-reduced line =
-    let g = divisor_of line.factors line.constant in
-    record line { factors = map (λ c. int_div c g) line.factors; constant = int_div line.constant g }
+reduced line = divided_by (divisor_of line.factors line.constant) line

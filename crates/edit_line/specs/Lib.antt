@@ -1,4 +1,6 @@
 pub mod Boxes
+pub mod CodeFields
+pub mod Combinations
 pub mod Divisors
 pub mod EditSets
 pub mod Lines

@@ -8,29 +8,11 @@ use Rattle.edit_model.specs.Points.{Point, has_code, test_holds}
 use Rattle.edit_model.specs.declared.rule.Test.TheVariants.{Codes}
 use Rattle.edit_line.specs.Sets.{has, is_inside}
 use Rattle.edit_line.specs.Shapes.{Categorical, Domain, HasCodes, Numerical, code_fields, codes_at, codes_from, has_field, place_in, whole_sets}
+use Rattle.edit_line.proofs.OtherFields.{has-and}
 use Rattle.edit_line.proofs.ShapeLaws.{place-within}
 use Rattle.edit_normal.specs.NormalForm.{narrowed, test_set}
 
 -- The codes that meet a test, and sets that are narrowed to them.
-
--- the intersection has the codes that both sets have
-has-and : (s t code : ℕ) → has (bit_and s t) code ≡ (has s code && has t code)
-has-and s t code = by (has s code) (has t code) (Decides-eqb (bit_at s code) 1) (Decides-eqb (bit_at t code) 1)
-  where
-    by : (a b : Bool) → Decides a (bit_at s code ≡ 1) → Decides b (bit_at t code ≡ 1) → has (bit_and s t) code ≡ (a && b)
-    by a b p q =
-        one_answer (has (bit_and s t) code) (a && b) (Decides-eqb (bit_at (bit_and s t) code) 1) (
-          λ h. let (first, second) = parts a b h in omega (arith, bit_at_and s t code, p.0 first, q.0 second),
-          λ h. joined a b (p.1 (omega (arith, bit_at_and s t code, bit_at-lt s code, bit_at-lt t code, h))) (q.1 (omega (arith, bit_at_and s t code, bit_at-lt s code, bit_at-lt t code, h))),
-        )
-      where
-        parts : (a b : Bool) → (a && b) ≡ true → (a ≡ true) × (b ≡ true)
-        parts true b h = (refl, h)
-        parts false b h = absurd (cc)
-
-        joined : (a b : Bool) → a ≡ true → b ≡ true → (a && b) ≡ true
-        joined true b h i = i
-        joined false b h i = h
 
 -- a set without a code of the whole set has what the other has not
 has-other : (whole codes code : ℕ) → bit_at whole code ≡ 1 → has (bit_xor whole codes) code ≡ not (has codes code)

@@ -7,7 +7,8 @@ use Rattle.edit_line.specs.Lines.{IsLine, LineParts, factor, parts_of}
 use Rattle.edit_line.specs.Sets.{AreSets}
 use Rattle.edit_line.specs.Shapes.{Domain, number_fields, whole_sets}
 use Rattle.edit_line.proofs.SetLaws.{both_true}
-use Rattle.linear_elim.specs.Combinations.{all_meet, combine_result, combined, combined_with, first_multiplier, first_overflow, meets, numbers, second_multiplier, sum_fits, sum_of, unless_overflow}
+use Rattle.edit_line.specs.Combinations.{all_meet, combined, first_overflow, meets, numbers, sum_fits, sum_of, unless_overflow}
+use Rattle.linear_elim.specs.Combinations.{combine_result, combined_with, first_multiplier, second_multiplier}
 use Rattle.linear_elim.proofs.SumSteps.{fits-sum}
 use Rattle.linear_elim.specs.Told.{told_place}
 use Rattle.linear_elim.specs.declared.fault.PlaceFault.{PlaceFault}

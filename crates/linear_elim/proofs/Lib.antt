@@ -1,5 +1,4 @@
 pub mod BetweenLaws
-pub mod CombinationLaws
 pub mod CountLaws
 pub mod ListMembers
 pub mod OriginLaws

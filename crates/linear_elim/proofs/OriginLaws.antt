@@ -8,7 +8,8 @@ use Rattle.edit_line.specs.declared.derived.Derived.{Derived}
 use Rattle.edit_line.specs.declared.derived.Origin.TheVariants.{Same}
 use Rattle.edit_line.proofs.Members.{all-in, in-all, in-either, in-filter-out}
 use Rattle.edit_line.proofs.SetLaws.{both_true}
-use Rattle.linear_elim.specs.Combinations.{IsPositiveSum, combination, combined_with, first_multiplier, first_overflow, is_flat, is_lower, numbers, second_multiplier, unless_overflow}
+use Rattle.edit_line.specs.Combinations.{IsPositiveSum, first_overflow, numbers, unless_overflow}
+use Rattle.linear_elim.specs.Combinations.{combination, combined_with, first_multiplier, is_flat, is_lower, second_multiplier}
 use Rattle.linear_elim.specs.Origins.{AllComeFrom, ComesFrom}
 use Rattle.linear_elim.specs.Steps.{StepOverflow, collect, eliminated_result, flat_from, is_opposite, pair_result, paired, reduced_result, row_result, step_result}
 use Rattle.linear_elim.proofs.ListMembers.{in-map}

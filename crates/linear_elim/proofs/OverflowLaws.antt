@@ -5,7 +5,8 @@ use Rattle.edit_line.specs.Places.{place_of}
 use Rattle.edit_line.specs.Reductions.{reduce_derived}
 use Rattle.edit_line.specs.Shapes.{number_fields}
 use Rattle.edit_line.specs.declared.derived.Derived.{Derived}
-use Rattle.linear_elim.specs.Combinations.{combined_with, first_multiplier, first_overflow, is_lower, second_multiplier, sum_fits, unless_overflow}
+use Rattle.edit_line.specs.Combinations.{first_overflow, sum_fits, unless_overflow}
+use Rattle.linear_elim.specs.Combinations.{combined_with, first_multiplier, is_lower, second_multiplier}
 use Rattle.linear_elim.specs.Overflows.{AllPairsFit, IsFirstOverflow, IsFirstPlace, IsFoldOverflow, overflow_of}
 use Rattle.linear_elim.specs.Systems.{SystemOverflow, fold_result, next_result, system_of}
 use Rattle.linear_elim.proofs.ResultLaws.{followed}

@@ -10,9 +10,10 @@ use Rattle.edit_line.specs.Divisors.{divisor_of, reduced}
 use Rattle.edit_line.specs.Lines.{HasShape, LineParts, factor}
 use Rattle.edit_line.specs.Shapes.{Domain, beside, number_fields}
 use Rattle.edit_line.proofs.DivisionLaws.{divides-constant, divides-factors, divisor-above}
-use Rattle.linear_elim.specs.Combinations.{IsCombined, IsPositiveSum, combination, combined, first_multiplier, second_multiplier, sum_of}
+use Rattle.edit_line.specs.Combinations.{IsCombined, IsPositiveSum, combined, sum_of}
+use Rattle.linear_elim.specs.Combinations.{combination, first_multiplier, second_multiplier}
 use Rattle.linear_elim.proofs.BetweenLaws.{above_neg}
-use Rattle.linear_elim.proofs.CombinationLaws.{beside-combined, beside-scaled, length-combined, length-meets}
+use Rattle.edit_line.proofs.CombinationLaws.{beside-combined, beside-scaled, length-combined, length-meets}
 
 -- The combination of a lower and an upper line is a positive one, and the field is gone from it.
 

@@ -8,7 +8,8 @@ use Rattle.edit_line.specs.Shapes.{Domain, IsNumerical}
 use Rattle.edit_line.specs.declared.derived.Derived.{Derived}
 use Rattle.edit_line.specs.declared.derived.Origin.TheVariants.{Same}
 use Rattle.edit_line.proofs.ReductionLaws.{reduce-lines}
-use Rattle.linear_elim.specs.Combinations.{combination, combined_with, first_multiplier, first_overflow, is_flat, is_lower, numbers, second_multiplier, unless_overflow}
+use Rattle.edit_line.specs.Combinations.{first_overflow, numbers, unless_overflow}
+use Rattle.linear_elim.specs.Combinations.{combination, combined_with, first_multiplier, is_flat, is_lower, second_multiplier}
 use Rattle.linear_elim.specs.PointChanges.{CanHoldAt, CanHoldIn}
 use Rattle.linear_elim.specs.Steps.{StepOverflow, collect, eliminated, eliminated_result, flat_from, followed_by, is_opposite, pair_result, paired, reduced_result, row_result, step, step_result, with_more}
 use Rattle.linear_elim.specs.Systems.{fold_result, next_result, system, system_of}

@@ -12,11 +12,12 @@ use Rattle.edit_line.proofs.Enough.{IsEnough-times, IsEnough_cancel}
 use Rattle.edit_line.proofs.Members.{all-in, in-all, in-either, in-filter, in-filter-out, in-left, in-right}
 use Rattle.edit_line.proofs.ReductionLaws.{HaveShape-reduce, all-reduce, holds-reduce, reduce-holds}
 use Rattle.edit_line.proofs.SetLaws.{both_true, is_inside-Decides}
-use Rattle.linear_elim.specs.Combinations.{all_meet, combination, first_multiplier, second_multiplier, is_flat, is_lower, is_upper, meets}
+use Rattle.edit_line.specs.Combinations.{all_meet, meets}
+use Rattle.linear_elim.specs.Combinations.{combination, first_multiplier, second_multiplier, is_flat, is_lower, is_upper}
 use Rattle.linear_elim.specs.PointChanges.{DiffersOnlyAt}
 use Rattle.linear_elim.specs.Steps.{combinations, eliminated, is_opposite, step}
 use Rattle.linear_elim.proofs.BetweenLaws.{IsWithin, LeavesValue, between, by_sign}
-use Rattle.linear_elim.proofs.CombinationLaws.{LineHolds-combined, amount-combined, inside-all_meet, inside-meets}
+use Rattle.edit_line.proofs.CombinationLaws.{LineHolds-combined, amount-combined, inside-all_meet, inside-meets}
 use Rattle.linear_elim.proofs.ListMembers.{in-flat_map, in-flat_map-out, in-map, in-map-out}
 use Rattle.linear_elim.proofs.PairLaws.{HasShape-combination, combination-flat, combination-is, combination_divisor, multipliers-cancel}
 use Rattle.linear_elim.proofs.PointLaws.{LineHolds-others, holds-put, put, put-code, put-differs, rest_at}

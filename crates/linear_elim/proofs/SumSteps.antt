@@ -4,7 +4,7 @@ use Rattle.std.proofs.lemmas.List.{drop_all}
 use Rattle.std.proofs.lemmas.Bool.Decides.{Decides-ltb}
 use Rattle.fraction128.specs.Range.{InRange}
 use Rattle.edit_line.proofs.SetLaws.{both_true}
-use Rattle.linear_elim.specs.Combinations.{all_meet, combined, first_overflow, in_range, meets, sum_fits, unless_overflow}
+use Rattle.edit_line.specs.Combinations.{all_meet, combined, first_overflow, in_range, meets, sum_fits, unless_overflow}
 
 -- Two lists, number by number.
 

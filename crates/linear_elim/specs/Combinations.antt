@@ -1,8 +1,9 @@
-use Rattle.std.specs.Prelude.{◌≡◌, ℕ, suc, ℤ, pos, ◌^◌, ◌&&◌, ◌||◌, not, Bool, true, List, [], ◌∷◌, ◌++◌, Option, Some, None, Result, Ok, Err, length, map, bit_and, nat_eq, nat_lt, int_lt, int_div, unsigned_abs, ◌<ℤ◌, ◌+ℤ◌, ◌*ℤ◌, if◌then◌else◌}
+use Rattle.std.specs.Prelude.{◌≡◌, ℕ, ℤ, pos, ◌&&◌, not, Bool, List, Result, length, int_div, int_lt}
 use lib.IntN.{neg_ℤ}
 use Rattle.fraction128.specs.Divisor.{int_gcd}
+use Rattle.edit_line.specs.Combinations.{combined, first_overflow, numbers, sum_of, unless_overflow}
 use Rattle.edit_line.specs.Divisors.{divisor_of, reduced}
-use Rattle.edit_line.specs.Lines.{LineParts, factor, parts_of}
+use Rattle.edit_line.specs.Lines.{LineParts, factor}
 
 -- ---- the combination of two lines
 
@@ -18,11 +19,6 @@ is_upper f line = int_lt (factor line f) (pos 0)
 abbrev pub is_flat : ℕ → LineParts → Bool
 is_flat f line = not (is_lower f line) && not (is_upper f line)
 
--- some code of each field is in both sets
-abbrev pub all_meet : List ℕ → List ℕ → Bool
-all_meet (s ∷ first) (t ∷ second) = not (nat_eq (bit_and s t) 0) && all_meet first second
-all_meet _ _ = true
-
 -- with what s, above 0 at the field, is multiplied so that the field goes from its sum with t, below 0 there
 unfoldable pub first_multiplier : LineParts → LineParts → ℕ → ℤ
 first_multiplier s t f = int_div (neg_ℤ (factor t f)) (int_gcd (factor s f) (factor t f))
@@ -31,60 +27,9 @@ first_multiplier s t f = int_div (neg_ℤ (factor t f)) (int_gcd (factor s f) (f
 unfoldable pub second_multiplier : LineParts → LineParts → ℕ → ℤ
 second_multiplier s t f = int_div (factor s f) (int_gcd (factor s f) (factor t f))
 
--- m times the first and n times the second, place by place; a missing number counts as 0
-abbrev pub combined : ℤ → ℤ → List ℤ → List ℤ → List ℤ
-combined m n (a ∷ first) (b ∷ second) = (m *ℤ a +ℤ n *ℤ b) ∷ combined m n first second
-combined m n [] second = map (λ b. n *ℤ b) second
-combined m n first [] = map (λ a. m *ℤ a) first
-
--- the codes that are in the first and in the second; a missing set counts as whole
-abbrev pub meets : List ℕ → List ℕ → List ℕ
-meets (s ∷ first) (t ∷ second) = bit_and s t ∷ meets first second
-meets [] second = second
-meets first [] = first
-
--- m times s and n times t, where both sets meet, and strict where one is
-abbrev pub sum_of : ℤ → ℤ → LineParts → LineParts → LineParts
-sum_of m n s t = parts_of s.shape (meets s.sets t.sets) (combined m n s.factors t.factors) (m *ℤ s.constant +ℤ n *ℤ t.constant) (s.strict || t.strict)
-
 -- the positive combination of s and t in which the field is gone, its numbers divided by their greatest common divisor
 abbrev pub combination : LineParts → LineParts → ℕ → LineParts
 combination s t f = reduced (sum_of (first_multiplier s t f) (second_multiplier s t f) s t)
-
--- the line is m times s and n times t, divided by g
-pub record IsCombined (m n g : ℤ) (s t line : LineParts) : Type 0 where
-  pub shape : line.shape ≡ s.shape
-  pub same : t.shape ≡ s.shape
-  pub sets : line.sets ≡ meets s.sets t.sets
-  pub factors : map (λ c. g *ℤ c) line.factors ≡ combined m n s.factors t.factors
-  pub constant : g *ℤ line.constant ≡ m *ℤ s.constant +ℤ n *ℤ t.constant
-  pub strict : line.strict ≡ (s.strict || t.strict)
-
--- the line is a positive multiple of s and a positive multiple of t, divided by a positive number
-pub record IsPositiveSum (m n g : ℤ) (s t line : LineParts) : Type 0 where
-  pub m_above : pos 0 <ℤ m
-  pub n_above : pos 0 <ℤ n
-  pub g_above : pos 0 <ℤ g
-  pub combined : IsCombined m n g s t line
-
--- ---- the numbers formed on the way
-
--- whether a whole number is of absolute value at most 2 ^ 127 - 1
-abbrev pub in_range : ℤ → Bool
-in_range z = nat_lt (unsigned_abs z) (2 ^ 127)
-
--- whether both products and their sum are in range
-abbrev pub sum_fits : ℤ → ℤ → ℤ → ℤ → Bool
-sum_fits m n a b = in_range (m *ℤ a) && (in_range (n *ℤ b) && in_range (m *ℤ a +ℤ n *ℤ b))
-
--- the first place, counted from i, at which a number of m * first + n * second leaves the range
-abbrev pub first_overflow : ℕ → ℤ → ℤ → List ℤ → List ℤ → Option ℕ
-first_overflow i m n (a ∷ first) (b ∷ second) = if sum_fits m n a b then first_overflow (suc i) m n first second else Some i
-first_overflow i m n _ _ = None
-
--- a line's numbers: the factors, and then the constant
-abbrev pub numbers : LineParts → List ℤ
-numbers line = line.factors ++ line.constant ∷ []
 
 -- two lines over one survey's fields
 pub record SameShape (s t : LineParts) : Type 0 where
@@ -108,11 +53,6 @@ combined_with m n s t =
       n = n;
       g = divisor_of (combined m n s.factors t.factors) (m *ℤ s.constant +ℤ n *ℤ t.constant);
     }
-
--- the value, unless a place leaves the range
-abbrev pub unless_overflow : {B : Type 0} → Option ℕ → B → Result B ℕ
-unless_overflow None value = Ok value
-unless_overflow (Some place) value = Err place
 
 -- the combination of s and t in which the field is gone, or the first place at which a number of it leaves the range
 abbrev pub combine_result : LineParts → LineParts → ℕ → Result CombinedParts ℕ

@@ -3,7 +3,7 @@ use Rattle.edit_line.specs.Lines.{LineParts}
 use Rattle.edit_line.specs.declared.derived.Derived.{Derived}
 use Rattle.edit_line.specs.declared.derived.Origin.{Origin}
 use Rattle.edit_line.specs.declared.derived.Origin.TheVariants.{Base, Pair, Same}
-use Rattle.linear_elim.specs.Combinations.{IsPositiveSum}
+use Rattle.edit_line.specs.Combinations.{IsPositiveSum}
 
 -- the line comes from the list that a step took as its origin says: it is the line at that place, or the combination of the lines at both places
 abbrev pub ComesFrom : List Derived → LineParts → Origin → Type 0

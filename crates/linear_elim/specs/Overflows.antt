@@ -3,7 +3,8 @@ use Rattle.edit_line.specs.Lines.{LineParts}
 use Rattle.edit_line.specs.Places.{place_of}
 use Rattle.edit_line.specs.Shapes.{number_fields}
 use Rattle.edit_line.specs.declared.derived.Derived.{Derived}
-use Rattle.linear_elim.specs.Combinations.{first_multiplier, first_overflow, is_lower, numbers, second_multiplier, sum_fits}
+use Rattle.edit_line.specs.Combinations.{first_overflow, numbers, sum_fits}
+use Rattle.linear_elim.specs.Combinations.{first_multiplier, is_lower, second_multiplier}
 use Rattle.linear_elim.specs.Steps.{StepOverflow, is_opposite}
 use Rattle.linear_elim.specs.Systems.{SystemOverflow, fold_result}
 

@@ -7,7 +7,8 @@ use Rattle.edit_line.specs.Shapes.{Domain, number_fields}
 use Rattle.edit_line.specs.declared.derived.Derived.{Derived}
 use Rattle.edit_line.specs.declared.derived.Origin.TheVariants.{Pair, Same}
 use Rattle.edit_line.specs.declared.place.Place.{Place}
-use Rattle.linear_elim.specs.Combinations.{CombinedParts, SameShape, all_meet, combination, combine_result, is_flat, is_lower, is_upper}
+use Rattle.edit_line.specs.Combinations.{all_meet}
+use Rattle.linear_elim.specs.Combinations.{CombinedParts, SameShape, combination, combine_result, is_flat, is_lower, is_upper}
 
 -- ---- the step over lines alone
 

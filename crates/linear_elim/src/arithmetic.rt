@@ -1,5 +1,5 @@
 ghost use Rattle.std.specs.Prelude.{◌≡◌, ◌+ℤ◌, ◌*ℤ◌, Some, None, if◌then◌else◌};
-ghost use Rattle.linear_elim.specs.Combinations.{in_range, sum_fits};
+ghost use Rattle.edit_line.specs.Combinations.{in_range, sum_fits};
 
 // The product, where it is in range.
 fn product(a: i128, b: i128) -> Option<i128>

@@ -7,7 +7,8 @@ ghost use Rattle.edit_line.specs.Lines.{IsLine, parts_of};
 ghost use Rattle.edit_line.specs.Shapes.{domains_of};
 ghost use Rattle.edit_line.specs.declared.derived.Origin.TheVariants.{Pair};
 ghost use Rattle.linear_elim.specs.Answers.{Answers};
-ghost use Rattle.linear_elim.specs.Combinations.{all_meet, combine_result, combined, combined_with, first_overflow, is_lower, is_upper, meets, numbers, unless_overflow};
+ghost use Rattle.edit_line.specs.Combinations.{all_meet, combined, first_overflow, meets, numbers, unless_overflow};
+ghost use Rattle.linear_elim.specs.Combinations.{combine_result, combined_with, is_lower, is_upper};
 ghost use Rattle.linear_elim.specs.Told.{told_parts, told_place};
 
 use crate::arithmetic::sum_of_products;

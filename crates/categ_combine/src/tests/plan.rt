@@ -4,7 +4,7 @@ ghost use Rattle.edit_line.specs.Boxes.{box_of};
 ghost use Rattle.edit_line.specs.Sets.{AreSets};
 ghost use Rattle.edit_line.specs.Shapes.{domains_of};
 ghost use Rattle.categ_combine.specs.BoxLists.{AreBoxesOver};
-ghost use Rattle.categ_combine.specs.CodeFields.{TakesCodes, size_of};
+ghost use Rattle.edit_line.specs.CodeFields.{TakesCodes, size_of};
 
 use crate::{BoxFrom, BoxOrigin, Covered, cat_step, fix};
 use edit_line::{CodeBox, Shape};

@@ -2,8 +2,8 @@ use Rattle.std.proofs.Common.{◌≡◌, ◌<◌, length, rules, ap, arith, slic
 use Rattle.std.proofs.lemmas.List.{get_or_read}
 use Rattle.edit_line.specs.Shapes.{domains_of, whole_sets}
 use Rattle.edit_line.proofs.ShapeLaws.{length-wholes}
-use Rattle.categ_combine.specs.CodeFields.{whole_of}
-use Rattle.categ_combine.proofs.PointCodes.{place_of-below}
+use Rattle.edit_line.specs.CodeFields.{whole_of}
+use Rattle.edit_line.proofs.PointCodes.{place_of-below}
 use Rattle.categ_combine.proofs.SpotLaws.{spot-of}
 use Rattle.categ_combine.proofs.code_field.spot_of.Goals as goal
 

@@ -1,6 +1,6 @@
 use Rattle.std.proofs.Common.{rules, ◌≡◌, ℕ, List, ◌<◌, ◌++◌, add-one, ap, arith, bit_and, drop, length, slice_index_or, slice_set, sym, take, ◌∙◌}
 use Rattle.std.proofs.lemmas.List.{get_or_read}
-use Rattle.categ_combine.specs.Covers.{meets}
+use Rattle.edit_line.specs.Combinations.{meets}
 use Rattle.categ_combine.proofs.MeetLaws.{meet-more}
 use Rattle.categ_combine.proofs.cover.meets.Goals as goal
 

@@ -1,5 +1,5 @@
 use Rattle.std.proofs.Common.{◌≡◌, ◌++◌, drop, take}
-use Rattle.categ_combine.specs.Covers.{meets}
+use Rattle.edit_line.specs.Combinations.{meets}
 use Rattle.categ_combine.proofs.cover.meets.Given as goal
 
 abbrev pub invariant-loop-i : goal.invariant-loop-i

@@ -1,7 +1,7 @@
 use Rattle.std.proofs.Common.{true, ◌≡◌, ◌<◌, ℕ, List, length, rules, ap, arith, subst, sym, slice_set, ◌∙◌}
 use Rattle.edit_line.specs.Sets.{AreSets, has_codes}
 use Rattle.edit_line.specs.Shapes.{Domain, whole_sets}
-use Rattle.categ_combine.specs.Covers.{meets}
+use Rattle.edit_line.specs.Combinations.{meets}
 use Rattle.categ_combine.proofs.SpotLaws.{AreSets-length, common-sets, common-within}
 use Rattle.categ_combine.proofs.cover.take_joined.Goals as goal
 

@@ -2,7 +2,7 @@ use Rattle.std.proofs.Common.{◌≡◌, ◌<◌, ◌↔◌, List, ◌∙◌}
 use Rattle.edit_model.specs.Points.{Point}
 use Rattle.edit_line.specs.Shapes.{Domain, HasCodes, domains_of}
 use Rattle.categ_combine.specs.BoxLists.{AreBoxes, AreBoxesOver, Avoids, reduce_from, sets_of}
-use Rattle.categ_combine.specs.CodeFields.{size_of, with_code_at}
+use Rattle.edit_line.specs.CodeFields.{size_of, with_code_at}
 use Rattle.categ_combine.specs.Each.{each_from}
 use Rattle.categ_combine.specs.Fixing.{fixed, fixed_one}
 use Rattle.categ_combine.proofs.StepLaws.{first-shape, fixed-same, fixed-sets, if_ok}

@@ -2,7 +2,7 @@ use Rattle.std.proofs.Common.{◌≡◌, ◌<◌, ◌↔◌, ℕ, List, ap, arit
 use Rattle.edit_model.specs.Points.{Point}
 use Rattle.edit_line.specs.Shapes.{Domain, HasCodes, domains_of}
 use Rattle.categ_combine.specs.BoxLists.{AreBoxes, AreBoxesOver, Avoids, sets_of}
-use Rattle.categ_combine.specs.CodeFields.{TakesCodes, size_of, with_code_at}
+use Rattle.edit_line.specs.CodeFields.{TakesCodes, size_of, with_code_at}
 use Rattle.categ_combine.specs.Covers.{cover_count, covered, covered_from}
 use Rattle.categ_combine.specs.Steps.{IsDone}
 use Rattle.categ_combine.specs.declared.box_from.BoxFrom.{BoxFrom}

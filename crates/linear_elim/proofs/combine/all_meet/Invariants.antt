@@ -1,5 +1,5 @@
 use Rattle.std.proofs.Common.{◌≡◌, drop}
-use Rattle.linear_elim.specs.Combinations.{all_meet}
+use Rattle.edit_line.specs.Combinations.{all_meet}
 use Rattle.linear_elim.proofs.combine.all_meet.Given as goal
 
 abbrev pub invariant-loop-i : goal.invariant-loop-i

@@ -3,7 +3,8 @@ use Rattle.std.proofs.lemmas.Int.{to_z-of_z}
 use mir.Syntax.{w128}
 use Rattle.edit_line.specs.Shapes.{Domain, number_fields, whole_sets}
 use Rattle.edit_line.specs.Sets.{AreSets}
-use Rattle.linear_elim.specs.Combinations.{combined, combined_with, meets}
+use Rattle.edit_line.specs.Combinations.{combined, meets}
+use Rattle.linear_elim.specs.Combinations.{combined_with}
 use Rattle.linear_elim.proofs.CombineSteps.{combined-is, constant-fault, constant-formed, factors-formed, fault-answered, same-sets, sum-line}
 use Rattle.linear_elim.proofs.combine.combined_line.Goals as goal
 

@@ -1,5 +1,5 @@
 use Rattle.std.proofs.Common.{◌≡◌, ◌++◌, drop}
-use Rattle.linear_elim.specs.Combinations.{meets}
+use Rattle.edit_line.specs.Combinations.{meets}
 use Rattle.linear_elim.proofs.combine.meets.Given as goal
 
 abbrev pub invariant-loop-i : goal.invariant-loop-i

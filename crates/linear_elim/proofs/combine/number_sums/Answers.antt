@@ -3,7 +3,7 @@ use Rattle.std.proofs.lemmas.Int.{to_z-of_z}
 use Rattle.fraction128.specs.Range.{InRange}
 use mir.Syntax.{w128}
 use Rattle.std.proofs.lemmas.List.Elements.{All-push}
-use Rattle.linear_elim.specs.Combinations.{combined}
+use Rattle.edit_line.specs.Combinations.{combined}
 use Rattle.linear_elim.proofs.SumSteps.{combined-more, overflow-there}
 use Rattle.linear_elim.proofs.combine.number_sums.Goals as goal
 

@@ -1,6 +1,6 @@
 use Rattle.std.proofs.Common.{◌≡◌, ◌++◌, All, drop}
 use Rattle.fraction128.specs.Range.{InRange}
-use Rattle.linear_elim.specs.Combinations.{combined, first_overflow}
+use Rattle.edit_line.specs.Combinations.{combined, first_overflow}
 use Rattle.linear_elim.proofs.combine.number_sums.Given as goal
 
 abbrev pub invariant-loop-i : goal.invariant-loop-i

@@ -5,7 +5,7 @@ use Rattle.std.proofs.lemmas.Bool.Decides.{Decides-eqb}
 use Rattle.std.proofs.lemmas.Nat.Bits.{bit_at-lt, bit_at-zero, bit_at_and}
 use Rattle.edit_line.specs.Sets.{all_inside, has, has_codes, is_inside}
 use Rattle.edit_line.proofs.SetLaws.{both_true, has-inside}
-use Rattle.categ_combine.specs.Covers.{meets}
+use Rattle.edit_line.specs.Combinations.{meets}
 
 -- Boxes on the fields other than one place.
 
@@ -14,7 +14,7 @@ abbrev pub inside_but : ℕ → ℕ → List ℕ → List ℕ → Bool
 inside_but place whole codes box = is_inside (slice_set box place whole) codes
 
 -- the intersection has the codes that both sets have
-has-and : (s t code : ℕ) → has (bit_and s t) code ≡ (has s code && has t code)
+pub has-and : (s t code : ℕ) → has (bit_and s t) code ≡ (has s code && has t code)
 has-and s t code = by (has s code) (has t code) (Decides-eqb (bit_at s code) 1) (Decides-eqb (bit_at t code) 1)
   where
     by : (a b : Bool) → Decides a (bit_at s code ≡ 1) → Decides b (bit_at t code ≡ 1) → has (bit_and s t) code ≡ (a && b)

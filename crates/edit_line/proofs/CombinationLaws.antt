@@ -10,7 +10,7 @@ use Rattle.edit_line.specs.Lines.{IsEnough, LineHolds, LineParts, amount, weight
 use Rattle.edit_line.specs.Sets.{AllInside, HasCode}
 use Rattle.edit_line.specs.Shapes.{Domain, beside, codes_at, numerators_at}
 use Rattle.edit_line.proofs.Enough.{IsEnough-at_least, IsEnough_cancel}
-use Rattle.linear_elim.specs.Combinations.{IsCombined, all_meet, combined, meets}
+use Rattle.edit_line.specs.Combinations.{IsCombined, all_meet, combined, meets}
 
 -- A positive combination of two lines holds where both hold.
 

@@ -1,0 +1,4 @@
+pub mod Premises
+pub mod Shown
+pub mod Texts
+pub mod ValidSteps

@@ -1,0 +1,155 @@
+use Rattle.std.specs.Prelude.{ℕ, suc, ℤ, pos, ◌==◌, ◌&&◌, ◌||◌, Bool, true, false, List, [], ◌∷◌, ◌++◌, Option, Some, None, Result, Ok, Err, is_none, length, int_lt, int_rem, map, if◌then◌else◌, slice_get, slice_index_or, slice_set}
+use Rattle.std.specs.List.{list_all}
+use Rattle.std.specs.Ordering.{int_eq}
+use Rattle.edit_model.specs.FieldSets.{has_number}
+use Rattle.edit_model.specs.Rows.{value_of}
+use Rattle.edit_model.specs.declared.value.Value.{Value}
+use Rattle.edit_model.specs.declared.value.Value.TheVariants.{Bad, Code, Number}
+use Rattle.edit_line.specs.Boxes.{box_of}
+use Rattle.edit_line.specs.CodeFields.{place_of, size_of, whole_of}
+use Rattle.edit_line.specs.Combinations.{all_meet, first_overflow, meets, numbers, sum_of}
+use Rattle.edit_line.specs.Divisors.{divided_by}
+use Rattle.edit_line.specs.Lines.{LineParts}
+use Rattle.edit_line.specs.Sets.{has, has_codes}
+use Rattle.edit_line.specs.Shapes.{Domain, code_fields, has_field, number_fields, whole_sets}
+use Rattle.edit_line.specs.Sums.{fails_at}
+use Rattle.derivation.specs.Premises.{Premises}
+use Rattle.derivation.specs.declared.proved.Proved.{Proved}
+use Rattle.derivation.specs.declared.proved.Proved.TheVariants as proved
+use Rattle.derivation.specs.declared.step.Step.{Step}
+use Rattle.derivation.specs.declared.step.Step.TheVariants as step
+
+-- Places, of given lines and of steps, are numbered from 0.
+
+-- ---- what earlier steps proved
+
+-- the line, if a line was proved
+abbrev pub as_line : Option Proved → Option LineParts
+as_line (Some (proved.Line line)) = Some line
+as_line (Some (proved.Box code_box)) = None
+as_line None = None
+
+-- the sets of the box, if a box was proved
+abbrev pub as_box : Option Proved → Option (List ℕ)
+as_box (Some (proved.Box code_box)) = Some code_box.sets
+as_box (Some (proved.Line line)) = None
+as_box None = None
+
+-- what is made of the value, if there is one
+abbrev pub then_some : {A B : Type 0} → Option A → (A → Option B) → Option B
+then_some None make = None
+then_some (Some a) make = make a
+
+-- the value, where the test is true
+abbrev pub only_if : {A : Type 0} → Bool → A → Option A
+only_if test value = if test then Some value else None
+
+-- ---- a given line
+
+-- the given line at the place, if it is usable
+abbrev pub given_line : Premises → ℕ → Option Proved
+given_line p place = if slice_index_or p.usable place false then then_some (slice_get p.given place) (λ line. Some (proved.Line line)) else None
+
+-- ---- a positive combination of two lines
+
+-- whether all numbers of the line are multiples of g
+abbrev pub divides : ℤ → LineParts → Bool
+divides g line = list_all (λ z. int_eq (int_rem z g) (pos 0)) (numbers line)
+
+-- whether m times s and n times t, divided by g, may be taken: m, n and g are above 0, the lines have codes of each field in common, no product and no sum leaves the range, and g divides all numbers
+abbrev pub may_combine : ℤ → ℤ → ℤ → LineParts → LineParts → Bool
+may_combine m n g s t =
+    int_lt (pos 0) m && (int_lt (pos 0) n && (int_lt (pos 0) g && (all_meet s.sets t.sets && (is_none (first_overflow 0 m n (numbers s) (numbers t)) && divides g (sum_of m n s t)))))
+
+-- the combination
+abbrev pub combined_line : ℤ → ℤ → ℤ → LineParts → LineParts → Option Proved
+combined_line m n g s t = only_if (may_combine m n g s t) (proved.Line (divided_by g (sum_of m n s t)))
+
+-- ---- a line that fails at the kept fields
+
+-- whether all numerical fields that stand in a line are kept
+abbrev pub all_kept : ℕ → List ℕ → List ℤ → Bool
+all_kept kept (f ∷ fields) (a ∷ factors) = (int_eq a (pos 0) || has_number kept f) && all_kept kept fields factors
+all_kept kept _ _ = true
+
+-- whether a test was in range and came out true
+abbrev pub is_true : Result Bool ℕ → Bool
+is_true (Ok answer) = answer
+is_true (Err field) = false
+
+-- the box of the line's sets, where its linear part is false at the record, whatever the fields are that are not kept
+abbrev pub failed_box : Premises → LineParts → Option Proved
+failed_box p line = only_if (all_kept p.kept (number_fields p.shape) line.factors && is_true (fails_at line p.row)) (proved.Box (box_of p.shape line.sets))
+
+-- ---- boxes
+
+-- the box of these sets, made whole at the field
+abbrev pub whole_box : List Domain → ℕ → List ℕ → Proved
+whole_box shape field sets = proved.Box (box_of shape (slice_set sets (place_of shape field) (whole_of shape field)))
+
+-- the box that was proved at a place, if it has the code at the field
+abbrev pub part_with : List Proved → ℕ → ℕ → ℕ → Option (List ℕ)
+part_with earlier at code part = then_some (as_box (slice_get earlier part)) (λ sets. only_if (has (slice_index_or sets at 0) code) sets)
+
+-- what the boxes of these parts, one for each code from this one on, have in common with the sets so far
+abbrev pub common_from : List Proved → ℕ → ℕ → List ℕ → List ℕ → Option (List ℕ)
+common_from earlier at code [] common = Some common
+common_from earlier at code (part ∷ parts) common = then_some (part_with earlier at code part) (λ sets. common_from earlier at (suc code) parts (meets common sets))
+
+-- the box of what the parts have in common on the other fields, whole at the field: with each code there, the codes are in a part. There is one part for each code of the field, in declared order
+abbrev pub covered_box : Premises → List Proved → ℕ → List ℕ → Option Proved
+covered_box p earlier field parts =
+    if has_field (code_fields p.shape) field && (length parts == size_of p.shape field)
+    then then_some (common_from earlier (place_of p.shape field) 0 parts (whole_sets p.shape)) (λ common.
+        only_if (has_codes (slice_set common (place_of p.shape field) (whole_of p.shape field))) (whole_box p.shape field common))
+    else None
+
+-- whether a set has the code that is the value
+abbrev pub has_value : ℕ → Value → Bool
+has_value set (Code code) = has set code
+has_value set (Number x) = false
+has_value set Bad = false
+
+-- the box that was proved, made whole at a kept field at which it has the record's code
+abbrev pub fixed_box : Premises → List Proved → ℕ → ℕ → Option Proved
+fixed_box p earlier field part =
+    if has_field (code_fields p.shape) field && has_number p.kept field
+    then then_some (as_box (slice_get earlier part)) (λ sets.
+        only_if (has_value (slice_index_or sets (place_of p.shape field) 0) (value_of p.row field)) (whole_box p.shape field sets))
+    else None
+
+-- ---- lists of steps
+
+-- what a step proves from what the earlier ones did; nothing where it is invalid
+abbrev pub proved_by : Premises → List Proved → Step → Option Proved
+proved_by p earlier (step.Given place) = given_line p place
+proved_by p earlier (step.Combine a m b n g) =
+    then_some (as_line (slice_get earlier a)) (λ s. then_some (as_line (slice_get earlier b)) (λ t. combined_line m n g s t))
+proved_by p earlier (step.Fail a) = then_some (as_line (slice_get earlier a)) (λ line. failed_box p line)
+proved_by p earlier (step.Cover field parts) = covered_box p earlier field parts
+proved_by p earlier (step.Fix field part) = fixed_box p earlier field part
+
+-- what comes of a step, or its place where it proves nothing
+abbrev pub or_place : ℕ → Option Proved → (Proved → Result (List Proved) ℕ) → Result (List Proved) ℕ
+or_place place None next = Err place
+or_place place (Some proved) next = next proved
+
+-- what the steps prove, each from all before it; or the place of the first that is invalid
+abbrev pub proved_from : Premises → List Proved → List Step → Result (List Proved) ℕ
+proved_from p earlier [] = Ok earlier
+proved_from p earlier (step ∷ steps) = or_place (length earlier) (proved_by p earlier step) (λ proved. proved_from p (earlier ++ proved ∷ []) steps)
+
+-- the last one, and place 0 where there is none
+abbrev pub last_from : Option Proved → List Proved → Result Proved ℕ
+last_from None [] = Err 0
+last_from (Some last) [] = Ok last
+last_from before (proved ∷ later) = last_from (Some proved) later
+
+-- the last of what was proved, or the place of the first invalid step
+abbrev pub last_proved : Result (List Proved) ℕ → Result Proved ℕ
+last_proved (Ok all) = last_from None all
+last_proved (Err place) = Err place
+
+-- what the last of the steps proves, where all are valid; or the place of the first that is not, which is 0 where there are no steps
+abbrev pub steps_result : Premises → List Step → Result Proved ℕ
+steps_result p steps = last_proved (proved_from p [] steps)

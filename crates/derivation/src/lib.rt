@@ -1,0 +1,13 @@
+//! Derivations: lists of small steps that anyone can check one by one, and what they show. A step takes a
+//! given line, combines two lines, turns a line that fails at a record into a box of codes that are
+//! forbidden, or makes a box from boxes. Begin with [`check_steps`]: it accepts a list exactly where each
+//! step is valid (`specs/ValidSteps.antt`), and what the last step proves then follows (`specs/Shown.antt`).
+#![tactic(auto)]
+
+mod fault;
+mod proved;
+mod step;
+
+pub use fault::StepsFault;
+pub use proved::Proved;
+pub use step::Step;

@@ -1,0 +1,10 @@
+use edit_line::{CodeBox, Line};
+
+/// What a step proves.
+#[derive(Debug, Drop)]
+pub enum Proved {
+    /// That the line holds.
+    Line(Line),
+    /// That no codes may all stand in the box.
+    Box(CodeBox),
+}
