@@ -1,0 +1,5 @@
+pub mod CombineLaws
+pub mod CoverLaws
+pub mod FailLaws
+pub mod Places
+pub mod Soundness
