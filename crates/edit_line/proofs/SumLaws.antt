@@ -20,28 +20,18 @@ use Rattle.edit_line.specs.Shapes.{number_fields}
 use Rattle.edit_line.specs.Subsumption.{is_enough}
 use Rattle.edit_line.specs.Sums.{AgreesWith, AtFactors, HasNumbers, fails_at, fails_by, next_sum, or_field, sum_at, sum_from, whole}
 use Rattle.edit_line.specs.declared.overflow.LineOverflow.{LineOverflow}
+use Rattle.edit_model.proofs.TrialLaws.{IsOverPoint, led_on, nothing_more, number_agrees, over_one, some_same, sum_with-over}
 use Rattle.edit_line.proofs.Enough.{IsEnough-times, IsEnough_cancel, is_enough-Decides}
 
 -- A line's sum at a record is its amount at each point that agrees with the record.
-
--- a value that leads on to an answer
-led_on : {A B : Type 0} (o : Option A) (next : A → Option B) (b : B) → then_some o next ≡ Some b → (a : A) × (o ≡ Some a) × (next a ≡ Some b)
-led_on None next b e = absurd (cc)
-led_on (Some a) next b e = (a, refl, e)
 
 -- a sum that leads on to an answer
 field_on : (f : ℕ) (o : Option Ratio) (next : Ratio → Result Ratio ℕ) (s : Ratio) → or_field f o next ≡ Ok s → (sum : Ratio) × (o ≡ Some sum) × (next sum ≡ Ok s)
 field_on f None next s e = absurd (cc)
 field_on f (Some sum) next s e = (sum, refl, e)
 
-some_same : {A : Type 0} (a b : A) → Some a ≡ Some b → a ≡ b
-some_same a b e = cc
-
 ok_same : {A : Type 0} (a b : A) (r : Result A ℕ) → r ≡ Ok a → r ≡ Ok b → a ≡ b
 ok_same a b r first second = cc
-
-nothing_more : (l : ℤ) → pos 0 +ℤ l ≡ l
-nothing_more l = rw (parts l) (simp ring (same_dif _ _ _ _ (omega arith)))
 
 regrouped : (w l a n : ℤ) → w +ℤ (l +ℤ n *ℤ a) ≡ (a *ℤ n +ℤ w) +ℤ l
 regrouped w l a n = rw (parts w, parts l, parts a, parts n) (simp ring (same_dif _ _ _ _ (omega arith)))
@@ -49,38 +39,10 @@ regrouped w l a n = rw (parts w, parts l, parts a, parts n) (simp ring (same_dif
 no_term : (w l a n : ℤ) → a ≡ pos 0 → w +ℤ l ≡ (a *ℤ n +ℤ w) +ℤ l
 no_term w l a n is = rw (is, parts w, parts l, parts n) (simp ring (same_dif _ _ _ _ (omega arith)))
 
-over_one : (n d : ℤ) → n *ℤ d ≡ n *ℤ d *ℤ pos 1
-over_one n d = rw (parts n, parts d) (simp ring (same_dif _ _ _ _ (omega arith)))
-
--- a point that has the number's value at a field
-number_agrees : (x : Fraction) (p : Point) (f : ℕ) → differs_from (Number x) p f ≡ false → x.numerator *ℤ p.denominator ≡ p.numerator f *ℤ x.denominator
-number_agrees x p f same = sym ((Decides-int_eq (p.numerator f *ℤ x.denominator) (x.numerator *ℤ p.denominator)).0 (true_from_not _ same))
-  where
-    true_from_not : (b : Bool) → not b ≡ false → b ≡ true
-    true_from_not true h = refl
-    true_from_not false h = sym h
-
 module _ (p : Point) where
-  -- the sum so far is l over the point's denominator
-  pub IsOverPoint : Ratio → ℤ → Type 0
-  IsOverPoint s l = (s.numerator *ℤ p.denominator ≡ l *ℤ s.denominator) × (pos 0 <ℤ s.denominator)
-
-  with-value : (sum s : Ratio) (k l : ℤ) (v : Value) (f : ℕ) → IsNumberValue v → differs_from v p f ≡ false → IsOverPoint sum l → sum_with sum k v ≡ Some s
-      → IsOverPoint s (l +ℤ p.numerator f *ℤ k)
-  unfolding IsOverPoint
-  with-value sum s k l Bad f is same before e = absurd is
-  with-value sum s k l (Code c) f is same before e = absurd is
-  with-value sum s k l (Number x) f is same before e =
-      let (y, first, second) = led_on (scaled (ratio_of x) k) (λ y. added sum y) s e in
-      let product = scaled-value (ratio_of x) k y x.positive first in
-      let total = added-value sum y s before.1 product.1 second in
-      let y_over : y.numerator *ℤ p.denominator ≡ p.numerator f *ℤ k *ℤ y.denominator =
-      over_product x.numerator x.denominator y.numerator y.denominator (p.numerator f) p.denominator k x.positive (number_agrees x p f same) product.0 in
-      (over_sum sum.numerator sum.denominator y.numerator y.denominator s.numerator s.denominator l (p.numerator f *ℤ k) p.denominator before.1 product.1 before.0 y_over total.0, total.1)
-
   -- one factor more
-  next-over : (sum s : Ratio) (a l w : ℤ) (v : Value) (f : ℕ) → (a ≢ pos 0 → IsNumberValue v) → (a ≢ pos 0 → differs_from v p f ≡ false) → IsOverPoint sum l → next_sum a v sum ≡ Some s
-      → (m : ℤ) × IsOverPoint s m × (w +ℤ m ≡ (a *ℤ p.numerator f +ℤ w) +ℤ l)
+  next-over : (sum s : Ratio) (a l w : ℤ) (v : Value) (f : ℕ) → (a ≢ pos 0 → IsNumberValue v) → (a ≢ pos 0 → differs_from v p f ≡ false) → IsOverPoint p sum l → next_sum a v sum ≡ Some s
+      → (m : ℤ) × IsOverPoint p s m × (w +ℤ m ≡ (a *ℤ p.numerator f +ℤ w) +ℤ l)
   unfolding IsOverPoint
   next-over sum s a l w v f number agrees before e = by (int_eq a (pos 0)) refl e
     where
@@ -89,25 +51,25 @@ module _ (p : Point) where
       by true is h = (l, subst (λ (r : Ratio). (r.numerator *ℤ p.denominator ≡ l *ℤ r.denominator) × (pos 0 <ℤ r.denominator)) (some_same sum s h) before, no_term w l a (p.numerator f) ((Decides-int_eq a (pos 0)).0 is))
       by false is h =
           let apart : a ≢ pos 0 = λ same. absurd (cc (sym is ∙ (Decides-int_eq a (pos 0)).1 same)) in
-          (l +ℤ p.numerator f *ℤ a, with-value sum s a l v f (number apart) (agrees apart) before h, regrouped w l a (p.numerator f))
+          (l +ℤ p.numerator f *ℤ a, sum_with-over p sum s a l v f (number apart) (agrees apart) before h, regrouped w l a (p.numerator f))
 
   -- all factors
   sum_from-over : (fields : List ℕ) (factors : List ℤ) (row : List Value) (sum s : Ratio) (l : ℤ)
       → AtFactors (λ f. IsNumberValue (value_of row f)) fields factors → AtFactors (λ f. Agrees row p f) fields factors
-      → IsOverPoint sum l → sum_from fields factors row sum ≡ Ok s → IsOverPoint s (weighted factors (map p.numerator fields) +ℤ l)
+      → IsOverPoint p sum l → sum_from fields factors row sum ≡ Ok s → IsOverPoint p s (weighted factors (map p.numerator fields) +ℤ l)
   sum_from-over [] factors row sum s l held agreed before e = ended (weighted_none factors) (ok_same sum s (Ok sum) refl e) before
     where
       weighted_none : (factors : List ℤ) → weighted factors [] ≡ pos 0
       weighted_none [] = refl
       weighted_none (a ∷ factors) = refl
 
-      ended : weighted factors [] ≡ pos 0 → sum ≡ s → IsOverPoint sum l → IsOverPoint s (weighted factors [] +ℤ l)
-      ended none same h = subst (λ (z : ℤ). IsOverPoint s z) (sym (ap (λ (z : ℤ). z +ℤ l) none ∙ nothing_more l)) (subst (λ (r : Ratio). IsOverPoint r l) same h)
-  sum_from-over (f ∷ fields) [] row sum s l held agreed before e = subst (λ (z : ℤ). IsOverPoint s z) (sym (nothing_more l)) (subst (λ (r : Ratio). IsOverPoint r l) (ok_same sum s (Ok sum) refl e) before)
+      ended : weighted factors [] ≡ pos 0 → sum ≡ s → IsOverPoint p sum l → IsOverPoint p s (weighted factors [] +ℤ l)
+      ended none same h = subst (λ (z : ℤ). IsOverPoint p s z) (sym (ap (λ (z : ℤ). z +ℤ l) none ∙ nothing_more l)) (subst (λ (r : Ratio). IsOverPoint p r l) same h)
+  sum_from-over (f ∷ fields) [] row sum s l held agreed before e = subst (λ (z : ℤ). IsOverPoint p s z) (sym (nothing_more l)) (subst (λ (r : Ratio). IsOverPoint p r l) (ok_same sum s (Ok sum) refl e) before)
   sum_from-over (f ∷ fields) (a ∷ factors) row sum s l held agreed before e =
       let (next, first, second) = field_on f (next_sum a (value_of row f) sum) (λ next. sum_from fields factors row next) s e in
       let (m, here, same) = next-over sum next a l (weighted factors (map p.numerator fields)) (value_of row f) f held.0 agreed.0 before first in
-      subst (λ (z : ℤ). IsOverPoint s z) same (sum_from-over fields factors row next s m held.1 agreed.1 here second)
+      subst (λ (z : ℤ). IsOverPoint p s z) same (sum_from-over fields factors row next s m held.1 agreed.1 here second)
 
   -- the sum of a line is its amount, over the point's denominator
   pub sum_at-over : (line : LineParts) (row : List Value) (s : Ratio) → HasNumbers row line → AgreesWith row p line → sum_at line row ≡ Ok s

@@ -28,26 +28,26 @@ use Rattle.edit_model.specs.declared.value.Value.TheVariants.{Code, Number, Bad}
 -- What is tried at a record is the truth of the rule at each point that agrees with the record.
 
 -- a value that leads on to an answer
-led_on : {A B : Type 0} (o : Option A) (next : A → Option B) (b : B) → then_some o next ≡ Some b → (a : A) × (o ≡ Some a) × (next a ≡ Some b)
+pub led_on : {A B : Type 0} (o : Option A) (next : A → Option B) (b : B) → then_some o next ≡ Some b → (a : A) × (o ≡ Some a) × (next a ≡ Some b)
 led_on None next b e = absurd (cc)
 led_on (Some a) next b e = (a, refl, e)
 
-some_same : {A : Type 0} (a b : A) → Some a ≡ Some b → a ≡ b
+pub some_same : {A : Type 0} (a b : A) → Some a ≡ Some b → a ≡ b
 some_same a b e = cc
 
 -- ---- the sum of a test
 
-nothing_more : (l : ℤ) → pos 0 +ℤ l ≡ l
+pub nothing_more : (l : ℤ) → pos 0 +ℤ l ≡ l
 nothing_more l = rw (parts l) (simp ring (same_dif _ _ _ _ (omega arith)))
 
 regrouped : (s l p k : ℤ) → s +ℤ (l +ℤ p *ℤ k) ≡ k *ℤ p +ℤ s +ℤ l
 regrouped s l p k = rw (parts s, parts l, parts p, parts k) (simp ring (same_dif _ _ _ _ (omega arith)))
 
-over_one : (n d : ℤ) → n *ℤ d ≡ n *ℤ d *ℤ pos 1
+pub over_one : (n d : ℤ) → n *ℤ d ≡ n *ℤ d *ℤ pos 1
 over_one n d = rw (parts n, parts d) (simp ring (same_dif _ _ _ _ (omega arith)))
 
 -- a point that has the number's value at a field
-number_agrees : (x : Fraction) (p : Point) (f : ℕ) → differs_from (Number x) p f ≡ false → x.numerator *ℤ p.denominator ≡ p.numerator f *ℤ x.denominator
+pub number_agrees : (x : Fraction) (p : Point) (f : ℕ) → differs_from (Number x) p f ≡ false → x.numerator *ℤ p.denominator ≡ p.numerator f *ℤ x.denominator
 number_agrees x p f same = sym ((Decides-int_eq (p.numerator f *ℤ x.denominator) (x.numerator *ℤ p.denominator)).0 (true_from_not _ same))
   where
     true_from_not : (b : Bool) → not b ≡ false → b ≡ true
@@ -56,10 +56,10 @@ number_agrees x p f same = sym ((Decides-int_eq (p.numerator f *ℤ x.denominato
 
 -- the sum so far is l over the point's denominator, and so with a term more
 module _ (p : Point) where
-  IsOverPoint : Ratio → ℤ → Type 0
+  unfoldable pub IsOverPoint : Ratio → ℤ → Type 0
   IsOverPoint s l = (s.numerator *ℤ p.denominator ≡ l *ℤ s.denominator) × (pos 0 <ℤ s.denominator)
 
-  sum_with-over : (sum s : Ratio) (k l : ℤ) (v : Value) (f : ℕ) → IsNumberValue v → differs_from v p f ≡ false → IsOverPoint sum l → sum_with sum k v ≡ Some s
+  pub sum_with-over : (sum s : Ratio) (k l : ℤ) (v : Value) (f : ℕ) → IsNumberValue v → differs_from v p f ≡ false → IsOverPoint sum l → sum_with sum k v ≡ Some s
       → IsOverPoint s (l +ℤ p.numerator f *ℤ k)
   unfolding IsOverPoint
   sum_with-over sum s k l Bad f is same before e = absurd is

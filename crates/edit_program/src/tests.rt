@@ -328,3 +328,25 @@ fn the_first_refusal_ends_the_run(rt: HostRuntime) -> Result<(), Fail> {
     }
     Ok(())
 }
+
+// A desk whose rule file is one comment of so many bytes, and whose records are one row.
+fn desk_with_a_comment(alloc: Global, size: usize) -> Result<MemoryDesk, Fail> {
+    let mut files = BTreeMap::new(alloc);
+    files.insert(String::from_str(alloc, "r")?, vec![in alloc; b'#'; size]?)?;
+    put(alloc, &mut files, "c", "A\n1\n")?;
+    Ok(MemoryDesk::new(alloc, files, Vec::new(alloc)))
+}
+
+#[test]
+fn a_file_of_one_byte_past_the_limit_is_too_long(rt: HostRuntime) -> Result<(), Fail> {
+    let alloc = rt.alloc();
+    for (size, status, released) in [
+        (67108864, Status::Done, Some("A\n1\n")),
+        (67108865, Status::TooLong, None),
+    ] {
+        let mut desk = desk_with_a_comment(alloc, size)?;
+        assert_eq!(rt; fh_main(alloc, &words(alloc)?, &mut desk), status);
+        assert!(rt; is_held(&desk, "d", released));
+    }
+    Ok(())
+}

@@ -5,6 +5,8 @@
 mod counter;
 mod list;
 mod memory;
+#[cfg(test)]
+mod tests;
 
 pub use counter::Steps;
 pub use list::Sequence;

@@ -1,5 +1,7 @@
-ghost use Rattle.std.specs.Prelude.{IfOk};
+ghost use Rattle.std.specs.Prelude.{IfOk, OnOk, false};
 ghost use Rattle.rule_grammar.specs.LineTexts.{IsLineText};
+ghost use Rattle.rule_grammar.specs.Spellings.{AreLongestTokens};
+ghost use Rattle.rule_grammar.specs.Tokens.{tokens_of};
 
 use crate::cursor::Cursor;
 use crate::parser::{Fault, is_over, statement};
@@ -18,10 +20,11 @@ pub enum LineText {
     Unreadable,
 }
 
-/// Reads the text of a line: what stands before its comment.
-#[tactic(auto, using(crate::proofs::LineLaws::line_empty, crate::proofs::LineLaws::line_unread, crate::proofs::LineLaws::line_left))]
+/// Reads the text of a line: what stands before its comment. Its tokens are the longest that can be read.
+#[tactic(auto, using(crate::proofs::LineLaws::line_empty, crate::proofs::LineLaws::line_unread, crate::proofs::LineLaws::line_left, crate::proofs::LongestTokens::tokens_are_longest))]
 pub fn read_line(alloc: Global, text: &[u8]) -> Result<LineText, OutOfMemory>
-    ensures { IfOk result (λ line. IsLineText text.now line) }
+    ensures text { IfOk result (λ line. IsLineText text.now line) }
+    ensures longest { OnOk result (AreLongestTokens false text.now (tokens_of text.now)) }
 {
     let mut cursor = Cursor::new(text);
     if is_over(&cursor) {
