@@ -1,4 +1,4 @@
-use Rattle.std.proofs.Common.{◌≡◌, ◌≢◌, ℕ, suc, ◌+◌, ℤ, ◌*ℤ◌, Bool, false, List, [], ◌∷◌, map, refl, sym, ap, ◌∙◌, subst, arith}
+use Rattle.std.proofs.Common.{◌≡◌, ◌≢◌, ℕ, suc, ◌+◌, false, List, [], ◌∷◌, map, sym, ap, ◌∙◌, subst, arith}
 use Rattle.fraction128.specs.declared.fraction.Fraction.{Fraction}
 use Rattle.edit_model.specs.Corrections.{differs_from}
 use Rattle.edit_model.specs.Points.{Point}
@@ -47,4 +47,4 @@ number_at row f x is =
 
 pub AreAt-point_of : (xs : List Fraction) → AreAt 0 xs (point_of xs)
 unfolding point_of
-AreAt-point_of xs = are_at_from (record_of xs) xs (rows.point_of (record_of xs)) 0 (number_at (record_of xs)) (λ j. refl)
+AreAt-point_of xs = are_at_from (record_of xs) xs (rows.point_of (record_of xs)) 0 (number_at (record_of xs)) (λ j. ap (λ (n : ℕ). value_of (record_of xs) n) (omega arith))

@@ -3,10 +3,8 @@ use Rattle.std.specs.Bool.{one_answer}
 use Rattle.std.specs.Ordering.{int_eq}
 use Rattle.std.proofs.lemmas.Bool.Decides.{Decides-int_eq}
 use Rattle.std.proofs.lemmas.Int.{ints}
-use Rattle.fraction128.proofs.CommonDenominator.{over_product, over_sum}
-use Rattle.fraction128.proofs.RatioLaws.{added-value, scaled-value}
 use Rattle.fraction128.proofs.Whole.{parts, ring, same_dif}
-use Rattle.fraction128.specs.Formulas.{Ratio, added, ratio_of, scaled, then_some}
+use Rattle.fraction128.specs.Formulas.{Ratio, ratio_of}
 use Rattle.fraction128.specs.declared.fraction.Fraction.{Fraction}
 use Rattle.edit_model.specs.Points.{Point}
 use Rattle.edit_model.specs.RowPoints.{Agrees}
@@ -14,13 +12,12 @@ use Rattle.edit_model.specs.Rows.{value_of}
 use Rattle.edit_model.specs.Trials.{IsNumberValue, sum_with}
 use Rattle.edit_model.specs.Corrections.{differs_from}
 use Rattle.edit_model.specs.declared.value.Value.{Value}
-use Rattle.edit_model.specs.declared.value.Value.TheVariants.{Code, Number, Bad}
 use Rattle.edit_line.specs.Lines.{IsEnough, LineParts, amount, weighted}
 use Rattle.edit_line.specs.Shapes.{number_fields}
 use Rattle.edit_line.specs.Subsumption.{is_enough}
 use Rattle.edit_line.specs.Sums.{AgreesWith, AtFactors, HasNumbers, fails_at, fails_by, next_sum, or_field, sum_at, sum_from, whole}
 use Rattle.edit_line.specs.declared.overflow.LineOverflow.{LineOverflow}
-use Rattle.edit_model.proofs.TrialLaws.{IsOverPoint, led_on, nothing_more, number_agrees, over_one, some_same, sum_with-over}
+use Rattle.edit_model.proofs.TrialLaws.{IsOverPoint, nothing_more, over_one, some_same, sum_with-over}
 use Rattle.edit_line.proofs.Enough.{IsEnough-times, IsEnough_cancel, is_enough-Decides}
 
 -- A line's sum at a record is its amount at each point that agrees with the record.

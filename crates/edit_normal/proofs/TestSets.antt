@@ -1,9 +1,8 @@
 use Rattle.std.proofs.Common.{◌≡◌, ℕ, zero, suc, ◌+◌, ◌-◌, ◌<◌, ◌^◌, ◌%◌, ◌==◌, ◌&&◌, ◌||◌, not, nat_eq, if◌then◌else◌, Bool, true, false, List, [], ◌∷◌, length, map, bit_and, bit_xor, slice_index_or, slice_set, refl, sym, ap, ◌∙◌, arith}
-use Rattle.std.specs.Bool.{Decides, one_answer}
 use Rattle.std.specs.Int.{bit_at}
 use Rattle.std.proofs.lemmas.Bool.Decides.{Decides-eqb}
 use Rattle.std.proofs.lemmas.List.{length-map, length-set}
-use Rattle.std.proofs.lemmas.Nat.Bits.{bit_at-lt, bit_at_and, bit_at_ones, bit_at_xor}
+use Rattle.std.proofs.lemmas.Nat.Bits.{bit_at-lt, bit_at_ones, bit_at_xor}
 use Rattle.edit_model.specs.Points.{Point, has_code, test_holds}
 use Rattle.edit_model.specs.declared.rule.Test.TheVariants.{Codes}
 use Rattle.edit_line.specs.Sets.{has, is_inside}
