@@ -13,8 +13,8 @@ MOST_BYTES = 67108864
 STATUSES = {0, 1, 2, 3, 4, 5, 6, 7, 8, 10}
 RELEASED = {0, 1}
 
-# One second, and one more for each 4 MiB of input.
-SECONDS = 1.0
+# Two seconds, and one more for each 4 MiB of input.
+SECONDS = 2.0
 SECONDS_A_BYTE = 1 / (4 << 20)
 
 # What stands in the released file before a run.
