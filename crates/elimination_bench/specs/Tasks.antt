@@ -1,0 +1,9 @@
+use Rattle.std.specs.Prelude.{ℕ, ◌≤◌}
+use Rattle.elimination_bench.specs.Differences.{numbers_of}
+use Rattle.elimination_bench.specs.declared.words.Task.{Task}
+use Rattle.elimination_bench.specs.declared.words.Task.TheVariants.{Fold, Pairs}
+
+-- the system has so many fields to eliminate
+abbrev pub IsServed : Task → Type 0
+IsServed (Fold system count) = (1 ≤ count) × (count ≤ numbers_of system)
+IsServed (Pairs system count) = (1 ≤ count) × (count ≤ numbers_of system)
