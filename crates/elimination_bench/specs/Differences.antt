@@ -8,7 +8,7 @@ use Rattle.elimination_bench.specs.declared.differences.Differences.TheVariants.
 -- how many numerical fields there are
 abbrev pub numbers_of : Differences → ℕ
 numbers_of Plain = 32
-numbers_of Coded = 16
+numbers_of Coded = 20
 
 -- how many lines: one for each ordered pair of two numerical fields
 abbrev pub count_of : Differences → ℕ

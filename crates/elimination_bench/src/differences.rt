@@ -24,7 +24,7 @@ const FIRST_DRAW: u32 = 1;
 pub enum Differences {
     /// Over 32 fields, whatever the code.
     Plain,
-    /// Over 16 fields, each line for some of 8 codes, which are drawn.
+    /// Over 20 fields, each line for some of 8 codes, which are drawn.
     Coded,
 }
 
@@ -35,7 +35,7 @@ impl Differences {
     {
         match self {
             Differences::Plain => 32,
-            Differences::Coded => 16,
+            Differences::Coded => 20,
         }
     }
 

@@ -47,21 +47,21 @@ fn served(verb: &str, system: Differences, count: &str) -> Option<Task>
     let count = count_within(count, system)?;
     match verb {
         "fold" => Some(Task::Fold(system, count)),
-        "pairs" => Some(Task::Pairs(system, count)),
+        "pairs" if count >= 1 => Some(Task::Pairs(system, count)),
         _ => None,
     }
 }
 
-// The number of fields, which the system has and which is not 0.
+// The number of fields, of which the system has at least so many.
 fn count_within(text: &str, system: Differences) -> Option<u32>
-    ensures { IfSome result (λ count. (1 ≤ count) × (count ≤ numbers_of system)) }
+    ensures { IfSome result (λ count. count ≤ numbers_of system) }
 {
     let first = text.as_bytes().first()?;
     if !first.is_ascii_digit() {
         return None;
     }
     match text.parse::<u32>() {
-        Ok(count) if count >= 1 && count as usize <= system.numbers() => Some(count),
+        Ok(count) if count as usize <= system.numbers() => Some(count),
         _ => None,
     }
 }
