@@ -1,10 +1,15 @@
-use Rattle.std.proofs.Common.{◌≡◌, ℕ, zero, suc, ◌+◌, ◌<◌, ◌≤◌, List, [], ◌∷◌, ◌++◌, All, Option, Some, None, Result, Ok, Err, drop, get_or, length, map, refl, sym, ap, ◌∙◌, inl, inr, add-one, arith}
+use Rattle.std.proofs.Common.{◌≡◌, ℕ, suc, ◌+◌, ◌<◌, ◌≤◌, List, [], ◌∷◌, ◌++◌, Option, Some, None, Result, Ok, Err, drop, get_or, length, map, refl, sym, ap, ◌∙◌, inl, inr, add-one, arith}
 use Rattle.std.proofs.Math.Seq.{drop-cons}
 use Rattle.std.proofs.lemmas.List.{drop_all}
+use Rattle.std.proofs.lemmas.List.Elements.{All-cons}
+use Rattle.derivation.specs.Meanings.{AllOver, meaning}
 use Rattle.derivation.specs.Premises.{Premises}
+use Rattle.derivation.specs.Shown.{IsOver}
 use Rattle.derivation.specs.ValidSteps.{last_from, or_place, proved_by, proved_from}
+use Rattle.derivation.specs.declared.known.Known.{Known}
 use Rattle.derivation.specs.declared.proved.Proved.{Proved}
 use Rattle.derivation.specs.declared.step.Step.{Step}
+use Rattle.derivation.proofs.Soundness.{AllKnown}
 
 -- The loop over the steps.
 
@@ -31,3 +36,8 @@ last-push None [] x = refl
 last-push (Some y) [] x = refl
 last-push None (z ∷ all) x = last-push (Some z) all x
 last-push (Some y) (z ∷ all) x = last-push (Some z) all x
+
+-- all that is known is over the fields
+pub over-known : (p : Premises) (known : List Known) → AllKnown p (map meaning known) → AllOver p.shape known
+over-known p [] all = λ k d below. absurd (omega arith)
+over-known p (one ∷ known) all = All-cons (λ k. IsOver p.shape (meaning k)) one known (all (meaning one) (inl refl)).1 (over-known p known (λ x there. all x (inr there)))

@@ -1,4 +1,4 @@
-use Rattle.std.proofs.Common.{◌≡◌, ℕ, ◌<◌, Bool, true, false, List, Option, Some, None, length, slice_index_or, slice_set, refl, sym, ap, ◌∙◌, subst, arith}
+use Rattle.std.proofs.Common.{◌≡◌, ℕ, ◌<◌, Bool, true, false, List, Some, None, length, slice_index_or, slice_set, refl, sym, ap, ◌∙◌, subst, arith}
 use Rattle.edit_model.specs.declared.value.Value.{Value}
 use Rattle.edit_line.specs.Boxes.{box_of}
 use Rattle.edit_line.specs.CodeFields.{place_of, whole_of}
@@ -8,7 +8,6 @@ use Rattle.edit_line.specs.Shapes.{Domain, code_fields, whole_sets}
 use Rattle.edit_line.proofs.SetLaws.{AreSets-within, AreWithin-length}
 use Rattle.derivation.specs.Meanings.{place_there}
 use Rattle.derivation.specs.ValidSteps.{covered_sets, fixed_sets, has_value, only_if, whole_box}
-use Rattle.derivation.specs.declared.proved.Proved.{Proved}
 use Rattle.derivation.specs.declared.proved.Proved.TheVariants as proved
 use Rattle.derivation.proofs.CodePlaces.{place-wholes, there-has}
 use Rattle.derivation.proofs.WholeSets.{AreSets-whole, AreSets-wide, AreWithin-common, AreWithin-whole}

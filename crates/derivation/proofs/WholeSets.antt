@@ -1,4 +1,4 @@
-use Rattle.std.proofs.Common.{◌≡◌, ℕ, zero, suc, ◌+◌, ◌<◌, ◌≤◌, List, [], ◌∷◌, bit_and, length, slice_index_or, slice_set, true, refl, sym, ap, ◌∙◌, subst, arith}
+use Rattle.std.proofs.Common.{ℕ, zero, suc, List, [], ◌∷◌, slice_index_or, slice_set, arith}
 use Rattle.std.proofs.lemmas.Nat.{and_le_l}
 use Rattle.edit_line.specs.Combinations.{meets}
 use Rattle.edit_line.specs.Sets.{AreSets, AreWithin}

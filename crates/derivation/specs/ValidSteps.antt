@@ -1,4 +1,4 @@
-use Rattle.std.specs.Prelude.{ℕ, suc, ℤ, pos, ◌==◌, ◌&&◌, ◌||◌, Bool, true, false, List, [], ◌∷◌, ◌++◌, Option, Some, None, Result, Ok, Err, is_none, length, int_lt, int_rem, map, if◌then◌else◌, slice_get, slice_index_or, slice_set}
+use Rattle.std.specs.Prelude.{ℕ, suc, ℤ, pos, ◌==◌, ◌&&◌, ◌||◌, Bool, true, false, List, [], ◌∷◌, ◌++◌, Option, Some, None, Result, Ok, Err, is_none, length, int_lt, int_rem, if◌then◌else◌, slice_get, slice_index_or, slice_set}
 use Rattle.std.specs.List.{list_all}
 use Rattle.std.specs.Ordering.{int_eq}
 use Rattle.edit_model.specs.FieldSets.{has_number}

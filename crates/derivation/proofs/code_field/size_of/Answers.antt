@@ -1,4 +1,4 @@
-use Rattle.std.proofs.Common.{◌≡◌, ◌<◌, List, length, subst, sym, ap, ◌∙◌, arith, get_or}
+use Rattle.std.proofs.Common.{◌≡◌, List, length, sym, ap, ◌∙◌, arith, get_or}
 use Rattle.edit_model.specs.declared.field.Field.{Field}
 use Rattle.derivation.proofs.CodePlaces.{size-none, size-there}
 use Rattle.derivation.proofs.code_field.size_of.Goals as goal

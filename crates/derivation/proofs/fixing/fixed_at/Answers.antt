@@ -23,8 +23,8 @@ value-requires c =
     code-within fields c.args.basis.now.row.now c.args.field c.requires.basis.row (there-has (code_fields (shape_of fields)) c.args.field c.args.place c.requires.place).0
 
 pub bounds-basis-place : goal.bounds-basis-place
-bounds-basis-place c = within-wholes _ c.args.field c.args.place _ c.requires.place c.requires.basis.wholes
+bounds-basis-place c = within-wholes (shape_of c.args.basis.now.survey.now.fields) c.args.field c.args.place _ c.requires.place c.requires.basis.wholes
 
 pub new-requires : goal.new-requires
 new-requires c =
-    whole-fits _ c.args.field c.args.place _ c.requires.place c.requires.basis.wholes c.args.code_box.now.shape c.args.code_box.now.sets c.in_ok-sets.sets.items c.requires.over c.sets-2.ensures.fit (c.in_ok-sets.ensures.items ∙ c.sets-2.ensures.sets)
+    whole-fits (shape_of c.args.basis.now.survey.now.fields) c.args.field c.args.place _ c.requires.place c.requires.basis.wholes c.args.code_box.now.shape c.args.code_box.now.sets c.in_ok-sets.sets.items c.requires.over c.sets-2.ensures.fit (c.in_ok-sets.ensures.items ∙ c.sets-2.ensures.sets)
