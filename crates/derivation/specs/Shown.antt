@@ -1,4 +1,4 @@
-use Rattle.std.specs.Prelude.{◌≡◌, ¬◌, ℕ, List}
+use Rattle.std.specs.Prelude.{◌≡◌, List}
 use Rattle.edit_model.specs.Points.{Point}
 use Rattle.edit_line.specs.Lines.{AllHold, Follows}
 use Rattle.edit_line.specs.Sets.{AllInside}

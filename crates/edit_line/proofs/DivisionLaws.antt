@@ -1,6 +1,6 @@
-use Rattle.std.proofs.Common.{◌≡◌, ℕ, zero, suc, ◌<◌, ◌^◌, List, [], ◌∷◌, All, map, ℤ, pos, ◌<ℤ◌, ◌+ℤ◌, ◌*ℤ◌, unsigned_abs, int_div, refl, sym, ap, ◌∙◌, subst, arith}
+use Rattle.std.proofs.Common.{◌≡◌, ℕ, zero, suc, ◌<◌, ◌^◌, List, [], ◌∷◌, All, map, take, ℤ, pos, negsuc, ◌<ℤ◌, ◌+ℤ◌, ◌*ℤ◌, unsigned_abs, int_div, refl, sym, ap, ◌∙◌, subst, arith}
 use Rattle.std.specs.Int.{◌∣◌}
-use Rattle.std.proofs.Math.Nat.{one-dvd}
+use Rattle.std.proofs.Math.Nat.{eq-one_of_dvd-one, one-dvd}
 use Rattle.std.proofs.lemmas.Nat.Gcd.{dvd_refl, dvd_trans}
 use Rattle.std.proofs.lemmas.Int.{ints}
 use Rattle.std.proofs.lemmas.List.{length-map}
@@ -9,7 +9,7 @@ use Rattle.fraction128.proofs.Whole.{parts, ring, same_dif}
 use Rattle.fraction128.specs.Divisor.{gcd}
 use Rattle.fraction128.specs.Range.{InRange}
 use Rattle.edit_model.specs.Points.{Point}
-use Rattle.edit_line.specs.Divisors.{divisor_of, gcd_all, gcd_onto, or_one, reduced}
+use Rattle.edit_line.specs.Divisors.{divided_by, divisor_of, gcd_all, gcd_onto, or_one, reduced}
 use Rattle.edit_line.specs.Lines.{IsEnough, IsLine, LineHolds, LineParts, amount, parts_of, weighted}
 use Rattle.edit_line.specs.Sets.{AllInside}
 use Rattle.edit_line.specs.Shapes.{codes_at, numerators_at}
@@ -119,20 +119,54 @@ enough-reduced line p enough = record {
 
 -- ---- a divided line is a line
 
-pub IsLine-reduced : (line : LineParts) → IsLine line → IsLine (reduced line)
-unfolding reduced
-IsLine-reduced line is = record {
+pub IsLine-divided : (line : LineParts) (g : ℤ) → pos 0 <ℤ g → IsLine line → IsLine (divided_by g line)
+IsLine-divided line (pos g) above is = record {
   sets = is.sets;
   factors = length-map line.factors _ ∙ is.factors;
-  in_range = (quotients-in_range line.factors _ is.in_range.0, quotient-in_range line.constant _ _ refl is.in_range.1);
+  in_range = (quotients-in_range line.factors g is.in_range.0, quotient-in_range line.constant _ g refl is.in_range.1);
 }
+IsLine-divided line (negsuc g) above is = absurd above.lt
 
 -- the line that is made of the quotients
-pub divided-is : (line : LineParts) (seen factors : List ℤ) (given d dividing q last : ℤ) → seen ≡ line.factors → given ≡ line.constant → d ≡ divisor_of seen given → dividing ≡ d
-    → factors ≡ map (λ c. int_div c dividing) line.factors → q ≡ int_div given dividing → last ≡ q → parts_of line.shape line.sets factors last line.strict ≡ reduced line
-unfolding reduced
-divided-is line seen factors given d dividing q last seen_is given_is d_is dividing_is factors_are q_is last_is =
-    let divisor : dividing ≡ divisor_of line.factors line.constant = dividing_is ∙ d_is ∙ ap (λ (fs : List ℤ). divisor_of fs given) seen_is ∙ ap (λ (k : ℤ). divisor_of line.factors k) given_is in
-    let quotients : factors ≡ map (λ c. int_div c (divisor_of line.factors line.constant)) line.factors = factors_are ∙ ap (λ (g : ℤ). map (λ c. int_div c g) line.factors) divisor in
-    let constant : last ≡ int_div line.constant (divisor_of line.factors line.constant) = last_is ∙ q_is ∙ ap (λ (g : ℤ). int_div given g) divisor ∙ ap (λ (k : ℤ). int_div k (divisor_of line.factors line.constant)) given_is in
+pub divided-is : (line : LineParts) (g dividing : ℤ) (factors : List ℤ) (given q last : ℤ) → dividing ≡ g → given ≡ line.constant → factors ≡ map (λ c. int_div c dividing) line.factors → q ≡ int_div given dividing → last ≡ q
+    → parts_of line.shape line.sets factors last line.strict ≡ divided_by g line
+divided-is line g dividing factors given q last dividing_is given_is factors_are q_is last_is =
+    let quotients : factors ≡ map (λ c. int_div c g) line.factors = factors_are ∙ ap (λ (d : ℤ). map (λ c. int_div c d) line.factors) dividing_is in
+    let constant : last ≡ int_div line.constant g = last_is ∙ q_is ∙ (λ i. int_div (given_is i) (dividing_is i)) in
     λ i. parts_of line.shape line.sets (quotients i) (constant i) line.strict
+
+-- a line that is divided by the greatest common divisor of its numbers
+pub reduced-is : (old new : LineParts) (factors : List ℤ) (constant g divisor : ℤ) → factors ≡ old.factors → constant ≡ old.constant → divisor ≡ divisor_of factors constant → g ≡ divisor → new ≡ divided_by g old → new ≡ reduced old
+unfolding reduced
+reduced-is old new factors constant g divisor factors_are constant_is divisor_is g_is new_is = new_is ∙ ap (λ (d : ℤ). divided_by d old) (g_is ∙ divisor_is ∙ (λ i. divisor_of (factors_are i) (constant_is i)))
+
+-- ---- the divisor 1
+
+-- a quotient by 1 is the number
+int_div-one : (z : ℤ) → int_div z (pos 1) ≡ z
+int_div-one z = times-one (int_div z (pos 1)) ∙ quotient-exact z (int_div z (pos 1)) 1 refl (one-dvd (unsigned_abs z))
+  where
+    times-one : (q : ℤ) → q ≡ q *ℤ pos 1
+    times-one q = rw (parts q) (simp ring (same_dif _ _ _ _ (omega arith)))
+
+-- numbers that are divided by 1 stay
+pub quotients-one : (xs : List ℤ) (g : ℤ) → g ≡ pos 1 → xs ≡ map (λ c. int_div c g) xs
+quotients-one [] g is = refl
+quotients-one (x ∷ xs) g is = (λ i. sym (ap (λ (d : ℤ). int_div x d) is ∙ int_div-one x) i ∷ quotients-one xs g is i)
+
+gcd-one : (n : ℕ) → gcd 1 n ≡ 1
+gcd-one n = eq-one_of_dvd-one (IsGcd-gcd 1 n).0
+
+gcd_onto-one : (xs : List ℤ) → gcd_onto 1 xs ≡ 1
+gcd_onto-one [] = refl
+gcd_onto-one (x ∷ xs) = ap (λ g. gcd_onto g xs) (gcd-one (unsigned_abs x)) ∙ gcd_onto-one xs
+
+-- a common divisor that is 1 for the first numbers is 1 for all
+gcd_onto-stops : (g : ℕ) (xs : List ℤ) (i : ℕ) → gcd_onto g (take i xs) ≡ 1 → gcd_onto g xs ≡ 1
+gcd_onto-stops g xs zero one = ap (λ d. gcd_onto d xs) one ∙ gcd_onto-one xs
+gcd_onto-stops g [] (suc i) one = one
+gcd_onto-stops g (x ∷ xs) (suc i) one = gcd_onto-stops (gcd g (unsigned_abs x)) xs i one
+
+pub divisor-stops : (constant d : ℤ) (factors : List ℤ) (i : ℕ) → d ≡ pos (gcd_all (constant ∷ take i factors)) → d ≡ pos 1 → d ≡ pos (gcd_all (constant ∷ factors))
+divisor-stops constant d factors i is one =
+    one ∙ ap (λ n. pos n) (sym (gcd_onto-stops (gcd 0 (unsigned_abs constant)) factors i (cc (is, one))))

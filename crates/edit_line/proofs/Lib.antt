@@ -1,6 +1,8 @@
 pub mod CombinationLaws
 pub mod DivisionLaws
 pub mod Enough
+pub mod LineSums
+pub mod ListPairs
 pub mod Members
 pub mod OneField
 pub mod OtherFields

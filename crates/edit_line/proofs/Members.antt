@@ -1,4 +1,4 @@
-use Rattle.std.proofs.Common.{◌≡◌, zero, suc, ◌++◌, ◌||◌, Bool, true, false, if◌then◌else◌, List, [], ◌∷◌, All, ◌⊎◌, inl, inr, refl, sym, ap, ◌∙◌, subst, arith}
+use Rattle.std.proofs.Common.{◌≡◌, ℕ, zero, suc, ◌++◌, ◌||◌, Bool, true, false, if◌then◌else◌, List, [], ◌∷◌, All, Some, slice_get, ◌⊎◌, inl, inr, refl, sym, ap, ◌∙◌, subst, arith}
 use Rattle.std.specs.List.{filter, list_any}
 use Rattle.edit_line.specs.Reductions.{IsIn}
 
@@ -38,6 +38,12 @@ in-filter-out test x (y ∷ ys) h = by (test y) refl (in-filter-out test x ys) h
     by true e rest (inl same) = (inl same, ap test same ∙ e)
     by true e rest (inr there) = let (was, passes) = rest there in (inr was, passes)
     by false e rest there = let (was, passes) = rest there in (inr was, passes)
+
+-- what is read from a list is there
+pub in-get : {X : Type 0} (x : X) (xs : List X) (place : ℕ) → slice_get xs place ≡ Some x → IsIn x xs
+in-get x [] place e = absurd (cc)
+in-get x (y ∷ xs) zero e = inl (cc)
+in-get x (y ∷ xs) (suc place) e = inr (in-get x xs place e)
 
 -- an element of a list whose elements all have P
 pub in-all : {X : Type 0} (P : X → Type 0) (x : X) (xs : List X) → All P xs → IsIn x xs → P x

@@ -23,6 +23,9 @@ pub fn divide_all(numbers: &mut Vec<i128>, divisor: i128)
     requires { pos 0 <ℤ divisor }
     ensures { numbers.new.items ≡ map (λ c. int_div c divisor) numbers.old.items }
 {
+    if divisor == 1 {
+        return;
+    }
     for i in 0..numbers.len() {
         numbers[i] = quotient(numbers[i], divisor);
     }
@@ -36,7 +39,7 @@ pub fn quotient(number: i128, divisor: i128) -> i128
     number / divisor
 }
 
-// The greatest common divisor of the numbers.
+// The greatest common divisor of the numbers. It looks no further than where that is 1.
 fn gcd_of(factors: &[i128], constant: i128) -> i128
     requires factors { All InRange factors.now }
     requires constant { InRange constant }
@@ -44,6 +47,9 @@ fn gcd_of(factors: &[i128], constant: i128) -> i128
 {
     let mut divisor = gcd(0, constant);
     for factor in factors {
+        if divisor == 1 {
+            return divisor;
+        }
         divisor = gcd(divisor, *factor);
     }
     divisor

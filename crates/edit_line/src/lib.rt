@@ -5,10 +5,12 @@
 #![tactic(auto)]
 
 mod code_box;
+mod code_sets;
 mod derived;
 mod division;
 mod edits;
 mod line;
+mod line_sum;
 mod overflow;
 mod place;
 mod reduction;
@@ -19,6 +21,7 @@ mod sum;
 mod tests;
 
 pub use code_box::CodeBox;
+pub use code_sets::{all_meet, are_inside, has_code, has_codes, meets};
 pub use derived::{Derived, Origin};
 pub use division::{divide_all, divisor_of, quotient};
 pub use edits::Edits;

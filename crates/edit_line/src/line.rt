@@ -1,11 +1,15 @@
-ghost use Rattle.std.specs.Prelude.{◌≡◌, All, IfOk, length};
+ghost use Rattle.std.specs.Prelude.{◌≡◌, ◌<ℤ◌, ◌||◌, All, IfOk, None, length, pos, true};
 ghost use Rattle.fraction128.specs.Range.{InRange};
-ghost use Rattle.edit_line.specs.Divisors.{reduced};
+ghost use Rattle.edit_line.specs.Combinations.{all_meet, first_overflow, numbers, sum_of};
+ghost use Rattle.edit_line.specs.Divisors.{divided_by, reduced};
+ghost use Rattle.edit_line.specs.Divisors as divisors;
 ghost use Rattle.edit_line.specs.Lines.{IsLine, LineParts, parts_of};
 ghost use Rattle.edit_line.specs.Sets.{AreSets};
 ghost use Rattle.edit_line.specs.Shapes.{domains_of, number_fields, shape_of, whole_sets};
 
+use crate::code_sets::write_meets;
 use crate::division::{divide_all, divisor_of, quotient};
+use crate::line_sum::{sum_of_products, write_sums};
 use crate::shape::Shape;
 use edit_model::Survey;
 use foundation::OutOfMemory;
@@ -76,16 +80,16 @@ impl Line {
     pub fn divided(
         shape: Shape,
         sets: Vec<u64>,
-        mut factors: Vec<i128>,
+        factors: Vec<i128>,
         constant: i128,
         strict: bool,
     ) -> Line
         requires { IsLine (parts_of (domains_of shape.count shape.codes) sets.items factors.items constant strict) }
         ensures { result ≡ reduced (parts_of (domains_of shape.count shape.codes) sets.items factors.items constant strict) }
     {
-        let divisor = divisor_of(&factors, constant);
-        divide_all(&mut factors, divisor);
-        Line::over(shape, sets, factors, quotient(constant, divisor), strict)
+        let mut line = Line::over(shape, sets, factors, constant, strict);
+        line.reduce_numbers();
+        line
     }
 
     /// The set of codes, as bits, of each categorical field, in declared order. No memory.
@@ -127,6 +131,52 @@ impl Line {
         self.shape
     }
 
+    /// Makes the line `m` times `s` and `n` times `t`, or answers the first place, among the factors and
+    /// then the constant, at which a number on the way leaves the range. All three are over one survey's
+    /// fields, and the sets of `s` and `t` meet. No memory.
+    pub fn write_sum(&mut self, m: i128, s: &Line, n: i128, t: &Line) -> Option<usize>
+        requires s_over { s.now.shape ≡ self.old.shape }
+        requires t_over { t.now.shape ≡ self.old.shape }
+        requires meet { all_meet s.now.sets t.now.sets ≡ true }
+        ensures place { result ≡ first_overflow 0 m n (numbers s.now) (numbers t.now) }
+        ensures sum { result ≡ None → self.new ≡ sum_of m n s.now t.now }
+        ensures shape { self.new.shape ≡ self.old.shape }
+    {
+        match write_sums(&mut self.factors, m, s.factors(), n, t.factors()) {
+            Some(place) => Some(place),
+            None => match sum_of_products(m, s.constant(), n, t.constant()) {
+                None => Some(self.factors.len()),
+                Some(constant) => {
+                    write_meets(&mut self.sets, s.sets(), t.sets());
+                    self.constant = constant;
+                    self.strict = either(s.strict(), t.strict());
+                    None
+                }
+            },
+        }
+    }
+
+    /// Divides the numbers by their greatest common divisor, and tells it. No memory.
+    pub fn reduce_numbers(&mut self) -> i128
+        ensures line { self.new ≡ reduced self.old }
+        ensures divisor { result ≡ divisors.divisor_of self.old.factors self.old.constant }
+        ensures positive { pos 0 <ℤ result }
+        ensures in_range { InRange result }
+    {
+        let divisor = divisor_of(self.factors(), self.constant());
+        self.divide_by(divisor);
+        divisor
+    }
+
+    /// Divides each number by the positive divisor, toward zero. No memory.
+    pub fn divide_by(&mut self, divisor: i128)
+        requires { pos 0 <ℤ divisor }
+        ensures { self.new ≡ divided_by divisor self.old }
+    {
+        divide_all(&mut self.factors, divisor);
+        self.constant = quotient(self.constant, divisor);
+    }
+
     /// An equal line.
     pub fn copy(&self, alloc: Global) -> Result<Line, OutOfMemory>
         ensures { IfOk result (λ line. line ≡ self.now) }
@@ -141,4 +191,11 @@ impl Line {
             shape: self.shape,
         })
     }
+}
+
+// Whether one of the two is so.
+fn either(a: bool, b: bool) -> bool
+    ensures { result ≡ (a || b) }
+{
+    a || b
 }

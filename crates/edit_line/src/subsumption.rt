@@ -1,8 +1,8 @@
 ghost use Rattle.std.specs.Prelude.{◌≡◌, [], ◌∷◌, true};
 ghost use Rattle.edit_line.specs.Lines.{Follows};
-ghost use Rattle.edit_line.specs.Sets.{all_inside};
 ghost use Rattle.edit_line.specs.Subsumption.{has_no_factor, is_enough, is_false, is_tighter, is_trivial, subsumes};
 
+use crate::code_sets::are_inside;
 use crate::line::Line;
 
 /// Whether a subsumes b: each set of b is inside a's, and a is false wherever its codes are, or both have
@@ -49,19 +49,4 @@ fn is_tighter(a: &Line, b: &Line) -> bool
     ensures { result ≡ is_tighter a.now b.now }
 {
     a.constant() < b.constant() || (a.constant() == b.constant() && (a.strict() || !b.strict()))
-}
-
-// Whether each set of the first lies inside that of the second.
-fn are_inside(first: &[u64], second: &[u64]) -> bool
-    ensures { result ≡ all_inside first.now second.now }
-{
-    if first.len() < second.len() {
-        return false;
-    }
-    for i in 0..second.len() {
-        if first[i] & second[i] != first[i] {
-            return false;
-        }
-    }
-    true
 }

@@ -1,8 +1,12 @@
-use Rattle.std.proofs.Common.{FitsSigned, int_div, rules}
+use Rattle.std.proofs.Common.{◌∙◌, FitsSigned, ap, int_div, rules, sym, to_z}
 use Rattle.std.proofs.lemmas.Int.{to_z-of_z}
 use Rattle.std.proofs.lemmas.List.Edits.{map_over_more}
 use mir.Syntax.{w128}
+use Rattle.edit_line.proofs.DivisionLaws.{quotients-one}
 use Rattle.edit_line.proofs.division.divide_all.Goals as goal
+
+pub returns-then-divisor-eq1 : goal.returns-then-divisor-eq1
+returns-then-divisor-eq1 c = quotients-one c.args.numbers.now.items c.args.divisor (sym (to_z-of_z w128 c.args.divisor c.ranges.divisor) ∙ ap (λ n. to_z w128 n) c.if-divisor-eq1.true)
 
 pub loop-i-preserved : goal.loop-i-preserved
 loop-i-preserved c =

@@ -1,0 +1,92 @@
+use Rattle.std.proofs.Common.{◌∙◌, ◌||◌, FitsSigned, List, length, refl, rules, ap, sym, subst}
+use Rattle.std.proofs.lemmas.Int.{to_z-of_z}
+use mir.Syntax.{w128}
+use Rattle.edit_line.specs.Combinations.{combined, meets}
+use Rattle.edit_line.specs.Lines.{LineParts}
+use Rattle.edit_line.specs.Sets.{AreSets}
+use Rattle.edit_line.specs.Shapes.{Domain, domains_of, whole_sets}
+use Rattle.edit_line.proofs.LineSums.{no-place, place-first, place-last, same-sets, sum-is, sum-line}
+use Rattle.edit_line.proofs.line.Line.write_sum.Goals as goal
+
+pub write_meets-requires-clause-first : goal.write_meets-requires-clause-first
+write_meets-requires-clause-first c =
+    let shape = c.requires.s_over ∙ sym (ap (λ (l : LineParts). l.shape) c.self.view_is) in
+    ap length c.sets.ensures.sets
+    ∙ same-sets c.args.s.now.sets c.self.inside.sets.items (whole_sets c.args.s.now.shape) c.sets.ensures.fit (subst (λ (sh : List Domain). AreSets c.self.inside.sets.items (whole_sets sh)) (sym shape) c.self.invariant.sets)
+
+pub write_meets-requires-clause-second : goal.write_meets-requires-clause-second
+write_meets-requires-clause-second c =
+    let shape = c.requires.t_over ∙ sym (ap (λ (l : LineParts). l.shape) c.self.view_is) in
+    let sets = c.sets-in-Some-sum_of_products.ensures in
+    ap length sets.sets
+    ∙ same-sets c.args.t.now.sets c.self.inside.sets.items (whole_sets c.args.t.now.shape) sets.fit (subst (λ (sh : List Domain). AreSets c.self.inside.sets.items (whole_sets sh)) (sym shape) c.self.invariant.sets)
+
+pub returns-in-Some-clause-place : goal.returns-in-Some-clause-place
+returns-in-Some-clause-place c =
+    let m_fits = c.ranges.m in
+    let n_fits = c.ranges.n in
+    let told = simp to_z-of_z at c.in-Some.ensures in
+    place-first c.args.m c.args.n c.args.s.now c.args.t.now c.factors.result.now c.factors-2.result.now c.factors.ensures.factors c.factors-2.ensures.factors (search rules) c.in-Some.place told.place
+
+pub returns-in-None-sum_of_products-clause-place : goal.returns-in-None-sum_of_products-clause-place
+returns-in-None-sum_of_products-clause-place c =
+    let m_fits = c.ranges.m in
+    let n_fits = c.ranges.n in
+    let a_fits : FitsSigned w128 c.constant.result = search rules in
+    let b_fits : FitsSigned w128 c.constant-in-None.result = search rules in
+    let told = simp to_z-of_z at c.in-None.ensures in
+    let sum_is = simp to_z-of_z at c.sum_of_products.ensures in
+    place-last c.args.m c.args.n c.args.s.now c.args.t.now c.factors.result.now c.factors-2.result.now c.factors.ensures.factors c.factors-2.ensures.factors (search rules) told.place
+    c.constant.result c.constant-in-None.result _ c.constant.ensures.constant c.constant-in-None.ensures.constant sum_is c.len.result (search rules) c.in-None-sum_of_products.is
+
+pub returns-in-Some-sum_of_products-clause-place : goal.returns-in-Some-sum_of_products-clause-place
+returns-in-Some-sum_of_products-clause-place c =
+    let m_fits = c.ranges.m in
+    let n_fits = c.ranges.n in
+    let a_fits : FitsSigned w128 c.constant.result = search rules in
+    let b_fits : FitsSigned w128 c.constant-in-None.result = search rules in
+    let told = simp to_z-of_z at c.in-None.ensures in
+    let sum_is = simp to_z-of_z at c.sum_of_products.ensures in
+    let is =
+    no-place c.args.m c.args.n c.args.s.now c.args.t.now c.factors.result.now c.factors-2.result.now c.factors.ensures.factors c.factors-2.ensures.factors (search rules) told.place
+    c.constant.result c.constant-in-None.result _ c.constant.ensures.constant c.constant-in-None.ensures.constant sum_is c.in-Some-sum_of_products.constant c.in-Some-sum_of_products.is in
+    is.0
+
+pub returns-in-Some-sum_of_products-clause-sum : goal.returns-in-Some-sum_of_products-clause-sum
+returns-in-Some-sum_of_products-clause-sum c = λ _.
+    let s = c.args.s.now in
+    let t = c.args.t.now in
+    let m_fits = c.ranges.m in
+    let n_fits = c.ranges.n in
+    let a_fits : FitsSigned w128 c.constant.result = search rules in
+    let b_fits : FitsSigned w128 c.constant-in-None.result = search rules in
+    let z_fits : FitsSigned w128 c.in-Some-sum_of_products.constant = search rules in
+    let told = simp to_z-of_z at c.in-None.ensures in
+    let sum_is = simp to_z-of_z at c.sum_of_products.ensures in
+    let is =
+    no-place c.args.m c.args.n s t c.factors.result.now c.factors-2.result.now c.factors.ensures.factors c.factors-2.ensures.factors (search rules) told.place
+    c.constant.result c.constant-in-None.result _ c.constant.ensures.constant c.constant-in-None.ensures.constant sum_is c.in-Some-sum_of_products.constant c.in-Some-sum_of_products.is in
+    let shape = sym (ap (λ (l : LineParts). l.shape) c.self.view_is) in
+    let sets_are = c.write_meets.ensures ∙ (λ i. meets (c.sets.ensures.sets i) (c.sets-in-Some-sum_of_products.ensures.sets i)) in
+    let factors_are = told.sums refl ∙ (λ i. combined c.args.m c.args.n (c.factors.ensures.factors i) (c.factors-2.ensures.factors i)) in
+    let strict_is = c.either-self-inside.ensures ∙ (λ i. c.strict.ensures i || c.strict-in-Some-sum_of_products.ensures i) in
+    sum-is (domains_of c.self.inside.shape.count c.self.inside.shape.codes) c.args.m c.args.n _ s t c.write_meets.new.sets.items c.write_sums.new.sums.items c.either-self-inside.result (c.requires.s_over ∙ shape) sets_are factors_are
+    (to_z-of_z w128 c.in-Some-sum_of_products.constant z_fits ∙ is.1) strict_is
+
+pub invariant_of-self-in-Some-sum_of_products : goal.invariant_of-self-in-Some-sum_of_products
+invariant_of-self-in-Some-sum_of_products c =
+    let s = c.args.s.now in
+    let t = c.args.t.now in
+    let m_fits = c.ranges.m in
+    let n_fits = c.ranges.n in
+    let a_fits : FitsSigned w128 c.constant.result = search rules in
+    let b_fits : FitsSigned w128 c.constant-in-None.result = search rules in
+    let z_fits : FitsSigned w128 c.in-Some-sum_of_products.constant = search rules in
+    let told = simp to_z-of_z at c.in-None.ensures in
+    let sum_is = simp to_z-of_z at c.sum_of_products.ensures in
+    let is =
+    no-place c.args.m c.args.n s t c.factors.result.now c.factors-2.result.now c.factors.ensures.factors c.factors-2.ensures.factors (search rules) told.place
+    c.constant.result c.constant-in-None.result _ c.constant.ensures.constant c.constant-in-None.ensures.constant sum_is c.in-Some-sum_of_products.constant c.in-Some-sum_of_products.is in
+    let shape = sym (ap (λ (l : LineParts). l.shape) c.self.view_is) in
+    let sets_are = c.write_meets.ensures ∙ (λ i. meets (c.sets.ensures.sets i) (c.sets-in-Some-sum_of_products.ensures.sets i)) in
+    simp to_z-of_z (sum-line (domains_of c.self.inside.shape.count c.self.inside.shape.codes) c.in-Some-sum_of_products.constant s t c.write_meets.new.sets.items c.write_sums.new.sums.items c.either-self-inside.result (c.requires.s_over ∙ shape) (c.requires.t_over ∙ shape) sets_are c.sets.ensures.fit c.sets-in-Some-sum_of_products.ensures.fit c.requires.meet (told.count ∙ c.self.invariant.factors) told.in_range is.2)

@@ -1,0 +1,70 @@
+//! Sets of codes, as bits: a set for each categorical field, in declared order.
+ghost use Rattle.std.specs.Prelude.{◌≡◌, IfOk, length};
+ghost use Rattle.edit_line.specs.Combinations.{all_meet, meets};
+ghost use Rattle.edit_line.specs.Sets.{all_inside, has, has_codes};
+
+use foundation::OutOfMemory;
+use std::alloc::Global;
+
+/// Whether each set of the first lies inside that of the second. No memory.
+pub fn are_inside(first: &[u64], second: &[u64]) -> bool
+    ensures { result ≡ all_inside first.now second.now }
+{
+    if first.len() < second.len() {
+        return false;
+    }
+    for i in 0..second.len() {
+        if first[i] & second[i] != first[i] {
+            return false;
+        }
+    }
+    true
+}
+
+/// Whether some code of each field is in both sets. No memory.
+pub fn all_meet(first: &[u64], second: &[u64]) -> bool
+    requires { length first.now ≡ length second.now }
+    ensures { result ≡ all_meet first.now second.now }
+{
+    for i in 0..first.len() {
+        if first[i] & second[i] == 0 {
+            return false;
+        }
+    }
+    true
+}
+
+/// The codes that are in both sets, field by field.
+pub fn meets(alloc: Global, first: &[u64], second: &[u64]) -> Result<Vec<u64>, OutOfMemory>
+    requires { length first.now ≡ length second.now }
+    ensures { IfOk result (λ sets. sets.items ≡ meets first.now second.now) }
+{
+    let mut sets = Vec::from_slice(alloc, first)?;
+    write_meets(&mut sets, first, second);
+    Ok(sets)
+}
+
+/// Makes the sets those of the codes that are in both, field by field. No memory.
+pub(crate) fn write_meets(sets: &mut Vec<u64>, first: &[u64], second: &[u64])
+    requires first { length first.now ≡ length sets.old.items }
+    requires second { length second.now ≡ length sets.old.items }
+    ensures { sets.new.items ≡ meets first.now second.now }
+{
+    for i in 0..first.len() {
+        sets[i] = first[i] & second[i];
+    }
+}
+
+/// Whether no set is empty. No memory.
+pub fn has_codes(sets: &[u64]) -> bool
+    ensures { result ≡ has_codes sets.now }
+{
+    sets.iter().all(|set| *set != 0)
+}
+
+/// Whether the set has the code. No memory.
+pub fn has_code(set: u64, code: u8) -> bool
+    ensures { result ≡ has set code }
+{
+    code < 64 && (set >> code) & 1 == 1
+}
