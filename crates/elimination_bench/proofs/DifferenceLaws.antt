@@ -70,7 +70,7 @@ places : (system : Differences) (from count : ℕ) → map (λ (e : ℕ × LineP
 places system from zero = refl
 places system from (suc n) = ap (λ (ns : List ℕ). from ∷ ns) (places system (from + 1) n)
 
-range-rising : (count : ℕ) → IsStrictlyIncreasing (range_with_len 0 count)
+pub range-rising : (count : ℕ) → IsStrictlyIncreasing (range_with_len 0 count)
 range-rising count k below =
     let long = length-range_with_len 0 count in
     let here = get_or-range_with_len 0 count k 0 (omega (arith, long, below)) in

@@ -1,1 +1,3 @@
 mod DifferenceLaws
+mod ListingLaws
+mod ReadingLaws

@@ -4,7 +4,7 @@ use Rattle.elimination_bench.specs.declared.fault.Fault.TheVariants.{Malformed, 
 
 -- what is printed of a fault
 abbrev pub text_of : Fault → List ℕ
-text_of Usage = codes "usage: elimination_bench fold|pairs FIELDS [codes]"
+text_of Usage = codes "usage: elimination_bench fold|pairs FIELDS [codes] | steps COUNT [sums]"
 text_of Malformed = codes "the generated fields are no survey"
 text_of Overflow = codes "a number of a combination is out of range"
 text_of OutOfMemory = codes "out of memory"

@@ -124,8 +124,8 @@ fn difference(alloc: Global, numbers: usize, i: usize, j: usize) -> Result<Vec<i
     Ok(factors)
 }
 
-// A survey of so many numerical fields and a field of 8 codes.
-fn survey_of(alloc: Global, numbers: usize) -> Result<Survey, Fault>
+/// A survey of so many numerical fields and a field of 8 codes.
+pub fn survey_of(alloc: Global, numbers: usize) -> Result<Survey, Fault>
     requires { numbers ≤ 32 }
     ensures { IfOk result (λ survey. shape_of survey.fields ≡ shape_with numbers) }
 {

@@ -61,8 +61,8 @@ fn take_step(
     Ok(next)
 }
 
-// The system of the edits without the fields.
-fn system_of(alloc: Global, edits: &Arc<Edits>, fields: FieldSet) -> Result<System, SystemFault>
+/// The system of the edits without the fields.
+pub fn system_of(alloc: Global, edits: &Arc<Edits>, fields: FieldSet) -> Result<System, SystemFault>
     requires { AreNumerical (arc_value edits.now).shape fields }
     ensures { IfOk result (λ system. system.edits ≡ arc_value edits.now) }
 {

@@ -1,10 +1,14 @@
-//! A program that eliminates fields from generated edits, so that elimination can be timed; and the tests
-//! of several crates together. The edits are in `differences`, what is done with them in `elimination`.
+//! A program that eliminates fields from generated edits, and checks generated derivations, so that both
+//! can be timed; and the tests of several crates together. The edits are in `differences`, what is done with
+//! them in `elimination` and `listing`.
 #![tactic(auto)]
 
 mod differences;
 mod elimination;
 mod fault;
+mod listing;
+#[cfg(test)]
+mod tests;
 mod words;
 
 use fault::Fault;
@@ -33,5 +37,6 @@ fn told<R: std::rt::Env + AllocGlobal>(rt: &R, alloc: Global) -> Result<String, 
         None => Err(Fault::Usage),
         Some(Task::Fold(system, count)) => elimination::fold_text(alloc, system, count),
         Some(Task::Pairs(system, count)) => elimination::pairs_text(alloc, system, count),
+        Some(Task::Steps(listing, count)) => listing::steps_text(alloc, listing, count),
     }
 }
