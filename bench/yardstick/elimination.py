@@ -2,9 +2,9 @@
 
 Usage: elimination.py FIELDS [codes]
 
-It prints for each step its pairs and the lines that are left, and then the totals; then the seconds of the
-fold alone go to the standard error. It is a yardstick of a plain script, not of the best that can be done in
-Python: lines are tuples, and each new one is compared with all that are kept.
+It prints for each step its pairs and the lines that are left, and then the totals; the processor's seconds
+for the fold alone go to the standard error. It is a yardstick of a plain script, not of the best that can be
+done in Python: lines are tuples, and each new one is compared with all that are kept.
 """
 import math
 import sys
@@ -76,11 +76,11 @@ def main():
     count, coded = int(sys.argv[1]), sys.argv[2:] == ["codes"]
     edits = generated(20 if coded else 32, coded)
     lines = reduce(edits)
-    begin = time.perf_counter()
+    begin = time.process_time()
     for field in range(count):
         pairs, lines = step(lines, field)
         print(f"field {field} pairs {pairs} lines {len(lines)}")
-    seconds = time.perf_counter() - begin
+    seconds = time.process_time() - begin
     print(f"fields {count} edits {len(edits)} lines {len(lines)}")
     print(f"{seconds:.3f}", file=sys.stderr)
 

@@ -41,7 +41,8 @@ impl fmt::Display for Fault {
 
     fn fmt<W: fmt::Write>(&self, f: &mut fmt::Formatter<W>) -> fmt::Result {
         f.write_str(match self {
-            Fault::Usage => "usage: elimination_bench fold|pairs FIELDS [codes] | steps COUNT [sums]",
+            Fault::Usage =>
+                "usage: elimination_bench fold|pairs FIELDS [codes] | steps COUNT [sums]",
             Fault::Malformed => "the generated fields are no survey",
             Fault::Overflow => "a number of a combination is out of range",
             Fault::OutOfMemory => "out of memory",

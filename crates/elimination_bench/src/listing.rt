@@ -44,7 +44,15 @@ pub fn steps_text(alloc: Global, listing: Listing, count: u64) -> Result<String,
     let usable = vec![in alloc; true; given.len()]?;
     let row = unknown_row(alloc, &survey)?;
     let steps = steps_of(alloc, listing, count)?;
-    match check_steps(alloc, &survey, &given, &usable, &row, FieldSet::empty(), &steps) {
+    match check_steps(
+        alloc,
+        &survey,
+        &given,
+        &usable,
+        &row,
+        FieldSet::empty(),
+        &steps,
+    ) {
         Ok(_) => Ok(format!(in alloc; "steps {count} accepted\n")?),
         Err(StepsFault::Bad { place }) => {
             Ok(format!(in alloc; "steps {count} refused at place {place}\n")?)

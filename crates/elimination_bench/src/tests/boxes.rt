@@ -22,9 +22,7 @@ pub(crate) fn boxes_at(
     if !survey.numbers().is_empty() {
         return Err("categorical fields")?;
     }
-    Ok(boxes_of(alloc, survey, &lines, &row)
-        .ok()
-        .ok_or("boxes")?)
+    Ok(boxes_of(alloc, survey, &lines, &row).ok().ok_or("boxes")?)
 }
 
 /// The boxes without the field.

@@ -2,8 +2,8 @@ ghost use Rattle.std.specs.Prelude.{◌≡◌, IfOk, length};
 
 use super::reading::{HOUSEHOLD, given_lines, kept_of, row_of, rule_lines, survey_of};
 use derivation::{Proved, Step, StepsFault, check_steps};
-use edit_model::Value::{Bad, Code};
 use edit_model::Value;
+use edit_model::Value::{Bad, Code};
 use foundation::Sequence;
 use std::alloc::Global;
 use std::test::Fail;

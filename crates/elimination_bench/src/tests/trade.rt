@@ -40,7 +40,10 @@ fn the_rules_have_five_lines(rt: HostRuntime) -> Result<(), Fail> {
     ];
     assert_eq!(rt; lines.len(), wanted.len());
     for (line, (rule, factors)) in lines.iter().zip(&wanted) {
-        assert!(rt; line.rule == *rule && has_factors(&line.line, factors), "at {factors:?}");
+        assert!(rt;
+            line.rule == *rule && has_factors(&line.line, factors),
+            "at {factors:?}"
+        );
     }
     Ok(())
 }

@@ -10,7 +10,7 @@ loop-place-preserved c =
     let same : c.in_ok-number.number ≡ c.loop-place.place = search rules in
     let items = c.in_ok-push.ensures.items in (
       subst (λ (es : List (ℕ × LineParts)). All (λ (e : ℕ × LineParts). e.1.shape ≡ domains_of c.of-shape.result.count c.of-shape.result.codes) es) (sym items)
-      (All-push (λ (e : ℕ × LineParts). e.1.shape ≡ domains_of c.of-shape.result.count c.of-shape.result.codes) c.loop-place.lines.items (c.in_ok-number.number, c.in_ok-line_over.field-0) c.loop-place.invariant.0 c.in_ok-line_over.ensures),
+          (All-push (λ (e : ℕ × LineParts). e.1.shape ≡ domains_of c.of-shape.result.count c.of-shape.result.codes) c.loop-place.lines.items (c.in_ok-number.number, c.in_ok-line_over.field-0) c.loop-place.invariant.0 c.in_ok-line_over.ensures),
       numbers-more c.loop-place.place c.in_ok-number.number c.loop-place.lines.items c.push.new.self.items c.in_ok-line_over.field-0 items same c.loop-place.invariant.1,
     )
 
