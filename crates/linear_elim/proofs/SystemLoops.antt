@@ -96,9 +96,9 @@ HaveShape-folded shape lines (f ∷ fs) ys is over = by (step_result lines f) re
 -- ---- the lines that the fold begins with
 
 -- the reduced edits are over the fields of the edits
-pub HaveShape-start : (shape : List Domain) (edits : List (ℕ × LineParts)) (start : List Derived) → AreEdits shape edits → start ≡ reduce_derived (base_lines edits) → All (λ (d : Derived). IsLine d.line) start → HaveShape shape (lines_of start)
+pub HaveShape-start : (shape : List Domain) (edits : List (ℕ × LineParts)) (start : List Derived) → AreEdits shape edits → start ≡ reduce_derived (base_lines edits) → All IsLine (lines_of start) → HaveShape shape (lines_of start)
 HaveShape-start shape edits start are is lines =
-    HaveShape-lines shape (lines_of start) (All-map IsLine (λ (d : Derived). d.line) start lines)
+    HaveShape-lines shape (lines_of start) lines
     (subst (λ (ls : List LineParts). AreOver shape ls) (sym (ap (λ (ds : List Derived). lines_of ds) is ∙ reduce-lines (base_lines edits) ∙ ap (λ (ls : List LineParts). reduce ls) (base-plain edits)))
     (all-reduce (λ (line : LineParts). line.shape ≡ shape) (map (λ (e : ℕ × LineParts). e.1) edits) (All-map (λ (line : LineParts). line.shape ≡ shape) (λ (e : ℕ × LineParts). e.1) edits are.over)))
 

@@ -1,16 +1,7 @@
 use edit_line::Place;
 use foundation::OutOfMemory;
-use std::alloc::{AllocError, AllocFailed};
+use std::alloc::AllocFailed;
 use std::{error, fmt};
-
-/// Why two lines have no combination.
-#[derive(Clone, Copy, Debug, PartialEq, Eq)]
-pub(crate) enum PlaceFault {
-    /// The number at this place among the factors and the constant is out of range.
-    Overflow(usize),
-    /// Memory was refused.
-    OutOfMemory,
-}
 
 /// Why a step has no lines.
 #[derive(Clone, Copy, Debug, PartialEq, Eq)]
@@ -62,39 +53,6 @@ impl fmt::Display for SystemFault {
 }
 
 impl error::Error for SystemFault {}
-
-impl From<AllocError> for PlaceFault {
-    ghost use Rattle.std.specs.Prelude.{◌≡◌};
-    ghost use Rattle.linear_elim.specs.declared.fault.PlaceFault.TheVariants as faults;
-
-    ghost from_gives = { λ _ fault. fault ≡ faults.OutOfMemory };
-
-    fn from(_refused: AllocError) -> Self {
-        PlaceFault::OutOfMemory
-    }
-}
-
-impl<T: Drop> From<AllocFailed<T>> for PlaceFault {
-    ghost use Rattle.std.specs.Prelude.{◌≡◌};
-    ghost use Rattle.linear_elim.specs.declared.fault.PlaceFault.TheVariants as faults;
-
-    ghost from_gives = { λ _ fault. fault ≡ faults.OutOfMemory };
-
-    fn from(_refused: AllocFailed<T>) -> Self {
-        PlaceFault::OutOfMemory
-    }
-}
-
-impl From<OutOfMemory> for PlaceFault {
-    ghost use Rattle.std.specs.Prelude.{◌≡◌};
-    ghost use Rattle.linear_elim.specs.declared.fault.PlaceFault.TheVariants as faults;
-
-    ghost from_gives = { λ _ fault. fault ≡ faults.OutOfMemory };
-
-    fn from(_refused: OutOfMemory) -> Self {
-        PlaceFault::OutOfMemory
-    }
-}
 
 impl From<OutOfMemory> for StepFault {
     ghost use Rattle.std.specs.Prelude.{◌≡◌};
