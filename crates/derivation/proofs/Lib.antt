@@ -1,5 +1,11 @@
+pub mod CodePlaces
 pub mod CombineLaws
 pub mod CoverLaws
 pub mod FailLaws
+pub mod FieldNumbers
+pub mod KeptFactors
 pub mod Places
 pub mod Soundness
+pub mod StepLoop
+pub mod WholeBoxes
+pub mod WholeSets

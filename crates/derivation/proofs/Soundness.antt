@@ -1,10 +1,9 @@
-use Rattle.std.proofs.Common.{◌≡◌, ℕ, zero, suc, ◌⊎◌, inl, inr, ◌<◌, ◌==◌, ◌&&◌, not, Bool, true, false, if◌then◌else◌, List, [], ◌∷◌, ◌++◌, All, Option, Some, None, Result, Ok, Err, length, ℤ, slice_get, slice_index_or, slice_set, refl, sym, ap, ◌∙◌, subst, arith}
+use Rattle.std.proofs.Common.{◌≡◌, ℕ, zero, suc, ◌⊎◌, inl, inr, ◌<◌, ◌==◌, ◌&&◌, not, Bool, true, false, if◌then◌else◌, List, [], ◌∷◌, ◌++◌, Option, Some, None, Result, Ok, Err, length, ℤ, slice_get, slice_index_or, slice_set, refl, sym, ap, ◌∙◌, subst, arith}
 use Rattle.std.proofs.lemmas.Bool.Decides.{Decides-eqb}
 use Rattle.edit_model.specs.Corrections.{differs_from}
 use Rattle.edit_model.specs.FieldSets.{has_number}
 use Rattle.edit_model.specs.Points.{Point}
 use Rattle.edit_model.specs.Rows.{IsRow, value_of}
-use Rattle.edit_model.specs.Surveys.{IsField}
 use Rattle.edit_model.specs.declared.field.Field.{Field}
 use Rattle.edit_model.specs.declared.value.Value.{Value}
 use Rattle.edit_model.specs.declared.value.Value.TheVariants.{Bad, Code, Number}
@@ -186,6 +185,15 @@ module _ (p : Premises) (fields : List Field) (shape : p.shape ≡ shape_of fiel
   step-known earlier (step.Cover field parts) x known e = cover-known p earlier field parts x known e
   step-known earlier (step.Fix field part) x known e = fix-known p earlier field part x known e
 
+  -- what a step proves is known beside what was
+  pub more-known : (earlier : List Proved) (one : Step) (x : Proved) → AllKnown p earlier → proved_by p earlier one ≡ Some x → AllKnown p (earlier ++ x ∷ [])
+  more-known earlier one x known is y there = either (in-either y earlier (x ∷ []) there)
+    where
+      either : IsIn y earlier ⊎ IsIn y (x ∷ []) → IsKnown p y
+      either (inl before) = known y before
+      either (inr (inl same)) = subst (λ (z : Proved). IsKnown p z) (sym same) (step-known earlier one x known is)
+      either (inr (inr none)) = absurd none
+
   all-known : (earlier : List Proved) (steps : List Step) (all : List Proved) → AllKnown p earlier → proved_from p earlier steps ≡ Ok all → AllKnown p all
   all-known earlier [] all known e = let same : earlier ≡ all = cc in subst (λ (xs : List Proved). AllKnown p xs) same known
   all-known earlier (one ∷ steps) all known e = by (proved_by p earlier one) refl (λ x more h. all-known (earlier ++ x ∷ []) steps all more h) e
@@ -193,12 +201,7 @@ module _ (p : Premises) (fields : List Field) (shape : p.shape ≡ shape_of fiel
       by : (made : Option Proved) → proved_by p earlier one ≡ made → ((x : Proved) → AllKnown p (earlier ++ x ∷ []) → proved_from p (earlier ++ x ∷ []) steps ≡ Ok all → AllKnown p all)
           → or_place (length earlier) made (λ x. proved_from p (earlier ++ x ∷ []) steps) ≡ Ok all → AllKnown p all
       by None is later h = absurd (cc)
-      by (Some x) is later h = later x (λ y there. either y (in-either y earlier (x ∷ []) there)) h
-        where
-          either : (y : Proved) → IsIn y earlier ⊎ IsIn y (x ∷ []) → IsKnown p y
-          either y (inl before) = known y before
-          either y (inr (inl same)) = subst (λ (z : Proved). IsKnown p z) (sym same) (step-known earlier one x known is)
-          either y (inr (inr none)) = absurd none
+      by (Some x) is later h = later x (more-known earlier one x known is) h
 
   known-result : (steps : List Step) (last : Proved) → steps_result p steps ≡ Ok last → IsKnown p last
   known-result steps last e = by (proved_from p [] steps) (λ all h. all-known [] steps all (λ x none. absurd none) h) e
@@ -212,6 +215,6 @@ module _ (p : Premises) (fields : List Field) (shape : p.shape ≡ shape_of fiel
           at_end (inr there) = known all refl last there
 
 -- what the last of valid steps proves is shown: a line follows from the usable lines, and codes in a box are forbidden at the points that have the record's values at the kept fields
-pub steps-shown : (p : Premises) (fields : List Field) (steps : List Step) (proved : Proved) → p.shape ≡ shape_of fields → All IsField fields → IsRow fields p.row → HasKept p.row p.kept → AreOver p.shape p.given
+pub steps-shown : (p : Premises) (fields : List Field) (steps : List Step) (proved : Proved) → p.shape ≡ shape_of fields → IsRow fields p.row → HasKept p.row p.kept → AreOver p.shape p.given
     → steps_result p steps ≡ Ok proved → IsShown p proved × IsOver p.shape proved
-steps-shown p fields steps last shape _ are has over e = known-result p fields shape are has over steps last e
+steps-shown p fields steps last shape are has over e = known-result p fields shape are has over steps last e

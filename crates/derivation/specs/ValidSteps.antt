@@ -1,4 +1,4 @@
-use Rattle.std.specs.Prelude.{ℕ, suc, ℤ, pos, ◌==◌, ◌&&◌, ◌||◌, Bool, true, false, List, [], ◌∷◌, ◌++◌, Option, Some, None, Result, Ok, Err, is_none, length, int_lt, int_rem, map, if◌then◌else◌, slice_get, slice_index_or, slice_set}
+use Rattle.std.specs.Prelude.{ℕ, suc, ℤ, pos, ◌==◌, ◌&&◌, ◌||◌, Bool, true, false, List, [], ◌∷◌, ◌++◌, Option, Some, None, Result, Ok, Err, is_none, length, int_lt, int_rem, if◌then◌else◌, slice_get, slice_index_or, slice_set}
 use Rattle.std.specs.List.{list_all}
 use Rattle.std.specs.Ordering.{int_eq}
 use Rattle.edit_model.specs.FieldSets.{has_number}
@@ -77,9 +77,13 @@ abbrev pub is_true : Result Bool ℕ → Bool
 is_true (Ok answer) = answer
 is_true (Err field) = false
 
--- the box of the line's sets, where its linear part is false at the record, whatever the fields are that are not kept
+-- whether the line's linear part is false at the record, whatever the fields are that are not kept
+abbrev pub fails_at_kept : Premises → LineParts → Bool
+fails_at_kept p line = all_kept p.kept (number_fields p.shape) line.factors && is_true (fails_at line p.row)
+
+-- the box of the line's sets, where it fails so
 abbrev pub failed_box : Premises → LineParts → Option Proved
-failed_box p line = only_if (all_kept p.kept (number_fields p.shape) line.factors && is_true (fails_at line p.row)) (proved.Box (box_of p.shape line.sets))
+failed_box p line = only_if (fails_at_kept p line) (proved.Box (box_of p.shape line.sets))
 
 -- ---- boxes
 
@@ -96,12 +100,15 @@ abbrev pub common_from : List Proved → ℕ → ℕ → List ℕ → List ℕ �
 common_from earlier at code [] common = Some common
 common_from earlier at code (part ∷ parts) common = then_some (part_with earlier at code part) (λ sets. common_from earlier at (suc code) parts (meets common sets))
 
+-- the box of these sets, made whole at the field, if no set of it is empty
+abbrev pub covered_sets : List Domain → ℕ → List ℕ → Option Proved
+covered_sets shape field common = only_if (has_codes (slice_set common (place_of shape field) (whole_of shape field))) (whole_box shape field common)
+
 -- the box of what the parts have in common on the other fields, whole at the field: with each code there, the codes are in a part. There is one part for each code of the field, in declared order
 abbrev pub covered_box : Premises → List Proved → ℕ → List ℕ → Option Proved
 covered_box p earlier field parts =
     if has_field (code_fields p.shape) field && (length parts == size_of p.shape field)
-    then then_some (common_from earlier (place_of p.shape field) 0 parts (whole_sets p.shape)) (λ common.
-        only_if (has_codes (slice_set common (place_of p.shape field) (whole_of p.shape field))) (whole_box p.shape field common))
+    then then_some (common_from earlier (place_of p.shape field) 0 parts (whole_sets p.shape)) (λ common. covered_sets p.shape field common)
     else None
 
 -- whether a set has the code that is the value
@@ -110,12 +117,15 @@ has_value set (Code code) = has set code
 has_value set (Number x) = false
 has_value set Bad = false
 
+-- the box of these sets, made whole at the field, if it has the value there
+abbrev pub fixed_sets : List Domain → ℕ → Value → List ℕ → Option Proved
+fixed_sets shape field v sets = only_if (has_value (slice_index_or sets (place_of shape field) 0) v) (whole_box shape field sets)
+
 -- the box that was proved, made whole at a kept field at which it has the record's code
 abbrev pub fixed_box : Premises → List Proved → ℕ → ℕ → Option Proved
 fixed_box p earlier field part =
     if has_field (code_fields p.shape) field && has_number p.kept field
-    then then_some (as_box (slice_get earlier part)) (λ sets.
-        only_if (has_value (slice_index_or sets (place_of p.shape field) 0) (value_of p.row field)) (whole_box p.shape field sets))
+    then then_some (as_box (slice_get earlier part)) (λ sets. fixed_sets p.shape field (value_of p.row field) sets)
     else None
 
 -- ---- lists of steps

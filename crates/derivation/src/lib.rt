@@ -4,10 +4,20 @@
 //! step is valid (`specs/ValidSteps.antt`), and what the last step proves then follows (`specs/Shown.antt`).
 #![tactic(auto)]
 
+mod basis;
+mod check;
+mod code_field;
+mod combining;
+mod covering;
+mod failing;
 mod fault;
+mod fixing;
+mod given;
+mod known;
 mod proved;
 mod step;
 
+pub use check::check_steps;
 pub use fault::StepsFault;
 pub use proved::Proved;
 pub use step::Step;

@@ -21,9 +21,15 @@ pub enum Step {
     Fail(u64),
     /// What the boxes of the steps at these places, one for each code of the field in declared order, have
     /// in common on the other fields, made whole at the field (Fellegi and Holt 1976).
-    Cover { field: u32, parts: Sequence<u64> },
+    Cover {
+        field: u32,
+        parts: Sequence<u64>,
+    },
     /// The box of the step at this place, which has the record's code at a kept field, made whole there.
-    Fix { field: u32, part: u64 },
+    Fix {
+        field: u32,
+        part: u64,
+    },
 }
 
 impl Step {

@@ -1,0 +1,70 @@
+use Rattle.std.proofs.Common.{◌≡◌, ◌≢◌, ℕ, ℤ, suc, ◌+◌, ◌<◌, ◌≤◌, ◌&&◌, ◌||◌, Bool, true, false, List, ◌∷◌, drop, get_or, length, Ok, pos, refl, sym, ap, ◌∙◌, add-one, arith}
+use Rattle.std.specs.Ordering.{int_eq}
+use Rattle.std.proofs.Math.Seq.{drop-cons}
+use Rattle.std.proofs.lemmas.Bool.Decides.{Decides-int_eq}
+use Rattle.std.proofs.lemmas.List.{drop_all}
+use Rattle.edit_model.specs.Corrections as corrections
+use Rattle.edit_model.specs.FieldSets.{has_number}
+use Rattle.edit_model.specs.declared.field.Field.{Field}
+use Rattle.edit_model.specs.declared.value.Value.{Value}
+use Rattle.edit_line.specs.Lines.{LineParts}
+use Rattle.edit_line.specs.Shapes.{number_fields, shape_of}
+use Rattle.edit_line.specs.Sums.{fails_at}
+use Rattle.edit_line.proofs.ShapeLaws.{number_fields-same}
+use Rattle.derivation.specs.ValidSteps.{all_kept, is_true}
+
+-- The test that all fields beside factors other than 0 are kept.
+
+false_unless : (b : Bool) → (b ≡ true → ⊥) → b ≡ false
+false_unless true h = absurd (h refl)
+false_unless false h = refl
+
+-- a field beside the factor 0 does not count, and a kept one may stand in the line
+pub keeps-zero : (a : ℤ) (kept : Bool) → a ≡ pos 0 → (int_eq a (pos 0) || kept) ≡ true
+keeps-zero a kept none = ap (λ b. b || kept) ((Decides-int_eq a (pos 0)).1 none)
+
+pub keeps-field : (a : ℤ) (kept : Bool) → kept ≡ true → (int_eq a (pos 0) || kept) ≡ true
+keeps-field a kept is = ap (λ b. int_eq a (pos 0) || b) is ∙ or_true (int_eq a (pos 0))
+  where
+    or_true : (b : Bool) → (b || true) ≡ true
+    or_true true = refl
+    or_true false = refl
+
+-- from a place on
+pub kept-at : (kept : ℕ) (fields : List ℕ) (factors : List ℤ) (i e : ℕ) (d : ℤ) → i < length fields → i < length factors
+    → all_kept kept (drop i fields) (drop i factors) ≡ ((int_eq (get_or factors i d) (pos 0) || has_number kept (get_or fields i e)) && all_kept kept (drop (i + 1) fields) (drop (i + 1) factors))
+kept-at kept fields factors i e d below within =
+    rw (add-one) (ap (λ fs. all_kept kept fs (drop i factors)) (drop-cons fields i e below) ∙ ap (λ (as_ : List ℤ). all_kept kept (get_or fields i e ∷ drop (suc i) fields) as_) (drop-cons factors i d within))
+
+module _ (kept : ℕ) (fields : List ℕ) (factors : List ℤ) (whole : Bool) (i : ℕ) (below : i < length fields) (many : length factors ≡ length fields) (before : all_kept kept (drop i fields) (drop i factors) ≡ whole) where
+  here : ((int_eq (get_or factors i (pos 0)) (pos 0) || has_number kept (get_or fields i 0)) && all_kept kept (drop (i + 1) fields) (drop (i + 1) factors)) ≡ whole
+  here = sym (kept-at kept fields factors i 0 (pos 0) below (omega arith)) ∙ before
+
+  -- a field that is not kept, beside a factor other than 0, ends the loop
+  pub not-kept : get_or factors i (pos 0) ≢ pos 0 → has_number kept (get_or fields i 0) ≡ false → false ≡ whole
+  not-kept apart out =
+      sym (ap (λ b. (b || has_number kept (get_or fields i 0)) && all_kept kept (drop (i + 1) fields) (drop (i + 1) factors)) (false_unless (int_eq (get_or factors i (pos 0)) (pos 0)) (λ h. apart ((Decides-int_eq (get_or factors i (pos 0)) (pos 0)).0 h)))
+      ∙ ap (λ b. b && all_kept kept (drop (i + 1) fields) (drop (i + 1) factors)) out) ∙ here
+
+  -- another one goes on
+  pub kept-more : ((int_eq (get_or factors i (pos 0)) (pos 0) || has_number kept (get_or fields i 0)) ≡ true) → all_kept kept (drop (i + 1) fields) (drop (i + 1) factors) ≡ whole
+  kept-more is = sym (ap (λ b. b && all_kept kept (drop (i + 1) fields) (drop (i + 1) factors)) is) ∙ here
+
+-- past the last field all are kept
+pub kept-end : (kept : ℕ) (fields : List ℕ) (factors : List ℤ) (whole : Bool) (i : ℕ) → length fields ≤ i → all_kept kept (drop i fields) (drop i factors) ≡ whole → true ≡ whole
+kept-end kept fields factors whole i past before = sym (ap (λ fs. all_kept kept fs (drop i factors)) (drop_all i fields past)) ∙ before
+
+-- ---- a line of a survey at a record
+
+module _ (kept : ℕ) (fields : List Field) (row : List Value) (line : LineParts) (numbers : List ℕ) (factors : List ℤ) (answer : Bool) (numbers_are : numbers ≡ corrections.number_fields fields) (factors_are : factors ≡ line.factors) (told : answer ≡ all_kept kept numbers factors) where
+  -- the test of its own fields and factors
+  pub own-kept : answer ≡ all_kept kept (number_fields (shape_of fields)) line.factors
+  own-kept = told ∙ ap (λ (ns : List ℕ). all_kept kept ns factors) (numbers_are ∙ sym (number_fields-same fields)) ∙ ap (λ (as_ : List ℤ). all_kept kept (number_fields (shape_of fields)) as_) factors_are
+
+  -- a line with a factor at another field does not count as failing
+  pub stands-elsewhere : answer ≡ false → false ≡ (all_kept kept (number_fields (shape_of fields)) line.factors && is_true (fails_at line row))
+  stands-elsewhere out = ap (λ b. b && is_true (fails_at line row)) (sym out ∙ own-kept)
+
+  -- another one as its linear part says
+  pub fails-told : answer ≡ true → (failed : Bool) → fails_at line row ≡ Ok failed → failed ≡ (all_kept kept (number_fields (shape_of fields)) line.factors && is_true (fails_at line row))
+  fails-told all failed says = ap is_true (sym says) ∙ ap (λ b. b && is_true (fails_at line row)) (sym all ∙ own-kept)

@@ -1,0 +1,37 @@
+use Rattle.std.proofs.Common.{ℕ, zero, suc, List, [], ◌∷◌, slice_index_or, slice_set, arith}
+use Rattle.std.proofs.lemmas.Nat.{and_le_l}
+use Rattle.edit_line.specs.Combinations.{meets}
+use Rattle.edit_line.specs.Sets.{AreSets, AreWithin}
+
+-- Sets of codes that are made whole at a place, and what sets have in common.
+
+-- sets with codes of their own are within their fields' codes
+pub AreSets-wide : (sets wholes : List ℕ) → AreSets sets wholes → AreWithin sets wholes
+AreSets-wide [] [] are = tt
+AreSets-wide [] (w ∷ wholes) are = absurd are
+AreSets-wide (s ∷ sets) [] are = absurd are
+AreSets-wide (s ∷ sets) (w ∷ wholes) are = (are.1, AreSets-wide sets wholes are.2)
+
+-- they stay so where one is made whole
+pub AreSets-whole : (sets wholes : List ℕ) (place : ℕ) → AreSets sets wholes → AreSets (slice_set sets place (slice_index_or wholes place 0)) wholes
+AreSets-whole [] wholes place are = are
+AreSets-whole (s ∷ sets) [] place are = absurd are
+AreSets-whole (s ∷ sets) (w ∷ wholes) zero are = (omega (arith, are.0, are.1), omega arith, are.2)
+AreSets-whole (s ∷ sets) (w ∷ wholes) (suc place) are = (are.0, are.1, AreSets-whole sets wholes place are.2)
+
+-- and so do sets that may be empty
+pub AreWithin-whole : (sets wholes : List ℕ) (place : ℕ) → AreWithin sets wholes → AreWithin (slice_set sets place (slice_index_or wholes place 0)) wholes
+AreWithin-whole [] wholes place within = within
+AreWithin-whole (s ∷ sets) [] place within = absurd within
+AreWithin-whole (s ∷ sets) (w ∷ wholes) zero within = (omega arith, within.1)
+AreWithin-whole (s ∷ sets) (w ∷ wholes) (suc place) within = (within.0, AreWithin-whole sets wholes place within.1)
+
+-- what two have in common is within both
+pub AreWithin-common : (first second wholes : List ℕ) → AreWithin first wholes → AreWithin second wholes → AreWithin (meets first second) wholes
+AreWithin-common [] [] [] a b = tt
+AreWithin-common [] [] (w ∷ wholes) a b = absurd a
+AreWithin-common [] (t ∷ second) [] a b = absurd b
+AreWithin-common [] (t ∷ second) (w ∷ wholes) a b = absurd a
+AreWithin-common (s ∷ first) second [] a b = absurd a
+AreWithin-common (s ∷ first) [] (w ∷ wholes) a b = absurd b
+AreWithin-common (s ∷ first) (t ∷ second) (w ∷ wholes) a b = (omega (arith, and_le_l s t, a.0), AreWithin-common first second wholes a.1 b.1)

@@ -1,0 +1,30 @@
+use Rattle.std.proofs.Common.{◌≡◌, [], ◌∷◌, ◌++◌, ◌+◌, List, Some, drop, map, refl, sym, ap, subst, ◌∙◌}
+use Rattle.std.proofs.lemmas.List.{map-append}
+use Rattle.edit_line.specs.Shapes.{shape_of}
+use Rattle.derivation.specs.Bases.{premises}
+use Rattle.derivation.specs.Meanings.{AllOver, meaning, meant}
+use Rattle.derivation.specs.ValidSteps.{proved_by, proved_from}
+use Rattle.derivation.specs.declared.known.Known.{Known}
+use Rattle.derivation.specs.declared.proved.Proved.{Proved}
+use Rattle.derivation.proofs.Soundness.{AllKnown, more-known}
+use Rattle.derivation.proofs.StepLoop.{over-known, valid-more}
+use Rattle.derivation.proofs.check.known_of.Goals as goal
+
+pub made_by-requires-clause-over : goal.made_by-requires-clause-over
+made_by-requires-clause-over c =
+    subst (λ (ks : List Known). AllOver (shape_of c.args.basis.now.survey.now.fields) ks) (sym c.deref.ensures.value) (over-known (premises c.args.basis.now) c.loop-step.known.items c.loop-step.invariant.1)
+
+pub loop-step-preserved : goal.loop-step-preserved
+loop-step-preserved c =
+    let p = premises c.args.basis.now in
+    let known = c.loop-step.known.items in
+    let earlier = map meaning known in
+    let one = c.step-item.result in
+    let x = meaning c.in-Some.made in
+    let steps = c.args.steps.now in
+    let i = c.loop-step.step-index in
+    let made : Some x ≡ proved_by p earlier one = ap meant (sym c.in-Some.is) ∙ c.in_ok-made.ensures ∙ ap (λ (ks : List Known). proved_by p (map meaning ks) one) c.deref.ensures.value in
+    let all : map meaning c.push.new.self.items ≡ earlier ++ x ∷ [] = ap (λ (ks : List Known). map meaning ks) c.in_ok-push.ensures.items ∙ map-append meaning known (c.in-Some.made ∷ []) in (
+      ap (λ (xs : List Proved). proved_from p xs (drop (i + 1) steps)) all ∙ valid-more p steps earlier i _ c.loop-step.invariant.0 one x c.loop-step-test.true c.step-item.is made,
+      subst (λ (xs : List Proved). AllKnown p xs) (sym all) (more-known p c.args.basis.now.survey.now.fields refl c.requires.row c.requires.kept c.requires.over earlier one x c.loop-step.invariant.1 (sym made)),
+    )

@@ -1,0 +1,11 @@
+use Rattle.std.proofs.Common.{◌≡◌, [], drop, map}
+use Rattle.derivation.specs.Bases.{premises}
+use Rattle.derivation.specs.Meanings.{meaning}
+use Rattle.derivation.specs.ValidSteps.{proved_from}
+use Rattle.derivation.proofs.Soundness.{AllKnown}
+use Rattle.derivation.proofs.check.known_of.Given as goal
+
+abbrev pub invariant-loop-step : goal.invariant-loop-step
+invariant-loop-step l =
+    (proved_from (premises l.basis) (map meaning l.known.items) (drop l.step-index l.steps) ≡ proved_from (premises l.basis) [] l.steps)
+    × AllKnown (premises l.basis) (map meaning l.known.items)

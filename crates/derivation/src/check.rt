@@ -1,0 +1,120 @@
+ghost use Rattle.std.specs.Prelude.{◌≡◌, Err, IfOk, Ok, [], length, map, ℕ};
+ghost use Rattle.edit_model.specs.Rows.{IsRow};
+ghost use Rattle.edit_line.specs.Lines.{AreOver};
+ghost use Rattle.edit_line.specs.Shapes.{shape_of};
+ghost use Rattle.derivation.specs.Bases.{IsBasis, premises};
+ghost use Rattle.derivation.specs.Meanings.{AllOver, meaning, meant};
+ghost use Rattle.derivation.specs.Premises.{HasKept, premises_of};
+ghost use Rattle.derivation.specs.Shown.{IsOver, IsShown};
+ghost use Rattle.derivation.specs.ValidSteps.{last_proved, proved_by, proved_from, steps_result};
+
+use crate::basis::Basis;
+use crate::combining::{Multipliers, combined};
+use crate::covering::covered;
+use crate::failing::failed;
+use crate::fault::StepsFault;
+use crate::fixing::fixed;
+use crate::given::given;
+use crate::known::Known;
+use crate::proved::Proved;
+use crate::step::Step;
+use edit_line::{Line, Shape};
+use edit_model::{FieldSet, Row, Survey};
+use foundation::OutOfMemory;
+use std::alloc::Global;
+
+/// What the last of the steps proves, exactly where there is one and each is valid. A step may name the
+/// given lines, which are over the survey's fields, where they are usable, and what earlier steps proved.
+/// The kept fields of the record have values. Bad comes with the place of the first step that is not
+/// valid, and with 0 where there are no steps. What is proved is shown: a line follows from the usable
+/// lines, and no point at which these hold and which has the record's values at the kept fields has its
+/// codes in a box. The time for each step is in proportion to its own size.
+pub fn check_steps(
+    alloc: Global,
+    survey: &Survey,
+    given: &[Line],
+    usable: &[bool],
+    row: &Row,
+    kept: FieldSet,
+    steps: &[Step],
+) -> Result<Proved, StepsFault>
+    requires lists { length given.now ≡ length usable.now }
+    requires over { AreOver (shape_of survey.now.fields) given.now }
+    requires row { IsRow survey.now.fields row.now }
+    requires kept { HasKept row.now kept }
+    ensures proved { IfOk result (λ proved. steps_result (premises_of (shape_of survey.now.fields) given.now usable.now row.now kept) steps.now ≡ Ok proved) }
+    ensures bad { (place : ℕ) → result ≡ Err (StepsFault.Bad place) → steps_result (premises_of (shape_of survey.now.fields) given.now usable.now row.now kept) steps.now ≡ Err place }
+    ensures shown { IfOk result (λ proved. IsShown (premises_of (shape_of survey.now.fields) given.now usable.now row.now kept) proved) }
+    ensures over { IfOk result (λ proved. IsOver (shape_of survey.now.fields) proved) }
+{
+    let wholes = Shape::of(survey).whole_sets(alloc)?;
+    let basis = Basis {
+        survey,
+        given,
+        usable,
+        row,
+        kept,
+        wholes: &wholes,
+    };
+    last_known(alloc, known_of(alloc, &basis, steps)?)
+}
+
+// The last of what was proved, or place 0 where there is none.
+fn last_known(alloc: Global, mut known: Vec<Known>) -> Result<Proved, StepsFault>
+    ensures proved { IfOk result (λ proved. last_proved (Ok (map meaning known.entry.items)) ≡ Ok proved) }
+    ensures bad { (place : ℕ) → result ≡ Err (StepsFault.Bad place) → last_proved (Ok (map meaning known.entry.items)) ≡ Err place }
+{
+    match known.pop() {
+        None => Err(StepsFault::Bad { place: 0 }),
+        Some(last) => Ok(last.into_proved(alloc)?),
+    }
+}
+
+// What the steps prove, or the place of the first that is not valid.
+fn known_of<'a>(
+    alloc: Global,
+    basis: &Basis<'a>,
+    steps: &[Step],
+) -> Result<Vec<Known<'a>>, StepsFault>
+    requires { IsBasis basis.now }
+    ensures proved { IfOk result (λ known. proved_from (premises basis.now) [] steps.now ≡ Ok (map meaning known.items)) }
+    ensures bad { (place : ℕ) → result ≡ Err (StepsFault.Bad place) → proved_from (premises basis.now) [] steps.now ≡ Err place }
+{
+    let mut known = Vec::new(alloc);
+    for step in steps {
+        let Some(made) = made_by(alloc, basis, &known, step)? else {
+            return Err(StepsFault::Bad {
+                place: known.len() as u64,
+            });
+        };
+        known.push(made)?;
+    }
+    Ok(known)
+}
+
+// What the step proves from what the earlier ones did, if it is valid.
+fn made_by<'a>(
+    alloc: Global,
+    basis: &Basis<'a>,
+    known: &[Known<'a>],
+    step: &Step,
+) -> Result<Option<Known<'a>>, OutOfMemory>
+    requires basis { IsBasis basis.now }
+    requires over { AllOver (shape_of basis.now.survey.now.fields) known.now }
+    ensures { IfOk result (λ made. meant made ≡ proved_by (premises basis.now) (map meaning known.now) step.now) }
+{
+    match step {
+        Step::Given(place) => Ok(given(basis, *place)),
+        Step::Combine { a, m, b, n, g } => {
+            let by = Multipliers {
+                first: *m,
+                second: *n,
+                divisor: *g,
+            };
+            combined(alloc, basis, known, *a, *b, by)
+        }
+        Step::Fail(a) => failed(alloc, basis, known, *a),
+        Step::Cover { field, parts } => covered(alloc, basis, known, *field, parts.as_slice()),
+        Step::Fix { field, part } => fixed(alloc, basis, known, *field, *part),
+    }
+}

@@ -1,0 +1,110 @@
+ghost use Rattle.std.specs.Prelude.{◌≡◌, ◌&&◌, ◌<ℤ◌, IfOk, int_lt, int_rem, map, pos};
+ghost use Rattle.std.specs.List.{list_all};
+ghost use Rattle.std.specs.Ordering.{int_eq};
+ghost use Rattle.edit_line.specs.Divisors.{divided_by};
+ghost use Rattle.edit_line.specs.Shapes.{shape_of};
+ghost use Rattle.derivation.specs.Bases.{premises};
+ghost use Rattle.derivation.specs.Meanings.{AllOver, meaning, meant};
+ghost use Rattle.derivation.specs.ValidSteps.{combined_line, divides, only_if, proved_by};
+ghost use Rattle.derivation.specs.declared.proved.Proved.{Proved};
+ghost use Rattle.derivation.specs.declared.step.Step.{Step};
+
+use crate::basis::Basis;
+use crate::known::{Known, line_at};
+use edit_line::{Line, all_meet};
+use foundation::OutOfMemory;
+use std::alloc::Global;
+
+/// With what two lines are multiplied, and what their sum is divided by.
+#[derive(Clone, Copy)]
+pub(crate) struct Multipliers {
+    pub(crate) first: i128,
+    pub(crate) second: i128,
+    pub(crate) divisor: i128,
+}
+
+/// The sum of the multiples of the lines that were proved at two places, divided: the numbers are above 0,
+/// the lines have codes of each field in common, no number on the way is out of range, and the division
+/// leaves no remainder.
+pub(crate) fn combined<'a>(
+    alloc: Global,
+    basis: &Basis<'a>,
+    known: &[Known<'a>],
+    a: u64,
+    b: u64,
+    by: Multipliers,
+) -> Result<Option<Known<'a>>, OutOfMemory>
+    requires { AllOver (shape_of basis.now.survey.now.fields) known.now }
+    ensures { IfOk result (λ made. meant made ≡ proved_by (premises basis.now) (map meaning known.now) (Step.Combine a by.first b by.second by.divisor)) }
+{
+    let Some(s) = line_at(known, a) else {
+        return Ok(None);
+    };
+    match line_at(known, b) {
+        None => Ok(None),
+        Some(t) => combined_lines(alloc, by, s, t),
+    }
+}
+
+// The sum of the multiples of both lines, divided, if it may be taken.
+fn combined_lines<'a>(
+    alloc: Global,
+    by: Multipliers,
+    s: &Line,
+    t: &Line,
+) -> Result<Option<Known<'a>>, OutOfMemory>
+    requires { t.now.shape ≡ s.now.shape }
+    ensures { IfOk result (λ made. meant made ≡ combined_line by.first by.second by.divisor s.now t.now) }
+{
+    if !are_positive(by) || !all_meet(s.sets(), t.sets()) {
+        return Ok(None);
+    }
+    let mut sum = s.copy(alloc)?;
+    match sum.write_sum(by.first, s, by.second, t) {
+        Some(_) => Ok(None),
+        None => Ok(divided(sum, by.divisor)),
+    }
+}
+
+// Whether all three numbers are above 0.
+fn are_positive(by: Multipliers) -> bool
+    ensures { result ≡ (int_lt (pos 0) by.first && (int_lt (pos 0) by.second && int_lt (pos 0) by.divisor)) }
+{
+    by.first > 0 && by.second > 0 && by.divisor > 0
+}
+
+// The line, divided, if that leaves no remainder.
+fn divided<'a>(mut line: Line, divisor: i128) -> Option<Known<'a>>
+    requires { pos 0 <ℤ divisor }
+    ensures { meant result ≡ only_if (divides divisor line) (Proved.Line (divided_by divisor line)) }
+{
+    if !divides(divisor, &line) {
+        return None;
+    }
+    line.divide_by(divisor);
+    Some(Known::Line(line))
+}
+
+// Whether all numbers of the line are multiples of the divisor.
+fn divides(divisor: i128, line: &Line) -> bool
+    requires { pos 0 <ℤ divisor }
+    ensures { result ≡ divides divisor line.now }
+{
+    are_multiples(line.factors(), divisor) && is_multiple(line.constant(), divisor)
+}
+
+// Whether all these numbers are multiples of the divisor.
+fn are_multiples(numbers: &[i128], divisor: i128) -> bool
+    requires { pos 0 <ℤ divisor }
+    ensures { result ≡ list_all (λ z. int_eq (int_rem z divisor) (pos 0)) numbers.now }
+{
+    numbers.iter().all(|number| is_multiple(*number, divisor))
+}
+
+// Whether the number is a multiple of the divisor.
+fn is_multiple(number: i128, divisor: i128) -> bool
+    requires { pos 0 <ℤ divisor }
+    ensures { result ≡ int_eq (int_rem number divisor) (pos 0) }
+{
+    number % divisor == 0
+}

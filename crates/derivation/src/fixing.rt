@@ -1,0 +1,80 @@
+ghost use Rattle.std.specs.Prelude.{◌≡◌, ◌<◌, IfOk, Some, map, true};
+ghost use Rattle.edit_model.specs.FieldSets.{has_number};
+ghost use Rattle.edit_model.specs.Rows.{value_of};
+ghost use Rattle.edit_line.specs.Shapes.{code_fields, has_field, shape_of};
+ghost use Rattle.derivation.specs.Bases.{IsBasis, premises};
+ghost use Rattle.derivation.specs.Meanings.{AllOver, meaning, meant, place_there};
+ghost use Rattle.derivation.specs.ValidSteps.{fixed_box, fixed_sets, has_value};
+
+use crate::basis::Basis;
+use crate::code_field::place_of;
+use crate::known::{Known, box_at};
+use edit_line::{CodeBox, has_code};
+use edit_model::Value;
+use foundation::OutOfMemory;
+use std::alloc::Global;
+
+/// The box of an earlier step, made whole at a kept categorical field at which it has the record's code.
+pub(crate) fn fixed<'a>(
+    alloc: Global,
+    basis: &Basis<'a>,
+    known: &[Known<'a>],
+    field: u32,
+    part: u64,
+) -> Result<Option<Known<'a>>, OutOfMemory>
+    requires basis { IsBasis basis.now }
+    requires over { AllOver (shape_of basis.now.survey.now.fields) known.now }
+    ensures { IfOk result (λ made. meant made ≡ fixed_box (premises basis.now) (map meaning known.now) field part) }
+{
+    let Some(place) = place_of(basis.survey, field) else {
+        return Ok(None);
+    };
+    if !is_kept(basis, field) {
+        return Ok(None);
+    }
+    match box_at(known, part) {
+        None => Ok(None),
+        Some(code_box) => fixed_at(alloc, basis, code_box, field, place),
+    }
+}
+
+// Whether the categorical field is kept.
+fn is_kept(basis: &Basis, field: u32) -> bool
+    requires { has_field (code_fields (shape_of basis.now.survey.now.fields)) field ≡ true }
+    ensures { result ≡ has_number basis.now.kept field }
+{
+    let _fields = basis.survey.fields(); // read for what it says: there are at most 64
+    basis.kept.has(field)
+}
+
+// The box, made whole at the categorical field of this place, if it has the record's code there.
+fn fixed_at<'a>(
+    alloc: Global,
+    basis: &Basis<'a>,
+    code_box: &CodeBox,
+    field: u32,
+    place: usize,
+) -> Result<Option<Known<'a>>, OutOfMemory>
+    requires basis { IsBasis basis.now }
+    requires over { code_box.now.shape ≡ shape_of basis.now.survey.now.fields }
+    requires place { place_there (code_fields (shape_of basis.now.survey.now.fields)) field ≡ Some place }
+    ensures { IfOk result (λ made. meant made ≡ fixed_sets (shape_of basis.now.survey.now.fields) field (value_of basis.now.row.now field) code_box.now.sets) }
+{
+    let _fields = basis.survey.fields(); // read for what it says: a record has a value for each
+    if !has_value(code_box.sets()[place], basis.row.value(field)) {
+        return Ok(None);
+    }
+    let mut sets = Vec::from_slice(alloc, code_box.sets())?;
+    sets[place] = basis.wholes[place];
+    Ok(Some(Known::Box(CodeBox::new(basis.survey, sets))))
+}
+
+// Whether the value is a code of the set.
+fn has_value(set: u64, value: &Value) -> bool
+    ensures { result ≡ has_value set value.now }
+{
+    match value {
+        Value::Code(code) => has_code(set, *code),
+        Value::Number(_) | Value::Bad => false,
+    }
+}

@@ -1,0 +1,77 @@
+ghost use Rattle.std.specs.Prelude.{◌≡◌, IfNone, IfOk, IfSome, List, None, Some, map, slice_get};
+ghost use Rattle.edit_line.specs.Shapes.{Domain};
+ghost use Rattle.derivation.specs.Meanings.{AllOver, meaning};
+ghost use Rattle.derivation.specs.ValidSteps.{as_box, as_line};
+
+use crate::proved::Proved;
+use edit_line::{CodeBox, Line};
+use foundation::OutOfMemory;
+use std::alloc::Global;
+
+/// What a step proved. A given line is not copied.
+#[derive(Debug, Drop)]
+pub(crate) enum Known<'a> {
+    Given(&'a Line),
+    Line(Line),
+    Box(CodeBox),
+}
+
+impl<'a> Known<'a> {
+    // The line, if it is one. No memory.
+    fn line(&self) -> Option<&Line>
+        ensures some { IfSome result (λ line. meaning self.now ≡ Proved.Line line.now) }
+        ensures none { IfNone result (as_line (Some (meaning self.now)) ≡ None) }
+    {
+        match self {
+            Known::Given(line) => Some(*line),
+            Known::Line(line) => Some(line),
+            Known::Box(_) => None,
+        }
+    }
+
+    // The box, if it is one. No memory.
+    fn code_box(&self) -> Option<&CodeBox>
+        ensures some { IfSome result (λ b. meaning self.now ≡ Proved.Box b.now) }
+        ensures none { IfNone result (as_box (Some (meaning self.now)) ≡ None) }
+    {
+        match self {
+            Known::Given(_) | Known::Line(_) => None,
+            Known::Box(code_box) => Some(code_box),
+        }
+    }
+
+    /// What was proved, as a value of its own.
+    pub(crate) fn into_proved(self, alloc: Global) -> Result<Proved, OutOfMemory>
+        ensures { IfOk result (λ proved. proved ≡ meaning self.entry) }
+    {
+        match self {
+            Known::Given(line) => Ok(Proved::Line(line.copy(alloc)?)),
+            Known::Line(line) => Ok(Proved::Line(line)),
+            Known::Box(code_box) => Ok(Proved::Box(code_box)),
+        }
+    }
+}
+
+/// The line that was proved at a place. No memory.
+pub(crate) fn line_at<'k, 'a>(known: &'k [Known<'a>], place: u64) -> Option<&'k Line>
+    ensures some { IfSome result (λ line. slice_get (map meaning known.now) place ≡ Some (Proved.Line line.now)) }
+    ensures none { IfNone result (as_line (slice_get (map meaning known.now) place) ≡ None) }
+    ensures over { IfSome result (λ line. (shape : List Domain) → AllOver shape known.now → line.now.shape ≡ shape) }
+{
+    if place >= known.len() as u64 {
+        return None;
+    }
+    known[place as usize].line()
+}
+
+/// The box that was proved at a place. No memory.
+pub(crate) fn box_at<'k, 'a>(known: &'k [Known<'a>], place: u64) -> Option<&'k CodeBox>
+    ensures some { IfSome result (λ b. slice_get (map meaning known.now) place ≡ Some (Proved.Box b.now)) }
+    ensures none { IfNone result (as_box (slice_get (map meaning known.now) place) ≡ None) }
+    ensures over { IfSome result (λ b. (shape : List Domain) → AllOver shape known.now → b.now.shape ≡ shape) }
+{
+    if place >= known.len() as u64 {
+        return None;
+    }
+    known[place as usize].code_box()
+}

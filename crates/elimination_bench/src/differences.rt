@@ -1,0 +1,184 @@
+ghost use Rattle.std.specs.Prelude.{◌≡◌, ◌<◌, ◌≤◌, ◌%◌, ◌+◌, ◌++◌, [], ◌∷◌, IfOk, OnOk};
+ghost use Rattle.edit_line.specs.EditSets.{edits_of};
+ghost use Rattle.edit_line.specs.Shapes.{Categorical, Numerical, domain_of, domains_of, shape_of};
+ghost use Rattle.elimination_bench.specs.Differences.{count_of, difference, difference_line, differences, lower_field, next_draw, numbers_of, set_of, shape_with, upper_field};
+
+use crate::fault::Fault;
+use edit_line::{Edits, Line, Shape};
+use edit_model::{Field, Kind, Name, Survey, SurveyFault};
+use foundation::{OutOfMemory, Sequence};
+use std::alloc::Global;
+
+/// Names of numerical fields.
+const LETTERS: &[u8; 32] = b"abcdefghijklmnopqrstuvwxyzABCDEF";
+
+/// The first number that is drawn.
+const FIRST_DRAW: u32 = 1;
+
+/// A generated system of edits: for each ordered pair of numerical fields x and y the line
+/// `x - y + c >= 0`, with a drawn number c from 0 to 999. Over n fields there are `n (n - 1)` lines. Without
+/// one of the fields each of its n - 1 lower lines is combined with each of its n - 1 upper ones; n - 1 of
+/// these pairs give trivial lines, and of two lines on the same two fields the tighter stays. So what is
+/// left is a system of the same form over n - 1 fields, as long as no set of codes stands in a line.
+#[derive(Clone, Copy, Debug, PartialEq, Eq)]
+pub enum Differences {
+    /// Over 32 fields, whatever the code.
+    Plain,
+    /// Over 20 fields, each line for some of 8 codes, which are drawn.
+    Coded,
+}
+
+impl Differences {
+    /// How many numerical fields there are; after them comes a field of 8 codes.
+    pub fn numbers(self) -> usize
+        ensures { result ≡ numbers_of self }
+    {
+        match self {
+            Differences::Plain => 32,
+            Differences::Coded => 20,
+        }
+    }
+
+    /// The edits.
+    pub fn edits(self, alloc: Global) -> Result<Edits, Fault>
+        ensures { IfOk result (λ edits. edits ≡ edits_of (shape_with (numbers_of self)) (differences self (count_of self))) }
+    {
+        let numbers = self.numbers();
+        let survey = survey_of(alloc, numbers)?;
+        let shape = Shape::of(&survey);
+        let mut lines = Vec::new(alloc);
+        let mut draw = FIRST_DRAW;
+        for place in 0..numbers * (numbers - 1) {
+            lines.push((place as u32, self.line(alloc, shape, place, draw)?))?;
+            draw = next_draw(draw);
+        }
+        Ok(Edits::new(alloc, &survey, lines)?)
+    }
+
+    // The line at the place, with what is drawn for it.
+    fn line(self, alloc: Global, shape: Shape, place: usize, draw: u32) -> Result<Line, OutOfMemory>
+        requires shape { domains_of shape.count shape.codes ≡ shape_with (numbers_of self) }
+        requires place { place < count_of self }
+        ensures { IfOk result (λ line. line ≡ difference_line self place draw) }
+    {
+        let numbers = self.numbers();
+        let lower = lower_field(numbers, place);
+        let upper = upper_field(numbers, place);
+        let factors = difference(alloc, numbers, lower, upper)?;
+        let mut sets = Vec::new(alloc);
+        sets.push(self.set(draw))?;
+        let constant = i128::from(draw % 1000);
+        Ok(Line::over(shape, sets, factors, constant, false))
+    }
+
+    // The set of codes, as bits, of a line for which this number is drawn.
+    fn set(self, draw: u32) -> u64
+        ensures { result ≡ set_of self draw }
+    {
+        match self {
+            Differences::Plain => 255,
+            Differences::Coded => 1 + u64::from(draw % 255),
+        }
+    }
+}
+
+// The number that is drawn after this one.
+fn next_draw(draw: u32) -> u32
+    requires { draw < 65537 }
+    ensures next { result ≡ next_draw draw }
+    ensures below { result < 65537 }
+{
+    (75 * draw + 74) % 65537
+}
+
+// The field that the line at the place bounds from below.
+fn lower_field(numbers: usize, place: usize) -> usize
+    requires { 2 ≤ numbers }
+    ensures { result ≡ lower_field numbers place }
+{
+    place / (numbers - 1)
+}
+
+// The field that the line at the place bounds from above.
+fn upper_field(numbers: usize, place: usize) -> usize
+    requires { 2 ≤ numbers }
+    ensures { result ≡ upper_field numbers place }
+{
+    let other = place % (numbers - 1);
+    if other < lower_field(numbers, place) {
+        other
+    } else {
+        other + 1
+    }
+}
+
+// The factors of the difference of two fields.
+fn difference(alloc: Global, numbers: usize, i: usize, j: usize) -> Result<Vec<i128>, OutOfMemory>
+    requires i { i < numbers }
+    requires j { j < numbers }
+    ensures { IfOk result (λ factors. factors.items ≡ difference numbers i j) }
+{
+    let mut factors = vec![in alloc; 0; numbers]?;
+    factors[i] = 1;
+    factors[j] = -1;
+    Ok(factors)
+}
+
+/// A survey of so many numerical fields and a field of 8 codes.
+pub fn survey_of(alloc: Global, numbers: usize) -> Result<Survey, Fault>
+    requires { numbers ≤ 32 }
+    ensures { IfOk result (λ survey. shape_of survey.fields ≡ shape_with numbers) }
+{
+    let mut fields = Vec::new(alloc);
+    for i in 0..numbers {
+        fields.push(number_field(LETTERS[i]))?;
+    }
+    fields.push(code_field(alloc)?)?;
+    match Survey::new(alloc, fields, Vec::new(alloc)) {
+        Ok(survey) => Ok(survey),
+        Err(SurveyFault::Malformed) => Err(Fault::Malformed),
+        Err(SurveyFault::OutOfMemory) => Err(Fault::OutOfMemory),
+    }
+}
+
+// A numerical field.
+fn number_field(letter: u8) -> Field
+    ensures { domain_of result.kind ≡ Numerical }
+{
+    Field {
+        name: name_of(letter),
+        weight: 1,
+        kind: Kind::Number { scale: 1 },
+    }
+}
+
+// A field of the codes a to h.
+fn code_field(alloc: Global) -> Result<Field, OutOfMemory>
+    ensures { IfOk result (λ field. domain_of field.kind ≡ Categorical 8) }
+{
+    let codes = vec![in alloc;
+        name_of(b'a'),
+        name_of(b'b'),
+        name_of(b'c'),
+        name_of(b'd'),
+        name_of(b'e'),
+        name_of(b'f'),
+        name_of(b'g'),
+        name_of(b'h'),
+    ]?;
+    Ok(Field {
+        name: name_of(b'G'),
+        weight: 1,
+        kind: Kind::Code {
+            codes: Sequence::from_vec(codes),
+        },
+    })
+}
+
+// The name of one letter.
+fn name_of(letter: u8) -> Name {
+    match Name::new(&[letter]) {
+        Some(name) => name,
+        None => unreachable!(),
+    }
+}

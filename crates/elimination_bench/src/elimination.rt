@@ -1,0 +1,99 @@
+ghost use Rattle.std.specs.Prelude.{◌≡◌, ◌<◌, ◌≤◌, ◌+◌, ℕ, List, All, IfOk, OnOk, true};
+ghost use Rattle.std.specs.Arc.{arc_value};
+ghost use Rattle.edit_model.specs.FieldSets.{has_number};
+ghost use Rattle.edit_line.specs.Lines.{HaveShape};
+ghost use Rattle.edit_line.specs.Reductions.{lines_of};
+ghost use Rattle.edit_line.specs.Shapes.{Domain};
+ghost use Rattle.linear_elim.specs.Steps.{OneShape};
+ghost use Rattle.linear_elim.specs.Systems.{AreNumerical, IsSystem};
+ghost use Rattle.elimination_bench.specs.Differences.{numbers_of};
+
+use crate::differences::Differences;
+use crate::fault::Fault;
+use edit_line::{Derived, Edits};
+use edit_model::FieldSet;
+use foundation::Steps;
+use linear_elim::{System, SystemFault, fold_system, pairs, step};
+use std::alloc::Global;
+use std::marker::Brand;
+use std::sync::Arc;
+use std::sync::ledger::{Blank, Ledger};
+
+/// How many lines the system of the edits without the first so many fields has, as a line of text.
+pub fn fold_text(alloc: Global, differences: Differences, count: u32) -> Result<String, Fault>
+    requires { count ≤ numbers_of differences }
+{
+    let edits = Arc::new(alloc, differences.edits(alloc)?)?;
+    let system = system_of(alloc, &edits, first_fields(count))?;
+    let given = edits.lines().len();
+    let left = system.lines().len();
+    Ok(format!(in alloc; "fields {count} edits {given} lines {left}\n")?)
+}
+
+/// The pairs and the lines of each step of that fold, as lines of text.
+pub fn pairs_text(alloc: Global, differences: Differences, count: u32) -> Result<String, Fault>
+    requires { count ≤ numbers_of differences }
+{
+    let edits = Arc::new(alloc, differences.edits(alloc)?)?;
+    let start = system_of(alloc, &edits, FieldSet::empty())?;
+    let mut text = String::new(alloc);
+    let mut lines = take_step(alloc, start.lines(), 0, &mut text)?;
+    for field in 1..count {
+        lines = take_step(alloc, &lines, field, &mut text)?;
+    }
+    Ok(text)
+}
+
+// The lines of the step at the field; a line of text is added.
+fn take_step(
+    alloc: Global,
+    lines: &[Derived],
+    field: u32,
+    text: &mut String,
+) -> Result<Vec<Derived>, Fault>
+    requires { OneShape lines.now }
+    ensures { IfOk result (λ v. (shape : List Domain) → HaveShape shape (lines_of lines.now) → HaveShape shape (lines_of v.items)) }
+{
+    let pairs = pairs(lines, field);
+    let next = step(alloc, lines, field)?;
+    let left = next.len();
+    text.push_str(format!(in alloc; "field {field} pairs {pairs} lines {left}\n")?.as_str())?;
+    Ok(next)
+}
+
+/// The system of the edits without the fields.
+pub fn system_of(alloc: Global, edits: &Arc<Edits>, fields: FieldSet) -> Result<System, SystemFault>
+    requires { AreNumerical (arc_value edits.now).shape fields }
+    ensures { IfOk result (λ system. system.edits ≡ arc_value edits.now) }
+{
+    counted_system::<Brand>(alloc, edits, fields, Blank::new(1))
+}
+
+// The same, with a counter of its own.
+fn counted_system<L: Ledger>(
+    alloc: Global,
+    edits: &Arc<Edits>,
+    fields: FieldSet,
+    blank: Blank,
+) -> Result<System, SystemFault>
+    requires name { blank.name ≡ L.name }
+    requires parts { blank.parts ≡ L.parts }
+    requires counts { 0 < blank.parts }
+    requires numerical { AreNumerical (arc_value edits.now).shape fields }
+    ensures { IfOk result (λ system. system.edits ≡ arc_value edits.now) }
+{
+    let mut steps = Steps::<L>::start(blank);
+    fold_system(alloc, edits, fields, &mut steps)
+}
+
+// The set of the first so many fields.
+fn first_fields(count: u32) -> FieldSet
+    requires { count ≤ 64 }
+    ensures { (f : ℕ) → has_number result f ≡ true → f < count }
+{
+    let mut set = FieldSet::empty();
+    for field in 0..count {
+        set = set.with(field);
+    }
+    set
+}

@@ -1,0 +1,42 @@
+//! A program that eliminates fields from generated edits, and checks generated derivations, so that both
+//! can be timed; and the tests of several crates together. The edits are in `differences`, what is done with
+//! them in `elimination` and `listing`.
+#![tactic(auto)]
+
+mod differences;
+mod elimination;
+mod fault;
+mod listing;
+#[cfg(test)]
+mod tests;
+mod words;
+
+use fault::Fault;
+use std::alloc::Global;
+use std::process::ExitCode;
+use words::Task;
+
+fn main(rt: HostRuntime) -> ExitCode {
+    let (text, status) = match told(&rt, rt.alloc()) {
+        Ok(text) => (text, 0),
+        Err(fault) => match format!(in rt.alloc(); "{fault}\n") {
+            Ok(text) => (text, fault.status()),
+            Err(_) => return ExitCode::from(Fault::OutOfMemory.status()),
+        },
+    };
+    match rt.print(text.as_str()) {
+        Ok(()) => ExitCode::from(status),
+        Err(_) => ExitCode::from(6),
+    }
+}
+
+// What is printed.
+fn told<R: std::rt::Env + AllocGlobal>(rt: &R, alloc: Global) -> Result<String, Fault> {
+    let words = words::after_program_name(rt)?;
+    match words::task_of(&words) {
+        None => Err(Fault::Usage),
+        Some(Task::Fold(system, count)) => elimination::fold_text(alloc, system, count),
+        Some(Task::Pairs(system, count)) => elimination::pairs_text(alloc, system, count),
+        Some(Task::Steps(listing, count)) => listing::steps_text(alloc, listing, count),
+    }
+}

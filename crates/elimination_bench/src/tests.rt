@@ -1,0 +1,6 @@
+mod boxes;
+mod derivations;
+mod household;
+mod reading;
+mod trade;
+mod words;
