@@ -3,6 +3,7 @@ pub mod CombineLaws
 pub mod CoverLaws
 pub mod FailLaws
 pub mod FieldNumbers
+pub mod FourFields
 pub mod KeptFactors
 pub mod Places
 pub mod Soundness
