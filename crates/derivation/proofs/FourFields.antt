@@ -1,4 +1,4 @@
-use Rattle.std.proofs.Common.{◌≡◌, ◌<◌, List, [], ◌∷◌, length, sym, subst, arith}
+use Rattle.std.proofs.Common.{◌≡◌, List, [], ◌∷◌, length, sym, subst, arith}
 use Rattle.fraction128.specs.declared.fraction.Fraction.{Fraction}
 use Rattle.edit_model.specs.Rows.{IsOfKind, IsRow}
 use Rattle.edit_model.specs.declared.field.Field.{Field}
@@ -6,7 +6,7 @@ use Rattle.edit_model.specs.declared.field.Kind.{Kind}
 use Rattle.edit_model.specs.declared.field.Kind.TheVariants as kind
 use Rattle.edit_model.specs.declared.value.Value.{Value}
 use Rattle.edit_model.specs.declared.value.Value.TheVariants.{Bad, Code, Number}
-use Rattle.edit_line.specs.Shapes.{Categorical, Domain, Numerical, domain_of, shape_of}
+use Rattle.edit_line.specs.Shapes.{Categorical, Numerical, domain_of, shape_of}
 
 -- A record of a survey of two numerical and two categorical fields, for tests.
 

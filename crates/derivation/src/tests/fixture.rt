@@ -185,5 +185,13 @@ pub(super) fn checked(alloc: Global, steps: &[Step]) -> Result<Result<Proved, St
     let usable = usable_of(alloc, &plans)?;
     let row = row_of(alloc, &survey)?;
     let copies = copies_of(alloc, steps)?;
-    Ok(check_steps(alloc, &survey, &lines, &usable, &row, kept_fields(), &copies))
+    Ok(check_steps(
+        alloc,
+        &survey,
+        &lines,
+        &usable,
+        &row,
+        kept_fields(),
+        &copies,
+    ))
 }
