@@ -1,5 +1,6 @@
 pub mod CodePlaces
 pub mod CombineLaws
+pub mod CombineSteps
 pub mod CoverLaws
 pub mod FailLaws
 pub mod FieldNumbers
