@@ -4,7 +4,6 @@ pub mod CoverLoops
 pub mod CoverSteps
 pub mod EachLaws
 pub mod FailingLaws
-pub mod MeetLaws
 pub mod OriginLaws
 pub mod ReducedBoxes
 pub mod SpotLaws

@@ -4,7 +4,8 @@ use Rattle.std.proofs.lemmas.Bool.Decides.{Decides-eqb}
 use Rattle.std.proofs.lemmas.Nat.{and_le_l, pow_pos}
 use Rattle.edit_line.specs.Sets.{AreSets, AreWithin, has_codes}
 use Rattle.edit_line.specs.Shapes.{Categorical, Domain, Numerical, codes_from, domain_with, place_in, whole_sets}
-use Rattle.edit_line.proofs.SetLaws.{AreSets-within}
+use Rattle.edit_line.proofs.SetLaws.{AreSets-length, AreSets-within}
+use Rattle.edit_line.proofs.CombinationLaws.{length-meets}
 use Rattle.edit_line.proofs.ShapeLaws.{length-wholes}
 use Rattle.edit_line.specs.CodeFields.{TakesCodes, place_of, size_from, size_of, whole_of}
 use Rattle.edit_line.specs.Combinations.{meets}
@@ -12,12 +13,6 @@ use Rattle.categ_combine.specs.Spots.{IsSpot}
 use Rattle.edit_line.proofs.PointCodes.{place_of-below, whole_of-is}
 
 -- A field's place in a box, and the sets of a box there.
-
-pub AreSets-length : (sets wholes : List ℕ) → AreSets sets wholes → length sets ≡ length wholes
-AreSets-length [] [] are = refl
-AreSets-length [] (w ∷ wholes) are = absurd are
-AreSets-length (s ∷ sets) [] are = absurd are
-AreSets-length (s ∷ sets) (w ∷ wholes) are = let rest = AreSets-length sets wholes are.2 in omega arith
 
 -- the place is within each box
 pub spot-within : (shape own : List Domain) (sets : List ℕ) (place whole : ℕ) → IsSpot shape place whole → own ≡ shape → AreSets sets (whole_sets own) → place < length sets
@@ -59,18 +54,13 @@ common-sets shape own other first second place whole is over over' a b some =
     )
     )
 
-length-common : (first second : List ℕ) → length first ≡ length second → length (meets first second) ≡ length first
-length-common [] second same = sym same
-length-common (s ∷ first) [] same = absurd (omega arith)
-length-common (s ∷ first) (t ∷ second) same = let rest = length-common first second (omega arith) in omega arith
-
 pub common-within : (shape own other : List Domain) (first second : List ℕ) (place whole : ℕ) → IsSpot shape place whole → own ≡ shape → other ≡ shape → AreSets first (whole_sets own) → AreSets second (whole_sets other) → place < length (meets first second)
 common-within shape own other first second place whole is over over' a b =
     omega (
       arith,
       spot-within shape own first place whole is over a,
       spot-within shape other second place whole is over' b,
-      length-common first second (omega (arith, AreSets-length first (whole_sets own) a, AreSets-length second (whole_sets other) b, ap (λ s. length (whole_sets s)) (over ∙ sym over'))),
+      length-meets first second (omega (arith, AreSets-length first (whole_sets own) a, AreSets-length second (whole_sets other) b, ap (λ s. length (whole_sets s)) (over ∙ sym over'))),
     )
 
 -- the whole sets are sets

@@ -16,7 +16,7 @@ use Rattle.categ_combine.specs.declared.covered.Covered.{Covered}
 use Rattle.categ_combine.specs.declared.covered.Covered.TheVariants.{Done, Passed}
 use Rattle.categ_combine.proofs.CoverLaws.{HaveSets, covered-holds, covered-lifts, fixed-avoids}
 use Rattle.categ_combine.proofs.OriginLaws.{sets-covered, sets-fixed_from}
-use Rattle.categ_combine.proofs.SpotLaws.{AreSets-length}
+use Rattle.edit_line.proofs.SetLaws.{AreSets-length}
 use Rattle.edit_line.proofs.TestLists.{in-map}
 
 -- What the public calls say of their answers, from the exact ones.

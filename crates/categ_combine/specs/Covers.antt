@@ -1,4 +1,4 @@
-use Rattle.std.specs.Prelude.{ℕ, ◌+◌, ◌*◌, ◌&&◌, not, Bool, List, [], ◌∷◌, ◌++◌, bit_and, if◌then◌else◌, length, map, nat_eq, slice_index_or, slice_set}
+use Rattle.std.specs.Prelude.{ℕ, ◌+◌, ◌*◌, ◌&&◌, not, Bool, List, [], ◌∷◌, ◌++◌, if◌then◌else◌, length, map, nat_eq, slice_index_or, slice_set}
 use Rattle.std.specs.List.{filter, flat_map, fold}
 use Rattle.edit_line.specs.Boxes.{box_of}
 use Rattle.edit_line.specs.Sets.{has, has_codes}

@@ -1,7 +1,6 @@
 ghost use Rattle.std.specs.Prelude.{◌≡◌, ◌≤◌, IfOk, length, nat_lt, slice_index_or, take};
 ghost use Rattle.std.specs.List.{filter};
 ghost use Rattle.edit_line.specs.Boxes.{IsBox};
-ghost use Rattle.edit_line.specs.Sets.{has};
 ghost use Rattle.edit_line.specs.Shapes.{domains_of};
 ghost use Rattle.edit_line.specs.CodeFields.{TakesCodes, place_of, size_of, whole_of};
 
@@ -59,11 +58,4 @@ pub(crate) fn set_at(b: &BoxFrom, spot: &Spot) -> u64
     ensures fit { IsBox b.now.code_box }
 {
     b.sets()[spot.place]
-}
-
-/// Whether the set has the code.
-pub(crate) fn has_code(set: u64, code: u8) -> bool
-    ensures { result ≡ has set code }
-{
-    code < 64 && (set >> code) & 1 == 1
 }

@@ -1,17 +1,15 @@
 //! The covers of a field's codes: intersections of one box for each code, made whole at the field.
-ghost use Rattle.std.specs.Prelude.{◌≡◌, ◌++◌, [], ◌∷◌, IfOk, OnOk, length};
+ghost use Rattle.std.specs.Prelude.{◌≡◌, ◌++◌, [], ◌∷◌, IfOk, OnOk};
 ghost use Rattle.std.specs.List.{fold};
-ghost use Rattle.edit_line.specs.Sets.{has_codes};
 ghost use Rattle.edit_line.specs.Shapes.{domains_of};
 ghost use Rattle.categ_combine.specs.BoxLists.{AreBoxesOver, with_from};
-ghost use Rattle.edit_line.specs.Combinations.{meets};
 ghost use Rattle.categ_combine.specs.Covers.{joined_for, parts_of, row_of, takes_part, with_code_from};
 
 use crate::box_from::{BoxFrom, BoxOrigin};
-use crate::code_field::{has_code, set_at};
+use crate::code_field::set_at;
 use crate::reduction::take_in;
 use crate::spot::Spot;
-use edit_line::CodeBox;
+use edit_line::{CodeBox, has_code, has_codes, meets};
 use foundation::{OutOfMemory, Sequence};
 use std::alloc::Global;
 
@@ -91,25 +89,6 @@ fn take_joined(
     let code_box = CodeBox::over(cover.shape(), sets);
     let origin = BoxOrigin::Cover(Sequence::from_vec(parts));
     take_in(next, BoxFrom { code_box, origin })
-}
-
-// The codes that both have, field by field.
-fn meets(alloc: Global, first: &[u64], second: &[u64]) -> Result<Vec<u64>, OutOfMemory>
-    requires { length first.now ≡ length second.now }
-    ensures { IfOk result (λ sets. sets.items ≡ meets first.now second.now) }
-{
-    let mut sets = Vec::from_slice(alloc, first)?;
-    for i in 0..second.len() {
-        sets[i] &= second[i];
-    }
-    Ok(sets)
-}
-
-// Whether no set is empty.
-fn has_codes(sets: &[u64]) -> bool
-    ensures { result ≡ has_codes sets.now }
-{
-    sets.iter().all(|set| *set != 0)
 }
 
 // The parts of a cover; another box has none.

@@ -9,10 +9,10 @@ ghost use Rattle.categ_combine.specs.Each.{each_from};
 ghost use Rattle.categ_combine.specs.Fixing.{fixed, fixed_from, fixed_one};
 
 use crate::box_from::{BoxFrom, BoxOrigin};
-use crate::code_field::{has_code, set_at, spot_of};
+use crate::code_field::{set_at, spot_of};
 use crate::reduction::take_in;
 use crate::spot::Spot;
-use edit_line::CodeBox;
+use edit_line::{CodeBox, has_code};
 use foundation::OutOfMemory;
 use std::alloc::Global;
 

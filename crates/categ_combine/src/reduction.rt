@@ -4,6 +4,7 @@ ghost use Rattle.edit_line.specs.Sets.{all_inside};
 ghost use Rattle.categ_combine.specs.BoxLists.{with_from};
 
 use crate::box_from::BoxFrom;
+use edit_line::are_inside;
 use foundation::OutOfMemory;
 
 /// Appends the box without those that lie inside it, unless it lies inside one of them.
@@ -30,19 +31,4 @@ fn remove_inside(kept: &mut Vec<BoxFrom>, new: &BoxFrom)
     ensures { kept.new.items ≡ filter (λ b. not (all_inside b.code_box.sets new.now.code_box.sets)) kept.old.items }
 {
     kept.retain(|b| !are_inside(b.sets(), new.sets()));
-}
-
-// Whether each set of the first lies inside that of the second.
-fn are_inside(first: &[u64], second: &[u64]) -> bool
-    ensures { result ≡ all_inside first.now second.now }
-{
-    if first.len() < second.len() {
-        return false;
-    }
-    for i in 0..second.len() {
-        if first[i] & second[i] != first[i] {
-            return false;
-        }
-    }
-    true
 }

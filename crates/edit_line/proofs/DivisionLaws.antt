@@ -140,6 +140,10 @@ pub reduced-is : (old new : LineParts) (factors : List ℤ) (constant g divisor 
 unfolding reduced
 reduced-is old new factors constant g divisor factors_are constant_is divisor_is g_is new_is = new_is ∙ ap (λ (d : ℤ). divided_by d old) (g_is ∙ divisor_is ∙ (λ i. divisor_of (factors_are i) (constant_is i)))
 
+pub shape-reduced : (line : LineParts) → (reduced line).shape ≡ line.shape
+unfolding reduced
+shape-reduced line = refl
+
 -- ---- the divisor 1
 
 -- a quotient by 1 is the number
@@ -154,7 +158,8 @@ pub quotients-one : (xs : List ℤ) (g : ℤ) → g ≡ pos 1 → xs ≡ map (λ
 quotients-one [] g is = refl
 quotients-one (x ∷ xs) g is = (λ i. sym (ap (λ (d : ℤ). int_div x d) is ∙ int_div-one x) i ∷ quotients-one xs g is i)
 
-gcd-one : (n : ℕ) → gcd 1 n ≡ 1
+-- 1 has no common divisor with any number but 1
+pub gcd-one : (n : ℕ) → gcd 1 n ≡ 1
 gcd-one n = eq-one_of_dvd-one (IsGcd-gcd 1 n).0
 
 gcd_onto-one : (xs : List ℤ) → gcd_onto 1 xs ≡ 1

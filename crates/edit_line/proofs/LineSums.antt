@@ -49,16 +49,6 @@ AreSets-meets (s ∷ first) (t ∷ second) (w ∷ wholes) p q meet =
     let both = both_true _ _ meet in
     (above-not_zero (bit_and s t) both.0, omega (arith, and_le_l s t, p.1), AreSets-meets first second wholes p.2 q.2 both.1)
 
--- sets within the same ones are as many
-pub same-sets : (first second wholes : List ℕ) → AreSets first wholes → AreSets second wholes → length first ≡ length second
-same-sets [] [] wholes p q = refl
-same-sets [] (t ∷ second) [] p q = absurd q
-same-sets [] (t ∷ second) (w ∷ wholes) p q = absurd p
-same-sets (s ∷ first) [] [] p q = absurd p
-same-sets (s ∷ first) [] (w ∷ wholes) p q = absurd q
-same-sets (s ∷ first) (t ∷ second) [] p q = absurd p
-same-sets (s ∷ first) (t ∷ second) (w ∷ wholes) p q = ap suc (same-sets first second wholes p.2 q.2)
-
 -- the sum of multiples of two lines, made of its parts
 pub sum-is : (shape : List Domain) (m n constant : ℤ) (s t : LineParts) (sets : List ℕ) (factors : List ℤ) (strict : Bool) → s.shape ≡ shape → sets ≡ meets s.sets t.sets → factors ≡ combined m n s.factors t.factors
     → constant ≡ m *ℤ s.constant +ℤ n *ℤ t.constant → strict ≡ (s.strict || t.strict) → parts_of shape sets factors constant strict ≡ sum_of m n s t

@@ -161,6 +161,10 @@ fold-lines kept (d ∷ lines) = fold-lines (with_derived kept d) lines ∙ ap (�
 pub reduce-lines : (lines : List Derived) → lines_of (reduce_derived lines) ≡ reduce (lines_of lines)
 reduce-lines lines = fold-lines [] lines
 
+-- what holds of each line holds of each that stays
+pub all-reduced : (P : LineParts → Type 0) (lines kept : List Derived) → kept ≡ reduce_derived lines → All P (lines_of lines) → All P (lines_of kept)
+all-reduced P lines kept is all = subst (λ (ls : List LineParts). All P ls) (sym (ap (λ (ds : List Derived). lines_of ds) is ∙ reduce-lines lines)) (all-reduce P (lines_of lines) all)
+
 -- what the reduced list covers, and says
 pub reduced-covers : (lines kept : List Derived) → kept ≡ reduce_derived lines → (shape : List Domain) → AreOver shape (lines_of lines) → All (λ line. IsCovered (lines_of kept) line) (lines_of lines)
 reduced-covers lines kept is shape over =

@@ -1,4 +1,4 @@
-use Rattle.std.proofs.Common.{◌≡◌, ℕ, zero, suc, ◌+◌, ◌<◌, ◌≤◌, ◌&&◌, not, nat_eq, Bool, true, false, List, [], ◌∷◌, get_or, length, drop, bit_and, slice_index_or, slice_set, refl, ap, ◌∙◌, add-one, arith}
+use Rattle.std.proofs.Common.{◌≡◌, ℕ, zero, suc, ◌+◌, ◌<◌, ◌≤◌, ◌&&◌, not, nat_eq, Bool, true, false, List, [], ◌∷◌, get_or, length, drop, bit_and, slice_index_or, slice_set, refl, sym, ap, ◌∙◌, add-one, arith}
 use Rattle.std.specs.Bool.{Decides}
 use Rattle.std.specs.Int.{bit_at}
 use Rattle.std.proofs.Math.Seq.{drop-cons}
@@ -98,3 +98,14 @@ AreSets-within (s ∷ sets) (w ∷ wholes) full within =
     above : (s : ℕ) → not (nat_eq s 0) ≡ true → 0 < s
     above zero h = absurd (cc)
     above (suc s) h = omega arith
+
+-- a line has as many sets as there are whole ones
+pub AreSets-length : (sets wholes : List ℕ) → AreSets sets wholes → length sets ≡ length wholes
+AreSets-length [] [] are = refl
+AreSets-length [] (w ∷ wholes) are = absurd are
+AreSets-length (s ∷ sets) [] are = absurd are
+AreSets-length (s ∷ sets) (w ∷ wholes) are = let rest = AreSets-length sets wholes are.2 in omega arith
+
+-- so sets within the same ones are as many
+pub same-sets : (first second wholes : List ℕ) → AreSets first wholes → AreSets second wholes → length first ≡ length second
+same-sets first second wholes p q = AreSets-length first wholes p ∙ sym (AreSets-length second wholes q)

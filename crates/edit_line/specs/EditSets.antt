@@ -1,7 +1,7 @@
 use Rattle.std.specs.Prelude.{◌≡◌, ℕ, List, All, map}
 use Rattle.std.specs.List.Sorted.{IsStrictlyIncreasing}
-use Rattle.edit_line.specs.Lines.{LineParts}
-use Rattle.edit_line.specs.Reductions.{reduce_derived}
+use Rattle.edit_line.specs.Lines.{IsLine, LineParts}
+use Rattle.edit_line.specs.Reductions.{lines_of, reduce_derived}
 use Rattle.edit_line.specs.Shapes.{Domain}
 use Rattle.edit_line.specs.declared.derived.Derived.{Derived}
 use Rattle.edit_line.specs.declared.derived.Origin.TheVariants.{Base}
@@ -28,3 +28,4 @@ base_lines edits = map (λ (e : ℕ × LineParts). record { line = e.1; origin =
 pub record IsReducedOf (shape : List Domain) (lines : List (ℕ × LineParts)) (reduced : List Derived) : Type 0 where
   pub edits : AreEdits shape lines
   pub lines_are : reduced ≡ reduce_derived (base_lines lines)
+  pub are_lines : All IsLine (lines_of reduced)

@@ -3,6 +3,7 @@ use Rattle.std.specs.List.{filter, fold, list_any}
 use Rattle.edit_line.specs.Lines.{Follows, LineParts}
 use Rattle.edit_line.specs.Subsumption.{is_trivial, subsumes}
 use Rattle.edit_line.specs.declared.derived.Derived.{Derived}
+use Rattle.edit_line.specs.declared.derived.Origin.{Origin}
 
 -- the kept lines with one more, unless it is trivial or one of them subsumes it; those that it subsumes are removed
 abbrev pub with_line : List LineParts → LineParts → List LineParts
@@ -14,6 +15,10 @@ with_line kept line =
 -- the lines without trivial and subsumed ones
 abbrev pub reduce : List LineParts → List LineParts
 reduce lines = fold with_line [] lines
+
+-- a line with its origin
+abbrev pub derived_from : LineParts → Origin → Derived
+derived_from line origin = record { line = line; origin = origin }
 
 -- the same of lines with their origins
 abbrev pub with_derived : List Derived → Derived → List Derived

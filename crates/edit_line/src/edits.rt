@@ -1,6 +1,7 @@
-ghost use Rattle.std.specs.Prelude.{◌≡◌, IfOk};
+ghost use Rattle.std.specs.Prelude.{◌≡◌, All, IfOk};
 ghost use Rattle.edit_line.specs.EditSets.{AreEdits, base_lines, edits_of};
-ghost use Rattle.edit_line.specs.Reductions.{reduce_derived};
+ghost use Rattle.edit_line.specs.Lines.{IsLine};
+ghost use Rattle.edit_line.specs.Reductions.{lines_of, reduce_derived};
 ghost use Rattle.edit_line.specs.Shapes.{domains_of, shape_of};
 
 use crate::derived::{Derived, Origin};
@@ -67,7 +68,8 @@ impl Edits {
 
     /// The lines of the edits, reduced, each with the number of its edit as its origin. No memory.
     pub fn reduced(&self) -> &[Derived]
-        ensures { result.now ≡ reduce_derived (base_lines self.now.lines) }
+        ensures exact { result.now ≡ reduce_derived (base_lines self.now.lines) }
+        ensures lines { All IsLine (lines_of result.now) }
     {
         self.reduced.as_slice()
     }
@@ -75,7 +77,8 @@ impl Edits {
 
 // The lines, each with its number as its origin.
 fn base_lines(alloc: Global, lines: &[(u32, Line)]) -> Result<Vec<Derived>, OutOfMemory>
-    ensures { IfOk result (λ base. base.items ≡ base_lines lines.now) }
+    ensures base { IfOk result (λ base. base.items ≡ base_lines lines.now) }
+    ensures lines { IfOk result (λ base. All IsLine (lines_of base.items)) }
 {
     let mut base = Vec::new(alloc);
     for (number, line) in lines {

@@ -28,7 +28,7 @@ pub use edits::Edits;
 pub use line::Line;
 pub use overflow::LineOverflow;
 pub use place::Place;
-pub use reduction::reduce;
+pub use reduction::{reduce, take_copy};
 pub use shape::Shape;
 pub use subsumption::subsumes;
 pub use sum::{fails, value_at};

@@ -15,5 +15,4 @@ mod CombineSteps
 mod SixFields
 mod StepClauses
 mod StepLoops
-mod SumSteps
 mod SystemLoops

@@ -1,12 +1,12 @@
-use Rattle.std.proofs.Common.{◌≡◌, ℕ, List, [], ◌∷◌, All, length, map, sym, ap, ◌∙◌, subst, refl, arith}
+use Rattle.std.proofs.Common.{◌≡◌, ℕ, List, All, map, sym, ap, ◌∙◌, subst, refl}
 use Rattle.edit_line.specs.EditSets.{base_lines}
 use Rattle.edit_line.specs.Lines.{AreOver, HasShape, HaveShape, IsLine, LineParts}
 use Rattle.edit_line.specs.Reductions.{lines_of, reduce, reduce_derived}
-use Rattle.edit_line.specs.Sets.{AreSets}
 use Rattle.edit_line.specs.Shapes.{Domain, whole_sets}
 use Rattle.edit_line.specs.declared.derived.Derived.{Derived}
 use Rattle.edit_line.proofs.Members.{all-in, in-all}
 use Rattle.edit_line.proofs.ReductionLaws.{HaveShape-reduce, reduce-lines}
+use Rattle.edit_line.proofs.SetLaws.{AreSets-length}
 use Rattle.edit_line.proofs.ShapeLaws.{length-wholes}
 use Rattle.linear_elim.specs.Combinations.{SameShape}
 use Rattle.linear_elim.specs.Steps.{OneShape}
@@ -31,12 +31,6 @@ OneShape-have shape lines over =
     SameShape-have shape s.line t.line
     (in-all (λ l. HasShape shape l) s.line (lines_of lines) over (in-map (λ (d : Derived). d.line) s lines s_in))
     (in-all (λ l. HasShape shape l) t.line (lines_of lines) over (in-map (λ (d : Derived). d.line) t lines t_in))))
-
-AreSets-length : (sets wholes : List ℕ) → AreSets sets wholes → length sets ≡ length wholes
-AreSets-length [] [] are = refl
-AreSets-length [] (w ∷ wholes) are = absurd are
-AreSets-length (s ∷ sets) [] are = absurd are
-AreSets-length (s ∷ sets) (w ∷ wholes) are = let rest = AreSets-length sets wholes are.2 in omega arith
 
 -- a line is over the fields of its shape
 pub HasShape-line : (line : LineParts) → IsLine line → HasShape line.shape line

@@ -1,10 +1,12 @@
-use Rattle.std.proofs.Common.{◌≡◌, ℕ, suc, ◌+◌, ◌<◌, ◌≤◌, Bool, true, false, if◌then◌else◌, List, [], ◌∷◌, ◌++◌, get_or, length, drop, filter, Result, Ok, Err, IfSome, Option, Some, None, refl, sym, ap, ◌∙◌, append_assoc, arith, add-one}
+use Rattle.std.proofs.Common.{◌≡◌, ℕ, suc, ◌+◌, ◌<◌, ◌≤◌, Bool, true, false, if◌then◌else◌, List, [], ◌∷◌, ◌++◌, get_or, length, drop, filter, fold, Result, Ok, Err, IfSome, Option, Some, None, refl, sym, ap, ◌∙◌, arith, add-one}
 use Rattle.std.proofs.Math.Seq.{drop-cons}
 use Rattle.std.proofs.lemmas.List.{drop_all}
+use Rattle.std.proofs.lemmas.List.Sums.{fold-append}
+use Rattle.edit_line.specs.Reductions.{reduce_derived, with_derived}
 use Rattle.edit_line.specs.declared.derived.Derived.{Derived}
 use Rattle.edit_line.specs.declared.derived.Origin.TheVariants.{Same}
 use Rattle.linear_elim.specs.Combinations.{is_flat}
-use Rattle.linear_elim.specs.Steps.{collect, flat_from, followed_by, row_count, rows_count, with_more}
+use Rattle.linear_elim.specs.Steps.{StepOverflow, collect, flat_from, followed_by, reduced_result, row_count, row_result, rows_count, step_result, taken_in, with_more}
 
 -- Loops over the lines of a step: what is done, and what is left, give the whole.
 
@@ -19,45 +21,50 @@ if_told (Some f) follows told = follows f told
 
 -- ---- lists or the first fault
 
-module _ {X F : Type 0} where
-  more-more : (first second : List X) (rest : Result (List X) F) → with_more first (with_more second rest) ≡ with_more (first ++ second) rest
-  more-more first second (Ok third) = ap (λ xs. Ok xs) (sym (append_assoc first second third))
-  more-more first second (Err f) = refl
+module _ {F : Type 0} where
+  -- lines that are taken in one list after the other
+  taken-more : (kept more : List Derived) (rest : Result (List Derived) F) → taken_in kept (with_more more rest) ≡ taken_in (fold with_derived kept more) rest
+  taken-more kept more (Ok last) = ap (λ xs. Ok xs) (fold-append with_derived kept more last)
+  taken-more kept more (Err f) = refl
 
-  more-err : (first : List X) (rest : Result (List X) F) (f : F) → with_more first rest ≡ Err f → rest ≡ Err f
-  more-err first (Ok rest) f is = absurd (cc)
-  more-err first (Err g) f is = ap (λ h. Err h) (cc)
+  taken-err : (kept : List Derived) (rest : Result (List Derived) F) (f : F) → taken_in kept rest ≡ Err f → rest ≡ Err f
+  taken-err kept (Ok rest) f is = absurd (cc)
+  taken-err kept (Err g) f is = ap (λ h. Err h) (cc)
 
-  joined : (done new : List X) (here rest : Result (List X) F) → with_more done here ≡ Ok new → with_more done (followed_by here rest) ≡ with_more new rest
-  joined done new (Ok more) rest is = more-more done more rest ∙ ap (λ xs. with_more xs rest) (cc)
-  joined done new (Err f) rest is = absurd (cc)
+  taken-joined : (kept new : List Derived) (here rest : Result (List Derived) F) → taken_in kept here ≡ Ok new → taken_in kept (followed_by here rest) ≡ taken_in new rest
+  taken-joined kept new (Ok more) rest is = taken-more kept more rest ∙ ap (λ xs. taken_in xs rest) (cc)
+  taken-joined kept new (Err f) rest is = absurd (cc)
 
-module _ {X Y F : Type 0} (each : ℕ → X → Result (List Y) F) (xs : List X) (whole : Result (List Y) F) where
+module _ {X F : Type 0} (each : ℕ → X → Result (List Derived) F) (xs : List X) (whole : Result (List Derived) F) where
   -- with what one more element gives
-  pub collect-more : (i : ℕ) (x : X) (done new : List Y) → i < length xs → x ≡ get_or xs i x → with_more done (collect each i (drop i xs)) ≡ whole → with_more done (each i x) ≡ Ok new
-      → with_more new (collect each (i + 1) (drop (i + 1) xs)) ≡ whole
-  collect-more i x done new below at before is =
-      rw (add-one) (sym (joined done new (each i x) (collect each (suc i) (drop (suc i) xs)) is) ∙ ap (λ ys. with_more done (collect each i ys)) (sym (drop-at-suc)) ∙ before)
+  pub collect-more : (i : ℕ) (x : X) (kept new : List Derived) → i < length xs → x ≡ get_or xs i x → taken_in kept (collect each i (drop i xs)) ≡ whole → taken_in kept (each i x) ≡ Ok new
+      → taken_in new (collect each (i + 1) (drop (i + 1) xs)) ≡ whole
+  collect-more i x kept new below at before is =
+      rw (add-one) (sym (taken-joined kept new (each i x) (collect each (suc i) (drop (suc i) xs)) is) ∙ ap (λ ys. taken_in kept (collect each i ys)) (sym (drop-at-suc)) ∙ before)
     where
       drop-at-suc : drop i xs ≡ x ∷ drop (suc i) xs
       drop-at-suc = drop-cons xs i x below ∙ ap (λ y. y ∷ drop (suc i) xs) (sym at)
 
   -- a fault of one element is the fault of all
-  pub collect-fault : (i : ℕ) (x : X) (done : List Y) (f : F) → i < length xs → x ≡ get_or xs i x → with_more done (collect each i (drop i xs)) ≡ whole → each i x ≡ Err f → whole ≡ Err f
-  collect-fault i x done f below at before is =
-      sym before ∙ ap (λ ys. with_more done (collect each i ys)) (drop-cons xs i x below ∙ ap (λ y. y ∷ drop (suc i) xs) (sym at)) ∙ ap (λ r. with_more done (followed_by r (collect each (suc i) (drop (suc i) xs)))) is
+  pub collect-fault : (i : ℕ) (x : X) (kept : List Derived) (f : F) → i < length xs → x ≡ get_or xs i x → taken_in kept (collect each i (drop i xs)) ≡ whole → each i x ≡ Err f → whole ≡ Err f
+  collect-fault i x kept f below at before is =
+      sym before ∙ ap (λ ys. taken_in kept (collect each i ys)) (drop-cons xs i x below ∙ ap (λ y. y ∷ drop (suc i) xs) (sym at)) ∙ ap (λ r. taken_in kept (followed_by r (collect each (suc i) (drop (suc i) xs)))) is
 
-  -- past the last element all is done
-  pub collect-end : (i : ℕ) (done : List Y) → length xs ≤ i → with_more done (collect each i (drop i xs)) ≡ whole → whole ≡ Ok done
-  collect-end i done past before = sym before ∙ ap (λ ys. with_more done (collect each i ys)) (drop_all i xs past) ∙ ap (λ ys. Ok ys) (append-nil-right done)
-    where
-      append-nil-right : (ys : List Y) → ys ++ [] ≡ ys
-      append-nil-right [] = refl
-      append-nil-right (y ∷ ys) = ap (λ zs. y ∷ zs) (append-nil-right ys)
+  -- past the last element all is taken in
+  pub collect-end : (i : ℕ) (kept : List Derived) → length xs ≤ i → taken_in kept (collect each i (drop i xs)) ≡ whole → whole ≡ Ok kept
+  collect-end i kept past before = sym before ∙ ap (λ ys. taken_in kept (collect each i ys)) (drop_all i xs past)
 
--- where what stood before is joined, its faults are those of the rest
-pub fault-of-rest : {Y F : Type 0} (before : List Y) (rest : Result (List Y) F) (f : F) → with_more before rest ≡ Err f → rest ≡ Err f
-fault-of-rest before rest f is = more-err before rest f is
+-- what is taken in adds no fault
+pub fault-of-rest : {F : Type 0} (kept : List Derived) (rest : Result (List Derived) F) (f : F) → taken_in kept rest ≡ Err f → rest ≡ Err f
+fault-of-rest kept rest f is = taken-err kept rest f is
+
+-- a step takes the combinations in among its reduced flat lines
+pub step-taken : (lines : List Derived) (f : ℕ) → taken_in (reduce_derived (flat_from f 0 lines)) (collect (row_result f lines) 0 lines) ≡ step_result lines f
+step-taken lines f = by (collect (row_result f lines) 0 lines)
+  where
+    by : (rest : Result (List Derived) StepOverflow) → taken_in (reduce_derived (flat_from f 0 lines)) rest ≡ reduced_result (with_more (flat_from f 0 lines) rest)
+    by (Ok more) = ap (λ xs. Ok xs) (sym (fold-append with_derived [] (flat_from f 0 lines) more))
+    by (Err fault) = refl
 
 -- ---- counts
 
@@ -90,11 +97,11 @@ module _ (f : ℕ) (lines : List Derived) where
       by true = refl
       by false = refl
 
-  pub flat-more : (i : ℕ) (s : Derived) (done new : List Derived) → i < length lines → s ≡ get_or lines i s → done ++ flat_from f i (drop i lines) ≡ flat_from f 0 lines → new ≡ done ++ flat_from f i (s ∷ [])
-      → new ++ flat_from f (i + 1) (drop (i + 1) lines) ≡ flat_from f 0 lines
-  flat-more i s done new below at before is =
-      rw (add-one) (ap (λ ys. ys ++ flat_from f (suc i) (drop (suc i) lines)) is ∙ append_assoc done (flat_from f i (s ∷ [])) (flat_from f (suc i) (drop (suc i) lines))
-      ∙ ap (λ ys. done ++ ys) (sym (flat-at i s (drop (suc i) lines))) ∙ ap (λ ys. done ++ flat_from f i ys) (sym here) ∙ before)
+  pub flat-more : (i : ℕ) (s : Derived) (kept new : List Derived) → i < length lines → s ≡ get_or lines i s → fold with_derived kept (flat_from f i (drop i lines)) ≡ reduce_derived (flat_from f 0 lines)
+      → new ≡ fold with_derived kept (flat_from f i (s ∷ [])) → fold with_derived new (flat_from f (i + 1) (drop (i + 1) lines)) ≡ reduce_derived (flat_from f 0 lines)
+  flat-more i s kept new below at before is =
+      rw (add-one) (ap (λ ys. fold with_derived ys (flat_from f (suc i) (drop (suc i) lines))) is ∙ sym (fold-append with_derived kept (flat_from f i (s ∷ [])) (flat_from f (suc i) (drop (suc i) lines)))
+      ∙ ap (λ ys. fold with_derived kept ys) (sym (flat-at i s (drop (suc i) lines))) ∙ ap (λ ys. fold with_derived kept (flat_from f i ys)) (sym here) ∙ before)
     where
       here : drop i lines ≡ s ∷ drop (suc i) lines
       here = drop-cons lines i s below ∙ ap (λ y. y ∷ drop (suc i) lines) (sym at)

@@ -1,4 +1,4 @@
-use Rattle.std.specs.Prelude.{◌≡◌, ℕ, ℤ, pos, ◌+ℤ◌, ◌*ℤ◌, ◌&&◌, not, Bool, List, Result, length, int_div, int_lt}
+use Rattle.std.specs.Prelude.{◌≡◌, ℕ, ℤ, pos, ◌+ℤ◌, ◌*ℤ◌, ◌&&◌, not, Bool, Result, length, int_div, int_lt}
 use lib.IntN.{neg_ℤ}
 use Rattle.fraction128.specs.Divisor.{int_gcd}
 use Rattle.edit_line.specs.Combinations.{combined, first_overflow, numbers, sum_of, unless_overflow}

@@ -1,8 +1,8 @@
 use Rattle.std.specs.Prelude.{ℕ, suc, ◌+◌, ◌&&◌, Bool, List, [], ◌∷◌, ◌++◌, All, Result, Ok, Err, length, map, if◌then◌else◌}
-use Rattle.std.specs.List.{filter, flat_map}
+use Rattle.std.specs.List.{filter, flat_map, fold}
 use Rattle.edit_line.specs.Lines.{LineParts}
 use Rattle.edit_line.specs.Places.{place_of}
-use Rattle.edit_line.specs.Reductions.{reduce, reduce_derived}
+use Rattle.edit_line.specs.Reductions.{reduce, reduce_derived, with_derived}
 use Rattle.edit_line.specs.Shapes.{Domain, number_fields}
 use Rattle.edit_line.specs.declared.derived.Derived.{Derived}
 use Rattle.edit_line.specs.declared.derived.Origin.TheVariants.{Pair, Same}
@@ -84,6 +84,11 @@ eliminated_result lines f = with_more (flat_from f 0 lines) (collect (row_result
 abbrev pub reduced_result : {F : Type 0} → Result (List Derived) F → Result (List Derived) F
 reduced_result (Ok lines) = Ok (reduce_derived lines)
 reduced_result (Err fault) = Err fault
+
+-- the kept lines with those of the answer taken in, one by one, or the first fault
+abbrev pub taken_in : {F : Type 0} → List Derived → Result (List Derived) F → Result (List Derived) F
+taken_in kept (Ok more) = Ok (fold with_derived kept more)
+taken_in kept (Err fault) = Err fault
 
 -- elimination of a numerical field: the step's lines with their origins, reduced, or the first pair and place that leave the range
 abbrev pub step_result : List Derived → ℕ → Result (List Derived) StepOverflow

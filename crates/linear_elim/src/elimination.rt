@@ -1,22 +1,22 @@
-ghost use Rattle.std.specs.Prelude.{◌≡◌, ◌↔◌, ◌+◌, ◌≤◌, ◌<◌, ◌++◌, [], ◌∷◌, All, OnOk, IfOk, List, length, true, if◌then◌else◌, IfErr, IfSome};
-ghost use Rattle.std.specs.List.{filter};
+ghost use Rattle.std.specs.Prelude.{◌≡◌, ◌↔◌, ◌+◌, ◌≤◌, ◌<◌, [], ◌∷◌, All, OnOk, IfOk, List, length, true, if◌then◌else◌, IfErr, IfSome};
+ghost use Rattle.std.specs.List.{filter, fold};
 ghost use Rattle.edit_model.specs.Points.{Point};
 ghost use Rattle.edit_line.specs.Lines.{AllHold, HaveShape};
-ghost use Rattle.edit_line.specs.Reductions.{lines_of};
+ghost use Rattle.edit_line.specs.Reductions.{lines_of, reduce_derived, with_derived};
 ghost use Rattle.edit_line.specs.Shapes.{Domain, IsNumerical, domains_of};
-ghost use Rattle.linear_elim.specs.Answers.{Answers, Appends};
+ghost use Rattle.linear_elim.specs.Answers.{Answers, TakesIn};
 ghost use Rattle.linear_elim.specs.Combinations.{is_lower};
 ghost use Rattle.linear_elim.specs.Origins.{AllComeFrom};
 ghost use Rattle.linear_elim.specs.Overflows.{IsFirstOverflow};
 ghost use Rattle.linear_elim.specs.PointChanges.{CanHoldAt};
-ghost use Rattle.linear_elim.specs.Steps.{OneShape, collect, eliminated_result, flat_from, is_opposite, pair_result, pairs_count, row_count, row_result, step_result};
+ghost use Rattle.linear_elim.specs.Steps.{OneShape, collect, flat_from, is_opposite, pair_result, pairs_count, row_count, row_result, step_result};
 ghost use Rattle.linear_elim.specs.Told.{told_step};
 
 use crate::column::Column;
 use crate::combine::combine;
-use crate::fault::{PlaceFault, StepFault};
+use crate::fault::StepFault;
 use crate::pair_count::is_opposite;
-use edit_line::{Derived, Origin, reduce};
+use edit_line::{Derived, Line, Origin, take_copy};
 use foundation::{OutOfMemory, Steps};
 use std::alloc::Global;
 use std::marker::Brand;
@@ -57,7 +57,8 @@ fn step_from<L: Ledger>(
     counted_step(alloc, lines, field, &mut steps)
 }
 
-/// The step, with one step counted for each pair that is combined.
+/// The step, with one step counted for each pair that is combined. A line is taken in among the kept ones
+/// as soon as it is made, so that no memory is taken for one that says nothing of its own.
 pub(crate) fn counted_step<L: Ledger>(
     alloc: Global,
     lines: &[Derived],
@@ -69,53 +70,36 @@ pub(crate) fn counted_step<L: Ledger>(
     ensures counted { OnOk result (steps.new ≡ steps.old + pairs_count lines.now field) }
     ensures few { steps.new ≤ steps.old + pairs_count lines.now field }
 {
-    match eliminate(alloc, lines, field, steps) {
-        Ok(derived) => Ok(reduce(alloc, derived)?),
-        Err(fault) => Err(fault),
-    }
-}
-
-// The lines without the field, and then the combinations of the opposite pairs that meet.
-fn eliminate<L: Ledger>(
-    alloc: Global,
-    lines: &[Derived],
-    field: u32,
-    steps: &mut Steps<L>,
-) -> Result<Vec<Derived>, StepFault>
-    requires { OneShape lines.now }
-    ensures exact { Answers (λ v. v.items) told_step result (eliminated_result lines.now field) }
-    ensures counted { OnOk result (steps.new ≡ steps.old + pairs_count lines.now field) }
-    ensures few { steps.new ≤ steps.old + pairs_count lines.now field }
-{
     let Some(head) = lines.first() else {
         return Ok(Vec::new(alloc));
     };
     let column = Column::of(head.line.shape(), field);
-    let mut derived = flat_lines(alloc, &column, lines)?;
+    let mut kept = flat_lines(alloc, &column, lines)?;
+    let mut line = head.line.copy(alloc)?;
     for (first, s) in lines.iter().enumerate() {
-        push_line(alloc, &column, lines, first, s, &mut derived, steps)?;
+        take_line(alloc, &column, lines, first, s, &mut line, &mut kept, steps)?;
     }
-    Ok(derived)
+    Ok(kept)
 }
 
-// The lines without the field, in order.
+// The lines without the field, in order, reduced.
 fn flat_lines(
     alloc: Global,
     column: &Column,
     lines: &[Derived],
 ) -> Result<Vec<Derived>, OutOfMemory>
     requires { All (λ s. s.line.shape ≡ domains_of column.now.shape.count column.now.shape.codes) lines.now }
-    ensures { IfOk result (λ flat. flat.items ≡ flat_from column.now.field 0 lines.now) }
+    ensures { IfOk result (λ flat. flat.items ≡ reduce_derived (flat_from column.now.field 0 lines.now)) }
 {
     let mut flat = Vec::new(alloc);
     for (i, s) in lines.iter().enumerate() {
-        push_flat(alloc, column, i, s, &mut flat)?;
+        take_flat(alloc, column, i, s, &mut flat)?;
     }
     Ok(flat)
 }
 
-// Adds the line, if the field does not stand in it.
-fn push_flat(
+// Takes the line in, if the field does not stand in it.
+fn take_flat(
     alloc: Global,
     column: &Column,
     i: usize,
@@ -123,94 +107,102 @@ fn push_flat(
     flat: &mut Vec<Derived>,
 ) -> Result<(), OutOfMemory>
     requires { s.now.line.shape ≡ domains_of column.now.shape.count column.now.shape.codes }
-    ensures { OnOk result (flat.new.items ≡ flat.old.items ++ flat_from column.now.field i (s.now ∷ [])) }
+    ensures { OnOk result (flat.new.items ≡ fold with_derived flat.old.items (flat_from column.now.field i (s.now ∷ []))) }
 {
     if column.is_flat(&s.line) {
-        let line = s.line.copy(alloc)?;
-        let origin = Origin::Same(i as u64);
-        flat.push(Derived { line, origin })?;
+        take_copy(alloc, flat, &s.line, Origin::Same(i as u64))?;
     }
     Ok(())
 }
 
-// Adds the combinations of the line with those that are opposite to it, if it bounds the field from below.
-fn push_line<L: Ledger>(
+// Takes in the combinations of the line with those that are opposite to it, if it bounds the field from
+// below. Each is written into the one line.
+fn take_line<L: Ledger>(
     alloc: Global,
     column: &Column,
     lines: &[Derived],
     first: usize,
     s: &Derived,
-    derived: &mut Vec<Derived>,
+    line: &mut Line,
+    kept: &mut Vec<Derived>,
     steps: &mut Steps<L>,
 ) -> Result<(), StepFault>
     requires s_over { s.now.line.shape ≡ domains_of column.now.shape.count column.now.shape.codes }
     requires over { All (λ t. t.line.shape ≡ domains_of column.now.shape.count column.now.shape.codes) lines.now }
-    ensures exact { Appends told_step derived.old.items derived.new.items result (row_result column.now.field lines.now first s.now) }
+    requires line_over { line.old.shape ≡ domains_of column.now.shape.count column.now.shape.codes }
+    ensures exact { TakesIn told_step kept.old.items kept.new.items result (row_result column.now.field lines.now first s.now) }
     ensures counted { OnOk result (steps.new ≡ steps.old + row_count column.now.field lines.now s.now) }
     ensures few { steps.new ≤ steps.old + row_count column.now.field lines.now s.now }
+    ensures over { line.new.shape ≡ line.old.shape }
 {
     if column.is_lower(&s.line) {
-        push_row(alloc, column, lines, first, s, derived, steps)
+        take_row(alloc, column, lines, first, s, line, kept, steps)
     } else {
         Ok(())
     }
 }
 
-// Adds the combinations of a line, which bounds the field from below, with those that are opposite to it.
-fn push_row<L: Ledger>(
+// Takes in the combinations of a line, which bounds the field from below, with those that are opposite to
+// it.
+fn take_row<L: Ledger>(
     alloc: Global,
     column: &Column,
     lines: &[Derived],
     first: usize,
     s: &Derived,
-    derived: &mut Vec<Derived>,
+    line: &mut Line,
+    kept: &mut Vec<Derived>,
     steps: &mut Steps<L>,
 ) -> Result<(), StepFault>
     requires lower { is_lower column.now.field s.now.line ≡ true }
     requires s_over { s.now.line.shape ≡ domains_of column.now.shape.count column.now.shape.codes }
     requires over { All (λ t. t.line.shape ≡ domains_of column.now.shape.count column.now.shape.codes) lines.now }
-    ensures exact { Appends told_step derived.old.items derived.new.items result (collect (pair_result column.now.field first s.now) 0 lines.now) }
+    requires line_over { line.old.shape ≡ domains_of column.now.shape.count column.now.shape.codes }
+    ensures exact { TakesIn told_step kept.old.items kept.new.items result (collect (pair_result column.now.field first s.now) 0 lines.now) }
     ensures counted { OnOk result (steps.new ≡ steps.old + length (filter (λ t. is_opposite column.now.field s.now.line t.line) lines.now)) }
     ensures few { steps.new ≤ steps.old + length (filter (λ t. is_opposite column.now.field s.now.line t.line) lines.now) }
+    ensures over { line.new.shape ≡ line.old.shape }
 {
     for (second, t) in lines.iter().enumerate() {
-        push_pair(alloc, column, first, s, second, t, derived, steps)?;
+        take_pair(alloc, column, first, s, second, t, line, kept, steps)?;
     }
     Ok(())
 }
 
-// Adds the combination of a line, which bounds the field from below, and another, if that is opposite to
-// it; and then counts one step.
-fn push_pair<L: Ledger>(
+// Takes in the combination of a line, which bounds the field from below, and another, if that is opposite
+// to it; and then counts one step.
+fn take_pair<L: Ledger>(
     alloc: Global,
     column: &Column,
     first: usize,
     s: &Derived,
     second: usize,
     t: &Derived,
-    derived: &mut Vec<Derived>,
+    line: &mut Line,
+    kept: &mut Vec<Derived>,
     steps: &mut Steps<L>,
 ) -> Result<(), StepFault>
     requires lower { is_lower column.now.field s.now.line ≡ true }
     requires s_over { s.now.line.shape ≡ domains_of column.now.shape.count column.now.shape.codes }
     requires t_over { t.now.line.shape ≡ domains_of column.now.shape.count column.now.shape.codes }
-    ensures exact { Appends told_step derived.old.items derived.new.items result (pair_result column.now.field first s.now second t.now) }
+    requires line_over { line.old.shape ≡ domains_of column.now.shape.count column.now.shape.codes }
+    ensures exact { TakesIn told_step kept.old.items kept.new.items result (pair_result column.now.field first s.now second t.now) }
     ensures counted { steps.new ≡ steps.old + (if is_opposite column.now.field s.now.line t.now.line then 1 else 0) }
+    ensures over { line.new.shape ≡ line.old.shape }
 {
     if !is_opposite(column, &s.line, &t.line) {
         return Ok(());
     }
     steps.tick();
-    match combine(alloc, column, &s.line, &t.line) {
-        Ok(sum) => {
-            derived.push(sum.into_derived(first as u64, second as u64))?;
+    match combine(line, column, &s.line, &t.line) {
+        Ok(by) => {
+            take_copy(alloc, kept, line, by.origin(first as u64, second as u64))?;
             Ok(())
         }
-        Err(PlaceFault::Overflow(place)) => Err(StepFault::Overflow {
+        Err(place) => Err(StepFault::Overflow {
             first: first as u64,
             second: second as u64,
             place: column.place_at(place),
         }),
-        Err(PlaceFault::OutOfMemory) => Err(StepFault::OutOfMemory),
     }
 }

@@ -1,16 +1,7 @@
 use edit_line::Place;
 use foundation::OutOfMemory;
-use std::alloc::{AllocError, AllocFailed};
+use std::alloc::AllocFailed;
 use std::{error, fmt};
-
-/// Why two lines have no combination.
-#[derive(Clone, Copy, Debug, PartialEq, Eq)]
-pub(crate) enum PlaceFault {
-    /// The number at this place among the factors and the constant is out of range.
-    Overflow(usize),
-    /// Memory was refused.
-    OutOfMemory,
-}
 
 /// Why a step has no lines.
 #[derive(Clone, Copy, Debug, PartialEq, Eq)]
@@ -27,6 +18,11 @@ pub enum StepFault {
 }
 
 impl fmt::Display for StepFault {
+    ghost use Rattle.std.specs.Prelude.{Some};
+    ghost use Rattle.linear_elim.specs.Texts.{step_text};
+
+    ghost output = { λ fault. Some (step_text fault) };
+
     fn fmt<W: fmt::Write>(&self, f: &mut fmt::Formatter<W>) -> fmt::Result {
         f.write_str(match self {
             StepFault::Overflow { .. } => "a number of a combination is out of range",
@@ -53,6 +49,11 @@ pub enum SystemFault {
 }
 
 impl fmt::Display for SystemFault {
+    ghost use Rattle.std.specs.Prelude.{Some};
+    ghost use Rattle.linear_elim.specs.Texts.{system_text};
+
+    ghost output = { λ fault. Some (system_text fault) };
+
     fn fmt<W: fmt::Write>(&self, f: &mut fmt::Formatter<W>) -> fmt::Result {
         f.write_str(match self {
             SystemFault::Overflow { .. } => "a number of a combination is out of range",
@@ -62,39 +63,6 @@ impl fmt::Display for SystemFault {
 }
 
 impl error::Error for SystemFault {}
-
-impl From<AllocError> for PlaceFault {
-    ghost use Rattle.std.specs.Prelude.{◌≡◌};
-    ghost use Rattle.linear_elim.specs.declared.fault.PlaceFault.TheVariants as faults;
-
-    ghost from_gives = { λ _ fault. fault ≡ faults.OutOfMemory };
-
-    fn from(_refused: AllocError) -> Self {
-        PlaceFault::OutOfMemory
-    }
-}
-
-impl<T: Drop> From<AllocFailed<T>> for PlaceFault {
-    ghost use Rattle.std.specs.Prelude.{◌≡◌};
-    ghost use Rattle.linear_elim.specs.declared.fault.PlaceFault.TheVariants as faults;
-
-    ghost from_gives = { λ _ fault. fault ≡ faults.OutOfMemory };
-
-    fn from(_refused: AllocFailed<T>) -> Self {
-        PlaceFault::OutOfMemory
-    }
-}
-
-impl From<OutOfMemory> for PlaceFault {
-    ghost use Rattle.std.specs.Prelude.{◌≡◌};
-    ghost use Rattle.linear_elim.specs.declared.fault.PlaceFault.TheVariants as faults;
-
-    ghost from_gives = { λ _ fault. fault ≡ faults.OutOfMemory };
-
-    fn from(_refused: OutOfMemory) -> Self {
-        PlaceFault::OutOfMemory
-    }
-}
 
 impl From<OutOfMemory> for StepFault {
     ghost use Rattle.std.specs.Prelude.{◌≡◌};

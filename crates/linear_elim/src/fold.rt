@@ -11,7 +11,7 @@ ghost use Rattle.linear_elim.specs.Answers.{Answers};
 ghost use Rattle.linear_elim.specs.Overflows.{IsFoldOverflow};
 ghost use Rattle.linear_elim.specs.PointChanges.{CanHoldIn};
 ghost use Rattle.linear_elim.specs.Steps.{OneShape};
-ghost use Rattle.linear_elim.specs.Systems.{AreNumerical, chosen_fields, fold_count, fold_result, system_at, system_count};
+ghost use Rattle.linear_elim.specs.Systems.{AreNumerical, chosen_fields, fold_count, fold_result, so_far, system_at, system_count};
 ghost use Rattle.linear_elim.specs.Told.{told_system};
 
 use crate::elimination::counted_step;
@@ -70,20 +70,33 @@ fn fold_lines<L: Ledger>(
 {
     let shape = edits.shape();
     let _over = edits.lines(); // read for what it says: all lines are over one shape
-    let mut lines = copy_all(alloc, edits.reduced())?;
+    let base = edits.reduced();
+    let mut lines = None;
     for (field, count) in shape.code_counts().iter().enumerate() {
-        lines = match next_lines(alloc, lines, *count, field as u32, fields, steps) {
+        lines = match next_lines(alloc, base, lines, *count, field as u32, fields, steps) {
             Ok(next) => next,
             Err(fault) => return Err(fault),
         };
     }
-    Ok(lines)
+    match lines {
+        Some(lines) => Ok(lines),
+        None => Ok(copy_all(alloc, base)?),
+    }
+}
+
+// The lines of the fold so far: those that it begins with, until a step has made others.
+fn so_far<'a>(base: &'a [Derived], lines: &'a Option<Vec<Derived>>) -> &'a [Derived]
+    ensures { result.now ≡ so_far (λ v. v.items) base.now lines.now }
+{
+    match lines {
+        Some(lines) => lines.as_slice(),
+        None => base,
+    }
 }
 
 // Equal lines.
 fn copy_all(alloc: Global, lines: &[Derived]) -> Result<Vec<Derived>, OutOfMemory>
-    ensures copies { IfOk result (λ v. v.items ≡ lines.now) }
-    ensures lines { IfOk result (λ v. All (λ d. IsLine d.line) v.items) }
+    ensures { IfOk result (λ v. v.items ≡ lines.now) }
 {
     let mut copies = Vec::with_capacity(alloc, lines.len())?;
     for line in lines {
@@ -93,26 +106,27 @@ fn copy_all(alloc: Global, lines: &[Derived]) -> Result<Vec<Derived>, OutOfMemor
 }
 
 // The lines after the field, which has so many codes: if it is numerical and in the set, those of the
-// step at it.
+// step at it. None stands for the lines that the fold begins with, which are not copied.
 fn next_lines<L: Ledger>(
     alloc: Global,
-    lines: Vec<Derived>,
+    base: &[Derived],
+    lines: Option<Vec<Derived>>,
     count: u8,
     field: u32,
     fields: FieldSet,
     steps: &mut Steps<L>,
-) -> Result<Vec<Derived>, SystemFault>
-    requires shape { OneShape lines.items }
+) -> Result<Option<Vec<Derived>>, SystemFault>
+    requires shape { OneShape (so_far (λ v. v.items) base.now lines) }
     requires field { field < 64 }
-    ensures exact { Answers (λ v. v.items) told_system result (fold_result lines.items (filter (has_number fields) (numbers_from field (domain_with count ∷ [])))) }
-    ensures counted { OnOk result (steps.new ≡ steps.old + fold_count lines.items (filter (has_number fields) (numbers_from field (domain_with count ∷ [])))) }
-    ensures few { steps.new ≤ steps.old + fold_count lines.items (filter (has_number fields) (numbers_from field (domain_with count ∷ []))) }
+    ensures exact { Answers (λ next. so_far (λ v. v.items) base.now next) told_system result (fold_result (so_far (λ v. v.items) base.now lines) (filter (has_number fields) (numbers_from field (domain_with count ∷ [])))) }
+    ensures counted { OnOk result (steps.new ≡ steps.old + fold_count (so_far (λ v. v.items) base.now lines) (filter (has_number fields) (numbers_from field (domain_with count ∷ [])))) }
+    ensures few { steps.new ≤ steps.old + fold_count (so_far (λ v. v.items) base.now lines) (filter (has_number fields) (numbers_from field (domain_with count ∷ []))) }
 {
     if count > 0 || !fields.has(field) {
         return Ok(lines);
     }
-    match counted_step(alloc, &lines, field, steps) {
-        Ok(next) => Ok(next),
+    match counted_step(alloc, so_far(base, &lines), field, steps) {
+        Ok(next) => Ok(Some(next)),
         Err(
             StepFault::Overflow {
                 first,

@@ -5,7 +5,6 @@
 //! values at the eliminated fields make the given lines hold.
 #![tactic(auto)]
 
-mod arithmetic;
 mod column;
 mod combine;
 mod elimination;

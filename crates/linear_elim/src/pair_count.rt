@@ -4,8 +4,7 @@ ghost use Rattle.edit_line.specs.Shapes.{domains_of};
 ghost use Rattle.linear_elim.specs.Steps.{OneShape, combinations, is_opposite, pairs_count, row_count};
 
 use crate::column::Column;
-use crate::combine::all_meet;
-use edit_line::{Derived, Line};
+use edit_line::{Derived, Line, all_meet};
 
 /// The number of pairs of lines that the step at the field combines: the one bounds the field from below,
 /// the other from above, and all their sets meet. The lines are over one survey's fields. No memory.

@@ -2,7 +2,8 @@ use Rattle.std.proofs.Common.{true, ◌≡◌, ◌<◌, ℕ, List, length, rules
 use Rattle.edit_line.specs.Sets.{AreSets, has_codes}
 use Rattle.edit_line.specs.Shapes.{Domain, whole_sets}
 use Rattle.edit_line.specs.Combinations.{meets}
-use Rattle.categ_combine.proofs.SpotLaws.{AreSets-length, common-sets, common-within}
+use Rattle.edit_line.proofs.SetLaws.{AreSets-length}
+use Rattle.categ_combine.proofs.SpotLaws.{common-sets, common-within}
 use Rattle.categ_combine.proofs.cover.take_joined.Goals as goal
 
 pub meets-requires : goal.meets-requires

@@ -1,7 +1,7 @@
 use Rattle.std.proofs.Common.{List, length, ap, sym, subst, ◌∙◌}
 use Rattle.edit_line.specs.Shapes.{Domain, whole_sets}
 use Rattle.edit_line.specs.Sets.{AreSets}
-use Rattle.linear_elim.proofs.CombineSteps.{same-sets}
+use Rattle.edit_line.proofs.SetLaws.{same-sets}
 use Rattle.linear_elim.proofs.pair_count.is_opposite.Goals as goal
 
 pub all_meet-requires : goal.all_meet-requires

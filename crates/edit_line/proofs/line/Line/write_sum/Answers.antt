@@ -5,7 +5,8 @@ use Rattle.edit_line.specs.Combinations.{combined, meets}
 use Rattle.edit_line.specs.Lines.{LineParts}
 use Rattle.edit_line.specs.Sets.{AreSets}
 use Rattle.edit_line.specs.Shapes.{Domain, domains_of, whole_sets}
-use Rattle.edit_line.proofs.LineSums.{no-place, place-first, place-last, same-sets, sum-is, sum-line}
+use Rattle.edit_line.proofs.LineSums.{no-place, place-first, place-last, sum-is, sum-line}
+use Rattle.edit_line.proofs.SetLaws.{same-sets}
 use Rattle.edit_line.proofs.line.Line.write_sum.Goals as goal
 
 pub write_meets-requires-clause-first : goal.write_meets-requires-clause-first

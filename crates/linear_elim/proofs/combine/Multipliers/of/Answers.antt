@@ -8,16 +8,16 @@ pub quotient-requires : goal.quotient-requires
 quotient-requires c =
     let a_fits = c.ranges.a in
     let b_fits = c.ranges.b in
-    let divisor_fits : FitsSigned w128 c.gcd-divisor.result = search rules in
-    let value = simp to_z-of_z at c.gcd-divisor.ensures.value in
+    let divisor_fits : FitsSigned w128 c.common_divisor-divisor.result = search rules in
+    let value = simp to_z-of_z at c.common_divisor-divisor.ensures in
     let apart : c.args.b ≢ pos 0 = λ e. omega (arith, ints, e, c.requires.below) in
-    simp to_z-of_z (common_divisor-above c.args.a c.args.b c.gcd-divisor.result value apart)
+    simp to_z-of_z (common_divisor-above c.args.a c.args.b c.common_divisor-divisor.result value apart)
 
 pub quotient-requires-2 : goal.quotient-requires-2
 quotient-requires-2 c =
     let a_fits = c.ranges.a in
     let b_fits = c.ranges.b in
-    let divisor_fits : FitsSigned w128 c.gcd-divisor.result = search rules in
-    let value = simp to_z-of_z at c.gcd-divisor.ensures.value in
+    let divisor_fits : FitsSigned w128 c.common_divisor-divisor.result = search rules in
+    let value = simp to_z-of_z at c.common_divisor-divisor.ensures in
     let apart : c.args.b ≢ pos 0 = λ e. omega (arith, ints, e, c.requires.below) in
-    simp to_z-of_z (common_divisor-above c.args.a c.args.b c.gcd-divisor.result value apart)
+    simp to_z-of_z (common_divisor-above c.args.a c.args.b c.common_divisor-divisor.result value apart)
