@@ -6,7 +6,7 @@ use Rattle.edit_line.specs.Divisors.{divided_by}
 use Rattle.edit_line.specs.Lines.{LineParts}
 use Rattle.edit_line.specs.Sets.{AreSets}
 use Rattle.edit_line.specs.Shapes.{Domain, whole_sets}
-use Rattle.edit_line.proofs.LineSums.{same-sets}
+use Rattle.edit_line.proofs.SetLaws.{same-sets}
 use Rattle.derivation.specs.ValidSteps.{divides, only_if}
 use Rattle.derivation.specs.declared.proved.Proved.TheVariants as proved
 use Rattle.derivation.proofs.CombineSteps.{above-divisor, in-range, overflowing}
