@@ -55,14 +55,6 @@ there-has fields f place e = by (has_field fields f) e
     by true h = (refl, cc)
     by false h = absurd (cc)
 
--- and else it is not
-pub there-none : (fields : List ℕ) (f : ℕ) → place_there fields f ≡ None → has_field fields f ≡ false
-there-none fields f e = by (has_field fields f) e
-  where
-    by : (b : Bool) → (if b then Some (place_in fields f) else None) ≡ None → b ≡ false
-    by true h = absurd (cc)
-    by false h = refl
-
 -- a categorical field has a set of codes
 pub place-wholes : (shape : List Domain) (f place : ℕ) → place_there (code_fields shape) f ≡ Some place → place < length (whole_sets shape)
 place-wholes shape f place e = let (there, is) = there-has (code_fields shape) f place e in omega (arith, is, place-within (code_fields shape) f there, length-wholes 0 shape)

@@ -1,8 +1,7 @@
-use Rattle.std.proofs.Common.{◌≡◌, ◌≢◌, ℕ, ℤ, suc, ◌+◌, ◌<◌, ◌≤◌, ◌&&◌, ◌||◌, Bool, true, false, List, ◌∷◌, drop, get_or, length, Ok, pos, refl, sym, ap, ◌∙◌, add-one, arith}
+use Rattle.std.proofs.Common.{◌≡◌, ℕ, ℤ, suc, ◌+◌, ◌<◌, ◌&&◌, ◌||◌, Bool, true, false, List, ◌∷◌, drop, get_or, length, Ok, pos, refl, sym, ap, ◌∙◌, add-one, arith}
 use Rattle.std.specs.Ordering.{int_eq}
 use Rattle.std.proofs.Math.Seq.{drop-cons}
 use Rattle.std.proofs.lemmas.Bool.Decides.{Decides-int_eq}
-use Rattle.std.proofs.lemmas.List.{drop_all}
 use Rattle.edit_model.specs.Corrections as corrections
 use Rattle.edit_model.specs.FieldSets.{has_number}
 use Rattle.edit_model.specs.declared.field.Field.{Field}
@@ -14,10 +13,6 @@ use Rattle.edit_line.proofs.ShapeLaws.{number_fields-same}
 use Rattle.derivation.specs.ValidSteps.{all_kept, is_true}
 
 -- The test that all fields beside factors other than 0 are kept.
-
-false_unless : (b : Bool) → (b ≡ true → ⊥) → b ≡ false
-false_unless true h = absurd (h refl)
-false_unless false h = refl
 
 -- a field beside the factor 0 does not count, and a kept one may stand in the line
 pub keeps-zero : (a : ℤ) (kept : Bool) → a ≡ pos 0 → (int_eq a (pos 0) || kept) ≡ true
@@ -40,19 +35,9 @@ module _ (kept : ℕ) (fields : List ℕ) (factors : List ℤ) (whole : Bool) (i
   here : ((int_eq (get_or factors i (pos 0)) (pos 0) || has_number kept (get_or fields i 0)) && all_kept kept (drop (i + 1) fields) (drop (i + 1) factors)) ≡ whole
   here = sym (kept-at kept fields factors i 0 (pos 0) below (omega arith)) ∙ before
 
-  -- a field that is not kept, beside a factor other than 0, ends the loop
-  pub not-kept : get_or factors i (pos 0) ≢ pos 0 → has_number kept (get_or fields i 0) ≡ false → false ≡ whole
-  not-kept apart out =
-      sym (ap (λ b. (b || has_number kept (get_or fields i 0)) && all_kept kept (drop (i + 1) fields) (drop (i + 1) factors)) (false_unless (int_eq (get_or factors i (pos 0)) (pos 0)) (λ h. apart ((Decides-int_eq (get_or factors i (pos 0)) (pos 0)).0 h)))
-      ∙ ap (λ b. b && all_kept kept (drop (i + 1) fields) (drop (i + 1) factors)) out) ∙ here
-
-  -- another one goes on
+  -- a field that counts goes on
   pub kept-more : ((int_eq (get_or factors i (pos 0)) (pos 0) || has_number kept (get_or fields i 0)) ≡ true) → all_kept kept (drop (i + 1) fields) (drop (i + 1) factors) ≡ whole
   kept-more is = sym (ap (λ b. b && all_kept kept (drop (i + 1) fields) (drop (i + 1) factors)) is) ∙ here
-
--- past the last field all are kept
-pub kept-end : (kept : ℕ) (fields : List ℕ) (factors : List ℤ) (whole : Bool) (i : ℕ) → length fields ≤ i → all_kept kept (drop i fields) (drop i factors) ≡ whole → true ≡ whole
-kept-end kept fields factors whole i past before = sym (ap (λ fs. all_kept kept fs (drop i factors)) (drop_all i fields past)) ∙ before
 
 -- ---- a line of a survey at a record
 

@@ -1,8 +1,10 @@
 pub mod CodePlaces
 pub mod CombineLaws
+pub mod CombineSteps
 pub mod CoverLaws
 pub mod FailLaws
 pub mod FieldNumbers
+pub mod FourFields
 pub mod KeptFactors
 pub mod Places
 pub mod Soundness

@@ -1,6 +1,5 @@
-use Rattle.std.proofs.Common.{◌≡◌, ℕ, suc, ◌+◌, ◌<◌, ◌≤◌, List, [], ◌∷◌, ◌++◌, Option, Some, None, Result, Ok, Err, drop, get_or, length, map, refl, sym, ap, ◌∙◌, inl, inr, add-one, arith}
+use Rattle.std.proofs.Common.{◌≡◌, ℕ, suc, ◌+◌, ◌<◌, List, [], ◌∷◌, ◌++◌, Option, Some, None, Result, Ok, drop, get_or, length, map, refl, sym, ap, ◌∙◌, inl, inr, add-one, arith}
 use Rattle.std.proofs.Math.Seq.{drop-cons}
-use Rattle.std.proofs.lemmas.List.{drop_all}
 use Rattle.std.proofs.lemmas.List.Elements.{All-cons}
 use Rattle.derivation.specs.Meanings.{AllOver, meaning}
 use Rattle.derivation.specs.Premises.{Premises}
@@ -18,17 +17,9 @@ module _ (p : Premises) (steps : List Step) (earlier : List Proved) (i : ℕ) (w
   next : (one : Step) → i < length steps → one ≡ get_or steps i one → or_place (length earlier) (proved_by p earlier one) (λ x. proved_from p (earlier ++ x ∷ []) (drop (suc i) steps)) ≡ whole
   next one below is = ap (λ (s : Step). or_place (length earlier) (proved_by p earlier s) (λ x. proved_from p (earlier ++ x ∷ []) (drop (suc i) steps))) is ∙ sym (ap (λ (ss : List Step). proved_from p earlier ss) (drop-cons steps i one below)) ∙ before
 
-  -- one that is not valid ends the list
-  pub invalid-there : (one : Step) → i < length steps → one ≡ get_or steps i one → None ≡ proved_by p earlier one → whole ≡ Err (length earlier)
-  invalid-there one below is none = sym (next one below is) ∙ ap (λ (o : Option Proved). or_place (length earlier) o (λ x. proved_from p (earlier ++ x ∷ []) (drop (suc i) steps))) (sym none)
-
-  -- another goes on with what it proves
+  -- a valid one goes on with what it proves
   pub valid-more : (one : Step) (x : Proved) → i < length steps → one ≡ get_or steps i one → Some x ≡ proved_by p earlier one → proved_from p (earlier ++ x ∷ []) (drop (i + 1) steps) ≡ whole
   valid-more one x below is some = rw (add-one) (ap (λ (o : Option Proved). or_place (length earlier) o (λ x. proved_from p (earlier ++ x ∷ []) (drop (suc i) steps))) some ∙ next one below is)
-
-  -- past the last step all is proved
-  pub valid-end : length steps ≤ i → whole ≡ Ok earlier
-  valid-end past = sym before ∙ ap (λ (ss : List Step). proved_from p earlier ss) (drop_all i steps past)
 
 -- the last of what was proved
 pub last-push : (before : Option Proved) (all : List Proved) (x : Proved) → last_from before (all ++ x ∷ []) ≡ Ok x

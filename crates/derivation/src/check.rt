@@ -1,4 +1,4 @@
-ghost use Rattle.std.specs.Prelude.{◌≡◌, Err, IfOk, Ok, [], length, map, ℕ};
+ghost use Rattle.std.specs.Prelude.{◌≡◌, ◌<◌, ◌⊎◌, Err, IfOk, Ok, [], length, map, ℕ};
 ghost use Rattle.edit_model.specs.Rows.{IsRow};
 ghost use Rattle.edit_line.specs.Lines.{AreOver};
 ghost use Rattle.edit_line.specs.Shapes.{shape_of};
@@ -44,6 +44,7 @@ pub fn check_steps(
     requires kept { HasKept row.now kept }
     ensures proved { IfOk result (λ proved. steps_result (premises_of (shape_of survey.now.fields) given.now usable.now row.now kept) steps.now ≡ Ok proved) }
     ensures bad { (place : ℕ) → result ≡ Err (StepsFault.Bad place) → steps_result (premises_of (shape_of survey.now.fields) given.now usable.now row.now kept) steps.now ≡ Err place }
+    ensures named { (place : ℕ) → result ≡ Err (StepsFault.Bad place) → ((steps.now ≡ []) × (place ≡ 0)) ⊎ (place < length steps.now) }
     ensures shown { IfOk result (λ proved. IsShown (premises_of (shape_of survey.now.fields) given.now usable.now row.now kept) proved) }
     ensures over { IfOk result (λ proved. IsOver (shape_of survey.now.fields) proved) }
 {
@@ -56,7 +57,10 @@ pub fn check_steps(
         kept,
         wholes: &wholes,
     };
-    last_known(alloc, known_of(alloc, &basis, steps)?)
+    match known_of(alloc, &basis, steps) {
+        Ok(known) => last_known(alloc, known),
+        Err(fault) => Err(fault),
+    }
 }
 
 // The last of what was proved, or place 0 where there is none.

@@ -1,6 +1,7 @@
 ghost use Rattle.std.specs.Prelude.{◌≡◌, IfNone, IfOk, IfSome, List, None, Some, map, slice_get};
 ghost use Rattle.edit_line.specs.Shapes.{Domain};
 ghost use Rattle.derivation.specs.Meanings.{AllOver, meaning};
+ghost use Rattle.derivation.specs.Shown.{IsOver};
 ghost use Rattle.derivation.specs.ValidSteps.{as_box, as_line};
 
 use crate::proved::Proved;
@@ -58,10 +59,10 @@ pub(crate) fn line_at<'k, 'a>(known: &'k [Known<'a>], place: u64) -> Option<&'k 
     ensures none { IfNone result (as_line (slice_get (map meaning known.now) place) ≡ None) }
     ensures over { IfSome result (λ line. (shape : List Domain) → AllOver shape known.now → line.now.shape ≡ shape) }
 {
-    if place >= known.len() as u64 {
-        return None;
+    match known_at(known, place) {
+        None => None,
+        Some(one) => one.line(),
     }
-    known[place as usize].line()
 }
 
 /// The box that was proved at a place. No memory.
@@ -70,8 +71,21 @@ pub(crate) fn box_at<'k, 'a>(known: &'k [Known<'a>], place: u64) -> Option<&'k C
     ensures none { IfNone result (as_box (slice_get (map meaning known.now) place) ≡ None) }
     ensures over { IfSome result (λ b. (shape : List Domain) → AllOver shape known.now → b.now.shape ≡ shape) }
 {
-    if place >= known.len() as u64 {
-        return None;
+    match known_at(known, place) {
+        None => None,
+        Some(one) => one.code_box(),
     }
-    known[place as usize].code_box()
+}
+
+// What was proved at a place, if an earlier step has it. No memory.
+fn known_at<'k, 'a>(known: &'k [Known<'a>], place: u64) -> Option<&'k Known<'a>>
+    ensures some { IfSome result (λ one. slice_get (map meaning known.now) place ≡ Some (meaning one.now)) }
+    ensures none { IfNone result (slice_get (map meaning known.now) place ≡ None) }
+    ensures over { IfSome result (λ one. (shape : List Domain) → AllOver shape known.now → IsOver shape (meaning one.now)) }
+{
+    if place < known.len() as u64 {
+        Some(&known[place as usize])
+    } else {
+        None
+    }
 }

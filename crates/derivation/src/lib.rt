@@ -16,6 +16,8 @@ mod given;
 mod known;
 mod proved;
 mod step;
+#[cfg(test)]
+mod tests;
 
 pub use check::check_steps;
 pub use fault::StepsFault;

@@ -11,7 +11,7 @@ use Rattle.edit_line.proofs.ReductionLaws.{all-reduce, reduce-lines, reduced-sam
 use Rattle.edit_line.specs.Shapes.{Domain, domain_with, number_fields, numbers_from}
 use Rattle.edit_line.specs.declared.derived.Derived.{Derived}
 use Rattle.linear_elim.specs.Steps.{StepOverflow, step, step_result}
-use Rattle.linear_elim.specs.Systems.{SystemOverflow, chosen_fields, count_after, fold_count, fold_result, next_result}
+use Rattle.linear_elim.specs.Systems.{SystemOverflow, chosen_fields, count_after, fold_count, fold_result, next_result, system_of}
 use Rattle.linear_elim.proofs.ResultLaws.{HaveShape-result, base-plain, fold-plain}
 use Rattle.linear_elim.specs.PointChanges.{CanHoldIn}
 use Rattle.linear_elim.proofs.SystemLaws.{chosen-numerical, fold-holds, fold-lifts}
@@ -148,3 +148,10 @@ module _ (shape : List Domain) (edits : List (ℕ × LineParts)) (start : List D
         let (q, differs, at_q) = can in
         subst (λ (ls : List LineParts). AllHold ls p) (sym plain) (fold-holds shape (lines_of start) (chosen_fields shape bits) p q over (chosen-numerical shape bits) differs ((same_edits q).1 at_q)),
   )
+
+-- so do the lines that the fold has reached past its last field
+pub lifts-reached : (shape : List Domain) (edits : List (ℕ × LineParts)) (start : List Derived) → AreEdits shape edits → start ≡ reduce_derived (base_lines edits) → All IsLine (lines_of start) → (bits : ℕ) (reached ys : List Derived) (left : List ℕ)
+    → left ≡ [] → fold_result reached left ≡ system_of edits (chosen_fields shape bits) → reached ≡ ys → (p : Point) → AllHold (lines_of ys) p ↔ CanHoldIn (map (λ (e : ℕ × LineParts). e.1) edits) (chosen_fields shape bits) p
+lifts-reached shape edits start are is lines bits reached ys left none folded reached_is p =
+    lifts-start shape edits start are is (HaveShape-start shape edits start are is lines) bits ys
+    (ap (λ (ls : List Derived). fold_result ls (chosen_fields shape bits)) is ∙ sym folded ∙ ap (λ (fs : List ℕ). fold_result reached fs) none ∙ ap (λ (ls : List Derived). Ok ls) reached_is) p

@@ -9,3 +9,4 @@ pub mod Systems
 pub mod Told
 pub mod Helds
 pub mod SixNumbers
+pub mod Texts

@@ -18,6 +18,11 @@ pub enum StepFault {
 }
 
 impl fmt::Display for StepFault {
+    ghost use Rattle.std.specs.Prelude.{Some};
+    ghost use Rattle.linear_elim.specs.Texts.{step_text};
+
+    ghost output = { λ fault. Some (step_text fault) };
+
     fn fmt<W: fmt::Write>(&self, f: &mut fmt::Formatter<W>) -> fmt::Result {
         f.write_str(match self {
             StepFault::Overflow { .. } => "a number of a combination is out of range",
@@ -44,6 +49,11 @@ pub enum SystemFault {
 }
 
 impl fmt::Display for SystemFault {
+    ghost use Rattle.std.specs.Prelude.{Some};
+    ghost use Rattle.linear_elim.specs.Texts.{system_text};
+
+    ghost output = { λ fault. Some (system_text fault) };
+
     fn fmt<W: fmt::Write>(&self, f: &mut fmt::Formatter<W>) -> fmt::Result {
         f.write_str(match self {
             SystemFault::Overflow { .. } => "a number of a combination is out of range",

@@ -1,12 +1,12 @@
-use Rattle.std.proofs.Common.{◌≡◌, ◌+◌, ◌∙◌, List, ℕ, Ok, get_or, ap, sym, arith, rules}
+use Rattle.std.proofs.Common.{◌+◌, ◌∙◌, List, ℕ, get_or, ap, sym, arith, rules}
 use Rattle.edit_line.specs.declared.derived.Derived.{Derived}
 use Rattle.edit_line.specs.EditSets.{base_lines}
 use Rattle.edit_line.specs.Reductions.{reduce_derived}
-use Rattle.linear_elim.specs.Systems.{chosen_fields, fold_count, fold_result, so_far, system_at}
+use Rattle.linear_elim.specs.Systems.{fold_count, fold_result, so_far, system_at}
 use Rattle.linear_elim.proofs.ShapeLaws.{OneShape-have}
 use Rattle.linear_elim.specs.Told.{told_system}
 use Rattle.linear_elim.proofs.StepLoops.{if_told}
-use Rattle.linear_elim.proofs.SystemLoops.{HaveShape-folded, HaveShape-start, chosen-all, chosen-end, chosen_from, chosen_here, count-more, count-stops, fold-more, fold-stops, lifts-start}
+use Rattle.linear_elim.proofs.SystemLoops.{HaveShape-folded, HaveShape-start, chosen-all, chosen-end, chosen_from, chosen_here, count-more, count-stops, fold-more, fold-stops, lifts-reached}
 use Rattle.linear_elim.proofs.fold.fold_lines.Goals as goal
 
 pub loop-field-init : goal.loop-field-init
@@ -59,23 +59,14 @@ pub returns-in-Some-clause-lifts : goal.returns-in-Some-clause-lifts
 returns-in-Some-clause-lifts g c = λ p.
     let edits = c.args.edits.now in
     let start = c.reduced-base.result.now in
-    let is = c.reduced-base.ensures.exact in
-    let over = HaveShape-start edits.shape edits.lines start c.lines-over.ensures.fit is c.reduced-base.ensures.lines in
-    let reached = so_far (λ v. v.items) start c.loop-field.lines in
-    let reached_is : reached ≡ c.in-Some.lines.items = ap (λ ls. so_far (λ v. v.items) start ls) c.in-Some.is in
     let none = chosen-end c.args.fields c.code_counts-count-items.result.now c.loop-field.field (omega (arith, c.loop-field-test.false)) in
-    let whole = sym c.loop-field.invariant.0 ∙ ap (λ (fs : List ℕ). fold_result reached fs) none ∙ ap (λ (ls : List Derived). Ok ls) reached_is in
-    lifts-start edits.shape edits.lines start c.lines-over.ensures.fit is over c.args.fields c.in-Some.lines.items (ap (λ (ls : List Derived). fold_result ls (chosen_fields edits.shape c.args.fields)) is ∙ whole) p
+    lifts-reached edits.shape edits.lines start c.lines-over.ensures.fit c.reduced-base.ensures.exact c.reduced-base.ensures.lines c.args.fields _ c.in-Some.lines.items _ none c.loop-field.invariant.0
+    (ap (λ ls. so_far (λ v. v.items) start ls) c.in-Some.is) p
 
 pub returns-in_ok-copy_all-in-None-clause-lifts : goal.returns-in_ok-copy_all-in-None-clause-lifts
 returns-in_ok-copy_all-in-None-clause-lifts g c = λ p.
     let edits = c.args.edits.now in
     let start = c.reduced-base.result.now in
-    let is = c.reduced-base.ensures.exact in
-    let over = HaveShape-start edits.shape edits.lines start c.lines-over.ensures.fit is c.reduced-base.ensures.lines in
-    let reached = so_far (λ v. v.items) start c.loop-field.lines in
-    let copy = c.in_ok-copy_all-in-None.field-0.items in
-    let reached_is : reached ≡ copy = ap (λ ls. so_far (λ v. v.items) start ls) c.in-None.is ∙ sym c.in_ok-copy_all-in-None.ensures in
     let none = chosen-end c.args.fields c.code_counts-count-items.result.now c.loop-field.field (omega (arith, c.loop-field-test.false)) in
-    let whole = sym c.loop-field.invariant.0 ∙ ap (λ (fs : List ℕ). fold_result reached fs) none ∙ ap (λ (ls : List Derived). Ok ls) reached_is in
-    lifts-start edits.shape edits.lines start c.lines-over.ensures.fit is over c.args.fields copy (ap (λ (ls : List Derived). fold_result ls (chosen_fields edits.shape c.args.fields)) is ∙ whole) p
+    lifts-reached edits.shape edits.lines start c.lines-over.ensures.fit c.reduced-base.ensures.exact c.reduced-base.ensures.lines c.args.fields _ c.in_ok-copy_all-in-None.field-0.items _ none c.loop-field.invariant.0
+    (ap (λ ls. so_far (λ v. v.items) start ls) c.in-None.is ∙ sym c.in_ok-copy_all-in-None.ensures) p
