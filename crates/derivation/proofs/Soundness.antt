@@ -21,7 +21,8 @@ use Rattle.edit_line.proofs.OtherFields.{inside_but}
 use Rattle.edit_line.proofs.SetLaws.{both_true, is_inside-Decides}
 use Rattle.derivation.specs.Premises.{AgreesAt, HasKept, Premises, usable_lines}
 use Rattle.derivation.specs.Shown.{IsOver, IsShown}
-use Rattle.derivation.specs.ValidSteps.{all_kept, as_box, as_line, combined_line, common_from, covered_box, failed_box, fixed_box, given_line, has_value, is_true, last_from, last_proved, may_combine, only_if, or_place, proved_by, proved_from, steps_result, then_some, whole_box}
+use Rattle.fraction128.specs.Formulas.{then_some}
+use Rattle.derivation.specs.ValidSteps.{all_kept, as_box, as_line, combined_line, common_from, covered_box, failed_box, fixed_box, given_line, has_value, is_true, last_from, last_proved, may_combine, only_if, or_place, proved_by, proved_from, steps_result, whole_box}
 use Rattle.derivation.specs.declared.proved.Proved.{Proved}
 use Rattle.derivation.specs.declared.proved.Proved.TheVariants as proved
 use Rattle.derivation.specs.declared.step.Step.{Step}

@@ -1,6 +1,7 @@
-use Rattle.std.specs.Prelude.{ℕ, suc, ℤ, pos, ◌==◌, ◌&&◌, ◌||◌, Bool, true, false, List, [], ◌∷◌, ◌++◌, Option, Some, None, Result, Ok, Err, is_none, length, int_lt, int_rem, if◌then◌else◌, slice_get, slice_index_or, slice_set}
+use Rattle.std.specs.Prelude.{◌≡◌, ℕ, suc, ℤ, pos, ◌==◌, ◌&&◌, ◌||◌, Bool, true, false, List, [], ◌∷◌, ◌++◌, Option, Some, None, Result, Ok, Err, is_none, length, int_lt, int_rem, if◌then◌else◌, slice_get, slice_index_or, slice_set}
 use Rattle.std.specs.List.{list_all}
 use Rattle.std.specs.Ordering.{int_eq}
+use Rattle.fraction128.specs.Formulas.{then_some}
 use Rattle.edit_model.specs.FieldSets.{has_number}
 use Rattle.edit_model.specs.Rows.{value_of}
 use Rattle.edit_model.specs.declared.value.Value.{Value}
@@ -34,11 +35,6 @@ abbrev pub as_box : Option Proved → Option (List ℕ)
 as_box (Some (proved.Box code_box)) = Some code_box.sets
 as_box (Some (proved.Line line)) = None
 as_box None = None
-
--- what is made of the value, if there is one
-abbrev pub then_some : {A B : Type 0} → Option A → (A → Option B) → Option B
-then_some None make = None
-then_some (Some a) make = make a
 
 -- the value, where the test is true
 abbrev pub only_if : {A : Type 0} → Bool → A → Option A
@@ -163,3 +159,11 @@ last_proved (Err place) = Err place
 -- what the last of the steps proves, where all are valid; or the place of the first that is not, which is 0 where there are no steps
 abbrev pub steps_result : Premises → List Step → Result Proved ℕ
 steps_result p steps = last_proved (proved_from p [] steps)
+
+-- all steps are valid, and the last one proves this
+abbrev pub AreValidSteps : Premises → List Step → Proved → Type 0
+AreValidSteps p steps proved = steps_result p steps ≡ Ok proved
+
+-- the step at this place is the first that is not valid; the place is 0 where there are no steps
+abbrev pub IsFirstInvalid : Premises → List Step → ℕ → Type 0
+IsFirstInvalid p steps place = steps_result p steps ≡ Err place

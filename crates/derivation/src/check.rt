@@ -6,7 +6,7 @@ ghost use Rattle.derivation.specs.Bases.{IsBasis, premises};
 ghost use Rattle.derivation.specs.Meanings.{AllOver, meaning, meant};
 ghost use Rattle.derivation.specs.Premises.{HasKept, premises_of};
 ghost use Rattle.derivation.specs.Shown.{IsOver, IsShown};
-ghost use Rattle.derivation.specs.ValidSteps.{last_proved, proved_by, proved_from, steps_result};
+ghost use Rattle.derivation.specs.ValidSteps.{AreValidSteps, IsFirstInvalid, last_proved, proved_by, proved_from};
 
 use crate::basis::Basis;
 use crate::combining::{Multipliers, combined};
@@ -42,8 +42,8 @@ pub fn check_steps(
     requires over { AreOver (shape_of survey.now.fields) given.now }
     requires row { IsRow survey.now.fields row.now }
     requires kept { HasKept row.now kept }
-    ensures proved { IfOk result (λ proved. steps_result (premises_of (shape_of survey.now.fields) given.now usable.now row.now kept) steps.now ≡ Ok proved) }
-    ensures bad { (place : ℕ) → result ≡ Err (StepsFault.Bad place) → steps_result (premises_of (shape_of survey.now.fields) given.now usable.now row.now kept) steps.now ≡ Err place }
+    ensures proved { IfOk result (λ proved. AreValidSteps (premises_of (shape_of survey.now.fields) given.now usable.now row.now kept) steps.now proved) }
+    ensures bad { (place : ℕ) → result ≡ Err (StepsFault.Bad place) → IsFirstInvalid (premises_of (shape_of survey.now.fields) given.now usable.now row.now kept) steps.now place }
     ensures named { (place : ℕ) → result ≡ Err (StepsFault.Bad place) → ((steps.now ≡ []) × (place ≡ 0)) ⊎ (place < length steps.now) }
     ensures shown { IfOk result (λ proved. IsShown (premises_of (shape_of survey.now.fields) given.now usable.now row.now kept) proved) }
     ensures over { IfOk result (λ proved. IsOver (shape_of survey.now.fields) proved) }

@@ -4,7 +4,8 @@ ghost use Rattle.edit_line.specs.Sets.{AreWithin};
 ghost use Rattle.edit_line.specs.Shapes.{code_fields, shape_of, whole_sets};
 ghost use Rattle.derivation.specs.Bases.{IsBasis, premises};
 ghost use Rattle.derivation.specs.Meanings.{AllOver, meaning, meant, place_there};
-ghost use Rattle.derivation.specs.ValidSteps.{common_from, covered_box, covered_sets, part_with, then_some};
+ghost use Rattle.fraction128.specs.Formulas.{then_some};
+ghost use Rattle.derivation.specs.ValidSteps.{common_from, covered_box, covered_sets, part_with};
 
 use crate::basis::Basis;
 use crate::code_field::{place_of, size_of};

@@ -5,7 +5,7 @@ use Rattle.edit_line.specs.Places.{place_of}
 use Rattle.edit_line.specs.Reductions.{reduce_derived}
 use Rattle.edit_line.specs.Shapes.{number_fields}
 use Rattle.edit_line.specs.declared.derived.Derived.{Derived}
-use Rattle.edit_line.specs.Combinations.{first_overflow, sum_fits, unless_overflow}
+use Rattle.edit_line.specs.Combinations.{numbers, first_overflow, sum_fits, unless_overflow}
 use Rattle.linear_elim.specs.Combinations.{combined_with, first_multiplier, is_lower, second_multiplier}
 use Rattle.linear_elim.specs.Overflows.{AllPairsFit, IsFirstOverflow, IsFirstPlace, IsFoldOverflow, overflow_of}
 use Rattle.linear_elim.specs.Systems.{SystemOverflow, fold_result, next_result, system_of}
@@ -109,6 +109,38 @@ module _ (f i : ℕ) (s : Derived) (j : ℕ) (t : Derived) where
       by true (Some number) opposite leaves e = record { opposite = opposite; number = number; leaves = leaves; told = err_same _ o _ refl e }
       by false found opposite leaves e = absurd (cc)
 
+-- ---- the first place of one pair
+
+-- a place that is told is the first at which a number leaves the range
+first-place : (i : ℕ) (m n : ℤ) (first second : List ℤ) (k : ℕ) → first_overflow i m n first second ≡ Some k → (place : ℕ) × (k ≡ i + place) × IsFirstPlace m n first second place
+first-place i m n [] second k e = absurd (cc)
+first-place i m n (a ∷ first) [] k e = absurd (cc)
+first-place i m n (a ∷ first) (b ∷ second) k e = by (sum_fits m n a b) refl e (first-place (suc i) m n first second k)
+  where
+    none : (j : ℕ) → j < 0 → ⊥
+    none j h = omega arith
+
+    by : (fits : Bool) → sum_fits m n a b ≡ fits → (if fits then first_overflow (suc i) m n first second else Some i) ≡ Some k
+        → (first_overflow (suc i) m n first second ≡ Some k → (place : ℕ) × (k ≡ suc i + place) × IsFirstPlace m n first second place)
+        → (place : ℕ) × (k ≡ i + place) × IsFirstPlace m n (a ∷ first) (b ∷ second) place
+    by false here e later = (0, some_same k i (Some i) e refl ∙ own_number i, record { here = here; within = omega arith; earlier = λ j below. absurd (none j below) })
+    by true here e later =
+        let (place, is, found) = later e in
+        (suc place, is ∙ next_number i place, record { here = found.here; within = omega (arith, found.within); earlier = before place found })
+      where
+        before : (place : ℕ) → IsFirstPlace m n first second place → (j : ℕ) → j < suc place → sum_fits m n (get_or (a ∷ first) j (pos 0)) (get_or (b ∷ second) j (pos 0)) ≡ true
+        before place found zero below = here
+        before place found (suc j) below = found.earlier j (omega arith)
+
+-- of two lines, the number that is told
+pub overflow-first : (m n : ℤ) (first second : List ℤ) (k : ℕ) → first_overflow 0 m n first second ≡ Some k → IsFirstPlace m n first second k
+overflow-first m n first second k e =
+    let (place, is, found) = first-place 0 m n first second k e in
+    subst (λ j. IsFirstPlace m n first second j) (sym (is ∙ from_start_of place)) found
+  where
+    from_start_of : (j : ℕ) → 0 + j ≡ j
+    from_start_of j = omega arith
+
 -- ---- one row, and all
 
 module _ (lines : List Derived) (f : ℕ) where
@@ -156,6 +188,7 @@ module _ (lines : List Derived) (f : ℕ) where
             combined = record { lower = lower; opposite = shown.opposite };
             number = shown.number;
             leaves = shown.leaves;
+            first_place = overflow-first _ _ (numbers row.x.line) (numbers pair.x.line) shown.number shown.leaves;
             place = sym (ap (λ (p : StepOverflow). p.place) shown.told);
             earlier_rows = λ i j below s t s_at t_at pair_is.
                 let (zs, is) = row.before i s (omega (arith, first, below)) s_at in
@@ -181,38 +214,6 @@ module _ (lines : List Derived) (f : ℕ) where
       by : (r : Result (List Derived) StepOverflow) → step_result lines f ≡ r → (ys : List Derived) × (r ≡ Ok ys)
       by (Ok ys) is = (ys, refl)
       by (Err o) is = let shown = step-overflows o is in absurd (clash shown.number _ shown.leaves (fits o.first o.second shown.s shown.t shown.first shown.second shown.combined))
-
--- ---- the first place of one pair
-
--- a place that is told is the first at which a number leaves the range
-first-place : (i : ℕ) (m n : ℤ) (first second : List ℤ) (k : ℕ) → first_overflow i m n first second ≡ Some k → (place : ℕ) × (k ≡ i + place) × IsFirstPlace m n first second place
-first-place i m n [] second k e = absurd (cc)
-first-place i m n (a ∷ first) [] k e = absurd (cc)
-first-place i m n (a ∷ first) (b ∷ second) k e = by (sum_fits m n a b) refl e (first-place (suc i) m n first second k)
-  where
-    none : (j : ℕ) → j < 0 → ⊥
-    none j h = omega arith
-
-    by : (fits : Bool) → sum_fits m n a b ≡ fits → (if fits then first_overflow (suc i) m n first second else Some i) ≡ Some k
-        → (first_overflow (suc i) m n first second ≡ Some k → (place : ℕ) × (k ≡ suc i + place) × IsFirstPlace m n first second place)
-        → (place : ℕ) × (k ≡ i + place) × IsFirstPlace m n (a ∷ first) (b ∷ second) place
-    by false here e later = (0, some_same k i (Some i) e refl ∙ own_number i, record { here = here; within = omega arith; earlier = λ j below. absurd (none j below) })
-    by true here e later =
-        let (place, is, found) = later e in
-        (suc place, is ∙ next_number i place, record { here = found.here; within = omega (arith, found.within); earlier = before place found })
-      where
-        before : (place : ℕ) → IsFirstPlace m n first second place → (j : ℕ) → j < suc place → sum_fits m n (get_or (a ∷ first) j (pos 0)) (get_or (b ∷ second) j (pos 0)) ≡ true
-        before place found zero below = here
-        before place found (suc j) below = found.earlier j (omega arith)
-
--- of two lines, the number that is told
-pub overflow-first : (m n : ℤ) (first second : List ℤ) (k : ℕ) → first_overflow 0 m n first second ≡ Some k → IsFirstPlace m n first second k
-overflow-first m n first second k e =
-    let (place, is, found) = first-place 0 m n first second k e in
-    subst (λ j. IsFirstPlace m n first second j) (sym (is ∙ from_start_of place)) found
-  where
-    from_start_of : (j : ℕ) → 0 + j ≡ j
-    from_start_of j = omega arith
 
 -- ---- the fold
 

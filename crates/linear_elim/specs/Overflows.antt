@@ -25,6 +25,12 @@ PairFits lines f i j = (s t : Derived) → slice_get lines i ≡ Some s → slic
 abbrev pub AllPairsFit : List Derived → ℕ → Type 0
 AllPairsFit lines f = (i j : ℕ) → PairFits lines f i j
 
+-- the number at this place of the combination leaves the range, and no earlier one does
+pub record IsFirstPlace (m n : ℤ) (first second : List ℤ) (place : ℕ) : Type 0 where
+  pub here : sum_fits m n (get_or first place (pos 0)) (get_or second place (pos 0)) ≡ false
+  pub within : place < length first
+  pub earlier : (k : ℕ) → k < place → sum_fits m n (get_or first k (pos 0)) (get_or second k (pos 0)) ≡ true
+
 -- the overflow is at the first pair of lines whose combination leaves the range, and at the first place there
 pub record IsFirstOverflow (lines : List Derived) (f : ℕ) (o : StepOverflow) : Type 0 where
   pub s : Derived
@@ -34,6 +40,7 @@ pub record IsFirstOverflow (lines : List Derived) (f : ℕ) (o : StepOverflow) :
   pub combined : AreCombined f s.line t.line
   pub number : ℕ
   pub leaves : overflow_of s.line t.line f ≡ Some number
+  pub first_place : IsFirstPlace (first_multiplier s.line t.line f) (second_multiplier s.line t.line f) (numbers s.line) (numbers t.line) number
   pub place : o.place ≡ place_of (number_fields s.line.shape) number
   pub earlier_rows : (i j : ℕ) → i < o.first → PairFits lines f i j
   pub earlier_pairs : (j : ℕ) → j < o.second → PairFits lines f o.first j
@@ -46,9 +53,3 @@ pub record IsFoldOverflow (lines : List Derived) (fields : List ℕ) (o : System
   pub reached : List Derived
   pub reached_are : fold_result lines before ≡ Ok reached
   pub overflow : IsFirstOverflow reached o.field o.step
-
--- the number at this place of the combination leaves the range, and no earlier one does
-pub record IsFirstPlace (m n : ℤ) (first second : List ℤ) (place : ℕ) : Type 0 where
-  pub here : sum_fits m n (get_or first place (pos 0)) (get_or second place (pos 0)) ≡ false
-  pub within : place < length first
-  pub earlier : (k : ℕ) → k < place → sum_fits m n (get_or first k (pos 0)) (get_or second k (pos 0)) ≡ true

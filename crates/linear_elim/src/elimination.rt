@@ -7,7 +7,7 @@ ghost use Rattle.edit_line.specs.Shapes.{Domain, IsNumerical, domains_of};
 ghost use Rattle.linear_elim.specs.Answers.{Answers, TakesIn};
 ghost use Rattle.linear_elim.specs.Combinations.{is_lower};
 ghost use Rattle.linear_elim.specs.Origins.{AllComeFrom};
-ghost use Rattle.linear_elim.specs.Overflows.{IsFirstOverflow};
+ghost use Rattle.linear_elim.specs.Overflows.{AllPairsFit, IsFirstOverflow};
 ghost use Rattle.linear_elim.specs.PointChanges.{CanHoldAt};
 ghost use Rattle.linear_elim.specs.Steps.{OneShape, collect, flat_from, is_opposite, pair_result, pairs_count, row_count, row_result, step_result};
 ghost use Rattle.linear_elim.specs.Told.{told_step};
@@ -34,6 +34,7 @@ pub fn step(alloc: Global, lines: &[Derived], field: u32) -> Result<Vec<Derived>
     ensures over { IfOk result (λ v. (shape : List Domain) → HaveShape shape (lines_of lines.now) → HaveShape shape (lines_of v.items)) }
     ensures lifts { IfOk result (λ v. (shape : List Domain) (p : Point) → HaveShape shape (lines_of lines.now) → IsNumerical shape field
         → AllHold (lines_of v.items) p ↔ CanHoldAt (lines_of lines.now) field p) }
+    ensures fits { IfOk result (λ v. AllPairsFit lines.now field) }
     ensures overflow { IfErr result (λ fault. IfSome (told_step fault) (λ o. IsFirstOverflow lines.now field o)) }
     ensures origins { IfOk result (λ v. (shape : List Domain) → HaveShape shape (lines_of lines.now) → AllComeFrom lines.now v.items) }
 {

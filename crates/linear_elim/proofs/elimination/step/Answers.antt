@@ -1,7 +1,7 @@
 use Rattle.linear_elim.specs.Steps.{step_result}
 use Rattle.linear_elim.specs.Told.{told_step}
 use Rattle.linear_elim.proofs.StepClauses.{if_err-fault, if_ok-lines}
-use Rattle.linear_elim.proofs.OverflowLaws.{step-overflows}
+use Rattle.linear_elim.proofs.OverflowLaws.{step-fits, step-overflows}
 use Rattle.linear_elim.proofs.OriginLaws.{origins-result}
 use Rattle.linear_elim.proofs.ResultLaws.{HaveShape-result, lifts-result}
 use Rattle.linear_elim.proofs.elimination.step.Goals as goal
@@ -18,3 +18,6 @@ returns-clause-origins c = if_ok-lines (λ v. v.items) told_step (step_result c.
 pub returns-clause-overflow : goal.returns-clause-overflow
 returns-clause-overflow c =
     if_err-fault (λ v. v.items) told_step (step_result c.args.lines.now c.args.field) c.step_from.result (λ o is. step-overflows c.args.lines.now c.args.field o is) c.step_from.ensures.exact
+
+pub returns-clause-fits : goal.returns-clause-fits
+returns-clause-fits c = if_ok-lines (λ v. v.items) told_step (step_result c.args.lines.now c.args.field) c.step_from.result (λ v is. step-fits c.args.lines.now c.args.field v.items is) c.step_from.ensures.exact
