@@ -1,4 +1,4 @@
-use Rattle.std.specs.Prelude.{ℕ, zero, suc, ◌+◌, ◌-◌, ◌*◌, ◌/◌, ◌%◌, Bool, false, List, [], ◌∷◌, ℤ, map, pos, negsuc, if◌then◌else◌, nat_lt, replicate, slice_set}
+use Rattle.std.specs.Prelude.{ℕ, zero, suc, ◌+◌, ◌-◌, ◌*◌, ◌/◌, ◌%◌, false, List, [], ◌∷◌, ℤ, map, pos, negsuc, if◌then◌else◌, nat_lt, replicate, slice_set}
 use Rattle.std.specs.List.{range_with_len}
 use Rattle.edit_line.specs.Lines.{LineParts, parts_of}
 use Rattle.edit_line.specs.Shapes.{Categorical, Domain, Numerical}

@@ -1,4 +1,4 @@
-use Rattle.std.specs.Prelude.{ℕ, ◌≤◌}
+use Rattle.std.specs.Prelude.{◌≤◌}
 use Rattle.elimination_bench.specs.Differences.{numbers_of}
 use Rattle.elimination_bench.specs.declared.words.Task.{Task}
 use Rattle.elimination_bench.specs.declared.words.Task.TheVariants.{Fold, Pairs, Steps}

@@ -1,4 +1,4 @@
-use Rattle.std.proofs.Common.{◌≡◌, ap, ◌∙◌, arith}
+use Rattle.std.proofs.Common.{ap, ◌∙◌, arith}
 use Rattle.edit_model.specs.Parts.{SurveyParts}
 use Rattle.edit_line.specs.Shapes.{shape_of}
 use Rattle.elimination_bench.proofs.DifferenceLaws.{codes-last}

@@ -1,8 +1,4 @@
-use Rattle.std.proofs.Common.{◌≡◌, ℕ, ◌≤◌, sym, ap, ◌∙◌, subst, arith}
-use Rattle.edit_line.specs.EditSets.{EditsParts}
-use Rattle.edit_line.specs.Shapes.{IsNumerical}
-use Rattle.linear_elim.specs.Systems.{AreNumerical}
-use Rattle.elimination_bench.specs.Differences.{numbers_of}
+use Rattle.std.proofs.Common.{◌∙◌, arith}
 use Rattle.elimination_bench.proofs.DifferenceLaws.{few-numbers, generated-numerical}
 use Rattle.elimination_bench.proofs.elimination.fold_text.Goals as goal
 

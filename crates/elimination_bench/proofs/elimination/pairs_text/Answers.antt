@@ -1,4 +1,4 @@
-use Rattle.std.proofs.Common.{◌≡◌, List, sym, subst}
+use Rattle.std.proofs.Common.{List, sym, subst}
 use Rattle.std.specs.Arc.{arc_value}
 use Rattle.edit_line.specs.EditSets.{EditsParts}
 use Rattle.edit_line.specs.Lines.{HaveShape}

@@ -1,4 +1,4 @@
-use Rattle.std.proofs.Common.{◌≡◌, List, ap, sym, ◌∙◌, subst}
+use Rattle.std.proofs.Common.{List, ap, sym, ◌∙◌, subst}
 use Rattle.edit_line.specs.EditSets.{EditsParts}
 use Rattle.edit_line.specs.Lines.{AreOver, LineParts}
 use Rattle.edit_line.specs.Shapes.{Domain, shape_of}

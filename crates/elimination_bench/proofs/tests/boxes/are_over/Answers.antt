@@ -1,4 +1,4 @@
-use Rattle.std.proofs.Common.{◌≡◌, All, List, rules, arith, subst}
+use Rattle.std.proofs.Common.{◌≡◌, List, rules, arith, subst}
 use Rattle.std.proofs.lemmas.List.{take_all}
 use Rattle.std.proofs.lemmas.List.Elements.{All-more}
 use Rattle.edit_line.specs.Shapes.{domains_of}
