@@ -2,7 +2,7 @@ ghost use Rattle.std.specs.Prelude.{◌≡◌, ◌≤◌, IfOk, length, nat_lt, 
 ghost use Rattle.std.specs.List.{filter};
 ghost use Rattle.edit_line.specs.Boxes.{IsBox};
 ghost use Rattle.edit_line.specs.Shapes.{domains_of};
-ghost use Rattle.edit_line.specs.CodeFields.{TakesCodes, place_of, size_of, whole_of};
+ghost use Rattle.edit_line.specs.CodeFields.{TakesCodes, place_of, whole_of};
 
 use crate::box_from::BoxFrom;
 use crate::spot::Spot;
@@ -24,14 +24,6 @@ pub(crate) fn spot_of(alloc: Global, shape: Shape, field: u32) -> Result<Spot, O
         place,
         whole,
     })
-}
-
-/// How many codes the field has.
-pub(crate) fn size_of(shape: &Shape, field: u32) -> u8
-    requires { TakesCodes (domains_of shape.now.count shape.now.codes) field }
-    ensures { result ≡ size_of (domains_of shape.now.count shape.now.codes) field }
-{
-    shape.code_counts()[field as usize]
 }
 
 // The field's place among the categorical ones.

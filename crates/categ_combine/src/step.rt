@@ -10,7 +10,7 @@ ghost use Rattle.categ_combine.specs.Each.{each_from};
 ghost use Rattle.categ_combine.specs.Steps.{IsDone, IsPassed};
 
 use crate::box_from::{BoxFrom, BoxOrigin};
-use crate::code_field::{set_at, size_of, spot_of};
+use crate::code_field::{set_at, spot_of};
 use crate::cover::{takes_part, with_code};
 use crate::covered::Covered;
 use crate::reduction::take_in;
@@ -77,7 +77,7 @@ fn step_over(
     ensures fit { IfOk result (λ told. IsDone told (λ left pairs. AreBoxes boxes.now)) }
 {
     let spot = spot_of(alloc, shape, field)?;
-    let size = size_of(&shape, field);
+    let size = shape.size_of(field);
     match covers_of(alloc, boxes, &spot, size, most)? {
         None => Ok(Covered::Passed),
         Some(covers) => {

@@ -10,4 +10,3 @@ pub mod Places
 pub mod Soundness
 pub mod StepLoop
 pub mod WholeBoxes
-pub mod WholeSets

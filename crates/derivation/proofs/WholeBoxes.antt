@@ -5,7 +5,7 @@ use Rattle.edit_line.specs.Shapes.{Domain, code_fields, whole_sets}
 use Rattle.edit_line.proofs.SetLaws.{AreSets-within, AreWithin-length}
 use Rattle.derivation.specs.Meanings.{place_there}
 use Rattle.derivation.proofs.CodePlaces.{place-wholes}
-use Rattle.derivation.proofs.WholeSets.{AreSets-whole, AreSets-wide, AreWithin-common, AreWithin-whole}
+use Rattle.edit_line.proofs.WholeSets.{AreSets-whole, AreSets-wide, AreWithin-common, AreWithin-whole}
 
 -- Boxes that are made whole at the place of a categorical field.
 

@@ -8,9 +8,9 @@ ghost use Rattle.fraction128.specs.Formulas.{then_some};
 ghost use Rattle.derivation.specs.ValidSteps.{common_from, covered_box, covered_sets, part_with};
 
 use crate::basis::Basis;
-use crate::code_field::{place_of, size_of};
+use crate::code_field::place_of;
 use crate::known::{Known, box_at};
-use edit_line::{CodeBox, has_code, has_codes, meets};
+use edit_line::{CodeBox, Shape, has_code, has_codes, meets};
 use foundation::OutOfMemory;
 use std::alloc::Global;
 
@@ -30,7 +30,7 @@ pub(crate) fn covered<'a>(
     let Some(place) = place_of(basis.survey, field) else {
         return Ok(None);
     };
-    if parts.len() != size_of(basis.survey, field) {
+    if parts.len() != Shape::of(basis.survey).size_of(field) as usize {
         return Ok(None);
     }
     match common_sets(alloc, basis, known, place, parts)? {

@@ -15,3 +15,5 @@ pub mod SumCallers
 pub mod SumLaws
 pub mod SumSteps
 pub mod TestLists
+pub mod WholeSets
+pub mod CodeCounts

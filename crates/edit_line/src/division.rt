@@ -7,7 +7,7 @@ ghost use Rattle.edit_line.specs.Divisors as divisors;
 use fraction128::gcd;
 
 /// The greatest common divisor of the numbers, or 1 where they are all 0. They are in range. No memory.
-pub fn divisor_of(factors: &[i128], constant: i128) -> i128
+pub(crate) fn divisor_of(factors: &[i128], constant: i128) -> i128
     requires factors { All InRange factors.now }
     requires constant { InRange constant }
     ensures value { result ≡ divisors.divisor_of factors.now constant }
@@ -19,7 +19,7 @@ pub fn divisor_of(factors: &[i128], constant: i128) -> i128
 }
 
 /// Divides each of the numbers by the positive divisor, toward zero. No memory.
-pub fn divide_all(numbers: &mut Vec<i128>, divisor: i128)
+pub(crate) fn divide_all(numbers: &mut Vec<i128>, divisor: i128)
     requires { pos 0 <ℤ divisor }
     ensures { numbers.new.items ≡ map (λ c. int_div c divisor) numbers.old.items }
 {

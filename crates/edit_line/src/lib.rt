@@ -23,7 +23,7 @@ mod tests;
 pub use code_box::CodeBox;
 pub use code_sets::{all_meet, are_inside, has_code, has_codes, meets};
 pub use derived::{Derived, Origin};
-pub use division::{divide_all, divisor_of, quotient};
+pub use division::quotient;
 pub use edits::Edits;
 pub use line::Line;
 pub use overflow::LineOverflow;

@@ -1,4 +1,5 @@
 ghost use Rattle.std.specs.Prelude.{◌≡◌, ◌≤◌, ◌-◌, ◌^◌, ◌++◌, [], ◌∷◌, All, IfOk, OnOk, length, map};
+ghost use Rattle.edit_line.specs.CodeFields.{size_of};
 ghost use Rattle.edit_line.specs.Shapes.{code_count, domain_with, domains_of, shape_of, whole_sets};
 
 use edit_model::{Kind, Survey};
@@ -38,6 +39,20 @@ impl Shape {
         ensures few_codes { All (λ k. k ≤ 64) result.now }
     {
         &self.codes[..self.count]
+    }
+
+    /// How many codes the field has, none where it is not categorical. No memory.
+    pub fn size_of(&self, field: u32) -> u8
+        ensures size { result ≡ size_of (domains_of self.now.count self.now.codes) field }
+        ensures few { result ≤ 64 }
+    {
+        let counts = self.code_counts();
+        let place = field as usize;
+        if place < counts.len() {
+            counts[place]
+        } else {
+            0
+        }
     }
 
     /// The set of all codes, as bits, of each categorical field, in declared order.

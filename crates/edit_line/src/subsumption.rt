@@ -13,14 +13,14 @@ pub fn subsumes(a: &Line, b: &Line) -> bool
     ensures follows { b.now.shape ≡ a.now.shape → result ≡ true → Follows (a.now ∷ []) b.now }
 {
     are_inside(b.sets(), a.sets())
-        && (is_false(a) || (a.factors() == b.factors() && is_tighter(a, b)))
+        && (is_false(a) || (is_tighter(a, b) && a.factors() == b.factors()))
 }
 
 /// Whether the line has no factor, and always holds. No memory.
 pub(crate) fn is_trivial(line: &Line) -> bool
     ensures { result ≡ is_trivial line.now }
 {
-    has_no_factor(line) && is_enough(line.strict(), line.constant())
+    is_enough(line.strict(), line.constant()) && has_no_factor(line)
 }
 
 /// Whether a number is above 0, or, where it need not be strictly, at least 0.
@@ -34,7 +34,7 @@ pub(crate) fn is_enough(strict: bool, number: i128) -> bool
 fn is_false(line: &Line) -> bool
     ensures { result ≡ is_false line.now }
 {
-    has_no_factor(line) && !is_enough(line.strict(), line.constant())
+    !is_enough(line.strict(), line.constant()) && has_no_factor(line)
 }
 
 // Whether no numerical field stands in the line.

@@ -92,11 +92,7 @@ fn boxes_of(alloc: Global, shape: Shape, plans: &[&[u64]]) -> Result<Vec<BoxFrom
 fn has_code(shape: &Shape, field: u32, code: u8) -> bool
     ensures { result ≡ true → code < size_of (domains_of shape.now.count shape.now.codes) field }
 {
-    let counts = shape.code_counts();
-    if field as usize >= counts.len() {
-        return false;
-    }
-    code < counts[field as usize]
+    code < shape.size_of(field)
 }
 
 /// What the elimination of the field gives of the boxes over fields of these sizes.

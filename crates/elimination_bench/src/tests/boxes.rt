@@ -43,11 +43,7 @@ pub(crate) fn without(
 fn takes_codes(shape: &Shape, field: u32) -> bool
     ensures { result ≡ true → TakesCodes (domains_of shape.now.count shape.now.codes) field }
 {
-    let counts = shape.code_counts();
-    if field as usize >= counts.len() {
-        return false;
-    }
-    0 < counts[field as usize]
+    0 < shape.size_of(field)
 }
 
 fn are_over(shape: Shape, boxes: &[BoxFrom]) -> bool

@@ -1,5 +1,5 @@
 use Rattle.std.proofs.Common.{◌∙◌, arith}
-use Rattle.categ_combine.proofs.SpotLaws.{field-within, place_of-is}
+use Rattle.edit_line.proofs.CodeCounts.{field-within, place_of-is}
 use Rattle.categ_combine.proofs.code_field.place_of.Goals as goal
 
 pub code_fields_before-requires : goal.code_fields_before-requires
