@@ -27,6 +27,12 @@ Fetches files name limit (Err (fetch.TooLong taken)) = (taken ≡ limit + 1) × 
 Fetches files name limit (Err fetch.Failed) = ⊤
 Fetches files name limit (Err fetch.OutOfMemory) = ⊤
 
+-- a refusal for too many bytes says how many were taken: one more than the limit
+abbrev pub TakesOneMore : ℕ → FetchError → Type 0
+TakesOneMore limit (fetch.TooLong taken) = taken ≡ limit + 1
+TakesOneMore limit fetch.Failed = ⊤
+TakesOneMore limit fetch.OutOfMemory = ⊤
+
 -- what a reading of these bytes may answer: all of them, within the limit, or that they are too many
 abbrev pub ReadsWhole : List ℕ → ℕ → Result (Vec ℕ Global) FetchError → Type 0
 ReadsWhole left limit (Ok bytes) = (bytes.items ≡ left) × (length left ≤ limit)

@@ -1,5 +1,5 @@
-ghost use Rattle.std.specs.Prelude.{◌≡◌, ◌≤◌, ◌++◌, ℕ, List, Option, IfOk, IfSome, IsErrOf, length};
-ghost use Rattle.edit_program.specs.Desk.{Files, Asked, Fetches, Stores, BothTell, Rose, fetch_record, store_record};
+ghost use Rattle.std.specs.Prelude.{◌≡◌, ◌≤◌, ◌++◌, ℕ, List, Option, IfErr, IfOk, IfSome, IsErrOf, length};
+ghost use Rattle.edit_program.specs.Desk.{Files, Asked, Fetches, Stores, BothTell, Rose, TakesOneMore, fetch_record, store_record};
 ghost use Rattle.edit_program.specs.declared.desk.calls.FetchError.TheVariants as fetch;
 ghost use Rattle.edit_program.specs.declared.desk.calls.StoreError.TheVariants as store;
 
@@ -65,6 +65,7 @@ pub trait Desk {
     fn fetch(&mut self, alloc: Global, name: &str, limit: u64) -> Result<Vec<u8>, FetchError>
         ensures files { files self.new ≡ files self.old }
         ensures within { IfOk result (λ bytes. length bytes.items ≤ limit) }
+        ensures taken { IfErr result (TakesOneMore limit) }
         ensures bytes { IfSome (files self.old) (λ told. Fetches told name.now limit result) }
         ensures calls { BothTell (calls self.old) (calls self.new) (λ old new. new ≡ old ++ fetch_record name.now result) }
         ensures later { faults self.old ≤ faults self.new }

@@ -1,5 +1,5 @@
-ghost use Rattle.std.specs.Prelude.{◌≡◌, ◌≤◌, ◌<◌, ℕ, None, IfOk, IfSome, IsErrOf, OnOk, length, take, vec_len};
-ghost use Rattle.edit_program.specs.Desk.{ReadsWhole, Rose};
+ghost use Rattle.std.specs.Prelude.{◌≡◌, ◌≤◌, ◌<◌, ℕ, None, IfErr, IfOk, IfSome, IsErrOf, OnOk, length, take, vec_len};
+ghost use Rattle.edit_program.specs.Desk.{ReadsWhole, Rose, TakesOneMore};
 ghost use Rattle.std.specs.Io.KnownBytes.{Appends};
 
 use crate::desk::calls::{Desk, FetchError, StoreError};
@@ -94,6 +94,7 @@ fn read_within<F: Read>(
 ) -> Result<Vec<u8>, FetchError>
     requires { 0 < length chunk.old }
     ensures within { IfOk result (λ bytes. length bytes.items ≤ limit) }
+    ensures taken { IfErr result (TakesOneMore limit) }
     ensures bytes { IfSome (F.remaining file.old) (λ left. ReadsWhole left limit result) }
     ensures later { faults.old ≤ faults.new }
     ensures failed { IsErrOf result FetchError.Failed → Rose faults.old faults.new }

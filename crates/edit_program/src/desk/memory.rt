@@ -1,5 +1,5 @@
-ghost use Rattle.std.specs.Prelude.{◌≡◌, ◌⊎◌, ◌+◌, ◌==◌, ◌≤◌, ◌++◌, [], Some, None, IfOk, IfSome, IfNone, IsSome, IsErr, IsErrOf, OnOk, OnErr, length, take, find, option_copied};
-ghost use Rattle.edit_program.specs.Desk.{Fetches, Stores, Rose, SameElsewhere, fetch_record, store_record};
+ghost use Rattle.std.specs.Prelude.{◌≡◌, ◌⊎◌, ◌+◌, ◌==◌, ◌≤◌, ◌++◌, [], Some, None, IfErr, IfOk, IfSome, IfNone, IsSome, IsErr, IsErrOf, OnOk, OnErr, length, take, find, option_copied};
+ghost use Rattle.edit_program.specs.Desk.{Fetches, Stores, Rose, SameElsewhere, TakesOneMore, fetch_record, store_record};
 ghost use Rattle.edit_program.specs.Memory.{under, named_files, next_failure, faults_of};
 
 use crate::desk::calls::{Desk, FetchError, StoreError};
@@ -84,6 +84,7 @@ impl Desk for MemoryDesk {
     fn fetch(&mut self, alloc: Global, name: &str, limit: u64) -> Result<Vec<u8>, FetchError>
         ensures files { self.new.files ≡ self.old.files }
         ensures within { IfOk result (λ bytes. length bytes.items ≤ limit) }
+        ensures taken { IfErr result (TakesOneMore limit) }
         ensures bytes { Fetches (under self.old.files) name.now limit result }
         ensures calls { self.new.calls ≡ self.old.calls ++ fetch_record name.now result }
         ensures later { faults_of self.old ≤ faults_of self.new }
