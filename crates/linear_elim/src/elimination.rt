@@ -22,6 +22,13 @@ use std::alloc::Global;
 use std::marker::Brand;
 use std::sync::ledger::{Blank, Ledger};
 
+/// A line of the given list, and its place there.
+#[derive(Clone, Copy)]
+struct Placed<'a> {
+    place: usize,
+    derived: &'a Derived,
+}
+
 /// One step of Fourier and Motzkin's elimination (Handbook of Statistical Data Editing and Imputation, on
 /// error localisation for mixed data): the lines without the field, in order, and then, for each line that
 /// bounds it from below and each that bounds it from above whose sets all meet, their positive combination
@@ -77,8 +84,12 @@ pub(crate) fn counted_step<L: Ledger>(
     let column = Column::of(head.line.shape(), field);
     let mut kept = flat_lines(alloc, &column, lines)?;
     let mut line = head.line.copy(alloc)?;
-    for (first, s) in lines.iter().enumerate() {
-        take_line(alloc, &column, lines, first, s, &mut line, &mut kept, steps)?;
+    for (first, derived) in lines.iter().enumerate() {
+        let s = Placed {
+            place: first,
+            derived,
+        };
+        take_line(alloc, &column, lines, s, &mut line, &mut kept, steps)?;
     }
     Ok(kept)
 }
@@ -122,22 +133,21 @@ fn take_line<L: Ledger>(
     alloc: Global,
     column: &Column,
     lines: &[Derived],
-    first: usize,
-    s: &Derived,
+    s: Placed,
     line: &mut Line,
     kept: &mut Vec<Derived>,
     steps: &mut Steps<L>,
 ) -> Result<(), StepFault>
-    requires s_over { s.now.line.shape ≡ domains_of column.now.shape.count column.now.shape.codes }
+    requires s_over { s.derived.now.line.shape ≡ domains_of column.now.shape.count column.now.shape.codes }
     requires over { All (λ t. t.line.shape ≡ domains_of column.now.shape.count column.now.shape.codes) lines.now }
     requires line_over { line.old.shape ≡ domains_of column.now.shape.count column.now.shape.codes }
-    ensures exact { TakesIn told_step kept.old.items kept.new.items result (row_result column.now.field lines.now first s.now) }
-    ensures counted { OnOk result (steps.new ≡ steps.old + row_count column.now.field lines.now s.now) }
-    ensures few { steps.new ≤ steps.old + row_count column.now.field lines.now s.now }
+    ensures exact { TakesIn told_step kept.old.items kept.new.items result (row_result column.now.field lines.now s.entry.place s.entry.derived.now) }
+    ensures counted { OnOk result (steps.new ≡ steps.old + row_count column.now.field lines.now s.entry.derived.now) }
+    ensures few { steps.new ≤ steps.old + row_count column.now.field lines.now s.entry.derived.now }
     ensures over { line.new.shape ≡ line.old.shape }
 {
-    if column.is_lower(&s.line) {
-        take_row(alloc, column, lines, first, s, line, kept, steps)
+    if column.is_lower(&s.derived.line) {
+        take_row(alloc, column, lines, s, line, kept, steps)
     } else {
         Ok(())
     }
@@ -149,23 +159,26 @@ fn take_row<L: Ledger>(
     alloc: Global,
     column: &Column,
     lines: &[Derived],
-    first: usize,
-    s: &Derived,
+    s: Placed,
     line: &mut Line,
     kept: &mut Vec<Derived>,
     steps: &mut Steps<L>,
 ) -> Result<(), StepFault>
-    requires lower { is_lower column.now.field s.now.line ≡ true }
-    requires s_over { s.now.line.shape ≡ domains_of column.now.shape.count column.now.shape.codes }
+    requires lower { is_lower column.now.field s.derived.now.line ≡ true }
+    requires s_over { s.derived.now.line.shape ≡ domains_of column.now.shape.count column.now.shape.codes }
     requires over { All (λ t. t.line.shape ≡ domains_of column.now.shape.count column.now.shape.codes) lines.now }
     requires line_over { line.old.shape ≡ domains_of column.now.shape.count column.now.shape.codes }
-    ensures exact { TakesIn told_step kept.old.items kept.new.items result (collect (pair_result column.now.field first s.now) 0 lines.now) }
-    ensures counted { OnOk result (steps.new ≡ steps.old + length (filter (λ t. is_opposite column.now.field s.now.line t.line) lines.now)) }
-    ensures few { steps.new ≤ steps.old + length (filter (λ t. is_opposite column.now.field s.now.line t.line) lines.now) }
+    ensures exact { TakesIn told_step kept.old.items kept.new.items result (collect (pair_result column.now.field s.entry.place s.entry.derived.now) 0 lines.now) }
+    ensures counted { OnOk result (steps.new ≡ steps.old + length (filter (λ t. is_opposite column.now.field s.entry.derived.now.line t.line) lines.now)) }
+    ensures few { steps.new ≤ steps.old + length (filter (λ t. is_opposite column.now.field s.entry.derived.now.line t.line) lines.now) }
     ensures over { line.new.shape ≡ line.old.shape }
 {
-    for (second, t) in lines.iter().enumerate() {
-        take_pair(alloc, column, first, s, second, t, line, kept, steps)?;
+    for (second, derived) in lines.iter().enumerate() {
+        let t = Placed {
+            place: second,
+            derived,
+        };
+        take_pair(alloc, column, s, t, line, kept, steps)?;
     }
     Ok(())
 }
@@ -175,34 +188,33 @@ fn take_row<L: Ledger>(
 fn take_pair<L: Ledger>(
     alloc: Global,
     column: &Column,
-    first: usize,
-    s: &Derived,
-    second: usize,
-    t: &Derived,
+    s: Placed,
+    t: Placed,
     line: &mut Line,
     kept: &mut Vec<Derived>,
     steps: &mut Steps<L>,
 ) -> Result<(), StepFault>
-    requires lower { is_lower column.now.field s.now.line ≡ true }
-    requires s_over { s.now.line.shape ≡ domains_of column.now.shape.count column.now.shape.codes }
-    requires t_over { t.now.line.shape ≡ domains_of column.now.shape.count column.now.shape.codes }
+    requires lower { is_lower column.now.field s.derived.now.line ≡ true }
+    requires s_over { s.derived.now.line.shape ≡ domains_of column.now.shape.count column.now.shape.codes }
+    requires t_over { t.derived.now.line.shape ≡ domains_of column.now.shape.count column.now.shape.codes }
     requires line_over { line.old.shape ≡ domains_of column.now.shape.count column.now.shape.codes }
-    ensures exact { TakesIn told_step kept.old.items kept.new.items result (pair_result column.now.field first s.now second t.now) }
-    ensures counted { steps.new ≡ steps.old + (if is_opposite column.now.field s.now.line t.now.line then 1 else 0) }
+    ensures exact { TakesIn told_step kept.old.items kept.new.items result (pair_result column.now.field s.entry.place s.entry.derived.now t.entry.place t.entry.derived.now) }
+    ensures counted { steps.new ≡ steps.old + (if is_opposite column.now.field s.entry.derived.now.line t.entry.derived.now.line then 1 else 0) }
     ensures over { line.new.shape ≡ line.old.shape }
 {
-    if !is_opposite(column, &s.line, &t.line) {
+    if !is_opposite(column, &s.derived.line, &t.derived.line) {
         return Ok(());
     }
     steps.tick();
-    match combine(line, column, &s.line, &t.line) {
+    let (first, second) = (s.place as u64, t.place as u64);
+    match combine(line, column, &s.derived.line, &t.derived.line) {
         Ok(by) => {
-            take_copy(alloc, kept, line, by.origin(first as u64, second as u64))?;
+            take_copy(alloc, kept, line, by.origin(first, second))?;
             Ok(())
         }
         Err(place) => Err(StepFault::Overflow {
-            first: first as u64,
-            second: second as u64,
+            first,
+            second,
             place: column.place_at(place),
         }),
     }

@@ -7,10 +7,10 @@ use Rattle.linear_elim.proofs.elimination.take_row.Goals as goal
 pub loop-second-preserved : goal.loop-second-preserved
 loop-second-preserved g c =
     let f = c.args.column.now.field in
-    let s = c.args.s.now in
+    let s = c.args.s.derived.now in
     let t = c.index-lines-second.result in
     let p = λ (t : Derived). is_opposite f s.line t.line in
-    let each = pair_result f c.args.first s in
+    let each = pair_result f c.args.s.place s in
     let whole = taken_in c.args.kept.now.items (collect each 0 c.args.lines.now) in
     let done = c.in_ok-take_pair.ensures.exact in
     let count = count-at p c.args.lines.now c.loop-second.second t c.loop-second-test.true c.index-lines-second.is in (
