@@ -1,4 +1,4 @@
-use Rattle.std.proofs.Common.{◌≡◌, ◌+◌, ◌++◌, ◌||◌, not, Bool, true, false, if◌then◌else◌, IsSomeAnd, slice_get, ℕ, zero, suc, List, [], ◌∷◌, ◌⊎◌, inl, inr, Option, Some, None, Result, Ok, Err, refl, sym, ap, ◌∙◌, subst, arith}
+use Rattle.std.proofs.Common.{◌≡◌, ◌+◌, ◌++◌, ◌||◌, not, Bool, true, false, if◌then◌else◌, IsSomeAnd, slice_get, ℕ, suc, List, [], ◌∷◌, ◌⊎◌, inl, inr, Option, Some, None, Result, Ok, Err, refl, sym, ap, ◌∙◌, subst, arith}
 use Rattle.std.specs.List.{filter, fold, list_any}
 use Rattle.edit_line.specs.Lines.{HasShape, HaveShape, factor}
 use Rattle.edit_line.specs.Reductions.{IsIn, lines_of, reduce_derived, with_derived}
@@ -6,7 +6,7 @@ use Rattle.edit_line.specs.Shapes.{Domain}
 use Rattle.edit_line.specs.Subsumption.{is_trivial, subsumes}
 use Rattle.edit_line.specs.declared.derived.Derived.{Derived}
 use Rattle.edit_line.specs.declared.derived.Origin.TheVariants.{Same}
-use Rattle.edit_line.proofs.Members.{all-in, in-all, in-either, in-filter-out}
+use Rattle.edit_line.proofs.Members.{all-in, in-all, in-either, in-filter-out, in-get}
 use Rattle.edit_line.proofs.SetLaws.{both_true}
 use Rattle.edit_line.specs.Combinations.{IsPositiveSum, first_overflow, numbers, unless_overflow}
 use Rattle.linear_elim.specs.Combinations.{combination, combined_with, first_multiplier, is_flat, is_lower, second_multiplier}
@@ -20,14 +20,6 @@ use Rattle.linear_elim.proofs.StepLaws.{above_tells, below_tells}
 -- The origins of a step's lines name what was combined.
 
 -- ---- places in a list
-
-get-in : {X : Type 0} (xs : List X) (k : ℕ) (x : X) → slice_get xs k ≡ Some x → IsIn x xs
-get-in [] k x e = absurd (cc)
-get-in (y ∷ xs) zero x e = inl (sym (some_same e))
-  where
-    some_same : Some y ≡ Some x → y ≡ x
-    some_same h = cc
-get-in (y ∷ xs) (suc k) x e = inr (get-in xs k x e)
 
 some_at : {X : Type 0} (P : X → Type 0) (o : Option X) (x : X) → o ≡ Some x → P x → IsSomeAnd o P
 some_at P o x e h = subst (λ o. IsSomeAnd o P) (sym e) h
@@ -87,7 +79,7 @@ derived-from d lines h = elim (fold-from d [] lines h) [ inl none ↦ absurd non
 
 module _ (shape : List Domain) (lines : List Derived) (f : ℕ) (over : HaveShape shape (lines_of lines)) where
   has : (i : ℕ) (s : Derived) → slice_get lines i ≡ Some s → HasShape shape s.line
-  has i s at = in-all (λ l. HasShape shape l) s.line (lines_of lines) over (in-map (λ (d : Derived). d.line) s lines (get-in lines i s at))
+  has i s at = in-all (λ l. HasShape shape l) s.line (lines_of lines) over (in-map (λ (d : Derived). d.line) s lines (in-get s lines i at))
 
   flat-comes : (i : ℕ) (rest : List Derived) → StandsAt lines i rest → (d : Derived) → IsIn d (flat_from f i rest) → ComesFrom lines d.line d.origin
   flat-comes i [] at d there = absurd there

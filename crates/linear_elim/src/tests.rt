@@ -182,6 +182,8 @@ fn the_trade_survey_without_costs(rt: HostRuntime) -> Result<(), Fail> {
             ]
         )
     );
+    assert_eq!(rt; held.system().fields(), set_of(&[1]));
+    assert_eq!(rt; held.system().edits().lines().len(), TRADE.len());
     let both = system_of(alloc, &TRADE, &[1, 2])?.ok().ok_or("a system")?;
     assert!(rt; has_lines(&both, &[([1, 0, 0, 0, 0, 0], 0, false)]));
     Ok(())
