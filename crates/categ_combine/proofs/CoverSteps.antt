@@ -2,8 +2,9 @@ use Rattle.std.proofs.Common.{◌≡◌, ℕ, ◌<◌, ◌≤◌, ◌&&◌, ◌|
 use Rattle.std.specs.List.{filter, flat_map, fold, list_all, list_any}
 use Rattle.std.proofs.lemmas.Bool.Decides.{Decides-eqb}
 use Rattle.std.proofs.lemmas.List.Folds.{list_any-append}
+use Rattle.edit_model.specs.Points.{has_code}
 use Rattle.edit_line.specs.Reductions.{IsIn}
-use Rattle.edit_line.specs.Sets.{has, has_codes, is_inside}
+use Rattle.edit_line.specs.Sets.{has_codes, is_inside}
 use Rattle.edit_line.proofs.Members.{in-filter-out}
 use Rattle.edit_line.proofs.SetLaws.{both_true}
 use Rattle.categ_combine.specs.BoxLists.{reduce_boxes}
@@ -15,7 +16,7 @@ use Rattle.edit_line.proofs.TestLists.{and-any, and_grouped, any-agree, any-and,
 
 -- Which codes the covers have: some cover has them exactly where, for each code of the field, a box has them with that code.
 
-module _ (place whole : ℕ) (codes : List ℕ) (boxes : List (List ℕ)) (within : place < length codes) (all : has whole (slice_index_or codes place 0) ≡ true) (same : (b : List ℕ) → IsIn b boxes → length b ≡ length codes) where
+module _ (place whole : ℕ) (codes : List ℕ) (boxes : List (List ℕ)) (within : place < length codes) (all : has_code whole (slice_index_or codes place 0) ≡ true) (same : (b : List ℕ) → IsIn b boxes → length b ≡ length codes) where
   -- the codes, with this one at the place, are in a box that is not whole there
   abbrev pub in_other : ℕ → Bool
   in_other code = list_any (λ b. not (is_whole_at place whole b) && is_inside b (slice_set codes place code)) boxes
@@ -33,7 +34,7 @@ module _ (place whole : ℕ) (codes : List ℕ) (boxes : List (List ℕ)) (withi
       any-filter (inside_but place whole codes) (takes_part place whole code) boxes
       ∙ any-agree (λ b. takes_part place whole code b && inside_but place whole codes b) (λ b. not (is_whole_at place whole b) && is_inside b (slice_set codes place code)) boxes (
       λ b there.
-      sym (and_grouped (not (is_whole_at place whole b)) (has (slice_index_or b place 0) code) (inside_but place whole codes b))
+      sym (and_grouped (not (is_whole_at place whole b)) (has_code (slice_index_or b place 0) code) (inside_but place whole codes b))
       ∙ ap (λ t. not (is_whole_at place whole b) && t) (sym (inside-with place whole code b codes (omega (arith, same b there)) within all))
       )
 
@@ -102,7 +103,7 @@ module _ (place whole : ℕ) (codes : List ℕ) (boxes : List (List ℕ)) (withi
   in_whole = list_any (λ b. is_whole_at place whole b && is_inside b codes) boxes
 
   -- which code stands at the place is all the same to such a box
-  any-whole : (code : ℕ) → has whole code ≡ true → list_any (λ b. is_whole_at place whole b && is_inside b (slice_set codes place code)) boxes ≡ in_whole
+  any-whole : (code : ℕ) → has_code whole code ≡ true → list_any (λ b. is_whole_at place whole b && is_inside b (slice_set codes place code)) boxes ≡ in_whole
   any-whole code its =
       any-agree (λ b. is_whole_at place whole b && is_inside b (slice_set codes place code)) (λ b. is_whole_at place whole b && is_inside b codes) boxes (λ b there. by b there (is_whole_at place whole b) refl)
     where
@@ -110,15 +111,15 @@ module _ (place whole : ℕ) (codes : List ℕ) (boxes : List (List ℕ)) (withi
       by b there true e =
           let is : slice_index_or b place 0 ≡ whole = (Decides-eqb (slice_index_or b place 0) whole).0 e in
           inside-with place whole code b codes (omega (arith, same b there)) within all
-          ∙ ap (λ t. t && inside_but place whole codes b) (ap (λ s. has s code) is ∙ its)
+          ∙ ap (λ t. t && inside_but place whole codes b) (ap (λ s. has_code s code) is ∙ its)
           ∙ ap (λ s. is_inside s codes) (set-whole place whole b is)
       by b there false e = refl
 
-  any-at : (code : ℕ) → has whole code ≡ true → list_any (λ b. is_inside b (slice_set codes place code)) boxes ≡ (in_whole || in_other code)
+  any-at : (code : ℕ) → has_code whole code ≡ true → list_any (λ b. is_inside b (slice_set codes place code)) boxes ≡ (in_whole || in_other code)
   any-at code its =
       any-split (λ b. is_inside b (slice_set codes place code)) (is_whole_at place whole) boxes ∙ ap (λ t. t || in_other code) (any-whole code its)
 
-  all-at : (cs : List ℕ) → list_all (has whole) cs ≡ true → list_all (λ c. list_any (λ b. is_inside b (slice_set codes place c)) boxes) cs ≡ (in_whole || list_all in_other cs)
+  all-at : (cs : List ℕ) → list_all (has_code whole) cs ≡ true → list_all (λ c. list_any (λ b. is_inside b (slice_set codes place c)) boxes) cs ≡ (in_whole || list_all in_other cs)
   all-at [] theirs = sym (or_true in_whole)
     where
       or_true : (b : Bool) → (b || true) ≡ true
@@ -135,7 +136,7 @@ module _ (place whole : ℕ) (codes : List ℕ) (boxes : List (List ℕ)) (withi
       apart false b c = refl
 
   -- a box that is left has the codes exactly where, for each code, a box has them with that code
-  pub any-covered : (wholes cs : List ℕ) → length wholes ≤ length codes → slice_index_or wholes place 0 ≡ whole → is_inside wholes codes ≡ true → list_all (has whole) cs ≡ true
+  pub any-covered : (wholes cs : List ℕ) → length wholes ≤ length codes → slice_index_or wholes place 0 ≡ whole → is_inside wholes codes ≡ true → list_all (has_code whole) cs ≡ true
       → list_any (λ b. is_inside b codes) (reduce_boxes (filter (is_whole_at place whole) boxes ++ fold (λ covers code. with_code place whole boxes covers code) (wholes ∷ []) cs))
       ≡ list_all (λ c. list_any (λ b. is_inside b (slice_set codes place c)) boxes) cs
   any-covered wholes cs few is inside theirs =
@@ -151,12 +152,12 @@ module _ (place whole : ℕ) (codes : List ℕ) (boxes : List (List ℕ)) (withi
 
   -- the boxes that have a code at the place, made whole there, have the codes exactly where the boxes have them with that code
   pub any-fixed : (code : ℕ)
-      → list_any (λ b. is_inside b codes) (reduce_boxes (map (λ b. slice_set b place whole) (filter (λ b. has (slice_index_or b place 0) code) boxes)))
+      → list_any (λ b. is_inside b codes) (reduce_boxes (map (λ b. slice_set b place whole) (filter (λ b. has_code (slice_index_or b place 0) code) boxes)))
       ≡ list_any (λ b. is_inside b (slice_set codes place code)) boxes
   any-fixed code =
-      any-reduce (λ b. is_inside b codes) (λ b c. inside-grows b c codes) (map (λ b. slice_set b place whole) (filter (λ b. has (slice_index_or b place 0) code) boxes))
-      ∙ any-map (λ b. is_inside b codes) (λ b. slice_set b place whole) (filter (λ b. has (slice_index_or b place 0) code) boxes)
-      ∙ any-filter (inside_but place whole codes) (λ b. has (slice_index_or b place 0) code) boxes
-      ∙ any-agree (λ b. has (slice_index_or b place 0) code && inside_but place whole codes b) (λ b. is_inside b (slice_set codes place code)) boxes (
+      any-reduce (λ b. is_inside b codes) (λ b c. inside-grows b c codes) (map (λ b. slice_set b place whole) (filter (λ b. has_code (slice_index_or b place 0) code) boxes))
+      ∙ any-map (λ b. is_inside b codes) (λ b. slice_set b place whole) (filter (λ b. has_code (slice_index_or b place 0) code) boxes)
+      ∙ any-filter (inside_but place whole codes) (λ b. has_code (slice_index_or b place 0) code) boxes
+      ∙ any-agree (λ b. has_code (slice_index_or b place 0) code && inside_but place whole codes b) (λ b. is_inside b (slice_set codes place code)) boxes (
       λ b there. sym (inside-with place whole code b codes (omega (arith, same b there)) within all)
       )

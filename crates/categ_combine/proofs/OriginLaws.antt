@@ -1,8 +1,9 @@
 use Rattle.std.proofs.Common.{◌≡◌, ℕ, suc, Bool, true, false, if◌then◌else◌, List, [], ◌∷◌, ◌++◌, inl, inr, length, map, slice_index_or, slice_set, refl, sym, ap, ◌∙◌}
 use Rattle.std.specs.List.{filter, flat_map, fold}
 use Rattle.std.proofs.lemmas.List.{map-append}
+use Rattle.edit_model.specs.Points.{has_code}
 use Rattle.edit_line.specs.Reductions.{IsIn}
-use Rattle.edit_line.specs.Sets.{has, has_codes}
+use Rattle.edit_line.specs.Sets.{has_codes}
 use Rattle.edit_line.specs.Shapes.{Domain}
 use Rattle.edit_line.proofs.Members.{all-in, in-all, in-either}
 use Rattle.categ_combine.specs.BoxLists.{AreBoxesOver, reduce_boxes, sets_of}
@@ -65,8 +66,8 @@ module _ (place whole : ℕ) where
       by true = refl
       by false = refl
 
-  sets-fixed : (code i : ℕ) (b : BoxFrom) → sets_of (fixed_one place whole code i b) ≡ (if has (slice_index_or b.code_box.sets place 0) code then slice_set b.code_box.sets place whole ∷ [] else [])
-  sets-fixed code i b = by (has (slice_index_or b.code_box.sets place 0) code)
+  sets-fixed : (code i : ℕ) (b : BoxFrom) → sets_of (fixed_one place whole code i b) ≡ (if has_code (slice_index_or b.code_box.sets place 0) code then slice_set b.code_box.sets place whole ∷ [] else [])
+  sets-fixed code i b = by (has_code (slice_index_or b.code_box.sets place 0) code)
     where
       by : (t : Bool) → sets_of (if t then from_of b.code_box.shape (slice_set b.code_box.sets place whole) (if is_whole_at place whole b.code_box.sets then Unchanged i else Fixed i) ∷ [] else [])
           ≡ (if t then slice_set b.code_box.sets place whole ∷ [] else [])
@@ -161,6 +162,6 @@ pub sets-fixed_from : (shape : List Domain) (boxes : List BoxFrom) (f code : ℕ
 sets-fixed_from shape boxes f code =
     sets-reduce (each_from (fixed_one (place_of shape f) (whole_of shape f) code) 0 boxes)
     ∙ ap reduce_boxes (
-    sets-each (fixed_one (place_of shape f) (whole_of shape f) code) (λ b. if has (slice_index_or b (place_of shape f) 0) code then slice_set b (place_of shape f) (whole_of shape f) ∷ [] else []) (sets-fixed (place_of shape f) (whole_of shape f) code) 0 boxes
-    ∙ flat-if (λ b. has (slice_index_or b (place_of shape f) 0) code) (λ b. slice_set b (place_of shape f) (whole_of shape f)) (sets_of boxes)
+    sets-each (fixed_one (place_of shape f) (whole_of shape f) code) (λ b. if has_code (slice_index_or b (place_of shape f) 0) code then slice_set b (place_of shape f) (whole_of shape f) ∷ [] else []) (sets-fixed (place_of shape f) (whole_of shape f) code) 0 boxes
+    ∙ flat-if (λ b. has_code (slice_index_or b (place_of shape f) 0) code) (λ b. slice_set b (place_of shape f) (whole_of shape f)) (sets_of boxes)
     )

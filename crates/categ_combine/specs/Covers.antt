@@ -1,7 +1,8 @@
 use Rattle.std.specs.Prelude.{ℕ, ◌+◌, ◌*◌, ◌&&◌, not, Bool, List, [], ◌∷◌, ◌++◌, if◌then◌else◌, length, map, nat_eq, slice_index_or, slice_set}
 use Rattle.std.specs.List.{filter, flat_map, fold}
+use Rattle.edit_model.specs.Points.{has_code}
 use Rattle.edit_line.specs.Boxes.{box_of}
-use Rattle.edit_line.specs.Sets.{has, has_codes}
+use Rattle.edit_line.specs.Sets.{has_codes}
 use Rattle.edit_line.specs.Shapes.{Domain, whole_sets}
 use Rattle.categ_combine.specs.BoxLists.{reduce_boxes, reduce_from}
 use Rattle.edit_line.specs.CodeFields.{codes_of, place_of, whole_of}
@@ -21,7 +22,7 @@ is_whole_at place whole box = nat_eq (slice_index_or box place 0) whole
 
 -- whether the box takes part for the code: it is not whole at the place, and has the code there
 abbrev pub takes_part : ℕ → ℕ → ℕ → List ℕ → Bool
-takes_part place whole code box = not (is_whole_at place whole box) && has (slice_index_or box place 0) code
+takes_part place whole code box = not (is_whole_at place whole box) && has_code (slice_index_or box place 0) code
 
 -- the covers of the codes so far and of one more: their intersections with the boxes that have it, as far as they are not empty
 abbrev pub with_code : ℕ → ℕ → List (List ℕ) → List (List ℕ) → ℕ → List (List ℕ)

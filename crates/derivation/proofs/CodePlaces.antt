@@ -1,7 +1,6 @@
 use Rattle.std.proofs.Common.{◌≡◌, ℕ, suc, ◌+◌, ◌<◌, ◌==◌, ◌||◌, Bool, true, false, cond, not, if◌then◌else◌, List, [], ◌∷◌, Some, None, length, nat_lt, refl, ap, ◌∙◌, arith}
 use Rattle.std.specs.List.{position, position_or_len}
 use Rattle.std.proofs.lemmas.Bool.Decides.{nat_tests}
-use Rattle.edit_model.specs.declared.field.Kind.TheVariants as kind
 use Rattle.edit_line.specs.Shapes.{Domain, code_fields, has_field, place_in, whole_sets}
 use Rattle.edit_line.proofs.ShapeLaws.{length-wholes, place-within}
 use Rattle.derivation.specs.Meanings.{place_there}

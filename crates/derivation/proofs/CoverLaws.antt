@@ -1,9 +1,10 @@
-use Rattle.std.proofs.Common.{◌≡◌, ℕ, zero, suc, ◌+◌, ◌<◌, ◌==◌, ◌&&◌, ◌||◌, Bool, true, false, if◌then◌else◌, List, [], ◌∷◌, Option, Some, None, length, map, slice_get, slice_index_or, refl, sym, ap, ◌∙◌, subst, arith}
+use Rattle.std.proofs.Common.{◌≡◌, ℕ, zero, suc, ◌+◌, ◌<◌, ◌==◌, ◌&&◌, ◌||◌, Bool, true, false, if◌then◌else◌, List, [], ◌∷◌, Option, Some, None, length, map, drop, slice_get, slice_index, slice_index_or, refl, sym, ap, ◌∙◌, subst, add-one, arith}
+use Rattle.std.proofs.Math.Seq.{drop-cons}
 use Rattle.std.proofs.lemmas.Bool.Decides.{Decides-eqb}
-use Rattle.edit_model.specs.Points.{Point}
+use Rattle.edit_model.specs.Points.{Point, has_code}
 use Rattle.edit_line.specs.CodeFields.{place_of, size_from, size_of}
 use Rattle.edit_line.specs.Combinations.{meets}
-use Rattle.edit_line.specs.Sets.{has, is_inside}
+use Rattle.edit_line.specs.Sets.{is_inside}
 use Rattle.edit_line.specs.Shapes.{Categorical, Domain, HasCodes, Numerical, code_fields, codes_at, codes_from, has_field, place_in}
 use Rattle.edit_line.proofs.OtherFields.{inside_but, inside_but-meets}
 use Rattle.edit_line.proofs.SetLaws.{both_true}
@@ -57,12 +58,22 @@ code-below shape point f there held = below-from 0 shape point f there held
 -- ---- boxes
 
 -- codes that are in a box on the other fields, and in its set at the place
-pub inside-put_back : (place whole : ℕ) (sets codes : List ℕ) → has (slice_index_or sets place 0) (slice_index_or codes place 0) ≡ true → inside_but place whole codes sets ≡ true → is_inside sets codes ≡ true
+pub inside-put_back : (place whole : ℕ) (sets codes : List ℕ) → has_code (slice_index_or sets place 0) (slice_index_or codes place 0) ≡ true → inside_but place whole codes sets ≡ true → is_inside sets codes ≡ true
 inside-put_back place whole [] codes at but = refl
 inside-put_back place whole (s ∷ sets) [] at but = refl
-inside-put_back zero whole (s ∷ sets) (code ∷ codes) at but = ap (λ b. b && is_inside sets codes) at ∙ (both_true (has whole code) _ but).1
+inside-put_back zero whole (s ∷ sets) (code ∷ codes) at but = ap (λ b. b && is_inside sets codes) at ∙ (both_true (has_code whole code) _ but).1
 inside-put_back (suc place) whole (s ∷ sets) (code ∷ codes) at but =
-    let (here, rest) = both_true (has s code) _ but in ap (λ b. b && is_inside sets codes) here ∙ inside-put_back place whole sets codes at rest
+    let (here, rest) = both_true (has_code s code) _ but in ap (λ b. b && is_inside sets codes) here ∙ inside-put_back place whole sets codes at rest
+
+-- what the parts from one place on have in common, one part on
+pub common-more : (earlier : List Proved) (at code : ℕ) (parts common sets next : List ℕ) (whole : Option (List ℕ)) → code < length parts → Some sets ≡ part_with earlier at code (slice_index parts code) → next ≡ meets common sets
+    → common_from earlier at code (drop code parts) common ≡ whole → common_from earlier at (code + 1) (drop (code + 1) parts) next ≡ whole
+common-more earlier at code parts common sets next whole below here next_is before = rw (add-one) (
+    ap (λ (ns : List ℕ). common_from earlier at (suc code) (drop (suc code) parts) ns) next_is
+    ∙ ap (λ (o : Option (List ℕ)). then_some o (λ ns. common_from earlier at (suc code) (drop (suc code) parts) (meets common ns))) here
+    ∙ ap (λ (ps : List ℕ). common_from earlier at code ps common) (sym (drop-cons parts code 0 below))
+    ∙ before
+    )
 
 module _ (earlier : List Proved) (at whole : ℕ) (codes : List ℕ) where
   -- codes in what the parts and the sets so far have in common are in the sets so far
@@ -75,16 +86,16 @@ module _ (earlier : List Proved) (at whole : ℕ) (codes : List ℕ) where
 
   -- and, on the other fields, in the sets of the part for each code
   common-part : (code j k : ℕ) (parts common last : List ℕ) → j ≡ code + k → k < length parts → common_from earlier at code parts common ≡ Some last → inside_but at whole codes last ≡ true
-      → (part : ℕ) × (sets : List ℕ) × (as_box (slice_get earlier part) ≡ Some sets) × (has (slice_index_or sets at 0) j ≡ true) × (inside_but at whole codes sets ≡ true)
+      → (part : ℕ) × (sets : List ℕ) × (as_box (slice_get earlier part) ≡ Some sets) × (has_code (slice_index_or sets at 0) j ≡ true) × (inside_but at whole codes sets ≡ true)
   common-part code j k [] common last is below e inside = absurd (omega arith)
   common-part code j zero (part ∷ parts) common last is below e inside =
       let (sets, taken, rest) = was-some (part_with earlier at code part) (λ sets. common_from earlier at (suc code) parts (meets common sets)) last e in
-      let (found, box, only) = was-some (as_box (slice_get earlier part)) (λ sets. only_if (has (slice_index_or sets at 0) code) sets) sets taken in
-      let (here, same) = was-true (has (slice_index_or found at 0) code) found sets only in
+      let (found, box, only) = was-some (as_box (slice_get earlier part)) (λ sets. only_if (has_code (slice_index_or sets at 0) code) sets) sets taken in
+      let (here, same) = was-true (has_code (slice_index_or found at 0) code) found sets only in
       let both = common-before (suc code) parts (meets common sets) last rest inside in
       let first : j ≡ code = omega arith in
       let apart = (both_true (inside_but at whole codes common) _ (sym (inside_but-meets at whole common sets codes) ∙ both)).1 in
-      (part, found, box, ap (λ c. has (slice_index_or found at 0) c) first ∙ here, ap (λ (s : List ℕ). inside_but at whole codes s) same ∙ apart)
+      (part, found, box, ap (λ c. has_code (slice_index_or found at 0) c) first ∙ here, ap (λ (s : List ℕ). inside_but at whole codes s) same ∙ apart)
   common-part code j (suc k) (part ∷ parts) common last is below e inside =
       let (sets, taken, rest) = was-some (part_with earlier at code part) (λ sets. common_from earlier at (suc code) parts (meets common sets)) last e in
       common-part (suc code) j k parts (meets common sets) last (omega arith) (omega arith) rest inside

@@ -2,7 +2,7 @@ use Rattle.std.proofs.Common.{◌≡◌, ℕ, zero, suc, ◌⊎◌, inl, inr, �
 use Rattle.std.proofs.lemmas.Bool.Decides.{Decides-eqb}
 use Rattle.edit_model.specs.Corrections.{differs_from}
 use Rattle.edit_model.specs.FieldSets.{has_number}
-use Rattle.edit_model.specs.Points.{Point}
+use Rattle.edit_model.specs.Points.{Point, has_code}
 use Rattle.edit_model.specs.Rows.{IsRow, value_of}
 use Rattle.edit_model.specs.declared.field.Field.{Field}
 use Rattle.edit_model.specs.declared.value.Value.{Value}
@@ -13,7 +13,7 @@ use Rattle.edit_line.specs.Combinations.{sum_of}
 use Rattle.edit_line.specs.Divisors.{divided_by}
 use Rattle.edit_line.specs.Lines.{AllHold, AreOver, LineHolds, LineParts}
 use Rattle.edit_line.specs.Reductions.{IsIn}
-use Rattle.edit_line.specs.Sets.{AllInside, has, has_codes, is_inside}
+use Rattle.edit_line.specs.Sets.{AllInside, has_codes, is_inside}
 use Rattle.edit_line.specs.Shapes.{Domain, HasCodes, code_fields, codes_at, has_field, number_fields, shape_of, whole_sets}
 use Rattle.edit_line.specs.Sums.{fails_at}
 use Rattle.edit_line.proofs.Members.{in-all, in-either, in-get}
@@ -67,13 +67,13 @@ was-box (Some (proved.Line line)) sets e = absurd (cc)
 was-box (Some (proved.Box code_box)) sets e = (code_box, refl, cc)
 
 -- a set that has the record's code has the code of a point that agrees with it
-value-code : (set : ℕ) (v : Value) (point : Point) (f : ℕ) → has_value set v ≡ true → differs_from v point f ≡ false → has set (point.code f) ≡ true
+value-code : (set : ℕ) (v : Value) (point : Point) (f : ℕ) → has_value set v ≡ true → differs_from v point f ≡ false → has_code set (point.code f) ≡ true
 value-code set Bad point f there agrees = absurd (cc)
 value-code set (Number x) point f there agrees = absurd (cc)
 value-code set (Code code) point f there agrees = by (code == point.code f) refl agrees
   where
-    by : (b : Bool) → (code == point.code f) ≡ b → not b ≡ false → has set (point.code f) ≡ true
-    by true e h = ap (λ c. has set c) (sym ((Decides-eqb code (point.code f)).0 e)) ∙ there
+    by : (b : Bool) → (code == point.code f) ≡ b → not b ≡ false → has_code set (point.code f) ≡ true
+    by true e h = ap (λ c. has_code set c) (sym ((Decides-eqb code (point.code f)).0 e)) ∙ there
     by false e h = absurd (cc)
 
 -- the line, or the box, is shown, and is over the fields
@@ -169,7 +169,7 @@ module _ (p : Premises) where
           let (has_it, same) = was-true (has_value (slice_index_or sets (place_of p.shape field) 0) (value_of p.row field)) (whole_box p.shape field sets) x rest in
           subst (λ (y : Proved). IsKnown p y) same (whole-known field sets (λ point held agrees hold inside.
           let own = value-code (slice_index_or sets (place_of p.shape field) 0) (value_of p.row field) point field has_it (agrees field keeps) in
-          let at_place = ap (λ c. has (slice_index_or sets (place_of p.shape field) 0) c) (code-at p.shape point field there) ∙ own in
+          let at_place = ap (λ c. has_code (slice_index_or sets (place_of p.shape field) 0) c) (code-at p.shape point field there) ∙ own in
           box-known earlier part sets known found point held agrees hold (inside-put_back (place_of p.shape field) (whole_of p.shape field) sets (codes_at p.shape point) at_place inside)))
 
 -- ---- lists of steps

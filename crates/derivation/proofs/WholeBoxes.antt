@@ -1,4 +1,4 @@
-use Rattle.std.proofs.Common.{◌≡◌, ℕ, ◌<◌, true, List, Some, length, slice_index_or, slice_set, sym, ap, ◌∙◌, subst, arith}
+use Rattle.std.proofs.Common.{◌≡◌, ℕ, ◌<◌, true, List, Some, length, slice_index_or, slice_set, sym, ap, subst, arith}
 use Rattle.edit_line.specs.Combinations.{meets}
 use Rattle.edit_line.specs.Sets.{AreSets, AreWithin, has_codes}
 use Rattle.edit_line.specs.Shapes.{Domain, code_fields, whole_sets}
@@ -15,21 +15,14 @@ within-box shape own place sets read below over are is =
     omega (arith, below, AreWithin-length sets (whole_sets own) (AreSets-wide sets (whole_sets own) are), ap length is, ap (λ (s : List Domain). length (whole_sets s)) over)
 
 -- sets that are within the whole sets are as many as those of a box
-pub as-many : (shape own : List Domain) (common sets read : List ℕ) → AreWithin common (whole_sets shape) → own ≡ shape → AreSets sets (whole_sets own) → read ≡ sets → length common ≡ length read
-as-many shape own common sets read within over are is =
-    omega (
-      arith,
-      AreWithin-length common (whole_sets shape) within,
-      AreWithin-length sets (whole_sets own) (AreSets-wide sets (whole_sets own) are),
-      ap length is,
-      ap (λ (s : List Domain). length (whole_sets s)) over,
-    )
+pub as-many : (wholes common sets : List ℕ) → AreWithin common wholes → AreSets sets wholes → length sets ≡ length common
+as-many wholes common sets within are =
+    omega (arith, AreWithin-length common wholes within, AreWithin-length sets wholes (AreSets-wide sets wholes are))
 
 -- and what they have in common with it is within the whole sets
-pub still-within : (shape own : List Domain) (common sets read next : List ℕ) → AreWithin common (whole_sets shape) → own ≡ shape → AreSets sets (whole_sets own) → read ≡ sets → next ≡ meets common read → AreWithin next (whole_sets shape)
-still-within shape own common sets read next within over are is next_is =
-    subst (λ (ns : List ℕ). AreWithin ns (whole_sets shape)) (sym (next_is ∙ ap (λ (rs : List ℕ). meets common rs) is))
-    (AreWithin-common common sets (whole_sets shape) within (AreSets-wide sets (whole_sets shape) (subst (λ (s : List Domain). AreSets sets (whole_sets s)) over are)))
+pub still-within : (wholes common sets next : List ℕ) → AreWithin common wholes → AreSets sets wholes → next ≡ meets common sets → AreWithin next wholes
+still-within wholes common sets next within are next_is =
+    subst (λ (ns : List ℕ). AreWithin ns wholes) (sym next_is) (AreWithin-common common sets wholes within (AreSets-wide sets wholes are))
 
 module _ (shape : List Domain) (f place : ℕ) (wholes : List ℕ) (at : place_there (code_fields shape) f ≡ Some place) (wholes_are : wholes ≡ whole_sets shape) where
   -- the place is within the sets

@@ -6,12 +6,13 @@ use Rattle.edit_model.specs.FieldSets.{has_number}
 use Rattle.edit_model.specs.Rows.{value_of}
 use Rattle.edit_model.specs.declared.value.Value.{Value}
 use Rattle.edit_model.specs.declared.value.Value.TheVariants.{Bad, Code, Number}
+use Rattle.edit_model.specs.Points.{has_code}
 use Rattle.edit_line.specs.Boxes.{box_of}
 use Rattle.edit_line.specs.CodeFields.{place_of, size_of, whole_of}
 use Rattle.edit_line.specs.Combinations.{all_meet, first_overflow, meets, numbers, sum_of}
 use Rattle.edit_line.specs.Divisors.{divided_by}
 use Rattle.edit_line.specs.Lines.{LineParts}
-use Rattle.edit_line.specs.Sets.{has, has_codes}
+use Rattle.edit_line.specs.Sets.{has_codes}
 use Rattle.edit_line.specs.Shapes.{Domain, code_fields, has_field, number_fields, whole_sets}
 use Rattle.edit_line.specs.Sums.{fails_at}
 use Rattle.derivation.specs.Premises.{Premises}
@@ -89,7 +90,7 @@ whole_box shape field sets = proved.Box (box_of shape (slice_set sets (place_of 
 
 -- the box that was proved at a place, if it has the code at the field
 abbrev pub part_with : List Proved → ℕ → ℕ → ℕ → Option (List ℕ)
-part_with earlier at code part = then_some (as_box (slice_get earlier part)) (λ sets. only_if (has (slice_index_or sets at 0) code) sets)
+part_with earlier at code part = then_some (as_box (slice_get earlier part)) (λ sets. only_if (has_code (slice_index_or sets at 0) code) sets)
 
 -- what the boxes of these parts, one for each code from this one on, have in common with the sets so far
 abbrev pub common_from : List Proved → ℕ → ℕ → List ℕ → List ℕ → Option (List ℕ)
@@ -109,7 +110,7 @@ covered_box p earlier field parts =
 
 -- whether a set has the code that is the value
 abbrev pub has_value : ℕ → Value → Bool
-has_value set (Code code) = has set code
+has_value set (Code code) = has_code set code
 has_value set (Number x) = false
 has_value set Bad = false
 

@@ -1,16 +1,14 @@
-ghost use Rattle.std.specs.Prelude.{◌≡◌, ◌<◌, ◌≤◌, IfOk, IfSome, None, Some, length, map, option_map};
-ghost use Rattle.edit_line.specs.Combinations.{meets};
-ghost use Rattle.edit_line.specs.Sets.{AreWithin};
-ghost use Rattle.edit_line.specs.Shapes.{code_fields, shape_of, whole_sets};
+ghost use Rattle.std.specs.Prelude.{◌≡◌, ◌≤◌, IfOk, IfSome, List, Some, length, map, option_map};
+ghost use Rattle.edit_line.specs.Sets.{AreSets, AreWithin};
+ghost use Rattle.edit_line.specs.Shapes.{Domain, code_fields, shape_of, whole_sets};
 ghost use Rattle.derivation.specs.Bases.{IsBasis, premises};
 ghost use Rattle.derivation.specs.Meanings.{AllOver, meaning, meant, place_there};
-ghost use Rattle.fraction128.specs.Formulas.{then_some};
 ghost use Rattle.derivation.specs.ValidSteps.{common_from, covered_box, covered_sets, part_with};
 
 use crate::basis::Basis;
 use crate::code_field::place_of;
 use crate::known::{Known, box_at};
-use edit_line::{CodeBox, Shape, has_code, has_codes, meets};
+use edit_line::{CodeBox, Shape, has_code, has_codes, narrow};
 use foundation::OutOfMemory;
 use std::alloc::Global;
 
@@ -69,43 +67,28 @@ fn common_sets(
 ) -> Result<Option<Vec<u64>>, OutOfMemory>
     requires basis { IsBasis basis.now }
     requires over { AllOver (shape_of basis.now.survey.now.fields) known.now }
-    requires place { place < length (whole_sets (shape_of basis.now.survey.now.fields)) }
     requires few { length parts.now ≤ 64 }
     ensures common { IfOk result (λ found. option_map (λ v. v.items) found ≡ common_from (map meaning known.now) place 0 parts.now (whole_sets (shape_of basis.now.survey.now.fields))) }
     ensures within { IfOk result (λ found. IfSome found (λ sets. AreWithin sets.items (whole_sets (shape_of basis.now.survey.now.fields)))) }
 {
     let mut common = Vec::from_slice(alloc, basis.wholes)?;
     for (code, part) in parts.iter().enumerate() {
-        let next = with_part(alloc, basis, known, place, code as u8, *part, &common)?;
-        let Some(sets) = next else {
+        let Some(sets) = part_with(known, place, code as u8, *part) else {
             return Ok(None);
         };
-        common = sets;
+        narrow(&mut common, sets);
     }
     Ok(Some(common))
 }
 
-// What the sets have in common with the box of a part, if that has the code at the place.
-fn with_part(
-    alloc: Global,
-    basis: &Basis,
-    known: &[Known],
-    place: usize,
-    code: u8,
-    part: u64,
-    common: &[u64],
-) -> Result<Option<Vec<u64>>, OutOfMemory>
-    requires over { AllOver (shape_of basis.now.survey.now.fields) known.now }
-    requires place { place < length (whole_sets (shape_of basis.now.survey.now.fields)) }
-    requires within { AreWithin common.now (whole_sets (shape_of basis.now.survey.now.fields)) }
-    ensures common { IfOk result (λ found. option_map (λ v. v.items) found ≡ then_some (part_with (map meaning known.now) place code part) (λ sets. Some (meets common.now sets))) }
-    ensures within { IfOk result (λ found. IfSome found (λ sets. AreWithin sets.items (whole_sets (shape_of basis.now.survey.now.fields)))) }
+// The sets of a part's box, if it has the code at the place. No memory.
+fn part_with<'k>(known: &'k [Known], place: usize, code: u8, part: u64) -> Option<&'k [u64]>
+    ensures part { option_map (λ s. s.now) result ≡ part_with (map meaning known.now) place code part }
+    ensures fit { IfSome result (λ s. (shape : List Domain) → AllOver shape known.now → AreSets s.now (whole_sets shape)) }
 {
-    let Some(code_box) = box_at(known, part) else {
-        return Ok(None);
-    };
-    if !has_code(code_box.sets()[place], code) {
-        return Ok(None);
+    let sets = box_at(known, part)?.sets();
+    match sets.get(place) {
+        Some(set) if has_code(*set, code) => Some(sets),
+        _ => None,
     }
-    Ok(Some(meets(alloc, common, code_box.sets())?))
 }

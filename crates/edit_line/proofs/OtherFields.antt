@@ -3,7 +3,8 @@ use Rattle.std.specs.Bool.{Decides, one_answer}
 use Rattle.std.specs.Int.{bit_at}
 use Rattle.std.proofs.lemmas.Bool.Decides.{Decides-eqb}
 use Rattle.std.proofs.lemmas.Nat.Bits.{bit_at-lt, bit_at-zero, bit_at_and}
-use Rattle.edit_line.specs.Sets.{all_inside, has, has_codes, is_inside}
+use Rattle.edit_model.specs.Points.{has_code}
+use Rattle.edit_line.specs.Sets.{all_inside, has_codes, is_inside}
 use Rattle.edit_line.proofs.SetLaws.{both_true, has-inside}
 use Rattle.edit_line.specs.Combinations.{meets}
 
@@ -14,12 +15,12 @@ abbrev pub inside_but : ℕ → ℕ → List ℕ → List ℕ → Bool
 inside_but place whole codes box = is_inside (slice_set box place whole) codes
 
 -- the intersection has the codes that both sets have
-pub has-and : (s t code : ℕ) → has (bit_and s t) code ≡ (has s code && has t code)
-has-and s t code = by (has s code) (has t code) (Decides-eqb (bit_at s code) 1) (Decides-eqb (bit_at t code) 1)
+pub has-and : (s t code : ℕ) → has_code (bit_and s t) code ≡ (has_code s code && has_code t code)
+has-and s t code = by (has_code s code) (has_code t code) (Decides-eqb (bit_at s code) 1) (Decides-eqb (bit_at t code) 1)
   where
-    by : (a b : Bool) → Decides a (bit_at s code ≡ 1) → Decides b (bit_at t code ≡ 1) → has (bit_and s t) code ≡ (a && b)
+    by : (a b : Bool) → Decides a (bit_at s code ≡ 1) → Decides b (bit_at t code ≡ 1) → has_code (bit_and s t) code ≡ (a && b)
     by a b p q =
-        one_answer (has (bit_and s t) code) (a && b) (Decides-eqb (bit_at (bit_and s t) code) 1) (
+        one_answer (has_code (bit_and s t) code) (a && b) (Decides-eqb (bit_at (bit_and s t) code) 1) (
           λ h. let (first, second) = both_true a b h in omega (arith, bit_at_and s t code, p.0 first, q.0 second),
           λ h. joined a b (p.1 (omega (arith, bit_at_and s t code, bit_at-lt s code, bit_at-lt t code, h))) (q.1 (omega (arith, bit_at_and s t code, bit_at-lt s code, bit_at-lt t code, h))),
         )
@@ -48,8 +49,8 @@ inside-meets (s ∷ first) [] codes = and_true _
     and_true false = refl
 inside-meets (s ∷ first) (t ∷ second) [] = refl
 inside-meets (s ∷ first) (t ∷ second) (code ∷ codes) =
-    ap (λ b. b && is_inside (meets first second) codes) (has-and s t code) ∙ ap (λ b. (has s code && has t code) && b) (inside-meets first second codes)
-    ∙ crossed (has s code) (has t code) (is_inside first codes) (is_inside second codes)
+    ap (λ b. b && is_inside (meets first second) codes) (has-and s t code) ∙ ap (λ b. (has_code s code && has_code t code) && b) (inside-meets first second codes)
+    ∙ crossed (has_code s code) (has_code t code) (is_inside first codes) (is_inside second codes)
 
 -- and so on the other fields
 pub inside_but-meets : (place whole : ℕ) (first second codes : List ℕ)
@@ -63,10 +64,10 @@ inside_but-meets place whole (s ∷ first) [] codes = and_true _
 inside_but-meets zero whole (s ∷ first) (t ∷ second) [] = refl
 inside_but-meets (suc place) whole (s ∷ first) (t ∷ second) [] = refl
 inside_but-meets zero whole (s ∷ first) (t ∷ second) (code ∷ codes) =
-    ap (λ b. has whole code && b) (inside-meets first second codes) ∙ shared (has whole code) (is_inside first codes) (is_inside second codes)
+    ap (λ b. has_code whole code && b) (inside-meets first second codes) ∙ shared (has_code whole code) (is_inside first codes) (is_inside second codes)
 inside_but-meets (suc place) whole (s ∷ first) (t ∷ second) (code ∷ codes) =
-    ap (λ b. b && inside_but place whole codes (meets first second)) (has-and s t code) ∙ ap (λ b. (has s code && has t code) && b) (inside_but-meets place whole first second codes)
-    ∙ crossed (has s code) (has t code) (inside_but place whole codes first) (inside_but place whole codes second)
+    ap (λ b. b && inside_but place whole codes (meets first second)) (has-and s t code) ∙ ap (λ b. (has_code s code && has_code t code) && b) (inside_but-meets place whole first second codes)
+    ∙ crossed (has_code s code) (has_code t code) (inside_but place whole codes first) (inside_but place whole codes second)
 
 -- made whole once more
 pub set-set : (place whole : ℕ) (box : List ℕ) → slice_set (slice_set box place whole) place whole ≡ slice_set box place whole
@@ -81,13 +82,13 @@ set-whole zero whole (s ∷ box) is = ap (λ t. t ∷ box) (sym is)
 set-whole (suc place) whole (s ∷ box) is = ap (λ b. s ∷ b) (set-whole place whole box is)
 
 -- the codes with another one at the place are in the box
-pub inside-with : (place whole code : ℕ) (box codes : List ℕ) → place < length box → place < length codes → has whole (slice_index_or codes place 0) ≡ true
-    → is_inside box (slice_set codes place code) ≡ (has (slice_index_or box place 0) code && inside_but place whole codes box)
+pub inside-with : (place whole code : ℕ) (box codes : List ℕ) → place < length box → place < length codes → has_code whole (slice_index_or codes place 0) ≡ true
+    → is_inside box (slice_set codes place code) ≡ (has_code (slice_index_or box place 0) code && inside_but place whole codes box)
 inside-with place whole code [] codes below within all = absurd (omega arith)
 inside-with place whole code (s ∷ box) [] below within all = absurd (omega arith)
-inside-with zero whole code (s ∷ box) (c ∷ codes) below within all = ap (λ b. has s code && (b && is_inside box codes)) (sym all)
+inside-with zero whole code (s ∷ box) (c ∷ codes) below within all = ap (λ b. has_code s code && (b && is_inside box codes)) (sym all)
 inside-with (suc place) whole code (s ∷ box) (c ∷ codes) below within all =
-    ap (λ b. has s c && b) (inside-with place whole code box codes (omega arith) (omega arith) all) ∙ swapped (has s c) (has (slice_index_or box place 0) code) (inside_but place whole codes box)
+    ap (λ b. has_code s c && b) (inside-with place whole code box codes (omega arith) (omega arith) all) ∙ swapped (has_code s c) (has_code (slice_index_or box place 0) code) (inside_but place whole codes box)
   where
     swapped : (a b c : Bool) → (a && (b && c)) ≡ (b && (a && c))
     swapped true b c = refl
@@ -95,7 +96,7 @@ inside-with (suc place) whole code (s ∷ box) (c ∷ codes) below within all =
     swapped false false c = refl
 
 -- a code outside a set, which has it not
-has-more : (s t code : ℕ) → nat_eq (bit_and s t) s ≡ true → has s code ≡ true → has t code ≡ true
+has-more : (s t code : ℕ) → nat_eq (bit_and s t) s ≡ true → has_code s code ≡ true → has_code t code ≡ true
 has-more s t code lies there = (Decides-eqb (bit_at t code) 1).1 (has-inside s t code lies ((Decides-eqb (bit_at s code) 1).0 there))
 
 joined : (a b : Bool) → a ≡ true → b ≡ true → (a && b) ≡ true
@@ -133,7 +134,7 @@ inside-has_codes [] codes few inside = refl
 inside-has_codes (s ∷ box) [] few inside = absurd (omega arith)
 inside-has_codes (s ∷ box) (code ∷ codes) few inside = let (at, rest) = both_true _ _ inside in joined _ _ (above s at) (inside-has_codes box codes (omega arith) rest)
   where
-    above : (s : ℕ) → has s code ≡ true → not (nat_eq s 0) ≡ true
+    above : (s : ℕ) → has_code s code ≡ true → not (nat_eq s 0) ≡ true
     above s h = by (nat_eq s 0) refl
       where
         by : (t : Bool) → nat_eq s 0 ≡ t → not t ≡ true

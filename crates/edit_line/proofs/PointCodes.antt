@@ -3,12 +3,12 @@ use Rattle.std.specs.List.{list_all}
 use Rattle.std.proofs.lemmas.Bool.Decides.{Decides-eqb}
 use Rattle.std.proofs.lemmas.List.{length-map}
 use Rattle.std.proofs.lemmas.Nat.Bits.{bit_at_ones}
-use Rattle.edit_model.specs.Points.{Point}
+use Rattle.edit_model.specs.Points.{Point, has_code}
 use Rattle.edit_model.specs.Surveys.{IsField, IsKind}
 use Rattle.edit_model.specs.declared.field.Field.{Field}
 use Rattle.edit_model.specs.declared.field.Kind.{Kind}
 use Rattle.edit_model.specs.declared.field.Kind.TheVariants as kind
-use Rattle.edit_line.specs.Sets.{has, is_inside}
+use Rattle.edit_line.specs.Sets.{is_inside}
 use Rattle.edit_line.specs.Shapes.{Categorical, Domain, HasCodes, Numerical, codes_at, code_fields, codes_from, place_in, whole_sets, IsCategorical, domain_of, has_field, shape_of}
 use Rattle.edit_line.specs.CodeFields.{TakesCodes, codes_of, codes_up, place_of, size_from, size_of, whole_of, with_code_at}
 
@@ -71,18 +71,18 @@ whole-from i (Categorical k ∷ shape) f some = by (i == f) (whole-from (suc i) 
 pub whole_of-is : (shape : List Domain) (f : ℕ) → TakesCodes shape f → whole_of shape f ≡ 2 ^ size_of shape f - 1
 whole_of-is shape f some = whole-from 0 shape f some
 
-ones-have : (k code : ℕ) → code < k → has (2 ^ k - 1) code ≡ true
+ones-have : (k code : ℕ) → code < k → has_code (2 ^ k - 1) code ≡ true
 ones-have k code below = ap (λ n. nat_eq n 1) (bit_at_ones k code below)
 
-pub whole_of-has : (shape : List Domain) (f code : ℕ) → code < size_of shape f → has (whole_of shape f) code ≡ true
-whole_of-has shape f code below = ap (λ w. has w code) (whole_of-is shape f (omega arith)) ∙ ones-have (size_of shape f) code below
+pub whole_of-has : (shape : List Domain) (f code : ℕ) → code < size_of shape f → has_code (whole_of shape f) code ≡ true
+whole_of-has shape f code below = ap (λ w. has_code w code) (whole_of-is shape f (omega arith)) ∙ ones-have (size_of shape f) code below
 
 -- and so each of its codes
-all-have : (whole i k n : ℕ) → ((code : ℕ) → code < n → has whole code ≡ true) → i + k ≤ n → list_all (has whole) (codes_up i k) ≡ true
+all-have : (whole i k n : ℕ) → ((code : ℕ) → code < n → has_code whole code ≡ true) → i + k ≤ n → list_all (has_code whole) (codes_up i k) ≡ true
 all-have whole i zero n each fits = refl
-all-have whole i (suc k) n each fits = ap (λ b. b && list_all (has whole) (codes_up (suc i) k)) (each i (omega arith)) ∙ all-have whole (suc i) k n each (omega arith)
+all-have whole i (suc k) n each fits = ap (λ b. b && list_all (has_code whole) (codes_up (suc i) k)) (each i (omega arith)) ∙ all-have whole (suc i) k n each (omega arith)
 
-pub whole_of-all : (shape : List Domain) (f : ℕ) → list_all (has (whole_of shape f)) (codes_of shape f) ≡ true
+pub whole_of-all : (shape : List Domain) (f : ℕ) → list_all (has_code (whole_of shape f)) (codes_of shape f) ≡ true
 whole_of-all shape f = all-have (whole_of shape f) 0 (size_of shape f) (size_of shape f) (λ code below. whole_of-has shape f code below) (omega arith)
 
 -- codes of their domains are in the whole sets
@@ -97,21 +97,21 @@ wholes-inside shape p held = wholes-from 0 shape p held
 
 -- the point's code at the field is in the field's whole set
 whole-code : (i : ℕ) (shape : List Domain) (p : Point) (f : ℕ) → 0 < size_from i shape f → HasCodes i shape p
-    → has (slice_index_or (whole_sets shape) (place_in (codes_from i shape) f) 0) (slice_index_or (map p.code (codes_from i shape)) (place_in (codes_from i shape) f) 0) ≡ true
+    → has_code (slice_index_or (whole_sets shape) (place_in (codes_from i shape) f) 0) (slice_index_or (map p.code (codes_from i shape)) (place_in (codes_from i shape) f) 0) ≡ true
 whole-code i [] p f some held = absurd (omega arith)
 whole-code i (Numerical ∷ shape) p f some held = whole-code (suc i) shape p f some held
 whole-code i (Categorical k ∷ shape) p f some held = by (i == f) (λ some. whole-code (suc i) shape p f some held.1) some
   where
     by : (b : Bool)
-        → (0 < size_from (suc i) shape f → has (slice_index_or (whole_sets shape) (place_in (codes_from (suc i) shape) f) 0) (slice_index_or (map p.code (codes_from (suc i) shape)) (place_in (codes_from (suc i) shape) f) 0) ≡ true)
+        → (0 < size_from (suc i) shape f → has_code (slice_index_or (whole_sets shape) (place_in (codes_from (suc i) shape) f) 0) (slice_index_or (map p.code (codes_from (suc i) shape)) (place_in (codes_from (suc i) shape) f) 0) ≡ true)
         → 0 < (if b then k else size_from (suc i) shape f)
-        → has (slice_index_or ((2 ^ k - 1) ∷ whole_sets shape) (if b then 0 else suc (place_in (codes_from (suc i) shape) f)) 0)
+        → has_code (slice_index_or ((2 ^ k - 1) ∷ whole_sets shape) (if b then 0 else suc (place_in (codes_from (suc i) shape) f)) 0)
         (slice_index_or (p.code i ∷ map p.code (codes_from (suc i) shape)) (if b then 0 else suc (place_in (codes_from (suc i) shape) f)) 0)
         ≡ true
     by true rest h = ones-have k (p.code i) held.0
     by false rest h = rest h
 
-pub whole_of-code : (shape : List Domain) (p : Point) (f : ℕ) → TakesCodes shape f → HasCodes 0 shape p → has (whole_of shape f) (slice_index_or (codes_at shape p) (place_of shape f) 0) ≡ true
+pub whole_of-code : (shape : List Domain) (p : Point) (f : ℕ) → TakesCodes shape f → HasCodes 0 shape p → has_code (whole_of shape f) (slice_index_or (codes_at shape p) (place_of shape f) 0) ≡ true
 whole_of-code shape p f some held = whole-code 0 shape p f some held
 
 pub length-codes_at : (shape : List Domain) (p : Point) → length (codes_at shape p) ≡ length (code_fields shape)

@@ -5,7 +5,8 @@ use Rattle.std.proofs.Math.Seq.{drop-cons}
 use Rattle.std.proofs.lemmas.Bool.Decides.{Decides-eqb}
 use Rattle.std.proofs.lemmas.List.{drop_all}
 use Rattle.std.proofs.lemmas.Nat.Bits.{bit_at_and, bit_at-lt}
-use Rattle.edit_line.specs.Sets.{AllInside, AreSets, AreWithin, HasCode, all_inside, has_codes, is_inside, has}
+use Rattle.edit_model.specs.Points.{has_code}
+use Rattle.edit_line.specs.Sets.{AllInside, AreSets, AreWithin, HasCode, all_inside, has_codes, is_inside}
 
 -- Sets of codes, as bits, and lists of them.
 
@@ -42,7 +43,7 @@ inside-all_inside (s ∷ first) (t ∷ second) (code ∷ codes) lie inside =
 pub is_inside-Decides : (sets codes : List ℕ) → Decides (is_inside sets codes) (AllInside sets codes)
 is_inside-Decides [] codes = (λ _. tt, λ _. refl)
 is_inside-Decides (set ∷ sets) [] = (λ _. tt, λ _. refl)
-is_inside-Decides (set ∷ sets) (code ∷ codes) = both_decide (has set code) (is_inside sets codes) (Decides-eqb (bit_at set code) 1) (is_inside-Decides sets codes)
+is_inside-Decides (set ∷ sets) (code ∷ codes) = both_decide (has_code set code) (is_inside sets codes) (Decides-eqb (bit_at set code) 1) (is_inside-Decides sets codes)
 
 -- ---- a loop over two lists of sets
 

@@ -1,6 +1,7 @@
 use Rattle.std.specs.Prelude.{◌≡◌, ℕ, ◌<◌, ◌≤◌, ◌&&◌, not, Bool, true, false, List, [], ◌∷◌, nat_eq, bit_and}
 use Rattle.std.specs.Int.{bit_at}
 use Rattle.std.specs.List.{list_all}
+use Rattle.edit_model.specs.Points.{has_code}
 
 -- A set of codes is a number, whose bit c stands for the code of number c. A list of sets has one for each categorical field.
 
@@ -13,13 +14,9 @@ abbrev pub AllInside : List ℕ → List ℕ → Type 0
 AllInside (set ∷ sets) (code ∷ codes) = HasCode set code × AllInside sets codes
 AllInside _ _ = Unit {0}
 
--- whether the set has the code
-abbrev pub has : ℕ → ℕ → Bool
-has set code = nat_eq (bit_at set code) 1
-
 -- whether each code is in its set
 abbrev pub is_inside : List ℕ → List ℕ → Bool
-is_inside (set ∷ sets) (code ∷ codes) = has set code && is_inside sets codes
+is_inside (set ∷ sets) (code ∷ codes) = has_code set code && is_inside sets codes
 is_inside _ _ = true
 
 -- whether each set of the first lies inside that of the second

@@ -1,7 +1,8 @@
 //! Sets of codes, as bits: a set for each categorical field, in declared order.
 ghost use Rattle.std.specs.Prelude.{◌≡◌, IfOk, length};
+ghost use Rattle.edit_model.specs.Points.{has_code};
 ghost use Rattle.edit_line.specs.Combinations.{all_meet, meets};
-ghost use Rattle.edit_line.specs.Sets.{all_inside, has, has_codes};
+ghost use Rattle.edit_line.specs.Sets.{all_inside, has_codes};
 
 use foundation::OutOfMemory;
 use std::alloc::Global;
@@ -40,18 +41,17 @@ pub fn meets(alloc: Global, first: &[u64], second: &[u64]) -> Result<Vec<u64>, O
     ensures { IfOk result (λ sets. sets.items ≡ meets first.now second.now) }
 {
     let mut sets = Vec::from_slice(alloc, first)?;
-    write_meets(&mut sets, first, second);
+    narrow(&mut sets, second);
     Ok(sets)
 }
 
-/// Makes the sets those of the codes that are in both, field by field. No memory.
-pub(crate) fn write_meets(sets: &mut Vec<u64>, first: &[u64], second: &[u64])
-    requires first { length first.now ≡ length sets.old.items }
-    requires second { length second.now ≡ length sets.old.items }
-    ensures { sets.new.items ≡ meets first.now second.now }
+/// Leaves in the sets only the codes that are also in the others, field by field. No memory.
+pub fn narrow(sets: &mut Vec<u64>, others: &[u64])
+    requires { length others.now ≡ length sets.old.items }
+    ensures { sets.new.items ≡ meets sets.old.items others.now }
 {
-    for i in 0..first.len() {
-        sets[i] = first[i] & second[i];
+    for i in 0..others.len() {
+        sets[i] &= others[i];
     }
 }
 
@@ -64,7 +64,7 @@ pub fn has_codes(sets: &[u64]) -> bool
 
 /// Whether the set has the code. No memory.
 pub fn has_code(set: u64, code: u8) -> bool
-    ensures { result ≡ has set code }
+    ensures { result ≡ has_code set code }
 {
     code < 64 && (set >> code) & 1 == 1
 }

@@ -21,7 +21,7 @@ mod sum;
 mod tests;
 
 pub use code_box::CodeBox;
-pub use code_sets::{all_meet, are_inside, has_code, has_codes, meets};
+pub use code_sets::{all_meet, are_inside, has_code, has_codes, meets, narrow};
 pub use derived::{Derived, Origin};
 pub use division::quotient;
 pub use edits::Edits;

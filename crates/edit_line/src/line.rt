@@ -7,7 +7,7 @@ ghost use Rattle.edit_line.specs.Lines.{IsLine, LineParts, parts_of};
 ghost use Rattle.edit_line.specs.Sets.{AreSets};
 ghost use Rattle.edit_line.specs.Shapes.{domains_of, number_fields, shape_of, whole_sets};
 
-use crate::code_sets::write_meets;
+use crate::code_sets::narrow;
 use crate::division::{divide_all, divisor_of, quotient};
 use crate::line_sum::{sum_of_products, write_sums};
 use crate::shape::Shape;
@@ -147,7 +147,8 @@ impl Line {
             None => match sum_of_products(m, s.constant(), n, t.constant()) {
                 None => Some(self.factors.len()),
                 Some(constant) => {
-                    write_meets(&mut self.sets, s.sets(), t.sets());
+                    self.sets.copy_from_slice(s.sets());
+                    narrow(&mut self.sets, t.sets());
                     self.constant = constant;
                     self.strict = either(s.strict(), t.strict());
                     None

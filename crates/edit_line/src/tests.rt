@@ -137,3 +137,50 @@ fn lines_and_boxes_are_copied_and_edits_keep_them(rt: HostRuntime) -> Result<(),
     }
     Ok(())
 }
+
+/// The line `factor * A + constant`, over the survey's one numerical field.
+fn line_of(
+    alloc: Global,
+    survey: &Survey,
+    factor: i128,
+    constant: i128,
+    strict: bool,
+) -> Result<Line, Fail>
+    requires survey { shape_of survey.now.fields ≡ Numerical ∷ [] }
+    requires factor { InRange factor }
+    requires constant { InRange constant }
+    ensures { IfOk result (λ line. (line.shape ≡ Numerical ∷ []) × (line.sets ≡ [])) }
+{
+    let factors = vec![in alloc; factor; 1]?;
+    Ok(Line::new(
+        survey,
+        Vec::new(alloc),
+        factors,
+        constant,
+        strict,
+    ))
+}
+
+#[test]
+fn multiples_of_two_lines_are_added_and_divided(rt: HostRuntime) -> Result<(), Fail> {
+    let alloc = rt.alloc();
+    let survey = survey_of_one(alloc)?;
+    // 2 A > 4 and 10 >= 4 A make 6 > 2 A, which is 3 > A
+    let s = line_of(alloc, &survey, 2, -4, true)?;
+    let t = line_of(alloc, &survey, -4, 10, false)?;
+    let mut line = t.copy(alloc)?;
+    assert_eq!(rt; line.write_sum(1, &s, 1, &t), None);
+    assert!(rt; has_parts(&line, -2, 6, true));
+    assert_eq!(rt; line.reduce_numbers(), 2);
+    assert!(rt; has_parts(&line, -1, 3, true));
+    // a factor out of range, and then a constant
+    let mut refused = t.copy(alloc)?;
+    assert_eq!(rt; refused.write_sum(MOST, &s, 1, &t), Some(0));
+    let most = line_of(alloc, &survey, 0, MOST, false)?;
+    assert_eq!(rt; refused.write_sum(1, &t, 1, &most), Some(1));
+    // quotients are taken toward 0
+    let mut odd = line_of(alloc, &survey, -3, 7, false)?;
+    odd.divide_by(2);
+    assert!(rt; has_parts(&odd, -1, 3, false));
+    Ok(())
+}

@@ -5,7 +5,7 @@ use Rattle.std.proofs.lemmas.List.{length-map, length-set}
 use Rattle.std.proofs.lemmas.Nat.Bits.{bit_at-lt, bit_at_ones, bit_at_xor}
 use Rattle.edit_model.specs.Points.{Point, has_code, test_holds}
 use Rattle.edit_model.specs.declared.rule.Test.TheVariants.{Codes}
-use Rattle.edit_line.specs.Sets.{has, is_inside}
+use Rattle.edit_line.specs.Sets.{is_inside}
 use Rattle.edit_line.specs.Shapes.{Categorical, Domain, HasCodes, Numerical, code_fields, codes_at, codes_from, has_field, place_in, whole_sets}
 use Rattle.edit_line.proofs.OtherFields.{has-and}
 use Rattle.edit_line.proofs.ShapeLaws.{place-within}
@@ -14,10 +14,10 @@ use Rattle.edit_normal.specs.NormalForm.{narrowed, test_set}
 -- The codes that meet a test, and sets that are narrowed to them.
 
 -- a set without a code of the whole set has what the other has not
-has-other : (whole codes code : ℕ) → bit_at whole code ≡ 1 → has (bit_xor whole codes) code ≡ not (has codes code)
-has-other whole codes code all = by (has codes code) refl
+has-other : (whole codes code : ℕ) → bit_at whole code ≡ 1 → has_code (bit_xor whole codes) code ≡ not (has_code codes code)
+has-other whole codes code all = by (has_code codes code) refl
   where
-    by : (b : Bool) → has codes code ≡ b → has (bit_xor whole codes) code ≡ not b
+    by : (b : Bool) → has_code codes code ≡ b → has_code (bit_xor whole codes) code ≡ not b
     by true e =
         let one : bit_at codes code ≡ 1 = (Decides-eqb (bit_at codes code) 1).0 e in
         let bits : bit_at (bit_xor whole codes) code ≡ 0 = bit_at_xor whole codes code ∙ ap (λ n. (n + bit_at codes code) % 2) all ∙ ap (λ n. (1 + n) % 2) one in
@@ -31,7 +31,7 @@ has-other whole codes code all = by (has codes code) refl
         zero_bit n h other = omega arith
 
 -- the codes that meet a test
-test_set-has : (whole codes code : ℕ) (negated : Bool) → bit_at whole code ≡ 1 → has (test_set whole negated codes) code ≡ (if negated then not (has_code codes code) else has_code codes code)
+test_set-has : (whole codes code : ℕ) (negated : Bool) → bit_at whole code ≡ 1 → has_code (test_set whole negated codes) code ≡ (if negated then not (has_code codes code) else has_code codes code)
 test_set-has whole codes code true all = has-other whole codes code all
 test_set-has whole codes code false all = refl
 
@@ -67,10 +67,10 @@ whole-inside i (Categorical k ∷ shape) p held = rw (ap (λ n. nat_eq n 1) (bit
 -- ---- sets that are narrowed at one place
 
 inside-set : (sets codes : List ℕ) (place t : ℕ) → place < length sets → place < length codes
-    → is_inside (slice_set sets place (bit_and (slice_index_or sets place 0) t)) codes ≡ (is_inside sets codes && has t (slice_index_or codes place 0))
+    → is_inside (slice_set sets place (bit_and (slice_index_or sets place 0) t)) codes ≡ (is_inside sets codes && has_code t (slice_index_or codes place 0))
 inside-set [] codes place t below within = absurd (omega arith)
 inside-set (s ∷ sets) [] place t below within = absurd (omega arith)
-inside-set (s ∷ sets) (code ∷ codes) zero t below within = ap (λ b. b && is_inside sets codes) (has-and s t code) ∙ moved (has s code) (has t code) (is_inside sets codes)
+inside-set (s ∷ sets) (code ∷ codes) zero t below within = ap (λ b. b && is_inside sets codes) (has-and s t code) ∙ moved (has_code s code) (has_code t code) (is_inside sets codes)
   where
     moved : (a b c : Bool) → ((a && b) && c) ≡ ((a && c) && b)
     moved true true true = refl
@@ -78,7 +78,7 @@ inside-set (s ∷ sets) (code ∷ codes) zero t below within = ap (λ b. b && is
     moved true false true = refl
     moved true false false = refl
     moved false b c = refl
-inside-set (s ∷ sets) (code ∷ codes) (suc place) t below within = ap (λ b. has s code && b) (inside-set sets codes place t (omega arith) (omega arith)) ∙ grouped (has s code) (is_inside sets codes) _
+inside-set (s ∷ sets) (code ∷ codes) (suc place) t below within = ap (λ b. has_code s code && b) (inside-set sets codes place t (omega arith) (omega arith)) ∙ grouped (has_code s code) (is_inside sets codes) _
   where
     grouped : (a b c : Bool) → (a && (b && c)) ≡ ((a && b) && c)
     grouped true b c = refl
@@ -93,7 +93,7 @@ narrowed-inside shape sets field negated codes p same there held =
     let at : slice_index_or (codes_at shape p) place 0 ≡ p.code field = code-at p (code_fields shape) field there in
     let all = whole-has 0 shape p field held there in
     inside-set sets (codes_at shape p) place _ (omega arith) (omega (arith, length-map (code_fields shape) p.code))
-    ∙ ap (λ c. is_inside sets (codes_at shape p) && has (test_set (slice_index_or (whole_sets shape) place 0) negated codes) c) at
+    ∙ ap (λ c. is_inside sets (codes_at shape p) && has_code (test_set (slice_index_or (whole_sets shape) place 0) negated codes) c) at
     ∙ ap (λ b. is_inside sets (codes_at shape p) && b) (test_set-has (slice_index_or (whole_sets shape) place 0) codes (p.code field) negated all)
 
 pub narrowed-length : (shape : List Domain) (sets : List ℕ) (field : ℕ) (negated : Bool) (codes : ℕ) → length (narrowed shape sets field negated codes) ≡ length sets

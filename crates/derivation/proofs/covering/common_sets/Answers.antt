@@ -1,9 +1,11 @@
-use Rattle.std.proofs.Common.{List, ℕ, map, sym, ap, subst, ◌∙◌}
+use Rattle.std.proofs.Common.{List, ℕ, Option, option_map, Bor, map, sym, ap, subst, ◌∙◌}
 use Rattle.edit_line.specs.Sets.{AreWithin}
 use Rattle.edit_line.specs.Shapes.{shape_of, whole_sets}
 use Rattle.edit_line.proofs.SetLaws.{AreWithin-wholes}
 use Rattle.derivation.specs.Meanings.{meaning}
 use Rattle.derivation.specs.ValidSteps.{common_from}
+use Rattle.derivation.proofs.CoverLaws.{common-more}
+use Rattle.derivation.proofs.WholeBoxes.{as-many, still-within}
 use Rattle.derivation.proofs.covering.common_sets.Goals as goal
 
 pub loop-code-init : goal.loop-code-init
@@ -12,4 +14,17 @@ loop-code-init c =
     let is = c.in_ok-common.ensures.items ∙ c.requires.basis.wholes in (
       ap (λ (sets : List ℕ). common_from (map meaning c.args.known.now) c.args.place 0 c.args.parts.now sets) is,
       subst (λ (sets : List ℕ). AreWithin sets wholes) (sym is) (AreWithin-wholes wholes),
+    )
+
+pub narrow-requires : goal.narrow-requires
+narrow-requires c =
+    let shape = shape_of c.args.basis.now.survey.now.fields in
+    as-many (whole_sets shape) c.loop-code.common.items c.in-Some.sets.now c.loop-code.invariant.1 (c.in-Some.ensures.fit shape c.requires.over)
+
+pub loop-code-preserved : goal.loop-code-preserved
+loop-code-preserved c =
+    let shape = shape_of c.args.basis.now.survey.now.fields in (
+      common-more (map meaning c.args.known.now) c.args.place c.loop-code.code c.args.parts.now c.loop-code.common.items c.in-Some.sets.now c.narrow.new.sets.items _ c.loop-code-test.true
+      (sym (ap (λ (o : Option (Bor (List ℕ))). option_map (λ s. s.now) o) c.in-Some.is) ∙ c.part_with.ensures.part) c.narrow.ensures c.loop-code.invariant.0,
+      still-within (whole_sets shape) c.loop-code.common.items c.in-Some.sets.now c.narrow.new.sets.items c.loop-code.invariant.1 (c.in-Some.ensures.fit shape c.requires.over) c.narrow.ensures,
     )

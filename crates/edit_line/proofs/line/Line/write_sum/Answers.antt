@@ -1,4 +1,4 @@
-use Rattle.std.proofs.Common.{◌∙◌, ◌||◌, FitsSigned, List, length, refl, rules, ap, sym, subst}
+use Rattle.std.proofs.Common.{◌≡◌, ◌∙◌, ◌||◌, FitsSigned, List, length, refl, rules, ap, sym, subst}
 use Rattle.std.proofs.lemmas.Int.{to_z-of_z}
 use mir.Syntax.{w128}
 use Rattle.edit_line.specs.Combinations.{combined, meets}
@@ -9,18 +9,23 @@ use Rattle.edit_line.proofs.LineSums.{no-place, place-first, place-last, sum-is,
 use Rattle.edit_line.proofs.SetLaws.{same-sets}
 use Rattle.edit_line.proofs.line.Line.write_sum.Goals as goal
 
-pub write_meets-requires-clause-first : goal.write_meets-requires-clause-first
-write_meets-requires-clause-first c =
+pub copy_from_slice-requires : goal.copy_from_slice-requires
+copy_from_slice-requires c =
     let shape = c.requires.s_over ∙ sym (ap (λ (l : LineParts). l.shape) c.self.view_is) in
+    let same : length c.self.inside.sets.items ≡ length c.sets.result.now = sym (
     ap length c.sets.ensures.sets
     ∙ same-sets c.args.s.now.sets c.self.inside.sets.items (whole_sets c.args.s.now.shape) c.sets.ensures.fit (subst (λ (sh : List Domain). AreSets c.self.inside.sets.items (whole_sets sh)) (sym shape) c.self.invariant.sets)
+    ) in
+    search rules
 
-pub write_meets-requires-clause-second : goal.write_meets-requires-clause-second
-write_meets-requires-clause-second c =
-    let shape = c.requires.t_over ∙ sym (ap (λ (l : LineParts). l.shape) c.self.view_is) in
-    let sets = c.sets-in-Some-sum_of_products.ensures in
-    ap length sets.sets
-    ∙ same-sets c.args.t.now.sets c.self.inside.sets.items (whole_sets c.args.t.now.shape) sets.fit (subst (λ (sh : List Domain). AreSets c.self.inside.sets.items (whole_sets sh)) (sym shape) c.self.invariant.sets)
+pub narrow-requires : goal.narrow-requires
+narrow-requires c =
+    let shape = c.requires.t_over ∙ sym c.requires.s_over in
+    let first = c.sets.ensures in
+    let second = c.sets-in-Some-sum_of_products.ensures in
+    ap length second.sets
+    ∙ same-sets c.args.t.now.sets c.args.s.now.sets (whole_sets c.args.t.now.shape) second.fit (subst (λ (sh : List Domain). AreSets c.args.s.now.sets (whole_sets sh)) (sym shape) first.fit)
+    ∙ sym (ap length (c.copy_from_slice.ensures.items ∙ first.sets))
 
 pub returns-in-Some-clause-place : goal.returns-in-Some-clause-place
 returns-in-Some-clause-place c =
@@ -68,10 +73,10 @@ returns-in-Some-sum_of_products-clause-sum c = λ _.
     no-place c.args.m c.args.n s t c.factors.result.now c.factors-2.result.now c.factors.ensures.factors c.factors-2.ensures.factors (search rules) told.place
     c.constant.result c.constant-in-None.result _ c.constant.ensures.constant c.constant-in-None.ensures.constant sum_is c.in-Some-sum_of_products.constant c.in-Some-sum_of_products.is in
     let shape = sym (ap (λ (l : LineParts). l.shape) c.self.view_is) in
-    let sets_are = c.write_meets.ensures ∙ (λ i. meets (c.sets.ensures.sets i) (c.sets-in-Some-sum_of_products.ensures.sets i)) in
+    let sets_are = c.narrow.ensures ∙ (λ i. meets ((c.copy_from_slice.ensures.items ∙ c.sets.ensures.sets) i) (c.sets-in-Some-sum_of_products.ensures.sets i)) in
     let factors_are = told.sums refl ∙ (λ i. combined c.args.m c.args.n (c.factors.ensures.factors i) (c.factors-2.ensures.factors i)) in
     let strict_is = c.either-self-inside.ensures ∙ (λ i. c.strict.ensures i || c.strict-in-Some-sum_of_products.ensures i) in
-    sum-is (domains_of c.self.inside.shape.count c.self.inside.shape.codes) c.args.m c.args.n _ s t c.write_meets.new.sets.items c.write_sums.new.sums.items c.either-self-inside.result (c.requires.s_over ∙ shape) sets_are factors_are
+    sum-is (domains_of c.self.inside.shape.count c.self.inside.shape.codes) c.args.m c.args.n _ s t c.narrow.new.sets.items c.write_sums.new.sums.items c.either-self-inside.result (c.requires.s_over ∙ shape) sets_are factors_are
     (to_z-of_z w128 c.in-Some-sum_of_products.constant z_fits ∙ is.1) strict_is
 
 pub invariant_of-self-in-Some-sum_of_products : goal.invariant_of-self-in-Some-sum_of_products
@@ -89,5 +94,5 @@ invariant_of-self-in-Some-sum_of_products c =
     no-place c.args.m c.args.n s t c.factors.result.now c.factors-2.result.now c.factors.ensures.factors c.factors-2.ensures.factors (search rules) told.place
     c.constant.result c.constant-in-None.result _ c.constant.ensures.constant c.constant-in-None.ensures.constant sum_is c.in-Some-sum_of_products.constant c.in-Some-sum_of_products.is in
     let shape = sym (ap (λ (l : LineParts). l.shape) c.self.view_is) in
-    let sets_are = c.write_meets.ensures ∙ (λ i. meets (c.sets.ensures.sets i) (c.sets-in-Some-sum_of_products.ensures.sets i)) in
-    simp to_z-of_z (sum-line (domains_of c.self.inside.shape.count c.self.inside.shape.codes) c.in-Some-sum_of_products.constant s t c.write_meets.new.sets.items c.write_sums.new.sums.items c.either-self-inside.result (c.requires.s_over ∙ shape) (c.requires.t_over ∙ shape) sets_are c.sets.ensures.fit c.sets-in-Some-sum_of_products.ensures.fit c.requires.meet (told.count ∙ c.self.invariant.factors) told.in_range is.2)
+    let sets_are = c.narrow.ensures ∙ (λ i. meets ((c.copy_from_slice.ensures.items ∙ c.sets.ensures.sets) i) (c.sets-in-Some-sum_of_products.ensures.sets i)) in
+    simp to_z-of_z (sum-line (domains_of c.self.inside.shape.count c.self.inside.shape.codes) c.in-Some-sum_of_products.constant s t c.narrow.new.sets.items c.write_sums.new.sums.items c.either-self-inside.result (c.requires.s_over ∙ shape) (c.requires.t_over ∙ shape) sets_are c.sets.ensures.fit c.sets-in-Some-sum_of_products.ensures.fit c.requires.meet (told.count ∙ c.self.invariant.factors) told.in_range is.2)
