@@ -152,13 +152,7 @@ fn line_of(
     ensures { IfOk result (λ line. (line.shape ≡ Numerical ∷ []) × (line.sets ≡ [])) }
 {
     let factors = vec![in alloc; factor; 1]?;
-    Ok(Line::new(
-        survey,
-        Vec::new(alloc),
-        factors,
-        constant,
-        strict,
-    ))
+    Ok(Line::new(survey, Vec::new(alloc), factors, constant, strict))
 }
 
 #[test]
