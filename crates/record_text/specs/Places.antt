@@ -1,7 +1,7 @@
 use Rattle.std.specs.Prelude.{◌≡◌, ℕ, Bool, true, false, List, [], Some, None}
 use Rattle.std.specs.Borrow.{Bor}
 use Rattle.csv.specs.Machine.{next_record}
-use Rattle.csv.specs.Reading.{AreRecords, Ready, default_config, reader_config, reader_state, reader_trim, source_of}
+use Rattle.csv.specs.Reading.{AreRecords, Ready, default_config, is_flexible, reader_config, reader_state, reader_trim, source_of}
 use Rattle.csv.specs.declared.parser.State.{State}
 use Rattle.csv.specs.declared.reader.Reader.{Reader}
 use Rattle.csv.specs.declared.reader.Trim.TheVariants as trim
@@ -16,10 +16,11 @@ pub record Place : Type 0 where
   pub state : State
   pub left : List ℕ
 
--- csv's reader stands at the place; it reads by its default settings, and takes the first record as any other
+-- csv's reader stands at the place; it reads by its default settings, but for records that may differ in length, and takes the first record as any other
 pub record IsAt (reader : Reader (Bor (List ℕ))) (here : Place) : Type 0 where
   pub plain : reader_trim reader ≡ trim.None
   pub config : reader_config reader ≡ default_config
+  pub flexible : is_flexible reader ≡ true
   pub ready : Ready reader
   pub state : reader_state reader ≡ here.state
   pub left : source_of (λ bytes. Some bytes.now) reader ≡ Some here.left

@@ -22,7 +22,7 @@ pub(crate) fn open_records(alloc: Global, bytes: &[u8]) -> Reader<&[u8]>
 /// Puts the next record into `csv_record`, in the memory that it has, or says that there is none.
 ///
 /// A slice gives no input error, and records may differ in length, so csv refuses only for want of
-/// memory; its contract leaves the cause open, and every refusal is answered as that.
+/// memory. Its contract does not say the first of a slice, and every refusal is answered as the last.
 pub(crate) fn read_next(
     reader: &mut Reader<&[u8]>,
     csv_record: &mut ByteRecord,
