@@ -1,5 +1,5 @@
 -- What a run's answer shows of the files that the desk held.
-use Rattle.std.proofs.Common.{◌≡◌, ◌≢◌, ◌⊎◌, ℕ, ◌≤◌, false, List, Option, Some, None, IfSome, length, inl, inr, ap, arith, refl, subst, sym}
+use Rattle.std.proofs.Common.{◌≡◌, ◌≢◌, ◌⊎◌, ℕ, ◌≤◌, false, List, [], ◌∷◌, ◌++◌, Option, Some, None, IfSome, length, inl, inr, ap, append_assoc, arith, refl, subst, sym, ◌∙◌}
 use Rattle.edit_language.specs.Grammar.{IsRuleText}
 use Rattle.edit_model.specs.Bounds.{IsBounded}
 use Rattle.edit_model.specs.Parts.{SurveyParts}
@@ -7,7 +7,7 @@ use Rattle.edit_model.specs.declared.field.Field.{Field}
 use Rattle.record_text.specs.Sheets.{SheetParts, IsSheet}
 use Rattle.record_text.specs.declared.fault.SheetFault.{SheetFault}
 use Rattle.record_text.specs.declared.fault.SheetFault.TheVariants as sheet
-use Rattle.edit_program.specs.Desk.{BothTell, Files, HoldsPrefix, IsLonger, SameElsewhere}
+use Rattle.edit_program.specs.Desk.{Asked, BothTell, Files, HoldsPrefix, IsLonger, PutsOnRecord, SameElsewhere}
 use Rattle.edit_program.specs.Released.{HasReleased, IsRelease}
 use Rattle.edit_program.specs.Run.{most_bytes, HoldsText, HoldsRules, HoldsNoRules, HoldsRecords, HoldsNoRecords, HoldsServed, HasStoredNothing, IsCutOff, IsEdited, IsRecordsRefusal, IsRulesRefusal, ReadsAs, Refuses, ShowsCause, is_refusal, sheet_status}
 use Rattle.edit_program.specs.Words.{ForNames, IsEdit}
@@ -258,3 +258,18 @@ for_names words a b c P is h r s t other =
     let same_records : s ≡ b = cc in
     let same_released : t ≡ c = cc in
     rw (same_rules, same_records, same_released) h
+
+-- ---- what was put on record
+
+-- one call more
+pub one_more : (a b c : Option (List Asked)) (xs : List Asked) (y : Asked) → PutsOnRecord a b xs → PutsOnRecord b c (y ∷ []) → PutsOnRecord a c (xs ++ y ∷ [])
+one_more None None None xs y p q = tt
+one_more None None (Some c) xs y p q = absurd q
+one_more None (Some b) c xs y p q = absurd p
+one_more (Some a) None c xs y p q = absurd p
+one_more (Some a) (Some b) None xs y p q = absurd q
+one_more (Some a) (Some b) (Some c) xs y p q = q ∙ ap (λ (l : List Asked). l ++ y ∷ []) p ∙ append_assoc a xs (y ∷ [])
+
+-- three calls, one after the other
+pub three_calls : (a b c d : Option (List Asked)) (x y z : Asked) → PutsOnRecord a b (x ∷ []) → PutsOnRecord b c (y ∷ []) → PutsOnRecord c d (z ∷ []) → PutsOnRecord a d (x ∷ y ∷ z ∷ [])
+three_calls a b c d x y z p q r = one_more a c d (x ∷ y ∷ []) z (one_more a b c (x ∷ []) y p q) r

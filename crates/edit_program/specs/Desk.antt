@@ -1,5 +1,5 @@
 -- What the calls of a desk do to its files, and what they leave on record.
-use Rattle.std.specs.Prelude.{◌≡◌, ◌≢◌, ◌⊎◌, ⊤, ℕ, ◌+◌, ◌-◌, ◌^◌, ◌<◌, ◌≤◌, min, Bool, true, false, Option, Some, None, IsSomeAnd, Result, Ok, Err, List, [], ◌∷◌, length, take, Vec}
+use Rattle.std.specs.Prelude.{◌≡◌, ◌≢◌, ◌⊎◌, ⊤, ℕ, ◌+◌, ◌-◌, ◌^◌, ◌<◌, ◌≤◌, min, Bool, true, false, Option, Some, None, IsSomeAnd, Result, Ok, Err, List, [], ◌∷◌, ◌++◌, length, take, Vec}
 use Rattle.std.specs.declared.alloc.Global.{Global}
 use Rattle.edit_program.specs.declared.desk.calls.FetchError.{FetchError}
 use Rattle.edit_program.specs.declared.desk.calls.FetchError.TheVariants as fetch
@@ -77,3 +77,15 @@ BothTell (Some old) (Some new) P = P old new
 -- the count of faults rose, or stands at the end of its range
 abbrev pub Rose : ℕ → ℕ → Type 0
 Rose before now = min (before + 1) (2 ^ 64 - 1) ≤ now
+
+-- a fetch that gave its bytes, on record
+abbrev pub fetched : List ℕ → Asked
+fetched name = record { store = false; name = name; failed = false }
+
+-- a store that put its bytes, on record
+abbrev pub stored : List ℕ → Asked
+stored name = record { store = true; name = name; failed = false }
+
+-- these calls, and no others, were put on record, where the calls are told
+abbrev pub PutsOnRecord : Option (List Asked) → Option (List Asked) → List Asked → Type 0
+PutsOnRecord old new more = BothTell old new (λ before after. after ≡ before ++ more)

@@ -1,9 +1,9 @@
-ghost use Rattle.std.specs.Prelude.{◌≡◌, ◌≢◌, ◌↔◌, ◌≤◌, ◌⊎◌, ℕ, IfErr, IfOk, IfSome, List, length, map, string_bytes};
+ghost use Rattle.std.specs.Prelude.{◌≡◌, ◌≢◌, ◌↔◌, ◌≤◌, ◌⊎◌, ℕ, IfErr, IfOk, IfSome, List, [], ◌∷◌, length, map, string_bytes};
 ghost use Rattle.edit_language.specs.Grammar.{IsRuleText};
 ghost use Rattle.edit_model.specs.Bounds.{IsBounded};
 ghost use Rattle.edit_model.specs.Parts.{SurveyParts};
 ghost use Rattle.edit_model.specs.Surveys.{IsWellFormed};
-ghost use Rattle.edit_program.specs.Desk.{BothTell, Rose};
+ghost use Rattle.edit_program.specs.Desk.{BothTell, PutsOnRecord, Rose, fetched, stored};
 ghost use Rattle.edit_program.specs.Released.{HasReleased};
 ghost use Rattle.edit_program.specs.Run.{HasStoredNothing, HoldsRecords, HoldsServed, IsCutOff, IsEdited, IsRecordsRefusal, IsRulesRefusal, ReadsAs, ShowsCause, fetch_status, most_bytes, sheet_status};
 ghost use Rattle.edit_program.specs.Words.{ForNames, IsNoCommand};
@@ -39,6 +39,9 @@ pub fn fh_main<D: Desk>(alloc: Global, words: &[String], desk: &mut D) -> Status
     ensures read_fault { result ≡ Status.ReadFault → Rose (D.faults desk.old) (D.faults desk.new) }
     ensures write_fault { result ≡ Status.WriteFault → Rose (D.faults desk.old) (D.faults desk.new) }
 
+    // What was asked of the desk, where it tells that.
+    ensures asked { HasReleased result → ForNames (map string_bytes words.now) (λ rules records released. PutsOnRecord (D.calls desk.old) (D.calls desk.new) (fetched rules ∷ fetched records ∷ stored released ∷ [])) }
+
     // What is left on the desk after each other status.
     ensures unchanged { HasStoredNothing result → D.files desk.new ≡ D.files desk.old }
     ensures cut_off { result ≡ Status.WriteFault → ForNames (map string_bytes words.now) (λ rules records released. BothTell (D.files desk.old) (D.files desk.new) (λ before after. IsCutOff before after rules records released)) }
@@ -54,6 +57,7 @@ fn edit<D: Desk>(alloc: Global, rules: &str, records: &str, released: &str, desk
     ensures command { result ≢ Status.Usage }
     ensures edited { HasReleased result → BothTell (D.files desk.old) (D.files desk.new) (λ before after. IsEdited before after rules.now records.now released.now result) }
     ensures cause { ShowsCause (D.files desk.old) rules.now records.now result }
+    ensures asked { HasReleased result → PutsOnRecord (D.calls desk.old) (D.calls desk.new) (fetched rules.now ∷ fetched records.now ∷ stored released.now ∷ []) }
     ensures read_fault { result ≡ Status.ReadFault → Rose (D.faults desk.old) (D.faults desk.new) }
     ensures write_fault { result ≡ Status.WriteFault → Rose (D.faults desk.old) (D.faults desk.new) }
     ensures unchanged { HasStoredNothing result → D.files desk.new ≡ D.files desk.old }
@@ -83,6 +87,7 @@ fn fetch_survey<D: Desk>(alloc: Global, name: &str, desk: &mut D) -> Result<Surv
     ensures read { IfOk result (λ survey. IfSome (D.files desk.old) (λ files. HoldsServed files name.now survey)) }
     ensures well_formed { IfOk result (λ survey. IsWellFormed survey) }
     ensures bounded { IfOk result (λ survey. IsBounded survey) }
+    ensures asked { IfOk result (λ _. PutsOnRecord (D.calls desk.old) (D.calls desk.new) (fetched name.now ∷ [])) }
     ensures refused { IfErr result (IsRulesRefusal (D.files desk.old) name.now) }
     ensures read_fault { IfErr result (λ status. status ≡ Status.ReadFault → Rose (D.faults desk.old) (D.faults desk.new)) }
     ensures unchanged { D.files desk.new ≡ D.files desk.old }
@@ -126,6 +131,7 @@ fn fetch_sheet<D: Desk>(
 ) -> Result<Sheet, Status>
     ensures read { IfOk result (λ sheet. IfSome (D.files desk.old) (λ files. HoldsRecords files name.now survey.now.fields sheet)) }
     ensures sheet { IfOk result (λ sheet. (bytes : List ℕ) × IsSheet survey.now.fields bytes sheet) }
+    ensures asked { IfOk result (λ _. PutsOnRecord (D.calls desk.old) (D.calls desk.new) (fetched name.now ∷ [])) }
     ensures refused { IfErr result (IsRecordsRefusal (D.files desk.old) name.now survey.now.fields) }
     ensures read_fault { IfErr result (λ status. status ≡ Status.ReadFault → Rose (D.faults desk.old) (D.faults desk.new)) }
     ensures unchanged { D.files desk.new ≡ D.files desk.old }

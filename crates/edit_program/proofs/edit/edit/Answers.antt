@@ -1,5 +1,5 @@
 use Rattle.std.proofs.Common.{refl}
-use Rattle.edit_program.proofs.RunLaws.{both_read, cut_off, edited, no_refusal, not_nothing, not_read_fault, not_usage, not_write_fault, records_refused, rules_refused}
+use Rattle.edit_program.proofs.RunLaws.{both_read, cut_off, edited, no_refusal, not_nothing, not_read_fault, not_usage, not_write_fault, records_refused, rules_refused, three_calls}
 use Rattle.edit_program.proofs.edit.edit.Goals as goal
 
 pub returns-in-Err-clause-cause : goal.returns-in-Err-clause-cause
@@ -43,3 +43,7 @@ returns-in-Err-Failed-clause-cut_off g c = λ e.
     cut_off (g.D.Desk.files c.args.desk.now) (g.D.Desk.files c.store.new.self) _ _ _ c.in-Ok-release_sheet.made.bytes.items c.deref.result.now c.in-Ok.survey c.in-Ok-fetch_sheet.sheet c.in-Ok-release_sheet.made.status
     c.in-Ok.ensures.read (rw c.in-Ok.ensures.unchanged at c.in-Ok-fetch_sheet.ensures.read) c.in-Ok-release_sheet.ensures c.deref.ensures.value
     (rw (c.in-Err-Failed.field-0-is, c.in-Ok-fetch_sheet.ensures.unchanged, c.in-Ok.ensures.unchanged) at c.in-Err-Failed.ensures.files)
+
+pub returns-in-Ok-store-clause-asked : goal.returns-in-Ok-store-clause-asked
+returns-in-Ok-store-clause-asked g c = λ released.
+    three_calls (g.D.Desk.calls c.args.desk.now) _ _ (g.D.Desk.calls c.store.new.self) _ _ _ c.in-Ok.ensures.asked c.in-Ok-fetch_sheet.ensures.asked c.in-Ok-store.ensures.calls
