@@ -4,8 +4,10 @@ ghost use Rattle.edit_model.specs.FieldSets.{has_number};
 ghost use Rattle.edit_line.specs.Lines.{HaveShape};
 ghost use Rattle.edit_line.specs.Reductions.{lines_of};
 ghost use Rattle.edit_line.specs.Shapes.{Domain};
+ghost use Rattle.linear_elim.specs.Answers.{Answers};
 ghost use Rattle.linear_elim.specs.Steps.{OneShape};
-ghost use Rattle.linear_elim.specs.Systems.{AreNumerical, IsSystem};
+ghost use Rattle.linear_elim.specs.Systems.{AreNumerical, system_at};
+ghost use Rattle.linear_elim.specs.Told.{told_system};
 ghost use Rattle.elimination_bench.specs.Differences.{numbers_of};
 
 use crate::differences::Differences;
@@ -64,7 +66,9 @@ fn take_step(
 /// The system of the edits without the fields.
 pub fn system_of(alloc: Global, edits: &Arc<Edits>, fields: FieldSet) -> Result<System, SystemFault>
     requires { AreNumerical (arc_value edits.now).shape fields }
-    ensures { IfOk result (λ system. system.edits ≡ arc_value edits.now) }
+    ensures edits { IfOk result (λ system. system.edits ≡ arc_value edits.now) }
+    ensures fields { IfOk result (λ system. system.fields ≡ fields) }
+    ensures exact { Answers (λ system. system.lines) told_system result (system_at (arc_value edits.now) fields) }
 {
     counted_system::<Brand>(alloc, edits, fields, Blank::new(1))
 }
@@ -80,7 +84,9 @@ fn counted_system<L: Ledger>(
     requires parts { blank.parts ≡ L.parts }
     requires counts { 0 < blank.parts }
     requires numerical { AreNumerical (arc_value edits.now).shape fields }
-    ensures { IfOk result (λ system. system.edits ≡ arc_value edits.now) }
+    ensures edits { IfOk result (λ system. system.edits ≡ arc_value edits.now) }
+    ensures fields { IfOk result (λ system. system.fields ≡ fields) }
+    ensures exact { Answers (λ system. system.lines) told_system result (system_at (arc_value edits.now) fields) }
 {
     let mut steps = Steps::<L>::start(blank);
     fold_system(alloc, edits, fields, &mut steps)
@@ -89,7 +95,8 @@ fn counted_system<L: Ledger>(
 // The set of the first so many fields.
 fn first_fields(count: u32) -> FieldSet
     requires { count ≤ 64 }
-    ensures { (f : ℕ) → has_number result f ≡ true → f < count }
+    ensures only { (f : ℕ) → has_number result f ≡ true → f < count }
+    ensures all { (f : ℕ) → f < count → has_number result f ≡ true }
 {
     let mut set = FieldSet::empty();
     for field in 0..count {

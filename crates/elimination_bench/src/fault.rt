@@ -53,24 +53,44 @@ impl fmt::Display for Fault {
 impl error::Error for Fault {}
 
 impl From<OutOfMemory> for Fault {
+    ghost use Rattle.std.specs.Prelude.{◌≡◌};
+    ghost use Rattle.elimination_bench.specs.declared.fault.Fault.TheVariants as faults;
+
+    ghost from_gives = { λ _ fault. fault ≡ faults.OutOfMemory };
+
     fn from(_refused: OutOfMemory) -> Self {
         Fault::OutOfMemory
     }
 }
 
 impl From<AllocError> for Fault {
+    ghost use Rattle.std.specs.Prelude.{◌≡◌};
+    ghost use Rattle.elimination_bench.specs.declared.fault.Fault.TheVariants as faults;
+
+    ghost from_gives = { λ _ fault. fault ≡ faults.OutOfMemory };
+
     fn from(_refused: AllocError) -> Self {
         Fault::OutOfMemory
     }
 }
 
 impl<T: Drop> From<AllocFailed<T>> for Fault {
+    ghost use Rattle.std.specs.Prelude.{◌≡◌};
+    ghost use Rattle.elimination_bench.specs.declared.fault.Fault.TheVariants as faults;
+
+    ghost from_gives = { λ _ fault. fault ≡ faults.OutOfMemory };
+
     fn from(_refused: AllocFailed<T>) -> Self {
         Fault::OutOfMemory
     }
 }
 
 impl From<SystemFault> for Fault {
+    ghost use Rattle.std.specs.Prelude.{◌≡◌};
+    ghost use Rattle.elimination_bench.specs.Texts.{system_fault_of};
+
+    ghost from_gives = { λ refused fault. fault ≡ system_fault_of refused };
+
     fn from(fault: SystemFault) -> Self {
         match fault {
             SystemFault::Overflow { .. } => Fault::Overflow,
@@ -80,6 +100,11 @@ impl From<SystemFault> for Fault {
 }
 
 impl From<StepFault> for Fault {
+    ghost use Rattle.std.specs.Prelude.{◌≡◌};
+    ghost use Rattle.elimination_bench.specs.Texts.{step_fault_of};
+
+    ghost from_gives = { λ refused fault. fault ≡ step_fault_of refused };
+
     fn from(fault: StepFault) -> Self {
         match fault {
             StepFault::Overflow { .. } => Fault::Overflow,

@@ -6,4 +6,4 @@ pub first_fields-requires : goal.first_fields-requires
 first_fields-requires c = omega (arith, c.requires, few-numbers c.args.differences)
 
 pub system_of-requires : goal.system_of-requires
-system_of-requires c = generated-numerical c.args.differences c.args.count c.first_fields.result _ (c.in_ok-edits-2.ensures.ok ∙ c.in_ok-edits.ensures) c.first_fields.ensures c.requires
+system_of-requires c = generated-numerical c.args.differences c.args.count c.first_fields.result _ (c.in_ok-edits-2.ensures.ok ∙ c.in_ok-edits.ensures) c.first_fields.ensures.only c.requires

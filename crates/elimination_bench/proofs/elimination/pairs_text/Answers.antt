@@ -14,7 +14,7 @@ take_step-requires c = subst (λ (ls : List Derived). OneShape ls) (sym c.lines.
 pub loop-field-init : goal.loop-field-init
 loop-field-init c =
     c.in_ok-lines.ensures (arc_value c.in_ok-edits-2.edits).shape (
-    subst (λ (e : EditsParts). HaveShape e.shape (lines_of c.lines.result.now)) c.in_ok-start.ensures (
+    subst (λ (e : EditsParts). HaveShape e.shape (lines_of c.lines.result.now)) c.in_ok-start.ensures.edits (
     subst (λ (ls : List Derived). HaveShape c.in_ok-start.start.edits.shape (lines_of ls)) (sym c.lines.ensures.lines) c.lines.ensures.over
     ))
 
