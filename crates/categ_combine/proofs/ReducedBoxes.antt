@@ -1,11 +1,11 @@
-use Rattle.std.proofs.Common.{◌≡◌, ℕ, ◌||◌, Bool, true, false, not, if◌then◌else◌, List, [], ◌∷◌, ◌++◌, ◌⊎◌, inl, inr, refl, sym, ap, ◌∙◌}
+use Rattle.std.proofs.Common.{◌≡◌, ℕ, ◌||◌, Bool, true, false, not, if◌then◌else◌, List, [], ◌∷◌, ◌++◌, inl, inr, refl, sym, ap, ◌∙◌}
 use Rattle.std.specs.List.{filter, fold, list_any}
 use Rattle.std.proofs.lemmas.List.{map-append}
 use Rattle.std.proofs.lemmas.List.Folds.{list_any-append}
 use Rattle.std.proofs.lemmas.Map.Views.{any-filter_same}
 use Rattle.edit_line.specs.Reductions.{IsIn}
 use Rattle.edit_line.specs.Sets.{all_inside}
-use Rattle.edit_line.proofs.Members.{in-any, in-either, in-filter-out}
+use Rattle.edit_line.proofs.Members.{in-any, in-reduced, in-taken}
 use Rattle.categ_combine.specs.BoxLists.{reduce_boxes, reduce_from, sets_of, with_box, with_from}
 use Rattle.categ_combine.specs.declared.box_from.BoxFrom.{BoxFrom}
 use Rattle.edit_line.proofs.TestLists.{any-map, or_grouped, or_none}
@@ -67,46 +67,13 @@ module _ (t : List ℕ → Bool) (grows : IsMonotone t) where
 
 -- ---- each reduced box is one of the boxes
 
-in-with_box : (box new : List ℕ) (kept : List (List ℕ)) → IsIn box (with_box kept new) → IsIn box kept ⊎ (box ≡ new)
-in-with_box box new kept h = by (list_any (λ b. all_inside new b) kept) h
-  where
-    by : (b : Bool) → IsIn box (if b then kept else filter (λ b. not (all_inside b new)) kept ++ new ∷ []) → IsIn box kept ⊎ (box ≡ new)
-    by true there = inl there
-    by false there = elim (in-either box (filter (λ b. not (all_inside b new)) kept) (new ∷ []) there) [
-      | inl old ↦ inl (in-filter-out (λ b. not (all_inside b new)) box kept old).0
-      | inr last ↦ elim last [ inl same ↦ inr same | inr none ↦ absurd none ]
-    ]
-
-in-fold : (box : List ℕ) (kept boxes : List (List ℕ)) → IsIn box (fold with_box kept boxes) → IsIn box kept ⊎ IsIn box boxes
-in-fold box kept [] h = inl h
-in-fold box kept (new ∷ boxes) h = elim (in-fold box (with_box kept new) boxes h) [
-  | inl early ↦ elim (in-with_box box new kept early) [ inl old ↦ inl old | inr same ↦ inr (inl same) ]
-  | inr late ↦ inr (inr late)
-]
-
 pub in-reduce : (box : List ℕ) (boxes : List (List ℕ)) → IsIn box (reduce_boxes boxes) → IsIn box boxes
-in-reduce box boxes h = elim (in-fold box [] boxes h) [ inl none ↦ absurd none | inr there ↦ there ]
+in-reduce box boxes h = in-reduced with_box (λ x new kept. in-taken (list_any (λ b. all_inside new b) kept) (λ b. not (all_inside b new)) x new kept) box boxes h
 
 -- the same of boxes with their origins
-in-with_from : (box new : BoxFrom) (kept : List BoxFrom) → IsIn box (with_from kept new) → IsIn box kept ⊎ (box ≡ new)
-in-with_from box new kept h = by (list_any (λ (b : BoxFrom). all_inside new.code_box.sets b.code_box.sets) kept) h
-  where
-    by : (b : Bool) → IsIn box (if b then kept else filter (λ (b : BoxFrom). not (all_inside b.code_box.sets new.code_box.sets)) kept ++ new ∷ []) → IsIn box kept ⊎ (box ≡ new)
-    by true there = inl there
-    by false there = elim (in-either box (filter (λ (b : BoxFrom). not (all_inside b.code_box.sets new.code_box.sets)) kept) (new ∷ []) there) [
-      | inl old ↦ inl (in-filter-out (λ (b : BoxFrom). not (all_inside b.code_box.sets new.code_box.sets)) box kept old).0
-      | inr last ↦ elim last [ inl same ↦ inr same | inr none ↦ absurd none ]
-    ]
-
-in-fold_from : (box : BoxFrom) (kept boxes : List BoxFrom) → IsIn box (fold with_from kept boxes) → IsIn box kept ⊎ IsIn box boxes
-in-fold_from box kept [] h = inl h
-in-fold_from box kept (new ∷ boxes) h = elim (in-fold_from box (with_from kept new) boxes h) [
-  | inl early ↦ elim (in-with_from box new kept early) [ inl old ↦ inl old | inr same ↦ inr (inl same) ]
-  | inr late ↦ inr (inr late)
-]
-
 pub in-reduce_from : (box : BoxFrom) (boxes : List BoxFrom) → IsIn box (reduce_from boxes) → IsIn box boxes
-in-reduce_from box boxes h = elim (in-fold_from box [] boxes h) [ inl none ↦ absurd none | inr there ↦ there ]
+in-reduce_from box boxes h =
+    in-reduced with_from (λ x new kept. in-taken (list_any (λ (b : BoxFrom). all_inside new.code_box.sets b.code_box.sets) kept) (λ (b : BoxFrom). not (all_inside b.code_box.sets new.code_box.sets)) x new kept) box boxes h
 
 -- ---- without the origins
 

@@ -1,5 +1,5 @@
 use Rattle.std.proofs.Common.{◌≡◌, ℕ, zero, suc, ◌++◌, ◌||◌, Bool, true, false, if◌then◌else◌, List, [], ◌∷◌, All, Some, slice_get, ◌⊎◌, inl, inr, refl, sym, ap, ◌∙◌, subst, arith}
-use Rattle.std.specs.List.{filter, list_any}
+use Rattle.std.specs.List.{filter, fold, list_any}
 use Rattle.edit_line.specs.Reductions.{IsIn}
 
 -- Elements of lists.
@@ -38,6 +38,26 @@ in-filter-out test x (y ∷ ys) h = by (test y) refl (in-filter-out test x ys) h
     by true e rest (inl same) = (inl same, ap test same ∙ e)
     by true e rest (inr there) = let (was, passes) = rest there in (inr was, passes)
     by false e rest there = let (was, passes) = rest there in (inr was, passes)
+
+-- what is in a list after an element is left out, or taken in and others dropped, was there or is that element
+pub in-taken : {X : Type 0} (left_out : Bool) (stays : X → Bool) (x new : X) (kept : List X) → IsIn x (if left_out then kept else filter stays kept ++ new ∷ []) → IsIn x kept ⊎ (x ≡ new)
+in-taken true stays x new kept there = inl there
+in-taken false stays x new kept there = elim (in-either x (filter stays kept) (new ∷ []) there) [
+  | inl old ↦ inl (in-filter-out stays x kept old).0
+  | inr last ↦ elim last [ inl same ↦ inr same | inr none ↦ absurd none ]
+]
+
+-- and so what is left of a list whose elements are all taken so was there
+module _ {X : Type 0} (taken : List X → X → List X) (each : (x new : X) (kept : List X) → IsIn x (taken kept new) → IsIn x kept ⊎ (x ≡ new)) where
+  in-folded : (x : X) (kept xs : List X) → IsIn x (fold taken kept xs) → IsIn x kept ⊎ IsIn x xs
+  in-folded x kept [] h = inl h
+  in-folded x kept (new ∷ xs) h = elim (in-folded x (taken kept new) xs h) [
+    | inl early ↦ elim (each x new kept early) [ inl old ↦ inl old | inr same ↦ inr (inl same) ]
+    | inr late ↦ inr (inr late)
+  ]
+
+  pub in-reduced : (x : X) (xs : List X) → IsIn x (fold taken [] xs) → IsIn x xs
+  in-reduced x xs h = elim (in-folded x [] xs h) [ inl none ↦ absurd none | inr there ↦ there ]
 
 -- what is read from a list is there
 pub in-get : {X : Type 0} (x : X) (xs : List X) (place : ℕ) → slice_get xs place ≡ Some x → IsIn x xs

@@ -6,7 +6,7 @@ use Rattle.edit_line.specs.Reductions.{IsCovered, IsIn, lines_of, reduce, reduce
 use Rattle.edit_line.specs.Shapes.{Domain}
 use Rattle.edit_line.specs.Subsumption.{is_trivial, subsumes}
 use Rattle.edit_line.specs.declared.derived.Derived.{Derived}
-use Rattle.edit_line.proofs.Members.{all-in, in-all, in-any, in-either, in-filter, in-filter-out, in-left, in-right}
+use Rattle.edit_line.proofs.Members.{all-in, in-all, in-any, in-filter, in-left, in-reduced, in-right, in-taken}
 use Rattle.edit_line.proofs.SubsumptionLaws.{subsumes-follows, trivial-holds}
 
 -- A list of lines without its trivial and subsumed ones says what the list says.
@@ -14,25 +14,11 @@ use Rattle.edit_line.proofs.SubsumptionLaws.{subsumes-follows, trivial-holds}
 -- ---- what stays was there
 
 kept-from : (line new : LineParts) (kept : List LineParts) → IsIn line (with_line kept new) → IsIn line kept ⊎ (line ≡ new)
-kept-from line new kept h = by (is_trivial new || list_any (λ a. subsumes a new) kept) h
-  where
-    by : (b : Bool) → IsIn line (if b then kept else filter (λ b. not (subsumes new b)) kept ++ new ∷ []) → IsIn line kept ⊎ (line ≡ new)
-    by true there = inl there
-    by false there = elim (in-either line (filter (λ b. not (subsumes new b)) kept) (new ∷ []) there) [
-      | inl old ↦ inl (in-filter-out (λ b. not (subsumes new b)) line kept old).0
-      | inr last ↦ elim last [ inl same ↦ inr same | inr none ↦ absurd none ]
-    ]
-
-fold-from : (line : LineParts) (kept lines : List LineParts) → IsIn line (fold with_line kept lines) → IsIn line kept ⊎ IsIn line lines
-fold-from line kept [] h = inl h
-fold-from line kept (new ∷ lines) h = elim (fold-from line (with_line kept new) lines h) [
-  | inl early ↦ elim (kept-from line new kept early) [ inl old ↦ inl old | inr same ↦ inr (inl same) ]
-  | inr late ↦ inr (inr late)
-]
+kept-from line new kept h = in-taken (is_trivial new || list_any (λ a. subsumes a new) kept) (λ b. not (subsumes new b)) line new kept h
 
 -- each reduced line is one of the lines
 pub reduce-from : (line : LineParts) (lines : List LineParts) → IsIn line (reduce lines) → IsIn line lines
-reduce-from line lines h = elim (fold-from line [] lines h) [ inl none ↦ absurd none | inr there ↦ there ]
+reduce-from line lines h = in-reduced with_line kept-from line lines h
 
 -- so they have what the lines have
 pub all-reduce : (P : LineParts → Type 0) (lines : List LineParts) → All P lines → All P (reduce lines)

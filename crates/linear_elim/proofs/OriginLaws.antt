@@ -1,12 +1,12 @@
-use Rattle.std.proofs.Common.{◌≡◌, ◌+◌, ◌++◌, ◌||◌, not, Bool, true, false, if◌then◌else◌, IsSomeAnd, slice_get, ℕ, suc, List, [], ◌∷◌, ◌⊎◌, inl, inr, Option, Some, None, Result, Ok, Err, refl, sym, ap, ◌∙◌, subst, arith}
-use Rattle.std.specs.List.{filter, fold, list_any}
+use Rattle.std.proofs.Common.{◌≡◌, ◌+◌, ◌||◌, not, Bool, true, false, if◌then◌else◌, IsSomeAnd, slice_get, ℕ, suc, List, [], ◌∷◌, inl, inr, Option, Some, None, Result, Ok, Err, refl, sym, ap, ◌∙◌, subst, arith}
+use Rattle.std.specs.List.{list_any}
 use Rattle.edit_line.specs.Lines.{HasShape, HaveShape, factor}
 use Rattle.edit_line.specs.Reductions.{IsIn, lines_of, reduce_derived, with_derived}
 use Rattle.edit_line.specs.Shapes.{Domain}
 use Rattle.edit_line.specs.Subsumption.{is_trivial, subsumes}
 use Rattle.edit_line.specs.declared.derived.Derived.{Derived}
 use Rattle.edit_line.specs.declared.derived.Origin.TheVariants.{Same}
-use Rattle.edit_line.proofs.Members.{all-in, in-all, in-either, in-filter-out, in-get}
+use Rattle.edit_line.proofs.Members.{all-in, in-all, in-either, in-get, in-reduced, in-taken}
 use Rattle.edit_line.proofs.SetLaws.{both_true}
 use Rattle.edit_line.specs.Combinations.{IsPositiveSum, first_overflow, numbers, unless_overflow}
 use Rattle.linear_elim.specs.Combinations.{combination, combined_with, first_multiplier, is_flat, is_lower, second_multiplier}
@@ -54,26 +54,10 @@ collect-all {X} {Y} P each whole i (x ∷ xs) ys at gives e y there =
 
 -- ---- what reduction leaves was there
 
-with-from : (d new : Derived) (kept : List Derived) → IsIn d (with_derived kept new) → IsIn d kept ⊎ (d ≡ new)
-with-from d new kept h = by (is_trivial new.line || list_any (λ (a : Derived). subsumes a.line new.line) kept) h
-  where
-    by : (b : Bool) → IsIn d (if b then kept else filter (λ (b : Derived). not (subsumes new.line b.line)) kept ++ new ∷ []) → IsIn d kept ⊎ (d ≡ new)
-    by true there = inl there
-    by false there = elim (in-either d (filter (λ (b : Derived). not (subsumes new.line b.line)) kept) (new ∷ []) there) [
-      | inl old ↦ inl (in-filter-out (λ (b : Derived). not (subsumes new.line b.line)) d kept old).0
-      | inr last ↦ elim last [ inl same ↦ inr same | inr none ↦ absurd none ]
-    ]
-
-fold-from : (d : Derived) (kept lines : List Derived) → IsIn d (fold with_derived kept lines) → IsIn d kept ⊎ IsIn d lines
-fold-from d kept [] h = inl h
-fold-from d kept (new ∷ lines) h = elim (fold-from d (with_derived kept new) lines h) [
-  | inl early ↦ elim (with-from d new kept early) [ inl old ↦ inl old | inr same ↦ inr (inl same) ]
-  | inr late ↦ inr (inr late)
-]
-
 -- each reduced line is one of the lines, with its origin
 pub derived-from : (d : Derived) (lines : List Derived) → IsIn d (reduce_derived lines) → IsIn d lines
-derived-from d lines h = elim (fold-from d [] lines h) [ inl none ↦ absurd none | inr there ↦ there ]
+derived-from d lines h =
+    in-reduced with_derived (λ x new kept. in-taken (is_trivial new.line || list_any (λ (a : Derived). subsumes a.line new.line) kept) (λ (b : Derived). not (subsumes new.line b.line)) x new kept) d lines h
 
 -- ---- the origins of a step
 
