@@ -54,16 +54,24 @@ Stores old new name bytes (Ok done) = (new name ≡ Some bytes) × SameElsewhere
 Stores old new name bytes (Err store.Failed) = (HoldsPrefix new name bytes ⊎ (new name ≡ old name)) × SameElsewhere old new name
 Stores old new name bytes (Err store.OutOfMemory) = new ≡ old
 
--- a fetch is put on record, but for one that ended for want of memory
+-- a fetch that did not fail, on record
+abbrev pub fetched : List ℕ → Asked
+fetched name = record { store = false; name = name; failed = false }
+
+-- a store that did not fail, on record
+abbrev pub stored : List ℕ → Asked
+stored name = record { store = true; name = name; failed = false }
+
+-- what a fetch puts on record: a file that is too long is no failure, and nothing is put there for want of memory
 abbrev pub fetch_record : List ℕ → Result (Vec ℕ Global) FetchError → List Asked
-fetch_record name (Ok bytes) = record { store = false; name = name; failed = false } ∷ []
-fetch_record name (Err (fetch.TooLong taken)) = record { store = false; name = name; failed = false } ∷ []
+fetch_record name (Ok bytes) = fetched name ∷ []
+fetch_record name (Err (fetch.TooLong taken)) = fetched name ∷ []
 fetch_record name (Err fetch.Failed) = record { store = false; name = name; failed = true } ∷ []
 fetch_record name (Err fetch.OutOfMemory) = []
 
--- a store is put on record, but for one that ended for want of memory
+-- what a store puts on record: nothing for want of memory
 abbrev pub store_record : List ℕ → Result (Unit {0}) StoreError → List Asked
-store_record name (Ok done) = record { store = true; name = name; failed = false } ∷ []
+store_record name (Ok done) = stored name ∷ []
 store_record name (Err store.Failed) = record { store = true; name = name; failed = true } ∷ []
 store_record name (Err store.OutOfMemory) = []
 
@@ -77,14 +85,6 @@ BothTell (Some old) (Some new) P = P old new
 -- the count of faults rose, or stands at the end of its range
 abbrev pub Rose : ℕ → ℕ → Type 0
 Rose before now = min (before + 1) (2 ^ 64 - 1) ≤ now
-
--- a fetch that gave its bytes, on record
-abbrev pub fetched : List ℕ → Asked
-fetched name = record { store = false; name = name; failed = false }
-
--- a store that put its bytes, on record
-abbrev pub stored : List ℕ → Asked
-stored name = record { store = true; name = name; failed = false }
 
 -- these calls, and no others, were put on record, where the calls are told
 abbrev pub PutsOnRecord : Option (List Asked) → Option (List Asked) → List Asked → Type 0

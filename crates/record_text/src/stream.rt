@@ -21,8 +21,9 @@ pub(crate) fn open_records(alloc: Global, bytes: &[u8]) -> Reader<&[u8]>
 
 /// Puts the next record into `csv_record`, in the memory that it has, or says that there is none.
 ///
-/// A slice gives no input error, and records may differ in length, so csv refuses only for want of
-/// memory. Its contract does not say the first of a slice, and every refusal is answered as the last.
+/// csv refuses for an input error, for a record of another length, or for want of memory. A slice gives no
+/// input error, though csv's contract does not say so, and records may differ in length here; so every
+/// refusal is answered as want of memory.
 pub(crate) fn read_next(
     reader: &mut Reader<&[u8]>,
     csv_record: &mut ByteRecord,
