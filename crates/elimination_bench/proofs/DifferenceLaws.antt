@@ -94,6 +94,12 @@ are-edits system count shape lines shape_is lines_are =
 
 -- ---- the edits
 
+-- all lines, over the fields of the system, are its edits
+pub all-edits : (system : Differences) (place : ℕ) (shape : List Domain) (lines : List (ℕ × LineParts)) → shape ≡ shape_with (numbers_of system) → lines ≡ differences system place → place ≡ count_of system
+    → edits_of shape lines ≡ edits_of (shape_with (numbers_of system)) (differences system (count_of system))
+all-edits system place shape lines shape_is lines_are all =
+    ap (λ (s : List Domain). edits_of s lines) shape_is ∙ ap (λ (es : List (ℕ × LineParts)). edits_of (shape_with (numbers_of system)) es) (lines_are ∙ ap (λ n. differences system n) all)
+
 pub few-numbers : (system : Differences) → numbers_of system ≤ 32
 few-numbers Plain = omega arith
 few-numbers Coded = omega arith

@@ -1,3 +1,6 @@
 mod DifferenceLaws
+mod FoldLaws
 mod ListingLaws
+mod NameLaws
 mod ReadingLaws
+mod WordLaws

@@ -1,9 +1,9 @@
-ghost use Rattle.std.specs.Prelude.{◌≡◌, ◌<◌, ◌≤◌, ◌%◌, ◌+◌, ◌++◌, [], ◌∷◌, IfOk, OnOk};
+ghost use Rattle.std.specs.Prelude.{◌≡◌, ◌<◌, ◌≤◌, ◌%◌, ◌+◌, ◌++◌, [], ◌∷◌, IfOk, IsTrue, OnOk, codes};
 ghost use Rattle.edit_line.specs.EditSets.{edits_of};
 ghost use Rattle.edit_line.specs.Shapes.{Categorical, Numerical, domain_of, domains_of, shape_of};
+ghost use Rattle.edit_model.specs.Surveys.{IsField, is_letter};
 ghost use Rattle.elimination_bench.specs.Differences.{count_of, difference, difference_line, differences, lower_field, next_draw, numbers_of, set_of, shape_with, upper_field};
 
-use crate::fault::Fault;
 use edit_line::{Edits, Line, Shape};
 use edit_model::{Field, Kind, Name, Survey, SurveyFault};
 use foundation::{OutOfMemory, Sequence};
@@ -40,7 +40,7 @@ impl Differences {
     }
 
     /// The edits.
-    pub fn edits(self, alloc: Global) -> Result<Edits, Fault>
+    pub fn edits(self, alloc: Global) -> Result<Edits, OutOfMemory>
         ensures { IfOk result (λ edits. edits ≡ edits_of (shape_with (numbers_of self)) (differences self (count_of self))) }
     {
         let numbers = self.numbers();
@@ -52,7 +52,7 @@ impl Differences {
             lines.push((place as u32, self.line(alloc, shape, place, draw)?))?;
             draw = next_draw(draw);
         }
-        Ok(Edits::new(alloc, &survey, lines)?)
+        Edits::new(alloc, &survey, lines)
     }
 
     // The line at the place, with what is drawn for it.
@@ -125,7 +125,7 @@ fn difference(alloc: Global, numbers: usize, i: usize, j: usize) -> Result<Vec<i
 }
 
 /// A survey of so many numerical fields and a field of 8 codes.
-pub fn survey_of(alloc: Global, numbers: usize) -> Result<Survey, Fault>
+pub fn survey_of(alloc: Global, numbers: usize) -> Result<Survey, OutOfMemory>
     requires { numbers ≤ 32 }
     ensures { IfOk result (λ survey. shape_of survey.fields ≡ shape_with numbers) }
 {
@@ -136,14 +136,17 @@ pub fn survey_of(alloc: Global, numbers: usize) -> Result<Survey, Fault>
     fields.push(code_field(alloc)?)?;
     match Survey::new(alloc, fields, Vec::new(alloc)) {
         Ok(survey) => Ok(survey),
-        Err(SurveyFault::Malformed) => Err(Fault::Malformed),
-        Err(SurveyFault::OutOfMemory) => Err(Fault::OutOfMemory),
+        Err(SurveyFault::Malformed) => unreachable!(),
+        Err(SurveyFault::OutOfMemory) => Err(OutOfMemory),
     }
 }
 
 // A numerical field.
 fn number_field(letter: u8) -> Field
-    ensures { domain_of result.kind ≡ Numerical }
+    requires { IsTrue (is_letter letter) }
+    ensures domain { domain_of result.kind ≡ Numerical }
+    ensures name { result.name ≡ letter ∷ [] }
+    ensures form { IsField result }
 {
     Field {
         name: name_of(letter),
@@ -154,7 +157,9 @@ fn number_field(letter: u8) -> Field
 
 // A field of the codes a to h.
 fn code_field(alloc: Global) -> Result<Field, OutOfMemory>
-    ensures { IfOk result (λ field. domain_of field.kind ≡ Categorical 8) }
+    ensures domain { IfOk result (λ field. domain_of field.kind ≡ Categorical 8) }
+    ensures name { IfOk result (λ field. field.name ≡ codes "G") }
+    ensures form { IfOk result (λ field. IsField field) }
 {
     let codes = vec![in alloc;
         name_of(b'a'),
@@ -176,7 +181,9 @@ fn code_field(alloc: Global) -> Result<Field, OutOfMemory>
 }
 
 // The name of one letter.
-fn name_of(letter: u8) -> Name {
+fn name_of(letter: u8) -> Name
+    ensures { result ≡ letter ∷ [] }
+{
     match Name::new(&[letter]) {
         Some(name) => name,
         None => unreachable!(),

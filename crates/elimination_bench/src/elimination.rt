@@ -1,14 +1,13 @@
-ghost use Rattle.std.specs.Prelude.{◌≡◌, ◌<◌, ◌≤◌, ◌+◌, ℕ, List, All, IfOk, OnOk, true};
+ghost use Rattle.std.specs.Prelude.{◌≡◌, ◌<◌, ◌≤◌, ◌++◌, [], ◌∷◌, ℕ, Ok, Err, IfOk, IfErr, length, string_bytes, true};
 ghost use Rattle.std.specs.Arc.{arc_value};
 ghost use Rattle.edit_model.specs.FieldSets.{has_number};
-ghost use Rattle.edit_line.specs.Lines.{HaveShape};
-ghost use Rattle.edit_line.specs.Reductions.{lines_of};
-ghost use Rattle.edit_line.specs.Shapes.{Domain};
 ghost use Rattle.linear_elim.specs.Answers.{Answers};
-ghost use Rattle.linear_elim.specs.Steps.{OneShape};
+ghost use Rattle.linear_elim.specs.Steps.{OneShape, pairs_count, step_result};
 ghost use Rattle.linear_elim.specs.Systems.{AreNumerical, system_at};
 ghost use Rattle.linear_elim.specs.Told.{told_system};
 ghost use Rattle.elimination_bench.specs.Differences.{numbers_of};
+ghost use Rattle.elimination_bench.specs.Folds.{fold_answer, pairs_answer, steps_answer};
+ghost use Rattle.elimination_bench.specs.Texts.{IsTold, step_text};
 
 use crate::differences::Differences;
 use crate::fault::Fault;
@@ -24,6 +23,7 @@ use std::sync::ledger::{Blank, Ledger};
 /// How many lines the system of the edits without the first so many fields has, as a line of text.
 pub fn fold_text(alloc: Global, differences: Differences, count: u32) -> Result<String, Fault>
     requires { count ≤ numbers_of differences }
+    ensures { IsTold result (fold_answer differences count) }
 {
     let edits = Arc::new(alloc, differences.edits(alloc)?)?;
     let system = system_of(alloc, &edits, first_fields(count))?;
@@ -34,12 +34,13 @@ pub fn fold_text(alloc: Global, differences: Differences, count: u32) -> Result<
 
 /// The pairs and the lines of each step of that fold, as lines of text.
 pub fn pairs_text(alloc: Global, differences: Differences, count: u32) -> Result<String, Fault>
-    requires { count ≤ numbers_of differences }
+    requires some { 1 ≤ count }
+    requires few { count ≤ numbers_of differences }
+    ensures { IsTold result (pairs_answer differences count) }
 {
-    let edits = Arc::new(alloc, differences.edits(alloc)?)?;
-    let start = system_of(alloc, &edits, FieldSet::empty())?;
+    let edits = differences.edits(alloc)?;
     let mut text = String::new(alloc);
-    let mut lines = take_step(alloc, start.lines(), 0, &mut text)?;
+    let mut lines = take_step(alloc, edits.reduced(), 0, &mut text)?;
     for field in 1..count {
         lines = take_step(alloc, &lines, field, &mut text)?;
     }
@@ -54,7 +55,9 @@ fn take_step(
     text: &mut String,
 ) -> Result<Vec<Derived>, Fault>
     requires { OneShape lines.now }
-    ensures { IfOk result (λ v. (shape : List Domain) → HaveShape shape (lines_of lines.now) → HaveShape shape (lines_of v.items)) }
+    ensures step { IfOk result (λ next. step_result lines.now field ≡ Ok next.items) }
+    ensures text { IfOk result (λ next. string_bytes text.new ≡ string_bytes text.old ++ step_text field (pairs_count lines.now field) (length next.items)) }
+    ensures fault { IfErr result (λ fault. IsTold (Err fault) (steps_answer lines.now (field ∷ []))) }
 {
     let pairs = pairs(lines, field);
     let next = step(alloc, lines, field)?;

@@ -11,8 +11,6 @@ use std::{error, fmt};
 pub enum Fault {
     /// The words are not in form.
     Usage,
-    /// The generated fields are no survey.
-    Malformed,
     /// A number of a combination is out of range.
     Overflow,
     /// Memory was refused.
@@ -26,7 +24,6 @@ impl Fault {
     {
         match self {
             Fault::Usage => 2,
-            Fault::Malformed => 3,
             Fault::Overflow => 4,
             Fault::OutOfMemory => 7,
         }
@@ -43,7 +40,6 @@ impl fmt::Display for Fault {
         f.write_str(match self {
             Fault::Usage =>
                 "usage: elimination_bench fold|pairs FIELDS [codes] | steps COUNT [sums]",
-            Fault::Malformed => "the generated fields are no survey",
             Fault::Overflow => "a number of a combination is out of range",
             Fault::OutOfMemory => "out of memory",
         })

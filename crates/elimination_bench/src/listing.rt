@@ -1,9 +1,10 @@
-ghost use Rattle.std.specs.Prelude.{◌≡◌, [], IfOk, OnOk, length, replicate};
+ghost use Rattle.std.specs.Prelude.{◌≡◌, ℕ, IfOk, length, map, replicate, string_bytes};
 ghost use Rattle.edit_model.specs.Rows.{IsRow};
-ghost use Rattle.edit_line.specs.Lines.{AreOver};
+ghost use Rattle.edit_model.specs.declared.value.Value.TheVariants.{Bad};
+ghost use Rattle.edit_line.specs.Lines.{LineParts};
+ghost use Rattle.elimination_bench.specs.Listings.{first_refused, generated_lines, step_at, steps_of, verdict_text};
 
 use crate::differences::{Differences, survey_of};
-use crate::fault::Fault;
 use derivation::{Step, StepsFault, check_steps};
 use edit_line::{Edits, Line};
 use edit_model::{FieldSet, Row, Survey, Value};
@@ -21,7 +22,9 @@ pub enum Listing {
 
 impl Listing {
     // The step at the place.
-    fn step(self, place: u64) -> Step {
+    fn step(self, place: u64) -> Step
+        ensures { result ≡ step_at self place }
+    {
         match self {
             Listing::Given => Step::Given(place % 992),
             Listing::Sums if place == 0 => Step::Given(0),
@@ -37,10 +40,21 @@ impl Listing {
 }
 
 /// Whether a list of so many steps over the generated edits is accepted, as a line of text.
-pub fn steps_text(alloc: Global, listing: Listing, count: u64) -> Result<String, Fault> {
+pub fn steps_text(alloc: Global, listing: Listing, count: u64) -> Result<String, OutOfMemory>
+    ensures { IfOk result (λ text. string_bytes text ≡ verdict_text count (first_refused listing count)) }
+{
+    match first_refused(alloc, listing, count)? {
+        None => Ok(format!(in alloc; "steps {count} accepted\n")?),
+        Some(place) => Ok(format!(in alloc; "steps {count} refused at place {place}\n")?),
+    }
+}
+
+// The place of the first of so many steps that is not valid, if one is not.
+fn first_refused(alloc: Global, listing: Listing, count: u64) -> Result<Option<u64>, OutOfMemory>
+    ensures { IfOk result (λ place. place ≡ first_refused listing count) }
+{
     let survey = survey_of(alloc, Differences::Plain.numbers())?;
-    let edits = Differences::Plain.edits(alloc)?;
-    let given = given_lines(alloc, &edits)?;
+    let given = generated_lines(alloc)?;
     let usable = vec![in alloc; true; given.len()]?;
     let row = unknown_row(alloc, &survey)?;
     let steps = steps_of(alloc, listing, count)?;
@@ -53,16 +67,16 @@ pub fn steps_text(alloc: Global, listing: Listing, count: u64) -> Result<String,
         FieldSet::empty(),
         &steps,
     ) {
-        Ok(_) => Ok(format!(in alloc; "steps {count} accepted\n")?),
-        Err(StepsFault::Bad { place }) => {
-            Ok(format!(in alloc; "steps {count} refused at place {place}\n")?)
-        }
-        Err(StepsFault::OutOfMemory) => Err(Fault::OutOfMemory),
+        Ok(_) => Ok(None),
+        Err(StepsFault::Bad { place }) => Ok(Some(place)),
+        Err(StepsFault::OutOfMemory) => Err(OutOfMemory),
     }
 }
 
 // So many steps.
-fn steps_of(alloc: Global, listing: Listing, count: u64) -> Result<Vec<Step>, OutOfMemory> {
+fn steps_of(alloc: Global, listing: Listing, count: u64) -> Result<Vec<Step>, OutOfMemory>
+    ensures { IfOk result (λ steps. steps.items ≡ steps_of listing count) }
+{
     let mut steps = Vec::new(alloc);
     for place in 0..count {
         steps.push(listing.step(place))?;
@@ -70,9 +84,17 @@ fn steps_of(alloc: Global, listing: Listing, count: u64) -> Result<Vec<Step>, Ou
     Ok(steps)
 }
 
+// The lines of the generated edits.
+fn generated_lines(alloc: Global) -> Result<Vec<Line>, OutOfMemory>
+    ensures { IfOk result (λ lines. lines.items ≡ generated_lines) }
+{
+    let edits = Differences::Plain.edits(alloc)?;
+    lines_of(alloc, &edits)
+}
+
 // The lines of the edits.
-fn given_lines(alloc: Global, edits: &Edits) -> Result<Vec<Line>, OutOfMemory>
-    ensures { IfOk result (λ lines. AreOver edits.now.shape lines.items) }
+fn lines_of(alloc: Global, edits: &Edits) -> Result<Vec<Line>, OutOfMemory>
+    ensures { IfOk result (λ lines. lines.items ≡ map (λ (e : ℕ × LineParts). e.1) edits.now.lines) }
 {
     let mut lines = Vec::new(alloc);
     for (_, line) in edits.lines() {
@@ -83,7 +105,8 @@ fn given_lines(alloc: Global, edits: &Edits) -> Result<Vec<Line>, OutOfMemory>
 
 // A record of which nothing is known.
 fn unknown_row(alloc: Global, survey: &Survey) -> Result<Row, OutOfMemory>
-    ensures { IfOk result (λ row. IsRow survey.now.fields row) }
+    ensures row { IfOk result (λ row. IsRow survey.now.fields row) }
+    ensures unknown { IfOk result (λ row. row ≡ replicate (length survey.now.fields) Bad) }
 {
     let values = vec![in alloc; Value::Bad; survey.fields().len()]?;
     Ok(Row::new(survey, values))

@@ -3,6 +3,11 @@
 //! them in `elimination` and `listing`.
 #![tactic(auto)]
 
+ghost use Rattle.std.specs.Prelude.{map, string_bytes};
+ghost use Rattle.elimination_bench.specs.Tasks.{task_in};
+ghost use Rattle.elimination_bench.specs.Texts.{IsTold};
+ghost use Rattle.elimination_bench.specs.Told.{told_of};
+
 mod differences;
 mod elimination;
 mod fault;
@@ -30,13 +35,20 @@ fn main(rt: HostRuntime) -> ExitCode {
     }
 }
 
-// What is printed.
+// What is printed of the words after the program's name.
 fn told<R: std::rt::Env + AllocGlobal>(rt: &R, alloc: Global) -> Result<String, Fault> {
     let words = words::after_program_name(rt)?;
-    match words::task_of(&words) {
+    text_of(alloc, &words)
+}
+
+// What is printed of these words.
+fn text_of(alloc: Global, words: &[String]) -> Result<String, Fault>
+    ensures { IsTold result (told_of (task_in (map string_bytes words.now))) }
+{
+    match words::task_of(words) {
         None => Err(Fault::Usage),
         Some(Task::Fold(system, count)) => elimination::fold_text(alloc, system, count),
         Some(Task::Pairs(system, count)) => elimination::pairs_text(alloc, system, count),
-        Some(Task::Steps(listing, count)) => listing::steps_text(alloc, listing, count),
+        Some(Task::Steps(listing, count)) => Ok(listing::steps_text(alloc, listing, count)?),
     }
 }

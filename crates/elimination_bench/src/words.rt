@@ -1,6 +1,6 @@
-ghost use Rattle.std.specs.Prelude.{◌≤◌, IfErr, IfSome};
+ghost use Rattle.std.specs.Prelude.{◌≡◌, ◌⊎◌, ◌^◌, IfErr, IfSome, map, string_bytes};
 ghost use Rattle.elimination_bench.specs.Differences.{numbers_of};
-ghost use Rattle.elimination_bench.specs.Tasks.{IsServed};
+ghost use Rattle.elimination_bench.specs.Tasks.{IsServed, listed, number_in, served, task_in};
 
 use crate::differences::Differences;
 use crate::fault::Fault;
@@ -24,7 +24,9 @@ pub enum Task {
 }
 
 /// The words after the program's name.
-pub fn after_program_name<R: Env + AllocGlobal>(rt: &R) -> Result<Vec<String>, Fault> {
+pub fn after_program_name<R: Env + AllocGlobal>(rt: &R) -> Result<Vec<String>, Fault>
+    ensures { IfErr result (λ fault. (fault ≡ Fault.Usage) ⊎ (fault ≡ Fault.OutOfMemory)) }
+{
     match env::args(rt) {
         Ok(all) => Ok(all.skip(1).collect(rt.alloc())?),
         Err(error) if error.kind() == ErrorKind::OutOfMemory => Err(Fault::OutOfMemory),
@@ -35,7 +37,8 @@ pub fn after_program_name<R: Env + AllocGlobal>(rt: &R) -> Result<Vec<String>, F
 /// The task of the words `fold FIELDS` or `pairs FIELDS`, with `codes` behind it for lines with drawn sets
 /// of codes; or of `steps COUNT`, with `sums` behind it for steps that combine lines.
 pub fn task_of(words: &[String]) -> Option<Task>
-    ensures { IfSome result IsServed }
+    ensures exact { result ≡ task_in (map string_bytes words.now) }
+    ensures served { IfSome result IsServed }
 {
     match words {
         [verb, count] if verb.as_str() == "steps" => listed(Listing::Given, count.as_str()),
@@ -52,7 +55,8 @@ pub fn task_of(words: &[String]) -> Option<Task>
 
 // The task of the verb over the system.
 fn served(verb: &str, system: Differences, count: &str) -> Option<Task>
-    ensures { IfSome result IsServed }
+    ensures exact { result ≡ served verb.now system (number_in count.now (numbers_of system)) }
+    ensures served { IfSome result IsServed }
 {
     let count = count_within(count, system)?;
     match verb {
@@ -64,7 +68,8 @@ fn served(verb: &str, system: Differences, count: &str) -> Option<Task>
 
 // The check of so many steps.
 fn listed(listing: Listing, count: &str) -> Option<Task>
-    ensures { IfSome result IsServed }
+    ensures exact { result ≡ listed listing (number_in count.now (10 ^ 7)) }
+    ensures served { IfSome result IsServed }
 {
     match number_in(count, MOST_STEPS) {
         Some(count) => Some(Task::Steps(listing, count)),
@@ -74,7 +79,7 @@ fn listed(listing: Listing, count: &str) -> Option<Task>
 
 // The number of fields, of which the system has at least so many.
 fn count_within(text: &str, system: Differences) -> Option<u32>
-    ensures { IfSome result (λ count. count ≤ numbers_of system) }
+    ensures { result ≡ number_in text.now (numbers_of system) }
 {
     match number_in(text, system.numbers() as u64) {
         Some(count) => Some(count as u32),
@@ -84,14 +89,14 @@ fn count_within(text: &str, system: Differences) -> Option<u32>
 
 // The number that is written in digits, if it is at most so much.
 fn number_in(text: &str, most: u64) -> Option<u64>
-    ensures { IfSome result (λ number. number ≤ most) }
+    ensures { result ≡ number_in text.now most }
 {
     let first = text.as_bytes().first()?;
     if !first.is_ascii_digit() {
         return None;
     }
-    match text.parse::<u64>() {
-        Ok(number) if number <= most => Some(number),
-        _ => None,
-    }
+    let Ok(number) = text.parse::<u64>() else {
+        return None;
+    };
+    if number <= most { Some(number) } else { None }
 }

@@ -1,15 +1,9 @@
-use Rattle.std.proofs.Common.{List, ap, sym, ◌∙◌, subst}
-use Rattle.edit_line.specs.EditSets.{EditsParts}
-use Rattle.edit_line.specs.Lines.{AreOver, LineParts}
-use Rattle.edit_line.specs.Shapes.{Domain, shape_of}
-use Rattle.elimination_bench.specs.Differences.{shape_with}
+use Rattle.std.proofs.Common.{ap, sym, ◌∙◌}
+use Rattle.elimination_bench.specs.Listings.{verdict_text}
 use Rattle.elimination_bench.proofs.listing.steps_text.Goals as goal
 
-pub check_steps-requires-clause-over : goal.check_steps-requires-clause-over
-check_steps-requires-clause-over c =
-    subst (λ (ls : List LineParts). AreOver (shape_of c.in_ok-survey.survey.fields) ls) (sym c.deref.ensures.value) (
-    subst (λ (s : List Domain). AreOver s c.in_ok-given.given.items) (ap (λ (e : EditsParts). e.shape) c.in_ok-edits.ensures ∙ sym (c.in_ok-survey.ensures ∙ ap shape_with c.numbers.ensures)) c.in_ok-given.ensures
-    )
+pub returns-in_ok-format-in-None : goal.returns-in_ok-format-in-None
+returns-in_ok-format-in-None c = c.in_ok-format-in-None.ensures.ok ∙ ap (verdict_text c.args.count) (sym c.in-None.is ∙ c.in_ok-first_refused.ensures)
 
-pub check_steps-requires-clause-kept : goal.check_steps-requires-clause-kept
-check_steps-requires-clause-kept c f has = absurd (cc (sym has ∙ c.empty.ensures f))
+pub returns-in_ok-format-in-Some : goal.returns-in_ok-format-in-Some
+returns-in_ok-format-in-Some c = c.in_ok-format-in-Some.ensures.ok ∙ ap (verdict_text c.args.count) (sym c.in-Some.is ∙ c.in_ok-first_refused.ensures)

@@ -1,9 +1,7 @@
-use Rattle.std.proofs.Common.{◌≡◌, ◌*◌, ◌-◌, ℕ, List, ap, ◌∙◌, arith}
-use Rattle.edit_line.specs.EditSets.{edits_of}
-use Rattle.edit_line.specs.Lines.{LineParts}
-use Rattle.edit_line.specs.Shapes.{Domain}
-use Rattle.elimination_bench.specs.Differences.{differences, numbers_of, shape_with}
-use Rattle.elimination_bench.proofs.DifferenceLaws.{are-edits, differences-more, draw-more}
+use Rattle.std.proofs.Common.{◌≡◌, ◌*◌, ◌-◌, IfOk, ap, ◌∙◌, subst, arith}
+use Rattle.edit_line.specs.EditSets.{EditsParts}
+use Rattle.elimination_bench.specs.Differences.{shape_with}
+use Rattle.elimination_bench.proofs.DifferenceLaws.{all-edits, are-edits, differences-more, draw-more}
 use Rattle.elimination_bench.proofs.differences.Differences.edits.Goals as goal
 
 pub loop-place-preserved : goal.loop-place-preserved
@@ -20,7 +18,5 @@ new-requires c = are-edits c.args.self c.loop-place.place _ c.loop-place.lines.i
 pub returns : goal.returns
 returns c =
     let all : c.loop-place.place ≡ c.numbers-numbers.result * (c.numbers-numbers.result - 1) = omega (arith, c.loop-place-test.false, c.loop-place.auto.place-end) in
-    c.in_ok-new.ensures
-    ∙ ap (λ (s : List Domain). edits_of s c.loop-place.lines.items) (c.in_ok-survey.ensures ∙ ap shape_with c.numbers-numbers.ensures)
-    ∙ ap (λ (es : List (ℕ × LineParts)). edits_of (shape_with (numbers_of c.args.self)) es) c.loop-place.invariant.0
-    ∙ ap (λ n. edits_of (shape_with (numbers_of c.args.self)) (differences c.args.self n)) (all ∙ ap (λ n. n * (n - 1)) c.numbers-numbers.ensures)
+    let same = all-edits c.args.self c.loop-place.place _ c.loop-place.lines.items (c.in_ok-survey.ensures ∙ ap shape_with c.numbers-numbers.ensures) c.loop-place.invariant.0 (all ∙ ap (λ n. n * (n - 1)) c.numbers-numbers.ensures) in
+    subst (λ (p : EditsParts). IfOk c.new.result (λ edits. edits ≡ p)) same c.new.ensures
