@@ -67,36 +67,37 @@ fn answers(
 
 #[test]
 fn a_line_has_its_sum_at_a_record(rt: HostRuntime) -> Result<(), Fail> {
-    let alloc = rt.alloc();
-    let seven = answers(alloc, 2, 3, false, 2)?;
-    assert_eq!(rt; seven.sum, Ok(Fraction::whole(7)));
-    let negative = answers(alloc, -2, 3, false, 2)?;
-    assert_eq!(rt; negative.sum, Ok(Fraction::whole(-1)));
-    assert_eq!(rt; negative.failed, Ok(true));
-    let no_factor = answers(alloc, 0, -1, false, MOST)?;
-    assert_eq!(rt; no_factor.sum, Ok(Fraction::whole(-1)));
+    for (factor, constant, value, sum) in [(2, 3, 2, 7), (-2, 3, 2, -1), (0, -1, 9, -1)] {
+        let told = answers(rt.alloc(), factor, constant, false, value)?;
+        assert_eq!(rt; told.sum, Ok(Fraction::whole(sum)));
+        assert_eq!(rt; told.failed, Ok(sum < 0));
+    }
     Ok(())
 }
 
 #[test]
 fn a_sum_of_0_fails_where_the_line_is_strict(rt: HostRuntime) -> Result<(), Fail> {
-    let alloc = rt.alloc();
-    assert_eq!(rt; answers(alloc, 1, -2, true, 2)?.failed, Ok(true));
-    assert_eq!(rt; answers(alloc, 1, -2, false, 2)?.failed, Ok(false));
-    assert_eq!(rt; answers(alloc, 1, -1, true, 2)?.failed, Ok(false));
+    for (constant, strict, failed) in [(-2, true, true), (-2, false, false), (-1, true, false)] {
+        let told = answers(rt.alloc(), 1, constant, strict, 2)?;
+        assert_eq!(rt; told.failed, Ok(failed));
+    }
     Ok(())
 }
 
 #[test]
 fn a_sum_out_of_range_is_told_with_its_field(rt: HostRuntime) -> Result<(), Fail> {
-    let alloc = rt.alloc();
-    let overflow = LineOverflow { field: 0 };
-    let scaled = answers(alloc, MOST, 1, false, 2)?;
-    assert_eq!(rt; scaled.sum, Err(overflow));
-    assert_eq!(rt; scaled.failed, Err(overflow));
-    let added = answers(alloc, MOST, 1, false, 1)?;
-    assert_eq!(rt; added.sum, Err(overflow));
-    let text = format!(in alloc; "{overflow}")?;
+    // scaled out of range, and then added out of range
+    for value in [2, 1] {
+        let told = answers(rt.alloc(), MOST, 1, false, value)?;
+        assert_eq!(rt; told.sum, Err(LineOverflow { field: 0 }));
+        assert_eq!(rt; told.failed, Err(LineOverflow { field: 0 }));
+    }
+    Ok(())
+}
+
+#[test]
+fn an_overflow_is_told_in_words(rt: HostRuntime) -> Result<(), Fail> {
+    let text = format!(in rt.alloc(); "{}", LineOverflow { field: 0 })?;
     assert_eq!(rt; text.as_str(), "a number is out of range at field 0");
     Ok(())
 }
@@ -110,30 +111,42 @@ fn has_parts(line: &Line, factor: i128, constant: i128, strict: bool) -> bool {
 }
 
 #[test]
-fn lines_and_boxes_are_copied_and_edits_keep_them(rt: HostRuntime) -> Result<(), Fail> {
+fn a_line_is_copied_with_its_origin(rt: HostRuntime) -> Result<(), Fail> {
     let alloc = rt.alloc();
     let survey = survey_of_one(alloc)?;
-    let line = Line::new(&survey, Vec::new(alloc), vec![in alloc; 2; 1]?, -3, true);
     let derived = Derived {
-        line: line.copy(alloc)?,
+        line: Line::new(&survey, Vec::new(alloc), vec![in alloc; 2; 1]?, -3, true),
         origin: Origin::Base(7),
     };
     let copy = derived.copy(alloc)?;
-    assert!(rt; has_parts(&copy.line, 2, -3, true));
-    assert_eq!(rt; copy.origin, Origin::Base(7));
-    let empty = CodeBox::new(&survey, Vec::new(alloc));
-    assert!(rt; empty.copy(alloc)?.sets().is_empty());
-    let mut lines = Vec::new(alloc);
-    lines.push((7, line))?;
-    let edits = Edits::new(alloc, &survey, lines)?;
-    assert_eq!(rt; (edits.lines().len(), edits.reduced().len()), (1, 1));
-    for (number, kept) in edits.lines() {
-        assert_eq!(rt; *number, 7);
-        assert!(rt; has_parts(kept, 2, -3, true));
+    assert!(rt; copy.origin == Origin::Base(7) && has_parts(&copy.line, 2, -3, true));
+    Ok(())
+}
+
+#[test]
+fn a_box_is_copied(rt: HostRuntime) -> Result<(), Fail> {
+    let alloc = rt.alloc();
+    let survey = survey_of_one(alloc)?;
+    let copy = CodeBox::new(&survey, Vec::new(alloc)).copy(alloc)?;
+    assert!(rt; copy.sets().is_empty());
+    Ok(())
+}
+
+#[test]
+fn edits_keep_their_lines(rt: HostRuntime) -> Result<(), Fail> {
+    let alloc = rt.alloc();
+    let survey = survey_of_one(alloc)?;
+    let line = Line::new(&survey, Vec::new(alloc), vec![in alloc; 2; 1]?, -3, true);
+    let edits = Edits::new(alloc, &survey, vec![in alloc; (7, line)]?)?;
+    match edits.lines() {
+        [(number, kept)] => assert!(rt; *number == 7 && has_parts(kept, 2, -3, true)),
+        _ => return Err(Fail::from("one line")),
     }
-    for reduced in edits.reduced() {
-        assert_eq!(rt; reduced.origin, Origin::Base(7));
-        assert!(rt; has_parts(&reduced.line, 2, -3, true));
+    match edits.reduced() {
+        [kept] => {
+            assert!(rt; kept.origin == Origin::Base(7) && has_parts(&kept.line, 2, -3, true));
+        }
+        _ => return Err(Fail::from("one reduced line")),
     }
     Ok(())
 }
@@ -163,16 +176,30 @@ fn multiples_of_two_lines_are_added_and_divided(rt: HostRuntime) -> Result<(), F
     let s = line_of(alloc, &survey, 2, -4, true)?;
     let t = line_of(alloc, &survey, -4, 10, false)?;
     let mut line = t.copy(alloc)?;
-    assert_eq!(rt; line.write_sum(1, &s, 1, &t), None);
-    assert!(rt; has_parts(&line, -2, 6, true));
-    assert_eq!(rt; line.reduce_numbers(), 2);
-    assert!(rt; has_parts(&line, -1, 3, true));
-    // a factor out of range, and then a constant
-    let mut refused = t.copy(alloc)?;
-    assert_eq!(rt; refused.write_sum(MOST, &s, 1, &t), Some(0));
+    let refused = line.write_sum(1, &s, 1, &t);
+    assert!(rt; refused.is_none() && has_parts(&line, -2, 6, true));
+    let divisor = line.reduce_numbers();
+    assert!(rt; divisor == 2 && has_parts(&line, -1, 3, true));
+    Ok(())
+}
+
+#[test]
+fn a_sum_of_lines_tells_its_first_place_out_of_range(rt: HostRuntime) -> Result<(), Fail> {
+    let alloc = rt.alloc();
+    let survey = survey_of_one(alloc)?;
+    let two = line_of(alloc, &survey, 2, 10, true)?;
     let most = line_of(alloc, &survey, 0, MOST, false)?;
-    assert_eq!(rt; refused.write_sum(1, &t, 1, &most), Some(1));
-    // quotients are taken toward 0
+    let mut line = two.copy(alloc)?;
+    let factor = line.write_sum(MOST, &two, 1, &two);
+    let constant = line.write_sum(1, &two, 1, &most);
+    assert_eq!(rt; (factor, constant), (Some(0), Some(1)));
+    Ok(())
+}
+
+#[test]
+fn quotients_are_taken_toward_0(rt: HostRuntime) -> Result<(), Fail> {
+    let alloc = rt.alloc();
+    let survey = survey_of_one(alloc)?;
     let mut odd = line_of(alloc, &survey, -3, 7, false)?;
     odd.divide_by(2);
     assert!(rt; has_parts(&odd, -1, 3, false));
