@@ -9,6 +9,7 @@ use TestPlan::{Codes, Number as Sum};
 use ValuePlan::{Code, Greatest, Number};
 use fraction128::{Fraction, Overflow};
 use std::alloc::Global;
+use std::process::Abort;
 use std::test::Fail;
 
 /// Two numerical fields, 0 and 1, and a categorical one, 2, with two codes.
@@ -270,18 +271,26 @@ const CASES: [(&[TestPlan], TestPlan, &[ValuePlan], Answer); 19] = [
     ),
 ];
 
-#[test]
-fn a_rule_holds_exactly_where_it_is_true(rt: HostRuntime) -> Result<(), Fail> {
-    let alloc = rt.alloc();
+/// Asks whether each rule holds at its record, and compares with the table.
+fn answer_rules(
+    rt: &impl Abort,
+    alloc: Global,
+    cases: &[(&[TestPlan], TestPlan, &[ValuePlan], Answer)],
+) -> Result<(), Fail> {
     let survey = Survey::new(alloc, fields_of(alloc, &FIELDS)?, Vec::new(alloc))?;
-    for (conditions, conclusion, values, answer) in CASES {
-        let rule = rule_of(alloc, conditions, conclusion)?;
+    for (conditions, conclusion, values, answer) in cases {
+        let rule = rule_of(alloc, conditions, *conclusion)?;
         let row = row_of(alloc, &survey, values)?;
         assert_eq!(rt;
             answer_of(&row, &rule)?,
-            answer,
+            *answer,
             "at {conditions:?}, {conclusion:?}, {values:?}"
         );
     }
     Ok(())
+}
+
+#[test]
+fn a_rule_holds_exactly_where_it_is_true(rt: HostRuntime) -> Result<(), Fail> {
+    answer_rules(&rt, rt.alloc(), &CASES)
 }

@@ -4,6 +4,8 @@ use super::plan::{
 use crate::{Compare, Survey};
 use FieldPlan::{Code, Number};
 use TestPlan::{Codes, Number as Sum};
+use std::alloc::Global;
+use std::process::Abort;
 use std::test::Fail;
 
 /// Two numerical fields, 0 and 1, and two categorical ones, 2 with two codes and 3 with one.
@@ -53,48 +55,62 @@ const RULES: [(&[TestPlan], TestPlan, bool); 25] = [
     (&[Codes(2, false, 0b100)], IS_DUTCH, false),
 ];
 
-#[test]
-fn a_field_is_taken_exactly_within_its_limits(rt: HostRuntime) -> Result<(), Fail> {
-    let alloc = rt.alloc();
-    let cases = [
-        (Number(b"a", 1, 1), true),
-        (Number(b"Profit_2", 1000, 1_000_000_000_000), true),
-        (Code(b"Status", 1, &[b"3-a.b_C"]), true),
-        (Number(b"2nd", 1, 1), false),
-        (Number(b"_a", 1, 1), false),
-        (Number(b"a-b", 1, 1), false),
-        (Number(b"number", 1, 1), false),
-        (Number(b"then", 1, 1), false),
-        (Number(b"Then", 1, 1), true),
-        (Number(b"Profit", 0, 1), false),
-        (Number(b"Profit", 1001, 1), false),
-        (Number(b"Profit", 1, 0), false),
-        (Number(b"Profit", 1, 1_000_000_000_001), false),
-        (Code(b"Status", 1, &[]), false),
-        (Code(b"Status", 1, &[b"a", b"b", b"a"]), false),
-        (Code(b"Status", 1, &[b"a", b"A"]), true),
-        (Code(b"Status", 1, &[b"a b"]), false),
-        (Code(b"in", 1, &[b"in"]), false),
-    ];
+/// Fields, and whether each is taken.
+const NEW_FIELDS: [(FieldPlan, bool); 18] = [
+    (Number(b"a", 1, 1), true),
+    (Number(b"Profit_2", 1000, 1_000_000_000_000), true),
+    (Code(b"Status", 1, &[b"3-a.b_C"]), true),
+    (Number(b"2nd", 1, 1), false),
+    (Number(b"_a", 1, 1), false),
+    (Number(b"a-b", 1, 1), false),
+    (Number(b"number", 1, 1), false),
+    (Number(b"then", 1, 1), false),
+    (Number(b"Then", 1, 1), true),
+    (Number(b"Profit", 0, 1), false),
+    (Number(b"Profit", 1001, 1), false),
+    (Number(b"Profit", 1, 0), false),
+    (Number(b"Profit", 1, 1_000_000_000_001), false),
+    (Code(b"Status", 1, &[]), false),
+    (Code(b"Status", 1, &[b"a", b"b", b"a"]), false),
+    (Code(b"Status", 1, &[b"a", b"A"]), true),
+    (Code(b"Status", 1, &[b"a b"]), false),
+    (Code(b"in", 1, &[b"in"]), false),
+];
+
+/// Makes a survey of each field, beside others, which is taken where the table says so.
+fn take_fields(rt: &impl Abort, alloc: Global, cases: &[(FieldPlan, bool)]) -> Result<(), Fail> {
     for (plan, fits) in cases {
         let mut fields = fields_of(alloc, &FIELDS)?;
-        fields.push(field_of(alloc, plan)?)?;
+        fields.push(field_of(alloc, *plan)?)?;
         let made = make_a_survey(alloc, fields, Vec::new(alloc))?;
-        assert_eq!(rt; made, fits, "at {plan:?}");
+        assert_eq!(rt; made, *fits, "at {plan:?}");
+    }
+    Ok(())
+}
+
+#[test]
+fn a_field_is_taken_exactly_within_its_limits(rt: HostRuntime) -> Result<(), Fail> {
+    take_fields(&rt, rt.alloc(), &NEW_FIELDS)
+}
+
+/// Makes a survey of each rule, which is taken where the table says so.
+fn take_rules(
+    rt: &impl Abort,
+    alloc: Global,
+    cases: &[(&[TestPlan], TestPlan, bool)],
+) -> Result<(), Fail> {
+    for (conditions, conclusion, fits) in cases {
+        let mut rules = Vec::new(alloc);
+        rules.push(rule_of(alloc, conditions, *conclusion)?)?;
+        let made = make_a_survey(alloc, fields_of(alloc, &FIELDS)?, rules)?;
+        assert_eq!(rt; made, *fits, "at {conditions:?}, {conclusion:?}");
     }
     Ok(())
 }
 
 #[test]
 fn a_rule_is_taken_exactly_within_its_limits(rt: HostRuntime) -> Result<(), Fail> {
-    let alloc = rt.alloc();
-    for (conditions, conclusion, fits) in RULES {
-        let mut rules = Vec::new(alloc);
-        rules.push(rule_of(alloc, conditions, conclusion)?)?;
-        let made = make_a_survey(alloc, fields_of(alloc, &FIELDS)?, rules)?;
-        assert_eq!(rt; made, fits, "at {conditions:?}, {conclusion:?}");
-    }
-    Ok(())
+    take_rules(&rt, rt.alloc(), &RULES)
 }
 
 #[test]
