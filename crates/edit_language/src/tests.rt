@@ -1,6 +1,7 @@
 use crate::{RulesFault, read_rules};
 use edit_model::{Compare, Field, Kind, Survey, Test};
 use std::alloc::Global;
+use std::process::Abort;
 use std::test::Fail;
 
 /// Reads a rule text of fewer than 2^32 bytes.
@@ -20,6 +21,14 @@ fn first_fault(alloc: Global, text: &[u8]) -> Result<(u32, u8), Fail> {
     }
 }
 
+/// Reads each text, and compares its first fault with the table's.
+fn tell_faults(rt: &impl Abort, alloc: Global, cases: &[(&[u8], u32, u8)]) -> Result<(), Fail> {
+    for (text, line, kind) in cases {
+        assert_eq!(rt; first_fault(alloc, text)?, (*line, *kind), "at {text:?}");
+    }
+    Ok(())
+}
+
 /// The text so many times, each with its number and what closes it behind it.
 fn numbered(alloc: Global, text: &str, close: &str, count: usize) -> Result<String, Fail> {
     let mut all = String::new(alloc);
@@ -31,107 +40,111 @@ fn numbered(alloc: Global, text: &str, close: &str, count: usize) -> Result<Stri
 
 #[test]
 fn the_first_fault_is_told_by_line_and_kind(rt: HostRuntime) -> Result<(), Fail> {
-    for (text, line, kind) in [
-        (b"number A\nnumber A".as_slice(), 2, 4),
-        (b"A >= 0", 1, 3),
-        (b"number A\n0.5 A >= 0", 2, 7),
-        (b"number A\ncode B in {x, y}\nif A = 0 then B in {x}", 3, 9),
-        (b"code B in {x, x}", 1, 6),
-        (b"number A >= 0", 1, 2),
-        (b"\xC3", 1, 1),
-        (b"", 0, 0),
-    ] {
-        assert_eq!(rt; first_fault(rt.alloc(), text)?, (line, kind), "at {text:?}");
-    }
-    Ok(())
+    tell_faults(
+        &rt,
+        rt.alloc(),
+        &[
+            (b"number A\nnumber A", 2, 4),
+            (b"A >= 0", 1, 3),
+            (b"number A\n0.5 A >= 0", 2, 7),
+            (b"number A\ncode B in {x, y}\nif A = 0 then B in {x}", 3, 9),
+            (b"code B in {x, x}", 1, 6),
+            (b"number A >= 0", 1, 2),
+            (b"\xC3", 1, 1),
+            (b"", 0, 0),
+        ],
+    )
 }
 
 #[test]
 fn of_the_kinds_of_a_line_the_least_is_told(rt: HostRuntime) -> Result<(), Fail> {
-    for (text, line, kind) in [
-        (b"number A \x00".as_slice(), 1, 1),
-        (b"A >= \xC3", 1, 1),
-        (b"number", 1, 2),
-        (b"number number", 1, 2),
-        (b"0.5 A >= >= 0", 1, 2),
-        (b"0.5 A >= 0", 1, 3),
-        (b"code B in {x}\nif B in {y} then A in {y, y}", 2, 3),
-        (b"number A\nA in {x}", 2, 3),
-        (b"code B in {x}\nB >= 0", 2, 3),
-        (b"number A\nnumber A weight 0", 2, 4),
-        (b"number A\ncode A in {x, x}", 2, 4),
-        (b"code B in {x}\nB in {y}", 2, 5),
-        (b"code B in {x}\nB in {y, y}", 2, 5),
-        (b"code B in {x}\nB in {x, x}", 2, 6),
-        (b"code B weight 0 in {x, y, x}", 1, 6),
-        (
-            b"number A\ncode B in {x}\nif 0.5 A = 0 then B in {x, x}",
-            3,
-            6,
-        ),
-        (b"number A weight 0", 1, 7),
-        (b"number A\ncode B in {x}\nif 0.5 A = 0 then B in {x}", 3, 7),
-        (b"number A\ncode B in {x}\nif A > 0 then A > 1", 3, 9),
-        (
-            b"number A\ncode B in {x}\nif A > 0 and B in {x} then B in {x}",
-            3,
-            9,
-        ),
-        (
-            b"number A\ncode B in {x}\nif B in {x} and A > 0 then B in {x}",
-            3,
-            9,
-        ),
-        (b"number A\ncode B in {x}\nif A > 0 then B in {x}", 0, 0),
-        (b"number A\n\xC3\nnumber A", 2, 1),
-        (b"number A\nnumber A\n\xC3", 2, 4),
-    ] {
-        assert_eq!(rt; first_fault(rt.alloc(), text)?, (line, kind), "at {text:?}");
-    }
-    Ok(())
+    tell_faults(
+        &rt,
+        rt.alloc(),
+        &[
+            (b"number A \x00", 1, 1),
+            (b"A >= \xC3", 1, 1),
+            (b"number", 1, 2),
+            (b"number number", 1, 2),
+            (b"0.5 A >= >= 0", 1, 2),
+            (b"0.5 A >= 0", 1, 3),
+            (b"code B in {x}\nif B in {y} then A in {y, y}", 2, 3),
+            (b"number A\nA in {x}", 2, 3),
+            (b"code B in {x}\nB >= 0", 2, 3),
+            (b"number A\nnumber A weight 0", 2, 4),
+            (b"number A\ncode A in {x, x}", 2, 4),
+            (b"code B in {x}\nB in {y}", 2, 5),
+            (b"code B in {x}\nB in {y, y}", 2, 5),
+            (b"code B in {x}\nB in {x, x}", 2, 6),
+            (b"code B weight 0 in {x, y, x}", 1, 6),
+            (
+                b"number A\ncode B in {x}\nif 0.5 A = 0 then B in {x, x}",
+                3,
+                6,
+            ),
+            (b"number A weight 0", 1, 7),
+            (b"number A\ncode B in {x}\nif 0.5 A = 0 then B in {x}", 3, 7),
+            (b"number A\ncode B in {x}\nif A > 0 then A > 1", 3, 9),
+            (
+                b"number A\ncode B in {x}\nif A > 0 and B in {x} then B in {x}",
+                3,
+                9,
+            ),
+            (
+                b"number A\ncode B in {x}\nif B in {x} and A > 0 then B in {x}",
+                3,
+                9,
+            ),
+            (b"number A\ncode B in {x}\nif A > 0 then B in {x}", 0, 0),
+            (b"number A\n\xC3\nnumber A", 2, 1),
+            (b"number A\nnumber A\n\xC3", 2, 4),
+        ],
+    )
 }
 
 #[test]
 fn numbers_are_held_to_their_limits(rt: HostRuntime) -> Result<(), Fail> {
-    for (text, line, kind) in [
-        (b"number A weight 1000 scale 1000000000000".as_slice(), 0, 0),
-        (b"number A weight 1001", 1, 7),
-        (b"number A scale 1000000000001", 1, 7),
-        (b"number A scale 0", 1, 7),
-        (b"number A weight 007", 0, 0),
-        (b"code B weight 1001 in {x}", 1, 7),
-        (b"code B weight 1.0 in {x}", 1, 7),
-        (b"number A\n1000000000 A >= 0", 0, 0),
-        (b"number A\n1000000001 A >= 0", 2, 7),
-        (b"number A\n600000000 A + 400000000 A >= 0", 0, 0),
-        (b"number A\n600000000 A + 400000001 A >= 0", 2, 7),
-        (b"number A\n600000000 A >= 600000000 A", 0, 0),
-        (b"number A\n600000000 A >= -600000000 A", 2, 7),
-        (b"1000000000000000 >= 0", 0, 0),
-        (b"1000000000000001 >= 0", 1, 7),
-        (b"1000000000000000 >= -1", 1, 7),
-        (b"1000000000000001 >= 1000000000000001", 1, 7),
-    ] {
-        assert_eq!(rt; first_fault(rt.alloc(), text)?, (line, kind), "at {text:?}");
-    }
-    Ok(())
+    tell_faults(
+        &rt,
+        rt.alloc(),
+        &[
+            (b"number A weight 1000 scale 1000000000000", 0, 0),
+            (b"number A weight 1001", 1, 7),
+            (b"number A scale 1000000000001", 1, 7),
+            (b"number A scale 0", 1, 7),
+            (b"number A weight 007", 0, 0),
+            (b"code B weight 1001 in {x}", 1, 7),
+            (b"code B weight 1.0 in {x}", 1, 7),
+            (b"number A\n1000000000 A >= 0", 0, 0),
+            (b"number A\n1000000001 A >= 0", 2, 7),
+            (b"number A\n600000000 A + 400000000 A >= 0", 0, 0),
+            (b"number A\n600000000 A + 400000001 A >= 0", 2, 7),
+            (b"number A\n600000000 A >= 600000000 A", 0, 0),
+            (b"number A\n600000000 A >= -600000000 A", 2, 7),
+            (b"1000000000000000 >= 0", 0, 0),
+            (b"1000000000000001 >= 0", 1, 7),
+            (b"1000000000000000 >= -1", 1, 7),
+            (b"1000000000000001 >= 1000000000000001", 1, 7),
+        ],
+    )
 }
 
 #[test]
 fn marks_and_comments_mean_nothing(rt: HostRuntime) -> Result<(), Fail> {
-    for (text, line, kind) in [
-        (b"\n\r\n \t\n# \x00\xFF\r\n".as_slice(), 0, 0),
-        (b"\xEF\xBB\xBFnumber A\r\nA >= 0 # \xC3\r\nA\t>=\t1\r", 0, 0),
-        (b"\xEF\xBB\xBF\xEF\xBB\xBFnumber A", 1, 1),
-        (b"number A\n\xEF\xBB\xBFA >= 0", 2, 1),
-        (b"number\rA", 1, 1),
-        (b"number A\r\r\n", 1, 1),
-        (b"number A\n\x00", 2, 1),
-        (b"number A\n\n\nA", 4, 2),
-    ] {
-        assert_eq!(rt; first_fault(rt.alloc(), text)?, (line, kind), "at {text:?}");
-    }
-    Ok(())
+    tell_faults(
+        &rt,
+        rt.alloc(),
+        &[
+            (b"\n\r\n \t\n# \x00\xFF\r\n", 0, 0),
+            (b"\xEF\xBB\xBFnumber A\r\nA >= 0 # \xC3\r\nA\t>=\t1\r", 0, 0),
+            (b"\xEF\xBB\xBF\xEF\xBB\xBFnumber A", 1, 1),
+            (b"number A\n\xEF\xBB\xBFA >= 0", 2, 1),
+            (b"number\rA", 1, 1),
+            (b"number A\r\r\n", 1, 1),
+            (b"number A\n\x00", 2, 1),
+            (b"number A\n\n\nA", 4, 2),
+        ],
+    )
 }
 
 #[test]
