@@ -5,6 +5,7 @@ pub mod CoverSteps
 pub mod EachLaws
 pub mod FailingLaws
 pub mod OriginLaws
+pub mod OverLaws
 pub mod ReducedBoxes
 pub mod SpotLaws
 pub mod StepLaws

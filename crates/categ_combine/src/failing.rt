@@ -4,7 +4,7 @@ ghost use Rattle.edit_line.specs.Lines.{AllHold};
 ghost use Rattle.edit_line.specs.Reductions.{lines_of};
 ghost use Rattle.edit_line.specs.Shapes.{shape_of};
 ghost use Rattle.edit_line.specs.Sums.{AgreesWith, HasNumbers};
-ghost use Rattle.categ_combine.specs.BoxLists.{Avoids, sets_of};
+ghost use Rattle.categ_combine.specs.BoxLists.{AreBoxesOver, Avoids, sets_of};
 ghost use Rattle.categ_combine.specs.FailingBoxes.{failing_boxes, failing_from, taken};
 ghost use Rattle.categ_combine.specs.declared.fault.BoxFault.TheVariants.{Overflow};
 
@@ -30,6 +30,7 @@ pub fn boxes_of(
     requires shape { All (λ derived. derived.line.shape ≡ shape_of survey.now.fields) lines.now }
     requires numbers { All (λ derived. HasNumbers row.now derived.line) lines.now }
     ensures exact { IfOk result (λ boxes. failing_from 0 lines.now row.now [] ≡ Ok boxes.items) }
+    ensures over { IfOk result (λ boxes. AreBoxesOver (shape_of survey.now.fields) boxes.items) }
     ensures sets { IfOk result (λ boxes. failing_boxes (lines_of lines.now) row.now ≡ Ok (sets_of boxes.items)) }
     ensures overflow { (line field : ℕ) → result ≡ Err (Overflow line field) → failing_boxes (lines_of lines.now) row.now ≡ Err (record { line = line; field = field }) }
     ensures forbid { IfOk result (λ boxes. (p : Point)

@@ -28,6 +28,9 @@ pub fn fix(
     ensures exact { IfOk result (λ left. (shape : List Domain)
         → AreBoxesOver shape boxes.now → code < size_of shape field
         → left.items ≡ fixed_from shape boxes.now field code) }
+    ensures over { IfOk result (λ left. (shape : List Domain)
+        → AreBoxesOver shape boxes.now → code < size_of shape field
+        → AreBoxesOver shape left.items) }
     ensures sets { IfOk result (λ left. (shape : List Domain)
         → AreBoxesOver shape boxes.now → code < size_of shape field
         → sets_of left.items ≡ fixed shape (sets_of boxes.now) field code) }

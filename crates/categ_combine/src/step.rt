@@ -43,6 +43,9 @@ pub fn cat_step(
     ensures passed { IfOk result (λ told. (shape : List Domain)
         → AreBoxesOver shape boxes.now → TakesCodes shape field
         → IsPassed told ↔ (most < cover_count shape (sets_of boxes.now) field)) }
+    ensures over { IfOk result (λ told. (shape : List Domain)
+        → AreBoxesOver shape boxes.now → TakesCodes shape field
+        → IsDone told (λ left pairs. AreBoxesOver shape left)) }
     ensures sets { IfOk result (λ told. (shape : List Domain)
         → AreBoxesOver shape boxes.now → TakesCodes shape field
         → IsDone told (λ left pairs. sets_of left ≡ covered shape (sets_of boxes.now) field)) }

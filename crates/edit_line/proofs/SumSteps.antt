@@ -8,7 +8,9 @@ use Rattle.fraction128.specs.declared.fraction.Fraction.{Fraction}
 use Rattle.edit_model.specs.Rows.{value_of}
 use Rattle.edit_model.specs.Trials.{IsNumberValue, sum_with}
 use Rattle.edit_model.specs.declared.value.Value.{Value}
-use Rattle.edit_line.specs.Sums.{AtFactors, next_sum, or_field, sum_from}
+use Rattle.edit_line.specs.Lines.{LineParts}
+use Rattle.edit_line.specs.Shapes.{number_fields}
+use Rattle.edit_line.specs.Sums.{AtFactors, HasNumbers, HasPlaces, next_sum, or_field, sum_from}
 
 -- Steps of a sum: what a call answers, and what the sum is from there on.
 
@@ -31,6 +33,16 @@ number-within (v ∷ row) zero is = omega arith
 number-within (v ∷ row) (suc f) is = let below = number-within row f is in omega arith
 
 -- what holds of each field beside a factor other than 0 holds at a place
+-- a fact of each field that stands in a line gives another
+pub AtFactors-map : (P Q : ℕ → Type 0) → ((f : ℕ) → P f → Q f) → (fields : List ℕ) (factors : List ℤ) → AtFactors P fields factors → AtFactors Q fields factors
+AtFactors-map P Q next [] factors at = tt
+AtFactors-map P Q next (f ∷ fields) [] at = tt
+AtFactors-map P Q next (f ∷ fields) (a ∷ factors) at = (λ apart. next f (at.0 apart), AtFactors-map P Q next fields factors at.1)
+
+-- a record with the numbers of a line has their places
+pub places-held : (row : List Value) (line : LineParts) → HasNumbers row line → HasPlaces row line
+places-held row line held = AtFactors-map (λ f. IsNumberValue (value_of row f)) (λ f. f < length row) (number-within row) (number_fields line.shape) line.factors held
+
 pub AtFactors-at : (P : ℕ → Type 0) (fields : List ℕ) (factors : List ℤ) (i e : ℕ) (d : ℤ) → i < length fields → i < length factors → AtFactors P fields factors → get_or factors i d ≢ pos 0 → P (get_or fields i e)
 AtFactors-at P [] factors i e d below within at apart = absurd (omega arith)
 AtFactors-at P (f ∷ fields) [] i e d below within at apart = absurd (omega arith)
@@ -62,9 +74,9 @@ module _ {E : Type 0} (a given : ℤ) (v read : Value) (sum : Ratio) (r : Result
 
 module _ (fields : List ℕ) (factors : List ℤ) (row : List Value) (sum : Ratio) (whole : Result Ratio ℕ) (i f : ℕ) (a : ℤ) (below : i < length fields) (many : length factors ≡ length fields)
     (field_is : f ≡ get_or fields i 0) (factor_is : a ≡ get_or factors i (pos 0)) where
-  -- the record has the number that is read
-  pub number-there : AtFactors (λ f. IsNumberValue (value_of row f)) fields factors → a ≢ pos 0 → IsNumberValue (value_of row f)
-  number-there at apart = subst (λ n. IsNumberValue (value_of row n)) (sym field_is) (AtFactors-at (λ f. IsNumberValue (value_of row f)) fields factors i 0 (pos 0) below (omega arith) at (λ is. apart (factor_is ∙ is)))
+  -- the record has the place that is read
+  pub place-there : AtFactors (λ f. f < length row) fields factors → a ≢ pos 0 → f < length row
+  place-there at apart = subst (λ n. n < length row) (sym field_is) (AtFactors-at (λ f. f < length row) fields factors i 0 (pos 0) below (omega arith) at (λ is. apart (factor_is ∙ is)))
 
   here : sum_from (drop i fields) (drop i factors) row sum ≡ whole → or_field f (next_sum a (value_of row f) sum) (λ next. sum_from (drop (i + 1) fields) (drop (i + 1) factors) row next) ≡ whole
   here before =

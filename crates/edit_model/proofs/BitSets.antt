@@ -1,4 +1,9 @@
-use Rattle.std.proofs.Common.{◌≡◌, ℕ, ◌*◌, ◌/◌, ◌^◌, ◌<◌, ◌≤◌, nat_eq, nat_lt, false, refl, sym, ◌∙◌, arith}
+use Rattle.std.proofs.Common.{◌≡◌, ◌≢◌, ℕ, ◌*◌, ◌/◌, ◌%◌, ◌^◌, ◌<◌, ◌≤◌, nat_eq, nat_lt, Bool, true, false, refl, sym, ap, ◌∙◌, arith}
+use Rattle.std.proofs.lemmas.Nat.Bits.{bit_at_above, bit_at_and, bit_at_clear_other}
+use Rattle.std.specs.Int.{bit_at, bit_not}
+use Rattle.std.specs.Int.Bits.{bit_and}
+use mir.Syntax.{w64}
+use mir.Val.{bits}
 use Rattle.std.proofs.Math.Nat.{div-eq_of_lt, div-lt_iff_lt-mul, pow-le-pow_right}
 use Rattle.std.proofs.lemmas.Bool.Decides.{Decides-eqb}
 use Rattle.std.proofs.lemmas.Nat.{pow_pos}
@@ -28,3 +33,13 @@ no_code_past set code under past =
     let shifted : set / 2 ^ code ≡ 0 = div-eq_of_lt (fits_many set code under past) in
     let none : has_code set code ≡ false = rw shifted refl in
     let above : nat_lt code 64 ≡ false = grind (arith, nat_tests) in above ∙ sym none
+
+-- a set of 64 bits without one of them has the others
+pub others_kept : (set k i : ℕ) → set < 2 ^ 64 → k < 64 → i ≢ k → bit_at (bit_and set (bit_not w64 (1 * 2 ^ k % 2 ^ bits w64))) i ≡ bit_at set i
+others_kept set k i under within apart = by (nat_lt i 64) refl
+  where
+    by : (b : Bool) → nat_lt i 64 ≡ b → bit_at (bit_and set (bit_not w64 (1 * 2 ^ k % 2 ^ bits w64))) i ≡ bit_at set i
+    by true e = let below : i < 64 = grind (arith, nat_tests) in bit_at_clear_other w64 set k within i below apart
+    by false e =
+        let past : 64 ≤ i = grind (arith, nat_tests) in
+        omega (arith, bit_at_and set (bit_not w64 (1 * 2 ^ k % 2 ^ bits w64)) i, bit_at_above set 64 i under past)

@@ -38,6 +38,17 @@ impl FieldSet {
         }
     }
 
+    /// The set without one field, which need not be in it.
+    pub fn without(self, field: u32) -> FieldSet
+        requires { field < 64 }
+        ensures out { has_number result field ≡ false }
+        ensures others { (f : ℕ) → f ≢ field → has_number result f ≡ has_number self f }
+    {
+        FieldSet {
+            bits: self.bits & !(1 << field),
+        }
+    }
+
     /// Whether the set has the field.
     pub fn has(self, field: u32) -> bool
         requires { field < 64 }
@@ -57,6 +68,14 @@ mod tests {
         for field in 0..64 {
             let given = field == 0 || field == 5 || field == 63;
             assert_eq!(rt; set.has(field), given, "at {field}");
+        }
+    }
+
+    #[test]
+    fn a_set_is_left_without_a_field(rt: HostRuntime) {
+        let set = FieldSet::empty().with(0).with(63).without(63).without(7);
+        for field in 0..64 {
+            assert_eq!(rt; set.has(field), field == 0, "at {field}");
         }
     }
 }

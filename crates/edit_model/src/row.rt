@@ -1,4 +1,4 @@
-ghost use Rattle.std.specs.Prelude.{◌≡◌, ◌<◌, List, length, IfOk};
+ghost use Rattle.std.specs.Prelude.{◌≡◌, ◌<◌, List, length, slice_set, IfOk};
 ghost use Rattle.edit_model.specs.Rows.{IsRow, value_of};
 
 use crate::survey::Survey;
@@ -46,6 +46,16 @@ impl Row {
         ensures { result.now ≡ self.now }
     {
         self.values.as_slice()
+    }
+
+    /// Puts a value at the field of this number: one of the field's kind, or Bad. No memory.
+    pub fn set(&mut self, survey: &Survey, field: u32, value: Value)
+        requires within { field < length self.old }
+        requires fits { IsRow survey.now.fields (slice_set self.old field value) }
+        ensures { self.new ≡ slice_set self.old field value }
+    {
+        let _ = survey;
+        self.values[field as usize] = value;
     }
 
     /// An equal record.

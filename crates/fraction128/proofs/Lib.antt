@@ -6,6 +6,7 @@ pub mod FractionOrder
 pub mod LowestLaws
 pub mod OrderLaws
 pub mod RangeLaws
+pub mod QuotientLaws
 pub mod RatioLaws
 pub mod Signs
 pub mod TextLaws

@@ -17,7 +17,7 @@ use Rattle.fraction128.proofs.Whole.{parts, ring, same_dif}
 -- ---- the range
 
 -- the numbers are tested in range exactly where they are
-in_range_decides : (numbers : List ℤ) → Decides (are_in_range numbers) (AllInRange numbers)
+pub in_range_decides : (numbers : List ℤ) → Decides (are_in_range numbers) (AllInRange numbers)
 in_range_decides [] = (λ _. tt, λ _. refl)
 in_range_decides (z ∷ numbers) = both (nat_lt (unsigned_abs z) (2 ^ 127)) (are_in_range numbers) (Decides-ltb (unsigned_abs z) (2 ^ 127)) (in_range_decides numbers)
   where
@@ -26,10 +26,10 @@ in_range_decides (z ∷ numbers) = both (nat_lt (unsigned_abs z) (2 ^ 127)) (are
     both false b p q = (λ h. absurd (cc), λ h. p.1 h.0)
 
 module _ (numbers : List ℤ) (ratio : Ratio) where
-  fits_answer : AllInRange numbers → (if are_in_range numbers then Some ratio else None) ≡ Some ratio
+  pub fits_answer : AllInRange numbers → (if are_in_range numbers then Some ratio else None) ≡ Some ratio
   fits_answer fits = rw ((in_range_decides numbers).1 fits) refl
 
-  overflow_answer : ¬ AllInRange numbers → (if are_in_range numbers then Some ratio else None) ≡ None
+  pub overflow_answer : ¬ AllInRange numbers → (if are_in_range numbers then Some ratio else None) ≡ None
   overflow_answer out = rw (false_without (are_in_range numbers) (λ h. out ((in_range_decides numbers).0 h))) refl
     where
       false_without : (b : Bool) → (b ≡ true → ⊥) → b ≡ false
@@ -37,7 +37,7 @@ module _ (numbers : List ℤ) (ratio : Ratio) where
       false_without false h = refl
 
   -- an answer is the ratio
-  answer_is : (s : Ratio) → (if are_in_range numbers then Some ratio else None) ≡ Some s → ratio ≡ s
+  pub answer_is : (s : Ratio) → (if are_in_range numbers then Some ratio else None) ≡ Some s → ratio ≡ s
   answer_is s e = by (are_in_range numbers) e
     where
       by : (b : Bool) → (if b then Some ratio else None) ≡ Some s → ratio ≡ s

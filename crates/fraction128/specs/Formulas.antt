@@ -1,4 +1,5 @@
-use Rattle.std.specs.Prelude.{ℤ, ◌+ℤ◌, ◌*ℤ◌, ◌^◌, Bool, Option, Some, None, Result, Ok, Err, List, [], ◌∷◌, nat_lt, int_div, unsigned_abs, if◌then◌else◌}
+use Rattle.std.specs.Prelude.{ℤ, pos, ◌+ℤ◌, ◌*ℤ◌, ◌^◌, Bool, Option, Some, None, Result, Ok, Err, List, [], ◌∷◌, nat_lt, int_div, int_lt, unsigned_abs, if◌then◌else◌}
+use lib.IntN.{neg_ℤ}
 use Rattle.std.specs.List.{list_all}
 use Rattle.fraction128.specs.Arithmetic.{sum_of_quotients}
 use Rattle.fraction128.specs.Divisor.{int_gcd}
@@ -46,3 +47,11 @@ scaled x k =
     let p = x.numerator *ℤ int_div k common in
     let q = int_div x.denominator common in
     if are_in_range (p ∷ q ∷ []) then Some (record { numerator = p; denominator = q }) else None
+
+-- a fraction divided by a whole number other than 0, where what both share is divided out first; None where a number of the formula leaves the range
+abbrev pub divided : Ratio → ℤ → Option Ratio
+divided x k =
+    let common = int_gcd x.numerator k in
+    let p = int_div x.numerator common in
+    let q = x.denominator *ℤ int_div (pos (unsigned_abs k)) common in
+    if are_in_range (q ∷ p ∷ []) then Some (record { numerator = if int_lt k (pos 0) then neg_ℤ p else p; denominator = q }) else None

@@ -1,5 +1,6 @@
 pub mod BetweenLaws
 pub mod CountLaws
+pub mod FlatLaws
 pub mod ListMembers
 pub mod OriginLaws
 pub mod OverflowLaws

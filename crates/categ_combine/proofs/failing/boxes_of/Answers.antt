@@ -1,10 +1,11 @@
-use Rattle.std.proofs.Common.{◌≡◌, ◌+◌, List, drop, Err, ap, arith, sym, ◌∙◌}
+use Rattle.std.proofs.Common.{◌≡◌, ◌+◌, List, drop, [], Err, ap, arith, sym, ◌∙◌}
 use Rattle.edit_line.specs.Shapes.{shape_of}
 use Rattle.categ_combine.specs.BoxLists.{sets_of}
 use Rattle.categ_combine.specs.FailingBoxes.{failing_from}
 use Rattle.categ_combine.specs.declared.box_from.BoxFrom.{BoxFrom}
 use Rattle.categ_combine.proofs.AvoidLaws.{failing-avoids}
 use Rattle.categ_combine.proofs.FailingLaws.{failing-end, failing-fault, failing-faults, failing-next, failing-sets}
+use Rattle.categ_combine.proofs.OverLaws.{over-failing}
 use Rattle.categ_combine.proofs.failing.boxes_of.Goals as goal
 
 pub returns-in-Err-clause-overflow : goal.returns-in-Err-clause-overflow
@@ -21,6 +22,11 @@ loop-i-preserved c =
     ap (λ (bs : List BoxFrom). failing_from (c.loop-i.i + 1) (drop (c.loop-i.i + 1) c.args.lines.now) c.args.row.now bs) c.in_ok-take_line-in-Ok.ensures
     ∙ failing-next c.args.lines.now c.args.row.now c.loop-i.kept.items c.loop-i.i c.index-lines-i.result c.in-Ok.failed c.loop-i-test.true c.index-lines-i.is c.in-Ok.ensures.answer
     ∙ c.loop-i.invariant
+
+pub returns-clause-over : goal.returns-clause-over
+returns-clause-over c =
+    over-failing (shape_of c.args.survey.now.fields) 0 c.args.lines.now c.args.row.now [] c.loop-i.kept.items c.requires.shape (λ k d below. absurd (omega arith))
+    (sym c.loop-i.invariant ∙ failing-end c.args.lines.now c.args.row.now c.loop-i.kept.items c.loop-i.i (omega arith))
 
 pub returns-clause-sets : goal.returns-clause-sets
 returns-clause-sets c =

@@ -1,12 +1,26 @@
-use Rattle.std.proofs.Common.{◌≡◌, ◌<◌, ◌↔◌, List, ◌∙◌}
+use Rattle.std.proofs.Common.{◌≡◌, ◌<◌, ◌↔◌, List, sym, subst, ◌∙◌}
 use Rattle.edit_model.specs.Points.{Point}
 use Rattle.edit_line.specs.Shapes.{Domain, HasCodes, domains_of}
 use Rattle.categ_combine.specs.BoxLists.{AreBoxes, AreBoxesOver, Avoids, reduce_from, sets_of}
 use Rattle.edit_line.specs.CodeFields.{size_of, with_code_at}
 use Rattle.categ_combine.specs.Each.{each_from}
 use Rattle.categ_combine.specs.Fixing.{fixed, fixed_one}
-use Rattle.categ_combine.proofs.StepLaws.{first-shape, fixed-same, fixed-sets, if_ok}
+use Rattle.categ_combine.proofs.OverLaws.{over-fixed}
+use Rattle.categ_combine.proofs.StepLaws.{first-shape, fixed-exact, fixed-same, fixed-sets, if_ok}
 use Rattle.categ_combine.proofs.fixing.fix.Goals as goal
+
+pub returns-in_ok-spot-in-Some-clause-over : goal.returns-in_ok-spot-in-Some-clause-over
+returns-in_ok-spot-in-Some-clause-over c =
+    let boxes = c.args.boxes.now in
+    let spot = c.in_ok-spot-in-Some.spot in
+    let own = domains_of c.shape.result.count c.shape.result.codes in
+    if_ok (λ left. left.items ≡ reduce_from (each_from (fixed_one spot.place spot.whole c.args.code) 0 boxes)) (λ left. AreBoxes boxes)
+    (λ left. (shape : List Domain) → AreBoxesOver shape boxes → c.args.code < size_of shape c.args.field → AreBoxesOver shape left.items)
+    c.fix_at.result (
+    λ left is fit. λ shape over below.
+    subst (λ bs. AreBoxesOver shape bs) (sym (fixed-exact own shape boxes left.items c.args.field c.args.code spot.place spot.whole (c.shape.ensures ∙ first-shape boxes c.in-Some.first.now shape c.in-Some.ensures.value over) c.in_ok-spot-in-Some.ensures.place c.in_ok-spot-in-Some.ensures.whole is))
+    (over-fixed shape boxes c.args.field c.args.code over)
+    ) c.fix_at.ensures.left c.fix_at.ensures.fit
 
 pub returns-in_ok-spot-in-Some-clause-sets : goal.returns-in_ok-spot-in-Some-clause-sets
 returns-in_ok-spot-in-Some-clause-sets c =

@@ -2,7 +2,11 @@ use Rattle.std.proofs.Common.{FitsSigned, ◌∙◌, rules}
 use Rattle.std.proofs.lemmas.Int.{to_z-of_z}
 use mir.Syntax.{w128}
 use Rattle.edit_line.proofs.SumLaws.{fails-answered}
+use Rattle.edit_line.proofs.SumSteps.{places-held}
 use Rattle.edit_line.proofs.sum.fails.Goals as goal
+
+pub value_at-requires-clause-places : goal.value_at-requires-clause-places
+value_at-requires-clause-places c = places-held c.args.row.now c.args.line.now c.requires.numbers
 
 pub returns-clause-truth : goal.returns-clause-truth
 returns-clause-truth c = λ p agrees.

@@ -1,8 +1,6 @@
-use Rattle.std.proofs.Common.{FitsSigned, ℕ, ℤ, List, length, sym, ap, ◌∙◌, subst, rules}
+use Rattle.std.proofs.Common.{FitsSigned, ℕ, ◌<◌, ℤ, List, length, sym, ap, ◌∙◌, subst, rules}
 use Rattle.std.proofs.lemmas.Int.{to_z-of_z}
 use mir.Syntax.{w128}
-use Rattle.edit_model.specs.Rows.{value_of}
-use Rattle.edit_model.specs.Trials.{IsNumberValue}
 use Rattle.edit_line.specs.Shapes.{number_fields}
 use Rattle.edit_line.specs.Sums.{AtFactors}
 use Rattle.edit_line.proofs.ShapeLaws.{same_fields}
@@ -12,11 +10,11 @@ use Rattle.edit_line.proofs.sum.value_at.Goals as goal
 pub sum_over-requires-clause-count : goal.sum_over-requires-clause-count
 sum_over-requires-clause-count c = ap length c.factors.ensures.factors ∙ c.factors.ensures.count ∙ sym (ap length (same_fields c.numbers.result.now c.args.survey.now.fields c.args.line.now.shape c.numbers.ensures c.requires.shape))
 
-pub sum_over-requires-clause-numbers : goal.sum_over-requires-clause-numbers
-sum_over-requires-clause-numbers c =
+pub sum_over-requires-clause-places : goal.sum_over-requires-clause-places
+sum_over-requires-clause-places c =
     let same = same_fields c.numbers.result.now c.args.survey.now.fields c.args.line.now.shape c.numbers.ensures c.requires.shape in
-    subst (λ (fs : List ℕ). AtFactors (λ f. IsNumberValue (value_of c.args.row.now f)) fs c.factors.result.now) (sym same)
-    (subst (λ (ks : List ℤ). AtFactors (λ f. IsNumberValue (value_of c.args.row.now f)) (number_fields c.args.line.now.shape) ks) (sym c.factors.ensures.factors) c.requires.numbers)
+    subst (λ (fs : List ℕ). AtFactors (λ f. f < length c.args.row.now) fs c.factors.result.now) (sym same)
+    (subst (λ (ks : List ℤ). AtFactors (λ f. f < length c.args.row.now) (number_fields c.args.line.now.shape) ks) (sym c.factors.ensures.factors) c.requires.places)
 
 pub returns : goal.returns
 returns c =
@@ -28,5 +26,5 @@ returns c =
     record {
       value = value-answered line row _ same c.sum_over.result c.sum_over.ensures.sum;
       overflow = overflow-answered line row _ same c.sum_over.result c.sum_over.ensures.overflow;
-      amount = amount-answered line row _ same c.sum_over.result c.requires.numbers c.sum_over.ensures.sum;
+      amount = amount-answered line row _ same c.sum_over.result c.sum_over.ensures.sum;
     }
