@@ -1,11 +1,13 @@
 pub mod CombinationLaws
 pub mod DivisionLaws
 pub mod Enough
+pub mod KeyLaws
 pub mod LineSums
 pub mod ListPairs
 pub mod Members
 pub mod OneField
 pub mod OtherFields
+pub mod OwnLaws
 pub mod PointCodes
 pub mod ReductionLaws
 pub mod SetLaws

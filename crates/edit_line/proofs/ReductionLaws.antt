@@ -109,7 +109,7 @@ HaveShape-reduce shape lines = all-reduce (λ line. HasShape shape line) lines
 
 -- ---- the same of lines with their origins
 
-lines_of-append : (first second : List Derived) → lines_of (first ++ second) ≡ lines_of first ++ lines_of second
+pub lines_of-append : (first second : List Derived) → lines_of (first ++ second) ≡ lines_of first ++ lines_of second
 lines_of-append [] second = refl
 lines_of-append (d ∷ first) second = ap (λ (ls : List LineParts). d.line ∷ ls) (lines_of-append first second)
 

@@ -76,7 +76,7 @@ tight first second w a b d above test h = by (int_lt a b) refl test
         let is : a ≡ b = (Decides-int_eq a b).0 equal in
         subst (λ (c : ℤ). IsEnough second (w +ℤ c *ℤ d)) is (IsEnough-weaker first second _ either h)
 
-same_all-Decides : (first second : List ℤ) → Decides (same_all first second) (first ≡ second)
+pub same_all-Decides : (first second : List ℤ) → Decides (same_all first second) (first ≡ second)
 same_all-Decides first second = slice_eq-Decides {E = int_eq} Decides-int_eq first second (same_all first second) refl
 
 -- where a subsumes b, b holds wherever a does

@@ -3,6 +3,7 @@ pub mod CodeFields
 pub mod Combinations
 pub mod Divisors
 pub mod EditSets
+pub mod Keys
 pub mod Lines
 pub mod Places
 pub mod Reductions

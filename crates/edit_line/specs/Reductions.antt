@@ -1,4 +1,4 @@
-use Rattle.std.specs.Prelude.{◌≡◌, ◌⊎◌, ◌||◌, not, true, List, [], ◌∷◌, ◌++◌, map, if◌then◌else◌}
+use Rattle.std.specs.Prelude.{◌≡◌, ◌⊎◌, ◌||◌, not, true, false, List, [], ◌∷◌, ◌++◌, map, if◌then◌else◌}
 use Rattle.std.specs.List.{filter, fold, list_any}
 use Rattle.edit_line.specs.Lines.{Follows, LineParts}
 use Rattle.edit_line.specs.Subsumption.{is_trivial, subsumes}
@@ -43,3 +43,17 @@ IsIn x (y ∷ ys) = (x ≡ y) ⊎ IsIn x ys
 -- the line is trivial, or follows from one of the kept lines
 abbrev pub IsCovered : List LineParts → LineParts → Type 0
 IsCovered kept line = (is_trivial line ≡ true) ⊎ ((s : LineParts) × IsIn s kept × Follows (s ∷ []) line)
+
+-- the two lines say each something of its own
+abbrev pub AreApart : LineParts → LineParts → Type 0
+AreApart a b = (subsumes a b ≡ false) × (subsumes b a ≡ false)
+
+-- the line says something of its own beside each of the lines
+abbrev pub IsApart : LineParts → List LineParts → Type 0
+IsApart a [] = Unit {0}
+IsApart a (b ∷ lines) = AreApart a b × IsApart a lines
+
+-- no line is trivial, and none subsumes another
+abbrev pub AreOwn : List LineParts → Type 0
+AreOwn [] = Unit {0}
+AreOwn (a ∷ lines) = (is_trivial a ≡ false) × IsApart a lines × AreOwn lines

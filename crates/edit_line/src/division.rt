@@ -1,5 +1,7 @@
 //! The numbers of a line, divided by their greatest common divisor.
-ghost use Rattle.std.specs.Prelude.{◌≡◌, ◌<ℤ◌, ◌∷◌, All, int_div, map, pos};
+ghost use Rattle.std.specs.Prelude.{◌≡◌, ◌<ℤ◌, ◌∷◌, All, IfSome, int_div, map, pos, unsigned_abs};
+ghost use Rattle.fraction128.specs.Divisor as euclid;
+ghost use Rattle.fraction128.specs.Divisor.{int_gcd};
 ghost use Rattle.fraction128.specs.Range.{InRange};
 ghost use Rattle.edit_line.specs.Divisors.{gcd_all};
 ghost use Rattle.edit_line.specs.Divisors as divisors;
@@ -45,12 +47,51 @@ fn gcd_of(factors: &[i128], constant: i128) -> i128
     requires constant { InRange constant }
     ensures { result ≡ pos (gcd_all (constant ∷ factors.now)) }
 {
-    let mut divisor = gcd(0, constant);
+    let mut divisor = common_divisor(0, constant);
     for factor in factors {
         if divisor == 1 {
             return divisor;
         }
-        divisor = gcd(divisor, *factor);
+        divisor = common_divisor(divisor, *factor);
+    }
+    divisor
+}
+
+// The greatest common divisor of two numbers. It is found in 64 bits where both fit.
+fn common_divisor(a: i128, b: i128) -> i128
+    requires a_in_range { InRange a }
+    requires b_in_range { InRange b }
+    ensures value { result ≡ int_gcd a b }
+    ensures in_range { InRange result }
+{
+    match (word_of(a), word_of(b)) {
+        (Some(first), Some(second)) => i128::from(gcd_of_words(first, second)),
+        _ => gcd(a, b),
+    }
+}
+
+// The number without its sign, where that has 64 bits.
+fn word_of(number: i128) -> Option<u64>
+    ensures { IfSome result (λ word. word ≡ unsigned_abs number) }
+{
+    let size = number.unsigned_abs();
+    if size < 0x1_0000_0000_0000_0000 {
+        Some(size as u64)
+    } else {
+        None
+    }
+}
+
+// Euclid's remainders.
+fn gcd_of_words(a: u64, b: u64) -> u64
+    ensures { result ≡ euclid.gcd a b }
+{
+    let mut divisor = a;
+    let mut remainder = b;
+    while remainder != 0 {
+        let rest = divisor % remainder;
+        divisor = remainder;
+        remainder = rest;
     }
     divisor
 }

@@ -42,13 +42,36 @@ pub(crate) fn sum_of_products(m: i128, a: i128, n: i128, b: i128) -> Option<i128
     }
 }
 
-// The product, where it is in range.
+// The product, where it is in range. By 0 and by 1 nothing is multiplied.
 fn product(a: i128, b: i128) -> Option<i128>
+    ensures { result ≡ (if in_range (a *ℤ b) then Some (a *ℤ b) else None) }
+{
+    if b == 0 {
+        return Some(0);
+    }
+    if a == 1 {
+        return within(b);
+    }
+    product_of(a, b)
+}
+
+// The product, where it is in range, of any two numbers.
+fn product_of(a: i128, b: i128) -> Option<i128>
     ensures { result ≡ (if in_range (a *ℤ b) then Some (a *ℤ b) else None) }
 {
     match a.checked_mul(b) {
         Some(i128::MIN) | None => None,
         Some(product) => Some(product),
+    }
+}
+
+// The number, where it is in range.
+fn within(number: i128) -> Option<i128>
+    ensures { result ≡ (if in_range number then Some number else None) }
+{
+    match number {
+        i128::MIN => None,
+        number => Some(number),
     }
 }
 

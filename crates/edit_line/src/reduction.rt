@@ -1,14 +1,11 @@
-ghost use Rattle.std.specs.Prelude.{◌≡◌, ◌↔◌, ◌||◌, ◌++◌, [], ◌∷◌, not, All, IfOk, List, OnOk};
-ghost use Rattle.std.specs.List.{filter, list_any};
+ghost use Rattle.std.specs.Prelude.{◌≡◌, ◌↔◌, All, IfOk, List};
 ghost use Rattle.edit_model.specs.Points.{Point};
 ghost use Rattle.edit_line.specs.Lines.{AllHold, AreOver};
-ghost use Rattle.edit_line.specs.Reductions.{IsCovered, derived_from, lines_of, reduce_derived, with_derived};
+ghost use Rattle.edit_line.specs.Reductions.{IsCovered, lines_of, reduce_derived};
 ghost use Rattle.edit_line.specs.Shapes.{Domain};
-ghost use Rattle.edit_line.specs.Subsumption.{is_trivial, subsumes};
 
-use crate::derived::{Derived, Origin};
-use crate::line::Line;
-use crate::subsumption::{is_trivial, subsumes};
+use crate::derived::Derived;
+use crate::kept::Kept;
 use foundation::OutOfMemory;
 use std::alloc::Global;
 
@@ -24,66 +21,9 @@ pub fn reduce(alloc: Global, lines: Vec<Derived>) -> Result<Vec<Derived>, OutOfM
         → AreOver shape (lines_of lines.items)
         → AllHold (lines_of kept.items) p ↔ AllHold (lines_of lines.items) p) }
 {
-    let mut kept = Vec::new(alloc);
+    let mut kept = Kept::new(alloc);
     for line in lines {
-        take_in(&mut kept, line)?;
+        kept.take(line)?;
     }
-    Ok(kept)
-}
-
-/// Takes an equal line, with this origin, in among the kept ones, as [`reduce`] does with each line: no
-/// copy is made of a line that always holds, or that one of them subsumes.
-pub fn take_copy(
-    alloc: Global,
-    kept: &mut Vec<Derived>,
-    line: &Line,
-    origin: Origin,
-) -> Result<(), OutOfMemory>
-    ensures { OnOk result (kept.new.items ≡ with_derived kept.old.items (derived_from line.now origin)) }
-{
-    if is_needless(kept, line) {
-        return Ok(());
-    }
-    let line = line.copy(alloc)?;
-    replace_subsumed(kept, Derived { line, origin })
-}
-
-// Takes the line in among the kept ones.
-fn take_in(kept: &mut Vec<Derived>, new: Derived) -> Result<(), OutOfMemory>
-    ensures { OnOk result (kept.new.items ≡ with_derived kept.old.items new) }
-{
-    if is_needless(kept, &new.line) {
-        return Ok(());
-    }
-    replace_subsumed(kept, new)
-}
-
-// Whether the line always holds, or one of the kept lines subsumes it.
-fn is_needless(kept: &[Derived], line: &Line) -> bool
-    ensures { result ≡ (is_trivial line.now || list_any (λ a. subsumes a.line line.now) kept.now) }
-{
-    is_trivial(line) || is_subsumed(kept, line)
-}
-
-// Appends the line without those that it subsumes.
-fn replace_subsumed(kept: &mut Vec<Derived>, new: Derived) -> Result<(), OutOfMemory>
-    ensures { OnOk result (kept.new.items ≡ filter (λ b. not (subsumes new.line b.line)) kept.old.items ++ new ∷ []) }
-{
-    remove_subsumed(kept, &new.line);
-    kept.push(new)?;
-    Ok(())
-}
-
-// Whether one of the kept lines subsumes the line. It looks no further than the first that does.
-fn is_subsumed(kept: &[Derived], line: &Line) -> bool
-    ensures { result ≡ list_any (λ a. subsumes a.line line.now) kept.now }
-{
-    kept.iter().any(|a| subsumes(&a.line, line))
-}
-
-// Removes the lines that the line subsumes.
-fn remove_subsumed(kept: &mut Vec<Derived>, line: &Line)
-    ensures { kept.new.items ≡ filter (λ b. not (subsumes line.now b.line)) kept.old.items }
-{
-    kept.retain(|b| !subsumes(line, &b.line));
+    Ok(kept.into_lines())
 }

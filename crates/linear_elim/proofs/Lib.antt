@@ -4,6 +4,7 @@ pub mod FlatLaws
 pub mod ListMembers
 pub mod OriginLaws
 pub mod OverflowLaws
+pub mod OwnLoops
 pub mod PairLaws
 pub mod PointLaws
 pub mod ResultLaws
@@ -17,3 +18,4 @@ mod SixFields
 mod StepClauses
 mod StepLoops
 mod SystemLoops
+pub mod UpperLaws

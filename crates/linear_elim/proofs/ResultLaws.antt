@@ -93,7 +93,7 @@ row-plain f lines i s zs e = by (is_lower f s.line) e
         ∙ chosen-each (is_opposite f s.line) (λ t. combination s.line t f) (lines_of lines)
     by false e = ap (λ (ds : List Derived). lines_of ds) (ok_same zs _ _ e refl)
 
-flat-plain : (f i : ℕ) (lines : List Derived) → lines_of (flat_from f i lines) ≡ filter (is_flat f) (lines_of lines)
+pub flat-plain : (f i : ℕ) (lines : List Derived) → lines_of (flat_from f i lines) ≡ filter (is_flat f) (lines_of lines)
 flat-plain f i [] = refl
 flat-plain f i (s ∷ lines) = by (is_flat f s.line) (flat-plain f (suc i) lines)
   where

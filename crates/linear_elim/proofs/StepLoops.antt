@@ -31,7 +31,7 @@ module _ {F : Type 0} where
   taken-err kept (Ok rest) f is = absurd (cc)
   taken-err kept (Err g) f is = ap (λ h. Err h) (cc)
 
-  taken-joined : (kept new : List Derived) (here rest : Result (List Derived) F) → taken_in kept here ≡ Ok new → taken_in kept (followed_by here rest) ≡ taken_in new rest
+  pub taken-joined : (kept new : List Derived) (here rest : Result (List Derived) F) → taken_in kept here ≡ Ok new → taken_in kept (followed_by here rest) ≡ taken_in new rest
   taken-joined kept new (Ok more) rest is = taken-more kept more rest ∙ ap (λ xs. taken_in xs rest) (cc)
   taken-joined kept new (Err f) rest is = absurd (cc)
 

@@ -1,22 +1,22 @@
-ghost use Rattle.std.specs.Prelude.{◌≡◌, ◌↔◌, ◌+◌, ◌≤◌, ◌<◌, [], ◌∷◌, All, OnOk, IfOk, List, length, true, if◌then◌else◌, IfErr, IfSome};
-ghost use Rattle.std.specs.List.{filter, fold};
+ghost use Rattle.std.specs.Prelude.{◌≡◌, ◌↔◌, ◌+◌, ◌++◌, ◌≤◌, ◌<◌, [], ◌∷◌, All, OnOk, IfOk, List, length, true, if◌then◌else◌, IfErr, IfSome};
+ghost use Rattle.std.specs.List.{filter, fold, slice_get};
 ghost use Rattle.edit_model.specs.Points.{Point};
 ghost use Rattle.edit_line.specs.Lines.{AllHold, HaveShape};
-ghost use Rattle.edit_line.specs.Reductions.{lines_of, reduce_derived, with_derived};
+ghost use Rattle.edit_line.specs.Reductions.{AreOwn, lines_of, reduce_derived, with_derived};
 ghost use Rattle.edit_line.specs.Shapes.{Domain, IsNumerical, domains_of};
 ghost use Rattle.linear_elim.specs.Answers.{Answers, TakesIn};
-ghost use Rattle.linear_elim.specs.Combinations.{is_lower};
+ghost use Rattle.linear_elim.specs.Combinations.{is_lower, is_upper};
 ghost use Rattle.linear_elim.specs.Origins.{AllComeFrom};
 ghost use Rattle.linear_elim.specs.Overflows.{AllPairsFit, IsFirstOverflow};
 ghost use Rattle.linear_elim.specs.PointChanges.{CanHoldAt};
-ghost use Rattle.linear_elim.specs.Steps.{OneShape, collect, flat_from, is_opposite, pair_result, pairs_count, row_count, row_result, step_result};
+ghost use Rattle.linear_elim.specs.Steps.{OneShape, collect, flat_from, found_count, found_result, is_opposite, pair_result, pairs_count, places_from, row_count, row_result, step_result};
 ghost use Rattle.linear_elim.specs.Told.{told_step};
 
 use crate::column::Column;
 use crate::combine::combine;
 use crate::fault::StepFault;
 use crate::pair_count::is_opposite;
-use edit_line::{Derived, Line, Origin, take_copy};
+use edit_line::{Derived, Kept, Line, Origin};
 use foundation::{OutOfMemory, Steps};
 use std::alloc::Global;
 use std::marker::Brand;
@@ -65,15 +65,34 @@ fn step_from<L: Ledger>(
     counted_step(alloc, lines, field, &mut steps)
 }
 
-/// The step, with one step counted for each pair that is combined. A line is taken in among the kept ones
-/// as soon as it is made, so that no memory is taken for one that says nothing of its own.
-pub(crate) fn counted_step<L: Ledger>(
+// The step, with one step counted for each pair that is combined.
+fn counted_step<L: Ledger>(
     alloc: Global,
     lines: &[Derived],
     field: u32,
     steps: &mut Steps<L>,
 ) -> Result<Vec<Derived>, StepFault>
     requires { OneShape lines.now }
+    ensures exact { Answers (λ v. v.items) told_step result (step_result lines.now field) }
+{
+    let Some(head) = lines.first() else {
+        return Ok(Vec::new(alloc));
+    };
+    let column = Column::of(head.line.shape(), field);
+    let flat = flat_lines(alloc, &column, lines)?;
+    combined_step(alloc, &column, lines, flat, steps)
+}
+
+/// The step over reduced lines, with one step counted for each pair that is combined. The lines without the
+/// field are not compared, since a part of a reduced list is reduced.
+pub(crate) fn reduced_step<L: Ledger>(
+    alloc: Global,
+    lines: &[Derived],
+    field: u32,
+    steps: &mut Steps<L>,
+) -> Result<Vec<Derived>, StepFault>
+    requires shape { OneShape lines.now }
+    requires own { AreOwn (lines_of lines.now) }
     ensures exact { Answers (λ v. v.items) told_step result (step_result lines.now field) }
     ensures counted { OnOk result (steps.new ≡ steps.old + pairs_count lines.now field) }
     ensures few { steps.new ≤ steps.old + pairs_count lines.now field }
@@ -82,28 +101,82 @@ pub(crate) fn counted_step<L: Ledger>(
         return Ok(Vec::new(alloc));
     };
     let column = Column::of(head.line.shape(), field);
-    let mut kept = flat_lines(alloc, &column, lines)?;
+    let flat = own_flat_lines(alloc, &column, lines)?;
+    combined_step(alloc, &column, lines, flat, steps)
+}
+
+// The flat lines with the combinations taken in among them. One is taken in as soon as it is made, so that
+// no memory is taken for one that says nothing of its own. One step is counted for each.
+fn combined_step<L: Ledger>(
+    alloc: Global,
+    column: &Column,
+    lines: &[Derived],
+    flat: Kept,
+    steps: &mut Steps<L>,
+) -> Result<Vec<Derived>, StepFault>
+    requires over { All (λ t. t.line.shape ≡ domains_of column.now.shape.count column.now.shape.codes) lines.now }
+    requires flat { flat ≡ reduce_derived (flat_from column.now.field 0 lines.now) }
+    ensures exact { Answers (λ v. v.items) told_step result (step_result lines.now column.now.field) }
+    ensures counted { OnOk result (steps.new ≡ steps.old + pairs_count lines.now column.now.field) }
+    ensures few { steps.new ≤ steps.old + pairs_count lines.now column.now.field }
+{
+    let Some(head) = lines.first() else {
+        return Ok(flat.into_lines());
+    };
+    let uppers = upper_places(alloc, column, lines)?;
+    let mut kept = flat;
     let mut line = head.line.copy(alloc)?;
     for (first, derived) in lines.iter().enumerate() {
         let s = Placed {
             place: first,
             derived,
         };
-        take_line(alloc, &column, lines, s, &mut line, &mut kept, steps)?;
+        take_line(
+            alloc, column, lines, &uppers, s, &mut line, &mut kept, steps,
+        )?;
     }
-    Ok(kept)
+    Ok(kept.into_lines())
+}
+
+// The lines without the field, in order; they are reduced, as all the lines are.
+fn own_flat_lines(alloc: Global, column: &Column, lines: &[Derived]) -> Result<Kept, OutOfMemory>
+    requires over { All (λ s. s.line.shape ≡ domains_of column.now.shape.count column.now.shape.codes) lines.now }
+    requires own { AreOwn (lines_of lines.now) }
+    ensures { IfOk result (λ flat. flat ≡ reduce_derived (flat_from column.now.field 0 lines.now)) }
+{
+    let mut flat = Kept::new(alloc);
+    for (i, s) in lines.iter().enumerate() {
+        push_flat(alloc, column, i, s, &mut flat)?;
+    }
+    Ok(flat)
+}
+
+// Puts the line last, if the field does not stand in it.
+fn push_flat(
+    alloc: Global,
+    column: &Column,
+    i: usize,
+    s: &Derived,
+    flat: &mut Kept,
+) -> Result<(), OutOfMemory>
+    requires { s.now.line.shape ≡ domains_of column.now.shape.count column.now.shape.codes }
+    ensures { OnOk result (flat.new ≡ flat.old ++ flat_from column.now.field i (s.now ∷ [])) }
+{
+    if column.is_flat(&s.line) {
+        flat.push(Derived {
+            line: s.line.copy(alloc)?,
+            origin: Origin::Same(i as u64),
+        })?;
+    }
+    Ok(())
 }
 
 // The lines without the field, in order, reduced.
-fn flat_lines(
-    alloc: Global,
-    column: &Column,
-    lines: &[Derived],
-) -> Result<Vec<Derived>, OutOfMemory>
+fn flat_lines(alloc: Global, column: &Column, lines: &[Derived]) -> Result<Kept, OutOfMemory>
     requires { All (λ s. s.line.shape ≡ domains_of column.now.shape.count column.now.shape.codes) lines.now }
-    ensures { IfOk result (λ flat. flat.items ≡ reduce_derived (flat_from column.now.field 0 lines.now)) }
+    ensures { IfOk result (λ flat. flat ≡ reduce_derived (flat_from column.now.field 0 lines.now)) }
 {
-    let mut flat = Vec::new(alloc);
+    let mut flat = Kept::new(alloc);
     for (i, s) in lines.iter().enumerate() {
         take_flat(alloc, column, i, s, &mut flat)?;
     }
@@ -116,13 +189,45 @@ fn take_flat(
     column: &Column,
     i: usize,
     s: &Derived,
-    flat: &mut Vec<Derived>,
+    flat: &mut Kept,
 ) -> Result<(), OutOfMemory>
     requires { s.now.line.shape ≡ domains_of column.now.shape.count column.now.shape.codes }
-    ensures { OnOk result (flat.new.items ≡ fold with_derived flat.old.items (flat_from column.now.field i (s.now ∷ []))) }
+    ensures { OnOk result (flat.new ≡ fold with_derived flat.old (flat_from column.now.field i (s.now ∷ []))) }
 {
     if column.is_flat(&s.line) {
-        take_copy(alloc, flat, &s.line, Origin::Same(i as u64))?;
+        flat.take_copy(alloc, &s.line, Origin::Same(i as u64))?;
+    }
+    Ok(())
+}
+
+// The places of the lines that bound the field from above, in order.
+fn upper_places(
+    alloc: Global,
+    column: &Column,
+    lines: &[Derived],
+) -> Result<Vec<usize>, OutOfMemory>
+    requires { All (λ t. t.line.shape ≡ domains_of column.now.shape.count column.now.shape.codes) lines.now }
+    ensures { IfOk result (λ uppers. uppers.items ≡ places_from (is_upper column.now.field) 0 lines.now) }
+{
+    let mut uppers = Vec::new(alloc);
+    for (i, t) in lines.iter().enumerate() {
+        push_upper(column, i, t, &mut uppers)?;
+    }
+    Ok(uppers)
+}
+
+// Puts the place last, if the line there bounds the field from above.
+fn push_upper(
+    column: &Column,
+    i: usize,
+    t: &Derived,
+    uppers: &mut Vec<usize>,
+) -> Result<(), OutOfMemory>
+    requires { t.now.line.shape ≡ domains_of column.now.shape.count column.now.shape.codes }
+    ensures { OnOk result (uppers.new.items ≡ uppers.old.items ++ places_from (is_upper column.now.field) i (t.now ∷ [])) }
+{
+    if column.is_upper(&t.line) {
+        uppers.push(i)?;
     }
     Ok(())
 }
@@ -133,54 +238,86 @@ fn take_line<L: Ledger>(
     alloc: Global,
     column: &Column,
     lines: &[Derived],
+    uppers: &[usize],
     s: Placed,
     line: &mut Line,
-    kept: &mut Vec<Derived>,
+    kept: &mut Kept,
     steps: &mut Steps<L>,
 ) -> Result<(), StepFault>
     requires s_over { s.derived.now.line.shape ≡ domains_of column.now.shape.count column.now.shape.codes }
     requires over { All (λ t. t.line.shape ≡ domains_of column.now.shape.count column.now.shape.codes) lines.now }
+    requires uppers { uppers.now ≡ places_from (is_upper column.now.field) 0 lines.now }
     requires line_over { line.old.shape ≡ domains_of column.now.shape.count column.now.shape.codes }
-    ensures exact { TakesIn told_step kept.old.items kept.new.items result (row_result column.now.field lines.now s.entry.place s.entry.derived.now) }
+    ensures exact { TakesIn told_step kept.old kept.new result (row_result column.now.field lines.now s.entry.place s.entry.derived.now) }
     ensures counted { OnOk result (steps.new ≡ steps.old + row_count column.now.field lines.now s.entry.derived.now) }
     ensures few { steps.new ≤ steps.old + row_count column.now.field lines.now s.entry.derived.now }
     ensures over { line.new.shape ≡ line.old.shape }
 {
     if column.is_lower(&s.derived.line) {
-        take_row(alloc, column, lines, s, line, kept, steps)
+        take_row(alloc, column, lines, uppers, s, line, kept, steps)
     } else {
         Ok(())
     }
 }
 
 // Takes in the combinations of a line, which bounds the field from below, with those that are opposite to
-// it.
+// it. It looks only at the lines that bound the field from above.
 fn take_row<L: Ledger>(
     alloc: Global,
     column: &Column,
     lines: &[Derived],
+    uppers: &[usize],
     s: Placed,
     line: &mut Line,
-    kept: &mut Vec<Derived>,
+    kept: &mut Kept,
+    steps: &mut Steps<L>,
+) -> Result<(), StepFault>
+    requires lower { is_lower column.now.field s.derived.now.line ≡ true }
+    requires s_over { s.derived.now.line.shape ≡ domains_of column.now.shape.count column.now.shape.codes }
+    requires over { All (λ t. t.line.shape ≡ domains_of column.now.shape.count column.now.shape.codes) lines.now }
+    requires uppers { uppers.now ≡ places_from (is_upper column.now.field) 0 lines.now }
+    requires line_over { line.old.shape ≡ domains_of column.now.shape.count column.now.shape.codes }
+    ensures exact { TakesIn told_step kept.old kept.new result (collect (pair_result column.now.field s.entry.place s.entry.derived.now) 0 lines.now) }
+    ensures counted { OnOk result (steps.new ≡ steps.old + length (filter (λ t. is_opposite column.now.field s.entry.derived.now.line t.line) lines.now)) }
+    ensures few { steps.new ≤ steps.old + length (filter (λ t. is_opposite column.now.field s.entry.derived.now.line t.line) lines.now) }
+    ensures over { line.new.shape ≡ line.old.shape }
+{
+    for place in uppers {
+        match take_at(alloc, column, lines, *place, s, line, kept, steps) {
+            Ok(()) => {}
+            Err(fault) => return Err(fault),
+        }
+    }
+    Ok(())
+}
+
+// Takes in the combination of a line, which bounds the field from below, and the line at the place, if that
+// is opposite to it.
+fn take_at<L: Ledger>(
+    alloc: Global,
+    column: &Column,
+    lines: &[Derived],
+    place: usize,
+    s: Placed,
+    line: &mut Line,
+    kept: &mut Kept,
     steps: &mut Steps<L>,
 ) -> Result<(), StepFault>
     requires lower { is_lower column.now.field s.derived.now.line ≡ true }
     requires s_over { s.derived.now.line.shape ≡ domains_of column.now.shape.count column.now.shape.codes }
     requires over { All (λ t. t.line.shape ≡ domains_of column.now.shape.count column.now.shape.codes) lines.now }
     requires line_over { line.old.shape ≡ domains_of column.now.shape.count column.now.shape.codes }
-    ensures exact { TakesIn told_step kept.old.items kept.new.items result (collect (pair_result column.now.field s.entry.place s.entry.derived.now) 0 lines.now) }
-    ensures counted { OnOk result (steps.new ≡ steps.old + length (filter (λ t. is_opposite column.now.field s.entry.derived.now.line t.line) lines.now)) }
-    ensures few { steps.new ≤ steps.old + length (filter (λ t. is_opposite column.now.field s.entry.derived.now.line t.line) lines.now) }
+    ensures exact { TakesIn told_step kept.old kept.new result (found_result (pair_result column.now.field s.entry.place s.entry.derived.now) place (slice_get lines.now place)) }
+    ensures counted { steps.new ≡ steps.old + found_count (is_opposite column.now.field s.entry.derived.now.line) (slice_get lines.now place) }
     ensures over { line.new.shape ≡ line.old.shape }
 {
-    for (second, derived) in lines.iter().enumerate() {
-        let t = Placed {
-            place: second,
-            derived,
-        };
-        take_pair(alloc, column, s, t, line, kept, steps)?;
+    match lines.get(place) {
+        None => Ok(()),
+        Some(derived) => {
+            let t = Placed { place, derived };
+            take_pair(alloc, column, s, t, line, kept, steps)
+        }
     }
-    Ok(())
 }
 
 // Takes in the combination of a line, which bounds the field from below, and another, if that is opposite
@@ -191,14 +328,14 @@ fn take_pair<L: Ledger>(
     s: Placed,
     t: Placed,
     line: &mut Line,
-    kept: &mut Vec<Derived>,
+    kept: &mut Kept,
     steps: &mut Steps<L>,
 ) -> Result<(), StepFault>
     requires lower { is_lower column.now.field s.derived.now.line ≡ true }
     requires s_over { s.derived.now.line.shape ≡ domains_of column.now.shape.count column.now.shape.codes }
     requires t_over { t.derived.now.line.shape ≡ domains_of column.now.shape.count column.now.shape.codes }
     requires line_over { line.old.shape ≡ domains_of column.now.shape.count column.now.shape.codes }
-    ensures exact { TakesIn told_step kept.old.items kept.new.items result (pair_result column.now.field s.entry.place s.entry.derived.now t.entry.place t.entry.derived.now) }
+    ensures exact { TakesIn told_step kept.old kept.new result (pair_result column.now.field s.entry.place s.entry.derived.now t.entry.place t.entry.derived.now) }
     ensures counted { steps.new ≡ steps.old + (if is_opposite column.now.field s.entry.derived.now.line t.entry.derived.now.line then 1 else 0) }
     ensures over { line.new.shape ≡ line.old.shape }
 {
@@ -209,7 +346,7 @@ fn take_pair<L: Ledger>(
     let (first, second) = (s.place as u64, t.place as u64);
     match combine(line, column, &s.derived.line, &t.derived.line) {
         Ok(by) => {
-            take_copy(alloc, kept, line, by.origin(first, second))?;
+            kept.take_copy(alloc, line, by.origin(first, second))?;
             Ok(())
         }
         Err(place) => Err(StepFault::Overflow {

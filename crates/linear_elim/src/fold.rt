@@ -5,7 +5,7 @@ ghost use Rattle.edit_model.specs.FieldSets.{has_number};
 ghost use Rattle.edit_model.specs.Points.{Point};
 ghost use Rattle.edit_line.specs.Lines.{AllHold, HaveShape, IsLine};
 ghost use Rattle.edit_line.specs.EditSets.{base_lines};
-ghost use Rattle.edit_line.specs.Reductions.{lines_of, reduce_derived};
+ghost use Rattle.edit_line.specs.Reductions.{AreOwn, lines_of, reduce_derived};
 ghost use Rattle.edit_line.specs.Shapes.{domain_with, number_fields, numbers_from};
 ghost use Rattle.linear_elim.specs.Answers.{Answers};
 ghost use Rattle.linear_elim.specs.Overflows.{IsFoldOverflow};
@@ -14,7 +14,7 @@ ghost use Rattle.linear_elim.specs.Steps.{OneShape};
 ghost use Rattle.linear_elim.specs.Systems.{AreNumerical, chosen_fields, fold_count, fold_result, so_far, system_at, system_count};
 ghost use Rattle.linear_elim.specs.Told.{told_system};
 
-use crate::elimination::counted_step;
+use crate::elimination::reduced_step;
 use crate::fault::{StepFault, SystemFault};
 use crate::system::System;
 use edit_line::{Derived, Edits};
@@ -117,6 +117,7 @@ fn next_lines<L: Ledger>(
     steps: &mut Steps<L>,
 ) -> Result<Option<Vec<Derived>>, SystemFault>
     requires shape { OneShape (so_far (λ v. v.items) base.now lines) }
+    requires own { AreOwn (lines_of (so_far (λ v. v.items) base.now lines)) }
     requires field { field < 64 }
     ensures exact { Answers (λ next. so_far (λ v. v.items) base.now next) told_system result (fold_result (so_far (λ v. v.items) base.now lines) (filter (has_number fields) (numbers_from field (domain_with count ∷ [])))) }
     ensures counted { OnOk result (steps.new ≡ steps.old + fold_count (so_far (λ v. v.items) base.now lines) (filter (has_number fields) (numbers_from field (domain_with count ∷ [])))) }
@@ -125,7 +126,7 @@ fn next_lines<L: Ledger>(
     if count > 0 || !fields.has(field) {
         return Ok(lines);
     }
-    match counted_step(alloc, so_far(base, &lines), field, steps) {
+    match reduced_step(alloc, so_far(base, &lines), field, steps) {
         Ok(next) => Ok(Some(next)),
         Err(
             StepFault::Overflow {

@@ -3,4 +3,4 @@ use Rattle.edit_line.specs.Reductions.{reduce_derived}
 use Rattle.edit_line.proofs.reduction.reduce.Given as goal
 
 abbrev pub invariant-loop-line : goal.invariant-loop-line
-invariant-loop-line l = l.kept.items ≡ reduce_derived l.yielded
+invariant-loop-line l = l.kept ≡ reduce_derived l.yielded

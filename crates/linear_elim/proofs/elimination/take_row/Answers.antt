@@ -1,20 +1,73 @@
-use Rattle.std.proofs.Common.{◌∙◌, arith}
-use Rattle.edit_line.specs.declared.derived.Derived.{Derived}
-use Rattle.linear_elim.specs.Steps.{collect, is_opposite, pair_result, taken_in}
-use Rattle.linear_elim.proofs.StepLoops.{collect-more, count-at}
+use Rattle.std.proofs.Common.{◌∙◌, ap, sym, arith}
+use Rattle.linear_elim.specs.Steps.{collect_at, is_opposite, pair_result, taken_in}
+use Rattle.linear_elim.specs.Told.{told_step}
+use Rattle.linear_elim.proofs.StepLoops.{fault-of-rest, if_told}
+use Rattle.linear_elim.proofs.UpperLaws.{count-uppers, places-end, places-fault, places-more, places_count-end, places_count-more, row-uppers}
 use Rattle.linear_elim.proofs.elimination.take_row.Goals as goal
 
-pub loop-second-preserved : goal.loop-second-preserved
-loop-second-preserved g c =
+pub loop-place-preserved : goal.loop-place-preserved
+loop-place-preserved g c =
     let f = c.args.column.now.field in
     let s = c.args.s.derived.now in
-    let t = c.index-lines-second.result in
-    let p = λ (t : Derived). is_opposite f s.line t.line in
+    let lines = c.args.lines.now in
+    let places = c.args.uppers.now in
+    let i = c.loop-place.place-index in
     let each = pair_result f c.args.s.place s in
-    let whole = taken_in c.args.kept.now.items (collect each 0 c.args.lines.now) in
-    let done = c.in_ok-take_pair.ensures.exact in
-    let count = count-at p c.args.lines.now c.loop-second.second t c.loop-second-test.true c.index-lines-second.is in (
-      collect-more each c.args.lines.now whole c.loop-second.second t c.loop-second.kept.items c.take_pair.new.kept.items c.loop-second-test.true c.index-lines-second.is c.loop-second.invariant.0 done,
-      omega (arith, count, c.loop-second.invariant.1, c.take_pair.ensures.counted),
-      c.take_pair.ensures.over ∙ c.loop-second.invariant.2,
+    let whole = taken_in c.args.kept.now (collect_at each lines places) in
+    let count = places_count-more (is_opposite f s.line) lines places i c.loop-place-test.true in (
+      places-more each lines places whole i c.loop-place.kept c.loop-place.invariant.0 c.take_at.new.kept c.loop-place-test.true c.in-Ok.ensures.exact,
+      omega (arith, count, c.loop-place.invariant.1, c.take_at.ensures.counted),
+      c.take_at.ensures.over ∙ c.loop-place.invariant.2,
     )
+
+pub returns-in-Err-clause-exact : goal.returns-in-Err-clause-exact
+returns-in-Err-clause-exact g c =
+    let f = c.args.column.now.field in
+    let s = c.args.s.derived.now in
+    let lines = c.args.lines.now in
+    let places = c.args.uppers.now in
+    let each = pair_result f c.args.s.place s in
+    let whole = taken_in c.args.kept.now (collect_at each lines places) in
+    if_told (told_step c.in-Err.fault) (λ fault is.
+    sym (row-uppers f s c.args.s.place lines places c.requires.uppers)
+    ∙ fault-of-rest c.args.kept.now (collect_at each lines places) fault (places-fault each lines places whole c.loop-place.place-index c.loop-place.kept c.loop-place.invariant.0 fault c.loop-place-test.true is)) c.in-Err.ensures.exact
+
+pub returns-in-Err-clause-few : goal.returns-in-Err-clause-few
+returns-in-Err-clause-few g c =
+    let f = c.args.column.now.field in
+    let s = c.args.s.derived.now in
+    let lines = c.args.lines.now in
+    let places = c.args.uppers.now in
+    let count = places_count-more (is_opposite f s.line) lines places c.loop-place.place-index c.loop-place-test.true in
+    let all = count-uppers f s lines places c.requires.uppers in
+    omega (arith, count, all, c.loop-place.invariant.1, c.in-Err.ensures.counted)
+
+pub returns-clause-exact : goal.returns-clause-exact
+returns-clause-exact g c =
+    let f = c.args.column.now.field in
+    let s = c.args.s.derived.now in
+    let lines = c.args.lines.now in
+    let places = c.args.uppers.now in
+    let each = pair_result f c.args.s.place s in
+    ap (λ r. taken_in c.args.kept.now r) (sym (row-uppers f s c.args.s.place lines places c.requires.uppers))
+    ∙ places-end each lines places (taken_in c.args.kept.now (collect_at each lines places)) c.loop-place.place-index c.loop-place.kept c.loop-place.invariant.0 (omega (arith, c.loop-place-test.false))
+
+pub returns-clause-counted : goal.returns-clause-counted
+returns-clause-counted g c =
+    let f = c.args.column.now.field in
+    let s = c.args.s.derived.now in
+    let lines = c.args.lines.now in
+    let places = c.args.uppers.now in
+    let last = places_count-end (is_opposite f s.line) lines places c.loop-place.place-index (omega (arith, c.loop-place-test.false)) in
+    let all = count-uppers f s lines places c.requires.uppers in
+    omega (arith, last, all, c.loop-place.invariant.1)
+
+pub returns-clause-few : goal.returns-clause-few
+returns-clause-few g c =
+    let f = c.args.column.now.field in
+    let s = c.args.s.derived.now in
+    let lines = c.args.lines.now in
+    let places = c.args.uppers.now in
+    let last = places_count-end (is_opposite f s.line) lines places c.loop-place.place-index (omega (arith, c.loop-place-test.false)) in
+    let all = count-uppers f s lines places c.requires.uppers in
+    omega (arith, last, all, c.loop-place.invariant.1)

@@ -1,10 +1,9 @@
-use Rattle.std.proofs.Common.{◌≡◌, ◌+◌, drop, filter, length}
-use Rattle.edit_line.specs.declared.derived.Derived.{Derived}
-use Rattle.linear_elim.specs.Steps.{collect, is_opposite, pair_result, taken_in}
+use Rattle.std.proofs.Common.{◌≡◌, ◌+◌, drop}
+use Rattle.linear_elim.specs.Steps.{collect_at, count_at, is_opposite, pair_result, taken_in}
 use Rattle.linear_elim.proofs.elimination.take_row.Given as goal
 
-abbrev pub invariant-loop-second : goal.invariant-loop-second
-invariant-loop-second g l =
-    (taken_in l.kept.items (collect (pair_result l.column.field l.s.place l.s.derived.now) l.second (drop l.second l.lines)) ≡ taken_in l.initial.kept.items (collect (pair_result l.column.field l.s.place l.s.derived.now) 0 l.lines))
-    × (l.steps + length (filter (λ (t : Derived). is_opposite l.column.field l.s.derived.now.line t.line) (drop l.second l.lines)) ≡ l.initial.steps + length (filter (λ (t : Derived). is_opposite l.column.field l.s.derived.now.line t.line) l.lines))
+abbrev pub invariant-loop-place : goal.invariant-loop-place
+invariant-loop-place g l =
+    (taken_in l.kept (collect_at (pair_result l.column.field l.s.place l.s.derived.now) l.lines (drop l.place-index l.uppers)) ≡ taken_in l.initial.kept (collect_at (pair_result l.column.field l.s.place l.s.derived.now) l.lines l.uppers))
+    × (l.steps + count_at (is_opposite l.column.field l.s.derived.now.line) l.lines (drop l.place-index l.uppers) ≡ l.initial.steps + count_at (is_opposite l.column.field l.s.derived.now.line) l.lines l.uppers)
     × (l.line.shape ≡ l.initial.line.shape)

@@ -5,6 +5,7 @@ use Rattle.edit_line.specs.Reductions.{reduce_derived}
 use Rattle.linear_elim.specs.Systems.{fold_count, fold_result, so_far, system_at}
 use Rattle.linear_elim.proofs.ShapeLaws.{OneShape-have}
 use Rattle.linear_elim.specs.Told.{told_system}
+use Rattle.linear_elim.proofs.OwnLoops.{own-folded, own-start}
 use Rattle.linear_elim.proofs.StepLoops.{if_told}
 use Rattle.linear_elim.proofs.SystemLoops.{HaveShape-folded, HaveShape-start, chosen-all, chosen-end, chosen_from, chosen_here, count-more, count-stops, fold-more, fold-stops, lifts-reached}
 use Rattle.linear_elim.proofs.fold.fold_lines.Goals as goal
@@ -19,6 +20,7 @@ loop-field-init g c =
       ap (λ (ls : List Derived). fold_result ls (chosen_from c.args.fields c.code_counts-count-items.result.now 0)) is ∙ ap (λ (fs : List ℕ). fold_result base fs) chosen,
       ap (λ (n : ℕ). c.args.steps.now + n) (ap (λ (ls : List Derived). fold_count ls (chosen_from c.args.fields c.code_counts-count-items.result.now 0)) is ∙ ap (λ (fs : List ℕ). fold_count base fs) chosen),
       HaveShape-start edits.shape edits.lines start c.lines-over.ensures.fit is c.reduced-base.ensures.lines,
+      own-start (base_lines edits.lines) start is,
     )
 
 pub next_lines-requires-clause-shape : goal.next_lines-requires-clause-shape
@@ -37,6 +39,7 @@ loop-field-preserved g c =
       fold-more fields counts i k c.loop-field-test.true (search rules) lines next (system_at c.args.edits.now fields) c.loop-field.invariant.0 is,
       omega (arith, count, c.in-Ok.ensures.counted, c.loop-field.invariant.1),
       HaveShape-folded c.args.edits.now.shape lines (chosen_here fields k i) next is c.loop-field.invariant.2,
+      own-folded lines (chosen_here fields k i) next is c.loop-field.invariant.3,
     )
 
 pub returns-in-Err-clause-exact : goal.returns-in-Err-clause-exact

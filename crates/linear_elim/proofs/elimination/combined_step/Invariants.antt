@@ -1,10 +1,10 @@
 use Rattle.std.proofs.Common.{◌≡◌, ◌+◌, drop}
 use Rattle.edit_line.specs.Shapes.{domains_of}
 use Rattle.linear_elim.specs.Steps.{collect, pairs_count, row_result, rows_count, step_result, taken_in}
-use Rattle.linear_elim.proofs.elimination.counted_step.Given as goal
+use Rattle.linear_elim.proofs.elimination.combined_step.Given as goal
 
 abbrev pub invariant-loop-first : goal.invariant-loop-first
 invariant-loop-first g l =
-    (taken_in l.kept.items (collect (row_result l.field l.lines) l.first (drop l.first l.lines)) ≡ step_result l.lines l.field)
-    × (l.steps + rows_count l.field l.lines (drop l.first l.lines) ≡ l.initial.steps + pairs_count l.lines l.field)
+    (taken_in l.kept (collect (row_result l.column.field l.lines) l.first (drop l.first l.lines)) ≡ step_result l.lines l.column.field)
+    × (l.steps + rows_count l.column.field l.lines (drop l.first l.lines) ≡ l.initial.steps + pairs_count l.lines l.column.field)
     × (l.line.shape ≡ domains_of l.column.shape.count l.column.shape.codes)

@@ -1,0 +1,22 @@
+use Rattle.std.specs.Prelude.{ℕ, ℤ, ◌+◌, ◌*◌, ◌%◌, ◌^◌, ◌==◌, ◌||◌, Bool, List, map}
+use Rattle.std.specs.Int.{cast_unsigned, w128}
+use Rattle.std.specs.List.{fold}
+use Rattle.edit_line.specs.declared.derived.Derived.{Derived}
+
+-- A key of a line's factors: lines with equal factors have equal keys, and a line without a factor has the key 0. So most lines need not be compared.
+
+-- the key of some factors and one more
+abbrev pub key_with : ℕ → ℤ → ℕ
+key_with key factor = ((key * 11400714819323198485) % 2 ^ 64 + cast_unsigned w128 factor % 2 ^ 64) % 2 ^ 64
+
+-- the key of factors
+abbrev pub key_of : List ℤ → ℕ
+key_of factors = fold key_with 0 factors
+
+-- the keys of the lines
+abbrev pub keys_of : List Derived → List ℕ
+keys_of lines = map (λ (d : Derived). key_of d.line.factors) lines
+
+-- whether a line with the first key may subsume one with the second
+abbrev pub may_subsume : ℕ → ℕ → Bool
+may_subsume first second = (first == second) || (first == 0)

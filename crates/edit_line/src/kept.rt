@@ -1,0 +1,169 @@
+ghost use Rattle.std.specs.Prelude.{◌≡◌, ◌||◌, ◌<◌, ◌-◌, ◌++◌, [], ◌∷◌, drop, length, not, take, OnOk};
+ghost use Rattle.std.specs.List.{filter, list_any};
+ghost use Rattle.edit_line.specs.Keys.{key_of, keys_of};
+ghost use Rattle.edit_line.specs.Reductions.{derived_from, with_derived};
+ghost use Rattle.edit_line.specs.Subsumption as subsumption;
+
+use crate::derived::{Derived, Origin};
+use crate::key::{key_of, subsumes_keyed};
+use crate::line::Line;
+use crate::subsumption::is_trivial;
+use foundation::OutOfMemory;
+use std::alloc::Global;
+use std::marker::Model;
+
+/// Lines that are kept, in order, as more are taken in. Beside each stands the key of its factors, so that
+/// lines are compared only where these agree.
+#[derive(Debug, Drop)]
+pub struct Kept {
+    lines: Vec<Derived>,
+    keys: Vec<u64>,
+}
+
+impl Model for Kept {
+    ghost use Rattle.std.specs.Prelude.{◌≡◌, List};
+    ghost use Rattle.edit_line.specs.Keys.{keys_of};
+    ghost use Rattle.edit_line.specs.declared.derived.Derived as declared;
+
+    ghost Value = { List declared.Derived };
+
+    ghost view = { λ k. k.lines.items };
+
+    ghost invariant = { λ k. k.keys.items ≡ keys_of k.lines.items };
+}
+
+impl Kept {
+    /// No line. No memory.
+    pub fn new(alloc: Global) -> Kept
+        ensures { result ≡ [] }
+    {
+        Kept {
+            lines: Vec::new(alloc),
+            keys: Vec::new(alloc),
+        }
+    }
+
+    /// The lines. No memory.
+    pub fn into_lines(self) -> Vec<Derived>
+        ensures { result.items ≡ self }
+    {
+        self.lines
+    }
+
+    /// Takes the line in: if it always holds, or a kept line subsumes it, it is dropped; else the kept
+    /// lines that it subsumes are, and it comes last.
+    pub fn take(&mut self, new: Derived) -> Result<(), OutOfMemory>
+        ensures { OnOk result (self.new ≡ with_derived self.old new) }
+    {
+        let key = key_of(new.line.factors());
+        if self.is_needless(&new.line, key) {
+            return Ok(());
+        }
+        self.replace_subsumed(new, key)
+    }
+
+    /// Takes in an equal line with this origin: no copy is made of a line that is dropped.
+    pub fn take_copy(
+        &mut self,
+        alloc: Global,
+        line: &Line,
+        origin: Origin,
+    ) -> Result<(), OutOfMemory>
+        ensures { OnOk result (self.new ≡ with_derived self.old (derived_from line.now origin)) }
+    {
+        let key = key_of(line.factors());
+        if self.is_needless(line, key) {
+            return Ok(());
+        }
+        let line = line.copy(alloc)?;
+        self.replace_subsumed(Derived { line, origin }, key)
+    }
+
+    /// Puts the line last, and compares it with none.
+    pub fn push(&mut self, new: Derived) -> Result<(), OutOfMemory>
+        ensures { OnOk result (self.new ≡ self.old ++ new ∷ []) }
+    {
+        let key = key_of(new.line.factors());
+        self.push_keyed(new, key)
+    }
+
+    // Puts the line with this key last.
+    fn push_keyed(&mut self, new: Derived, key: u64) -> Result<(), OutOfMemory>
+        requires { key ≡ key_of new.line.factors }
+        ensures { OnOk result (self.new ≡ self.old ++ new ∷ []) }
+    {
+        self.keys.reserve(1)?;
+        self.lines.push(new)?;
+        self.keys.push_reserved(key);
+        Ok(())
+    }
+
+    // Whether the line always holds, or one of the kept lines subsumes it.
+    fn is_needless(&self, line: &Line, key: u64) -> bool
+        requires { key ≡ key_of line.now.factors }
+        ensures { result ≡ (subsumption.is_trivial line.now || list_any (λ a. subsumption.subsumes a.line line.now) self.now) }
+    {
+        is_trivial(line) || is_subsumed(&self.lines, &self.keys, line, key)
+    }
+
+    // Puts the line last, without those that it subsumes.
+    fn replace_subsumed(&mut self, new: Derived, key: u64) -> Result<(), OutOfMemory>
+        requires { key ≡ key_of new.line.factors }
+        ensures { OnOk result (self.new ≡ filter (λ b. not (subsumption.subsumes new.line b.line)) self.old ++ new ∷ []) }
+    {
+        remove_subsumed(&mut self.lines, &mut self.keys, &new.line, key);
+        self.push_keyed(new, key)
+    }
+}
+
+// Whether one of the lines subsumes the line. It looks no further than the first that does.
+fn is_subsumed(lines: &[Derived], keys: &[u64], line: &Line, key: u64) -> bool
+    requires keyed { keys.now ≡ keys_of lines.now }
+    requires key { key ≡ key_of line.now.factors }
+    ensures { result ≡ list_any (λ a. subsumption.subsumes a.line line.now) lines.now }
+{
+    for i in 0..lines.len() {
+        if subsumes_keyed(&lines[i].line, keys[i], line, key) {
+            return true;
+        }
+    }
+    false
+}
+
+// Removes the lines that the line subsumes, and their keys.
+fn remove_subsumed(lines: &mut Vec<Derived>, keys: &mut Vec<u64>, line: &Line, key: u64)
+    requires keyed { keys.old.items ≡ keys_of lines.old.items }
+    requires key { key ≡ key_of line.now.factors }
+    ensures lines { lines.new.items ≡ filter (λ b. not (subsumption.subsumes line.now b.line)) lines.old.items }
+    ensures keyed { keys.new.items ≡ keys_of lines.new.items }
+{
+    let mut place = 0;
+    while place < lines.len() {
+        place = remove_at(lines, keys, line, key, place);
+    }
+}
+
+// Removes the line at the place, and its key, if the line subsumes it; and tells the place of the next.
+fn remove_at(
+    lines: &mut Vec<Derived>,
+    keys: &mut Vec<u64>,
+    line: &Line,
+    key: u64,
+    place: usize,
+) -> usize
+    requires keyed { keys.old.items ≡ keys_of lines.old.items }
+    requires key { key ≡ key_of line.now.factors }
+    requires place { place < length lines.old.items }
+    ensures lines { take result lines.new.items ++ filter (λ b. not (subsumption.subsumes line.now b.line)) (drop result lines.new.items)
+        ≡ take place lines.old.items ++ filter (λ b. not (subsumption.subsumes line.now b.line)) (drop place lines.old.items) }
+    ensures keyed { keys.new.items ≡ keys_of lines.new.items }
+    ensures nearer { length lines.new.items - result < length lines.old.items - place }
+{
+    if subsumes_keyed(line, key, &lines[place].line, keys[place]) {
+        lines.remove(place);
+        keys.remove(place);
+        place
+    } else {
+        place + 1
+    }
+}
