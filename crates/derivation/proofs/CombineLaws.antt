@@ -6,13 +6,12 @@ use Rattle.std.proofs.lemmas.Int.{quot-rem}
 use Rattle.std.proofs.lemmas.List.Folds.{list_all-append}
 use Rattle.fraction128.proofs.Whole.{comm, parts, ring, same_dif}
 use Rattle.edit_model.specs.Points.{Point}
-use Rattle.edit_line.specs.Combinations.{IsCombined, all_meet, first_overflow, numbers, sum_of}
+use Rattle.edit_line.specs.Combinations.{IsCombined, all_meet, divides, first_overflow, may_combine, numbers, sum_of}
 use Rattle.edit_line.specs.Divisors.{divided_by}
 use Rattle.edit_line.specs.Lines.{LineHolds, LineParts}
 use Rattle.edit_line.proofs.CombinationLaws.{LineHolds-combined}
 use Rattle.edit_line.proofs.Enough.{is_enough-Decides}
 use Rattle.edit_line.proofs.SetLaws.{both_true}
-use Rattle.derivation.specs.ValidSteps.{divides, may_combine}
 
 -- A combination that may be taken holds where both its lines do.
 

@@ -1,10 +1,10 @@
 use Rattle.std.proofs.Common.{◌≡◌, ◌&&◌, ℕ, true, Option, Some, None, ℤ, pos, ◌<ℤ◌, int_lt, is_none, sym, ap, ◌∙◌}
-use Rattle.edit_line.specs.Combinations.{all_meet, first_overflow, numbers, sum_of}
+use Rattle.edit_line.specs.Combinations.{all_meet, divides, first_overflow, may_combine, numbers, sum_of}
 use Rattle.edit_line.specs.Divisors.{divided_by}
 use Rattle.edit_line.specs.Lines.{LineParts}
 use Rattle.edit_line.proofs.Enough.{is_enough-Decides}
 use Rattle.edit_line.proofs.SetLaws.{both_true}
-use Rattle.derivation.specs.ValidSteps.{combined_line, divides, may_combine, only_if}
+use Rattle.derivation.specs.ValidSteps.{combined_line, only_if}
 use Rattle.derivation.specs.declared.proved.Proved.TheVariants as proved
 
 -- The tests of a combination, one after the other.

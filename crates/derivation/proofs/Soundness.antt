@@ -9,7 +9,7 @@ use Rattle.edit_model.specs.declared.value.Value.{Value}
 use Rattle.edit_model.specs.declared.value.Value.TheVariants.{Bad, Code, Number}
 use Rattle.edit_line.specs.Boxes.{BoxParts}
 use Rattle.edit_line.specs.CodeFields.{place_of, size_of, whole_of}
-use Rattle.edit_line.specs.Combinations.{sum_of}
+use Rattle.edit_line.specs.Combinations.{may_combine, sum_of}
 use Rattle.edit_line.specs.Divisors.{divided_by}
 use Rattle.edit_line.specs.Lines.{AllHold, AreOver, LineHolds, LineParts}
 use Rattle.edit_line.specs.Reductions.{IsIn}
@@ -22,7 +22,7 @@ use Rattle.edit_line.proofs.SetLaws.{both_true, is_inside-Decides}
 use Rattle.derivation.specs.Premises.{AgreesAt, HasKept, Premises, usable_lines}
 use Rattle.derivation.specs.Shown.{IsOver, IsShown}
 use Rattle.fraction128.specs.Formulas.{then_some}
-use Rattle.derivation.specs.ValidSteps.{all_kept, as_box, as_line, combined_line, common_from, covered_box, failed_box, fixed_box, given_line, has_value, is_true, last_from, last_proved, may_combine, only_if, or_place, proved_by, proved_from, steps_result, whole_box}
+use Rattle.derivation.specs.ValidSteps.{all_kept, as_box, as_line, combined_line, common_from, covered_box, failed_box, fixed_box, given_line, has_value, is_true, last_from, last_proved, only_if, or_place, proved_by, proved_from, steps_result, whole_box}
 use Rattle.derivation.specs.declared.proved.Proved.{Proved}
 use Rattle.derivation.specs.declared.proved.Proved.TheVariants as proved
 use Rattle.derivation.specs.declared.step.Step.{Step}

@@ -1,5 +1,4 @@
-use Rattle.std.specs.Prelude.{◌≡◌, ℕ, suc, ℤ, pos, ◌==◌, ◌&&◌, ◌||◌, Bool, true, false, List, [], ◌∷◌, ◌++◌, Option, Some, None, Result, Ok, Err, is_none, length, int_lt, int_rem, if◌then◌else◌, slice_get, slice_index_or, slice_set}
-use Rattle.std.specs.List.{list_all}
+use Rattle.std.specs.Prelude.{◌≡◌, ℕ, suc, ℤ, pos, ◌==◌, ◌&&◌, ◌||◌, Bool, true, false, List, [], ◌∷◌, ◌++◌, Option, Some, None, Result, Ok, Err, length, if◌then◌else◌, slice_get, slice_index_or, slice_set}
 use Rattle.std.specs.Ordering.{int_eq}
 use Rattle.fraction128.specs.Formulas.{then_some}
 use Rattle.edit_model.specs.FieldSets.{has_number}
@@ -9,7 +8,7 @@ use Rattle.edit_model.specs.declared.value.Value.TheVariants.{Bad, Code, Number}
 use Rattle.edit_model.specs.Points.{has_code}
 use Rattle.edit_line.specs.Boxes.{box_of}
 use Rattle.edit_line.specs.CodeFields.{place_of, size_of, whole_of}
-use Rattle.edit_line.specs.Combinations.{all_meet, first_overflow, meets, numbers, sum_of}
+use Rattle.edit_line.specs.Combinations.{may_combine, meets, sum_of}
 use Rattle.edit_line.specs.Divisors.{divided_by}
 use Rattle.edit_line.specs.Lines.{LineParts}
 use Rattle.edit_line.specs.Sets.{has_codes}
@@ -48,15 +47,6 @@ abbrev pub given_line : Premises → ℕ → Option Proved
 given_line p place = if slice_index_or p.usable place false then then_some (slice_get p.given place) (λ line. Some (proved.Line line)) else None
 
 -- ---- a positive combination of two lines
-
--- whether all numbers of the line are multiples of g
-abbrev pub divides : ℤ → LineParts → Bool
-divides g line = list_all (λ z. int_eq (int_rem z g) (pos 0)) (numbers line)
-
--- whether m times s and n times t, divided by g, may be taken: m, n and g are above 0, the lines have codes of each field in common, no product and no sum leaves the range, and g divides all numbers
-abbrev pub may_combine : ℤ → ℤ → ℤ → LineParts → LineParts → Bool
-may_combine m n g s t =
-    int_lt (pos 0) m && (int_lt (pos 0) n && (int_lt (pos 0) g && (all_meet s.sets t.sets && (is_none (first_overflow 0 m n (numbers s) (numbers t)) && divides g (sum_of m n s t)))))
 
 -- the combination
 abbrev pub combined_line : ℤ → ℤ → ℤ → LineParts → LineParts → Option Proved

@@ -1,11 +1,12 @@
 ghost use Rattle.std.specs.Prelude.{◌≡◌, ◌&&◌, ◌<ℤ◌, IfOk, int_lt, int_rem, map, pos};
 ghost use Rattle.std.specs.List.{list_all};
 ghost use Rattle.std.specs.Ordering.{int_eq};
+ghost use Rattle.edit_line.specs.Combinations.{divides};
 ghost use Rattle.edit_line.specs.Divisors.{divided_by};
 ghost use Rattle.edit_line.specs.Shapes.{shape_of};
 ghost use Rattle.derivation.specs.Bases.{premises};
 ghost use Rattle.derivation.specs.Meanings.{AllOver, meaning, meant};
-ghost use Rattle.derivation.specs.ValidSteps.{combined_line, divides, only_if, proved_by};
+ghost use Rattle.derivation.specs.ValidSteps.{combined_line, only_if, proved_by};
 ghost use Rattle.derivation.specs.declared.proved.Proved.{Proved};
 ghost use Rattle.derivation.specs.declared.step.Step.{Step};
 

@@ -1,4 +1,6 @@
-use Rattle.std.specs.Prelude.{◌≡◌, ℕ, suc, ℤ, pos, ◌^◌, ◌&&◌, ◌||◌, not, Bool, true, List, [], ◌∷◌, ◌++◌, Option, Some, None, Result, Ok, Err, map, bit_and, nat_eq, nat_lt, unsigned_abs, ◌<ℤ◌, ◌+ℤ◌, ◌*ℤ◌, if◌then◌else◌}
+use Rattle.std.specs.Prelude.{◌≡◌, ℕ, suc, ℤ, pos, ◌^◌, ◌&&◌, ◌||◌, not, Bool, true, List, [], ◌∷◌, ◌++◌, Option, Some, None, is_none, Result, Ok, Err, map, int_lt, int_rem, bit_and, nat_eq, nat_lt, unsigned_abs, ◌<ℤ◌, ◌+ℤ◌, ◌*ℤ◌, if◌then◌else◌}
+use Rattle.std.specs.List.{list_all}
+use Rattle.std.specs.Ordering.{int_eq}
 use Rattle.edit_line.specs.Lines.{LineParts, parts_of}
 
 -- some code of each field is in both sets
@@ -61,3 +63,14 @@ numbers line = line.factors ++ line.constant ∷ []
 abbrev pub unless_overflow : {B : Type 0} → Option ℕ → B → Result B ℕ
 unless_overflow None value = Ok value
 unless_overflow (Some place) value = Err place
+
+-- ---- a combination that may be taken
+
+-- whether all numbers of the line are multiples of g
+abbrev pub divides : ℤ → LineParts → Bool
+divides g line = list_all (λ z. int_eq (int_rem z g) (pos 0)) (numbers line)
+
+-- whether m times s and n times t, divided by g, may be taken: m, n and g are above 0, the lines have codes of each field in common, no product and no sum leaves the range, and g divides all numbers
+abbrev pub may_combine : ℤ → ℤ → ℤ → LineParts → LineParts → Bool
+may_combine m n g s t =
+    int_lt (pos 0) m && (int_lt (pos 0) n && (int_lt (pos 0) g && (all_meet s.sets t.sets && (is_none (first_overflow 0 m n (numbers s) (numbers t)) && divides g (sum_of m n s t)))))

@@ -1,4 +1,4 @@
-use Rattle.std.specs.Prelude.{◌≢◌, ℕ, ◌<◌, ℤ, length, not, Bool, List, ◌∷◌, Option, Some, None, Result, Ok, Err, pos, if◌then◌else◌}
+use Rattle.std.specs.Prelude.{◌≢◌, ℕ, ◌<◌, ℤ, ◌&&◌, ◌||◌, length, not, Bool, true, List, ◌∷◌, Option, Some, None, Result, Ok, Err, pos, if◌then◌else◌}
 use Rattle.std.specs.Ordering.{int_eq}
 use Rattle.fraction128.specs.Formulas.{Ratio}
 use Rattle.edit_model.specs.Points.{Point}
@@ -14,6 +14,11 @@ use Rattle.edit_line.specs.Subsumption.{is_enough}
 abbrev pub AtFactors : (ℕ → Type 0) → List ℕ → List ℤ → Type 0
 AtFactors P (f ∷ fields) (a ∷ factors) = (a ≢ pos 0 → P f) × AtFactors P fields factors
 AtFactors P _ _ = Unit {0}
+
+-- whether the test is true for each field beside a factor other than 0
+abbrev pub stands_only : (ℕ → Bool) → List ℕ → List ℤ → Bool
+stands_only test (f ∷ fields) (a ∷ factors) = (int_eq a (pos 0) || test f) && stands_only test fields factors
+stands_only test _ _ = true
 
 -- the record has a number at each field that stands in the line
 abbrev pub HasNumbers : List Value → LineParts → Type 0

@@ -1,13 +1,13 @@
 use Rattle.std.proofs.Common.{◌≡◌, ◌<ℤ◌, FitsSigned, List, true, length, pos, rules, ap, sym, subst, ◌∙◌, ℤ}
 use Rattle.std.proofs.lemmas.Int.{to_z-of_z}
 use mir.Syntax.{w128}
-use Rattle.edit_line.specs.Combinations.{all_meet}
+use Rattle.edit_line.specs.Combinations.{all_meet, divides}
 use Rattle.edit_line.specs.Divisors.{divided_by}
 use Rattle.edit_line.specs.Lines.{LineParts}
 use Rattle.edit_line.specs.Sets.{AreSets}
 use Rattle.edit_line.specs.Shapes.{Domain, whole_sets}
 use Rattle.edit_line.proofs.SetLaws.{same-sets}
-use Rattle.derivation.specs.ValidSteps.{divides, only_if}
+use Rattle.derivation.specs.ValidSteps.{only_if}
 use Rattle.derivation.specs.declared.proved.Proved.TheVariants as proved
 use Rattle.derivation.proofs.CombineSteps.{above-divisor, in-range, overflowing}
 use Rattle.derivation.proofs.combining.combined_lines.Goals as goal
