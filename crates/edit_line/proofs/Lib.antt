@@ -1,6 +1,9 @@
+pub mod BoolLaws
+pub mod CodeCounts
 pub mod CombinationLaws
 pub mod DivisionLaws
 pub mod Enough
+pub mod FactorLaws
 pub mod KeyLaws
 pub mod LineSums
 pub mod ListPairs
@@ -10,6 +13,7 @@ pub mod OtherFields
 pub mod OwnLaws
 pub mod PointCodes
 pub mod ReductionLaws
+pub mod RowFields
 pub mod SetLaws
 pub mod ShapeLaws
 pub mod SubsumptionLaws
@@ -18,4 +22,3 @@ pub mod SumLaws
 pub mod SumSteps
 pub mod TestLists
 pub mod WholeSets
-pub mod CodeCounts
