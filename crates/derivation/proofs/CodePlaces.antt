@@ -3,7 +3,7 @@ use Rattle.std.specs.List.{position, position_or_len}
 use Rattle.std.proofs.lemmas.Bool.Decides.{nat_tests}
 use Rattle.edit_line.specs.Shapes.{Domain, code_fields, has_field, place_in, whole_sets}
 use Rattle.edit_line.proofs.ShapeLaws.{length-wholes, place-within}
-use Rattle.derivation.specs.Meanings.{place_there}
+use Rattle.derivation.specs.inner.Meanings.{place_there}
 
 -- The places of a survey's categorical fields.
 

@@ -11,18 +11,18 @@ use Rattle.edit_model.specs.declared.value.Value.TheVariants.{Bad}
 use Rattle.edit_line.specs.Lines.{LineHolds, LineParts, amount}
 use Rattle.edit_line.specs.Sets.{AllInside}
 use Rattle.edit_line.specs.Shapes.{codes_at, number_fields, shape_of}
-use Rattle.edit_line.specs.Sums.{AtFactors, HasNumbers, fails_at}
+use Rattle.edit_line.specs.Sums.{AtFactors, HasNumbers, fails_at, stands_only}
 use Rattle.edit_line.proofs.Enough.{is_enough-Decides}
 use Rattle.edit_line.proofs.SetLaws.{both_true}
 use Rattle.edit_line.proofs.SumCallers.{numbers-held}
 use Rattle.edit_line.proofs.SumLaws.{fails_at-truth}
 use Rattle.derivation.specs.Premises.{AgreesAt, HasKept}
-use Rattle.derivation.specs.ValidSteps.{all_kept, is_true}
+use Rattle.derivation.specs.ValidSteps.{is_true}
 
 -- A line that fails at the kept fields of a record holds only at points that have other values there, or a code outside its set.
 
 -- a fact of the kept fields is one of the fields that stand in a line, where these are kept
-at_kept : (P : ℕ → Type 0) (kept : ℕ) (fields : List ℕ) (factors : List ℤ) → ((f : ℕ) → has_number kept f ≡ true → P f) → all_kept kept fields factors ≡ true → AtFactors P fields factors
+at_kept : (P : ℕ → Type 0) (kept : ℕ) (fields : List ℕ) (factors : List ℤ) → ((f : ℕ) → has_number kept f ≡ true → P f) → stands_only (has_number kept) fields factors ≡ true → AtFactors P fields factors
 at_kept P kept [] factors each all = tt
 at_kept P kept (f ∷ fields) [] each all = tt
 at_kept P kept (f ∷ fields) (a ∷ factors) each all =
@@ -37,7 +37,7 @@ answered : (r : Result Bool ℕ) → is_true r ≡ true → r ≡ Ok true
 answered (Ok answer) h = ap Ok h
 answered (Err field) h = absurd (cc)
 
-module _ (fields : List Field) (row : List Value) (kept : ℕ) (line : LineParts) (is : IsRow fields row) (has : HasKept row kept) (shape : line.shape ≡ shape_of fields) (all : all_kept kept (number_fields line.shape) line.factors ≡ true) where
+module _ (fields : List Field) (row : List Value) (kept : ℕ) (line : LineParts) (is : IsRow fields row) (has : HasKept row kept) (shape : line.shape ≡ shape_of fields) (all : stands_only (has_number kept) (number_fields line.shape) line.factors ≡ true) where
   -- the record has the numbers that the line reads
   pub kept-numbers : HasNumbers row line
   kept-numbers = numbers-held fields row line shape is (at_kept (λ f. value_of row f ≢ Bad) kept (number_fields line.shape) line.factors has all)

@@ -8,9 +8,9 @@ use Rattle.edit_model.specs.declared.field.Field.{Field}
 use Rattle.edit_model.specs.declared.value.Value.{Value}
 use Rattle.edit_line.specs.Lines.{LineParts}
 use Rattle.edit_line.specs.Shapes.{number_fields, shape_of}
-use Rattle.edit_line.specs.Sums.{fails_at}
-use Rattle.edit_line.proofs.ShapeLaws.{number_fields-same}
-use Rattle.derivation.specs.ValidSteps.{all_kept, is_true}
+use Rattle.edit_line.specs.Sums.{fails_at, stands_only}
+use Rattle.edit_line.proofs.ShapeLaws.{same_fields}
+use Rattle.derivation.specs.ValidSteps.{is_true}
 
 -- The test that all fields beside factors other than 0 are kept.
 
@@ -27,29 +27,30 @@ keeps-field a kept is = ap (λ b. int_eq a (pos 0) || b) is ∙ or_true (int_eq 
 
 -- from a place on
 pub kept-at : (kept : ℕ) (fields : List ℕ) (factors : List ℤ) (i e : ℕ) (d : ℤ) → i < length fields → i < length factors
-    → all_kept kept (drop i fields) (drop i factors) ≡ ((int_eq (get_or factors i d) (pos 0) || has_number kept (get_or fields i e)) && all_kept kept (drop (i + 1) fields) (drop (i + 1) factors))
+    → stands_only (has_number kept) (drop i fields) (drop i factors) ≡ ((int_eq (get_or factors i d) (pos 0) || has_number kept (get_or fields i e)) && stands_only (has_number kept) (drop (i + 1) fields) (drop (i + 1) factors))
 kept-at kept fields factors i e d below within =
-    rw (add-one) (ap (λ fs. all_kept kept fs (drop i factors)) (drop-cons fields i e below) ∙ ap (λ (as_ : List ℤ). all_kept kept (get_or fields i e ∷ drop (suc i) fields) as_) (drop-cons factors i d within))
+    rw (add-one) (ap (λ fs. stands_only (has_number kept) fs (drop i factors)) (drop-cons fields i e below) ∙ ap (λ (as_ : List ℤ). stands_only (has_number kept) (get_or fields i e ∷ drop (suc i) fields) as_) (drop-cons factors i d within))
 
-module _ (kept : ℕ) (fields : List ℕ) (factors : List ℤ) (whole : Bool) (i : ℕ) (below : i < length fields) (many : length factors ≡ length fields) (before : all_kept kept (drop i fields) (drop i factors) ≡ whole) where
-  here : ((int_eq (get_or factors i (pos 0)) (pos 0) || has_number kept (get_or fields i 0)) && all_kept kept (drop (i + 1) fields) (drop (i + 1) factors)) ≡ whole
+module _ (kept : ℕ) (fields : List ℕ) (factors : List ℤ) (whole : Bool) (i : ℕ) (below : i < length fields) (many : length factors ≡ length fields) (before : stands_only (has_number kept) (drop i fields) (drop i factors) ≡ whole) where
+  here : ((int_eq (get_or factors i (pos 0)) (pos 0) || has_number kept (get_or fields i 0)) && stands_only (has_number kept) (drop (i + 1) fields) (drop (i + 1) factors)) ≡ whole
   here = sym (kept-at kept fields factors i 0 (pos 0) below (omega arith)) ∙ before
 
   -- a field that counts goes on
-  pub kept-more : ((int_eq (get_or factors i (pos 0)) (pos 0) || has_number kept (get_or fields i 0)) ≡ true) → all_kept kept (drop (i + 1) fields) (drop (i + 1) factors) ≡ whole
-  kept-more is = sym (ap (λ b. b && all_kept kept (drop (i + 1) fields) (drop (i + 1) factors)) is) ∙ here
+  pub kept-more : ((int_eq (get_or factors i (pos 0)) (pos 0) || has_number kept (get_or fields i 0)) ≡ true) → stands_only (has_number kept) (drop (i + 1) fields) (drop (i + 1) factors) ≡ whole
+  kept-more is = sym (ap (λ b. b && stands_only (has_number kept) (drop (i + 1) fields) (drop (i + 1) factors)) is) ∙ here
 
 -- ---- a line of a survey at a record
 
-module _ (kept : ℕ) (fields : List Field) (row : List Value) (line : LineParts) (numbers : List ℕ) (factors : List ℤ) (answer : Bool) (numbers_are : numbers ≡ corrections.number_fields fields) (factors_are : factors ≡ line.factors) (told : answer ≡ all_kept kept numbers factors) where
+module _ (kept : ℕ) (fields : List Field) (row : List Value) (line : LineParts) (numbers : List ℕ) (factors : List ℤ) (answer : Bool) (numbers_are : numbers ≡ corrections.number_fields fields) (factors_are : factors ≡ line.factors)
+    (told : answer ≡ stands_only (has_number kept) numbers factors) (shape : line.shape ≡ shape_of fields) where
   -- the test of its own fields and factors
-  pub own-kept : answer ≡ all_kept kept (number_fields (shape_of fields)) line.factors
-  own-kept = told ∙ ap (λ (ns : List ℕ). all_kept kept ns factors) (numbers_are ∙ sym (number_fields-same fields)) ∙ ap (λ (as_ : List ℤ). all_kept kept (number_fields (shape_of fields)) as_) factors_are
+  pub own-kept : answer ≡ stands_only (has_number kept) (number_fields line.shape) line.factors
+  own-kept = told ∙ ap (λ (ns : List ℕ). stands_only (has_number kept) ns factors) (same_fields numbers fields line.shape numbers_are shape) ∙ ap (λ (as_ : List ℤ). stands_only (has_number kept) (number_fields line.shape) as_) factors_are
 
   -- a line with a factor at another field does not count as failing
-  pub stands-elsewhere : answer ≡ false → false ≡ (all_kept kept (number_fields (shape_of fields)) line.factors && is_true (fails_at line row))
+  pub stands-elsewhere : answer ≡ false → false ≡ (stands_only (has_number kept) (number_fields line.shape) line.factors && is_true (fails_at line row))
   stands-elsewhere out = ap (λ b. b && is_true (fails_at line row)) (sym out ∙ own-kept)
 
   -- another one as its linear part says
-  pub fails-told : answer ≡ true → (failed : Bool) → fails_at line row ≡ Ok failed → failed ≡ (all_kept kept (number_fields (shape_of fields)) line.factors && is_true (fails_at line row))
+  pub fails-told : answer ≡ true → (failed : Bool) → fails_at line row ≡ Ok failed → failed ≡ (stands_only (has_number kept) (number_fields line.shape) line.factors && is_true (fails_at line row))
   fails-told all failed says = ap is_true (sym says) ∙ ap (λ b. b && is_true (fails_at line row)) (sym all ∙ own-kept)

@@ -15,14 +15,14 @@ use Rattle.edit_line.specs.Lines.{AllHold, AreOver, LineHolds, LineParts}
 use Rattle.edit_line.specs.Reductions.{IsIn}
 use Rattle.edit_line.specs.Sets.{AllInside, has_codes, is_inside}
 use Rattle.edit_line.specs.Shapes.{Domain, HasCodes, code_fields, codes_at, has_field, number_fields, shape_of, whole_sets}
-use Rattle.edit_line.specs.Sums.{fails_at}
+use Rattle.edit_line.specs.Sums.{stands_only}
 use Rattle.edit_line.proofs.Members.{in-all, in-either, in-get}
 use Rattle.edit_line.proofs.OtherFields.{inside_but}
 use Rattle.edit_line.proofs.SetLaws.{both_true, is_inside-Decides}
 use Rattle.derivation.specs.Premises.{AgreesAt, HasKept, Premises, usable_lines}
 use Rattle.derivation.specs.Shown.{IsOver, IsShown}
 use Rattle.fraction128.specs.Formulas.{then_some}
-use Rattle.derivation.specs.ValidSteps.{all_kept, as_box, as_line, combined_line, common_from, covered_box, failed_box, fixed_box, given_line, has_value, is_true, last_from, last_proved, only_if, or_place, proved_by, proved_from, steps_result, whole_box}
+use Rattle.derivation.specs.ValidSteps.{as_box, as_line, combined_line, common_from, covered_box, failed_box, fails_at_kept, fixed_box, given_line, has_value, last_from, last_proved, only_if, or_place, proved_by, proved_from, steps_result, whole_box}
 use Rattle.derivation.specs.declared.proved.Proved.{Proved}
 use Rattle.derivation.specs.declared.proved.Proved.TheVariants as proved
 use Rattle.derivation.specs.declared.step.Step.{Step}
@@ -125,12 +125,11 @@ module _ (p : Premises) where
 
   fail-known : (fields : List Field) → p.shape ≡ shape_of fields → IsRow fields p.row → HasKept p.row p.kept → (line : LineParts) (x : Proved) → IsKnown p (proved.Line line) → failed_box p line ≡ Some x → IsKnown p x
   fail-known fields shape are has line x (shown, is_over) e =
-      let (fails, same) = was-true (all_kept p.kept (number_fields p.shape) line.factors && is_true (fails_at line p.row)) _ x e in
-      let (all, failed) = both_true (all_kept p.kept (number_fields p.shape) line.factors) _ fails in
-      let own : all_kept p.kept (number_fields line.shape) line.factors ≡ true = ap (λ (s : List Domain). all_kept p.kept (number_fields s) line.factors) is_over ∙ all in
+      let (fails, same) = was-true (fails_at_kept p.row p.kept line) _ x e in
+      let (all, failed) = both_true (stands_only (has_number p.kept) (number_fields line.shape) line.factors) _ fails in
       subst (λ (y : Proved). IsKnown p y) same (
         λ point held agrees hold inside.
-            failed-outside fields p.row p.kept line are has (is_over ∙ shape) own failed point agrees (shown point hold) (subst (λ (s : List Domain). AllInside line.sets (codes_at s point)) (sym is_over) inside),
+            failed-outside fields p.row p.kept line are has (is_over ∙ shape) all failed point agrees (shown point hold) (subst (λ (s : List Domain). AllInside line.sets (codes_at s point)) (sym is_over) inside),
         refl,
       )
 

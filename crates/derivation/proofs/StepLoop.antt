@@ -1,7 +1,7 @@
 use Rattle.std.proofs.Common.{◌≡◌, ℕ, suc, ◌+◌, ◌<◌, List, [], ◌∷◌, ◌++◌, Option, Some, None, Result, Ok, drop, get_or, length, map, refl, sym, ap, ◌∙◌, inl, inr, add-one, arith}
 use Rattle.std.proofs.Math.Seq.{drop-cons}
 use Rattle.std.proofs.lemmas.List.Elements.{All-cons}
-use Rattle.derivation.specs.Meanings.{AllOver, meaning}
+use Rattle.derivation.specs.inner.Meanings.{AllOver, meaning}
 use Rattle.derivation.specs.Premises.{Premises}
 use Rattle.derivation.specs.Shown.{IsOver}
 use Rattle.derivation.specs.ValidSteps.{last_from, or_place, proved_by, proved_from}

@@ -3,7 +3,7 @@ use Rattle.edit_line.specs.Combinations.{meets}
 use Rattle.edit_line.specs.Sets.{AreSets, AreWithin, has_codes}
 use Rattle.edit_line.specs.Shapes.{Domain, code_fields, whole_sets}
 use Rattle.edit_line.proofs.SetLaws.{AreSets-within, AreWithin-length}
-use Rattle.derivation.specs.Meanings.{place_there}
+use Rattle.derivation.specs.inner.Meanings.{place_there}
 use Rattle.derivation.proofs.CodePlaces.{place-wholes}
 use Rattle.edit_line.proofs.WholeSets.{AreSets-whole, AreSets-wide, AreWithin-common, AreWithin-whole}
 

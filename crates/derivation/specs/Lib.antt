@@ -1,6 +1,5 @@
-pub mod Bases
-pub mod Meanings
 pub mod Premises
 pub mod Shown
 pub mod Texts
 pub mod ValidSteps
+pub mod inner

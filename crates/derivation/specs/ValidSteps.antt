@@ -1,5 +1,4 @@
-use Rattle.std.specs.Prelude.{◌≡◌, ℕ, suc, ℤ, pos, ◌==◌, ◌&&◌, ◌||◌, Bool, true, false, List, [], ◌∷◌, ◌++◌, Option, Some, None, Result, Ok, Err, length, if◌then◌else◌, slice_get, slice_index_or, slice_set}
-use Rattle.std.specs.Ordering.{int_eq}
+use Rattle.std.specs.Prelude.{◌≡◌, ℕ, suc, ℤ, ◌==◌, ◌&&◌, Bool, false, List, [], ◌∷◌, ◌++◌, Option, Some, None, Result, Ok, Err, length, if◌then◌else◌, slice_get, slice_index_or, slice_set}
 use Rattle.fraction128.specs.Formulas.{then_some}
 use Rattle.edit_model.specs.FieldSets.{has_number}
 use Rattle.edit_model.specs.Rows.{value_of}
@@ -13,7 +12,7 @@ use Rattle.edit_line.specs.Divisors.{divided_by}
 use Rattle.edit_line.specs.Lines.{LineParts}
 use Rattle.edit_line.specs.Sets.{has_codes}
 use Rattle.edit_line.specs.Shapes.{Domain, code_fields, has_field, number_fields, whole_sets}
-use Rattle.edit_line.specs.Sums.{fails_at}
+use Rattle.edit_line.specs.Sums.{fails_at, stands_only}
 use Rattle.derivation.specs.Premises.{Premises}
 use Rattle.derivation.specs.declared.proved.Proved.{Proved}
 use Rattle.derivation.specs.declared.proved.Proved.TheVariants as proved
@@ -54,23 +53,18 @@ combined_line m n g s t = only_if (may_combine m n g s t) (proved.Line (divided_
 
 -- ---- a line that fails at the kept fields
 
--- whether all numerical fields that stand in a line are kept
-abbrev pub all_kept : ℕ → List ℕ → List ℤ → Bool
-all_kept kept (f ∷ fields) (a ∷ factors) = (int_eq a (pos 0) || has_number kept f) && all_kept kept fields factors
-all_kept kept _ _ = true
-
 -- whether a test was in range and came out true
 abbrev pub is_true : Result Bool ℕ → Bool
 is_true (Ok answer) = answer
 is_true (Err field) = false
 
--- whether the line's linear part is false at the record, whatever the fields are that are not kept
-abbrev pub fails_at_kept : Premises → LineParts → Bool
-fails_at_kept p line = all_kept p.kept (number_fields p.shape) line.factors && is_true (fails_at line p.row)
+-- whether only fields of the set stand in the line, and its linear part is false at the record, where a value that is Bad counts as 0: so it is false at each point that has the record's values at these fields, where the record has them
+abbrev pub fails_at_kept : List Value → ℕ → LineParts → Bool
+fails_at_kept row kept line = stands_only (has_number kept) (number_fields line.shape) line.factors && is_true (fails_at line row)
 
--- the box of the line's sets, where it fails so
+-- the box of the line's sets, where it fails so at the kept fields
 abbrev pub failed_box : Premises → LineParts → Option Proved
-failed_box p line = only_if (fails_at_kept p line) (proved.Box (box_of p.shape line.sets))
+failed_box p line = only_if (fails_at_kept p.row p.kept line) (proved.Box (box_of p.shape line.sets))
 
 -- ---- boxes
 

@@ -2,8 +2,8 @@ ghost use Rattle.std.specs.Prelude.{◌≡◌, ◌<◌, ◌⊎◌, Err, IfOk, Ok
 ghost use Rattle.edit_model.specs.Rows.{IsRow};
 ghost use Rattle.edit_line.specs.Lines.{AreOver};
 ghost use Rattle.edit_line.specs.Shapes.{shape_of};
-ghost use Rattle.derivation.specs.Bases.{IsBasis, premises};
-ghost use Rattle.derivation.specs.Meanings.{AllOver, meaning, meant};
+ghost use Rattle.derivation.specs.inner.Bases.{IsBasis, premises};
+ghost use Rattle.derivation.specs.inner.Meanings.{AllOver, meaning, meant};
 ghost use Rattle.derivation.specs.Premises.{HasKept, premises_of};
 ghost use Rattle.derivation.specs.Shown.{IsOver, IsShown};
 ghost use Rattle.derivation.specs.ValidSteps.{AreValidSteps, IsFirstInvalid, last_proved, proved_by, proved_from};

@@ -1,7 +1,7 @@
 ghost use Rattle.std.specs.Prelude.{◌≡◌, ◌==◌};
 ghost use Rattle.std.specs.List.{position};
 ghost use Rattle.edit_line.specs.Shapes.{code_fields, shape_of};
-ghost use Rattle.derivation.specs.Meanings.{place_there};
+ghost use Rattle.derivation.specs.inner.Meanings.{place_there};
 
 use edit_model::Survey;
 

@@ -1,8 +1,8 @@
 ghost use Rattle.std.specs.Prelude.{◌≡◌, ◌≤◌, IfOk, IfSome, List, Some, length, map, option_map};
 ghost use Rattle.edit_line.specs.Sets.{AreSets, AreWithin};
 ghost use Rattle.edit_line.specs.Shapes.{Domain, code_fields, shape_of, whole_sets};
-ghost use Rattle.derivation.specs.Bases.{IsBasis, premises};
-ghost use Rattle.derivation.specs.Meanings.{AllOver, meaning, meant, place_there};
+ghost use Rattle.derivation.specs.inner.Bases.{IsBasis, premises};
+ghost use Rattle.derivation.specs.inner.Meanings.{AllOver, meaning, meant, place_there};
 ghost use Rattle.derivation.specs.ValidSteps.{common_from, covered_box, covered_sets, part_with};
 
 use crate::basis::Basis;

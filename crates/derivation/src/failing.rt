@@ -1,15 +1,17 @@
 ghost use Rattle.std.specs.Prelude.{◌≡◌, ◌<◌, All, IfOk, length, map};
 ghost use Rattle.edit_model.specs.FieldSets.{has_number};
+ghost use Rattle.edit_model.specs.Rows.{IsRow};
 ghost use Rattle.edit_line.specs.Shapes.{shape_of};
-ghost use Rattle.derivation.specs.Bases.{IsBasis, premises};
-ghost use Rattle.derivation.specs.Meanings.{AllOver, meaning, meant};
-ghost use Rattle.derivation.specs.ValidSteps.{all_kept, failed_box, fails_at_kept, proved_by};
+ghost use Rattle.edit_line.specs.Sums.{stands_only};
+ghost use Rattle.derivation.specs.inner.Bases.{IsBasis, premises};
+ghost use Rattle.derivation.specs.inner.Meanings.{AllOver, meaning, meant};
+ghost use Rattle.derivation.specs.ValidSteps.{failed_box, fails_at_kept, proved_by};
 ghost use Rattle.derivation.specs.declared.step.Step.{Step};
 
 use crate::basis::Basis;
 use crate::known::{Known, line_at};
 use edit_line::{CodeBox, Line, fails};
-use edit_model::FieldSet;
+use edit_model::{FieldSet, Row, Survey};
 use foundation::OutOfMemory;
 use std::alloc::Global;
 
@@ -41,37 +43,40 @@ fn failed_box<'a>(
     requires over { line.now.shape ≡ shape_of basis.now.survey.now.fields }
     ensures { IfOk result (λ known. meant known ≡ failed_box (premises basis.now) line.now) }
 {
-    if !fails_at_kept(basis, line) {
+    if !fails_at_kept(basis.survey, basis.row, basis.kept, line) {
         return Ok(None);
     }
     let sets = Vec::from_slice(alloc, line.sets())?;
     Ok(Some(Known::Box(CodeBox::over(line.shape(), sets))))
 }
 
-// Whether the line's factors stand at kept fields alone, and its linear part is false at the record.
-fn fails_at_kept(basis: &Basis, line: &Line) -> bool
-    requires basis { IsBasis basis.now }
-    requires over { line.now.shape ≡ shape_of basis.now.survey.now.fields }
-    ensures { result ≡ fails_at_kept (premises basis.now) line.now }
+/// Whether only kept fields stand in the line, and its linear part is false at the record. A kept field at
+/// which the record is Bad counts as 0, so the answer says something of the line only where each kept field
+/// that stands in it has a value: then the line's linear part is false at every point that has the record's
+/// values at the kept fields. A sum that leaves the range does not fail. No memory.
+pub fn fails_at_kept(survey: &Survey, row: &Row, kept: FieldSet, line: &Line) -> bool
+    requires shape { line.now.shape ≡ shape_of survey.now.fields }
+    requires row { IsRow survey.now.fields row.now }
+    ensures { result ≡ fails_at_kept row.now kept line.now }
 {
-    let _fields = basis.survey.fields(); // read for what it says: there are at most 64
-    if !all_kept(basis.kept, basis.survey.numbers(), line.factors()) {
+    let _fields = survey.fields(); // read for what it says: there are at most 64
+    if !stand_only_in(kept, survey.numbers(), line.factors()) {
         return false;
     }
-    match fails(basis.survey, line, basis.row) {
+    match fails(survey, line, row) {
         Ok(failed) => failed,
         Err(_) => false,
     }
 }
 
-// Whether each field beside a factor other than 0 is kept.
-fn all_kept(kept: FieldSet, fields: &[u32], factors: &[i128]) -> bool
+// Whether only fields of the set stand beside factors other than 0.
+fn stand_only_in(set: FieldSet, fields: &[u32], factors: &[i128]) -> bool
     requires count { length factors.now ≡ length fields.now }
     requires few { All (λ f. f < 64) fields.now }
-    ensures { result ≡ all_kept kept fields.now factors.now }
+    ensures { result ≡ stands_only (has_number set) fields.now factors.now }
 {
     for (place, field) in fields.iter().enumerate() {
-        if factors[place] != 0 && !kept.has(*field) {
+        if factors[place] != 0 && !set.has(*field) {
             return false;
         }
     }

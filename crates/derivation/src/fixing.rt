@@ -2,8 +2,8 @@ ghost use Rattle.std.specs.Prelude.{◌≡◌, ◌<◌, IfOk, Some, map, true};
 ghost use Rattle.edit_model.specs.FieldSets.{has_number};
 ghost use Rattle.edit_model.specs.Rows.{value_of};
 ghost use Rattle.edit_line.specs.Shapes.{code_fields, has_field, shape_of};
-ghost use Rattle.derivation.specs.Bases.{IsBasis, premises};
-ghost use Rattle.derivation.specs.Meanings.{AllOver, meaning, meant, place_there};
+ghost use Rattle.derivation.specs.inner.Bases.{IsBasis, premises};
+ghost use Rattle.derivation.specs.inner.Meanings.{AllOver, meaning, meant, place_there};
 ghost use Rattle.derivation.specs.ValidSteps.{fixed_box, fixed_sets, has_value};
 
 use crate::basis::Basis;

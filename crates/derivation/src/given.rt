@@ -1,6 +1,6 @@
 ghost use Rattle.std.specs.Prelude.{◌≡◌};
-ghost use Rattle.derivation.specs.Bases.{IsBasis, premises};
-ghost use Rattle.derivation.specs.Meanings.{meant};
+ghost use Rattle.derivation.specs.inner.Bases.{IsBasis, premises};
+ghost use Rattle.derivation.specs.inner.Meanings.{meant};
 ghost use Rattle.derivation.specs.ValidSteps.{given_line};
 
 use crate::basis::Basis;

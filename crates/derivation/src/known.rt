@@ -1,6 +1,6 @@
 ghost use Rattle.std.specs.Prelude.{◌≡◌, IfNone, IfOk, IfSome, List, None, Some, map, slice_get};
 ghost use Rattle.edit_line.specs.Shapes.{Domain};
-ghost use Rattle.derivation.specs.Meanings.{AllOver, meaning};
+ghost use Rattle.derivation.specs.inner.Meanings.{AllOver, meaning};
 ghost use Rattle.derivation.specs.Shown.{IsOver};
 ghost use Rattle.derivation.specs.ValidSteps.{as_box, as_line};
 

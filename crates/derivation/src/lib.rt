@@ -20,6 +20,7 @@ mod step;
 mod tests;
 
 pub use check::check_steps;
+pub use failing::fails_at_kept;
 pub use fault::StepsFault;
 pub use proved::Proved;
 pub use step::Step;

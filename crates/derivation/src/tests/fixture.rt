@@ -5,7 +5,7 @@ ghost use Rattle.edit_model.specs.FieldSets.{has_number};
 ghost use Rattle.edit_model.specs.Rows.{IsRow, value_of};
 ghost use Rattle.edit_line.specs.Shapes.{Categorical, Numerical, domain_of, shape_of};
 
-use crate::{Proved, Step, StepsFault, check_steps};
+use crate::{Proved, Step, StepsFault, check_steps, fails_at_kept};
 use edit_line::Line;
 use edit_model::{Field, FieldSet, Kind, Name, Row, Survey, Value};
 use foundation::Sequence;
@@ -193,5 +193,23 @@ pub(super) fn checked(alloc: Global, steps: &[Step]) -> Result<Result<Proved, St
         &row,
         kept_fields(),
         &copies,
+    ))
+}
+
+/// Whether the line of this plan fails where these two fields are kept.
+pub(super) fn fails_with(alloc: Global, plan: usize, kept: [u32; 2]) -> Result<bool, Fail> {
+    let [first, second] = kept;
+    if first > 3 || second > 3 {
+        return Err("fields")?;
+    }
+    let survey = survey_of_four(alloc)?;
+    let plans = eight_plans();
+    let line = line_of(alloc, &survey, plans.get(plan).ok_or("a plan")?)?;
+    let row = row_of(alloc, &survey)?;
+    Ok(fails_at_kept(
+        &survey,
+        &row,
+        FieldSet::empty().with(first).with(second),
+        &line,
     ))
 }

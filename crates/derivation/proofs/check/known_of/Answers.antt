@@ -1,8 +1,8 @@
 use Rattle.std.proofs.Common.{◌≡◌, [], ◌∷◌, ◌++◌, ◌+◌, List, Some, drop, map, refl, sym, ap, subst, ◌∙◌}
 use Rattle.std.proofs.lemmas.List.{map-append}
 use Rattle.edit_line.specs.Shapes.{shape_of}
-use Rattle.derivation.specs.Bases.{premises}
-use Rattle.derivation.specs.Meanings.{AllOver, meaning, meant}
+use Rattle.derivation.specs.inner.Bases.{premises}
+use Rattle.derivation.specs.inner.Meanings.{AllOver, meaning, meant}
 use Rattle.derivation.specs.ValidSteps.{proved_by, proved_from}
 use Rattle.derivation.specs.declared.known.Known.{Known}
 use Rattle.derivation.specs.declared.proved.Proved.{Proved}

@@ -1,6 +1,6 @@
 use Rattle.std.proofs.Common.{◌≡◌, [], drop, map}
-use Rattle.derivation.specs.Bases.{premises}
-use Rattle.derivation.specs.Meanings.{meaning}
+use Rattle.derivation.specs.inner.Bases.{premises}
+use Rattle.derivation.specs.inner.Meanings.{meaning}
 use Rattle.derivation.specs.ValidSteps.{proved_from}
 use Rattle.derivation.proofs.Soundness.{AllKnown}
 use Rattle.derivation.proofs.check.known_of.Given as goal

@@ -1,6 +1,6 @@
 use Rattle.std.proofs.Common.{[], ◌∷◌, List, Ok, None, map, sym, ap, ◌∙◌}
 use Rattle.std.proofs.lemmas.List.{map-append}
-use Rattle.derivation.specs.Meanings.{meaning}
+use Rattle.derivation.specs.inner.Meanings.{meaning}
 use Rattle.derivation.specs.ValidSteps.{last_from}
 use Rattle.derivation.specs.declared.known.Known.{Known}
 use Rattle.derivation.specs.declared.proved.Proved.{Proved}

@@ -2,7 +2,7 @@ use Rattle.std.proofs.Common.{List, ℕ, Option, option_map, Bor, map, sym, ap, 
 use Rattle.edit_line.specs.Sets.{AreWithin}
 use Rattle.edit_line.specs.Shapes.{shape_of, whole_sets}
 use Rattle.edit_line.proofs.SetLaws.{AreWithin-wholes}
-use Rattle.derivation.specs.Meanings.{meaning}
+use Rattle.derivation.specs.inner.Meanings.{meaning}
 use Rattle.derivation.specs.ValidSteps.{common_from}
 use Rattle.derivation.proofs.CoverLaws.{common-more}
 use Rattle.derivation.proofs.WholeBoxes.{as-many, still-within}

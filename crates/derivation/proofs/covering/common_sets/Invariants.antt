@@ -1,7 +1,7 @@
 use Rattle.std.proofs.Common.{◌≡◌, drop, map}
 use Rattle.edit_line.specs.Sets.{AreWithin}
 use Rattle.edit_line.specs.Shapes.{shape_of, whole_sets}
-use Rattle.derivation.specs.Meanings.{meaning}
+use Rattle.derivation.specs.inner.Meanings.{meaning}
 use Rattle.derivation.specs.ValidSteps.{common_from}
 use Rattle.derivation.proofs.covering.common_sets.Given as goal
 

@@ -5,17 +5,17 @@ use Rattle.derivation.proofs.FieldNumbers.{numbers-small}
 use Rattle.derivation.proofs.KeptFactors.{fails-told, stands-elsewhere}
 use Rattle.derivation.proofs.failing.fails_at_kept.Goals as goal
 
-pub all_kept-requires-clause-count : goal.all_kept-requires-clause-count
-all_kept-requires-clause-count c =
-    ap length c.factors.ensures.factors ∙ c.factors.ensures.count ∙ sym (ap length (same_fields c.numbers.result.now c.args.basis.now.survey.now.fields c.args.line.now.shape c.numbers.ensures c.requires.over))
+pub stand_only_in-requires-clause-count : goal.stand_only_in-requires-clause-count
+stand_only_in-requires-clause-count c =
+    ap length c.factors.ensures.factors ∙ c.factors.ensures.count ∙ sym (ap length (same_fields c.numbers.result.now c.args.survey.now.fields c.args.line.now.shape c.numbers.ensures c.requires.shape))
 
-pub all_kept-requires-clause-few : goal.all_kept-requires-clause-few
-all_kept-requires-clause-few c = numbers-small is_numerical c.args.basis.now.survey.now.fields c.numbers.result.now c.fields-fields.ensures.well_formed.few_fields c.numbers.ensures
+pub stand_only_in-requires-clause-few : goal.stand_only_in-requires-clause-few
+stand_only_in-requires-clause-few c = numbers-small is_numerical c.args.survey.now.fields c.numbers.result.now c.fields-fields.ensures.well_formed.few_fields c.numbers.ensures
 
-pub returns-then-not-all_kept : goal.returns-then-not-all_kept
-returns-then-not-all_kept c =
-    stands-elsewhere c.args.basis.now.kept c.args.basis.now.survey.now.fields c.args.basis.now.row.now c.args.line.now _ _ c.all_kept.result c.numbers.ensures c.factors.ensures.factors c.all_kept.ensures c.if-not-all_kept.true
+pub returns-then-not-stand_only_in : goal.returns-then-not-stand_only_in
+returns-then-not-stand_only_in c =
+    stands-elsewhere c.args.kept c.args.survey.now.fields c.args.row.now c.args.line.now _ _ c.stand_only_in.result c.numbers.ensures c.factors.ensures.factors c.stand_only_in.ensures c.requires.shape c.if-not-stand_only_in.true
 
 pub returns-in-Ok : goal.returns-in-Ok
 returns-in-Ok c =
-    fails-told c.args.basis.now.kept c.args.basis.now.survey.now.fields c.args.basis.now.row.now c.args.line.now _ _ c.all_kept.result c.numbers.ensures c.factors.ensures.factors c.all_kept.ensures c.if-not-all_kept.false c.in-Ok.failed c.in-Ok.ensures.answer
+    fails-told c.args.kept c.args.survey.now.fields c.args.row.now c.args.line.now _ _ c.stand_only_in.result c.numbers.ensures c.factors.ensures.factors c.stand_only_in.ensures c.requires.shape c.if-not-stand_only_in.false c.in-Ok.failed c.in-Ok.ensures.answer
