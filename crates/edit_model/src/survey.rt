@@ -1,5 +1,5 @@
-ghost use Rattle.std.specs.Prelude.{◌≡◌, ◌≢◌, All, IfNone, IfOk, IfSome, IsSomeAnd, slice_get};
-ghost use Rattle.edit_model.specs.Corrections.{code_fields, number_fields};
+ghost use Rattle.std.specs.Prelude.{◌≡◌, ◌≢◌, ◌<◌, All, IfNone, IfOk, IfSome, IsSomeAnd, length, slice_get, slice_index_or};
+ghost use Rattle.edit_model.specs.Corrections.{code_fields, number_fields, path_order};
 ghost use Rattle.edit_model.specs.Parts.{SurveyParts, parts_of};
 ghost use Rattle.edit_model.specs.Surveys.{IsWellFormed};
 
@@ -103,5 +103,21 @@ impl Survey {
         ensures { result.now ≡ code_fields self.now.fields }
     {
         self.categories.as_slice()
+    }
+
+    /// The number of the field at a place of the order in which fields are looked at: the numerical
+    /// ones as declared, and then the categorical ones. No memory.
+    pub fn path_field(&self, place: u32) -> u32
+        requires { place < length self.now.fields }
+        ensures field { result ≡ slice_index_or (path_order self.now.fields) place 0 }
+        ensures within { result < length self.now.fields }
+    {
+        let place = place as usize;
+        let numbers = self.numbers();
+        if place < numbers.len() {
+            numbers[place]
+        } else {
+            self.codes()[place - numbers.len()]
+        }
     }
 }
