@@ -10,3 +10,4 @@ pub mod RowPoints
 pub mod Rows
 pub mod Surveys
 pub mod Trials
+pub mod Words

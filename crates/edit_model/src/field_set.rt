@@ -1,5 +1,5 @@
 ghost use Rattle.std.specs.Prelude.{◌≡◌, ◌≢◌, ℕ, ◌<◌, true, false};
-ghost use Rattle.edit_model.specs.FieldSets.{has_number};
+ghost use Rattle.edit_model.specs.FieldSets.{has_number, with_number, without_number};
 
 use std::marker::Model;
 
@@ -22,7 +22,8 @@ impl Model for FieldSet {
 impl FieldSet {
     /// The set without fields.
     pub fn empty() -> FieldSet
-        ensures { (f : ℕ) → has_number result f ≡ false }
+        ensures set { result ≡ 0 }
+        ensures none { (f : ℕ) → has_number result f ≡ false }
     {
         FieldSet { bits: 0 }
     }
@@ -30,6 +31,7 @@ impl FieldSet {
     /// The set with one field more, which may be in it already.
     pub fn with(self, field: u32) -> FieldSet
         requires { field < 64 }
+        ensures set { result ≡ with_number self field }
         ensures has { has_number result field ≡ true }
         ensures others { (f : ℕ) → f ≢ field → has_number result f ≡ has_number self f }
     {
@@ -41,6 +43,7 @@ impl FieldSet {
     /// The set without one field, which need not be in it.
     pub fn without(self, field: u32) -> FieldSet
         requires { field < 64 }
+        ensures set { result ≡ without_number self field }
         ensures out { has_number result field ≡ false }
         ensures others { (f : ℕ) → f ≢ field → has_number result f ≡ has_number self f }
     {
