@@ -4,9 +4,11 @@ pub mod CombinationLaws
 pub mod DivisionLaws
 pub mod Enough
 pub mod FactorLaws
+pub mod FieldLists
 pub mod KeyLaws
 pub mod LineSums
 pub mod ListPairs
+pub mod ListPlaces
 pub mod Members
 pub mod OneField
 pub mod OtherFields
@@ -20,5 +22,6 @@ pub mod SubsumptionLaws
 pub mod SumCallers
 pub mod SumLaws
 pub mod SumSteps
+pub mod TakenCombinations
 pub mod TestLists
 pub mod WholeSets
