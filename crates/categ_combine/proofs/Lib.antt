@@ -1,4 +1,5 @@
 pub mod AvoidLaws
+pub mod BoxOrigins
 pub mod CoverLaws
 pub mod CoverLoops
 pub mod CoverSteps

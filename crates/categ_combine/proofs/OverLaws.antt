@@ -1,6 +1,5 @@
 use Rattle.std.proofs.Common.{◌≡◌, ◌⊎◌, inl, inr, ℕ, zero, suc, slice_index_or, not, Bool, true, false, if◌then◌else◌, List, [], ◌∷◌, ◌++◌, All, Result, Ok, Err, refl, sym, ap, ◌∙◌, subst, arith}
 use Rattle.std.specs.List.{fold, list_any}
-use Rattle.edit_line.specs.Lines.{LineParts}
 use Rattle.edit_line.specs.Reductions.{IsIn}
 use Rattle.edit_line.specs.Shapes.{Domain}
 use Rattle.edit_line.specs.declared.derived.Derived.{Derived}
@@ -13,14 +12,14 @@ use Rattle.edit_model.specs.Points.{has_code}
 use Rattle.categ_combine.specs.BoxLists.{AreBoxesOver, sets_of, with_from}
 use Rattle.categ_combine.specs.Covers.{cover_count, covered_from, covers_from, first_cover, from_of, is_whole_at, unchanged_one, with_code_from}
 use Rattle.categ_combine.specs.Each.{each_from}
-use Rattle.categ_combine.specs.FailingBoxes.{LineFault, failing_from, or_line, taken}
+use Rattle.categ_combine.specs.FailingBoxes.{failing_from, or_line, taken}
 use Rattle.categ_combine.specs.Fixing.{fixed_from, fixed_one}
 use Rattle.categ_combine.specs.Steps.{IsDone}
 use Rattle.categ_combine.specs.declared.covered.Covered.{Covered}
 use Rattle.categ_combine.specs.declared.covered.Covered.TheVariants.{Done, Passed}
 use Rattle.categ_combine.specs.declared.box_from.BoxFrom.{BoxFrom}
 use Rattle.categ_combine.specs.declared.box_from.BoxOrigin.{BoxOrigin}
-use Rattle.categ_combine.specs.declared.box_from.BoxOrigin.TheVariants.{Failing, Fixed, Unchanged}
+use Rattle.categ_combine.specs.declared.box_from.BoxOrigin.TheVariants.{Failing}
 use Rattle.categ_combine.proofs.OriginLaws.{over-with_code}
 use Rattle.categ_combine.proofs.ReducedBoxes.{in-reduce_from}
 
