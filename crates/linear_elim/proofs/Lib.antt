@@ -19,7 +19,7 @@ pub mod TakenSums
 pub mod UpperLaws
 mod WorkedSystems
 mod CombineSteps
-mod SixFields
+mod EightFields
 mod StepClauses
 mod StepLoops
 mod SystemLoops

@@ -12,8 +12,9 @@ ghost use Rattle.linear_elim.specs.Overflows.{IsFoldOverflow};
 ghost use Rattle.linear_elim.specs.Parts.{IsMade, parts_of_system};
 ghost use Rattle.linear_elim.specs.PointChanges.{CanHoldIn};
 ghost use Rattle.linear_elim.specs.Steps.{OneShape};
-ghost use Rattle.linear_elim.specs.Systems.{AreNumerical, chosen_fields, fold_count, fold_result, so_far, system_at, system_count};
+ghost use Rattle.linear_elim.specs.Systems.{AreNumerical, chosen_fields, fold_count, fold_result, system_at, system_count};
 ghost use Rattle.linear_elim.specs.Told.{told_system};
+ghost use Rattle.linear_elim.specs.inner.FoldLines.{so_far};
 
 use crate::elimination::reduced_step;
 use crate::fault::{StepFault, SystemFault};

@@ -2,9 +2,10 @@ use Rattle.std.proofs.Common.{◌+◌, ◌∙◌, List, ℕ, get_or, ap, sym, ar
 use Rattle.edit_line.specs.declared.derived.Derived.{Derived}
 use Rattle.edit_line.specs.EditSets.{base_lines}
 use Rattle.edit_line.specs.Reductions.{reduce_derived}
-use Rattle.linear_elim.specs.Systems.{fold_count, fold_result, so_far, system_at}
+use Rattle.linear_elim.specs.Systems.{fold_count, fold_result, system_at}
 use Rattle.linear_elim.proofs.ShapeLaws.{OneShape-have}
 use Rattle.linear_elim.specs.Told.{told_system}
+use Rattle.linear_elim.specs.inner.FoldLines.{so_far}
 use Rattle.linear_elim.proofs.OwnLoops.{own-folded, own-start}
 use Rattle.linear_elim.proofs.StepLoops.{if_told}
 use Rattle.linear_elim.proofs.FoldLaws.{HaveShape-folded, HaveShape-start}
