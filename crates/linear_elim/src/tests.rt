@@ -53,12 +53,19 @@ fn survey_of_eight(alloc: Global) -> Result<Survey, Fail>
     )
 }
 
+/// Whether the number is in range.
+fn is_in_range(number: i128) -> bool
+    ensures { result ≡ true → InRange number }
+{
+    number != i128::MIN
+}
+
 /// Whether the numbers are in range.
 fn are_in_range(numbers: &[i128]) -> bool
     ensures { result ≡ true → All InRange numbers.now }
 {
     for number in numbers {
-        if *number == i128::MIN {
+        if !is_in_range(*number) {
             return false;
         }
     }
@@ -71,7 +78,7 @@ fn line_of(alloc: Global, survey: &Survey, row: &Row) -> Result<Line, Fail>
     ensures { IfOk result (λ line. line.shape ≡ eight_numbers) }
 {
     let (numbers, constant) = row;
-    if !are_in_range(numbers) || *constant == i128::MIN {
+    if !are_in_range(numbers) || !is_in_range(*constant) {
         return Err(Fail::from("numbers in range"));
     }
     let factors = Vec::from_slice(alloc, numbers)?;
