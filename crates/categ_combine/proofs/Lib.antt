@@ -1,4 +1,6 @@
 pub mod AvoidLaws
+pub mod BoxOrigins
+pub mod BoxSets
 pub mod CoverLaws
 pub mod CoverLoops
 pub mod CoverSteps

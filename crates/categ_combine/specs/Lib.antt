@@ -3,6 +3,7 @@ pub mod Covers
 pub mod Each
 pub mod FailingBoxes
 pub mod Fixing
+pub mod Origins
 pub mod Spots
 pub mod Steps
 pub mod Texts

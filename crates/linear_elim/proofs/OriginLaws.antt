@@ -7,15 +7,15 @@ use Rattle.edit_line.specs.Subsumption.{is_trivial, subsumes}
 use Rattle.edit_line.specs.declared.derived.Derived.{Derived}
 use Rattle.edit_line.specs.declared.derived.Origin.TheVariants.{Same}
 use Rattle.edit_line.proofs.Members.{all-in, in-all, in-either, in-get, in-reduced, in-taken}
-use Rattle.edit_line.proofs.SetLaws.{both_true}
-use Rattle.edit_line.specs.Combinations.{IsPositiveSum, first_overflow, numbers, unless_overflow}
+use Rattle.edit_line.specs.Combinations.{first_overflow, numbers, unless_overflow}
 use Rattle.linear_elim.specs.Combinations.{combination, combined_with, first_multiplier, is_flat, is_lower, second_multiplier}
-use Rattle.linear_elim.specs.Origins.{AllComeFrom, ComesFrom}
+use Rattle.linear_elim.specs.Origins.{AllComeFrom, ComesFrom, IsTakenSum}
 use Rattle.linear_elim.specs.Steps.{StepOverflow, collect, eliminated_result, flat_from, is_opposite, pair_result, paired, reduced_result, row_result, step_result}
 use Rattle.linear_elim.proofs.ListMembers.{in-map}
-use Rattle.linear_elim.proofs.PairLaws.{combination-is, combination_divisor}
+use Rattle.linear_elim.proofs.PairLaws.{combination_divisor}
 use Rattle.linear_elim.proofs.ResultLaws.{followed, joined, ok_same}
-use Rattle.linear_elim.proofs.StepLaws.{above_tells, below_tells}
+use Rattle.linear_elim.proofs.StepLaws.{above_tells}
+use Rattle.linear_elim.proofs.TakenSums.{combination-taken}
 
 -- The origins of a step's lines name what was combined.
 
@@ -79,23 +79,23 @@ module _ (shape : List Domain) (lines : List Derived) (f : ℕ) (over : HaveShap
   pair-comes : (i : ℕ) (s : Derived) (j : ℕ) (t : Derived) (zs : List Derived) → slice_get lines i ≡ Some s → slice_get lines j ≡ Some t → is_lower f s.line ≡ true
       → pair_result f i s j t ≡ Ok zs → (d : Derived) → IsIn d zs → ComesFrom lines d.line d.origin
   pair-comes i s j t zs s_at t_at lower e d there =
-      by (is_opposite f s.line t.line) (first_overflow 0 (first_multiplier s.line t.line f) (second_multiplier s.line t.line f) (numbers s.line) (numbers t.line)) refl e
+      by (is_opposite f s.line t.line) (first_overflow 0 (first_multiplier s.line t.line f) (second_multiplier s.line t.line f) (numbers s.line) (numbers t.line)) refl refl e
     where
-      sum : is_opposite f s.line t.line ≡ true → IsPositiveSum (first_multiplier s.line t.line f) (second_multiplier s.line t.line f) (combination_divisor s.line t.line f) s.line t.line (combination s.line t.line f)
-      sum opposite =
-          combination-is s.line t.line f ((has j t t_at).same ∙ sym (has i s s_at).same) (above_tells (factor s.line f) lower) (below_tells (factor t.line f) (both_true _ _ opposite).0)
+      sum : is_opposite f s.line t.line ≡ true → first_overflow 0 (first_multiplier s.line t.line f) (second_multiplier s.line t.line f) (numbers s.line) (numbers t.line) ≡ None
+          → IsTakenSum (first_multiplier s.line t.line f) (second_multiplier s.line t.line f) (combination_divisor s.line t.line f) s.line t.line (combination s.line t.line f)
+      sum opposite fits = combination-taken s.line t.line f ((has j t t_at).same ∙ sym (has i s s_at).same) (above_tells (factor s.line f) lower) opposite fits
 
       one : (new : Derived) → ComesFrom lines new.line new.origin → IsIn d (new ∷ []) → ComesFrom lines d.line d.origin
       one new comes (inl same) = subst (λ (e : Derived). ComesFrom lines e.line e.origin) (sym same) comes
       one new comes (inr none) = absurd none
 
-      by : (b : Bool) (o : Option ℕ) → is_opposite f s.line t.line ≡ b
+      by : (b : Bool) (o : Option ℕ) → is_opposite f s.line t.line ≡ b → first_overflow 0 (first_multiplier s.line t.line f) (second_multiplier s.line t.line f) (numbers s.line) (numbers t.line) ≡ o
           → (if b then paired s.line.shape i j (unless_overflow o (combined_with (first_multiplier s.line t.line f) (second_multiplier s.line t.line f) s.line t.line)) else Ok []) ≡ Ok zs
           → ComesFrom lines d.line d.origin
-      by true None opposite e =
-          one _ (some_at _ (slice_get lines i) s s_at (some_at _ (slice_get lines j) t t_at (sum opposite))) (subst (λ (ds : List Derived). IsIn d ds) (ok_same zs _ _ e refl) there)
-      by true (Some place) opposite e = absurd (cc)
-      by false o opposite e = absurd (subst (λ (ds : List Derived). IsIn d ds) (ok_same zs [] _ e refl) there)
+      by true None opposite fits e =
+          one _ (some_at _ (slice_get lines i) s s_at (some_at _ (slice_get lines j) t t_at (sum opposite fits))) (subst (λ (ds : List Derived). IsIn d ds) (ok_same zs _ _ e refl) there)
+      by true (Some place) opposite fits e = absurd (cc)
+      by false o opposite fits e = absurd (subst (λ (ds : List Derived). IsIn d ds) (ok_same zs [] _ e refl) there)
 
   row-comes : (i : ℕ) (s : Derived) (zs : List Derived) → slice_get lines i ≡ Some s → row_result f lines i s ≡ Ok zs → (d : Derived) → IsIn d zs → ComesFrom lines d.line d.origin
   row-comes i s zs at e d there = by (is_lower f s.line) refl e
