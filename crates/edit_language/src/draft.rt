@@ -1,10 +1,11 @@
-ghost use Rattle.std.specs.Prelude.{◌≡◌, ◌+◌, ◌<◌, ◌^◌, None, IfErr, IfOk, OnOk, length};
+ghost use Rattle.std.specs.Prelude.{◌≡◌, ◌+◌, ◌<◌, ◌^◌, None, false, IfErr, IfOk, OnOk, length};
 ghost use Rattle.edit_model.specs.Surveys.{IsWellFormed};
 ghost use Rattle.rule_grammar.specs.Names.{GivesNames};
-ghost use Rattle.edit_language.specs.Faults.{declaration_fault, fault_of, rule_fault};
+ghost use Rattle.edit_language.specs.Faults.{has_fault};
 ghost use Rattle.edit_language.specs.Grammar.{Adds, no_statements};
 ghost use Rattle.edit_language.specs.Meaning.{extended};
-ghost use Rattle.edit_language.specs.Reading.{IsFaultOfLine, IsFaultOfStatement};
+ghost use Rattle.edit_language.specs.inner.FirstFault.{declaration_fault, fault_of, rule_fault};
+ghost use Rattle.edit_language.specs.inner.LineFaults.{IsFaultOfLine, IsFaultOfStatement};
 ghost use Rattle.edit_language.specs.declared.fault.RulesFault.TheVariants as faults;
 
 use crate::fault::{RulesFault, RulesKind};
@@ -86,7 +87,7 @@ impl Draft {
         number: u32,
     ) -> Result<(), RulesFault>
         requires { GivesNames statement }
-        ensures faultless { OnOk result (fault_of self.old statement ≡ None) }
+        ensures faultless { OnOk result ((kind : RulesKind) → has_fault self.old statement kind ≡ false) }
         ensures extended { OnOk result (self.new ≡ extended self.old statement) }
         ensures fault { IfErr result (λ fault. IsFaultOfStatement statement self.old number fault) }
     {
