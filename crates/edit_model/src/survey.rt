@@ -3,12 +3,13 @@ ghost use Rattle.edit_model.specs.Corrections.{code_fields, number_fields};
 ghost use Rattle.edit_model.specs.Parts.{SurveyParts, parts_of};
 ghost use Rattle.edit_model.specs.Surveys.{IsWellFormed};
 
-use crate::check::are_in_form;
+use crate::check::is_well_formed;
 use crate::fault::SurveyFault;
 use crate::field::Field;
 use crate::index::{field_numbers, name_table};
 use crate::name_table::NameTable;
 use crate::rule::Rule;
+use foundation::OutOfMemory;
 use std::alloc::Global;
 use std::marker::Model;
 
@@ -39,10 +40,18 @@ impl Survey {
         ensures ok { IfOk result (λ survey. (survey ≡ parts_of fields.items rules.items) × IsWellFormed survey) }
         ensures malformed { result ≡ Err SurveyFault.Malformed → ¬ IsWellFormed (parts_of fields.items rules.items) }
     {
-        let declared = fields.as_slice();
-        if !are_in_form(declared, &rules) {
+        if !is_well_formed(&fields, &rules) {
             return Err(SurveyFault::Malformed);
         }
+        Ok(Survey::of(alloc, fields, rules)?)
+    }
+
+    /// The survey of these fields and rules, which are well formed.
+    pub fn of(alloc: Global, fields: Vec<Field>, rules: Vec<Rule>) -> Result<Survey, OutOfMemory>
+        requires { IsWellFormed (parts_of fields.items rules.items) }
+        ensures { IfOk result (λ survey. survey ≡ parts_of fields.items rules.items) }
+    {
+        let declared = fields.as_slice();
         let names = name_table(alloc, declared)?;
         let numbers = field_numbers(alloc, declared, true)?;
         let categories = field_numbers(alloc, declared, false)?;
