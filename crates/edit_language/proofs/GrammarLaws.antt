@@ -1,5 +1,5 @@
 -- A rule text is read in one way, line after line, and its first fault is one.
-use Rattle.std.proofs.Common.{◌≡◌, ◌⊎◌, ℕ, ◌+◌, ◌-◌, ◌<◌, ◌≤◌, ◌==◌, true, false, if◌then◌else◌, List, [], ◌∷◌, ◌++◌, length, Option, Some, None, Result, Ok, Err, IfErr, IfOk, refl, sym, ap, ◌∙◌, subst, inl, inr, arith, append_assoc, length-append}
+use Rattle.std.proofs.Common.{◌≡◌, ◌⊎◌, ℕ, ◌+◌, ◌-◌, ◌<◌, ◌≤◌, ◌==◌, true, false, if◌then◌else◌, List, [], ◌∷◌, ◌++◌, length, Option, Some, None, Result, Ok, Err, IfErr, refl, sym, ap, ◌∙◌, subst, inl, inr, arith, append_assoc, length-append}
 use Rattle.std.specs.List.{after_first, before_first, list_any, position_or_len, slice_split}
 use Rattle.std.proofs.lemmas.Bool.{both_ways}
 use Rattle.std.proofs.lemmas.List.{length-drop}
@@ -312,8 +312,3 @@ pub told_last : (bytes rest : List ℕ) (number : ℕ) (draft : SurveyParts) (fa
 unfolding IsAnswer
 told_last bytes rest number draft (faults.At at kind) so_far none told = subst (λ (n : ℕ). IsAnswer bytes (faults.At n kind)) (sym told.0) (answer_of bytes (number + 1) kind (fault_at_last bytes rest number draft kind so_far none told.1))
 told_last bytes rest number draft faults.OutOfMemory so_far none told = (tt, tt, tt)
-
--- the survey that is made of the draft is the text's, and its only one
-pub made_of : (answer : Result SurveyParts RulesFault) (bytes : List ℕ) (draft : SurveyParts) → IfOk answer (λ survey. survey ≡ draft) → IsRuleText bytes draft → IfOk answer (λ survey. IsRuleText bytes survey) × IfOk answer (λ survey. (other : SurveyParts) → IsRuleText bytes other → other ≡ survey)
-made_of (Ok survey) bytes draft same text = (rw same text, λ other also. rule_text_once bytes other draft also text ∙ sym same)
-made_of (Err fault) bytes draft same text = (tt, tt)

@@ -6,13 +6,12 @@ ghost use Rattle.edit_language.specs.Grammar.{Adds, no_statements};
 ghost use Rattle.edit_language.specs.Meaning.{extended};
 ghost use Rattle.edit_language.specs.inner.FirstFault.{declaration_fault, fault_of, rule_fault};
 ghost use Rattle.edit_language.specs.inner.LineFaults.{IsFaultOfLine, IsFaultOfStatement};
-ghost use Rattle.edit_language.specs.declared.fault.RulesFault.TheVariants as faults;
 
 use crate::fault::{RulesFault, RulesKind};
 use crate::first_fault::fault_of;
 use crate::line::{has_bad_byte, read_part};
 use crate::meaning::{field_of, rule_of};
-use edit_model::{Field, Rule, Survey, SurveyFault};
+use edit_model::{Field, Rule, Survey};
 use foundation::OutOfMemory;
 use rule_grammar::{Declaration, LineText, RuleText, Statement, read_line};
 use std::alloc::Global;
@@ -147,15 +146,10 @@ impl Draft {
     }
 
     /// The survey of all lines.
-    pub(crate) fn into_survey(self, alloc: Global) -> Result<Survey, RulesFault>
+    pub(crate) fn into_survey(self, alloc: Global) -> Result<Survey, OutOfMemory>
         ensures survey { IfOk result (λ survey. survey ≡ self) }
         ensures well_formed { IfOk result (λ survey. IsWellFormed survey) }
-        ensures fault { IfErr result (λ fault. fault ≡ faults.OutOfMemory) }
     {
-        match Survey::new(alloc, self.fields, self.rules) {
-            Ok(survey) => Ok(survey),
-            Err(SurveyFault::OutOfMemory) => Err(RulesFault::OutOfMemory),
-            Err(SurveyFault::Malformed) => unreachable!(),
-        }
+        Survey::of(alloc, self.fields, self.rules)
     }
 }
