@@ -1,5 +1,5 @@
 -- A rule text is read in one way, line after line, and its first fault is one.
-use Rattle.std.proofs.Common.{◌≡◌, ◌≢◌, ◌⊎◌, ℕ, ◌+◌, ◌-◌, ◌<◌, ◌≤◌, ◌==◌, Bool, true, false, if◌then◌else◌, List, [], ◌∷◌, ◌++◌, length, Option, Some, None, Result, Ok, Err, IfErr, IfOk, refl, sym, ap, ◌∙◌, subst, inl, inr, arith, append_assoc, length-append}
+use Rattle.std.proofs.Common.{◌≡◌, ◌⊎◌, ℕ, ◌+◌, ◌-◌, ◌<◌, ◌≤◌, ◌==◌, true, false, if◌then◌else◌, List, [], ◌∷◌, ◌++◌, length, Option, Some, None, Result, Ok, Err, IfErr, refl, sym, ap, ◌∙◌, subst, inl, inr, arith, append_assoc, length-append}
 use Rattle.std.specs.List.{after_first, before_first, list_any, position_or_len, slice_split}
 use Rattle.std.proofs.lemmas.Bool.{both_ways}
 use Rattle.std.proofs.lemmas.List.{length-drop}
@@ -20,15 +20,17 @@ use Rattle.rule_grammar.specs.declared.statement.TestText.{TestText}
 use Rattle.rule_grammar.specs.declared.statement.TestText.TheVariants as test
 use Rattle.rule_grammar.specs.declared.token.Sign.{Sign}
 use Rattle.rule_grammar.specs.declared.token.Token.{Token}
-use Rattle.edit_language.specs.Faults.{fault_of}
-use Rattle.edit_language.specs.Grammar.{Adds, AddsAll, HasFault, IsRuleText, IsRulesFault, Says, SaysNothing, no_statements}
+use Rattle.edit_language.specs.Faults.{has_fault, kind_number}
+use Rattle.edit_language.specs.Grammar.{Adds, AddsAll, HasFault, IsLeastFault, IsRuleText, IsRulesFault, Says, SaysNothing, no_statements}
 use Rattle.edit_language.specs.Lines.{has_bad_byte, is_bad_byte, lines_of, read_part}
 use Rattle.edit_language.specs.Meaning.{extended}
-use Rattle.edit_language.specs.Reading.{IsFaultOf, IsFaultOfLine, IsFaultOfStatement, IsNoRuleText, IsOnlyFaultOf}
+use Rattle.edit_language.specs.Reading.{IsFaultOf, IsNoRuleText, IsOnlyFaultOf}
 use Rattle.edit_language.specs.declared.fault.RulesFault.{RulesFault}
 use Rattle.edit_language.specs.declared.fault.RulesFault.TheVariants as faults
 use Rattle.edit_language.specs.declared.fault.RulesKind.{RulesKind}
 use Rattle.edit_language.specs.declared.fault.RulesKind.TheVariants.{BadByte, Syntax, UnknownField, DoubleField, UnknownCode, DoubleCode, NumberRange, TooMany, ConditionForm}
+use Rattle.edit_language.specs.inner.FirstFault.{IsLeastOf}
+use Rattle.edit_language.specs.inner.LineFaults.{IsFaultOfLine, IsFaultOfStatement}
 use Rattle.rule_grammar.proofs.StatementLaws.{one_statement}
 
 -- ---- statements
@@ -63,31 +65,26 @@ says_some line s says empty = some_token s (sym says.tokens ∙ empty)
 
 -- ---- faults
 
--- where a test is for another kind, the kind is that of a later one
-not_first : (kind other : RulesKind) (b : Bool) (later : Option RulesKind) → other ≢ kind → (if b then Some other else later) ≡ Some kind → later ≡ Some kind
-not_first kind other true later differs e = absurd (differs cc)
-not_first kind other false later differs e = e
+-- a kind is known by its number
+kind_of : ℕ → RulesKind
+kind_of n = if n == 1 then BadByte else if n == 2 then Syntax else if n == 3 then UnknownField else if n == 4 then DoubleField else if n == 5 then UnknownCode else if n == 6 then DoubleCode else if n == 7 then NumberRange else if n == 8 then TooMany else ConditionForm
 
--- a statement has neither of the first two kinds
-module _ (kind : RulesKind) (unknown : UnknownField ≢ kind) (double : DoubleField ≢ kind) (code : UnknownCode ≢ kind) (twice : DoubleCode ≢ kind) (range : NumberRange ≢ kind) (many : TooMany ≢ kind) (form : ConditionForm ≢ kind) where
-  pub no_such_fault : (before : SurveyParts) (s : Written) → fault_of before s ≡ Some kind → ⊥
-  no_such_fault before (statement.Declaration (declaration.Number name weight scale)) e =
-      let last : None ≡ Some kind = not_first kind TooMany _ _ many (not_first kind NumberRange _ _ range (not_first kind DoubleField _ _ double e)) in cc
-  no_such_fault before (statement.Declaration (declaration.Code name weight list)) e =
-      let last : None ≡ Some kind = not_first kind TooMany _ _ many (not_first kind NumberRange _ _ range (not_first kind DoubleCode _ _ twice (not_first kind DoubleField _ _ double e))) in cc
-  no_such_fault before (statement.Rule r) e =
-      let last : None ≡ Some kind = not_first kind ConditionForm _ _ form (not_first kind TooMany _ _ many (not_first kind NumberRange _ _ range (not_first kind DoubleCode _ _ twice (not_first kind UnknownCode _ _ code (not_first kind UnknownField _ _ unknown e))))) in cc
+numbered : (kind : RulesKind) → kind_of (kind_number kind) ≡ kind
+unfolding kind_of
+numbered BadByte = refl
+numbered Syntax = refl
+numbered UnknownField = refl
+numbered DoubleField = refl
+numbered UnknownCode = refl
+numbered DoubleCode = refl
+numbered NumberRange = refl
+numbered TooMany = refl
+numbered ConditionForm = refl
 
-no_bad_byte : (before : SurveyParts) (s : Written) → fault_of before s ≡ Some BadByte → ⊥
-no_bad_byte = no_such_fault BadByte (λ d. cc) (λ d. cc) (λ d. cc) (λ d. cc) (λ d. cc) (λ d. cc) (λ d. cc)
-
-no_syntax : (before : SurveyParts) (s : Written) → fault_of before s ≡ Some Syntax → ⊥
-no_syntax = no_such_fault Syntax (λ d. cc) (λ d. cc) (λ d. cc) (λ d. cc) (λ d. cc) (λ d. cc) (λ d. cc)
-
--- the fault of a statement is that of its line
-pub fault_of_line : (line : List ℕ) (before : SurveyParts) (s : Written) (kind : RulesKind) → Says line s → fault_of before s ≡ Some kind → HasFault line before kind
-fault_of_line line before s BadByte says e = absurd (no_bad_byte before s e)
-fault_of_line line before s Syntax says e = absurd (no_syntax before s e)
+-- the fault of a statement is one of its line
+pub fault_of_line : (line : List ℕ) (before : SurveyParts) (s : Written) (kind : RulesKind) → Says line s → has_fault before s kind ≡ true → HasFault line before kind
+fault_of_line line before s BadByte says e = absurd cc
+fault_of_line line before s Syntax says e = absurd cc
 fault_of_line line before s UnknownField says e = (s, says, e)
 fault_of_line line before s DoubleField says e = (s, says, e)
 fault_of_line line before s UnknownCode says e = (s, says, e)
@@ -98,7 +95,7 @@ fault_of_line line before s ConditionForm says e = (s, says, e)
 
 -- a fault is of one of three sorts
 IsSort : List ℕ → SurveyParts → RulesKind → Type 0
-IsSort line before kind = ((kind ≡ BadByte) × (has_bad_byte line ≡ true)) ⊎ (((kind ≡ Syntax) × SaysNothing line) ⊎ ((s : Written) × Says line s × (fault_of before s ≡ Some kind)))
+IsSort line before kind = ((kind ≡ BadByte) × (has_bad_byte line ≡ true)) ⊎ (((kind ≡ Syntax) × SaysNothing line) ⊎ ((s : Written) × Says line s × (has_fault before s kind ≡ true)))
 
 sort_of : (line : List ℕ) (before : SurveyParts) (kind : RulesKind) → HasFault line before kind → IsSort line before kind
 unfolding IsSort
@@ -112,23 +109,23 @@ sort_of line before NumberRange h = inr (inr h)
 sort_of line before TooMany h = inr (inr h)
 sort_of line before ConditionForm h = inr (inr h)
 
--- a line has one least fault
-pub faults_once : (line : List ℕ) (before : SurveyParts) (k l : RulesKind) → HasFault line before k → HasFault line before l → k ≡ l
+-- the least fault of a statement is that of its line
+pub least_of_line : (line : List ℕ) (before : SurveyParts) (s : Written) (kind : RulesKind) → Says line s → IsLeastOf before s kind → IsLeastFault line before kind
 unfolding IsSort
-faults_once line before k l first second = by (sort_of line before k first) (sort_of line before l second)
+least_of_line line before s kind says is = record { has = fault_of_line line before s kind says is.has; least = λ other fault. by other (sort_of line before other fault) }
   where
-    by : IsSort line before k → IsSort line before l → k ≡ l
-    by (inl a) (inl b) = a.0 ∙ sym b.0
-    by (inl a) (inr (inl b)) = absurd (both_ways (has_bad_byte line) b.1.clean a.1)
-    by (inl a) (inr (inr b)) = absurd (both_ways (has_bad_byte line) b.1.clean a.1)
-    by (inr (inl a)) (inl b) = absurd (both_ways (has_bad_byte line) a.1.clean b.1)
-    by (inr (inl a)) (inr (inl b)) = a.0 ∙ sym b.0
-    by (inr (inl a)) (inr (inr b)) = absurd (a.1.unsaid b.0 b.1.tokens)
-    by (inr (inr a)) (inl b) = absurd (both_ways (has_bad_byte line) a.1.clean b.1)
-    by (inr (inr a)) (inr (inl b)) = absurd (b.1.unsaid a.0 a.1.tokens)
-    by (inr (inr a)) (inr (inr b)) =
-        let same : a.0 ≡ b.0 = says_once line a.0 b.0 a.1 b.1 in
-        let kinds : Some k ≡ Some l = sym a.2 ∙ ap (fault_of before) same ∙ b.2 in cc
+    by : (other : RulesKind) → IsSort line before other → kind_number kind ≤ kind_number other
+    by other (inl a) = absurd (both_ways (has_bad_byte line) says.clean a.1)
+    by other (inr (inl a)) = absurd (a.1.unsaid s says.tokens)
+    by other (inr (inr a)) = is.least other (ap (λ (t : Written). has_fault before t other) (says_once line s a.0 says a.1) ∙ a.2)
+
+-- a line has one least fault
+pub faults_once : (line : List ℕ) (before : SurveyParts) (k l : RulesKind) → IsLeastFault line before k → IsLeastFault line before l → k ≡ l
+faults_once line before k l first second =
+    let below = first.least l second.has in
+    let above = second.least k first.has in
+    let same : kind_number k ≡ kind_number l = omega arith in
+    sym (numbered k) ∙ ap kind_of same ∙ numbered l
 
 -- a line with a fault adds nothing
 pub fault_stops : (line : List ℕ) (before after : SurveyParts) (kind : RulesKind) → HasFault line before kind → Adds line before after → ⊥
@@ -142,8 +139,8 @@ fault_stops line before after kind fault adds = by (sort_of line before kind fau
     by (inr (inl a)) (inr b) = a.1.unsaid b.statement b.says.tokens
     by (inr (inr a)) (inl b) = says_some line a.0 a.1 b.0.tokens
     by (inr (inr a)) (inr b) =
-        let same : a.0 ≡ b.statement = says_once line a.0 b.statement a.1 b.says in
-        let kinds : Some kind ≡ None = sym a.2 ∙ ap (fault_of before) same ∙ b.faultless in cc
+        let has : has_fault before b.statement kind ≡ true = ap (λ (t : Written). has_fault before t kind) (says_once line b.statement a.0 b.says a.1) ∙ a.2 in
+        both_ways (has_fault before b.statement kind) (b.faultless kind) has
 
 -- a line with a fault is not empty
 pub fault_needs_bytes : (before : SurveyParts) (kind : RulesKind) → HasFault [] before kind → ⊥
@@ -183,20 +180,20 @@ fault_stops_all (first ∷ earlier) line later before at after kind read fault a
 
 -- a text that has a fault is no rule text
 pub no_rule_text : (bytes : List ℕ) (number : ℕ) (kind : RulesKind) → IsRulesFault bytes number kind → (survey : SurveyParts) → ¬ IsRuleText bytes survey
-no_rule_text bytes number kind fault survey text = fault_stops_all fault.earlier fault.line fault.later no_statements fault.before survey kind fault.read fault.fault (subst (λ (lines : List (List ℕ)). AddsAll lines no_statements survey) fault.split text)
+no_rule_text bytes number kind fault survey text = fault_stops_all fault.earlier fault.line fault.later no_statements fault.before survey kind fault.read fault.fault.has (subst (λ (lines : List (List ℕ)). AddsAll lines no_statements survey) fault.split text)
 
 -- the first fault of lines is one
 first_once : (e : List (List ℕ)) (m : List ℕ) (r : List (List ℕ)) (f : List (List ℕ)) (n : List ℕ) (q : List (List ℕ)) (before a b : SurveyParts) (k l : RulesKind) → e ++ m ∷ r ≡ f ++ n ∷ q
-    → AddsAll e before a → HasFault m a k → AddsAll f before b → HasFault n b l → (length e ≡ length f) × (k ≡ l)
+    → AddsAll e before a → IsLeastFault m a k → AddsAll f before b → IsLeastFault n b l → (length e ≡ length f) × (k ≡ l)
 first_once [] m r [] n q before a b k l same read fault also other =
     let line : m ≡ n = cc in
-    (refl, faults_once n before k l (subst (λ (t : List ℕ). HasFault t before k) line (subst (λ (s : SurveyParts). HasFault m s k) read fault)) (subst (λ (s : SurveyParts). HasFault n s l) also other))
+    (refl, faults_once n before k l (subst (λ (t : List ℕ). IsLeastFault t before k) line (subst (λ (s : SurveyParts). IsLeastFault m s k) read fault)) (subst (λ (s : SurveyParts). IsLeastFault n s l) also other))
 first_once [] m r (g ∷ f) n q before a b k l same read fault also other =
     let line : m ≡ g = cc in
-    absurd (fault_stops g before also.0 k (subst (λ (t : List ℕ). HasFault t before k) line (subst (λ (s : SurveyParts). HasFault m s k) read fault)) also.1)
+    absurd (fault_stops g before also.0 k (subst (λ (t : List ℕ). HasFault t before k) line (subst (λ (s : SurveyParts). HasFault m s k) read fault.has)) also.1)
 first_once (d ∷ e) m r [] n q before a b k l same read fault also other =
     let line : n ≡ d = cc in
-    absurd (fault_stops d before read.0 l (subst (λ (t : List ℕ). HasFault t before l) line (subst (λ (s : SurveyParts). HasFault n s l) also other)) read.1)
+    absurd (fault_stops d before read.0 l (subst (λ (t : List ℕ). HasFault t before l) line (subst (λ (s : SurveyParts). HasFault n s l) also other.has)) read.1)
 first_once (d ∷ e) m r (g ∷ f) n q before a b k l same read fault also other =
     let line : d ≡ g = cc in
     let rest : e ++ m ∷ r ≡ f ++ n ∷ q = cc in
@@ -234,7 +231,7 @@ read_more bytes rest number draft next line after so_far is_line is_after ended 
     }
 
 -- the fault of the line that comes next
-pub fault_at : (bytes rest : List ℕ) (number : ℕ) (draft : SurveyParts) (line after : List ℕ) (kind : RulesKind) → IsReadTo bytes rest number draft → line ≡ before_first (λ b. b == 10) rest → after ≡ after_first (λ b. b == 10) rest → position_or_len (λ b. b == 10) rest < length rest → HasFault line draft kind → IsRulesFault bytes (number + 1) kind
+pub fault_at : (bytes rest : List ℕ) (number : ℕ) (draft : SurveyParts) (line after : List ℕ) (kind : RulesKind) → IsReadTo bytes rest number draft → line ≡ before_first (λ b. b == 10) rest → after ≡ after_first (λ b. b == 10) rest → position_or_len (λ b. b == 10) rest < length rest → IsLeastFault line draft kind → IsRulesFault bytes (number + 1) kind
 fault_at bytes rest number draft line after kind so_far is_line is_after ended fault =
     let cut : slice_split (λ b. b == 10) rest ≡ line ∷ slice_split (λ b. b == 10) after = slice_split_first (λ b. b == 10) rest 0 ended ∙ rw (is_line, is_after) refl in
     record {
@@ -253,7 +250,7 @@ last_line : (rest : List ℕ) → position_or_len (λ b. b == 10) rest ≡ lengt
 last_line rest none = slice_split_none (λ b. b == 10) rest (λ k d below. fails_before_first (λ b. b == 10) rest k d (omega arith))
 
 -- its fault
-pub fault_at_last : (bytes rest : List ℕ) (number : ℕ) (draft : SurveyParts) (kind : RulesKind) → IsReadTo bytes rest number draft → position_or_len (λ b. b == 10) rest ≡ length rest → HasFault rest draft kind → IsRulesFault bytes (number + 1) kind
+pub fault_at_last : (bytes rest : List ℕ) (number : ℕ) (draft : SurveyParts) (kind : RulesKind) → IsReadTo bytes rest number draft → position_or_len (λ b. b == 10) rest ≡ length rest → IsLeastFault rest draft kind → IsRulesFault bytes (number + 1) kind
 fault_at_last bytes rest number draft kind so_far none fault =
     record {
       earlier = so_far.earlier;
@@ -276,7 +273,7 @@ read_all bytes rest number draft survey so_far none adds =
 
 -- the fault of a statement, told of its line
 pub told_of_line : (line : List ℕ) (before : SurveyParts) (number : ℕ) (s : Written) (fault : RulesFault) → Says line s → IsFaultOfStatement s before number fault → IsFaultOfLine line before number fault
-told_of_line line before number s (faults.At at kind) says told = (told.0, fault_of_line line before s kind says told.1)
+told_of_line line before number s (faults.At at kind) says told = (told.0, least_of_line line before s kind says told.1)
 told_of_line line before number s faults.OutOfMemory says told = tt
 
 -- the same of an answer
@@ -315,8 +312,3 @@ pub told_last : (bytes rest : List ℕ) (number : ℕ) (draft : SurveyParts) (fa
 unfolding IsAnswer
 told_last bytes rest number draft (faults.At at kind) so_far none told = subst (λ (n : ℕ). IsAnswer bytes (faults.At n kind)) (sym told.0) (answer_of bytes (number + 1) kind (fault_at_last bytes rest number draft kind so_far none told.1))
 told_last bytes rest number draft faults.OutOfMemory so_far none told = (tt, tt, tt)
-
--- the survey that is made of the draft is the text's, and its only one
-pub made_of : (answer : Result SurveyParts RulesFault) (bytes : List ℕ) (draft : SurveyParts) → IfOk answer (λ survey. survey ≡ draft) → IsRuleText bytes draft → IfOk answer (λ survey. IsRuleText bytes survey) × IfOk answer (λ survey. (other : SurveyParts) → IsRuleText bytes other → other ≡ survey)
-made_of (Ok survey) bytes draft same text = (rw same text, λ other also. rule_text_once bytes other draft also text ∙ sym same)
-made_of (Err fault) bytes draft same text = (tt, tt)

@@ -1,5 +1,6 @@
 mod CodeLaws
 mod FieldLaws
+pub mod FirstFaultLaws
 pub mod GrammarLaws
 mod LineLaws
 pub mod PrintingCodes

@@ -22,6 +22,7 @@ use Rattle.rule_grammar.proofs.TokenSteps.{prefix_of_run}
 use Rattle.edit_language.specs.Grammar.{AddsAll, AddsStatement, IsRuleText, Says, no_statements}
 use Rattle.edit_language.specs.Lines.{is_bad_byte, read_part, without_mark, without_return}
 use Rattle.edit_language.specs.Printing.{field_line, field_lines, printed, rule_line, rule_lines}
+use Rattle.edit_language.proofs.FirstFaultLaws.{none_found}
 use Rattle.edit_language.proofs.PrintingFields.{field_spells}
 use Rattle.edit_language.proofs.PrintingRules.{rule_spells}
 use Rattle.edit_language.proofs.PrintingPieces.{IsPlain, Spells, all_weaker, is_plain, stops_nil}
@@ -101,7 +102,7 @@ rules_read fields all distinct (r ∷ rules) done are few =
     let size = length-append done (r ∷ []) in
     let rest = rules_read fields all distinct rules (done ++ r ∷ []) are.1 (omega arith) in
     adds_line (rule_line fields r) (rule_lines fields rules) (statement_of_rule fields r) (survey_of fields done) (survey_of fields (done ++ r ∷ [])) (survey_of fields (done ++ r ∷ rules))
-    (record { statement = statement_of_rule fields r; says = line_says (rule_line fields r) (statement_of_rule fields r) spells; faultless = back.faultless; grown = sym back.added })
+    (record { statement = statement_of_rule fields r; says = line_says (rule_line fields r) (statement_of_rule fields r) spells; faultless = none_found (survey_of fields done) (statement_of_rule fields r) back.faultless; grown = sym back.added })
     spells.plain
     (subst (λ (all_rules : List Rule). AddsAll (lines_from (rule_lines fields rules)) (survey_of fields (done ++ r ∷ [])) (survey_of fields all_rules)) (append_assoc done (r ∷ []) rules) rest)
 
@@ -125,7 +126,7 @@ fields_read (f ∷ fields) done rest after are distinct few more =
     let next = survey_of (done ++ f ∷ []) [] in
     let later = fields_read fields (done ++ f ∷ []) rest after are.1 (subst (λ (all : List Field). AllPairs (λ (f : Field) (g : Field). f.name ≢ g.name) all) (sym again) distinct) (omega arith) (subst (λ (all : List Field). AddsAll (lines_from rest) (survey_of all []) after) (sym again) more) in
     let line = adds_line (field_line f) (field_lines fields ++ rest) (statement_of_field f) (survey_of done []) next after
-    (record { statement = statement_of_field f; says = line_says (field_line f) (statement_of_field f) spells; faultless = field_faultless (survey_of done []) f are.0 (new_name done f fields distinct) (omega arith); grown = sym (field_added (survey_of done []) f are.0) })
+    (record { statement = statement_of_field f; says = line_says (field_line f) (statement_of_field f) spells; faultless = none_found (survey_of done []) (statement_of_field f) (field_faultless (survey_of done []) f are.0 (new_name done f fields distinct) (omega arith)); grown = sym (field_added (survey_of done []) f are.0) })
     spells.plain later in
     subst (λ (text : List ℕ). AddsAll (lines_from text) (survey_of done []) after) (sym (append_assoc (field_line f ++ 10 ∷ []) (field_lines fields) rest)) line
 

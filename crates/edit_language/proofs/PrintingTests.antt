@@ -25,7 +25,8 @@ use Rattle.rule_grammar.specs.declared.statement.SumText.{SumText}
 use Rattle.rule_grammar.specs.declared.statement.TermText.{TermText}
 use Rattle.rule_grammar.specs.declared.statement.TermText.TheVariants as term
 use Rattle.rule_grammar.specs.declared.token.Numeral.TheVariants as numeral
-use Rattle.edit_language.specs.Faults.{has_double, has_double_code, has_known_codes, is_known_term, is_known_test, is_large_term, is_large_test, is_number_name}
+use Rattle.edit_language.specs.Faults.{has_double, has_double_code, is_known_term, is_known_test, is_large_term, is_large_test, is_number_name}
+use Rattle.edit_language.specs.inner.FirstFault.{has_known_codes}
 use Rattle.edit_language.specs.Meaning.{codes_in, codes_of, field_named, is_listed, listed, moved_factor, moved_terms, terms_of, test_of}
 use Rattle.edit_language.specs.Printing.{codes_of_set, name_at}
 use Rattle.edit_language.proofs.PrintingCodes.{AreApart, AreOther, all_kept, all_listed, apart_kept, known_codes, no_double, set_printed, some_printed}

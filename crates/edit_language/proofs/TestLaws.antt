@@ -25,7 +25,8 @@ use Rattle.rule_grammar.specs.declared.statement.TestText.{TestText}
 use Rattle.rule_grammar.specs.declared.statement.TestText.TheVariants as written
 use Rattle.rule_grammar.specs.declared.token.Sign.{Sign}
 use Rattle.rule_grammar.specs.declared.token.Sign.TheVariants as sign
-use Rattle.edit_language.specs.Faults.{has_known_codes, is_code_name, is_field_of_kind, is_known_sum, is_known_term, is_known_test, is_large_test, is_number_name}
+use Rattle.edit_language.specs.Faults.{is_code_name, is_field_of_kind, is_known_sum, is_known_term, is_known_test, is_large_test, is_number_name}
+use Rattle.edit_language.specs.inner.FirstFault.{has_known_codes}
 use Rattle.edit_language.specs.Meaning.{code_set, codes_in, codes_of, factor_in, factor_of, field_named, is_listed, listed, moved_factor, moved_terms, number_in, number_named, signed, terms_of, test_of}
 use Rattle.edit_language.proofs.CodeLaws.{code_set_small, code_set_some, equal, unequal}
 

@@ -1,5 +1,5 @@
--- What is wrong with a statement, seen from the survey of the lines before it: one test for each kind of fault.
-use Rattle.std.specs.Prelude.{ℕ, ◌==◌, ◌&&◌, ◌||◌, ◌^◌, ◌++◌, not, Bool, true, false, Option, Some, None, List, [], ◌∷◌, codes, length, nat_le, nat_lt, unsigned_abs, if◌then◌else◌}
+-- What is wrong with a statement, seen from the survey of the lines before it: for each kind of fault, when it is there.
+use Rattle.std.specs.Prelude.{ℕ, ◌==◌, ◌&&◌, ◌||◌, ◌^◌, ◌++◌, not, Bool, true, false, Option, Some, None, List, [], ◌∷◌, codes, length, nat_le, nat_lt, unsigned_abs}
 use Rattle.std.specs.Fmt.{decimal}
 use Rattle.std.specs.List.{list_all, list_any}
 use Rattle.std.specs.Str.{bytes_eq}
@@ -90,10 +90,10 @@ is_known_test fields (written.Sums left compare right) = is_known_sum fields lef
 
 -- ---- codes
 
--- whether each code of a code test is a code of its field
-abbrev pub has_known_codes : List Field → TestText → Bool
-has_known_codes fields (written.Codes field negated list) = list_all (λ code. is_listed (codes_of (field_named fields field)) code) (listed list)
-has_known_codes fields (written.Sums left compare right) = true
+-- whether the field of a code test is known, and one of its codes is none of the field's
+abbrev pub has_unknown_code : List Field → TestText → Bool
+has_unknown_code fields (written.Codes field negated list) = is_code_name fields field && not (list_all (λ code. is_listed (codes_of (field_named fields field)) code) (listed list))
+has_unknown_code fields (written.Sums left compare right) = false
 
 -- whether a text stands twice in the list
 abbrev pub has_double : List (List ℕ) → Bool
@@ -153,40 +153,58 @@ is_equation (written.Sums left Lt right) = false
 abbrev pub has_form : RuleText → Bool
 has_form r = not (list_any is_sums r.conditions) || ((length r.conditions == 1) && (not (list_any is_equation r.conditions) && not (is_sums r.conclusion)))
 
--- ---- the first fault
+-- ---- the faults of a statement
 
 -- all tests of a rule
 abbrev pub tests_of : RuleText → List TestText
 tests_of r = r.conditions ++ r.conclusion ∷ []
 
--- the kind of the first test that is true
-abbrev pub first_true : List (Bool × RulesKind) → Option RulesKind
-first_true [] = None
-first_true (test ∷ tests) = if test.0 then Some test.1 else first_true tests
+-- all tests of a statement; a declaration has none
+abbrev pub tests_in : Written → List TestText
+tests_in (statement.Declaration d) = []
+tests_in (statement.Rule r) = tests_of r
 
--- the name that is declared, its weight, and its scale or its codes
-abbrev pub declaration_fault : SurveyParts → Declared → Option RulesKind
-declaration_fault survey (declaration.Number name weight scale) = first_true (
-    (list_any (λ (f : Field). bytes_eq f.name name) survey.fields, DoubleField)
-    ∷ (is_outside 1000 weight || is_outside (10 ^ 12) scale, NumberRange)
-    ∷ (nat_le 64 (length survey.fields), TooMany) ∷ [])
-declaration_fault survey (declaration.Code name weight list) = first_true (
-    (list_any (λ (f : Field). bytes_eq f.name name) survey.fields, DoubleField)
-    ∷ (has_double (listed list), DoubleCode)
-    ∷ (is_outside 1000 weight, NumberRange)
-    ∷ (nat_le 64 (length survey.fields) || nat_lt 64 (length (listed list)), TooMany) ∷ [])
+-- the name that is declared
+abbrev pub declared_name : Declared → List ℕ
+declared_name (declaration.Number name weight scale) = name
+declared_name (declaration.Code name weight list) = name
 
--- a rule over the fields before it
-abbrev pub rule_fault : SurveyParts → RuleText → Option RulesKind
-rule_fault survey r = first_true (
-    (not (list_all (is_known_test survey.fields) (tests_of r)), UnknownField)
-    ∷ (not (list_all (has_known_codes survey.fields) (tests_of r)), UnknownCode)
-    ∷ (list_any has_double_code (tests_of r), DoubleCode)
-    ∷ (list_any (is_large_test survey.fields) (tests_of r), NumberRange)
-    ∷ (nat_le 500 (length survey.rules), TooMany)
-    ∷ (not (has_form r), ConditionForm) ∷ [])
+-- whether the statement declares a name that a field has already
+abbrev pub is_declared_again : List Field → Written → Bool
+is_declared_again fields (statement.Declaration d) = list_any (λ (f : Field). bytes_eq f.name (declared_name d)) fields
+is_declared_again fields (statement.Rule r) = false
 
--- the least kind of fault that the statement has after these lines, None where it has none
-abbrev pub fault_of : SurveyParts → Written → Option RulesKind
-fault_of survey (statement.Declaration d) = declaration_fault survey d
-fault_of survey (statement.Rule r) = rule_fault survey r
+-- whether a code stands twice in one list of the statement
+abbrev pub has_code_twice : Written → Bool
+has_code_twice (statement.Declaration (declaration.Number name weight scale)) = false
+has_code_twice (statement.Declaration (declaration.Code name weight list)) = has_double (listed list)
+has_code_twice (statement.Rule r) = list_any has_double_code (tests_of r)
+
+-- whether a weight, a scale, or a number of a test is out of its limits
+abbrev pub is_out_of_range : List Field → Written → Bool
+is_out_of_range fields (statement.Declaration (declaration.Number name weight scale)) = is_outside 1000 weight || is_outside (10 ^ 12) scale
+is_out_of_range fields (statement.Declaration (declaration.Code name weight list)) = is_outside 1000 weight
+is_out_of_range fields (statement.Rule r) = list_any (is_large_test fields) (tests_of r)
+
+-- whether the statement declares the 65th field or more than 64 codes, or is the 501st rule
+abbrev pub is_too_many : SurveyParts → Written → Bool
+is_too_many before (statement.Declaration (declaration.Number name weight scale)) = nat_le 64 (length before.fields)
+is_too_many before (statement.Declaration (declaration.Code name weight list)) = nat_le 64 (length before.fields) || nat_lt 64 (length (listed list))
+is_too_many before (statement.Rule r) = nat_le 500 (length before.rules)
+
+-- whether a number test stands among the conditions where it may not
+abbrev pub has_wrong_form : Written → Bool
+has_wrong_form (statement.Declaration d) = false
+has_wrong_form (statement.Rule r) = not (has_form r)
+
+-- whether the statement, after the lines before it, has a fault of this kind; bytes and syntax are faults of lines that say nothing
+abbrev pub has_fault : SurveyParts → Written → RulesKind → Bool
+has_fault before s BadByte = false
+has_fault before s Syntax = false
+has_fault before s UnknownField = not (list_all (is_known_test before.fields) (tests_in s))
+has_fault before s DoubleField = is_declared_again before.fields s
+has_fault before s UnknownCode = list_any (has_unknown_code before.fields) (tests_in s)
+has_fault before s DoubleCode = has_code_twice s
+has_fault before s NumberRange = is_out_of_range before.fields s
+has_fault before s TooMany = is_too_many before s
+has_fault before s ConditionForm = has_wrong_form s

@@ -1,10 +1,10 @@
 -- Which texts are rule texts, and what is the first fault of those that are none.
-use Rattle.std.specs.Prelude.{◌≡◌, ◌≢◌, ◌⊎◌, ◌+◌, ℕ, false, true, Some, None, List, [], ◌∷◌, ◌++◌, length}
+use Rattle.std.specs.Prelude.{◌≡◌, ◌≢◌, ◌⊎◌, ◌+◌, ◌≤◌, ℕ, false, true, List, [], ◌∷◌, ◌++◌, length}
 use Rattle.edit_model.specs.Parts.{SurveyParts}
 use Rattle.rule_grammar.specs.Statements.{statement_tokens}
 use Rattle.rule_grammar.specs.Tokens.{tokens_of}
 use Rattle.rule_grammar.specs.declared.statement.Statement.{Statement as Written}
-use Rattle.edit_language.specs.Faults.{fault_of}
+use Rattle.edit_language.specs.Faults.{has_fault, kind_number}
 use Rattle.edit_language.specs.Lines.{has_bad_byte, lines_of, read_part}
 use Rattle.edit_language.specs.Meaning.{extended}
 use Rattle.edit_language.specs.declared.fault.RulesKind.{RulesKind}
@@ -28,7 +28,7 @@ pub record IsEmptyLine (line : List ℕ) : Type 0 where
 pub record AddsStatement (line : List ℕ) (before after : SurveyParts) : Type 0 where
   pub statement : Written
   pub says : Says line statement
-  pub faultless : fault_of before statement ≡ None
+  pub faultless : (kind : RulesKind) → has_fault before statement kind ≡ false
   pub grown : after ≡ extended before statement
 
 -- what a line adds to the survey of the lines before it
@@ -44,17 +44,21 @@ AddsAll (line ∷ lines) before after = (next : SurveyParts) × Adds line before
 abbrev pub IsRuleText : List ℕ → SurveyParts → Type 0
 IsRuleText bytes survey = AddsAll (lines_of bytes) no_statements survey
 
--- something stands on the line, its bytes are right, and it is no statement
+-- something stands on the line, and it is no statement
 pub record SaysNothing (line : List ℕ) : Type 0 where
-  pub clean : has_bad_byte line ≡ false
   pub not_empty : tokens_of (read_part line) ≢ []
   pub unsaid : (statement : Written) → tokens_of (read_part line) ≢ statement_tokens statement
 
--- the least kind of fault that the line has after the lines before it
+-- the line has a fault of this kind after the lines before it
 abbrev pub HasFault : List ℕ → SurveyParts → RulesKind → Type 0
 HasFault line before BadByte = has_bad_byte line ≡ true
 HasFault line before Syntax = SaysNothing line
-HasFault line before kind = (statement : Written) × Says line statement × (fault_of before statement ≡ Some kind)
+HasFault line before kind = (statement : Written) × Says line statement × (has_fault before statement kind ≡ true)
+
+-- and none of a lesser kind
+pub record IsLeastFault (line : List ℕ) (before : SurveyParts) (kind : RulesKind) : Type 0 where
+  pub has : HasFault line before kind
+  pub least : (other : RulesKind) → HasFault line before other → kind_number kind ≤ kind_number other
 
 -- the first line that has a fault, from 1, and its least kind: the lines before it make a survey
 pub record IsRulesFault (bytes : List ℕ) (number : ℕ) (kind : RulesKind) : Type 0 where
@@ -65,4 +69,4 @@ pub record IsRulesFault (bytes : List ℕ) (number : ℕ) (kind : RulesKind) : T
   pub split : lines_of bytes ≡ earlier ++ line ∷ later
   pub counted : number ≡ length earlier + 1
   pub read : AddsAll earlier no_statements before
-  pub fault : HasFault line before kind
+  pub fault : IsLeastFault line before kind

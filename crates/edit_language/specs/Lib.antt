@@ -4,5 +4,4 @@ pub mod Lines
 pub mod Meaning
 pub mod Printing
 pub mod Reading
-pub mod Sums
-pub mod Weights
+pub mod inner

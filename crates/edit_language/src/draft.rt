@@ -1,17 +1,17 @@
-ghost use Rattle.std.specs.Prelude.{◌≡◌, ◌+◌, ◌<◌, ◌^◌, None, IfErr, IfOk, OnOk, length};
+ghost use Rattle.std.specs.Prelude.{◌≡◌, ◌+◌, ◌<◌, ◌^◌, None, false, IfErr, IfOk, OnOk, length};
 ghost use Rattle.edit_model.specs.Surveys.{IsWellFormed};
 ghost use Rattle.rule_grammar.specs.Names.{GivesNames};
-ghost use Rattle.edit_language.specs.Faults.{declaration_fault, fault_of, rule_fault};
+ghost use Rattle.edit_language.specs.Faults.{has_fault};
 ghost use Rattle.edit_language.specs.Grammar.{Adds, no_statements};
 ghost use Rattle.edit_language.specs.Meaning.{extended};
-ghost use Rattle.edit_language.specs.Reading.{IsFaultOfLine, IsFaultOfStatement};
-ghost use Rattle.edit_language.specs.declared.fault.RulesFault.TheVariants as faults;
+ghost use Rattle.edit_language.specs.inner.FirstFault.{declaration_fault, fault_of, rule_fault};
+ghost use Rattle.edit_language.specs.inner.LineFaults.{IsFaultOfLine, IsFaultOfStatement};
 
 use crate::fault::{RulesFault, RulesKind};
 use crate::first_fault::fault_of;
 use crate::line::{has_bad_byte, read_part};
 use crate::meaning::{field_of, rule_of};
-use edit_model::{Field, Rule, Survey, SurveyFault};
+use edit_model::{Field, Rule, Survey};
 use foundation::OutOfMemory;
 use rule_grammar::{Declaration, LineText, RuleText, Statement, read_line};
 use std::alloc::Global;
@@ -86,7 +86,7 @@ impl Draft {
         number: u32,
     ) -> Result<(), RulesFault>
         requires { GivesNames statement }
-        ensures faultless { OnOk result (fault_of self.old statement ≡ None) }
+        ensures faultless { OnOk result ((kind : RulesKind) → has_fault self.old statement kind ≡ false) }
         ensures extended { OnOk result (self.new ≡ extended self.old statement) }
         ensures fault { IfErr result (λ fault. IsFaultOfStatement statement self.old number fault) }
     {
@@ -146,15 +146,10 @@ impl Draft {
     }
 
     /// The survey of all lines.
-    pub(crate) fn into_survey(self, alloc: Global) -> Result<Survey, RulesFault>
+    pub(crate) fn into_survey(self, alloc: Global) -> Result<Survey, OutOfMemory>
         ensures survey { IfOk result (λ survey. survey ≡ self) }
         ensures well_formed { IfOk result (λ survey. IsWellFormed survey) }
-        ensures fault { IfErr result (λ fault. fault ≡ faults.OutOfMemory) }
     {
-        match Survey::new(alloc, self.fields, self.rules) {
-            Ok(survey) => Ok(survey),
-            Err(SurveyFault::OutOfMemory) => Err(RulesFault::OutOfMemory),
-            Err(SurveyFault::Malformed) => unreachable!(),
-        }
+        Survey::of(alloc, self.fields, self.rules)
     }
 }

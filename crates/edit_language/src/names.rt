@@ -1,7 +1,8 @@
 //! The fields and codes that a statement names.
 ghost use Rattle.std.specs.Prelude.{◌≡◌, ◌||◌, IfSome, length, option_map};
 ghost use Rattle.std.specs.List.{list_all};
-ghost use Rattle.edit_language.specs.Faults.{has_known_codes, is_code_name, is_known_sum, is_known_term, is_known_test, is_number_name};
+ghost use Rattle.edit_language.specs.Faults.{is_code_name, is_known_sum, is_known_term, is_known_test, is_number_name};
+ghost use Rattle.edit_language.specs.inner.FirstFault.{has_known_codes};
 ghost use Rattle.edit_language.specs.Meaning.{codes_in, codes_of, field_named, is_listed, listed, number_named};
 
 use edit_model::{Field, Kind, Name};

@@ -7,8 +7,6 @@ mod codes;
 mod fields;
 mod rules;
 mod sums;
-#[cfg(test)]
-mod tests;
 
 use edit_model::{Field, Rule, Survey};
 use fields::write_field;

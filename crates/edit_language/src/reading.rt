@@ -30,5 +30,6 @@ pub fn read_rules(alloc: Global, bytes: &[u8]) -> Result<Survey, RulesFault>
         rest = after;
     }
     draft.take_last_line(alloc, rest, number)?;
-    draft.into_survey(alloc)
+    let survey = draft.into_survey(alloc)?;
+    Ok(survey)
 }

@@ -4,7 +4,7 @@ ghost use Rattle.std.specs.List.{list_any};
 ghost use Rattle.std.specs.Ordering.{int_eq};
 ghost use Rattle.edit_language.specs.Faults.{is_large_sum, is_large_term};
 ghost use Rattle.edit_language.specs.Meaning.{constant_in, factor_in, moved_constant, moved_factor, moved_terms, signed, terms_of};
-ghost use Rattle.edit_language.specs.Sums.{part_in, parts_added, parts_moved};
+ghost use Rattle.edit_language.specs.inner.Sums.{part_in, parts_added, parts_moved};
 
 use crate::numbers::{is_above, number_in};
 use edit_model::{Field, Name, Term};

@@ -8,7 +8,8 @@ use Rattle.std.proofs.lemmas.List.{length-drop, take_all}
 use Rattle.std.proofs.lemmas.List.Quantifiers.{position-Some}
 use Rattle.std.proofs.lemmas.Str.Parse.{digit_at}
 use Rattle.std.specs.Str.Parse.{AllDigits, digits_value}
-use Rattle.record_text.specs.Numerals.{AreDigits, IsDecimal, IsQuotient, IsUnsigned, is_mark}
+use Rattle.record_text.specs.Numerals.{AreDigits, IsDecimal, IsQuotient, IsUnsigned}
+use Rattle.record_text.specs.inner.Marks.{is_mark}
 
 -- ---- sizes
 

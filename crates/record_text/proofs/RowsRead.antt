@@ -5,7 +5,7 @@ use Rattle.csv.proofs.ReadFacts.{reached-more}
 use Rattle.edit_model.specs.declared.field.Field.{Field}
 use Rattle.edit_model.specs.declared.value.Value.{Value}
 use Rattle.record_text.specs.Faults.{row_fault}
-use Rattle.record_text.specs.Places.{AreRowsFrom, IsAt, IsRowFault, Place, Reads}
+use Rattle.record_text.specs.inner.Places.{AreRowsFrom, IsAt, IsRowFault, Place, Reads}
 use Rattle.record_text.specs.Values.{AreRows, AreValues}
 use Rattle.record_text.specs.declared.fault.SheetFault.{SheetFault}
 use Rattle.record_text.specs.declared.fault.SheetFault.TheVariants.{RowLength, TooManyRows}

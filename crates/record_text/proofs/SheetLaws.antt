@@ -1,11 +1,12 @@
 -- What a sheet, and a fault, of a record file say: there is one of them, and callers may rely on what follows here.
 use Rattle.std.proofs.Common.{◌≡◌, ◌≢◌, ◌∙◌, sym, ap, ℕ, ◌<◌, ◌≤◌, List, ◌∷◌, length, Some, Result, Ok, Err, All, AllPairs, arith}
-use Rattle.std.specs.Result.{IfErr}
+use Rattle.std.specs.Result.{IfErr, IfOk}
 use Rattle.std.specs.List.{AllByRecursion}
 use Rattle.csv.specs.Reading.{default_config, strip_bom}
 use Rattle.csv.specs.declared.parser.State.TheVariants as st
 use Rattle.edit_model.specs.Rows.{IsRow}
 use Rattle.edit_model.specs.declared.field.Field.{Field}
+use Rattle.edit_model.specs.declared.value.Value.{Value}
 use Rattle.record_text.specs.Faults.{sheet_fault}
 use Rattle.record_text.specs.Sheets.{AreRecordsOf, IsSheet, IsSheetFault, SheetParts}
 use Rattle.record_text.specs.Texts.{AreEquallyLong}
@@ -54,6 +55,24 @@ same_sheet fields bytes a b is other =
     let header : a.header ≡ b.header = cc (is.header, other.header, first) in
     let columns : a.columns ≡ b.columns = same_columns fields b.header a.columns b.columns (rw header at is.columns) other.columns in
     (header, columns, raws, rows_once fields b.columns b.raws a.rows b.rows (rw (columns, raws) at is.values) other.values)
+
+-- so the sheet that is answered is the only one
+same_parts : (a b : SheetParts) → a.header ≡ b.header → a.columns ≡ b.columns → a.raws ≡ b.raws → a.rows ≡ b.rows → a ≡ b
+same_parts a b header columns raws rows =
+    ap (λ (h : List (List ℕ)). record { header = h; columns = a.columns; raws = a.raws; rows = a.rows }) header
+    ∙ ap (λ (cs : List ℕ). record { header = b.header; columns = cs; raws = a.raws; rows = a.rows }) columns
+    ∙ ap (λ (ts : List (List (List ℕ))). record { header = b.header; columns = b.columns; raws = ts; rows = a.rows }) raws
+    ∙ ap (λ (vs : List (List Value)). record { header = b.header; columns = b.columns; raws = b.raws; rows = vs }) rows
+
+pub only_by_sheet : (fields : List Field) (bytes : List ℕ) (r : Result SheetParts SheetFault) → IfOk r (λ sheet. IsSheet fields bytes sheet) → IfOk r (λ sheet. (other : SheetParts) → IsSheet fields bytes other → other ≡ sheet)
+only_by_sheet fields bytes (Ok sheet) is = λ other also. let (header, columns, raws, rows) = same_sheet fields bytes other sheet also is in same_parts other sheet header columns raws rows
+only_by_sheet fields bytes (Err e) is = tt
+
+-- and so is the fault
+pub first_by_fault : {T : Type 0} (fields : List Field) (bytes : List ℕ) (r : Result T SheetFault) → IfErr r (λ e. e ≢ OutOfMemory → IsSheetFault fields bytes e)
+    → IfErr r (λ e. e ≢ OutOfMemory → (other : SheetFault) → IsSheetFault fields bytes other → other ≡ e)
+first_by_fault fields bytes (Ok t) found = tt
+first_by_fault fields bytes (Err e) found = λ known other also. same_sheet_fault fields bytes other e also (found known)
 
 -- ---- what a sheet is like
 

@@ -5,7 +5,7 @@ use Rattle.csv.specs.declared.parser.State.TheVariants as st
 use Rattle.edit_model.specs.declared.field.Field.{Field}
 use Rattle.record_text.specs.Columns.{StandIn}
 use Rattle.record_text.specs.Faults.{column_fault, sheet_fault}
-use Rattle.record_text.specs.Places.{AreRowsFrom, IsRowFault, Place}
+use Rattle.record_text.specs.inner.Places.{AreRowsFrom, IsRowFault, Place}
 use Rattle.record_text.specs.Sheets.{AreRecordsOf, IsSheet, IsSheetFault, SheetParts}
 use Rattle.record_text.specs.Trimming.{header_of}
 use Rattle.record_text.specs.declared.fault.SheetFault.{SheetFault}

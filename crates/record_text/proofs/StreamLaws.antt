@@ -4,7 +4,7 @@ use Rattle.csv.specs.Reading.{ReadRecord, Reached, default_config, is_flexible, 
 use Rattle.csv.specs.declared.parser.State.{State}
 use Rattle.csv.specs.declared.reader.Reader.{Reader}
 use Rattle.csv.proofs.ReadFacts.{rows-end, rows-more}
-use Rattle.record_text.specs.Places.{IsAt, Place, Reads}
+use Rattle.record_text.specs.inner.Places.{IsAt, Place, Reads}
 
 -- the bytes that a slice, read as a stream, has left
 abbrev pub left_of : Bor (List ℕ) → Option (List ℕ)

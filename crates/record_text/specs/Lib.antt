@@ -2,8 +2,8 @@ pub mod Columns
 pub mod Faults
 pub mod Messages
 pub mod Numerals
-pub mod Places
 pub mod Sheets
 pub mod Texts
 pub mod Trimming
 pub mod Values
+pub mod inner

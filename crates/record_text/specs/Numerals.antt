@@ -22,10 +22,6 @@ pub record IsQuotient (above below : List ℕ) (numerator denominator : ℕ) : T
   pub limits : (1 ≤ denominator) × (denominator ≤ 1000000)
   pub value : (numerator ≡ digits_value 10 above) × (denominator ≡ digits_value 10 below)
 
--- a point or a stroke
-abbrev pub is_mark : ℕ → Bool
-is_mark b = (b == 46) || (b == 47)
-
 -- a numeral without its sign: digits, digits with a point among them, or a quotient
 abbrev pub IsUnsigned : List ℕ → ℕ → ℕ → Type 0
 IsUnsigned text numerator denominator =

@@ -1,6 +1,6 @@
 ghost use Rattle.std.specs.Prelude.{◌≡◌, ◌≢◌, ◌<◌, All, IfErr, IfOk, length};
 ghost use Rattle.edit_model.specs.Surveys.{IsKind};
-ghost use Rattle.record_text.specs.Places.{AreRowsFrom, IsAt, IsRowFault, Place};
+ghost use Rattle.record_text.specs.inner.Places.{AreRowsFrom, IsAt, IsRowFault, Place};
 ghost use Rattle.record_text.specs.Sheets.{IsSheet, IsSheetFault, SheetParts};
 ghost use Rattle.record_text.specs.Values.{AreValues};
 
@@ -22,11 +22,21 @@ const MOST_ROWS: u32 = 200_000;
 /// Reads a record file: the first record is the header, in which each field of the survey stands in one
 /// column, and the others are the rows. Columns stand in any order, and further ones are kept. A field's
 /// text that is no numeral or no code of the field is Bad. The fault is the first in the order of
-/// [`SheetFault`].
+/// [`SheetFault`]. The bytes have no other sheet, and no other fault.
 pub fn read_records(alloc: Global, survey: &Survey, bytes: &[u8]) -> Result<Sheet, SheetFault>
     ensures sheet { IfOk result (λ sheet. IsSheet survey.now.fields bytes.now sheet) }
     ensures fault { IfErr result (λ e. e ≢ SheetFault.OutOfMemory → IsSheetFault survey.now.fields bytes.now e) }
+    ensures only { IfOk result (λ sheet. (other : SheetParts) → IsSheet survey.now.fields bytes.now other → other ≡ sheet) }
+    ensures first { IfErr result (λ e. e ≢ SheetFault.OutOfMemory → (other : SheetFault) → IsSheetFault survey.now.fields bytes.now other → other ≡ e) }
     ensures unread { IfErr result (λ e. e ≢ SheetFault.OutOfMemory → (sheet : SheetParts) → ¬ IsSheet survey.now.fields bytes.now sheet) }
+{
+    read_sheet(alloc, survey, bytes)
+}
+
+/// The header, the columns of the fields in it, and all rows.
+fn read_sheet(alloc: Global, survey: &Survey, bytes: &[u8]) -> Result<Sheet, SheetFault>
+    ensures sheet { IfOk result (λ sheet. IsSheet survey.now.fields bytes.now sheet) }
+    ensures fault { IfErr result (λ e. e ≢ SheetFault.OutOfMemory → IsSheetFault survey.now.fields bytes.now e) }
 {
     let mut reader = open_records(alloc, without_mark(bytes));
     let mut csv_record = ByteRecord::new(alloc);

@@ -2,7 +2,7 @@ ghost use Rattle.std.specs.Prelude.{◌≡◌, IfOk};
 ghost use Rattle.csv.specs.Reading.{strip_bom};
 ghost use Rattle.csv.specs.Records.{fields_of};
 ghost use Rattle.csv.specs.declared.parser.State.TheVariants as st;
-ghost use Rattle.record_text.specs.Places.{IsAt, Place, Reads};
+ghost use Rattle.record_text.specs.inner.Places.{IsAt, Place, Reads};
 
 use csv::{ByteRecord, Reader, ReaderBuilder};
 use foundation::OutOfMemory;

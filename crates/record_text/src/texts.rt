@@ -15,14 +15,12 @@ pub struct Texts {
 }
 
 impl Model for Texts {
-    ghost use Rattle.std.specs.Prelude.{◌≡◌, ℕ, List, []};
-    ghost use Rattle.csv.specs.Records.{fields_of, partial_of};
+    ghost use Rattle.std.specs.Prelude.{ℕ, List};
+    ghost use Rattle.csv.specs.Records.{fields_of};
 
     ghost Value = { List (List ℕ) };
 
     ghost view = { λ t. fields_of t.record };
-
-    ghost invariant = { λ t. partial_of t.record ≡ [] };
 }
 
 impl Texts {
@@ -61,15 +59,18 @@ impl Texts {
         Ok(Texts { record: copy })
     }
 
-    /// Adds a text at the end. Where memory is refused, no text is left.
+    /// Adds a text at the end. Where memory is refused, the texts are as before.
+    ///
+    /// csv keeps the bytes of a text for whose end it had no room. So a place is made first, and taken off
+    /// again with all such bytes.
     pub fn push(&mut self, text: &[u8]) -> Result<(), OutOfMemory>
         ensures added { OnOk result (self.new ≡ self.old ++ text.now ∷ []) }
-        ensures refused { OnErr result (self.new ≡ []) }
+        ensures refused { OnErr result (self.new ≡ self.old) }
     {
-        if self.record.push_field(text).is_err() {
-            self.record.clear();
-            return Err(OutOfMemory);
-        }
+        let count = self.record.len();
+        self.record.push_field(b"")?;
+        self.record.truncate(count);
+        self.record.push_field(text)?;
         Ok(())
     }
 

@@ -1,6 +1,6 @@
 use Rattle.std.proofs.lemmas.Result.{err_from_is_err_and}
 use Rattle.edit_language.specs.Reading.{IsFaultOf, IsNoRuleText, IsOnlyFaultOf}
-use Rattle.edit_language.proofs.GrammarLaws.{handed_on, made_of, read_all, read_more, told_last, told_next}
+use Rattle.edit_language.proofs.GrammarLaws.{handed_on, read_all, read_more, rule_text_once, told_last, told_next}
 use Rattle.edit_language.proofs.reading.read_rules.Goals as goal
 
 pub returns-in_err-take_line-clause-fault : goal.returns-in_err-take_line-clause-fault
@@ -45,9 +45,8 @@ returns-in_err-take_last_line-clause-unread c =
 pub returns-clause-survey : goal.returns-clause-survey
 returns-clause-survey c =
     let text = read_all c.args.bytes.now c.loop-line.rest.now c.loop-line.number c.loop-line.draft c.take_last_line.new.self c.loop-line.invariant c.in_default.ensures.none c.in_ok-take_last_line.ensures.adds in
-    (made_of c.into_survey.result c.args.bytes.now c.take_last_line.new.self c.into_survey.ensures.survey text).0
+    rw c.in_ok-survey.ensures.survey text
 
 pub returns-clause-only : goal.returns-clause-only
-returns-clause-only c =
-    let text = read_all c.args.bytes.now c.loop-line.rest.now c.loop-line.number c.loop-line.draft c.take_last_line.new.self c.loop-line.invariant c.in_default.ensures.none c.in_ok-take_last_line.ensures.adds in
-    (made_of c.into_survey.result c.args.bytes.now c.take_last_line.new.self c.into_survey.ensures.survey text).1
+returns-clause-only c = λ other also.
+    rule_text_once c.args.bytes.now other c.in_ok-survey.survey also (returns-clause-survey c)

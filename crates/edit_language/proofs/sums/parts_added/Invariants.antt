@@ -1,7 +1,7 @@
 use Rattle.std.proofs.Common.{◌≡◌, ◌*◌, ◌^◌, ◌≤◌, ◌+ℤ◌, drop}
 use Rattle.std.specs.Prelude.{unsigned_abs}
 use Rattle.std.specs.Option.{option_map}
-use Rattle.edit_language.specs.Sums.{parts_added}
+use Rattle.edit_language.specs.inner.Sums.{parts_added}
 use Rattle.edit_language.proofs.sums.parts_added.Given as goal
 
 abbrev pub invariant-loop-term : goal.invariant-loop-term

@@ -1,7 +1,7 @@
 use Rattle.std.proofs.Common.{◌≡◌, None, subst, sym}
 use Rattle.edit_model.specs.Parts.{SurveyParts, parts_of}
 use Rattle.rule_grammar.specs.declared.statement.Statement.TheVariants as statement
-use Rattle.edit_language.specs.Faults.{declaration_fault}
+use Rattle.edit_language.specs.inner.FirstFault.{declaration_fault}
 use Rattle.edit_language.proofs.SurveyLaws.{extended_well_formed}
 use Rattle.edit_language.proofs.draft.Draft.declare.Goals as goal
 

@@ -15,9 +15,6 @@ loop-text-preserved c =
     let shown = rw c.is_empty.ensures at c.header_text.ensures in
     (ap (λ (row : _). row.now) step.0, added ∙ header_more _ _ c.in-Some.text.now c.header_text.result.now c.loop-text.text-iterator.at c.next.new.self.at inv.1 step.1 shown step.2, c.in_ok-push_field.ensures.partial)
 
-pub invariant_of-result : goal.invariant_of-result
-invariant_of-result c = c.loop-text.invariant.2
-
 pub returns : goal.returns
 returns c =
     let inv = c.loop-text.invariant in

@@ -14,9 +14,6 @@ loop-text-preserved c =
     let added = rw inv.2 at c.in_ok-push_field.ensures.fields in
     (ap (λ (row : _). row.now) step.0, added ∙ copied_more _ _ c.in-Some.text.now c.loop-text.text-iterator.at c.next.new.self.at inv.1 step.1 step.2, c.in_ok-push_field.ensures.partial)
 
-pub invariant_of-result : goal.invariant_of-result
-invariant_of-result c = c.loop-text.invariant.2
-
 pub returns : goal.returns
 returns c =
     let inv = c.loop-text.invariant in

@@ -1,0 +1,4 @@
+pub mod FirstFault
+pub mod LineFaults
+pub mod Sums
+pub mod Weights
