@@ -1,18 +1,32 @@
 -- What a run's answer shows of the files that the desk held.
-use Rattle.std.proofs.Common.{◌≡◌, ◌≢◌, ◌⊎◌, ℕ, ◌≤◌, false, List, [], ◌∷◌, ◌++◌, Option, Some, None, IfSome, length, inl, inr, ap, append_assoc, arith, refl, subst, sym, ◌∙◌}
+use Rattle.std.proofs.Common.{◌≡◌, ◌≢◌, ◌⊎◌, ℕ, ◌≤◌, List, [], ◌∷◌, ◌++◌, Option, Some, None, Result, Ok, Err, IfErr, IsErrAnd, IsErrOf, IfSome, length, map, string_bytes, String, inl, inr, ap, append_assoc, arith, refl, subst, sym, ◌∙◌}
+use Rattle.std.specs.declared.alloc.Global.{Global}
 use Rattle.edit_language.specs.Grammar.{IsRuleText}
+use Rattle.edit_language.specs.Reading.{IsNoRuleText}
+use Rattle.edit_language.specs.declared.fault.RulesFault.{RulesFault}
+use Rattle.edit_language.specs.declared.fault.RulesFault.TheVariants as rules
 use Rattle.edit_model.specs.Bounds.{IsBounded}
 use Rattle.edit_model.specs.Parts.{SurveyParts}
 use Rattle.edit_model.specs.declared.field.Field.{Field}
 use Rattle.record_text.specs.Sheets.{SheetParts, IsSheet}
 use Rattle.record_text.specs.declared.fault.SheetFault.{SheetFault}
 use Rattle.record_text.specs.declared.fault.SheetFault.TheVariants as sheet
-use Rattle.edit_program.specs.Desk.{Asked, BothTell, Files, HoldsPrefix, IsLonger, PutsOnRecord, SameElsewhere}
+use Rattle.edit_program.specs.Desk.{Asked, BothTell, Fetches, Files, HoldsPrefix, IsLonger, PutsOnRecord, SameElsewhere, Stores}
+use Rattle.edit_program.specs.Refusals.{cause_status, fetch_refusal, refusal_status, rules_refusal, sheet_refusal, store_refusal}
 use Rattle.edit_program.specs.Released.{HasReleased, IsRelease}
-use Rattle.edit_program.specs.Run.{most_bytes, HoldsText, HoldsRules, HoldsNoRules, HoldsRecords, HoldsNoRecords, HoldsServed, HasStoredNothing, IsCutOff, IsEdited, IsRecordsRefusal, IsRulesRefusal, ReadsAs, Refuses, ShowsCause, is_refusal, sheet_status}
-use Rattle.edit_program.specs.Words.{ForNames, IsEdit}
+use Rattle.edit_program.specs.Run.{most_bytes, HoldsText, HoldsRules, HoldsNoRules, HoldsRecords, HoldsNoRecords, HoldsServed, IsCutOff, IsEdited, IsOrEndedBefore, ReadsAs, Refuses, ShowsCause}
+use Rattle.edit_program.specs.Words.{ForNames, IsEdit, Names}
+use Rattle.edit_program.specs.inner.Ends.{end_of}
+use Rattle.edit_program.specs.declared.desk.calls.FetchError.{FetchError}
+use Rattle.edit_program.specs.declared.desk.calls.FetchError.TheVariants as fetch
+use Rattle.edit_program.specs.declared.desk.calls.StoreError.{StoreError}
+use Rattle.edit_program.specs.declared.desk.calls.StoreError.TheVariants as store
+use Rattle.edit_program.specs.declared.refusal.Cause.{Cause}
+use Rattle.edit_program.specs.declared.refusal.Cause.TheVariants.{TooLong, Rules, Unbuilt, Records}
+use Rattle.edit_program.specs.declared.refusal.Refusal.{Refusal}
+use Rattle.edit_program.specs.declared.refusal.Refusal.TheVariants as refusal
 use Rattle.edit_program.specs.declared.status.Status.{Status}
-use Rattle.edit_program.specs.declared.status.Status.TheVariants.{Done, SomeUnresolved, Usage, Rules, Records, ReadFault, WriteFault, OutOfMemory, TooLong, Unbuilt}
+use Rattle.edit_program.specs.declared.status.Status.TheVariants as status
 
 -- there is one list of bytes under a name
 same_bytes : (held : Option (List ℕ)) (a b : List ℕ) → held ≡ Some a → held ≡ Some b → a ≡ b
@@ -38,189 +52,192 @@ one_survey files name a b ha hb = hb.claim.only a (same_claim files name ha hb).
 not_unread_records : (files : Files) (name : List ℕ) (a b : List Field) (sheet : SheetParts) → a ≡ b → HoldsRecords files name a sheet → HoldsNoRecords files name b → ⊥
 not_unread_records files name a b sheet same read unread = unread.claim sheet (subst (λ (fields : List Field). IsSheet fields unread.bytes sheet) same (same_claim files name read unread))
 
+-- the file was fetched, within the limit, as these bytes
+abbrev pub Fetched : Files → List ℕ → List ℕ → Type 0
+Fetched files name bytes = (files name ≡ Some bytes) × (length bytes ≤ most_bytes)
+
+-- a fetched file meets a claim that its bytes meet
+holds : {P : List ℕ → Type 0} (files : Files) (name bytes : List ℕ) → Fetched files name bytes → P bytes → HoldsText files name P
+holds files name bytes held claim = record { bytes = bytes; held = held.0; short = held.1; claim = claim }
+
 -- where the rules are served and the records were read, no file is refused
-read_not_refused : (files : Files) (rules records : List ℕ) (survey : SurveyParts) (sheet : SheetParts) (s : Status) → HoldsServed files rules survey → HoldsRecords files records survey.fields sheet → Refuses files rules records s → ⊥
-read_not_refused files rules records survey sheet TooLong hr hs (inl long) = not_longer files rules hr.0 long
-read_not_refused files rules records survey sheet TooLong hr hs (inr (other, held, long)) = not_longer files records hs long
-read_not_refused files rules records survey sheet Rules hr hs unread = not_unread files rules survey hr.0 unread
-read_not_refused files rules records survey sheet Unbuilt hr hs (other, held, unbounded) = unbounded (subst IsBounded (one_survey files rules survey other hr.0 held) hr.1)
-read_not_refused files rules records survey sheet Records hr hs (other, held, unread) = not_unread_records files records survey.fields other.fields sheet (ap (λ (s : SurveyParts). s.fields) (one_survey files rules survey other hr.0 held.0)) hs unread
-read_not_refused files rules records survey sheet Done hr hs h = h
-read_not_refused files rules records survey sheet SomeUnresolved hr hs h = h
-read_not_refused files rules records survey sheet Usage hr hs h = h
-read_not_refused files rules records survey sheet ReadFault hr hs h = h
-read_not_refused files rules records survey sheet WriteFault hr hs h = h
-read_not_refused files rules records survey sheet OutOfMemory hr hs h = h
+read_not_refused : (files : Files) (names : Names) (survey : SurveyParts) (sheet : SheetParts) (c : Cause) → HoldsServed files names.rules survey → HoldsRecords files names.records survey.fields sheet → Refuses files names c → ⊥
+read_not_refused files names survey sheet TooLong hr hs (inl long) = not_longer files names.rules hr.0 long
+read_not_refused files names survey sheet TooLong hr hs (inr (other, held, long)) = not_longer files names.records hs long
+read_not_refused files names survey sheet Rules hr hs unread = not_unread files names.rules survey hr.0 unread
+read_not_refused files names survey sheet Unbuilt hr hs (other, held, unbounded) = unbounded (subst IsBounded (one_survey files names.rules survey other hr.0 held) hr.1)
+read_not_refused files names survey sheet Records hr hs (other, held, unread) = not_unread_records files names.records survey.fields other.fields sheet (ap (λ (s : SurveyParts). s.fields) (one_survey files names.rules survey other hr.0 held.0)) hs unread
 
--- a rule file that is too long is refused for that alone
-long_alone : (files : Files) (rules records : List ℕ) (s : Status) → IsLonger files rules most_bytes → Refuses files rules records s → s ≡ TooLong
-long_alone files rules records TooLong long h = refl
-long_alone files rules records Rules long h = absurd (not_longer files rules h long)
-long_alone files rules records Unbuilt long (other, held, unbounded) = absurd (not_longer files rules held long)
-long_alone files rules records Records long (other, held, unread) = absurd (not_longer files rules held.0 long)
-long_alone files rules records Done long h = absurd h
-long_alone files rules records SomeUnresolved long h = absurd h
-long_alone files rules records Usage long h = absurd h
-long_alone files rules records ReadFault long h = absurd h
-long_alone files rules records WriteFault long h = absurd h
-long_alone files rules records OutOfMemory long h = absurd h
+-- rules that are served are not refused
+not_unserved : (files : Files) (name : List ℕ) (survey other : SurveyParts) → HoldsServed files name survey → HoldsRules files name other → ¬ IsBounded other → ⊥
+not_unserved files name survey other hr held unbounded = unbounded (subst IsBounded (one_survey files name survey other hr.0 held) hr.1)
 
--- and so is one without a reading
-unread_alone : (files : Files) (rules records : List ℕ) (s : Status) → HoldsNoRules files rules → Refuses files rules records s → s ≡ Rules
-unread_alone files rules records TooLong unread (inl long) = absurd (not_longer files rules unread long)
-unread_alone files rules records TooLong unread (inr (other, held, long)) = absurd (not_unread files rules other held.0 unread)
-unread_alone files rules records Rules unread h = refl
-unread_alone files rules records Unbuilt unread (other, held, unbounded) = absurd (not_unread files rules other held unread)
-unread_alone files rules records Records unread (other, held, none) = absurd (not_unread files rules other held.0 unread)
-unread_alone files rules records Done unread h = absurd h
-unread_alone files rules records SomeUnresolved unread h = absurd h
-unread_alone files rules records Usage unread h = absurd h
-unread_alone files rules records ReadFault unread h = absurd h
-unread_alone files rules records WriteFault unread h = absurd h
-unread_alone files rules records OutOfMemory unread h = absurd h
+-- files are refused for one cause
+one_cause : (files : Files) (names : Names) (a b : Cause) → Refuses files names a → Refuses files names b → a ≡ b
+one_cause files names TooLong TooLong h k = refl
+one_cause files names TooLong Rules (inl long) k = absurd (not_longer files names.rules k long)
+one_cause files names TooLong Rules (inr (survey, hr, long)) k = absurd (not_unread files names.rules survey hr.0 k)
+one_cause files names TooLong Unbuilt (inl long) (other, held, unbounded) = absurd (not_longer files names.rules held long)
+one_cause files names TooLong Unbuilt (inr (survey, hr, long)) (other, held, unbounded) = absurd (not_unserved files names.rules survey other hr held unbounded)
+one_cause files names TooLong Records (inl long) (other, held, unread) = absurd (not_longer files names.rules held.0 long)
+one_cause files names TooLong Records (inr (survey, hr, long)) (other, held, unread) = absurd (not_longer files names.records unread long)
+one_cause files names Rules Rules h k = refl
+one_cause files names Rules Unbuilt h (other, held, unbounded) = absurd (not_unread files names.rules other held h)
+one_cause files names Rules Records h (other, held, unread) = absurd (not_unread files names.rules other held.0 h)
+one_cause files names Rules TooLong h (inl long) = absurd (not_longer files names.rules h long)
+one_cause files names Rules TooLong h (inr (survey, hr, long)) = absurd (not_unread files names.rules survey hr.0 h)
+one_cause files names Unbuilt Unbuilt h k = refl
+one_cause files names Unbuilt Rules (other, held, unbounded) k = absurd (not_unread files names.rules other held k)
+one_cause files names Unbuilt Records (other, held, unbounded) (survey, hr, unread) = absurd (not_unserved files names.rules survey other hr held unbounded)
+one_cause files names Unbuilt TooLong (other, held, unbounded) (inl long) = absurd (not_longer files names.rules held long)
+one_cause files names Unbuilt TooLong (other, held, unbounded) (inr (survey, hr, long)) = absurd (not_unserved files names.rules survey other hr held unbounded)
+one_cause files names Records Records h k = refl
+one_cause files names Records Rules (survey, hr, unread) k = absurd (not_unread files names.rules survey hr.0 k)
+one_cause files names Records Unbuilt (survey, hr, unread) (other, held, unbounded) = absurd (not_unserved files names.rules survey other hr held unbounded)
+one_cause files names Records TooLong (survey, hr, unread) (inl long) = absurd (not_longer files names.rules hr.0 long)
+one_cause files names Records TooLong (survey, hr, unread) (inr (other, held, long)) = absurd (not_longer files names.records unread long)
 
--- and one whose survey is not served
-unserved_alone : (files : Files) (rules records : List ℕ) (survey : SurveyParts) (s : Status) → HoldsRules files rules survey → (¬ IsBounded survey) → Refuses files rules records s → s ≡ Unbuilt
-unserved_alone files rules records survey TooLong hr not_served (inl long) = absurd (not_longer files rules hr long)
-unserved_alone files rules records survey TooLong hr not_served (inr (other, held, long)) = absurd (not_served (subst IsBounded (one_survey files rules other survey held.0 hr) held.1))
-unserved_alone files rules records survey Rules hr not_served h = absurd (not_unread files rules survey hr h)
-unserved_alone files rules records survey Unbuilt hr not_served h = refl
-unserved_alone files rules records survey Records hr not_served (other, held, none) = absurd (not_served (subst IsBounded (one_survey files rules other survey held.0 hr) held.1))
-unserved_alone files rules records survey Done hr not_served h = absurd h
-unserved_alone files rules records survey SomeUnresolved hr not_served h = absurd h
-unserved_alone files rules records survey Usage hr not_served h = absurd h
-unserved_alone files rules records survey ReadFault hr not_served h = absurd h
-unserved_alone files rules records survey WriteFault hr not_served h = absurd h
-unserved_alone files rules records survey OutOfMemory hr not_served h = absurd h
+-- the cause that a status tells, where it tells one
+cause_of : Status → Option Cause
+cause_of status.TooLong = Some TooLong
+cause_of status.Rules = Some Rules
+cause_of status.Unbuilt = Some Unbuilt
+cause_of status.Records = Some Records
+cause_of answer = None
 
--- a record file that is too long is refused for that alone
-records_long_alone : (files : Files) (rules records : List ℕ) (survey : SurveyParts) (s : Status) → HoldsServed files rules survey → IsLonger files records most_bytes → Refuses files rules records s → s ≡ TooLong
-records_long_alone files rules records survey TooLong hr long h = refl
-records_long_alone files rules records survey Rules hr long h = absurd (not_unread files rules survey hr.0 h)
-records_long_alone files rules records survey Unbuilt hr long (other, held, unbounded) = absurd (unbounded (subst IsBounded (one_survey files rules survey other hr.0 held) hr.1))
-records_long_alone files rules records survey Records hr long (other, held, none) = absurd (not_longer files records none long)
-records_long_alone files rules records survey Done hr long h = absurd h
-records_long_alone files rules records survey SomeUnresolved hr long h = absurd h
-records_long_alone files rules records survey Usage hr long h = absurd h
-records_long_alone files rules records survey ReadFault hr long h = absurd h
-records_long_alone files rules records survey WriteFault hr long h = absurd h
-records_long_alone files rules records survey OutOfMemory hr long h = absurd h
+told : (c : Cause) → cause_of (cause_status c) ≡ Some c
+unfolding cause_of
+told TooLong = refl
+told Rules = refl
+told Unbuilt = refl
+told Records = refl
 
--- and so is one without a reading
-records_unread_alone : (files : Files) (rules records : List ℕ) (survey : SurveyParts) (s : Status) → HoldsServed files rules survey → HoldsNoRecords files records survey.fields → Refuses files rules records s → s ≡ Records
-records_unread_alone files rules records survey TooLong hr unread (inl long) = absurd (not_longer files rules hr.0 long)
-records_unread_alone files rules records survey TooLong hr unread (inr (other, held, long)) = absurd (not_longer files records unread long)
-records_unread_alone files rules records survey Rules hr unread h = absurd (not_unread files rules survey hr.0 h)
-records_unread_alone files rules records survey Unbuilt hr unread (other, held, unbounded) = absurd (unbounded (subst IsBounded (one_survey files rules survey other hr.0 held) hr.1))
-records_unread_alone files rules records survey Records hr unread h = refl
-records_unread_alone files rules records survey Done hr unread h = absurd h
-records_unread_alone files rules records survey SomeUnresolved hr unread h = absurd h
-records_unread_alone files rules records survey Usage hr unread h = absurd h
-records_unread_alone files rules records survey ReadFault hr unread h = absurd h
-records_unread_alone files rules records survey WriteFault hr unread h = absurd h
-records_unread_alone files rules records survey OutOfMemory hr unread h = absurd h
+-- two causes have two statuses
+same_cause : (a b : Cause) → cause_status a ≡ cause_status b → a ≡ b
+same_cause a b e = let p = told a in let q = told b in let r = ap cause_of e in cc
 
--- a refusal that is the only one
-alone : (files : Files) (rules records : List ℕ) (status : Status) → Refuses files rules records status → ((s : Status) → Refuses files rules records s → s ≡ status) → ShowsCause (Some files) rules records status
-alone files rules records status h only = record { only = λ is. h; where_due = λ s due. inl (sym (only s due)) }
+-- what is shown where the files were refused
+pub refused : (files : Files) (names : Names) (c : Cause) → Refuses files names c → ShowsCause files names (cause_status c)
+refused files names c h = record {
+  only = λ other e. subst (Refuses files names) (same_cause c other e) h;
+  where_due = λ other due. inl (ap cause_status (one_cause files names c other h due));
+}
 
--- what is shown where the rules were refused
-pub rules_refused : (files : Option Files) (rules records : List ℕ) (status : Status) → IsRulesRefusal files rules status → ShowsCause files rules records status
-rules_refused None rules records status h = record { only = λ is. tt; where_due = λ s. tt }
-rules_refused (Some f) rules records TooLong h = alone f rules records TooLong (inl h) (λ s due. long_alone f rules records s h due)
-rules_refused (Some f) rules records Rules h = alone f rules records Rules h (λ s due. unread_alone f rules records s h due)
-rules_refused (Some f) rules records Unbuilt h = alone f rules records Unbuilt h (λ s due. unserved_alone f rules records h.0 s h.1 h.2 due)
-rules_refused (Some f) rules records ReadFault h = record { only = λ is. absurd (cc); where_due = λ s due. inr (inl refl) }
-rules_refused (Some f) rules records OutOfMemory h = record { only = λ is. absurd (cc); where_due = λ s due. inr (inr refl) }
-rules_refused (Some f) rules records Records h = absurd h
-rules_refused (Some f) rules records Done h = absurd h
-rules_refused (Some f) rules records SomeUnresolved h = absurd h
-rules_refused (Some f) rules records Usage h = absurd h
-rules_refused (Some f) rules records WriteFault h = absurd h
+-- a status that tells no cause
+tells_none : (files : Files) (names : Names) (answer : Status) → cause_of answer ≡ None → (c : Cause) → answer ≡ cause_status c → Refuses files names c
+tells_none files names answer none c e = let p = told c in let q = ap cause_of e in absurd (cc)
 
--- what is shown where the rules are served and the records were refused
-pub records_refused : (files : Option Files) (rules records : List ℕ) (survey : SurveyParts) (status : Status) → IfSome files (λ f. HoldsServed f rules survey) → IsRecordsRefusal files records survey.fields status → ShowsCause files rules records status
-records_refused None rules records survey status hr h = record { only = λ is. tt; where_due = λ s. tt }
-records_refused (Some f) rules records survey TooLong hr h = alone f rules records TooLong (inr (survey, hr, h)) (λ s due. records_long_alone f rules records survey s hr h due)
-records_refused (Some f) rules records survey Records hr h = alone f rules records Records (survey, hr, h) (λ s due. records_unread_alone f rules records survey s hr h due)
-records_refused (Some f) rules records survey ReadFault hr h = record { only = λ is. absurd (cc); where_due = λ s due. inr (inl refl) }
-records_refused (Some f) rules records survey OutOfMemory hr h = record { only = λ is. absurd (cc); where_due = λ s due. inr (inr refl) }
-records_refused (Some f) rules records survey Rules hr h = absurd h
-records_refused (Some f) rules records survey Unbuilt hr h = absurd h
-records_refused (Some f) rules records survey Done hr h = absurd h
-records_refused (Some f) rules records survey SomeUnresolved hr h = absurd h
-records_refused (Some f) rules records survey Usage hr h = absurd h
-records_refused (Some f) rules records survey WriteFault hr h = absurd h
+-- what is shown where the run ended before the files were judged
+pub not_fetched : (files : Files) (names : Names) → ShowsCause files names status.ReadFault
+unfolding cause_of
+not_fetched files names = record { only = tells_none files names status.ReadFault refl; where_due = λ c due. inr (inl refl) }
 
--- what is shown where both files were read, and the run ended with no refusal
-pub both_read : (files : Option Files) (rules records : List ℕ) (survey : SurveyParts) (sheet : SheetParts) (status : Status) → IfSome files (λ f. HoldsServed f rules survey) → IfSome files (λ f. HoldsRecords f records survey.fields sheet) → is_refusal status ≡ false → ShowsCause files rules records status
-both_read None rules records survey sheet status hr hs other = record { only = λ is. tt; where_due = λ s. tt }
-both_read (Some f) rules records survey sheet status hr hs other = record { only = λ is. absurd (cc); where_due = λ s due. absurd (read_not_refused f rules records survey sheet s hr hs due) }
+pub no_memory : (files : Files) (names : Names) → ShowsCause files names status.OutOfMemory
+unfolding cause_of
+no_memory files names = record { only = tells_none files names status.OutOfMemory refl; where_due = λ c due. inr (inr refl) }
 
--- a fetched file that meets a claim
-pub holds : (P : List ℕ → Type 0) (files : Option Files) (name bytes : List ℕ) → IfSome files (λ f. (f name ≡ Some bytes) × (length bytes ≤ most_bytes)) → P bytes → IfSome files (λ f. HoldsText f name P)
-holds P None name bytes held claim = tt
-holds P (Some f) name bytes held claim = record { bytes = bytes; held = held.0; short = held.1; claim = claim }
+tells_no_cause : (answer : Status) → HasReleased answer ⊎ (answer ≡ status.WriteFault) → cause_of answer ≡ None
+unfolding cause_of
+tells_no_cause answer (inl (inl e)) = ap cause_of e
+tells_no_cause answer (inl (inr e)) = ap cause_of e
+tells_no_cause answer (inr e) = ap cause_of e
 
--- the bytes of the rule file have no reading, or memory was refused
-pub survey_unread : (files : Option Files) (name bytes : List ℕ) (status : Status) → IfSome files (λ f. (f name ≡ Some bytes) × (length bytes ≤ most_bytes)) → (status ≡ OutOfMemory) ⊎ ((status ≡ Rules) × ((survey : SurveyParts) → ¬ IsRuleText bytes survey)) → IsRulesRefusal files name status
-survey_unread files name bytes status held (inl e) = subst (IsRulesRefusal files name) (sym e) tt
-survey_unread files name bytes status held (inr (e, unread)) = subst (IsRulesRefusal files name) (sym e) (holds (λ bytes. (survey : SurveyParts) → ¬ IsRuleText bytes survey) files name bytes held unread)
+-- what is shown where both files were read
+pub both_read : (files : Option Files) (names : Names) (survey : SurveyParts) (sheet : SheetParts) (answer : Status) → IfSome files (λ f. HoldsServed f names.rules survey) → IfSome files (λ f. HoldsRecords f names.records survey.fields sheet) → HasReleased answer ⊎ (answer ≡ status.WriteFault) → IfSome files (λ f. ShowsCause f names answer)
+unfolding cause_of
+both_read None names survey sheet answer hr hs h = tt
+both_read (Some f) names survey sheet answer hr hs h = record {
+  only = tells_none f names answer (tells_no_cause answer h);
+  where_due = λ c due. absurd (read_not_refused f names survey sheet c hr hs due);
+}
+
+-- what is shown where the rule file was not fetched
+pub rules_unfetched : (files : Option Files) (names : Names) (error : FetchError) → IfSome files (λ f. Fetches f names.rules most_bytes (Err error)) → IfSome files (λ f. ShowsCause f names (refusal_status (fetch_refusal error)))
+rules_unfetched None names error h = tt
+rules_unfetched (Some f) names fetch.Failed h = not_fetched f names
+rules_unfetched (Some f) names (fetch.TooLong taken) h = refused f names TooLong (inl h.1)
+rules_unfetched (Some f) names fetch.OutOfMemory h = no_memory f names
+
+-- what is shown where it has no reading
+pub rules_unread : (files : Option Files) (names : Names) (bytes : List ℕ) (fault : RulesFault) → IfSome files (λ f. Fetched f names.rules bytes) → IsNoRuleText bytes fault → IfSome files (λ f. ShowsCause f names (refusal_status (rules_refusal fault)))
+rules_unread None names bytes fault held unread = tt
+rules_unread (Some f) names bytes (rules.At line kind) held unread = refused f names Rules (holds f names.rules bytes held unread)
+rules_unread (Some f) names bytes rules.OutOfMemory held unread = no_memory f names
 
 -- its survey is served
-pub survey_served : (files : Option Files) (name bytes : List ℕ) (survey : SurveyParts) → IfSome files (λ f. (f name ≡ Some bytes) × (length bytes ≤ most_bytes)) → ReadsAs bytes survey → IsBounded survey → IfSome files (λ f. HoldsServed f name survey)
-survey_served None name bytes survey held read served = tt
-survey_served (Some f) name bytes survey held read served = (record { bytes = bytes; held = held.0; short = held.1; claim = read }, served)
+pub rules_served : (files : Option Files) (name bytes : List ℕ) (survey : SurveyParts) → IfSome files (λ f. Fetched f name bytes) → IsRuleText bytes survey → ((other : SurveyParts) → IsRuleText bytes other → other ≡ survey) → IsBounded survey → IfSome files (λ f. HoldsServed f name survey)
+rules_served None name bytes survey held read only served = tt
+rules_served (Some f) name bytes survey held read only served = (holds f name bytes held (record { read = read; only = only }), served)
 
--- its survey is not served
-pub survey_unserved : (files : Option Files) (name bytes : List ℕ) (survey : SurveyParts) → IfSome files (λ f. (f name ≡ Some bytes) × (length bytes ≤ most_bytes)) → ReadsAs bytes survey → ¬ IsBounded survey → IfSome files (λ f. (other : SurveyParts) × HoldsRules f name other × ¬ IsBounded other)
-survey_unserved None name bytes survey held read not_served = tt
-survey_unserved (Some f) name bytes survey held read not_served = (survey, record { bytes = bytes; held = held.0; short = held.1; claim = read }, not_served)
+-- what is shown where it is not served
+pub rules_unserved : (files : Option Files) (names : Names) (bytes : List ℕ) (survey : SurveyParts) → IfSome files (λ f. Fetched f names.rules bytes) → IsRuleText bytes survey → ((other : SurveyParts) → IsRuleText bytes other → other ≡ survey) → (¬ IsBounded survey) → IfSome files (λ f. ShowsCause f names status.Unbuilt)
+rules_unserved None names bytes survey held read only unserved = tt
+rules_unserved (Some f) names bytes survey held read only unserved = refused f names Unbuilt (survey, holds f names.rules bytes held (record { read = read; only = only }), unserved)
 
--- how a fault of the records ends a run
-pub sheet_refused : (fields : List Field) (bytes : List ℕ) (fault : SheetFault) (status : Status) → status ≡ sheet_status fault → (fault ≢ sheet.OutOfMemory → (s : SheetParts) → ¬ IsSheet fields bytes s) → (status ≡ OutOfMemory) ⊎ ((status ≡ Records) × ((s : SheetParts) → ¬ IsSheet fields bytes s))
-sheet_refused fields bytes sheet.NoHeader status e unread = inr (e, unread (λ same. cc))
-sheet_refused fields bytes sheet.TooManyColumns status e unread = inr (e, unread (λ same. cc))
-sheet_refused fields bytes (sheet.NoColumn field) status e unread = inr (e, unread (λ same. cc))
-sheet_refused fields bytes (sheet.DoubleColumn field) status e unread = inr (e, unread (λ same. cc))
-sheet_refused fields bytes sheet.TooManyRows status e unread = inr (e, unread (λ same. cc))
-sheet_refused fields bytes (sheet.RowLength row) status e unread = inr (e, unread (λ same. cc))
-sheet_refused fields bytes sheet.OutOfMemory status e unread = inl e
+-- what is shown where the record file was not fetched
+pub records_unfetched : (files : Option Files) (names : Names) (survey : SurveyParts) (error : FetchError) → IfSome files (λ f. Fetches f names.records most_bytes (Err error)) → IfSome files (λ f. HoldsServed f names.rules survey → ShowsCause f names (refusal_status (fetch_refusal error)))
+records_unfetched None names survey error h = tt
+records_unfetched (Some f) names survey fetch.Failed h = λ served. not_fetched f names
+records_unfetched (Some f) names survey (fetch.TooLong taken) h = λ served. refused f names TooLong (inr (survey, served, h.1))
+records_unfetched (Some f) names survey fetch.OutOfMemory h = λ served. no_memory f names
 
--- the bytes of the record file have no reading, or memory was refused
-pub sheet_unread : (files : Option Files) (name bytes : List ℕ) (fields : List Field) (status : Status) → IfSome files (λ f. (f name ≡ Some bytes) × (length bytes ≤ most_bytes)) → (status ≡ OutOfMemory) ⊎ ((status ≡ Records) × ((sheet : SheetParts) → ¬ IsSheet fields bytes sheet)) → IsRecordsRefusal files name fields status
-sheet_unread files name bytes fields status held (inl e) = subst (IsRecordsRefusal files name fields) (sym e) tt
-sheet_unread files name bytes fields status held (inr (e, unread)) = subst (IsRecordsRefusal files name fields) (sym e) (holds (λ bytes. (sheet : SheetParts) → ¬ IsSheet fields bytes sheet) files name bytes held unread)
+-- what is shown where it has no reading
+pub records_unread : (files : Option Files) (names : Names) (survey : SurveyParts) (bytes : List ℕ) (fault : SheetFault) → IfSome files (λ f. Fetched f names.records bytes) → (fault ≢ sheet.OutOfMemory → (s : SheetParts) → ¬ IsSheet survey.fields bytes s) → IfSome files (λ f. HoldsServed f names.rules survey → ShowsCause f names (refusal_status (sheet_refusal fault)))
+records_unread None names survey bytes fault held unread = tt
+records_unread (Some f) names survey bytes sheet.OutOfMemory held unread = λ served. no_memory f names
+records_unread (Some f) names survey bytes sheet.NoHeader held unread = λ served. refused f names Records (survey, served, holds f names.records bytes held (unread (λ same. cc)))
+records_unread (Some f) names survey bytes sheet.TooManyColumns held unread = λ served. refused f names Records (survey, served, holds f names.records bytes held (unread (λ same. cc)))
+records_unread (Some f) names survey bytes (sheet.NoColumn field) held unread = λ served. refused f names Records (survey, served, holds f names.records bytes held (unread (λ same. cc)))
+records_unread (Some f) names survey bytes (sheet.DoubleColumn field) held unread = λ served. refused f names Records (survey, served, holds f names.records bytes held (unread (λ same. cc)))
+records_unread (Some f) names survey bytes sheet.TooManyRows held unread = λ served. refused f names Records (survey, served, holds f names.records bytes held (unread (λ same. cc)))
+records_unread (Some f) names survey bytes (sheet.RowLength row) held unread = λ served. refused f names Records (survey, served, holds f names.records bytes held (unread (λ same. cc)))
+
+-- the sheet that was read
+pub records_read : (files : Option Files) (name bytes : List ℕ) (fields : List Field) (sheet : SheetParts) → IfSome files (λ f. Fetched f name bytes) → IsSheet fields bytes sheet → IfSome files (λ f. HoldsRecords f name fields sheet)
+records_read None name bytes fields sheet held read = tt
+records_read (Some f) name bytes fields sheet held read = holds f name bytes held read
+
+-- what is shown of served rules
+pub where_served : (files : Option Files) (names : Names) (survey : SurveyParts) (answer : Status) → IfSome files (λ f. HoldsServed f names.rules survey) → IfSome files (λ f. HoldsServed f names.rules survey → ShowsCause f names answer) → IfSome files (λ f. ShowsCause f names answer)
+where_served None names survey answer served shows = tt
+where_served (Some f) names survey answer served shows = shows served
+
+-- ---- a refusal that a call below became
+
+-- an error that was made into this refusal
+pub converted : {T : Type 0} (result : Result T Refusal) (made : Refusal) (P : Refusal → Type 0) → IsErrAnd result (λ r. r ≡ made) → P made → IfErr result P
+converted (Ok value) made P is h = tt
+converted (Err r) made P is h = subst P (sym is) h
+
+-- what is shown where both files were read, and the store put not all the bytes
+pub unstored : (files : Option Files) (names : Names) (survey : SurveyParts) (sheet : SheetParts) (error : StoreError) (result : Result Status Refusal) → IfSome files (λ f. HoldsServed f names.rules survey) → IfSome files (λ f. HoldsRecords f names.records survey.fields sheet) → IsErrAnd result (λ r. r ≡ store_refusal error) → IfSome files (λ f. ShowsCause f names (end_of result))
+unstored files names survey sheet error (Ok answer) hr hs is = absurd is
+unstored None names survey sheet error (Err r) hr hs is = tt
+unstored (Some f) names survey sheet store.Failed (Err r) hr hs is = both_read (Some f) names survey sheet (refusal_status r) hr hs (inr (ap refusal_status is))
+unstored (Some f) names survey sheet store.OutOfMemory (Err r) hr hs is = subst (λ (answer : Status). ShowsCause f names answer) (sym (ap refusal_status is)) (no_memory f names)
+
+-- a store that put nothing for want of memory left the files as they were
+pub untouched : (before after : Option Files) (name bytes : List ℕ) (error : StoreError) → BothTell before after (λ old new. Stores old new name bytes (Err error)) → store_refusal error ≢ refusal.WriteFault → after ≡ before
+untouched None None name bytes error h not = refl
+untouched None (Some new) name bytes error h not = absurd h
+untouched (Some old) None name bytes error h not = absurd h
+untouched (Some old) (Some new) name bytes store.Failed h not = absurd (not refl)
+untouched (Some old) (Some new) name bytes store.OutOfMemory h not = ap Some h
+
+-- a run is refused for a write fault where its store failed
+pub store_failed : {T : Type 0} (result : Result T Refusal) (error : StoreError) → IsErrAnd result (λ r. r ≡ store_refusal error) → IsErrOf result refusal.WriteFault → error ≡ store.Failed
+store_failed (Ok value) error is h = absurd is
+store_failed (Err r) store.Failed is h = refl
+store_failed (Err r) store.OutOfMemory is h = absurd (cc)
 
 -- ---- a run that made its release
 
--- a run that released ended with none of the other statuses
-pub not_usage : (status : Status) → HasReleased status → status ≡ Usage → ⊥
-not_usage status (inl e) h = cc
-not_usage status (inr e) h = cc
-
-pub no_refusal : (status : Status) → HasReleased status → is_refusal status ≡ false
-no_refusal status (inl e) = ap is_refusal e
-no_refusal status (inr e) = ap is_refusal e
-
-pub not_read_fault : (status : Status) → HasReleased status → status ≡ ReadFault → ⊥
-not_read_fault status (inl e) h = cc
-not_read_fault status (inr e) h = cc
-
-pub not_write_fault : (status : Status) → HasReleased status → status ≡ WriteFault → ⊥
-not_write_fault status (inl e) h = cc
-not_write_fault status (inr e) h = cc
-
-pub not_nothing : (status : Status) → HasReleased status → HasStoredNothing status → ⊥
-not_nothing status (inl e) h = rw e at h
-not_nothing status (inr e) h = rw e at h
-
 -- the release that was stored
-pub edited : (before after : Option Files) (rules records released bytes stored : List ℕ) (survey : SurveyParts) (sheet : SheetParts) (status : Status) → IfSome before (λ f. HoldsServed f rules survey) → IfSome before (λ f. HoldsRecords f records survey.fields sheet) → IsRelease survey sheet bytes status → stored ≡ bytes → BothTell before after (λ old new. (new released ≡ Some stored) × SameElsewhere old new released) → BothTell before after (λ old new. IsEdited old new rules records released status)
-edited None None rules records released bytes stored survey sheet status hr hs is e h = tt
-edited None (Some a) rules records released bytes stored survey sheet status hr hs is e h = absurd h
-edited (Some b) None rules records released bytes stored survey sheet status hr hs is e h = absurd h
-edited (Some b) (Some a) rules records released bytes stored survey sheet status hr hs is e h = record {
+pub edited : (before after : Option Files) (names : Names) (bytes stored : List ℕ) (survey : SurveyParts) (sheet : SheetParts) (answer : Status) → IfSome before (λ f. HoldsServed f names.rules survey) → IfSome before (λ f. HoldsRecords f names.records survey.fields sheet) → IsRelease survey sheet bytes answer → stored ≡ bytes → BothTell before after (λ old new. (new names.released ≡ Some stored) × SameElsewhere old new names.released) → BothTell before after (IsEdited names answer)
+edited None None names bytes stored survey sheet answer hr hs is e h = tt
+edited None (Some a) names bytes stored survey sheet answer hr hs is e h = absurd h
+edited (Some b) None names bytes stored survey sheet answer hr hs is e h = absurd h
+edited (Some b) (Some a) names bytes stored survey sheet answer hr hs is e h = record {
   bytes = bytes;
   made = record { survey = survey; sheet = sheet; rules_read = hr; records_read = hs; release = is };
   stored = rw e at h.0;
@@ -228,13 +245,13 @@ edited (Some b) (Some a) rules records released bytes stored survey sheet status
 }
 
 -- the release that was stored in part
-pub cut_off : (before after : Option Files) (rules records released bytes stored : List ℕ) (survey : SurveyParts) (sheet : SheetParts) (status : Status) → IfSome before (λ f. HoldsServed f rules survey) → IfSome before (λ f. HoldsRecords f records survey.fields sheet) → IsRelease survey sheet bytes status → stored ≡ bytes → BothTell before after (λ old new. (HoldsPrefix new released stored ⊎ (new released ≡ old released)) × SameElsewhere old new released) → BothTell before after (λ old new. IsCutOff old new rules records released)
-cut_off None None rules records released bytes stored survey sheet status hr hs is e h = tt
-cut_off None (Some a) rules records released bytes stored survey sheet status hr hs is e h = absurd h
-cut_off (Some b) None rules records released bytes stored survey sheet status hr hs is e h = absurd h
-cut_off (Some b) (Some a) rules records released bytes stored survey sheet status hr hs is e h = record {
+pub cut_off : (before after : Option Files) (names : Names) (bytes stored : List ℕ) (survey : SurveyParts) (sheet : SheetParts) (answer : Status) → IfSome before (λ f. HoldsServed f names.rules survey) → IfSome before (λ f. HoldsRecords f names.records survey.fields sheet) → IsRelease survey sheet bytes answer → stored ≡ bytes → BothTell before after (λ old new. (HoldsPrefix new names.released stored ⊎ (new names.released ≡ old names.released)) × SameElsewhere old new names.released) → BothTell before after (IsCutOff names)
+cut_off None None names bytes stored survey sheet answer hr hs is e h = tt
+cut_off None (Some a) names bytes stored survey sheet answer hr hs is e h = absurd h
+cut_off (Some b) None names bytes stored survey sheet answer hr hs is e h = absurd h
+cut_off (Some b) (Some a) names bytes stored survey sheet answer hr hs is e h = record {
   bytes = bytes;
-  status = status;
+  answer = answer;
   made = record { survey = survey; sheet = sheet; rules_read = hr; records_read = hs; release = is };
   kept = rw e at h.0;
   elsewhere = h.1;
@@ -242,22 +259,30 @@ cut_off (Some b) (Some a) rules records released bytes stored survey sheet statu
 
 -- ---- the names that the words give
 
+-- the same three files
+same_files : (a b : Names) → a.rules ≡ b.rules → a.records ≡ b.records → a.released ≡ b.released → a ≡ b
+same_files a b p q r =
+    let by_rules : List ℕ → Names = λ n. record { rules = n; records = a.records; released = a.released } in
+    let by_records : List ℕ → Names = λ n. record { rules = b.rules; records = n; released = a.released } in
+    let by_released : List ℕ → Names = λ n. record { rules = b.rules; records = b.records; released = n } in
+    ap by_rules p ∙ ap by_records q ∙ ap by_released r
+
 -- words that ask for an edit do so by one choice of names
-pub for_names : (words : List (List ℕ)) (a b c : List ℕ) (P : List ℕ → List ℕ → List ℕ → Type 0) → IsEdit words a b c → P a b c → ForNames words P
-for_names words a b c P is h r s t other =
+pub for_names : (words : List (String Global)) (given : Names) (P : Names → Type 0) → IsEdit (map string_bytes words) given → P given → ForNames words P
+for_names words given P is h other too =
     let one = is.form in
-    let two = other.form in
-    let same : other.options ≡ is.options = cc in
+    let two = too.form in
+    let same : too.options ≡ is.options = cc in
     let rules = is.rules_given in
-    let rules_too = rw same at other.rules_given in
+    let rules_too = rw same at too.rules_given in
     let records = is.records_given in
-    let records_too = rw same at other.records_given in
+    let records_too = rw same at too.records_given in
     let released = is.released_given in
-    let released_too = rw same at other.released_given in
-    let same_rules : r ≡ a = cc in
-    let same_records : s ≡ b = cc in
-    let same_released : t ≡ c = cc in
-    rw (same_rules, same_records, same_released) h
+    let released_too = rw same at too.released_given in
+    let same_rules : other.rules ≡ given.rules = cc in
+    let same_records : other.records ≡ given.records = cc in
+    let same_released : other.released ≡ given.released = cc in
+    subst P (sym (same_files other given same_rules same_records same_released)) h
 
 -- ---- what was put on record
 

@@ -75,16 +75,26 @@ store_record name (Ok done) = stored name ∷ []
 store_record name (Err store.Failed) = record { store = true; name = name; failed = true } ∷ []
 store_record name (Err store.OutOfMemory) = []
 
+-- the count of faults after one more, as far as 64 bits go
+abbrev pub raised : ℕ → ℕ
+raised faults = min (faults + 1) (2 ^ 64 - 1)
+
+-- the count of faults after a fetch: one more where it failed, and there alone
+abbrev pub after_fetch : Result (Vec ℕ Global) FetchError → ℕ → ℕ
+after_fetch (Err fetch.Failed) faults = raised faults
+after_fetch result faults = faults
+
+-- the count of faults after a store, in the same way
+abbrev pub after_store : Result (Unit {0}) StoreError → ℕ → ℕ
+after_store (Err store.Failed) faults = raised faults
+after_store result faults = faults
+
 -- both values are told and stand in this relation, or neither is told
 abbrev pub BothTell : {A : Type 0} → Option A → Option A → (A → A → Type 0) → Type 0
 BothTell None None P = ⊤
 BothTell None (Some new) P = ⊥
 BothTell (Some old) None P = ⊥
 BothTell (Some old) (Some new) P = P old new
-
--- the count of faults rose, or stands at the end of its range
-abbrev pub Rose : ℕ → ℕ → Type 0
-Rose before now = min (before + 1) (2 ^ 64 - 1) ≤ now
 
 -- these calls, and no others, were put on record, where the calls are told
 abbrev pub PutsOnRecord : Option (List Asked) → Option (List Asked) → List Asked → Type 0

@@ -1,7 +1,9 @@
 pub mod Desk
 pub mod Layouts
 pub mod Memory
+pub mod Refusals
 pub mod Released
 pub mod Run
 pub mod Status
 pub mod Words
+pub mod inner

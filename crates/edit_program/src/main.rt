@@ -5,6 +5,7 @@
 pub mod desk;
 pub mod edit;
 mod layout;
+pub mod refusal;
 mod release;
 mod released_row;
 pub mod status;
@@ -13,13 +14,14 @@ mod tests;
 pub mod words;
 
 use desk::FileDesk;
+use status::Status;
 use std::process::ExitCode;
 
 fn main(rt: HostRuntime) -> ExitCode {
     let alloc = rt.alloc();
-    let outcome = match words::after_program_name(&rt) {
+    let status = match words::after_program_name(&rt) {
         Ok(words) => edit::fh_main(alloc, &words, &mut FileDesk::new(rt)),
-        Err(outcome) => outcome,
+        Err(refusal) => Status::from(refusal),
     };
-    ExitCode::from(outcome.number())
+    ExitCode::from(status.number())
 }

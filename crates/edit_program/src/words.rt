@@ -1,13 +1,14 @@
 ghost use Rattle.std.specs.Prelude.{◌≡◌, ◌≢◌, ◌↔◌, ◌⊎◌, ◌∷◌, [], ℕ, List, IfErr, IfSome, IfNone, IsTrue, length, map, string_bytes};
 ghost use Rattle.edit_program.specs.Words.{AreFileNames, IsEdit, IsFileName, IsNoCommand, values_of};
 
-use crate::status::Status;
+use crate::refusal::Refusal;
 use std::env;
 use std::io::ErrorKind;
+use std::marker::Model;
 use std::rt::Env;
 
-/// The names that the command `edit` was given.
-#[derive(Clone, Copy, Debug, PartialEq, Eq)]
+/// The names that the command `edit` was given. No two are the same.
+#[derive(Debug, Drop)]
 pub struct EditWords<'a> {
     /// The file of the rules.
     pub rules: &'a str,
@@ -17,18 +18,25 @@ pub struct EditWords<'a> {
     pub released: &'a str,
 }
 
-/// The words after the program's name, or the status to end with: a word that is not UTF-8 makes them no
-/// command.
-pub fn after_program_name<R: Env + AllocGlobal>(rt: &R) -> Result<Vec<String>, Status>
-    ensures { IfErr result (λ outcome. (outcome ≡ Status.Usage) ⊎ (outcome ≡ Status.OutOfMemory)) }
+impl<'a> Model for EditWords<'a> {
+    ghost use Rattle.edit_program.specs.Words.{Names};
+
+    ghost Value = { Names };
+
+    ghost view = { λ w. record { rules = w.rules.now; records = w.records.now; released = w.released.now } };
+}
+
+/// The words after the program's name. A word that is not UTF-8 makes them no command.
+pub fn after_program_name<R: Env + AllocGlobal>(rt: &R) -> Result<Vec<String>, Refusal>
+    ensures { IfErr result (λ refusal. (refusal ≡ Refusal.Usage) ⊎ (refusal ≡ Refusal.OutOfMemory)) }
 {
     match env::args(rt) {
         Ok(all) => all
             .skip(1)
             .collect(rt.alloc())
-            .map_err(|_| Status::OutOfMemory),
-        Err(error) if error.kind() == ErrorKind::OutOfMemory => Err(Status::OutOfMemory),
-        Err(_) => Err(Status::Usage),
+            .map_err(|_| Refusal::OutOfMemory),
+        Err(error) if error.kind() == ErrorKind::OutOfMemory => Err(Refusal::OutOfMemory),
+        Err(_) => Err(Refusal::Usage),
     }
 }
 
@@ -36,8 +44,8 @@ pub fn after_program_name<R: Env + AllocGlobal>(rt: &R) -> Result<Vec<String>, S
 /// `--records NAME` and `--released NAME`, each once, in any order. No name is empty or begins with `-`,
 /// and the three differ.
 pub fn edit_words(words: &[String]) -> Option<EditWords<'_>>
-    ensures some { IfSome result (λ e. IsEdit (map string_bytes words.now) e.rules.now e.records.now e.released.now) }
-    ensures none { IfNone result (IsNoCommand (map string_bytes words.now)) }
+    ensures some { IfSome result (λ names. IsEdit (map string_bytes words.now) names) }
+    ensures none { IfNone result (IsNoCommand words.now) }
 {
     let (command, options) = words.split_first()?;
     if command.as_str() != "edit" || options.len() != 6 {
@@ -79,7 +87,7 @@ fn value_of<'a>(option: &str, words: &'a [String]) -> Option<&'a str>
 
 // Whether the three may name files, and differ.
 fn are_file_names(rules: &str, records: &str, released: &str) -> bool
-    ensures { IsTrue result ↔ AreFileNames rules.now records.now released.now }
+    ensures { IsTrue result ↔ AreFileNames (record { rules = rules.now; records = records.now; released = released.now }) }
 {
     is_file_name(rules)
         && is_file_name(records)

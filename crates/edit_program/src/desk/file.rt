@@ -1,5 +1,5 @@
-ghost use Rattle.std.specs.Prelude.{◌≡◌, ◌≤◌, ◌<◌, ℕ, None, IfErr, IfOk, IfSome, IsErrOf, OnOk, length, take, vec_len};
-ghost use Rattle.edit_program.specs.Desk.{ReadsWhole, Rose, TakesOneMore};
+ghost use Rattle.std.specs.Prelude.{◌≡◌, ◌≤◌, ◌<◌, ℕ, None, IfErr, IfOk, IfSome, OnOk, length, take, vec_len};
+ghost use Rattle.edit_program.specs.Desk.{ReadsWhole, TakesOneMore, raised};
 ghost use Rattle.std.specs.Io.KnownBytes.{Appends};
 
 use crate::desk::calls::{Desk, FetchError, StoreError};
@@ -13,7 +13,7 @@ use std::rt::Files;
 const CHUNK: usize = 65_536;
 
 /// The files of the system, under their paths. What they hold is not told, so of their bytes nothing is
-/// claimed. Contracts see the count of faults alone: it rises at each error that the system reports.
+/// claimed. Contracts see the count of faults alone: how many calls failed.
 #[derive(Drop)]
 pub struct FileDesk<R: Files + Drop> {
     rt: R,
@@ -45,35 +45,54 @@ impl<R: Files + Drop> Desk for FileDesk<R> {
     ghost faults = { λ d. d };
 
     fn fetch(&mut self, alloc: Global, name: &str, limit: u64) -> Result<Vec<u8>, FetchError> {
-        match fs::open(&self.rt, name) {
-            Ok(mut file) => {
-                let mut chunk = zeros(alloc, CHUNK)?;
-                read_within(alloc, &mut file, &mut chunk, limit, &mut self.faults)
-            }
-            Err(_) => {
-                raise(&mut self.faults);
-                Err(FetchError::Failed)
-            }
+        let answer = read_file(&self.rt, alloc, name, limit);
+        if let Err(FetchError::Failed) = answer {
+            raise(&mut self.faults);
         }
+        answer
     }
 
     fn store(&mut self, _alloc: Global, name: &str, bytes: &[u8]) -> Result<(), StoreError> {
-        match fs::create(&self.rt, name) {
-            Ok(mut file) => write_whole(&mut file, bytes, &mut self.faults),
-            Err(_) => {
-                raise(&mut self.faults);
-                Err(StoreError::Failed)
-            }
+        let answer = write_file(&self.rt, name, bytes);
+        if let Err(StoreError::Failed) = answer {
+            raise(&mut self.faults);
         }
+        answer
     }
 }
 
 // Counts one more fault, as far as 64 bits go.
 fn raise(faults: &mut u64)
-    ensures later { faults.old ≤ faults.new }
-    ensures rose { Rose faults.old faults.new }
+    ensures { faults.new ≡ raised faults.old }
 {
     *faults = faults.saturating_add(1);
+}
+
+// The bytes of a file, at most `limit` of them.
+fn read_file<R: Files>(
+    rt: &R,
+    alloc: Global,
+    name: &str,
+    limit: u64,
+) -> Result<Vec<u8>, FetchError>
+    ensures within { IfOk result (λ bytes. length bytes.items ≤ limit) }
+    ensures taken { IfErr result (TakesOneMore limit) }
+{
+    match fs::open(rt, name) {
+        Ok(mut file) => {
+            let mut chunk = zeros(alloc, CHUNK)?;
+            read_within(alloc, &mut file, &mut chunk, limit)
+        }
+        Err(_) => Err(FetchError::Failed),
+    }
+}
+
+// Puts the bytes into the file, in the place of what it held.
+fn write_file<R: Files>(rt: &R, name: &str, bytes: &[u8]) -> Result<(), StoreError> {
+    match fs::create(rt, name) {
+        Ok(mut file) => write_whole(&mut file, bytes),
+        Err(_) => Err(StoreError::Failed),
+    }
 }
 
 // A buffer of this many bytes.
@@ -90,14 +109,11 @@ fn read_within<F: Read>(
     file: &mut F,
     chunk: &mut [u8],
     limit: u64,
-    faults: &mut u64,
 ) -> Result<Vec<u8>, FetchError>
     requires { 0 < length chunk.old }
     ensures within { IfOk result (λ bytes. length bytes.items ≤ limit) }
     ensures taken { IfErr result (TakesOneMore limit) }
     ensures bytes { IfSome (F.remaining file.old) (λ left. ReadsWhole left limit result) }
-    ensures later { faults.old ≤ faults.new }
-    ensures failed { IsErrOf result FetchError.Failed → Rose faults.old faults.new }
 {
     let mut bytes = Vec::new(alloc);
     for _ in 0..u64::MAX {
@@ -111,24 +127,17 @@ fn read_within<F: Read>(
                 });
             }
             Ok(count) => bytes.extend_from_slice(&chunk[..count])?,
-            Err(error) => {
-                raise(faults);
-                if error.kind() != ErrorKind::Interrupted {
-                    return Err(FetchError::Failed);
-                }
-            }
+            Err(error) if error.kind() == ErrorKind::Interrupted => {}
+            Err(_) => break,
         }
     }
-    raise(faults);
     Err(FetchError::Failed)
 }
 
 // Writes all the bytes. An interrupted write is tried again, and a file that takes nothing is a fault.
-fn write_whole<F: Write>(file: &mut F, bytes: &[u8], faults: &mut u64) -> Result<(), StoreError>
+fn write_whole<F: Write>(file: &mut F, bytes: &[u8]) -> Result<(), StoreError>
     ensures whole { OnOk result (Appends (F.contents file.old) (F.contents file.new) bytes.now) }
     ensures part { (kept : ℕ) × Appends (F.contents file.old) (F.contents file.new) (take kept bytes.now) }
-    ensures later { faults.old ≤ faults.new }
-    ensures failed { IsErrOf result StoreError.Failed → Rose faults.old faults.new }
 {
     let mut rest = bytes;
     for _ in 0..u64::MAX {
@@ -138,15 +147,10 @@ fn write_whole<F: Write>(file: &mut F, bytes: &[u8], faults: &mut u64) -> Result
         match file.write(rest) {
             Ok(0) => break,
             Ok(count) => rest = &rest[count..],
-            Err(error) => {
-                raise(faults);
-                if error.kind() != ErrorKind::Interrupted {
-                    return Err(StoreError::Failed);
-                }
-            }
+            Err(error) if error.kind() == ErrorKind::Interrupted => {}
+            Err(_) => break,
         }
     }
-    raise(faults);
     Err(StoreError::Failed)
 }
 

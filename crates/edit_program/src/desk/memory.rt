@@ -1,5 +1,5 @@
 ghost use Rattle.std.specs.Prelude.{◌≡◌, ◌⊎◌, ◌+◌, ◌==◌, ◌≤◌, ◌++◌, [], Some, None, IfErr, IfOk, IfSome, IfNone, IsSome, IsErr, IsErrOf, OnOk, OnErr, length, take, find, option_copied};
-ghost use Rattle.edit_program.specs.Desk.{Fetches, Stores, Rose, SameElsewhere, TakesOneMore, fetch_record, store_record};
+ghost use Rattle.edit_program.specs.Desk.{Fetches, Stores, SameElsewhere, TakesOneMore, after_fetch, after_store, fetch_record, store_record};
 ghost use Rattle.edit_program.specs.Memory.{under, named_files, next_failure, faults_of};
 
 use crate::desk::calls::{Desk, FetchError, StoreError};
@@ -87,8 +87,7 @@ impl Desk for MemoryDesk {
         ensures taken { IfErr result (TakesOneMore limit) }
         ensures bytes { Fetches (under self.old.files) name.now limit result }
         ensures calls { self.new.calls ≡ self.old.calls ++ fetch_record name.now result }
-        ensures later { faults_of self.old ≤ faults_of self.new }
-        ensures failed { IsErrOf result FetchError.Failed → Rose (faults_of self.old) (faults_of self.new) }
+        ensures faults { faults_of self.new ≡ after_fetch result (faults_of self.old) }
         ensures failures { self.new.failures ≡ self.old.failures }
         ensures cause { IsErrOf result FetchError.Failed → IsSome (next_failure self.old) ⊎ (under self.old.files name.now ≡ None) }
         ensures due { IsSome (next_failure self.old) → IsErrOf result FetchError.Failed ⊎ IsErrOf result FetchError.OutOfMemory }
@@ -111,8 +110,7 @@ impl Desk for MemoryDesk {
     fn store(&mut self, alloc: Global, name: &str, bytes: &[u8]) -> Result<(), StoreError>
         ensures files { Stores (under self.old.files) (under self.new.files) name.now bytes.now result }
         ensures calls { self.new.calls ≡ self.old.calls ++ store_record name.now result }
-        ensures later { faults_of self.old ≤ faults_of self.new }
-        ensures failed { IsErrOf result StoreError.Failed → Rose (faults_of self.old) (faults_of self.new) }
+        ensures faults { faults_of self.new ≡ after_store result (faults_of self.old) }
         ensures failures { self.new.failures ≡ self.old.failures }
         ensures cause { IsErrOf result StoreError.Failed → IsSome (next_failure self.old) }
         ensures due { IfSome (next_failure self.old) (λ f. IsErr result × (IsErrOf result StoreError.Failed → under self.new.files name.now ≡ Some (take f.keep bytes.now))) }

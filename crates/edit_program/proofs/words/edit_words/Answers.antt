@@ -17,5 +17,5 @@ returns-clause-some c =
       rules_given = c.in_ok-rules.ensures.some;
       records_given = c.in_ok-records.ensures.some;
       released_given = c.in_ok-released.ensures.some;
-      names = search rules;
+      are_names = search rules;
     }
