@@ -15,9 +15,9 @@ use Rattle.edit_model.specs.declared.rule.Test.TheVariants.{Number, Codes}
 use Rattle.edit_line.specs.Lines.{AllHold}
 use Rattle.edit_line.specs.Shapes.{Domain, code_fields, has_field, number_fields, shape_of, whole_sets}
 use Rattle.edit_line.proofs.ShapeLaws.{HasCodes-shape, codes-there, number-there}
-use Rattle.edit_normal.specs.Fits.{FitsCodes}
+use Rattle.edit_normal.specs.inner.Fits.{FitsCodes}
 use Rattle.edit_normal.specs.NormalForm.{implied_lines, rule_lines_of, term_factor}
-use Rattle.edit_normal.specs.Sides.{joined_by}
+use Rattle.edit_normal.specs.inner.Sides.{joined_by}
 use Rattle.edit_normal.specs.declared.rule_line.RuleLine.{RuleLine}
 use Rattle.edit_normal.specs.RuleLines.{LinesHold, lines_from, numbered}
 use Rattle.edit_normal.proofs.NormalLaws.{FitsRule, FitsTest, lines-at, lines-few, normal-Decides}
