@@ -5,14 +5,14 @@ use Rattle.std.proofs.lemmas.List.Folds.{list_any-append}
 use Rattle.edit_model.specs.Points.{has_code}
 use Rattle.edit_line.specs.Reductions.{IsIn}
 use Rattle.edit_line.specs.Sets.{has_codes, is_inside}
-use Rattle.edit_line.proofs.Members.{in-filter-out}
+use Rattle.edit_line.proofs.Members.{in-filter-out, in-flat_map-out, in-map-out}
 use Rattle.edit_line.proofs.SetLaws.{both_true}
 use Rattle.categ_combine.specs.BoxLists.{reduce_boxes}
 use Rattle.edit_line.specs.Combinations.{meets}
 use Rattle.categ_combine.specs.Covers.{is_whole_at, meets_but, takes_part, with_code}
 use Rattle.edit_line.proofs.OtherFields.{inside-grows, inside-has_codes, inside-with, inside_but, inside_but-grows, inside_but-meets, length-meets, length-set, set-set, set-whole}
 use Rattle.categ_combine.proofs.ReducedBoxes.{any-reduce, in-reduce}
-use Rattle.edit_line.proofs.TestLists.{and-any, and_grouped, any-agree, any-and, any-filter, any-flat_map, any-map, any-split, in-flat_map, in-map}
+use Rattle.edit_line.proofs.TestLists.{and-any, and_grouped, any-agree, any-and, any-filter, any-flat_map, any-map, any-split}
 
 -- Which codes the covers have: some cover has them exactly where, for each code of the field, a box has them with that code.
 
@@ -76,8 +76,8 @@ module _ (place whole : ℕ) (codes : List ℕ) (boxes : List (List ℕ)) (withi
 
   with_code-covers : (covers : List (List ℕ)) (code : ℕ) → ((p : List ℕ) → IsIn p covers → IsCover p) → (p : List ℕ) → IsIn p (with_code place whole boxes covers code) → IsCover p
   with_code-covers covers code are p there =
-      let (q, was, made) = in-flat_map (λ p. row p code) p covers (in-reduce p (flat_map (λ p. row p code) covers) there) in
-      let (b, took, is) = in-map (λ b. meets_but place whole q b) p (filter (takes_part place whole code) boxes) (in-filter-out has_codes p (map (λ b. meets_but place whole q b) (filter (takes_part place whole code) boxes)) made).0 in
+      let (q, was, made) = in-flat_map-out (λ p. row p code) p covers (in-reduce p (flat_map (λ p. row p code) covers) there) in
+      let (b, took, is) = in-map-out (λ b. meets_but place whole q b) p (filter (takes_part place whole code) boxes) (in-filter-out has_codes p (map (λ b. meets_but place whole q b) (filter (takes_part place whole code) boxes)) made).0 in
       let few = (are q was).0 in
       let few' = same b (in-filter-out (takes_part place whole code) b boxes took).0 in
       let short : length (meets_but place whole q b) ≤ length codes = omega (arith, length-set place whole (meets q b), length-meets (length codes) q b few (omega (arith, few'))) in

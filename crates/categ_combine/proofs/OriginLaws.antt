@@ -5,7 +5,7 @@ use Rattle.edit_model.specs.Points.{has_code}
 use Rattle.edit_line.specs.Reductions.{IsIn}
 use Rattle.edit_line.specs.Sets.{has_codes}
 use Rattle.edit_line.specs.Shapes.{Domain}
-use Rattle.edit_line.proofs.Members.{all-in, in-all, in-either}
+use Rattle.edit_line.proofs.Members.{all-in, in-all, in-either, in-flat_map-out}
 use Rattle.categ_combine.specs.BoxLists.{AreBoxesOver, reduce_boxes, sets_of}
 use Rattle.edit_line.specs.CodeFields.{codes_of, place_of, whole_of}
 use Rattle.categ_combine.specs.Covers.{covered, covered_from, covers_from, first_cover, from_of, is_whole_at, joined_for, meets_but, parts_of, row_of, takes_part, unchanged_one, with_code, with_code_from}
@@ -14,7 +14,6 @@ use Rattle.categ_combine.specs.Fixing.{fixed, fixed_from, fixed_one}
 use Rattle.categ_combine.specs.declared.box_from.BoxFrom.{BoxFrom}
 use Rattle.categ_combine.specs.declared.box_from.BoxOrigin.TheVariants.{Cover, Fixed, Unchanged}
 use Rattle.categ_combine.proofs.ReducedBoxes.{in-reduce_from, sets-reduce}
-use Rattle.edit_line.proofs.TestLists.{in-flat_map}
 
 -- Boxes with their origins, and without.
 
@@ -141,7 +140,7 @@ module _ (place whole : ℕ) where
   pub over-with_code : (shape : List Domain) (boxes covers : List BoxFrom) (code : ℕ) → AreBoxesOver shape covers → AreBoxesOver shape (with_code_from place whole boxes covers code)
   over-with_code shape boxes covers code over =
       all-in (λ (b : BoxFrom). b.code_box.shape ≡ shape) (with_code_from place whole boxes covers code) (λ b there.
-      let (p, was, made) = in-flat_map (row_of place whole code boxes) b covers (in-reduce_from b (flat_map (row_of place whole code boxes) covers) there) in
+      let (p, was, made) = in-flat_map-out (row_of place whole code boxes) b covers (in-reduce_from b (flat_map (row_of place whole code boxes) covers) there) in
       in-row code p 0 boxes b made ∙ in-all (λ (b : BoxFrom). b.code_box.shape ≡ shape) p covers over was
       )
 

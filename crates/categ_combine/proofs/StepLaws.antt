@@ -3,7 +3,7 @@ use Rattle.std.specs.List.{flat_map, fold}
 use Rattle.edit_model.specs.Points.{Point}
 use Rattle.edit_line.specs.Boxes.{IsBox}
 use Rattle.edit_line.specs.Shapes.{Domain, HasCodes, codes_at, whole_sets}
-use Rattle.edit_line.proofs.Members.{in-all}
+use Rattle.edit_line.proofs.Members.{in-all, in-map-out}
 use Rattle.edit_line.proofs.ShapeLaws.{length-wholes}
 use Rattle.categ_combine.specs.BoxLists.{AreBoxes, AreBoxesOver, Avoids, avoid, reduce_from, sets_of}
 use Rattle.edit_line.specs.CodeFields.{TakesCodes, codes_of, codes_up, place_of, size_of, whole_of, with_code_at}
@@ -17,7 +17,6 @@ use Rattle.categ_combine.specs.declared.covered.Covered.TheVariants.{Done, Passe
 use Rattle.categ_combine.proofs.CoverLaws.{HaveSets, covered-holds, covered-lifts, fixed-avoids}
 use Rattle.categ_combine.proofs.OriginLaws.{sets-covered, sets-fixed_from}
 use Rattle.edit_line.proofs.SetLaws.{AreSets-length}
-use Rattle.edit_line.proofs.TestLists.{in-map}
 
 -- What the public calls say of their answers, from the exact ones.
 
@@ -38,7 +37,7 @@ none-first (b ∷ boxes) is = absurd (cc)
 -- each box has a set for each categorical field
 have-sets : (shape : List Domain) (boxes : List BoxFrom) → AreBoxesOver shape boxes → AreBoxes boxes → HaveSets shape (sets_of boxes)
 have-sets shape boxes over are sets there =
-    let (b, was, is) = in-map (λ (b : BoxFrom). b.code_box.sets) sets boxes there in
+    let (b, was, is) = in-map-out (λ (b : BoxFrom). b.code_box.sets) sets boxes there in
     ap length is
     ∙ AreSets-length b.code_box.sets (whole_sets b.code_box.shape) (in-all (λ (b : BoxFrom). IsBox b.code_box) b boxes are was)
     ∙ ap (λ s. length (whole_sets s)) (in-all (λ (b : BoxFrom). b.code_box.shape ≡ shape) b boxes over was)

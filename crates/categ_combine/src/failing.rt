@@ -1,9 +1,10 @@
 ghost use Rattle.std.specs.Prelude.{◌≡◌, ◌↔◌, [], All, Err, IfOk, Ok, OnOk, ℕ};
 ghost use Rattle.edit_model.specs.Points.{Point};
+ghost use Rattle.edit_model.specs.Rows.{IsRow};
 ghost use Rattle.edit_line.specs.Lines.{AllHold};
 ghost use Rattle.edit_line.specs.Reductions.{lines_of};
 ghost use Rattle.edit_line.specs.Shapes.{shape_of};
-ghost use Rattle.edit_line.specs.Sums.{AgreesWith, HasNumbers};
+ghost use Rattle.edit_line.specs.Sums.{AgreesWith};
 ghost use Rattle.categ_combine.specs.BoxLists.{AreBoxesOver, Avoids, sets_of};
 ghost use Rattle.categ_combine.specs.FailingBoxes.{failing_boxes, failing_from, taken};
 ghost use Rattle.categ_combine.specs.Origins.{ComesFromLine};
@@ -18,10 +19,10 @@ use foundation::OutOfMemory;
 use std::alloc::Global;
 
 /// The boxes of codes that the lines forbid at the record: the sets of the lines that fail there, in
-/// order, without those that lie inside another. Each has the place of its line as its origin. No field
-/// with a factor other than 0 is Bad. Overflow exactly where a line's sum leaves the range, at the first
-/// line of which it does and at the first field. At a point that agrees with the record, the lines all
-/// hold exactly where the codes avoid the boxes.
+/// order, without those that lie inside another. Each has the place of its line as its origin. A field
+/// that is Bad adds nothing to a line's sum. Overflow exactly where a line's sum leaves the range, at the
+/// first line of which it does and at the first field. At a point that agrees with the record at the
+/// fields with a factor other than 0, the lines all hold exactly where the codes avoid the boxes.
 pub fn boxes_of(
     alloc: Global,
     survey: &Survey,
@@ -29,7 +30,7 @@ pub fn boxes_of(
     row: &Row,
 ) -> Result<Vec<BoxFrom>, BoxFault>
     requires shape { All (λ derived. derived.line.shape ≡ shape_of survey.now.fields) lines.now }
-    requires numbers { All (λ derived. HasNumbers row.now derived.line) lines.now }
+    requires row { IsRow survey.now.fields row.now }
     ensures exact { IfOk result (λ boxes. failing_from 0 lines.now row.now [] ≡ Ok boxes.items) }
     ensures over { IfOk result (λ boxes. AreBoxesOver (shape_of survey.now.fields) boxes.items) }
     ensures sets { IfOk result (λ boxes. failing_boxes (lines_of lines.now) row.now ≡ Ok (sets_of boxes.items)) }

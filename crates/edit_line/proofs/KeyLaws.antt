@@ -6,6 +6,7 @@ use Rattle.edit_line.specs.Keys.{key_of, key_with, keys_of, may_subsume}
 use Rattle.edit_line.specs.Lines.{LineParts}
 use Rattle.edit_line.specs.declared.derived.Derived.{Derived}
 use Rattle.edit_line.specs.Subsumption.{is_false, is_tighter, same_all, subsumes}
+use Rattle.edit_line.proofs.BoolLaws.{true-first, true-second}
 use Rattle.edit_line.proofs.SetLaws.{both_true}
 use Rattle.edit_line.proofs.SubsumptionLaws.{same_all-Decides}
 
@@ -22,14 +23,6 @@ key-none (a ∷ factors) none =
 equal_itself : (m n : ℕ) → m ≡ n → (m == n) ≡ true
 equal_itself m n same = grind arith
 
-second_true : (a b : Bool) → b ≡ true → (a || b) ≡ true
-second_true true b e = refl
-second_true false b e = e
-
-first_true : (a b : Bool) → a ≡ true → (a || b) ≡ true
-first_true true b e = refl
-first_true false b e = absurd (cc)
-
 false_true : false ≡ true → ⊥
 false_true e = cc
 
@@ -37,8 +30,8 @@ may-subsume : (a b : LineParts) → subsumes a b ≡ true → may_subsume (key_o
 may-subsume a b test = by (is_false a) refl (both_true _ _ test).1
   where
     by : (f : Bool) → is_false a ≡ f → (f || (same_all a.factors b.factors && is_tighter a b)) ≡ true → may_subsume (key_of a.factors) (key_of b.factors) ≡ true
-    by true never either = second_true _ _ (equal_itself _ 0 (key-none a.factors (both_true _ _ never).0))
-    by false _ either = first_true _ _ (equal_itself _ _ (ap key_of ((same_all-Decides a.factors b.factors).0 (both_true _ _ either).0)))
+    by true never either = true-second _ _ (equal_itself _ 0 (key-none a.factors (both_true _ _ never).0))
+    by false _ either = true-first _ _ (equal_itself _ _ (ap key_of ((same_all-Decides a.factors b.factors).0 (both_true _ _ either).0)))
 
 -- so a line subsumes no line whose key does not agree
 pub keys-apart : (a b : LineParts) (m n : ℕ) → m ≡ key_of a.factors → n ≡ key_of b.factors → may_subsume m n ≡ false → subsumes a b ≡ false

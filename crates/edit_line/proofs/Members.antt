@@ -1,5 +1,5 @@
-use Rattle.std.proofs.Common.{◌≡◌, ℕ, zero, suc, ◌++◌, ◌||◌, Bool, true, false, if◌then◌else◌, List, [], ◌∷◌, All, Some, slice_get, ◌⊎◌, inl, inr, refl, sym, ap, ◌∙◌, subst, arith}
-use Rattle.std.specs.List.{filter, fold, list_any}
+use Rattle.std.proofs.Common.{◌≡◌, ℕ, zero, suc, ◌++◌, ◌||◌, Bool, true, false, if◌then◌else◌, List, [], ◌∷◌, All, Some, map, slice_get, ◌⊎◌, inl, inr, refl, sym, ap, ◌∙◌, subst, arith}
+use Rattle.std.specs.List.{filter, flat_map, fold, list_any}
 use Rattle.edit_line.specs.Reductions.{IsIn}
 
 -- Elements of lists.
@@ -17,6 +17,32 @@ pub in-either : {X : Type 0} (x : X) (xs ys : List X) → IsIn x (xs ++ ys) → 
 in-either x [] ys h = inr h
 in-either x (z ∷ xs) ys (inl e) = inl (inl e)
 in-either x (z ∷ xs) ys (inr h) = elim (in-either x xs ys h) [ inl there ↦ inl (inr there) | inr there ↦ inr there ]
+
+-- what is made of an element stands among what is made of all
+pub in-map : {X Y : Type 0} (g : X → Y) (x : X) (xs : List X) → IsIn x xs → IsIn (g x) (map g xs)
+in-map g x [] h = absurd h
+in-map g x (z ∷ xs) (inl same) = inl (ap g same)
+in-map g x (z ∷ xs) (inr there) = inr (in-map g x xs there)
+
+-- and all that stands there is made of an element
+pub in-map-out : {X Y : Type 0} (g : X → Y) (y : Y) (xs : List X) → IsIn y (map g xs) → (x : X) × IsIn x xs × (y ≡ g x)
+in-map-out g y [] h = absurd h
+in-map-out g y (z ∷ xs) (inl same) = (z, inl refl, same)
+in-map-out g y (z ∷ xs) (inr there) = let (x, is_in, same) = in-map-out g y xs there in (x, inr is_in, same)
+
+-- the same, where a list is made of each element
+pub in-flat_map : {X Y : Type 0} (g : X → List Y) (x : X) (y : Y) (xs : List X) → IsIn x xs → IsIn y (g x) → IsIn y (flat_map g xs)
+in-flat_map g x y [] h there = absurd h
+in-flat_map {X} {Y} g x y (z ∷ xs) (inl same) there = in-left y (g z) (flat_map g xs) (subst (λ (w : X). IsIn y (g w)) same there)
+in-flat_map g x y (z ∷ xs) (inr h) there = in-right y (g z) (flat_map g xs) (in-flat_map g x y xs h there)
+
+pub in-flat_map-out : {X Y : Type 0} (g : X → List Y) (y : Y) (xs : List X) → IsIn y (flat_map g xs) → (x : X) × IsIn x xs × IsIn y (g x)
+in-flat_map-out g y [] h = absurd h
+in-flat_map-out g y (z ∷ xs) h =
+    elim (in-either y (g z) (flat_map g xs) h) [
+      | inl here ↦ (z, inl refl, here)
+      | inr there ↦ (let (x, is_in, from) = in-flat_map-out g y xs there in (x, inr is_in, from))
+    ]
 
 -- an element that passes the test stays in the filtered list
 pub in-filter : {X : Type 0} (test : X → Bool) (x : X) (xs : List X) → test x ≡ true → IsIn x xs → IsIn x (filter test xs)

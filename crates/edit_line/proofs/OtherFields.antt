@@ -5,6 +5,7 @@ use Rattle.std.proofs.lemmas.Bool.Decides.{Decides-eqb}
 use Rattle.std.proofs.lemmas.Nat.Bits.{bit_at-lt, bit_at-zero, bit_at_and}
 use Rattle.edit_model.specs.Points.{has_code}
 use Rattle.edit_line.specs.Sets.{all_inside, has_codes, is_inside}
+use Rattle.edit_line.proofs.BoolLaws.{and_true, true-both}
 use Rattle.edit_line.proofs.SetLaws.{both_true, has-inside}
 use Rattle.edit_line.specs.Combinations.{meets}
 
@@ -22,12 +23,8 @@ has-and s t code = by (has_code s code) (has_code t code) (Decides-eqb (bit_at s
     by a b p q =
         one_answer (has_code (bit_and s t) code) (a && b) (Decides-eqb (bit_at (bit_and s t) code) 1) (
           λ h. let (first, second) = both_true a b h in omega (arith, bit_at_and s t code, p.0 first, q.0 second),
-          λ h. joined a b (p.1 (omega (arith, bit_at_and s t code, bit_at-lt s code, bit_at-lt t code, h))) (q.1 (omega (arith, bit_at_and s t code, bit_at-lt s code, bit_at-lt t code, h))),
+          λ h. true-both a b (p.1 (omega (arith, bit_at_and s t code, bit_at-lt s code, bit_at-lt t code, h))) (q.1 (omega (arith, bit_at_and s t code, bit_at-lt s code, bit_at-lt t code, h))),
         )
-      where
-        joined : (a b : Bool) → a ≡ true → b ≡ true → (a && b) ≡ true
-        joined true b h i = i
-        joined false b h i = h
 
 crossed : (a b c d : Bool) → ((a && b) && (c && d)) ≡ ((a && c) && (b && d))
 crossed true true c d = refl
@@ -42,11 +39,7 @@ shared false c d = refl
 -- the codes are in both boxes
 inside-meets : (first second codes : List ℕ) → is_inside (meets first second) codes ≡ (is_inside first codes && is_inside second codes)
 inside-meets [] second codes = refl
-inside-meets (s ∷ first) [] codes = and_true _
-  where
-    and_true : (a : Bool) → a ≡ (a && true)
-    and_true true = refl
-    and_true false = refl
+inside-meets (s ∷ first) [] codes = sym (and_true _)
 inside-meets (s ∷ first) (t ∷ second) [] = refl
 inside-meets (s ∷ first) (t ∷ second) (code ∷ codes) =
     ap (λ b. b && is_inside (meets first second) codes) (has-and s t code) ∙ ap (λ b. (has_code s code && has_code t code) && b) (inside-meets first second codes)
@@ -56,11 +49,7 @@ inside-meets (s ∷ first) (t ∷ second) (code ∷ codes) =
 pub inside_but-meets : (place whole : ℕ) (first second codes : List ℕ)
     → inside_but place whole codes (meets first second) ≡ (inside_but place whole codes first && inside_but place whole codes second)
 inside_but-meets place whole [] second codes = refl
-inside_but-meets place whole (s ∷ first) [] codes = and_true _
-  where
-    and_true : (a : Bool) → a ≡ (a && true)
-    and_true true = refl
-    and_true false = refl
+inside_but-meets place whole (s ∷ first) [] codes = sym (and_true _)
 inside_but-meets zero whole (s ∷ first) (t ∷ second) [] = refl
 inside_but-meets (suc place) whole (s ∷ first) (t ∷ second) [] = refl
 inside_but-meets zero whole (s ∷ first) (t ∷ second) (code ∷ codes) =
@@ -99,10 +88,6 @@ inside-with (suc place) whole code (s ∷ box) (c ∷ codes) below within all =
 has-more : (s t code : ℕ) → nat_eq (bit_and s t) s ≡ true → has_code s code ≡ true → has_code t code ≡ true
 has-more s t code lies there = (Decides-eqb (bit_at t code) 1).1 (has-inside s t code lies ((Decides-eqb (bit_at s code) 1).0 there))
 
-joined : (a b : Bool) → a ≡ true → b ≡ true → (a && b) ≡ true
-joined true b h i = i
-joined false b h i = h
-
 -- codes in a box are in each box that has it inside
 pub inside-grows : (first second codes : List ℕ) → all_inside first second ≡ true → is_inside first codes ≡ true → is_inside second codes ≡ true
 inside-grows first [] codes lie inside = refl
@@ -111,7 +96,7 @@ inside-grows (s ∷ first) (t ∷ second) [] lie inside = refl
 inside-grows (s ∷ first) (t ∷ second) (code ∷ codes) lie inside =
     let (here, rest) = both_true _ _ lie in
     let (at, after) = both_true _ _ inside in
-    joined _ _ (has-more s t code here at) (inside-grows first second codes rest after)
+    true-both _ _ (has-more s t code here at) (inside-grows first second codes rest after)
 
 -- and so on the other fields
 pub inside_but-grows : (place whole : ℕ) (first second codes : List ℕ) → all_inside first second ≡ true → inside_but place whole codes first ≡ true → inside_but place whole codes second ≡ true
@@ -122,17 +107,17 @@ inside_but-grows (suc place) whole (s ∷ first) (t ∷ second) [] lie inside = 
 inside_but-grows zero whole (s ∷ first) (t ∷ second) (code ∷ codes) lie inside =
     let (here, rest) = both_true _ _ lie in
     let (at, after) = both_true _ _ inside in
-    joined _ _ at (inside-grows first second codes rest after)
+    true-both _ _ at (inside-grows first second codes rest after)
 inside_but-grows (suc place) whole (s ∷ first) (t ∷ second) (code ∷ codes) lie inside =
     let (here, rest) = both_true _ _ lie in
     let (at, after) = both_true _ _ inside in
-    joined _ _ (has-more s t code here at) (inside_but-grows place whole first second codes rest after)
+    true-both _ _ (has-more s t code here at) (inside_but-grows place whole first second codes rest after)
 
 -- a box with codes in each of its sets has no empty set
 pub inside-has_codes : (box codes : List ℕ) → length box ≤ length codes → is_inside box codes ≡ true → has_codes box ≡ true
 inside-has_codes [] codes few inside = refl
 inside-has_codes (s ∷ box) [] few inside = absurd (omega arith)
-inside-has_codes (s ∷ box) (code ∷ codes) few inside = let (at, rest) = both_true _ _ inside in joined _ _ (above s at) (inside-has_codes box codes (omega arith) rest)
+inside-has_codes (s ∷ box) (code ∷ codes) few inside = let (at, rest) = both_true _ _ inside in true-both _ _ (above s at) (inside-has_codes box codes (omega arith) rest)
   where
     above : (s : ℕ) → has_code s code ≡ true → not (nat_eq s 0) ≡ true
     above s h = by (nat_eq s 0) refl

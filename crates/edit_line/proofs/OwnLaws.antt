@@ -4,6 +4,7 @@ use Rattle.edit_line.specs.Lines.{LineParts}
 use Rattle.edit_line.specs.Reductions.{AreApart, AreOwn, IsApart, lines_of, reduce_derived, with_derived, with_line}
 use Rattle.edit_line.specs.Subsumption.{is_trivial, subsumes}
 use Rattle.edit_line.specs.declared.derived.Derived.{Derived}
+use Rattle.edit_line.proofs.BoolLaws.{false-both}
 use Rattle.edit_line.proofs.ReductionLaws.{lines_of-append, reduce-lines}
 
 -- A part of a reduced list, in order, is reduced.
@@ -41,17 +42,13 @@ own-last : (new : LineParts) (lines : List LineParts) → AreOwn lines → AllAp
 own-last new [] own apart says = (says, tt, tt)
 own-last new (a ∷ lines) (own, beside, rest) (here, apart) says = (own, apart-last a new lines beside here, own-last new lines rest apart says)
 
-either_false : (a b : Bool) → (a || b) ≡ false → (a ≡ false) × (b ≡ false)
-either_false true b e = absurd (cc)
-either_false false b e = (refl, e)
-
 left-apart : (new : LineParts) (lines : List LineParts) → list_any (λ a. subsumes a new) lines ≡ false → AllApart new (filter (λ b. not (subsumes new b)) lines)
 left-apart new [] none = tt
-left-apart new (a ∷ lines) none = by (subsumes new a) refl (left-apart new lines (either_false _ _ none).1)
+left-apart new (a ∷ lines) none = by (subsumes new a) refl (left-apart new lines (false-both _ _ none).1)
   where
     by : (t : Bool) → subsumes new a ≡ t → AllApart new (filter (λ b. not (subsumes new b)) lines) → AllApart new (if not t then a ∷ filter (λ b. not (subsumes new b)) lines else filter (λ b. not (subsumes new b)) lines)
     by true test more = more
-    by false test more = (((either_false _ _ none).0, test), more)
+    by false test more = (((false-both _ _ none).0, test), more)
 
 own-with : (kept : List LineParts) (new : LineParts) → AreOwn kept → AreOwn (with_line kept new)
 own-with kept new own = by (is_trivial new) (list_any (λ a. subsumes a new) kept) refl refl

@@ -8,6 +8,7 @@ use Rattle.edit_model.specs.Surveys.{IsField, IsKind}
 use Rattle.edit_model.specs.declared.field.Field.{Field}
 use Rattle.edit_model.specs.declared.field.Kind.{Kind}
 use Rattle.edit_model.specs.declared.field.Kind.TheVariants as kind
+use Rattle.edit_line.proofs.SetLaws.{and_false}
 use Rattle.edit_line.specs.Sets.{is_inside}
 use Rattle.edit_line.specs.Shapes.{Categorical, Domain, HasCodes, Numerical, codes_at, code_fields, codes_from, place_in, whole_sets, IsCategorical, domain_of, has_field, shape_of}
 use Rattle.edit_line.specs.CodeFields.{TakesCodes, codes_of, codes_up, place_of, size_from, size_of, whole_of, with_code_at}
@@ -157,7 +158,3 @@ not_all t i (suc k) code from below fails = by (nat_eq i code) refl (λ after. n
       where
         later : (i ≡ code → ⊥) → suc i ≤ code
         later apart = omega arith
-
-        and_false : (a : Bool) → (a && false) ≡ false
-        and_false true = refl
-        and_false false = refl

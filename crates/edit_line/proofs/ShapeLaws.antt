@@ -10,6 +10,7 @@ use Rattle.edit_model.specs.Surveys.{IsField, IsKind}
 use Rattle.edit_model.specs.declared.field.Field.{Field}
 use Rattle.edit_model.specs.declared.field.Kind.{Kind}
 use Rattle.edit_model.specs.declared.field.Kind.TheVariants as kind
+use Rattle.edit_line.proofs.BoolLaws.{or_true}
 use Rattle.edit_line.specs.Shapes.{Categorical, Domain, HasCodes, Numerical, code_count, code_fields, codes_from, domain_of, domain_with, domains_of, number_fields, has_field, numbers_from, place_in, shape_of, whole_sets}
 
 -- A survey's shape, and its fields of each kind.
@@ -103,10 +104,6 @@ place-within (i ∷ fields) f there = by (i == f) (place-within fields f) there
 
 own_number : (i k : ℕ) → k ≡ 0 → (i == (i + k)) ≡ true
 own_number i k none = (Decides-eqb i (i + k)).1 (omega arith)
-
-or_true : (b : Bool) → (b || true) ≡ true
-or_true true = refl
-or_true false = refl
 
 -- a field on which a set of codes is given is categorical
 pub codes-there : (i k set : ℕ) (fields : List Field) → IsSomeAnd (slice_get fields k) (λ (f : Field). surveys.HasCodes f.kind set) → has_field (codes_from i (shape_of fields)) (i + k) ≡ true

@@ -1,4 +1,7 @@
-use Rattle.std.proofs.Common.{◌≡◌, ◌≢◌, ℕ, suc, ◌+◌, List, [], ◌∷◌, ℤ, refl, sym, ap, ◌∙◌, subst, arith}
+use Rattle.std.proofs.Common.{◌≡◌, ◌≢◌, ℕ, suc, ◌+◌, false, List, [], ◌∷◌, ℤ, refl, sym, ap, ◌∙◌, subst, arith}
+use Rattle.edit_model.specs.Corrections.{differs_from}
+use Rattle.edit_model.specs.Points.{Point}
+use Rattle.edit_model.specs.RowPoints.{Agrees}
 use Rattle.edit_model.specs.Rows.{IsOfKind, IsRow, value_of}
 use Rattle.edit_model.specs.Trials.{IsNumberValue}
 use Rattle.edit_model.specs.declared.field.Field.{Field}
@@ -8,7 +11,8 @@ use Rattle.edit_model.specs.declared.value.Value.{Value}
 use Rattle.edit_model.specs.declared.value.Value.TheVariants.{Code, Number, Bad}
 use Rattle.edit_line.specs.Lines.{LineParts}
 use Rattle.edit_line.specs.Shapes.{Domain, domain_of, number_fields, numbers_from, shape_of}
-use Rattle.edit_line.specs.Sums.{AtFactors, HasNumbers}
+use Rattle.edit_line.specs.Sums.{AgreesWith, AtFactors, HasNumbers}
+use Rattle.edit_line.proofs.FactorLaws.{AtFactors-map}
 
 -- What a caller of `value_at` shows: a record of the survey has the numbers that a line reads, where none of them is Bad.
 
@@ -43,3 +47,14 @@ pub numbers-held : (fields : List Field) (row : List Value) (line : LineParts) �
 numbers-held fields row line shape is held =
     subst (λ (s : List Domain). AtFactors (λ f. value_of row f ≢ Bad) (number_fields s) line.factors → AtFactors (λ f. IsNumberValue (value_of row f)) (number_fields s) line.factors) (sym shape)
     (numbers-from-row 0 fields row row line.factors is (λ j. ap (λ (n : ℕ). value_of row n) (omega arith))) held
+
+-- a value that a point agrees with is not Bad
+agrees-value : (v : Value) (p : Point) (f : ℕ) → differs_from v p f ≡ false → v ≢ Bad
+agrees-value (Number x) p f agrees = λ bad. absurd (cc)
+agrees-value (Code c) p f agrees = λ bad. absurd (cc)
+agrees-value Bad p f agrees = absurd (cc)
+
+-- so at a point that agrees, the record has the line's numbers
+pub numbers-agreed : (fields : List Field) (row : List Value) (line : LineParts) (p : Point) → line.shape ≡ shape_of fields → IsRow fields row → AgreesWith row p line → HasNumbers row line
+numbers-agreed fields row line p shape is agrees =
+    numbers-held fields row line shape is (AtFactors-map (λ f. Agrees row p f) (λ f. value_of row f ≢ Bad) (λ f. agrees-value (value_of row f) p f) (number_fields line.shape) line.factors agrees)

@@ -113,10 +113,10 @@ module _ (line : LineParts) (row : List Value) (sum : Result Ratio ℕ) (same : 
   overflow-answered (Ok x) e = tt
   overflow-answered (Err fault) e = sym same ∙ e
 
-  pub amount-answered : (r : Result Fraction LineOverflow) → IfOk r (λ x. sum ≡ Ok (ratio_of x))
-      → IfOk r (λ x. (p : Point) → HasNumbers row line → AgreesWith row p line → x.numerator *ℤ p.denominator ≡ amount line p *ℤ x.denominator)
-  amount-answered (Ok x) e = λ p held agrees. (sum_at-over p line row (ratio_of x) held agrees (sym same ∙ e)).0
-  amount-answered (Err fault) e = tt
+  pub amount-answered : ((p : Point) → AgreesWith row p line → HasNumbers row line) → (r : Result Fraction LineOverflow) → IfOk r (λ x. sum ≡ Ok (ratio_of x))
+      → IfOk r (λ x. (p : Point) → AgreesWith row p line → x.numerator *ℤ p.denominator ≡ amount line p *ℤ x.denominator)
+  amount-answered held (Ok x) e = λ p agrees. (sum_at-over p line row (ratio_of x) (held p agrees) agrees (sym same ∙ e)).0
+  amount-answered held (Err fault) e = tt
 
 -- whether a line fails, from its sum
 pub fails-answered : (line : LineParts) (row : List Value) (p : Point) (sum : Fraction) (strict enough : Bool) (n : ℤ) → HasNumbers row line → AgreesWith row p line → sum_at line row ≡ Ok (ratio_of sum)

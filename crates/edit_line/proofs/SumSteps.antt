@@ -1,4 +1,4 @@
-use Rattle.std.proofs.Common.{◌≡◌, ◌≢◌, ℕ, zero, suc, ◌+◌, ◌<◌, ◌≤◌, Bool, true, false, if◌then◌else◌, List, [], ◌∷◌, get_or, length, drop, Option, Some, None, Result, Ok, Err, ℤ, pos, refl, sym, ap, ◌∙◌, subst, arith, add-one}
+use Rattle.std.proofs.Common.{◌≡◌, ◌≢◌, ℕ, suc, ◌+◌, ◌<◌, ◌≤◌, Bool, true, false, if◌then◌else◌, List, ◌∷◌, get_or, length, drop, Option, Some, None, Result, Ok, Err, ℤ, pos, refl, sym, ap, ◌∙◌, arith, add-one}
 use Rattle.std.specs.Ordering.{int_eq}
 use Rattle.std.proofs.Math.Seq.{drop-cons}
 use Rattle.std.proofs.lemmas.Bool.Decides.{Decides-int_eq}
@@ -6,11 +6,9 @@ use Rattle.std.proofs.lemmas.List.{drop_all}
 use Rattle.fraction128.specs.Formulas.{Ratio, answered, ratio_of}
 use Rattle.fraction128.specs.declared.fraction.Fraction.{Fraction}
 use Rattle.edit_model.specs.Rows.{value_of}
-use Rattle.edit_model.specs.Trials.{IsNumberValue, sum_with}
+use Rattle.edit_model.specs.Trials.{sum_with}
 use Rattle.edit_model.specs.declared.value.Value.{Value}
-use Rattle.edit_line.specs.Lines.{LineParts}
-use Rattle.edit_line.specs.Shapes.{number_fields}
-use Rattle.edit_line.specs.Sums.{AtFactors, HasNumbers, HasPlaces, next_sum, or_field, sum_from}
+use Rattle.edit_line.specs.Sums.{next_sum, or_field, sum_from}
 
 -- Steps of a sum: what a call answers, and what the sum is from there on.
 
@@ -25,29 +23,6 @@ next-product a v sum apart = ap (λ b. if b then Some sum else sum_with sum a v)
 -- the factor 0 adds nothing
 pub next-nothing : (a : ℤ) (v : Value) (sum : Ratio) → a ≡ pos 0 → next_sum a v sum ≡ Some sum
 next-nothing a v sum is = ap (λ b. if b then Some sum else sum_with sum a v) ((Decides-int_eq a (pos 0)).1 is)
-
--- a record has a field at which it has a number
-pub number-within : (row : List Value) (f : ℕ) → IsNumberValue (value_of row f) → f < length row
-number-within [] f is = absurd is
-number-within (v ∷ row) zero is = omega arith
-number-within (v ∷ row) (suc f) is = let below = number-within row f is in omega arith
-
--- what holds of each field beside a factor other than 0 holds at a place
--- a fact of each field that stands in a line gives another
-pub AtFactors-map : (P Q : ℕ → Type 0) → ((f : ℕ) → P f → Q f) → (fields : List ℕ) (factors : List ℤ) → AtFactors P fields factors → AtFactors Q fields factors
-AtFactors-map P Q next [] factors at = tt
-AtFactors-map P Q next (f ∷ fields) [] at = tt
-AtFactors-map P Q next (f ∷ fields) (a ∷ factors) at = (λ apart. next f (at.0 apart), AtFactors-map P Q next fields factors at.1)
-
--- a record with the numbers of a line has their places
-pub places-held : (row : List Value) (line : LineParts) → HasNumbers row line → HasPlaces row line
-places-held row line held = AtFactors-map (λ f. IsNumberValue (value_of row f)) (λ f. f < length row) (number-within row) (number_fields line.shape) line.factors held
-
-pub AtFactors-at : (P : ℕ → Type 0) (fields : List ℕ) (factors : List ℤ) (i e : ℕ) (d : ℤ) → i < length fields → i < length factors → AtFactors P fields factors → get_or factors i d ≢ pos 0 → P (get_or fields i e)
-AtFactors-at P [] factors i e d below within at apart = absurd (omega arith)
-AtFactors-at P (f ∷ fields) [] i e d below within at apart = absurd (omega arith)
-AtFactors-at P (f ∷ fields) (a ∷ factors) zero e d below within at apart = at.0 apart
-AtFactors-at P (f ∷ fields) (a ∷ factors) (suc i) e d below within at apart = AtFactors-at P fields factors i e d (omega arith) (omega arith) at.1 apart
 
 -- the sum from a place on
 pub sum_from-at : (fields : List ℕ) (factors : List ℤ) (row : List Value) (sum : Ratio) (i e : ℕ) (d : ℤ) → i < length fields → i < length factors
@@ -74,10 +49,6 @@ module _ {E : Type 0} (a given : ℤ) (v read : Value) (sum : Ratio) (r : Result
 
 module _ (fields : List ℕ) (factors : List ℤ) (row : List Value) (sum : Ratio) (whole : Result Ratio ℕ) (i f : ℕ) (a : ℤ) (below : i < length fields) (many : length factors ≡ length fields)
     (field_is : f ≡ get_or fields i 0) (factor_is : a ≡ get_or factors i (pos 0)) where
-  -- the record has the place that is read
-  pub place-there : AtFactors (λ f. f < length row) fields factors → a ≢ pos 0 → f < length row
-  place-there at apart = subst (λ n. n < length row) (sym field_is) (AtFactors-at (λ f. f < length row) fields factors i 0 (pos 0) below (omega arith) at (λ is. apart (factor_is ∙ is)))
-
   here : sum_from (drop i fields) (drop i factors) row sum ≡ whole → or_field f (next_sum a (value_of row f) sum) (λ next. sum_from (drop (i + 1) fields) (drop (i + 1) factors) row next) ≡ whole
   here before =
       ap (λ n. or_field n (next_sum a (value_of row n) sum) (λ next. sum_from (drop (i + 1) fields) (drop (i + 1) factors) row next)) field_is

@@ -1,10 +1,9 @@
-use Rattle.std.proofs.Common.{◌≡◌, ◌&&◌, ◌||◌, Bool, true, false, not, if◌then◌else◌, List, [], ◌∷◌, ◌⊎◌, inl, inr, map, refl, ap, ◌∙◌}
+use Rattle.std.proofs.Common.{◌≡◌, ◌&&◌, ◌||◌, Bool, true, false, not, if◌then◌else◌, List, [], ◌∷◌, inl, inr, map, refl, ap, ◌∙◌}
 use Rattle.std.specs.List.{filter, flat_map, list_any}
 use Rattle.std.proofs.lemmas.List.Folds.{list_any-append}
 use Rattle.edit_line.specs.Reductions.{IsIn}
-use Rattle.edit_line.proofs.Members.{in-either}
 
--- Tests over lists, and where the elements of a made list come from.
+-- Tests over lists.
 
 pub or_grouped : (a b c : Bool) → ((a || b) || c) ≡ (a || (b || c))
 or_grouped true b c = refl
@@ -68,18 +67,3 @@ any-split t p (x ∷ xs) = ap (λ r. t x || r) (any-split t p xs) ∙ mixed (p x
     mixed false true true b = refl
     mixed false true false b = refl
     mixed false false a b = refl
-
--- ---- where elements come from
-
-pub in-map : {X Y : Type 0} (h : X → Y) (y : Y) (xs : List X) → IsIn y (map h xs) → (x : X) × IsIn x xs × (y ≡ h x)
-in-map h y [] there = absurd there
-in-map h y (x ∷ xs) (inl same) = (x, inl refl, same)
-in-map h y (x ∷ xs) (inr there) = let (z, was, same) = in-map h y xs there in (z, inr was, same)
-
-pub in-flat_map : {X Y : Type 0} (h : X → List Y) (y : Y) (xs : List X) → IsIn y (flat_map h xs) → (x : X) × IsIn x xs × IsIn y (h x)
-in-flat_map h y [] there = absurd there
-in-flat_map {X} {Y} h y (x ∷ xs) there = by (in-either y (h x) (flat_map h xs) there) (in-flat_map h y xs)
-  where
-    by : IsIn y (h x) ⊎ IsIn y (flat_map h xs) → (IsIn y (flat_map h xs) → (z : X) × IsIn z xs × IsIn y (h z)) → (z : X) × IsIn z (x ∷ xs) × IsIn y (h z)
-    by (inl here) rest = (x, inl refl, here)
-    by (inr later) rest = let (z, was, made) = rest later in (z, inr was, made)

@@ -1,4 +1,4 @@
-use Rattle.std.specs.Prelude.{◌≢◌, ℕ, ◌<◌, ℤ, ◌&&◌, ◌||◌, length, not, Bool, true, List, ◌∷◌, Option, Some, None, Result, Ok, Err, pos, if◌then◌else◌}
+use Rattle.std.specs.Prelude.{◌≢◌, ℕ, ℤ, ◌&&◌, ◌||◌, not, Bool, true, List, ◌∷◌, Option, Some, None, Result, Ok, Err, pos, if◌then◌else◌}
 use Rattle.std.specs.Ordering.{int_eq}
 use Rattle.fraction128.specs.Formulas.{Ratio}
 use Rattle.edit_model.specs.Points.{Point}
@@ -23,10 +23,6 @@ stands_only test _ _ = true
 -- the record has a number at each field that stands in the line
 abbrev pub HasNumbers : List Value → LineParts → Type 0
 HasNumbers row line = AtFactors (λ f. IsNumberValue (value_of row f)) (number_fields line.shape) line.factors
-
--- the record has a value, which may be Bad, at each field that stands in the line
-abbrev pub HasPlaces : List Value → LineParts → Type 0
-HasPlaces row line = AtFactors (λ f. f < length row) (number_fields line.shape) line.factors
 
 -- the point has the record's values at the fields that stand in the line
 abbrev pub AgreesWith : List Value → Point → LineParts → Type 0

@@ -1,14 +1,14 @@
 //! The sum of a line at a record, in exact fractions of 128 bits.
-ghost use Rattle.std.specs.Prelude.{◌≡◌, ◌≢◌, ◌<◌, ◌*ℤ◌, not, Ok, Err, Some, None, All, IfErr, IfOk, length, pos};
+ghost use Rattle.std.specs.Prelude.{◌≡◌, ◌<◌, ◌*ℤ◌, not, Ok, Err, Some, None, All, IfErr, IfOk, length};
 ghost use Rattle.fraction128.specs.Formulas.{answered, ratio_of};
 ghost use Rattle.fraction128.specs.Range.{InRange};
 ghost use Rattle.edit_model.specs.Points.{Point};
-ghost use Rattle.edit_model.specs.Rows.{value_of};
+ghost use Rattle.edit_model.specs.Rows.{IsRow, value_of};
 ghost use Rattle.edit_model.specs.Trials.{sum_with};
 ghost use Rattle.edit_line.specs.Lines.{amount};
 ghost use Rattle.edit_line.specs.Shapes.{shape_of};
 ghost use Rattle.edit_line.specs.Subsumption.{is_enough};
-ghost use Rattle.edit_line.specs.Sums.{AgreesWith, AtFactors, HasNumbers, HasPlaces, fails_at, next_sum, sum_at, sum_from, whole};
+ghost use Rattle.edit_line.specs.Sums.{AgreesWith, fails_at, next_sum, sum_at, sum_from, whole};
 
 use crate::line::Line;
 use crate::overflow::LineOverflow;
@@ -21,21 +21,21 @@ use fraction128::{Fraction, Overflow};
 /// number of the formula leaves the range, at the first field at which one does. No memory.
 pub fn value_at(survey: &Survey, line: &Line, row: &Row) -> Result<Fraction, LineOverflow>
     requires shape { line.now.shape ≡ shape_of survey.now.fields }
-    requires places { HasPlaces row.now line.now }
+    requires row { IsRow survey.now.fields row.now }
     ensures value { IfOk result (λ x. sum_at line.now row.now ≡ Ok (ratio_of x)) }
     ensures overflow { IfErr result (λ fault. sum_at line.now row.now ≡ Err fault.field) }
     ensures amount { IfOk result (λ x. (p : Point)
-        → HasNumbers row.now line.now → AgreesWith row.now p line.now
+        → AgreesWith row.now p line.now
         → x.numerator *ℤ p.denominator ≡ amount line.now p *ℤ x.denominator) }
 {
     sum_over(survey.numbers(), line.factors(), line.constant(), row)
 }
 
-/// Whether the linear part is false at the record: its sum is below 0, or is 0 where the line is strict.
-/// No field that stands in the line is Bad. The refusal is that of [`value_at`]. No memory.
+/// Whether the linear part is false at the record: its sum, as [`value_at`] tells it, is below 0, or is 0
+/// where the line is strict. The refusal is that of [`value_at`]. No memory.
 pub fn fails(survey: &Survey, line: &Line, row: &Row) -> Result<bool, LineOverflow>
     requires shape { line.now.shape ≡ shape_of survey.now.fields }
-    requires numbers { HasNumbers row.now line.now }
+    requires row { IsRow survey.now.fields row.now }
     ensures answer { IfOk result (λ failed. fails_at line.now row.now ≡ Ok failed) }
     ensures overflow { IfErr result (λ fault. fails_at line.now row.now ≡ Err fault.field) }
     ensures truth { IfOk result (λ failed. (p : Point)
@@ -56,7 +56,7 @@ fn sum_over(
     requires count { length factors.now ≡ length fields.now }
     requires in_range { All InRange factors.now }
     requires constant { InRange constant }
-    requires places { AtFactors (λ f. f < length row.now) fields.now factors.now }
+    requires places { All (λ f. f < length row.now) fields.now }
     ensures sum { IfOk result (λ x. sum_from fields.now factors.now row.now (whole constant) ≡ Ok (ratio_of x)) }
     ensures overflow { IfErr result (λ fault. sum_from fields.now factors.now row.now (whole constant) ≡ Err fault.field) }
 {
@@ -70,7 +70,7 @@ fn sum_over(
 // The sum with the factor times the record's number at the field.
 fn with_field(sum: Fraction, factor: i128, field: u32, row: &Row) -> Result<Fraction, LineOverflow>
     requires in_range { InRange factor }
-    requires place { factor ≢ pos 0 → field < length row.now }
+    requires place { field < length row.now }
     ensures sum { IfOk result (λ next. next_sum factor (value_of row.now field) (ratio_of sum) ≡ Some (ratio_of next)) }
     ensures overflow { IfErr result (λ fault. (fault.field ≡ field) × (next_sum factor (value_of row.now field) (ratio_of sum) ≡ None)) }
 {

@@ -31,22 +31,6 @@ with-numerical fields numbers before after field numbers_are there numerical oth
     by true same = subst (λ n. IsNumerical (shape_of fields) n) (sym (same.0 refl)) (ap (λ (fs : List ℕ). has_field fs field) (number_fields-same fields ∙ sym numbers_are) ∙ there)
     by false same = numerical f (sym (others f (λ here. absurd (cc (same.1 here)))) ∙ has)
 
-no-numbers : (row : List Value) (line : LineParts) → number_fields line.shape ≡ [] → HasNumbers row line
-no-numbers row line none = subst (λ (fs : List ℕ). AtFactors (λ f. IsNumberValue (value_of row f)) fs line.factors) (sym none) tt
-
--- where no field is numerical, the lines ask for no numbers
-pub none-asked : (fields : List Field) (numbers : List ℕ) (row : List Value) (lines seen : List Derived) → numbers ≡ corrections.number_fields fields → length numbers ≡ 0 → seen ≡ lines → All (λ (d : Derived). d.line.shape ≡ shape_of fields) lines
-    → All (λ (d : Derived). HasNumbers row d.line) seen
-none-asked fields numbers row lines seen numbers_are none seen_is over =
-    subst (λ (ds : List Derived). All (λ (d : Derived). HasNumbers row d.line) ds) (sym seen_is) (
-    All-weaker (λ (d : Derived). d.line.shape ≡ shape_of fields) (λ (d : Derived). HasNumbers row d.line)
-    (λ d is. no-numbers row d.line (ap (λ (s : List Domain). number_fields s) is ∙ number_fields-same fields ∙ sym numbers_are ∙ empty numbers none)) lines over
-    )
-  where
-    empty : (ns : List ℕ) → length ns ≡ 0 → ns ≡ []
-    empty [] h = refl
-    empty (n ∷ ns) h = absurd (omega (arith, h))
-
 range-more : (from n : ℕ) → range_with_len from (suc n) ≡ range_with_len from n ++ (from + n) ∷ []
 range-more from zero = ap (λ k. k ∷ []) (omega arith)
 range-more from (suc n) = ap (λ (ns : List ℕ). from ∷ ns) (range-more (from + 1) n ∙ ap (λ k. range_with_len (from + 1) n ++ k ∷ []) (omega arith))

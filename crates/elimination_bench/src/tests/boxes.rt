@@ -11,7 +11,7 @@ use edit_model::{Survey, Value};
 use std::alloc::Global;
 use std::test::Fail;
 
-/// The boxes that the rules forbid at the record; no field of the survey is numerical.
+/// The boxes that the rules forbid at the record.
 pub(crate) fn boxes_at(
     alloc: Global,
     survey: &Survey,
@@ -19,9 +19,6 @@ pub(crate) fn boxes_at(
 ) -> Result<Vec<BoxFrom>, Fail> {
     let lines = derived_lines(alloc, survey, &rule_lines(alloc, survey)?)?;
     let row = row_of(alloc, survey, values)?;
-    if !survey.numbers().is_empty() {
-        return Err("categorical fields")?;
-    }
     Ok(boxes_of(alloc, survey, &lines, &row).ok().ok_or("boxes")?)
 }
 

@@ -1,4 +1,5 @@
-use Rattle.std.proofs.Common.{◌≡◌, ◌+◌, List, drop, [], Err, ap, arith, sym, ◌∙◌}
+use Rattle.std.proofs.Common.{◌≡◌, ◌+◌, List, drop, get_or, [], Err, ap, arith, sym, ◌∙◌}
+use Rattle.edit_line.proofs.SumCallers.{numbers-agreed}
 use Rattle.edit_line.specs.Shapes.{shape_of}
 use Rattle.categ_combine.specs.BoxLists.{sets_of}
 use Rattle.categ_combine.specs.FailingBoxes.{failing_from}
@@ -41,4 +42,4 @@ returns-clause-sets c =
 pub returns-clause-forbid : goal.returns-clause-forbid
 returns-clause-forbid c = λ p agree.
     let made = failing-sets c.args.lines.now c.args.row.now c.loop-i.kept.items (sym c.loop-i.invariant ∙ failing-end c.args.lines.now c.args.row.now c.loop-i.kept.items c.loop-i.i (omega arith)) in
-    failing-avoids (shape_of c.args.survey.now.fields) c.args.row.now p c.args.lines.now (sets_of c.loop-i.kept.items) c.requires.shape c.requires.numbers agree made
+    failing-avoids (shape_of c.args.survey.now.fields) c.args.row.now p c.args.lines.now (sets_of c.loop-i.kept.items) c.requires.shape (λ k d below. numbers-agreed c.args.survey.now.fields c.args.row.now (get_or c.args.lines.now k d).line p (c.requires.shape k d below) c.requires.row (agree k d below)) agree made

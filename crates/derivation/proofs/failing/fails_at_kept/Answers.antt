@@ -1,11 +1,8 @@
-use Rattle.std.proofs.Common.{List, length, sym, ap, ◌∙◌}
+use Rattle.std.proofs.Common.{length, sym, ap, ◌∙◌}
 use Rattle.edit_model.specs.Corrections.{is_numerical}
-use Rattle.edit_line.specs.Shapes.{Domain, number_fields}
 use Rattle.edit_line.proofs.ShapeLaws.{same_fields}
-use Rattle.derivation.specs.ValidSteps.{all_kept}
-use Rattle.derivation.proofs.FailLaws.{kept-numbers}
 use Rattle.derivation.proofs.FieldNumbers.{numbers-small}
-use Rattle.derivation.proofs.KeptFactors.{fails-told, own-kept, stands-elsewhere}
+use Rattle.derivation.proofs.KeptFactors.{fails-told, stands-elsewhere}
 use Rattle.derivation.proofs.failing.fails_at_kept.Goals as goal
 
 pub all_kept-requires-clause-count : goal.all_kept-requires-clause-count
@@ -22,12 +19,3 @@ returns-then-not-all_kept c =
 pub returns-in-Ok : goal.returns-in-Ok
 returns-in-Ok c =
     fails-told c.args.basis.now.kept c.args.basis.now.survey.now.fields c.args.basis.now.row.now c.args.line.now _ _ c.all_kept.result c.numbers.ensures c.factors.ensures.factors c.all_kept.ensures c.if-not-all_kept.false c.in-Ok.failed c.in-Ok.ensures.answer
-
-pub fails-requires-clause-numbers : goal.fails-requires-clause-numbers
-fails-requires-clause-numbers c =
-    let fields = c.args.basis.now.survey.now.fields in
-    let kept = c.args.basis.now.kept in
-    let line = c.args.line.now in
-    let own = own-kept kept fields c.args.basis.now.row.now line _ _ c.all_kept.result c.numbers.ensures c.factors.ensures.factors c.all_kept.ensures in
-    kept-numbers fields c.args.basis.now.row.now kept line c.requires.basis.row c.requires.basis.kept c.requires.over
-    (ap (λ (s : List Domain). all_kept kept (number_fields s) line.factors) c.requires.over ∙ sym own ∙ c.if-not-all_kept.false)

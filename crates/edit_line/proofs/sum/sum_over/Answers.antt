@@ -1,16 +1,10 @@
-use Rattle.std.proofs.Common.{◌≡◌, FitsSigned, get_or, ℤ, pos, Ok, Err, refl, sym, ap, ◌∙◌, rules}
+use Rattle.std.proofs.Common.{◌≡◌, FitsSigned, get_or, ℤ, pos, Err, refl, sym, ap, ◌∙◌, rules}
 use Rattle.std.proofs.lemmas.Int.{to_z-of_z}
 use mir.Syntax.{w128}
 use Rattle.fraction128.specs.Formulas.{ratio_of}
 use Rattle.edit_line.specs.Sums.{sum_from, whole}
-use Rattle.edit_line.proofs.SumSteps.{place-there, overflow-there, sum-more}
+use Rattle.edit_line.proofs.SumSteps.{overflow-there, sum-more}
 use Rattle.edit_line.proofs.sum.sum_over.Goals as goal
-
-pub with_field-requires-clause-place : goal.with_field-requires-clause-place
-with_field-requires-clause-place c =
-    let i = c.loop-place.place in
-    let fits : FitsSigned w128 (get_or c.args.factors.now i (pos 0)) = search rules in
-    place-there c.args.fields.now c.args.factors.now c.args.row.now (ratio_of c.loop-place.sum) (Ok (ratio_of c.loop-place.sum)) i _ _ c.loop-place-test.true c.requires.count refl (to_z-of_z w128 _ fits) c.requires.places
 
 pub returns-in_err-sum-clause-overflow : goal.returns-in_err-sum-clause-overflow
 returns-in_err-sum-clause-overflow c =

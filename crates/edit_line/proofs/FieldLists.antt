@@ -1,0 +1,41 @@
+use Rattle.std.proofs.Common.{◌≡◌, ◌||◌, ◌==◌, ◌++◌, ◌⊎◌, inl, inr, ℕ, Bool, true, false, List, [], ◌∷◌, refl, sym, ap, ◌∙◌}
+use Rattle.std.proofs.lemmas.Bool.Decides.{Decides-eqb}
+use Rattle.edit_line.specs.Reductions.{IsIn}
+use Rattle.edit_line.specs.Shapes.{has_field}
+use Rattle.edit_line.proofs.BoolLaws.{or_true, true-first, true-second}
+
+-- Whether a list of fields has a field.
+
+-- the test is true of the fields that stand there
+pub there-has : (i : ℕ) (fields : List ℕ) → IsIn i fields → has_field fields i ≡ true
+there-has i [] none = absurd none
+there-has i (j ∷ fields) (inl same) = ap (λ b. b || has_field fields i) ((Decides-eqb j i).1 (sym same))
+there-has i (j ∷ fields) (inr there) = ap (λ b. (j == i) || b) (there-has i fields there) ∙ or_true (j == i)
+
+-- and of no others
+pub has-there : (i : ℕ) (fields : List ℕ) → has_field fields i ≡ true → IsIn i fields
+has-there i [] h = absurd (cc)
+has-there i (j ∷ fields) h = by (j == i) (Decides-eqb j i).0 (has-there i fields) h
+  where
+    by : (b : Bool) → (b ≡ true → j ≡ i) → (has_field fields i ≡ true → IsIn i fields) → (b || has_field fields i) ≡ true → (i ≡ j) ⊎ IsIn i fields
+    by true same rest h = inl (sym (same h))
+    by false same rest h = inr (rest h)
+
+-- a field of two lists, one behind the other
+pub has-append : (i : ℕ) (first second : List ℕ) → has_field (first ++ second) i ≡ (has_field first i || has_field second i)
+has-append i [] second = ap (λ b. b) (same (has_field second i))
+  where
+    same : (b : Bool) → b ≡ (false || b)
+    same true = refl
+    same false = refl
+has-append i (j ∷ first) second = ap (λ b. (j == i) || b) (has-append i first second) ∙ grouped (j == i) (has_field first i) (has_field second i)
+  where
+    grouped : (a b c : Bool) → (a || (b || c)) ≡ ((a || b) || c)
+    grouped true b c = refl
+    grouped false b c = refl
+
+pub has-left : (i : ℕ) (first second : List ℕ) → has_field first i ≡ true → has_field (first ++ second) i ≡ true
+has-left i first second there = has-append i first second ∙ true-first _ _ there
+
+pub has-right : (i : ℕ) (first second : List ℕ) → has_field second i ≡ true → has_field (first ++ second) i ≡ true
+has-right i first second there = has-append i first second ∙ true-second _ _ there

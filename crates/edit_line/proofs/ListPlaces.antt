@@ -1,0 +1,31 @@
+use Rattle.std.proofs.Common.{◌≡◌, ℕ, zero, suc, ◌+◌, List, [], ◌∷◌, Some, map, slice_get, refl, ap, ◌∙◌, arith}
+
+-- Places of elements in a list.
+
+-- the list from place i on
+abbrev pub StandsAt : {X : Type 0} → List X → ℕ → List X → Type 0
+StandsAt whole i xs = (k : ℕ) → slice_get whole (i + k) ≡ slice_get xs k
+
+pub first-at : {X : Type 0} (whole : List X) (i : ℕ) (x : X) (xs : List X) → StandsAt whole i (x ∷ xs) → slice_get whole i ≡ Some x
+first-at whole i x xs at = ap (λ k. slice_get whole k) same ∙ at 0
+  where
+    same : i ≡ i + 0
+    same = omega arith
+
+pub later-at : {X : Type 0} (whole : List X) (i : ℕ) (x : X) (xs : List X) → StandsAt whole i (x ∷ xs) → StandsAt whole (suc i) xs
+later-at whole i x xs at k = ap (λ j. slice_get whole j) same ∙ at (suc k)
+  where
+    same : suc i + k ≡ i + suc k
+    same = omega arith
+
+-- what is made of the element at a place stands at that place
+pub get-map : {X Y : Type 0} (g : X → Y) (xs : List X) (i : ℕ) (x : X) → slice_get xs i ≡ Some x → slice_get (map g xs) i ≡ Some (g x)
+get-map g [] i x e = absurd (cc)
+get-map g (y ∷ xs) zero x e = let same : y ≡ x = cc in ap (λ z. Some (g z)) same
+get-map g (y ∷ xs) (suc i) x e = get-map g xs i x e
+
+-- and is made of the element there
+pub get-map-out : {X Y : Type 0} (g : X → Y) (xs : List X) (i : ℕ) (y : Y) → slice_get (map g xs) i ≡ Some y → (x : X) × (slice_get xs i ≡ Some x) × (y ≡ g x)
+get-map-out g [] i y e = absurd (cc)
+get-map-out g (x ∷ xs) zero y e = (x, refl, cc)
+get-map-out g (x ∷ xs) (suc i) y e = get-map-out g xs i y e
