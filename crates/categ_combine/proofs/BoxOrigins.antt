@@ -11,10 +11,10 @@ use Rattle.edit_line.specs.Sets.{all_inside, has_codes}
 use Rattle.edit_line.specs.Shapes.{Domain, whole_sets}
 use Rattle.edit_line.specs.Sums.{fails_at}
 use Rattle.edit_line.specs.declared.derived.Derived.{Derived}
-use Rattle.edit_line.proofs.Members.{all-in, in-all, in-either, in-get, in-taken}
+use Rattle.edit_line.proofs.ListPlaces.{StandsAt, first-at, later-at}
+use Rattle.edit_line.proofs.Members.{all-in, in-all, in-either, in-flat_map-out, in-get, in-taken}
 use Rattle.edit_line.proofs.OtherFields.{set-set, set-whole}
 use Rattle.edit_line.proofs.SetLaws.{both_true}
-use Rattle.edit_line.proofs.TestLists.{in-flat_map}
 use Rattle.categ_combine.specs.BoxLists.{AreBoxesOver, sets_of}
 use Rattle.categ_combine.specs.Covers.{cover_count, covered_from, covers_from, first_cover, from_of, is_whole_at, joined, joined_for, meets_but, parts_of, row_of, takes_part, unchanged_one, with_code_from}
 use Rattle.categ_combine.specs.Each.{each_from}
@@ -35,22 +35,6 @@ some_at : {X : Type 0} (P : X → Type 0) (o : Option X) (x : X) → o ≡ Some 
 some_at P o x e h = subst (λ o. IsSomeAnd o P) (sym e) h
 
 -- ---- elements with their places
-
--- the list from place i on
-abbrev StandsAt : {X : Type 0} → List X → ℕ → List X → Type 0
-StandsAt whole i xs = (k : ℕ) → slice_get whole (i + k) ≡ slice_get xs k
-
-first-at : {X : Type 0} (whole : List X) (i : ℕ) (x : X) (xs : List X) → StandsAt whole i (x ∷ xs) → slice_get whole i ≡ Some x
-first-at whole i x xs at = ap (λ k. slice_get whole k) same ∙ at 0
-  where
-    same : i ≡ i + 0
-    same = omega arith
-
-later-at : {X : Type 0} (whole : List X) (i : ℕ) (x : X) (xs : List X) → StandsAt whole i (x ∷ xs) → StandsAt whole (suc i) xs
-later-at whole i x xs at k = ap (λ j. slice_get whole j) same ∙ at (suc k)
-  where
-    same : suc i + k ≡ i + suc k
-    same = omega arith
 
 whole-at : {X : Type 0} (xs : List X) → StandsAt xs 0 xs
 whole-at xs k = ap (λ n. slice_get xs n) (omega arith)
@@ -208,7 +192,7 @@ module _ (shape : List Domain) (boxes : List BoxFrom) (f : ℕ) (over : AreBoxes
       subst (λ n. IsPart n b) (omega arith) (folded-parts (suc code) left (with_code_from place whole boxes found code) next b there)
     where
       next : (b : BoxFrom) → IsIn b (with_code_from (place_of shape f) (whole_of shape f) boxes found code) → IsPart (suc code) b
-      next b there = let (q, was, made) = in-flat_map (row_of place whole code boxes) b found (in-reduce_from b _ there) in next-part code q b (are q was) made
+      next b there = let (q, was, made) = in-flat_map-out (row_of place whole code boxes) b found (in-reduce_from b _ there) in next-part code q b (are q was) made
 
   abbrev FromCover : BoxFrom → Type 0
   FromCover b = ComesFromCover shape boxes f b.code_box b.origin

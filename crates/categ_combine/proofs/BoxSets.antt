@@ -12,11 +12,10 @@ use Rattle.edit_line.specs.Sets.{has_codes}
 use Rattle.edit_line.specs.Shapes.{Domain, code_fields, whole_sets}
 use Rattle.edit_model.specs.Points.{has_code}
 use Rattle.edit_line.proofs.CombinationLaws.{length-meets}
-use Rattle.edit_line.proofs.Members.{in-either, in-filter-out, in-get}
+use Rattle.edit_line.proofs.Members.{in-either, in-filter-out, in-flat_map-out, in-get, in-map-out}
 use Rattle.edit_line.proofs.OtherFields.{length-set}
 use Rattle.edit_line.proofs.PointCodes.{place_of-below}
 use Rattle.edit_line.proofs.ShapeLaws.{length-wholes}
-use Rattle.edit_line.proofs.TestLists.{in-flat_map, in-map}
 use Rattle.categ_combine.specs.Covers.{covered, covers_of, is_whole_at, meets_but, takes_part, with_code}
 use Rattle.categ_combine.specs.Fixing.{fixed}
 use Rattle.categ_combine.proofs.CoverLaws.{HaveSets}
@@ -27,9 +26,9 @@ use Rattle.categ_combine.proofs.ReducedBoxes.{in-reduce}
 module _ (P Q : List ℕ → Type 0) (place whole : ℕ) (meet : (p b : List ℕ) → P p → Q b → P (meets_but place whole p b)) (boxes : List (List ℕ)) (all : (b : List ℕ) → IsIn b boxes → Q b) where
   each-with_code : (covers : List (List ℕ)) (code : ℕ) → ((p : List ℕ) → IsIn p covers → P p) → (b : List ℕ) → IsIn b (with_code place whole boxes covers code) → P b
   each-with_code covers code first b there =
-      let (p, p_in, from) = in-flat_map (λ p. filter has_codes (map (λ c. meets_but place whole p c) (filter (takes_part place whole code) boxes))) b covers (in-reduce b _ there) in
+      let (p, p_in, from) = in-flat_map-out (λ p. filter has_codes (map (λ c. meets_but place whole p c) (filter (takes_part place whole code) boxes))) b covers (in-reduce b _ there) in
       let (was, some) = in-filter-out has_codes b (map (λ c. meets_but place whole p c) (filter (takes_part place whole code) boxes)) from in
-      let (c, c_in, same) = in-map (λ c. meets_but place whole p c) b (filter (takes_part place whole code) boxes) was in
+      let (c, c_in, same) = in-map-out (λ c. meets_but place whole p c) b (filter (takes_part place whole code) boxes) was in
       let (c_was, takes) = in-filter-out (takes_part place whole code) c boxes c_in in
       subst P (sym same) (meet p c (first p p_in) (all c c_was))
 
@@ -54,7 +53,7 @@ pub each-fixed : (P Q : List ℕ → Type 0) (shape : List Domain) (boxes : List
     → (b : List ℕ) → IsIn b (fixed shape boxes f code) → P b
 each-fixed P Q shape boxes f code made all b there =
     let has : List ℕ → Bool = λ c. has_code (slice_index_or c (place_of shape f) 0) code in
-    let (c, c_in, same) = in-map (λ c. slice_set c (place_of shape f) (whole_of shape f)) b (filter has boxes) (in-reduce b _ there) in
+    let (c, c_in, same) = in-map-out (λ c. slice_set c (place_of shape f) (whole_of shape f)) b (filter has boxes) (in-reduce b _ there) in
     subst P (sym same) (made c (all c (in-filter-out has c boxes c_in).0))
 
 -- ---- a set for each categorical field

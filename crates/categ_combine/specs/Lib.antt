@@ -4,6 +4,6 @@ pub mod Each
 pub mod FailingBoxes
 pub mod Fixing
 pub mod Origins
-pub mod Spots
 pub mod Steps
 pub mod Texts
+pub mod inner

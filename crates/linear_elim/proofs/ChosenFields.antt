@@ -2,24 +2,15 @@ use Rattle.std.proofs.Common.{◌≡◌, ◌≢◌, ◌||◌, ◌==◌, Bool, tr
 use Rattle.std.proofs.lemmas.Bool.Decides.{Decides-eqb}
 use Rattle.edit_model.specs.FieldSets.{has_number}
 use Rattle.edit_line.specs.Shapes.{Categorical, Domain, IsNumerical, Numerical, has_field, number_fields, numbers_from}
+use Rattle.edit_line.proofs.FieldLists.{has-there, there-has}
+use Rattle.edit_line.proofs.Members.{in-filter}
 use Rattle.linear_elim.specs.Systems.{AreNumerical, chosen_fields}
 
 -- The numerical fields of a set, in declared order.
 
--- a field of a list that passes a test
-has-filter : (t : ℕ → Bool) (f : ℕ) (fields : List ℕ) → t f ≡ true → has_field fields f ≡ true → has_field (filter t fields) f ≡ true
-has-filter t f [] own there = absurd (cc)
-has-filter t f (i ∷ fields) own there = by (i == f) refl (t i) refl there (has-filter t f fields own)
-  where
-    by : (b : Bool) → (i == f) ≡ b → (k : Bool) → t i ≡ k → (b || has_field fields f) ≡ true → (has_field fields f ≡ true → has_field (filter t fields) f ≡ true) → has_field (if k then i ∷ filter t fields else filter t fields) f ≡ true
-    by true e true passes h rest = ap (λ b. b || has_field (filter t fields) f) e
-    by true e false passes h rest = let same : i ≡ f = (Decides-eqb i f).0 e in absurd (cc (sym passes ∙ ap t same ∙ own))
-    by false e true passes h rest = ap (λ b. b || has_field (filter t fields) f) e ∙ rest h
-    by false e false passes h rest = rest h
-
 -- the fields of a set of numerical fields are all chosen
 pub chosen-has : (shape : List Domain) (bits f : ℕ) → AreNumerical shape bits → has_number bits f ≡ true → has_field (chosen_fields shape bits) f ≡ true
-chosen-has shape bits f numerical there = has-filter (has_number bits) f (number_fields shape) there (numerical f there)
+chosen-has shape bits f numerical there = there-has f (chosen_fields shape bits) (in-filter (has_number bits) f (number_fields shape) there (has-there f (number_fields shape) (numerical f there)))
 
 -- ---- a set with a later field more
 

@@ -1,15 +1,16 @@
 use Rattle.std.proofs.Common.{◌≡◌, ◌↔◌, ℕ, List, [], ◌∷◌, ◌++◌, All, map, fold, Result, Ok, Err, refl, sym, ap, ◌∙◌, subst}
 use Rattle.std.proofs.lemmas.List.Elements.{All-map}
 use Rattle.edit_model.specs.Points.{Point}
-use Rattle.edit_line.specs.EditSets.{AreEdits, base_lines}
+use Rattle.edit_line.specs.EditSets.{AreEdits, EditsParts, base_lines}
 use Rattle.edit_line.specs.Lines.{AllHold, AreOver, HaveShape, IsLine, LineParts}
 use Rattle.edit_line.specs.Reductions.{lines_of, reduce, reduce_derived}
-use Rattle.edit_line.specs.Shapes.{Domain}
+use Rattle.edit_line.specs.Shapes.{Domain, IsNumerical}
 use Rattle.edit_line.specs.declared.derived.Derived.{Derived}
 use Rattle.edit_line.proofs.ReductionLaws.{all-reduce, reduce-lines, reduced-same}
 use Rattle.linear_elim.specs.PointChanges.{CanHoldIn}
 use Rattle.linear_elim.specs.Steps.{StepOverflow, step, step_result}
-use Rattle.linear_elim.specs.Systems.{SystemOverflow, chosen_fields, fold_result, next_result}
+use Rattle.linear_elim.specs.Systems.{SystemOverflow, chosen_fields, fold_result, next_result, system_at, system_of}
+use Rattle.linear_elim.proofs.ChosenFields.{HasOneMore, chosen-more}
 use Rattle.linear_elim.proofs.ResultLaws.{HaveShape-result, base-plain, fold-plain, ok_same}
 use Rattle.linear_elim.proofs.ShapeLaws.{HaveShape-lines}
 use Rattle.linear_elim.proofs.SystemLaws.{chosen-numerical, fold-holds, fold-lifts}
@@ -53,6 +54,11 @@ fold-next lines before last ys is = by (fold_result lines before) refl
 pub fold-stopped : (lines : List Derived) (before : List ℕ) (last : ℕ) (reached : List Derived) (fault : StepOverflow) → fold_result lines before ≡ Ok reached → step_result reached last ≡ Err fault
     → fold_result lines (before ++ last ∷ []) ≡ Err (record { field = last; step = fault })
 fold-stopped lines before last reached fault is stops = fold-joined lines before (last ∷ []) reached is ∙ ap (λ r. next_result last r (λ next. Ok next)) stops
+
+-- the system without a later field more is one step from the system before
+pub system-next : (edits : EditsParts) (bits more last : ℕ) (lines : List Derived) → IsNumerical edits.shape last → HasOneMore bits more last → system_at edits bits ≡ Ok lines → system_at edits more ≡ next_result last (step_result lines last) (λ next. Ok next)
+system-next edits bits more last lines number one is =
+    ap (λ fs. system_of edits.lines fs) (chosen-more edits.shape bits more last number one) ∙ fold-joined (reduce_derived (base_lines edits.lines)) (chosen_fields edits.shape bits) (last ∷ []) lines is
 
 -- the fold's lines stay over the fields of the shape
 pub HaveShape-folded : (shape : List Domain) (lines : List Derived) (fs : List ℕ) (ys : List Derived) → fold_result lines fs ≡ Ok ys → HaveShape shape (lines_of lines) → HaveShape shape (lines_of ys)

@@ -4,7 +4,6 @@ pub mod ColumnLaws
 pub mod CountLaws
 pub mod FlatLaws
 pub mod FoldLaws
-pub mod ListMembers
 pub mod MadeLaws
 pub mod OriginLaws
 pub mod OverflowLaws

@@ -4,14 +4,13 @@ use Rattle.edit_line.specs.Lines.{HaveShape, LineParts}
 use Rattle.edit_line.specs.Reductions.{IsIn, lines_of}
 use Rattle.edit_line.specs.declared.derived.Derived.{Derived}
 use Rattle.edit_line.specs.declared.derived.Origin.TheVariants.{Base}
-use Rattle.edit_line.proofs.Members.{all-in}
+use Rattle.edit_line.proofs.Members.{all-in, in-map-out}
 use Rattle.linear_elim.specs.Origins.{AllComeFrom, IsEdit}
 use Rattle.linear_elim.specs.Parts.{AreFlat, IsMade, parts_of_system}
 use Rattle.linear_elim.specs.Systems.{AreNumerical, chosen_fields, fold_result, system_at, system_of}
 use Rattle.linear_elim.proofs.ChosenFields.{chosen-has}
 use Rattle.linear_elim.proofs.FlatLaws.{fold-flat}
 use Rattle.linear_elim.proofs.FoldLaws.{HaveShape-folded, HaveShape-start, fold-next, lifts-start}
-use Rattle.linear_elim.proofs.ListMembers.{in-map-out}
 use Rattle.linear_elim.proofs.OriginLaws.{derived-from, origins-result}
 use Rattle.linear_elim.proofs.ResultLaws.{fold-plain, ok_same}
 

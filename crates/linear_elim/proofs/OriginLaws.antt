@@ -6,12 +6,12 @@ use Rattle.edit_line.specs.Shapes.{Domain}
 use Rattle.edit_line.specs.Subsumption.{is_trivial, subsumes}
 use Rattle.edit_line.specs.declared.derived.Derived.{Derived}
 use Rattle.edit_line.specs.declared.derived.Origin.TheVariants.{Same}
-use Rattle.edit_line.proofs.Members.{all-in, in-all, in-either, in-get, in-reduced, in-taken}
+use Rattle.edit_line.proofs.ListPlaces.{StandsAt, first-at, later-at}
+use Rattle.edit_line.proofs.Members.{all-in, in-all, in-either, in-get, in-map, in-reduced, in-taken}
 use Rattle.edit_line.specs.Combinations.{first_overflow, numbers, unless_overflow}
 use Rattle.linear_elim.specs.Combinations.{combination, combined_with, first_multiplier, is_flat, is_lower, second_multiplier}
 use Rattle.linear_elim.specs.Origins.{AllComeFrom, ComesFrom, IsTakenSum}
 use Rattle.linear_elim.specs.Steps.{StepOverflow, collect, eliminated_result, flat_from, is_opposite, pair_result, paired, reduced_result, row_result, step_result}
-use Rattle.linear_elim.proofs.ListMembers.{in-map}
 use Rattle.linear_elim.proofs.PairLaws.{combination_divisor}
 use Rattle.linear_elim.proofs.ResultLaws.{followed, joined, ok_same}
 use Rattle.linear_elim.proofs.StepLaws.{above_tells}
@@ -24,24 +24,8 @@ use Rattle.linear_elim.proofs.TakenSums.{combination-taken}
 some_at : {X : Type 0} (P : X → Type 0) (o : Option X) (x : X) → o ≡ Some x → P x → IsSomeAnd o P
 some_at P o x e h = subst (λ o. IsSomeAnd o P) (sym e) h
 
--- the list from place i on
-abbrev StandsAt : {X : Type 0} → List X → ℕ → List X → Type 0
-StandsAt whole i xs = (k : ℕ) → slice_get whole (i + k) ≡ slice_get xs k
-
-first-at : {X : Type 0} (whole : List X) (i : ℕ) (x : X) (xs : List X) → StandsAt whole i (x ∷ xs) → slice_get whole i ≡ Some x
-first-at whole i x xs at = ap (λ k. slice_get whole k) same ∙ at 0
-  where
-    same : i ≡ i + 0
-    same = omega arith
-
-later-at : {X : Type 0} (whole : List X) (i : ℕ) (x : X) (xs : List X) → StandsAt whole i (x ∷ xs) → StandsAt whole (suc i) xs
-later-at whole i x xs at k = ap (λ j. slice_get whole j) same ∙ at (suc k)
-  where
-    same : suc i + k ≡ i + suc k
-    same = omega arith
-
 -- what holds of all that each element gives
-collect-all : {X Y F : Type 0} (P : Y → Type 0) (each : ℕ → X → Result (List Y) F) (whole : List X) (i : ℕ) (xs : List X) (ys : List Y) → StandsAt whole i xs
+pub collect-all : {X Y F : Type 0} (P : Y → Type 0) (each : ℕ → X → Result (List Y) F) (whole : List X) (i : ℕ) (xs : List X) (ys : List Y) → StandsAt whole i xs
     → ((j : ℕ) (x : X) (zs : List Y) → slice_get whole j ≡ Some x → each j x ≡ Ok zs → (y : Y) → IsIn y zs → P y)
     → collect each i xs ≡ Ok ys → (y : Y) → IsIn y ys → P y
 collect-all {X} {Y} P each whole i [] ys at gives e y there = absurd (subst (λ (zs : List Y). IsIn y zs) (ok_same ys [] (Ok []) e refl) there)

@@ -4,13 +4,12 @@ use Rattle.edit_line.specs.Lines.{AreOver, HasShape, HaveShape, IsLine, LinePart
 use Rattle.edit_line.specs.Reductions.{lines_of, reduce, reduce_derived}
 use Rattle.edit_line.specs.Shapes.{Domain, whole_sets}
 use Rattle.edit_line.specs.declared.derived.Derived.{Derived}
-use Rattle.edit_line.proofs.Members.{all-in, in-all}
+use Rattle.edit_line.proofs.Members.{all-in, in-all, in-map}
 use Rattle.edit_line.proofs.ReductionLaws.{HaveShape-reduce, reduce-lines}
 use Rattle.edit_line.proofs.SetLaws.{AreSets-length}
 use Rattle.edit_line.proofs.ShapeLaws.{length-wholes}
 use Rattle.linear_elim.specs.Combinations.{SameShape}
 use Rattle.linear_elim.specs.Steps.{OneShape}
-use Rattle.linear_elim.proofs.ListMembers.{in-map}
 use Rattle.linear_elim.proofs.ResultLaws.{base-plain}
 
 -- Lines over one survey's fields.
