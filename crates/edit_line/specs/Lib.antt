@@ -3,8 +3,10 @@ pub mod CodeFields
 pub mod Combinations
 pub mod Divisors
 pub mod EditSets
+pub mod Equality
 pub mod Keys
 pub mod Lines
+pub mod Negations
 pub mod Places
 pub mod Reductions
 pub mod Sets

@@ -22,7 +22,8 @@ use Rattle.edit_line.proofs.Members.{all-in, in-all, in-filter, in-filter-out}
 use Rattle.edit_normal.specs.NormalForm.{compare_lines, contrary_lines, implied_lines, narrowed, normal_lines_of}
 use Rattle.edit_normal.specs.RuleLines.{LinesHold, lines_from, numbered}
 use Rattle.edit_normal.specs.declared.rule_line.RuleLine.{RuleLine}
-use Rattle.edit_normal.proofs.LineSteps.{compare-Decides, contrary-Decides, empty-holds, never-Decides, one-Decides}
+use Rattle.edit_normal.proofs.LineSteps.{compare-Decides, contrary-Decides, empty-holds, one-Decides}
+use Rattle.edit_line.proofs.NegationLaws.{never-Decides}
 use Rattle.edit_normal.proofs.SumLaws.{HasTerms}
 use Rattle.edit_normal.proofs.TestSets.{narrowed-inside, narrowed-length, whole-inside}
 
