@@ -1,5 +1,4 @@
 pub mod CodePlaces
-pub mod CombineLaws
 pub mod CombineSteps
 pub mod CoverLaws
 pub mod FailLaws

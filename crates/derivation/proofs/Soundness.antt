@@ -19,6 +19,7 @@ use Rattle.edit_line.specs.Sums.{stands_only}
 use Rattle.edit_line.proofs.Members.{in-all, in-either, in-get}
 use Rattle.edit_line.proofs.OtherFields.{inside_but}
 use Rattle.edit_line.proofs.SetLaws.{both_true, is_inside-Decides}
+use Rattle.edit_line.proofs.TakenCombinations.{combined-holds}
 use Rattle.derivation.specs.Premises.{AgreesAt, HasKept, Premises, usable_lines}
 use Rattle.derivation.specs.Shown.{IsOver, IsShown}
 use Rattle.fraction128.specs.Formulas.{then_some}
@@ -27,7 +28,6 @@ use Rattle.derivation.specs.declared.proved.Proved.{Proved}
 use Rattle.derivation.specs.declared.proved.Proved.TheVariants as proved
 use Rattle.derivation.specs.declared.step.Step.{Step}
 use Rattle.derivation.specs.declared.step.Step.TheVariants as step
-use Rattle.derivation.proofs.CombineLaws.{combined-holds}
 use Rattle.derivation.proofs.CoverLaws.{code-at, code-below, cover-part, inside-put_back, was-some, was-true}
 use Rattle.derivation.proofs.FailLaws.{failed-outside}
 

@@ -1,0 +1,5 @@
+pub mod Paths
+pub mod Texts
+pub mod Trees
+pub mod ValidTrees
+pub mod inner

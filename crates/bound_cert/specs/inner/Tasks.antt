@@ -1,0 +1,50 @@
+use Rattle.std.specs.Prelude.{◌≡◌, ℕ, zero, suc, Bool, true, List, [], ◌∷◌, Option, Some, None, length}
+use Rattle.edit_model.specs.Rows.{IsRow}
+use Rattle.edit_line.specs.Lines.{AreOver}
+use Rattle.edit_line.specs.Shapes.{shape_of, whole_sets}
+use Rattle.derivation.specs.Premises.{Premises, premises_of}
+use Rattle.bound_cert.specs.ValidTrees.{TreeCase, IsFaultBehind, IsValidLeaf, tree_case, invalid_step, is_right}
+use Rattle.bound_cert.specs.declared.cert.Leaf.{Leaf}
+use Rattle.bound_cert.specs.declared.cert.LeafWhy.{LeafWhy}
+use Rattle.bound_cert.specs.declared.task.Task.{Task}
+use Rattle.bound_cert.specs.declared.verdict.Verdict.{Verdict}
+use Rattle.bound_cert.specs.declared.verdict.Verdict.TheVariants as verdict
+
+-- The parts of the checker. Private contracts alone cite this page.
+
+-- what the tree is about
+abbrev pub case : Task → TreeCase
+case task = tree_case task.survey.now task.given.now task.usable.now task.row.now task.weight
+
+-- what steps may build on there, with these fields kept
+abbrev pub premises_with : Task → ℕ → Premises
+premises_with task kept = premises_of (shape_of task.survey.now.fields) task.given.now task.usable.now task.row.now kept
+
+-- its parts fit each other
+pub record IsTask (task : Task) : Type 0 where
+  pub lists : length task.given.now ≡ length task.usable.now
+  pub over : AreOver (shape_of task.survey.now.fields) task.given.now
+  pub row : IsRow task.survey.now.fields task.row.now
+  pub wholes : task.wholes.now ≡ whole_sets (shape_of task.survey.now.fields)
+
+-- the path of the leaf before the one at this place
+abbrev pub path_before : List Leaf → ℕ → Option (List Bool)
+path_before leaves zero = None
+path_before [] (suc i) = None
+path_before (leaf ∷ leaves) (suc zero) = Some leaf.path
+path_before (leaf ∷ leaves) (suc (suc i)) = path_before leaves (suc i)
+
+-- what the verdict says of a leaf whose path is right
+abbrev pub SaysOf : TreeCase → List Bool → LeafWhy → Verdict → Type 0
+SaysOf c path reason verdict.Valid = IsValidLeaf c path reason
+SaysOf c path reason (verdict.Invalid step) = ¬ IsValidLeaf c path reason × (step ≡ invalid_step c path reason)
+
+-- what it says of any leaf
+abbrev pub SaysAt : TreeCase → Option (List Bool) → Leaf → List Leaf → Verdict → Type 0
+SaysAt c before leaf later verdict.Valid = (is_right c before leaf.path later ≡ true) × IsValidLeaf c leaf.path leaf.why
+SaysAt c before leaf later (verdict.Invalid step) = IsFaultBehind c before (leaf ∷ later) 0 step
+
+-- what it says of the leaf at a place
+abbrev pub SaysOfPlace : TreeCase → List Leaf → ℕ → List Leaf → Verdict → Type 0
+SaysOfPlace c leaves i [] says = ⊥
+SaysOfPlace c leaves i (leaf ∷ later) says = SaysAt c (path_before leaves i) leaf later says

@@ -1,0 +1,76 @@
+ghost use Rattle.std.specs.Prelude.{◌≡◌, ◌⊎◌, [], ℕ, Err, None, OnOk, Option, length};
+ghost use Rattle.edit_model.specs.Rows.{IsRow};
+ghost use Rattle.edit_line.specs.Lines.{AreOver};
+ghost use Rattle.edit_line.specs.Shapes.{shape_of};
+ghost use Rattle.bound_cert.specs.inner.Tasks.{IsTask, case};
+ghost use Rattle.bound_cert.specs.ValidTrees.{IsFirstFault, IsNamedIn, IsValidTree, NoneIsLighter, tree_case};
+
+use crate::cert::{Cert, Leaf};
+use crate::fault::CertFault;
+use crate::leaf_check::verdict_at;
+use crate::task::Task;
+use crate::verdict::Verdict;
+use edit_line::{Line, Shape};
+use edit_model::{Row, Survey};
+use std::alloc::Global;
+
+/// Ok exactly where the tree is valid. Then each point at which the usable lines hold changes the record
+/// by the weight at least; without a weight, there is no such point. The lines are over the survey's fields.
+/// Bad comes with the first leaf whose path is not the next of a full tree or which is not valid, and, in the
+/// second case, with its first step that is not valid, if there is one; with leaf 0 where there are none. The
+/// time is in proportion to the size of the tree.
+pub fn check_cert(
+    alloc: Global,
+    survey: &Survey,
+    given: &[Line],
+    usable: &[bool],
+    row: &Row,
+    cert: &Cert,
+    weight: Option<u64>,
+) -> Result<(), CertFault>
+    requires lists { length given.now ≡ length usable.now }
+    requires over { AreOver (shape_of survey.now.fields) given.now }
+    requires row { IsRow survey.now.fields row.now }
+    ensures valid { OnOk result (IsValidTree (tree_case survey.now given.now usable.now row.now weight) cert.now.leaves) }
+    ensures bad { (leaf : ℕ) (step : Option ℕ) → result ≡ Err (CertFault.Bad leaf step) → IsFirstFault (tree_case survey.now given.now usable.now row.now weight) cert.now.leaves leaf step }
+    ensures named { (leaf : ℕ) (step : Option ℕ) → result ≡ Err (CertFault.Bad leaf step) → ((cert.now.leaves ≡ []) × (leaf ≡ 0) × (step ≡ None)) ⊎ IsNamedIn cert.now.leaves leaf step }
+    ensures invalid { (leaf : ℕ) (step : Option ℕ) → result ≡ Err (CertFault.Bad leaf step) → ¬ IsValidTree (tree_case survey.now given.now usable.now row.now weight) cert.now.leaves }
+    ensures shown { OnOk result (NoneIsLighter (tree_case survey.now given.now usable.now row.now weight)) }
+{
+    let wholes = Shape::of(survey).whole_sets(alloc)?;
+    let task = Task {
+        survey,
+        given,
+        usable,
+        row,
+        weight,
+        wholes: &wholes,
+    };
+    check_leaves(alloc, &task, cert.leaves.as_slice())
+}
+
+// Whether these are the leaves of a valid tree.
+fn check_leaves(alloc: Global, task: &Task, leaves: &[Leaf]) -> Result<(), CertFault>
+    requires { IsTask task.now }
+    ensures valid { OnOk result (IsValidTree (case task.now) leaves.now) }
+    ensures bad { (leaf : ℕ) (step : Option ℕ) → result ≡ Err (CertFault.Bad leaf step) → IsFirstFault (case task.now) leaves.now leaf step }
+{
+    if leaves.is_empty() {
+        return Err(CertFault::Bad {
+            leaf: 0,
+            step: None,
+        });
+    }
+    for place in 0..leaves.len() {
+        match verdict_at(alloc, task, leaves, place)? {
+            Verdict::Valid => {}
+            Verdict::Invalid(step) => {
+                return Err(CertFault::Bad {
+                    leaf: place as u64,
+                    step,
+                });
+            }
+        }
+    }
+    Ok(())
+}

@@ -1,0 +1,66 @@
+ghost use Rattle.std.specs.Prelude.{◌≡◌, ◌≤◌, length};
+ghost use Rattle.edit_model.specs.Rows.{IsRow};
+ghost use Rattle.derivation.specs.Premises.{HasKept};
+ghost use Rattle.bound_cert.specs.Paths.{keeps_bad, kept_set, path_weight};
+
+use crate::path_fields::{keeps_bad, kept_set, path_weight};
+use edit_model::{FieldSet, Row, Survey};
+use std::marker::Model;
+
+/// A path: it says of the first fields in path order, numerical before categorical, whether each is kept
+/// (false) or changed (true).
+#[derive(Debug, Drop)]
+pub struct Path {
+    letters: Vec<bool>,
+}
+
+impl Model for Path {
+    ghost use Rattle.std.specs.Prelude.{Bool, List};
+
+    ghost Value = { List Bool };
+
+    ghost view = { λ p. p.letters.items };
+}
+
+impl Path {
+    /// The path of these letters. No memory.
+    pub fn new(letters: Vec<bool>) -> Path
+        ensures { result ≡ letters.items }
+    {
+        Path { letters }
+    }
+
+    /// The letters. No memory.
+    pub fn letters(&self) -> &[bool]
+        ensures { result.now ≡ self.now }
+    {
+        self.letters.as_slice()
+    }
+
+    /// The sum of the weights of the fields that it changes. No memory.
+    pub fn weight(&self, survey: &Survey) -> u64
+        requires { length self.now ≤ length survey.now.fields }
+        ensures { result ≡ path_weight survey.now.fields self.now }
+    {
+        path_weight(survey, self.letters())
+    }
+
+    /// Whether it keeps a field at which the record has no value. No memory.
+    pub fn keeps_bad(&self, survey: &Survey, row: &Row) -> bool
+        requires short { length self.now ≤ length survey.now.fields }
+        requires row { IsRow survey.now.fields row.now }
+        ensures { result ≡ keeps_bad survey.now.fields row.now self.now }
+    {
+        keeps_bad(survey, row, self.letters())
+    }
+
+    /// The set of the fields that it keeps and at which the record has a value. No memory.
+    pub fn kept_set(&self, survey: &Survey, row: &Row) -> FieldSet
+        requires short { length self.now ≤ length survey.now.fields }
+        requires row { IsRow survey.now.fields row.now }
+        ensures set { result ≡ kept_set survey.now.fields row.now self.now }
+        ensures held { HasKept row.now result }
+    {
+        kept_set(survey, row, self.letters())
+    }
+}

@@ -1,0 +1,107 @@
+//! What a path says of a survey's fields and of a record.
+ghost use Rattle.std.specs.Prelude.{◌≡◌, ◌<◌, ◌≤◌, ◌&&◌, if◌then◌else◌, length, not, slice_index_or};
+ghost use Rattle.edit_model.specs.Corrections.{path_order};
+ghost use Rattle.edit_model.specs.Rows.{IsRow, is_bad, value_of};
+ghost use Rattle.edit_model.specs.FieldSets.{with_number};
+ghost use Rattle.edit_model.specs.Words.{weight_at};
+ghost use Rattle.derivation.specs.Premises.{HasKept};
+ghost use Rattle.bound_cert.specs.Paths.{keeps_bad, kept_set, path_weight};
+
+use edit_model::{FieldSet, Row, Survey};
+
+/// The sum of the weights of the fields that the path changes. No memory.
+pub(crate) fn path_weight(survey: &Survey, path: &[bool]) -> u64
+    requires { length path.now ≤ length survey.now.fields }
+    ensures { result ≡ path_weight survey.now.fields path.now }
+{
+    let _fields = survey.fields(); // read for what it says: there are at most 64
+    let mut weight = 0;
+    for (place, changed) in path.iter().enumerate() {
+        weight += changed_weight(survey, place, *changed);
+    }
+    weight
+}
+
+/// Whether the path keeps a field at which the record has no value. No memory.
+pub(crate) fn keeps_bad(survey: &Survey, row: &Row, path: &[bool]) -> bool
+    requires short { length path.now ≤ length survey.now.fields }
+    requires row { IsRow survey.now.fields row.now }
+    ensures { result ≡ keeps_bad survey.now.fields row.now path.now }
+{
+    for (place, changed) in path.iter().enumerate() {
+        if keeps_bad_at(survey, row, place, *changed) {
+            return true;
+        }
+    }
+    false
+}
+
+/// The set of the fields that the path keeps and at which the record has a value. No memory.
+pub(crate) fn kept_set(survey: &Survey, row: &Row, path: &[bool]) -> FieldSet
+    requires short { length path.now ≤ length survey.now.fields }
+    requires row { IsRow survey.now.fields row.now }
+    ensures set { result ≡ kept_set survey.now.fields row.now path.now }
+    ensures held { HasKept row.now result }
+{
+    let _fields = survey.fields(); // read for what it says: there are at most 64
+    let mut set = FieldSet::empty();
+    for (place, changed) in path.iter().enumerate() {
+        set = with_kept(set, survey, row, place, *changed);
+    }
+    set
+}
+
+// The weight of the field at this place of the path order, if it is changed.
+fn changed_weight(survey: &Survey, place: usize, changed: bool) -> u64
+    requires { place < length survey.now.fields }
+    ensures weight { result ≡ (if changed then weight_at survey.now.fields (slice_index_or (path_order survey.now.fields) place 0) else 0) }
+    ensures few { result ≤ 1000 }
+{
+    if !changed {
+        return 0;
+    }
+    let fields = survey.fields();
+    u64::from(fields[survey.path_field(place as u32) as usize].weight)
+}
+
+// Whether the field at this place of the path order is kept, and has no value.
+fn keeps_bad_at(survey: &Survey, row: &Row, place: usize, changed: bool) -> bool
+    requires short { place < length survey.now.fields }
+    requires row { IsRow survey.now.fields row.now }
+    ensures { result ≡ (not changed && is_bad (value_of row.now (slice_index_or (path_order survey.now.fields) place 0))) }
+{
+    !changed && is_bad_at(survey, row, place)
+}
+
+// Whether it is kept, and has a value.
+fn keeps_value_at(survey: &Survey, row: &Row, place: usize, changed: bool) -> bool
+    requires short { place < length survey.now.fields }
+    requires row { IsRow survey.now.fields row.now }
+    ensures { result ≡ (not changed && not (is_bad (value_of row.now (slice_index_or (path_order survey.now.fields) place 0)))) }
+{
+    !changed && !is_bad_at(survey, row, place)
+}
+
+// The set with the field at this place of the path order, if that is kept and has a value.
+fn with_kept(set: FieldSet, survey: &Survey, row: &Row, place: usize, changed: bool) -> FieldSet
+    requires short { place < length survey.now.fields }
+    requires row { IsRow survey.now.fields row.now }
+    ensures { result ≡ (if not changed && not (is_bad (value_of row.now (slice_index_or (path_order survey.now.fields) place 0))) then with_number set (slice_index_or (path_order survey.now.fields) place 0) else set) }
+{
+    let _fields = survey.fields(); // read for what it says: there are at most 64
+    if keeps_value_at(survey, row, place, changed) {
+        set.with(survey.path_field(place as u32))
+    } else {
+        set
+    }
+}
+
+// Whether the record has no value at the field at this place of the path order.
+fn is_bad_at(survey: &Survey, row: &Row, place: usize) -> bool
+    requires short { place < length survey.now.fields }
+    requires row { IsRow survey.now.fields row.now }
+    ensures { result ≡ is_bad (value_of row.now (slice_index_or (path_order survey.now.fields) place 0)) }
+{
+    let _fields = survey.fields(); // read for what it says: there are at most 64
+    row.value(survey.path_field(place as u32)).is_bad()
+}
