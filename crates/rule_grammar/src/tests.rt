@@ -52,43 +52,61 @@ fn a_line_is_a_statement_or_unreadable(rt: HostRuntime) -> Result<(), Fail> {
     )
 }
 
+/// Whether the declaration is of A with weight 7, and a scale that has a point.
+fn is_declaration_of_a(declaration: &Declaration) -> bool {
+    match declaration {
+        Declaration::Number {
+            name,
+            weight: Some(Numeral::Whole(7)),
+            scale: Some(Numeral::OutOfRange),
+        } => name.as_bytes() == b"A".as_slice(),
+        _ => false,
+    }
+}
+
+/// Whether the sum is twice A with a minus sign and a `*`, and nothing more.
+fn is_minus_twice_a(sum: &SumText) -> bool {
+    match &sum.first {
+        TermText::Product {
+            factor: Numeral::Whole(2),
+            times: true,
+            field,
+        } => {
+            field.as_bytes() == b"A".as_slice()
+                && sum.sign == Some(Sign::Minus)
+                && sum.rest.is_empty()
+        }
+        _ => false,
+    }
+}
+
+/// Whether the statement is the one declaration, or says that the sum is below the other side.
+fn has_its_parts(statement: &Statement) -> bool {
+    match statement {
+        Statement::Declaration(declaration) => is_declaration_of_a(declaration),
+        Statement::Rule(rule) => match &rule.conclusion {
+            TestText::Sums {
+                left,
+                compare: Compare::Lt,
+                ..
+            } => is_minus_twice_a(left),
+            _ => false,
+        },
+    }
+}
+
 #[test]
 fn a_statement_has_the_parts_that_are_written(rt: HostRuntime) -> Result<(), Fail> {
-    match read_line(rt.alloc(), b"number A weight 007 scale 1.5")? {
-        LineText::Says(
-            Statement::Declaration(
-                Declaration::Number {
-                    name,
-                    weight: Some(Numeral::Whole(7)),
-                    scale: Some(Numeral::OutOfRange),
-                },
-            ),
-        ) => assert!(rt; name.as_bytes() == b"A".as_slice()),
-        _ => return Err(Fail::from("a numerical field")),
+    for text in [
+        "number A weight 007 scale 1.5",
+        "- 2 * A < 1000000000000001",
+    ] {
+        match read_line(rt.alloc(), text.as_bytes())? {
+            LineText::Says(statement) => assert!(rt; has_its_parts(&statement), "at {text}"),
+            _ => return Err(Fail::from("a statement")),
+        }
     }
-    match read_line(rt.alloc(), b"- 2 * A < 1000000000000001")? {
-        LineText::Says(Statement::Rule(rule)) => match rule.conclusion {
-            TestText::Sums {
-                left: SumText {
-                    sign: Some(Sign::Minus),
-                    first: TermText::Product {
-                        factor: Numeral::Whole(2),
-                        times: true,
-                        ..
-                    },
-                    ..
-                },
-                compare: Compare::Lt,
-                right: SumText {
-                    sign: None,
-                    first: TermText::Constant(Numeral::OutOfRange),
-                    ..
-                },
-            } => Ok(()),
-            _ => Err(Fail::from("these sums")),
-        },
-        _ => Err(Fail::from("a rule")),
-    }
+    Ok(())
 }
 
 // The parser does not go deeper with each term.
