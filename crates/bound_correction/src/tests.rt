@@ -78,18 +78,23 @@ fn survey_of(alloc: Global, bounds: &[Bound]) -> Result<Survey, Fail>
     Ok(survey)
 }
 
-/// The outcome for a field that holds the value.
-fn outcome_of(alloc: Global, bounds: &[Bound], value: Value) -> Result<Outcome, Fail> {
+/// The outcome for a field that holds the number, or Bad where there is none.
+fn outcome_of(alloc: Global, bounds: &[Bound], number: Option<i64>) -> Result<Outcome, Fail> {
     let survey = survey_of(alloc, bounds)?;
     let Some(bounds) = bounds_of(alloc, &survey)? else {
         return Ok(Outcome::NoPoint);
     };
+    let value = match number {
+        Some(number) => Value::Number(Fraction::reduced(i128::from(number), 1)),
+        None => Value::Bad,
+    };
     let row = Row::new(&survey, vec![in alloc; value]?);
     let given = least_change(alloc, &survey, &bounds, &row)?;
-    match given.as_slice() {
-        [None] => Ok(Outcome::Kept),
-        [Some(Value::Number(x))] if x.denominator() == 1 => Ok(Outcome::Given(x.numerator())),
-        _ => Err(Fail::from("a whole number")),
+    let change = given.as_slice().first().copied().ok_or("one field")?;
+    match change {
+        None => Ok(Outcome::Kept),
+        Some(Value::Number(x)) => Ok(Outcome::Given(x.numerator())),
+        Some(_) => Err(Fail::from("a number")),
     }
 }
 
@@ -100,12 +105,8 @@ fn tell_outcomes(
     cases: &[(&[Bound], Option<i64>, Outcome)],
 ) -> Result<(), Fail> {
     for (bounds, held, outcome) in cases {
-        let value = match held {
-            Some(number) => Value::Number(Fraction::reduced(i128::from(*number), 1)),
-            None => Value::Bad,
-        };
         assert_eq!(rt;
-            outcome_of(alloc, bounds, value)?,
+            outcome_of(alloc, bounds, *held)?,
             *outcome,
             "{bounds:?} at {held:?}"
         );
