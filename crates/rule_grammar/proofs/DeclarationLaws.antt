@@ -3,7 +3,7 @@ use Rattle.std.proofs.Common.{◌≡◌, refl, sym, ap, ◌∙◌, ℕ, Bool, tr
 use Rattle.std.proofs.lemmas.List.{append-nil}
 use Rattle.rule_grammar.proofs.ListLaws.{in_list_back, in_list_spells, in_list_tokens}
 use Rattle.rule_grammar.proofs.ReadLaws.{Spells, is_that_word, name_spells, numeral_spells, spells_after, spells_as, spells_behind, spells_word}
-use Rattle.rule_grammar.specs.Parsing.{Reading, after, begins, code_field_at, in_list_at, is_word, name_at, number_at, numeral_at, option_at, rest_of}
+use Rattle.rule_grammar.specs.inner.Parsing.{Reading, after, begins, code_field_at, in_list_at, is_word, name_at, number_at, numeral_at, option_at, rest_of}
 use Rattle.rule_grammar.specs.Statements.{declaration_tokens, option_tokens}
 use Rattle.rule_grammar.specs.declared.statement.CodeList.{CodeList}
 use Rattle.rule_grammar.specs.declared.statement.Declaration.{Declaration as Declared}

@@ -3,7 +3,7 @@ use Rattle.std.proofs.Common.{◌≡◌, ◌≢◌, refl, sym, ap, ◌∙◌, �
 use Rattle.rule_grammar.proofs.StatementLaws.{not_left, not_read, one_statement, read_whole, says_some}
 use Rattle.rule_grammar.proofs.TokenNames.{names_of_text}
 use Rattle.rule_grammar.specs.LineTexts.{IsLineText}
-use Rattle.rule_grammar.specs.Parsing.{ends, statement_at}
+use Rattle.rule_grammar.specs.inner.Parsing.{ends, statement_at}
 use Rattle.rule_grammar.specs.Tokens.{tokens_of}
 use Rattle.rule_grammar.specs.declared.line.LineText.{LineText}
 use Rattle.rule_grammar.specs.declared.line.LineText.TheVariants as line

@@ -4,7 +4,7 @@ use Rattle.std.specs.List.{flat_map}
 use Rattle.std.proofs.lemmas.List.{append_assoc}
 use Rattle.rule_grammar.proofs.ManyLaws.{many_back, many_spells}
 use Rattle.rule_grammar.proofs.ReadLaws.{Shortens, Spells, code_spells, shortens_spelled, spells_after, spells_behind, spells_word}
-use Rattle.rule_grammar.specs.Parsing.{Reading, begins, close_at, code_at, codes_at, comma_code_at, in_list_at, is_comma, is_word, list_at, many_at, rest_of}
+use Rattle.rule_grammar.specs.inner.Parsing.{Reading, begins, close_at, code_at, codes_at, comma_code_at, in_list_at, is_comma, is_word, list_at, many_at, rest_of}
 use Rattle.rule_grammar.specs.Statements.{list_tokens}
 use Rattle.rule_grammar.specs.declared.statement.CodeList.{CodeList}
 use Rattle.rule_grammar.specs.declared.token.Keyword.TheVariants as keyword

@@ -3,7 +3,7 @@ use Rattle.std.proofs.Common.{◌≡◌, refl, sym, ap, subst, ◌∙◌, ℕ, z
 use Rattle.std.specs.List.{flat_map}
 use Rattle.std.proofs.lemmas.List.{append_assoc, append-nil}
 use Rattle.rule_grammar.proofs.ReadLaws.{Shortens, Spells, shortens_read, spells_after}
-use Rattle.rule_grammar.specs.Parsing.{Reading, after, begins, many_at, many_within}
+use Rattle.rule_grammar.specs.inner.Parsing.{Reading, after, begins, many_at, many_within}
 use Rattle.rule_grammar.specs.declared.token.Token.{Token}
 
 -- what is read, behind what was read before

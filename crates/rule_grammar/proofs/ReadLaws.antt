@@ -3,7 +3,7 @@ use Rattle.std.proofs.Common.{◌≡◌, refl, sym, ap, subst, ◌∙◌, ℕ, �
 use Rattle.std.proofs.lemmas.Bool.{eq-eqb, eqb-true}
 use Rattle.std.proofs.lemmas.List.{append_assoc, length-append}
 use Rattle.edit_model.specs.declared.rule.Compare.{Compare as Comparison}
-use Rattle.rule_grammar.specs.Parsing.{Reading, after, begins, code_at, compare_at, name_at, numeral_at, sign_at, is_word, rest_of, word_number}
+use Rattle.rule_grammar.specs.inner.Parsing.{Reading, after, begins, code_at, compare_at, name_at, numeral_at, sign_at, is_word, rest_of, word_number}
 use Rattle.rule_grammar.specs.declared.token.Keyword.{Keyword as Word}
 use Rattle.rule_grammar.specs.declared.token.Keyword.TheVariants as keyword
 use Rattle.rule_grammar.specs.declared.token.Numeral.{Numeral}

@@ -6,7 +6,7 @@ use Rattle.rule_grammar.proofs.ManyLaws.{many_back, many_spells}
 use Rattle.rule_grammar.proofs.ReadLaws.{Spells, spells_after, spells_as, spells_behind, spells_word, word_begins}
 use Rattle.rule_grammar.proofs.SumLaws.{extends_sum}
 use Rattle.rule_grammar.proofs.TestLaws.{and_test_shortens, and_test_spells, and_test_tokens, test_back, test_begins, test_spells}
-use Rattle.rule_grammar.specs.Parsing.{Reading, after, and_test_at, and_tests_at, begins, conditional_at, is_word, many_at, rest_of, rule_at, test_at, then_at, word_number}
+use Rattle.rule_grammar.specs.inner.Parsing.{Reading, after, and_test_at, and_tests_at, begins, conditional_at, is_word, many_at, rest_of, rule_at, test_at, then_at, word_number}
 use Rattle.rule_grammar.specs.Statements.{rule_tokens, test_tokens}
 use Rattle.rule_grammar.specs.declared.statement.RuleText.{RuleText}
 use Rattle.rule_grammar.specs.declared.statement.TestText.{TestText}

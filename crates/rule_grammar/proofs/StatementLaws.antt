@@ -4,7 +4,7 @@ use Rattle.std.proofs.lemmas.List.{append-nil}
 use Rattle.rule_grammar.proofs.DeclarationLaws.{code_field_back, code_field_spells, number_back, number_spells}
 use Rattle.rule_grammar.proofs.ReadLaws.{Spells, spells_as, spells_read, word_begins}
 use Rattle.rule_grammar.proofs.RuleLaws.{rule_back, rule_begins, rule_spells}
-use Rattle.rule_grammar.specs.Parsing.{Reading, after, begins, code_field_at, is_word, number_at, rest_of, rule_at, statement_at}
+use Rattle.rule_grammar.specs.inner.Parsing.{Reading, after, begins, code_field_at, is_word, number_at, rest_of, rule_at, statement_at}
 use Rattle.rule_grammar.specs.Statements.{declaration_tokens, rule_tokens, statement_tokens}
 use Rattle.rule_grammar.specs.declared.statement.Declaration.{Declaration as Declared}
 use Rattle.rule_grammar.specs.declared.statement.Declaration.TheVariants as declaration

@@ -4,7 +4,7 @@ use Rattle.std.specs.List.{flat_map}
 use Rattle.std.proofs.lemmas.List.{append_assoc}
 use Rattle.rule_grammar.proofs.ManyLaws.{many_back, many_spells}
 use Rattle.rule_grammar.proofs.ReadLaws.{Shortens, Spells, name_spells, shortens_spelled, sign_spells, spells_after, spells_as, spells_behind}
-use Rattle.rule_grammar.specs.Parsing.{after, begins, factor_at, is_sign, many_at, name_at, sign_at, signed_term_at, sum_after, sum_at, term_at}
+use Rattle.rule_grammar.specs.inner.Parsing.{after, begins, factor_at, is_sign, many_at, name_at, sign_at, signed_term_at, sum_after, sum_at, term_at}
 use Rattle.rule_grammar.specs.Statements.{sign_tokens, signed_term_tokens, sum_tokens, term_tokens}
 use Rattle.rule_grammar.specs.declared.statement.SignedTerm.{SignedTerm}
 use Rattle.rule_grammar.specs.declared.statement.SumText.{SumText}

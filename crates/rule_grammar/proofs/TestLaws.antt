@@ -6,7 +6,7 @@ use Rattle.edit_model.specs.declared.rule.Compare.{Compare as Comparison}
 use Rattle.rule_grammar.proofs.ListLaws.{in_list_back, in_list_spells, in_list_tokens}
 use Rattle.rule_grammar.proofs.ReadLaws.{Shortens, Spells, compare_spells, name_spells, shortens_spelled, spells_after, spells_as, spells_behind, spells_word, word_begins}
 use Rattle.rule_grammar.proofs.SumLaws.{extends_sum, sum_after_back, sum_after_spells, sum_back, sum_spells}
-use Rattle.rule_grammar.specs.Parsing.{after, and_test_at, begins, codes_after, compare_at, compared_at, in_list_at, is_name_token, is_word, name_at, rest_of, sum_after, sum_at, sums_after, test_after, test_at}
+use Rattle.rule_grammar.specs.inner.Parsing.{after, and_test_at, begins, codes_after, compare_at, compared_at, in_list_at, is_name_token, is_word, name_at, rest_of, sum_after, sum_at, sums_after, test_after, test_at}
 use Rattle.rule_grammar.specs.Statements.{signed_term_tokens, sum_tokens, term_tokens, test_tokens}
 use Rattle.rule_grammar.specs.declared.statement.SignedTerm.{SignedTerm}
 use Rattle.rule_grammar.specs.declared.statement.SumText.{SumText}

@@ -8,8 +8,6 @@ mod lexeme;
 mod mark;
 mod numeral;
 mod run;
-#[cfg(test)]
-mod tests;
 mod word;
 
 use crate::token::Token;
@@ -27,7 +25,7 @@ pub(crate) struct Cursor<'a> {
 
 impl<'a> Model for Cursor<'a> {
     ghost use Rattle.std.specs.Prelude.{List};
-    ghost use Rattle.rule_grammar.specs.Cursors.{left_of};
+    ghost use Rattle.rule_grammar.specs.inner.Cursors.{left_of};
     ghost use Rattle.rule_grammar.specs.declared.token.Token.{Token as AnyToken};
 
     ghost Value = { List AnyToken };

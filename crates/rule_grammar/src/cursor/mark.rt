@@ -1,6 +1,6 @@
 //! Comparisons, signs and the other marks.
 ghost use Rattle.std.specs.Prelude.{◌≡◌};
-ghost use Rattle.rule_grammar.specs.Cursors.{IsFront};
+ghost use Rattle.rule_grammar.specs.inner.Cursors.{IsFront};
 ghost use Rattle.rule_grammar.specs.Tokens.{front_compare, list_mark_token, mark_token};
 
 use super::lexeme::Lexeme;

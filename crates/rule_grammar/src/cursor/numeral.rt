@@ -2,7 +2,7 @@
 ghost use Rattle.std.specs.Prelude.{◌≡◌, ◌≤◌, length, true};
 ghost use Rattle.std.specs.List.{list_all};
 ghost use Rattle.edit_model.specs.Surveys.{is_digit};
-ghost use Rattle.rule_grammar.specs.Cursors.{IsFront};
+ghost use Rattle.rule_grammar.specs.inner.Cursors.{IsFront};
 ghost use Rattle.rule_grammar.specs.Tokens.{decimals_len, front_numeral, whole_numeral};
 
 use super::lexeme::Lexeme;

@@ -1,6 +1,6 @@
 //! Words and codes at the front of a text.
 ghost use Rattle.std.specs.Prelude.{◌≡◌, ◌≤◌, length};
-ghost use Rattle.rule_grammar.specs.Cursors.{IsFront};
+ghost use Rattle.rule_grammar.specs.inner.Cursors.{IsFront};
 ghost use Rattle.rule_grammar.specs.Tokens.{code_len, front_code, front_word, word_len, word_token};
 
 use super::lexeme::Lexeme;

@@ -1,5 +1,5 @@
 ghost use Rattle.std.specs.Prelude.{◌∷◌};
-ghost use Rattle.rule_grammar.specs.Parsing.{Parses, and_test_at, and_tests_at, conditional_at, rule_at, then_at};
+ghost use Rattle.rule_grammar.specs.inner.Parsing.{Parses, and_test_at, and_tests_at, conditional_at, rule_at, then_at};
 
 use crate::cursor::Cursor;
 use crate::parser::fault::Fault;

@@ -1,4 +1,4 @@
-ghost use Rattle.rule_grammar.specs.Parsing.{Parses, Reads, code_field_at, number_at, option_at};
+ghost use Rattle.rule_grammar.specs.inner.Parsing.{Parses, Reads, code_field_at, number_at, option_at};
 
 use crate::cursor::Cursor;
 use crate::parser::fault::Fault;

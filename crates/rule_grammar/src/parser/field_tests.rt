@@ -1,4 +1,4 @@
-ghost use Rattle.rule_grammar.specs.Parsing.{Parses, codes_after, compared_at, sums_after, test_after, test_at};
+ghost use Rattle.rule_grammar.specs.inner.Parsing.{Parses, codes_after, compared_at, sums_after, test_after, test_at};
 
 use crate::cursor::Cursor;
 use crate::parser::fault::Fault;

@@ -1,4 +1,4 @@
-ghost use Rattle.rule_grammar.specs.Parsing.{Parses, Reads, codes_at, comma_code_at, in_list_at, is_comma, list_at, many_at};
+ghost use Rattle.rule_grammar.specs.inner.Parsing.{Parses, Reads, codes_at, comma_code_at, in_list_at, is_comma, list_at, many_at};
 
 use crate::cursor::Cursor;
 use crate::parser::fault::Fault;

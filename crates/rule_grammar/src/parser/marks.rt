@@ -1,5 +1,5 @@
 ghost use Rattle.std.specs.Prelude.{◌≡◌, if◌then◌else◌};
-ghost use Rattle.rule_grammar.specs.Parsing.{Reads, begins, code_at, compare_at, ends, is_comma, is_name_token, is_sign, is_word, name_at, numeral_at, rest_of, sign_at};
+ghost use Rattle.rule_grammar.specs.inner.Parsing.{Reads, begins, code_at, compare_at, ends, is_comma, is_name_token, is_sign, is_word, name_at, numeral_at, rest_of, sign_at};
 
 use crate::cursor::Cursor;
 use crate::token::{Keyword, Numeral, Sign, Token};

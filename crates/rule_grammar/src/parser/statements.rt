@@ -1,4 +1,4 @@
-ghost use Rattle.rule_grammar.specs.Parsing.{Parses, statement_at};
+ghost use Rattle.rule_grammar.specs.inner.Parsing.{Parses, statement_at};
 
 use crate::cursor::Cursor;
 use crate::parser::conditions::rule;

@@ -1,5 +1,5 @@
 ghost use Rattle.std.specs.Prelude.{Some, None};
-ghost use Rattle.rule_grammar.specs.Parsing.{Parses, Reads, factor_at, many_at, is_sign, signed_term_at, sum_after, sum_at, term_at};
+ghost use Rattle.rule_grammar.specs.inner.Parsing.{Parses, Reads, factor_at, many_at, is_sign, signed_term_at, sum_after, sum_at, term_at};
 
 use crate::cursor::Cursor;
 use crate::parser::fault::Fault;

@@ -1,6 +1,6 @@
 use Rattle.std.proofs.Common.{ap, sym, ◌∙◌}
 use Rattle.rule_grammar.proofs.LineLaws.{line_says}
-use Rattle.rule_grammar.specs.Parsing.{statement_at}
+use Rattle.rule_grammar.specs.inner.Parsing.{statement_at}
 use Rattle.rule_grammar.proofs.line.read_line.Goals as goal
 
 pub returns-clause-text : goal.returns-clause-text

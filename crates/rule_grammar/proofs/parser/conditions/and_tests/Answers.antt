@@ -1,7 +1,7 @@
 use Rattle.std.proofs.Common.{rules, Some, ◌≡◌, ◌∙◌, sym, true}
 use Rattle.rule_grammar.proofs.ManyLaws.{many_more}
 use Rattle.rule_grammar.proofs.TestLaws.{and_test_shortens}
-use Rattle.rule_grammar.specs.Parsing.{and_test_at, begins, is_word}
+use Rattle.rule_grammar.specs.inner.Parsing.{and_test_at, begins, is_word}
 use Rattle.rule_grammar.specs.declared.token.Keyword.TheVariants as keyword
 use Rattle.rule_grammar.proofs.parser.conditions.and_tests.Goals as goal
 

@@ -1,6 +1,6 @@
 use Rattle.std.proofs.Common.{◌≡◌, length}
 use Rattle.rule_grammar.proofs.ManyLaws.{prefixed}
-use Rattle.rule_grammar.specs.Parsing.{and_test_at, and_tests_at, is_word, many_at}
+use Rattle.rule_grammar.specs.inner.Parsing.{and_test_at, and_tests_at, is_word, many_at}
 use Rattle.rule_grammar.specs.declared.token.Keyword.TheVariants as keyword
 use Rattle.rule_grammar.proofs.parser.conditions.and_tests.Given as goal
 

@@ -1,7 +1,7 @@
 use Rattle.std.proofs.Common.{rules, Some, ◌≡◌, ◌∙◌, sym, true}
 use Rattle.rule_grammar.proofs.ManyLaws.{many_more}
 use Rattle.rule_grammar.proofs.ListLaws.{comma_code_shortens}
-use Rattle.rule_grammar.specs.Parsing.{begins, is_comma, comma_code_at}
+use Rattle.rule_grammar.specs.inner.Parsing.{begins, is_comma, comma_code_at}
 use Rattle.rule_grammar.proofs.parser.lists.comma_codes.Goals as goal
 
 pub loop-cursor-preserved : goal.loop-cursor-preserved

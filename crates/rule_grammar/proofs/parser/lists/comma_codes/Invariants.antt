@@ -1,6 +1,6 @@
 use Rattle.std.proofs.Common.{◌≡◌, length}
 use Rattle.rule_grammar.proofs.ManyLaws.{prefixed}
-use Rattle.rule_grammar.specs.Parsing.{comma_code_at, is_comma, many_at}
+use Rattle.rule_grammar.specs.inner.Parsing.{comma_code_at, is_comma, many_at}
 use Rattle.rule_grammar.proofs.parser.lists.comma_codes.Given as goal
 
 abbrev pub invariant-loop-cursor : goal.invariant-loop-cursor

@@ -1,6 +1,6 @@
 use Rattle.std.proofs.Common.{◌≡◌, length}
 use Rattle.rule_grammar.proofs.ManyLaws.{prefixed}
-use Rattle.rule_grammar.specs.Parsing.{is_sign, many_at, signed_term_at}
+use Rattle.rule_grammar.specs.inner.Parsing.{is_sign, many_at, signed_term_at}
 use Rattle.rule_grammar.proofs.parser.sums.signed_terms.Given as goal
 
 abbrev pub invariant-loop-cursor : goal.invariant-loop-cursor

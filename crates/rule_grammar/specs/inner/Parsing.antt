@@ -1,4 +1,4 @@
--- How the parser reads a statement off a list of tokens, one production after another. Private contracts alone cite this page: the grammar is in `Statements`.
+-- How the parser reads a statement off a list of tokens, one production after another. The grammar itself is in `Statements`.
 use Rattle.std.specs.Prelude.{◌≡◌, ℕ, zero, suc, ◌==◌, Bool, true, false, Option, Some, None, Result, Ok, Err, List, [], ◌∷◌, length, if◌then◌else◌}
 use Rattle.edit_model.specs.declared.rule.Compare.{Compare as Comparison}
 use Rattle.rule_grammar.specs.declared.parser.fault.Fault.{Fault as Stop}
