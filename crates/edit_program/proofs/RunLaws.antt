@@ -1,5 +1,5 @@
 -- What a run's answer shows of the files that the desk held.
-use Rattle.std.proofs.Common.{◌≡◌, ◌≢◌, ◌⊎◌, ℕ, ◌≤◌, List, [], ◌∷◌, ◌++◌, Option, Some, None, Result, Ok, Err, IfErr, IsErrAnd, IsErrOf, IfSome, length, map, string_bytes, String, inl, inr, ap, append_assoc, arith, refl, subst, sym, ◌∙◌}
+use Rattle.std.proofs.Common.{◌≡◌, ◌≢◌, ◌⊎◌, ℕ, ◌≤◌, List, [], ◌∷◌, ◌++◌, Option, Some, None, Result, Ok, Err, IfErr, IsErrAnd, IsErrOf, IfSome, length, map, take, string_bytes, String, inl, inr, ap, append_assoc, arith, refl, subst, sym, ◌∙◌}
 use Rattle.std.specs.declared.alloc.Global.{Global}
 use Rattle.edit_language.specs.Grammar.{IsRuleText}
 use Rattle.edit_language.specs.Reading.{IsNoRuleText}
@@ -11,12 +11,12 @@ use Rattle.edit_model.specs.declared.field.Field.{Field}
 use Rattle.record_text.specs.Sheets.{SheetParts, IsSheet}
 use Rattle.record_text.specs.declared.fault.SheetFault.{SheetFault}
 use Rattle.record_text.specs.declared.fault.SheetFault.TheVariants as sheet
-use Rattle.edit_program.specs.Desk.{Asked, BothTell, Fetches, Files, HoldsPrefix, IsLonger, PutsOnRecord, SameElsewhere, Stores}
+use Rattle.edit_program.specs.Desk.{Asked, BothTell, Fetches, Files, HoldsPrefix, IsLonger, PutsOnRecord, SameElsewhere, Stores, fetched, store_record, stored, unstored as unstored_call}
 use Rattle.edit_program.specs.Refusals.{cause_status, fetch_refusal, refusal_status, rules_refusal, sheet_refusal, store_refusal}
 use Rattle.edit_program.specs.Released.{HasReleased, IsRelease}
-use Rattle.edit_program.specs.Run.{most_bytes, HoldsText, HoldsRules, HoldsNoRules, HoldsRecords, HoldsNoRecords, HoldsServed, IsCutOff, IsEdited, IsOrEndedBefore, ReadsAs, Refuses, ShowsCause}
+use Rattle.edit_program.specs.Run.{AreCallsOf, most_bytes, HoldsText, HoldsRules, HoldsNoRules, HoldsRecords, HoldsNoRecords, HoldsServed, IsCutOff, IsEdited, IsOrEndedBefore, ReadsAs, Refuses, ShowsCause}
 use Rattle.edit_program.specs.Words.{ForNames, IsEdit, Names}
-use Rattle.edit_program.specs.inner.Ends.{end_of}
+use Rattle.edit_program.specs.inner.Ends.{IsFetchOf, IsOfReading, end_of}
 use Rattle.edit_program.specs.declared.desk.calls.FetchError.{FetchError}
 use Rattle.edit_program.specs.declared.desk.calls.FetchError.TheVariants as fetch
 use Rattle.edit_program.specs.declared.desk.calls.StoreError.{StoreError}
@@ -286,15 +286,69 @@ for_names words given P is h other too =
 
 -- ---- what was put on record
 
--- one call more
-pub one_more : (a b c : Option (List Asked)) (xs : List Asked) (y : Asked) → PutsOnRecord a b xs → PutsOnRecord b c (y ∷ []) → PutsOnRecord a c (xs ++ y ∷ [])
-one_more None None None xs y p q = tt
-one_more None None (Some c) xs y p q = absurd q
-one_more None (Some b) c xs y p q = absurd p
-one_more (Some a) None c xs y p q = absurd p
-one_more (Some a) (Some b) None xs y p q = absurd q
-one_more (Some a) (Some b) (Some c) xs y p q = q ∙ ap (λ (l : List Asked). l ++ y ∷ []) p ∙ append_assoc a xs (y ∷ [])
+-- a call of the desk, as it was put on record
+pub one_call : (old new : Option (List Asked)) (more : List Asked) (P : List Asked → Type 0) → BothTell old new (λ before after. after ≡ before ++ more) → P more → PutsOnRecord old new P
+one_call None None more P h p = tt
+one_call None (Some new) more P h p = absurd h
+one_call (Some old) None more P h p = absurd h
+one_call (Some old) (Some new) more P h p = (more, h, p)
 
--- three calls, one after the other
-pub three_calls : (a b c d : Option (List Asked)) (x y z : Asked) → PutsOnRecord a b (x ∷ []) → PutsOnRecord b c (y ∷ []) → PutsOnRecord c d (z ∷ []) → PutsOnRecord a d (x ∷ y ∷ z ∷ [])
-three_calls a b c d x y z p q r = one_more a c d (x ∷ y ∷ []) z (one_more a b c (x ∷ []) y p q) r
+-- calls that meet a claim, and then calls that meet another
+pub then_calls : (a b c : Option (List Asked)) (P Q R : List Asked → Type 0) → ((x y : List Asked) → P x → Q y → R (x ++ y)) → PutsOnRecord a b P → PutsOnRecord b c Q → PutsOnRecord a c R
+then_calls None None None P Q R joined p q = tt
+then_calls None None (Some c) P Q R joined p q = absurd q
+then_calls None (Some b) c P Q R joined p q = absurd p
+then_calls (Some a) None c P Q R joined p q = absurd p
+then_calls (Some a) (Some b) None P Q R joined p q = absurd q
+then_calls (Some a) (Some b) (Some c) P Q R joined (x, e, px) (y, f, qy) = (x ++ y, f ∙ ap (λ (l : List Asked). l ++ y) e ∙ append_assoc a x y, joined x y px qy)
+
+-- known calls, and then one more
+and_one : (a b c : Option (List Asked)) (x y : List Asked) (R : List Asked → Type 0) → PutsOnRecord a b (λ calls. calls ≡ x) → BothTell b c (λ before after. after ≡ before ++ y) → R (x ++ y) → PutsOnRecord a c R
+and_one a b c x y R p h r = then_calls a b c (λ calls. calls ≡ x) (λ calls. calls ≡ y) R (λ u v e f. subst R (sym (ap (λ (l : List Asked). l ++ v) e ∙ ap (λ (l : List Asked). x ++ l) f)) r) p (one_call b c y (λ calls. calls ≡ y) h refl)
+
+first_calls : (names : Names) (calls : List Asked) → (calls ≡ []) ⊎ (calls ≡ fetched names.records ∷ []) → (count : ℕ) × (fetched names.rules ∷ calls ≡ take count (fetched names.rules ∷ fetched names.records ∷ []))
+first_calls names calls (inl e) = (1, ap (λ (l : List Asked). fetched names.rules ∷ l) e)
+first_calls names calls (inr e) = (2, ap (λ (l : List Asked). fetched names.rules ∷ l) e)
+
+-- the rules were fetched, and the records were refused
+after_rules : (A : Type 0) (names : Names) (r : Refusal) (calls : List Asked) → IsOfReading r → IsFetchOf {A = A} names.records (Err r) calls → AreCallsOf names (refusal_status r) (fetched names.rules ∷ calls)
+after_rules A names refusal.Usage calls of h = absurd (of.0 refl)
+after_rules A names refusal.WriteFault calls of h = absurd (of.1 refl)
+after_rules A names refusal.ReadFault calls of h = inr (ap (λ (l : List Asked). fetched names.rules ∷ l) h)
+after_rules A names refusal.OutOfMemory calls of h = first_calls names calls h
+after_rules A names (refusal.Files TooLong) calls of h = first_calls names calls h
+after_rules A names (refusal.Files Rules) calls of h = first_calls names calls h
+after_rules A names (refusal.Files Unbuilt) calls of h = first_calls names calls h
+after_rules A names (refusal.Files Records) calls of h = first_calls names calls h
+
+-- the record file was not fetched or not read: what was asked for
+pub records_asked : (A : Type 0) (names : Names) (r : Refusal) (result : Result Status Refusal) (a b c : Option (List Asked)) → IsErrAnd result (λ e. e ≡ r) → IsOfReading r → PutsOnRecord a b (λ calls. calls ≡ fetched names.rules ∷ []) → PutsOnRecord b c (IsFetchOf {A = A} names.records (Err r)) → PutsOnRecord a c (AreCallsOf names (end_of result))
+records_asked A names r (Ok answer) a b c is of p q = absurd is
+records_asked A names r (Err e) a b c is of p q =
+    subst (λ (refused : Refusal). PutsOnRecord a c (AreCallsOf names (refusal_status refused))) (sym is)
+    (then_calls a b c (λ calls. calls ≡ fetched names.rules ∷ []) (IsFetchOf {A = A} names.records (Err r)) (AreCallsOf names (refusal_status r)) (λ x y e f. subst (λ (l : List Asked). AreCallsOf names (refusal_status r) (l ++ y)) (sym e) (after_rules A names r y of f)) p q)
+
+-- both files were fetched
+pub both_asked : (names : Names) (a b c : Option (List Asked)) → PutsOnRecord a b (λ calls. calls ≡ fetched names.rules ∷ []) → PutsOnRecord b c (λ calls. calls ≡ fetched names.records ∷ []) → PutsOnRecord a c (λ calls. calls ≡ fetched names.rules ∷ fetched names.records ∷ [])
+both_asked names a b c p q = then_calls a b c (λ calls. calls ≡ fetched names.rules ∷ []) (λ calls. calls ≡ fetched names.records ∷ []) (λ calls. calls ≡ fetched names.rules ∷ fetched names.records ∷ []) (λ x y e f. ap (λ (l : List Asked). l ++ y) e ∙ ap (λ (l : List Asked). fetched names.rules ∷ l) f) p q
+
+-- and memory was refused behind them
+pub asked_in_vain : (names : Names) (result : Result Status Refusal) (a b : Option (List Asked)) → IsErrAnd result (λ r. r ≡ refusal.OutOfMemory) → PutsOnRecord a b (λ calls. calls ≡ fetched names.rules ∷ fetched names.records ∷ []) → PutsOnRecord a b (AreCallsOf names (end_of result))
+asked_in_vain names (Ok answer) a b is p = absurd is
+asked_in_vain names (Err r) None None is p = tt
+asked_in_vain names (Err r) None (Some b) is p = absurd p
+asked_in_vain names (Err r) (Some a) None is p = absurd p
+asked_in_vain names (Err r) (Some a) (Some b) is (x, e, f) = (x, e, subst (λ (refused : Refusal). AreCallsOf names (refusal_status refused) x) (sym is) (2, f))
+
+-- and the store put not all the bytes
+pub store_asked : (names : Names) (name : List ℕ) (error : StoreError) (result : Result Status Refusal) (a b c : Option (List Asked)) → name ≡ names.released → IsErrAnd result (λ r. r ≡ store_refusal error) → PutsOnRecord a b (λ calls. calls ≡ fetched names.rules ∷ fetched names.records ∷ []) → BothTell b c (λ before after. after ≡ before ++ store_record name (Err error)) → PutsOnRecord a c (AreCallsOf names (end_of result))
+store_asked names name error (Ok answer) a b c same is p h = absurd is
+store_asked names name store.Failed (Err r) a b c same is p h =
+    subst (λ (refused : Refusal). PutsOnRecord a c (AreCallsOf names (refusal_status refused))) (sym is) (and_one a b c (fetched names.rules ∷ fetched names.records ∷ []) (unstored_call names.released ∷ []) (AreCallsOf names status.WriteFault) p (subst (λ (n : List ℕ). BothTell b c (λ before after. after ≡ before ++ unstored_call n ∷ [])) same h) refl)
+store_asked names name store.OutOfMemory (Err r) a b c same is p h =
+    subst (λ (refused : Refusal). PutsOnRecord a c (AreCallsOf names (refusal_status refused))) (sym is) (and_one a b c (fetched names.rules ∷ fetched names.records ∷ []) [] (AreCallsOf names status.OutOfMemory) p h (2, refl))
+
+-- and the release was stored
+pub all_asked : (names : Names) (answer : Status) (a b c : Option (List Asked)) → HasReleased answer → PutsOnRecord a b (λ calls. calls ≡ fetched names.rules ∷ fetched names.records ∷ []) → BothTell b c (λ before after. after ≡ before ++ stored names.released ∷ []) → PutsOnRecord a c (AreCallsOf names answer)
+all_asked names answer a b c (inl e) p h = subst (λ (s : Status). PutsOnRecord a c (AreCallsOf names s)) (sym e) (and_one a b c (fetched names.rules ∷ fetched names.records ∷ []) (stored names.released ∷ []) (AreCallsOf names status.Done) p h refl)
+all_asked names answer a b c (inr e) p h = subst (λ (s : Status). PutsOnRecord a c (AreCallsOf names s)) (sym e) (and_one a b c (fetched names.rules ∷ fetched names.records ∷ []) (stored names.released ∷ []) (AreCallsOf names status.SomeUnresolved) p h refl)

@@ -58,21 +58,29 @@ Stores old new name bytes (Err store.OutOfMemory) = new ≡ old
 abbrev pub fetched : List ℕ → Asked
 fetched name = record { store = false; name = name; failed = false }
 
--- a store that did not fail, on record
+-- a fetch that failed
+abbrev pub unfetched : List ℕ → Asked
+unfetched name = record { store = false; name = name; failed = true }
+
+-- a store that did not fail
 abbrev pub stored : List ℕ → Asked
 stored name = record { store = true; name = name; failed = false }
+
+-- a store that failed
+abbrev pub unstored : List ℕ → Asked
+unstored name = record { store = true; name = name; failed = true }
 
 -- what a fetch puts on record: a file that is too long is no failure, and nothing is put there for want of memory
 abbrev pub fetch_record : List ℕ → Result (Vec ℕ Global) FetchError → List Asked
 fetch_record name (Ok bytes) = fetched name ∷ []
 fetch_record name (Err (fetch.TooLong taken)) = fetched name ∷ []
-fetch_record name (Err fetch.Failed) = record { store = false; name = name; failed = true } ∷ []
+fetch_record name (Err fetch.Failed) = unfetched name ∷ []
 fetch_record name (Err fetch.OutOfMemory) = []
 
 -- what a store puts on record: nothing for want of memory
 abbrev pub store_record : List ℕ → Result (Unit {0}) StoreError → List Asked
 store_record name (Ok done) = stored name ∷ []
-store_record name (Err store.Failed) = record { store = true; name = name; failed = true } ∷ []
+store_record name (Err store.Failed) = unstored name ∷ []
 store_record name (Err store.OutOfMemory) = []
 
 -- the count of faults after one more, as far as 64 bits go
@@ -96,6 +104,6 @@ BothTell None (Some new) P = ⊥
 BothTell (Some old) None P = ⊥
 BothTell (Some old) (Some new) P = P old new
 
--- these calls, and no others, were put on record, where the calls are told
-abbrev pub PutsOnRecord : Option (List Asked) → Option (List Asked) → List Asked → Type 0
-PutsOnRecord old new more = BothTell old new (λ before after. after ≡ before ++ more)
+-- some calls that meet the claim, and no others, were put on record, where the calls are told
+abbrev pub PutsOnRecord : Option (List Asked) → Option (List Asked) → (List Asked → Type 0) → Type 0
+PutsOnRecord old new P = BothTell old new (λ before after. (more : List Asked) × (after ≡ before ++ more) × P more)

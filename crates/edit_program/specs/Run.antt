@@ -1,11 +1,11 @@
 -- What a run of an edit shows of the files, and what it leaves of them.
-use Rattle.std.specs.Prelude.{◌≡◌, ◌≢◌, ◌⊎◌, ℕ, ◌≤◌, List, [], ◌∷◌, Some, length}
+use Rattle.std.specs.Prelude.{◌≡◌, ◌≢◌, ◌⊎◌, ℕ, ◌≤◌, List, [], ◌∷◌, Option, Some, length, take}
 use Rattle.edit_language.specs.Grammar.{IsRuleText}
 use Rattle.edit_model.specs.Bounds.{IsBounded}
 use Rattle.edit_model.specs.Parts.{SurveyParts}
 use Rattle.edit_model.specs.declared.field.Field.{Field}
 use Rattle.record_text.specs.Sheets.{SheetParts, IsSheet}
-use Rattle.edit_program.specs.Desk.{Asked, Files, HoldsPrefix, IsLonger, SameElsewhere, fetched, stored}
+use Rattle.edit_program.specs.Desk.{Asked, BothTell, Files, HoldsPrefix, IsLonger, SameElsewhere, fetched, stored, unfetched, unstored}
 use Rattle.edit_program.specs.Refusals.{cause_status}
 use Rattle.edit_program.specs.Released.{HasReleased, IsRelease}
 use Rattle.edit_program.specs.Words.{Names}
@@ -74,9 +74,13 @@ pub record IsMade (names : Names) (answer : Status) (before : Files) (bytes : Li
   pub records_read : HoldsRecords before names.records survey.fields sheet
   pub release : IsRelease survey sheet bytes answer
 
--- what an edit asks of the desk, in this order
-abbrev pub edit_calls : Names → List Asked
-edit_calls names = fetched names.rules ∷ fetched names.records ∷ stored names.released ∷ []
+-- what an edit asks of the desk, in this order: all of it where it released, up to the call that failed where a fault ended it, and else the first calls
+abbrev pub AreCallsOf : Names → Status → List Asked → Type 0
+AreCallsOf names status.Done calls = calls ≡ fetched names.rules ∷ fetched names.records ∷ stored names.released ∷ []
+AreCallsOf names status.SomeUnresolved calls = calls ≡ fetched names.rules ∷ fetched names.records ∷ stored names.released ∷ []
+AreCallsOf names status.WriteFault calls = calls ≡ fetched names.rules ∷ fetched names.records ∷ unstored names.released ∷ []
+AreCallsOf names status.ReadFault calls = (calls ≡ unfetched names.rules ∷ []) ⊎ (calls ≡ fetched names.rules ∷ unfetched names.records ∷ [])
+AreCallsOf names answer calls = (count : ℕ) × (calls ≡ take count (fetched names.rules ∷ fetched names.records ∷ []))
 
 -- what an edit did: the release of the files that the desk held stands in the released file, and every other file is as it was
 pub record IsEdited (names : Names) (answer : Status) (before after : Files) : Type 0 where
@@ -85,6 +89,10 @@ pub record IsEdited (names : Names) (answer : Status) (before after : Files) : T
   pub stored : after names.released ≡ Some bytes
   pub elsewhere : SameElsewhere before after names.released
 
+-- the same of the files of a desk, where it tells them
+abbrev pub Edits : Names → Status → Option Files → Option Files → Type 0
+Edits names answer old new = BothTell old new (IsEdited names answer)
+
 -- what a store that failed left: under the released name some first bytes of the release, or what stood there, and every other file is as it was
 pub record IsCutOff (names : Names) (before after : Files) : Type 0 where
   pub bytes : List ℕ
@@ -92,6 +100,10 @@ pub record IsCutOff (names : Names) (before after : Files) : Type 0 where
   pub made : IsMade names answer before bytes
   pub kept : HoldsPrefix after names.released bytes ⊎ (after names.released ≡ before names.released)
   pub elsewhere : SameElsewhere before after names.released
+
+-- the same of the files of a desk, where it tells them
+abbrev pub CutsOff : Names → Option Files → Option Files → Type 0
+CutsOff names old new = BothTell old new (IsCutOff names)
 
 -- the statuses of a run that put nothing on the desk
 abbrev pub HasStoredNothing : Status → Type 0

@@ -1,12 +1,12 @@
-ghost use Rattle.std.specs.Prelude.{◌≡◌, ◌≢◌, ◌↔◌, ℕ, IfErr, IfOk, IfSome, IsErrOf, Err, List, [], ◌∷◌, length};
+ghost use Rattle.std.specs.Prelude.{◌≡◌, ◌≢◌, ◌↔◌, ℕ, IfErr, IfOk, IfSome, IsErrOf, Err, List};
 ghost use Rattle.edit_model.specs.Bounds.{IsBounded};
 ghost use Rattle.edit_model.specs.Surveys.{IsWellFormed};
-ghost use Rattle.edit_program.specs.Desk.{BothTell, PutsOnRecord, fetched, raised};
+ghost use Rattle.edit_program.specs.Desk.{PutsOnRecord, raised};
 ghost use Rattle.edit_program.specs.Refusals.{refusal_status};
 ghost use Rattle.edit_program.specs.Released.{HasReleased};
-ghost use Rattle.edit_program.specs.Run.{HasStoredNothing, HoldsRecords, HoldsServed, IsCutOff, IsEdited, ShowsCause, edit_calls};
+ghost use Rattle.edit_program.specs.Run.{AreCallsOf, CutsOff, Edits, HasStoredNothing, HoldsRecords, HoldsServed, ShowsCause};
 ghost use Rattle.edit_program.specs.Words.{ForNames, IsNoCommand};
-ghost use Rattle.edit_program.specs.inner.Ends.{IsOfReading, end_of, faults_after};
+ghost use Rattle.edit_program.specs.inner.Ends.{IsFetchOf, IsOfReading, end_of, faults_after};
 ghost use Rattle.record_text.specs.Sheets.{IsSheet};
 
 use crate::desk::Desk;
@@ -31,7 +31,7 @@ pub fn fh_main<D: Desk>(alloc: Global, words: &[String], desk: &mut D) -> Status
     ensures usage { (result ≡ Status.Usage) ↔ IsNoCommand words.now }
 
     // The release guarantee: what stands in the released file after statuses 0 and 1.
-    ensures edited { HasReleased result → ForNames words.now (λ names. BothTell (D.files desk.old) (D.files desk.new) (IsEdited names result)) }
+    ensures edited { HasReleased result → ForNames words.now (λ names. Edits names result (D.files desk.old) (D.files desk.new)) }
 
     // A file that is too long or has no reading, and rules that are not served, exactly where they are.
     ensures cause { ForNames words.now (λ names. IfSome (D.files desk.old) (λ files. ShowsCause files names result)) }
@@ -42,11 +42,12 @@ pub fn fh_main<D: Desk>(alloc: Global, words: &[String], desk: &mut D) -> Status
     ensures faultless { result ≢ Status.ReadFault → result ≢ Status.WriteFault → D.faults desk.new ≡ D.faults desk.old }
 
     // What was asked of the desk, where it tells that.
-    ensures asked { HasReleased result → ForNames words.now (λ names. PutsOnRecord (D.calls desk.old) (D.calls desk.new) (edit_calls names)) }
+    ensures asked { ForNames words.now (λ names. PutsOnRecord (D.calls desk.old) (D.calls desk.new) (AreCallsOf names result)) }
+    ensures unasked { result ≡ Status.Usage → D.calls desk.new ≡ D.calls desk.old }
 
     // What is left on the desk after each other status.
     ensures unchanged { HasStoredNothing result → D.files desk.new ≡ D.files desk.old }
-    ensures cut_off { result ≡ Status.WriteFault → ForNames words.now (λ names. BothTell (D.files desk.old) (D.files desk.new) (IsCutOff names)) }
+    ensures cut_off { result ≡ Status.WriteFault → ForNames words.now (λ names. CutsOff names (D.files desk.old) (D.files desk.new)) }
 {
     let Some(names) = edit_words(words) else {
         return Status::Usage;
@@ -61,12 +62,12 @@ pub fn fh_main<D: Desk>(alloc: Global, words: &[String], desk: &mut D) -> Status
 fn edit<D: Desk>(alloc: Global, names: &EditWords<'_>, desk: &mut D) -> Result<Status, Refusal>
     ensures command { result ≢ Err Refusal.Usage }
     ensures released { IfOk result HasReleased }
-    ensures edited { IfOk result (λ status. BothTell (D.files desk.old) (D.files desk.new) (IsEdited names.now status)) }
+    ensures edited { IfOk result (λ status. Edits names.now status (D.files desk.old) (D.files desk.new)) }
     ensures cause { IfSome (D.files desk.old) (λ files. ShowsCause files names.now (end_of result)) }
     ensures faults { D.faults desk.new ≡ faults_after result (D.faults desk.old) }
-    ensures asked { IfOk result (λ _. PutsOnRecord (D.calls desk.old) (D.calls desk.new) (edit_calls names.now)) }
+    ensures asked { PutsOnRecord (D.calls desk.old) (D.calls desk.new) (AreCallsOf names.now (end_of result)) }
     ensures unchanged { IfErr result (λ refusal. refusal ≢ Refusal.WriteFault → D.files desk.new ≡ D.files desk.old) }
-    ensures cut_off { IsErrOf result Refusal.WriteFault → BothTell (D.files desk.old) (D.files desk.new) (IsCutOff names.now) }
+    ensures cut_off { IsErrOf result Refusal.WriteFault → CutsOff names.now (D.files desk.old) (D.files desk.new) }
 {
     let survey = fetch_survey(alloc, names, desk)?;
     let sheet = fetch_sheet(alloc, names, &survey, desk)?;
@@ -86,7 +87,7 @@ fn fetch_survey<D: Desk>(
     ensures bounded { IfOk result (λ survey. IsBounded survey) }
     ensures refused { IfErr result (λ refusal. IfSome (D.files desk.old) (λ files. ShowsCause files names.now (refusal_status refusal))) }
     ensures end { IfErr result IsOfReading }
-    ensures asked { IfOk result (λ _. PutsOnRecord (D.calls desk.old) (D.calls desk.new) (fetched names.now.rules ∷ [])) }
+    ensures asked { PutsOnRecord (D.calls desk.old) (D.calls desk.new) (IsFetchOf names.now.rules result) }
     ensures faults { D.faults desk.new ≡ faults_after result (D.faults desk.old) }
     ensures unchanged { D.files desk.new ≡ D.files desk.old }
 {
@@ -110,7 +111,7 @@ fn fetch_sheet<D: Desk>(
     ensures sheet { IfOk result (λ sheet. (bytes : List ℕ) × IsSheet survey.now.fields bytes sheet) }
     ensures refused { IfErr result (λ refusal. IfSome (D.files desk.old) (λ files. HoldsServed files names.now.rules survey.now → ShowsCause files names.now (refusal_status refusal))) }
     ensures end { IfErr result IsOfReading }
-    ensures asked { IfOk result (λ _. PutsOnRecord (D.calls desk.old) (D.calls desk.new) (fetched names.now.records ∷ [])) }
+    ensures asked { PutsOnRecord (D.calls desk.old) (D.calls desk.new) (IsFetchOf names.now.records result) }
     ensures faults { D.faults desk.new ≡ faults_after result (D.faults desk.old) }
     ensures unchanged { D.files desk.new ≡ D.files desk.old }
 {

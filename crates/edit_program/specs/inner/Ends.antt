@@ -1,6 +1,6 @@
 -- How the parts of an edit end.
-use Rattle.std.specs.Prelude.{◌≢◌, ℕ, Result, Ok, Err}
-use Rattle.edit_program.specs.Desk.{raised}
+use Rattle.std.specs.Prelude.{◌≡◌, ◌≢◌, ◌⊎◌, ℕ, List, [], ◌∷◌, Result, Ok, Err}
+use Rattle.edit_program.specs.Desk.{Asked, fetched, raised, unfetched}
 use Rattle.edit_program.specs.Refusals.{refusal_status}
 use Rattle.edit_program.specs.declared.refusal.Refusal.{Refusal}
 use Rattle.edit_program.specs.declared.refusal.Refusal.TheVariants.{Usage, ReadFault, WriteFault}
@@ -20,3 +20,9 @@ faults_after result faults = faults
 -- a refusal that a fetch, and the reading of what it gave, may end with
 abbrev pub IsOfReading : Refusal → Type 0
 IsOfReading refusal = (refusal ≢ Usage) × (refusal ≢ WriteFault)
+
+-- what a fetch, and the reading of what it gave, asks of the desk: the fetch, or nothing for want of memory
+abbrev pub IsFetchOf : {A : Type 0} → List ℕ → Result A Refusal → List Asked → Type 0
+IsFetchOf name (Ok read) calls = calls ≡ fetched name ∷ []
+IsFetchOf name (Err ReadFault) calls = calls ≡ unfetched name ∷ []
+IsFetchOf name (Err refusal) calls = (calls ≡ []) ⊎ (calls ≡ fetched name ∷ [])

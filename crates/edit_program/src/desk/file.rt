@@ -69,12 +69,7 @@ fn raise(faults: &mut u64)
 }
 
 // The bytes of a file, at most `limit` of them.
-fn read_file<R: Files>(
-    rt: &R,
-    alloc: Global,
-    name: &str,
-    limit: u64,
-) -> Result<Vec<u8>, FetchError>
+fn read_file<R: Files>(rt: &R, alloc: Global, name: &str, limit: u64) -> Result<Vec<u8>, FetchError>
     ensures within { IfOk result (λ bytes. length bytes.items ≤ limit) }
     ensures taken { IfErr result (TakesOneMore limit) }
 {

@@ -228,22 +228,15 @@ mod tests {
     #[test]
     fn a_store_that_fails_keeps_the_bytes_asked_for(rt: HostRuntime) -> Result<(), Fail> {
         let alloc = rt.alloc();
-        for (keep, kept) in [(0, b"".as_slice()), (3, b"hel"), (9, b"hello")] {
-            let mut desk = desk_with_rules(alloc, &[Failure { call: 2, keep }])?;
-            desk.store(alloc, "rules", b"first")?;
-            assert_eq!(rt;
-                desk.store(alloc, "released", b"hello"),
-                Err(StoreError::Failed)
-            );
-            assert_eq!(rt; desk.file("released"), Some(kept), "at {keep}");
-            assert_eq!(rt; desk.file("rules"), Some(b"first".as_slice()), "at {keep}");
-            desk.store(alloc, "released", b"again")?;
-            assert_eq!(rt;
-                desk.file("released"),
-                Some(b"again".as_slice()),
-                "at {keep}"
-            );
-        }
+        let mut desk = desk_with_rules(alloc, &[Failure { call: 1, keep: 3 }])?;
+        assert_eq!(rt;
+            desk.store(alloc, "released", b"hello"),
+            Err(StoreError::Failed)
+        );
+        assert_eq!(rt; desk.file("released"), Some(b"hel".as_slice()));
+        assert_eq!(rt; desk.file("rules"), Some(b"abc".as_slice()));
+        desk.store(alloc, "rules", b"again")?;
+        assert_eq!(rt; desk.file("rules"), Some(b"again".as_slice()));
         Ok(())
     }
 }

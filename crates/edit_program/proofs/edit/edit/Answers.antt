@@ -1,5 +1,6 @@
 use Rattle.std.proofs.Common.{◌≡◌, ◌∙◌, ap, inl}
-use Rattle.edit_program.proofs.RunLaws.{both_read, converted, cut_off, edited, store_failed, three_calls, unstored, untouched}
+use Rattle.edit_program.proofs.RunLaws.{all_asked, asked_in_vain, both_asked, both_read, converted, cut_off, edited, records_asked, store_asked, store_failed, unstored, untouched}
+use Rattle.record_text.specs.Sheets.{SheetParts}
 use Rattle.edit_program.specs.Refusals.{store_refusal}
 use Rattle.edit_program.specs.Words.{Names}
 use Rattle.edit_program.proofs.edit.edit.Goals as goal
@@ -34,7 +35,23 @@ returns-clause-cause g c =
     both_read (g.D.Desk.files c.args.desk.now) c.args.names.now c.in_ok-survey.survey c.in_ok-sheet.sheet _
     c.in_ok-survey.ensures.read (rw c.in_ok-survey.ensures.unchanged at c.in_ok-sheet.ensures.read) (inl c.in_ok-made.ensures.ended)
 
+pub returns-in_err-sheet-clause-asked : goal.returns-in_err-sheet-clause-asked
+returns-in_err-sheet-clause-asked g c =
+    records_asked SheetParts c.args.names.now c.in_err-sheet.field-0.0 c.from_residual-in_err-sheet.result (g.D.Desk.calls c.args.desk.now) _ _ c.from_residual-in_err-sheet.ensures.1 c.in_err-sheet.ensures.end c.in_ok-survey.ensures.asked c.in_err-sheet.ensures.asked
+
+pub returns-in_err-made-clause-asked : goal.returns-in_err-made-clause-asked
+returns-in_err-made-clause-asked g c =
+    asked_in_vain c.args.names.now c.from_residual-in_err-made.result (g.D.Desk.calls c.args.desk.now) _ c.from_residual-in_err-made.ensures.1
+    (both_asked c.args.names.now (g.D.Desk.calls c.args.desk.now) _ _ c.in_ok-survey.ensures.asked c.in_ok-sheet.ensures.asked)
+
+pub returns-in_err-store-clause-asked : goal.returns-in_err-store-clause-asked
+returns-in_err-store-clause-asked g c =
+    let name : c.names.inside.released.now ≡ c.args.names.now.released = ap (λ (n : Names). n.released) c.names.view_is in
+    store_asked c.args.names.now c.names.inside.released.now c.in_err-store.field-0.0 c.from_residual-in_err-store.result (g.D.Desk.calls c.args.desk.now) _ _ name c.from_residual-in_err-store.ensures.1
+    (both_asked c.args.names.now (g.D.Desk.calls c.args.desk.now) _ _ c.in_ok-survey.ensures.asked c.in_ok-sheet.ensures.asked) c.in_err-store.ensures.calls
+
 pub returns-clause-asked : goal.returns-clause-asked
 returns-clause-asked g c =
     let name : c.names.inside.released.now ≡ c.args.names.now.released = ap (λ (n : Names). n.released) c.names.view_is in
-    three_calls (g.D.Desk.calls c.args.desk.now) _ _ (g.D.Desk.calls c.store.new.self) _ _ _ c.in_ok-survey.ensures.asked c.in_ok-sheet.ensures.asked (rw name at c.in_ok-store.ensures.calls)
+    all_asked c.args.names.now _ (g.D.Desk.calls c.args.desk.now) _ _ c.in_ok-made.ensures.ended
+    (both_asked c.args.names.now (g.D.Desk.calls c.args.desk.now) _ _ c.in_ok-survey.ensures.asked c.in_ok-sheet.ensures.asked) (rw name at c.in_ok-store.ensures.calls)
