@@ -197,7 +197,7 @@ abbrev pub has_wrong_form : Written → Bool
 has_wrong_form (statement.Declaration d) = false
 has_wrong_form (statement.Rule r) = not (has_form r)
 
--- whether the statement, after the lines before it, has a fault of this kind; bytes and syntax are faults of lines that say nothing
+-- whether the statement, after the lines before it, has a fault of this kind; bad bytes and syntax are faults of a line, not of a statement
 abbrev pub has_fault : SurveyParts → Written → RulesKind → Bool
 has_fault before s BadByte = false
 has_fault before s Syntax = false
