@@ -3,13 +3,17 @@ pub mod CodeCounts
 pub mod CombinationLaws
 pub mod DivisionLaws
 pub mod Enough
+pub mod EqualityLaws
 pub mod FactorLaws
+pub mod FactorLoops
 pub mod FieldLists
 pub mod KeyLaws
 pub mod LineSums
 pub mod ListPairs
 pub mod ListPlaces
 pub mod Members
+pub mod NegationLaws
+pub mod NegationLines
 pub mod OneField
 pub mod OtherFields
 pub mod OwnLaws

@@ -28,6 +28,10 @@ row-length (field ∷ fields) (v ∷ row) are = let rest = row-length fields row
 pub kind-within : (test : Kind → Bool) (fields : List Field) (row : List Value) (numbers : List ℕ) → IsRow fields row → numbers ≡ corrections.numbers_from test 0 fields → All (λ f. f < length row) numbers
 kind-within test fields row numbers are same = subst (λ (ns : List ℕ). All (λ f. f < length row) ns) (sym same) (small-from test 0 (length row) fields (omega (arith, row-length fields row are)))
 
+-- they are below 64, where there are at most 64 fields
+pub kind-small : (test : Kind → Bool) (fields : List Field) (numbers : List ℕ) → length fields ≤ 64 → numbers ≡ corrections.numbers_from test 0 fields → All (λ f. f < 64) numbers
+kind-small test fields numbers few same = subst (λ (ns : List ℕ). All (λ f. f < 64) ns) (sym same) (small-from test 0 64 fields (omega arith))
+
 -- the numerical ones
 pub numbers-within : (fields : List Field) (row : List Value) (numbers : List ℕ) → IsRow fields row → numbers ≡ corrections.number_fields fields → All (λ f. f < length row) numbers
 numbers-within fields row numbers are same = kind-within is_numerical fields row numbers are same

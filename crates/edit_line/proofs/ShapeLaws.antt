@@ -147,3 +147,12 @@ HasCodes-shape i (f ∷ fields) p held = by f.kind held.0 (HasCodes-shape (suc i
     by : (kind_of : Kind) → IsInDomain kind_of (p.code i) → HasCodes (suc i) (shape_of fields) p → HasCodes i (domain_of kind_of ∷ shape_of fields) p
     by (kind.Number scale) h rest = rest
     by (kind.Code codes) h rest = (h, rest)
+
+-- and the other way round
+pub HasCodes-fields : (i : ℕ) (fields : List Field) (p : Point) → HasCodes i (shape_of fields) p → HasCodesFrom i fields p
+HasCodes-fields i [] p held = tt
+HasCodes-fields i (f ∷ fields) p held = by f.kind (HasCodes-fields (suc i) fields p) held
+  where
+    by : (kind_of : Kind) → (HasCodes (suc i) (shape_of fields) p → HasCodesFrom (suc i) fields p) → HasCodes i (domain_of kind_of ∷ shape_of fields) p → IsInDomain kind_of (p.code i) × HasCodesFrom (suc i) fields p
+    by (kind.Number scale) rest h = (tt, rest h)
+    by (kind.Code codes) rest h = (h.0, rest h.1)

@@ -1,7 +1,9 @@
-use Rattle.std.proofs.Common.{ℕ, zero, suc, List, [], ◌∷◌, slice_index_or, slice_set, arith}
+use Rattle.std.proofs.Common.{◌≡◌, ℕ, zero, suc, ◌+◌, ◌<◌, ◌++◌, List, [], ◌∷◌, drop, get_or, length, map, slice_index_or, slice_set, refl, ap, ◌∙◌, add-one, arith}
+use Rattle.std.proofs.Math.Seq.{drop-cons}
 use Rattle.std.proofs.lemmas.Nat.{and_le_l}
 use Rattle.edit_line.specs.Combinations.{meets}
 use Rattle.edit_line.specs.Sets.{AreSets, AreWithin}
+use Rattle.edit_line.specs.Shapes.{Categorical, Domain, Numerical, domain_with, whole_sets}
 
 -- Sets of codes that are made whole at a place, and what sets have in common.
 
@@ -35,3 +37,13 @@ AreWithin-common [] (t ∷ second) (w ∷ wholes) a b = absurd a
 AreWithin-common (s ∷ first) second [] a b = absurd a
 AreWithin-common (s ∷ first) [] (w ∷ wholes) a b = absurd b
 AreWithin-common (s ∷ first) (t ∷ second) (w ∷ wholes) a b = (omega (arith, and_le_l s t, a.0), AreWithin-common first second wholes a.1 b.1)
+
+-- ---- the whole sets of a shape, field by field
+
+wholes-cons : (d : Domain) (shape : List Domain) → whole_sets (d ∷ shape) ≡ whole_sets (d ∷ []) ++ whole_sets shape
+wholes-cons Numerical shape = refl
+wholes-cons (Categorical k) shape = refl
+
+pub wholes-at : (counts : List ℕ) (i k : ℕ) → i < length counts
+    → whole_sets (map domain_with (drop i counts)) ≡ whole_sets (domain_with (get_or counts i k) ∷ []) ++ whole_sets (map domain_with (drop (i + 1) counts))
+wholes-at counts i k below = rw (add-one) (ap (λ (ns : List ℕ). whole_sets (map domain_with ns)) (drop-cons counts i k below) ∙ wholes-cons (domain_with (get_or counts i k)) (map domain_with (drop (suc i) counts)))

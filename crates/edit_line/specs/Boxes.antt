@@ -1,4 +1,5 @@
-use Rattle.std.specs.Prelude.{ℕ, List}
+use Rattle.std.specs.Prelude.{ℕ, Bool, List, nat_eq}
+use Rattle.std.specs.Cmp.Lexicographic.{pointwise}
 use Rattle.edit_line.specs.Sets.{AreSets}
 use Rattle.edit_line.specs.Shapes.{Domain, whole_sets}
 
@@ -14,3 +15,7 @@ box_of shape sets = record { shape = shape; sets = sets }
 -- each set has a code, and none but its field's
 abbrev pub IsBox : BoxParts → Type 0
 IsBox box = AreSets box.sets (whole_sets box.shape)
+
+-- whether the sets have all codes of their fields
+abbrev pub are_whole : List Domain → List ℕ → Bool
+are_whole shape sets = pointwise nat_eq sets (whole_sets shape)

@@ -1,5 +1,8 @@
-use Rattle.std.specs.Prelude.{ℕ, zero, suc, ◌<◌, ◌==◌, List, [], ◌∷◌, if◌then◌else◌, slice_index_or}
+use Rattle.std.specs.Prelude.{ℕ, zero, suc, ◌<◌, ◌==◌, List, [], ◌∷◌, if◌then◌else◌, map, slice_index_or}
 use Rattle.edit_model.specs.Points.{Point}
+use Rattle.edit_model.specs.RowPoints.{code_in}
+use Rattle.edit_model.specs.Rows.{value_of}
+use Rattle.edit_model.specs.declared.value.Value.{Value}
 use Rattle.edit_line.specs.Shapes.{Categorical, Domain, Numerical, code_fields, place_in, whole_sets}
 
 -- the codes from the given one on, so many
@@ -36,3 +39,7 @@ whole_of shape f = slice_index_or (whole_sets shape) (place_of shape f) 0
 -- the point with this code at the field
 abbrev pub with_code_at : Point → ℕ → ℕ → Point
 with_code_at p f code = record p { code = λ i. if i == f then code else p.code i }
+
+-- the record's codes at the categorical fields; where it is Bad, the field's first code
+abbrev pub codes_in : List Domain → List Value → List ℕ
+codes_in shape row = map (λ f. code_in (value_of row f)) (code_fields shape)

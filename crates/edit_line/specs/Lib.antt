@@ -3,11 +3,13 @@ pub mod CodeFields
 pub mod Combinations
 pub mod Divisors
 pub mod EditSets
-pub mod Keys
+pub mod Equality
 pub mod Lines
+pub mod Negations
 pub mod Places
 pub mod Reductions
 pub mod Sets
 pub mod Shapes
 pub mod Subsumption
 pub mod Sums
+pub mod inner

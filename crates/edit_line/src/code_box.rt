@@ -1,8 +1,9 @@
-ghost use Rattle.std.specs.Prelude.{◌≡◌, IfOk};
-ghost use Rattle.edit_line.specs.Boxes.{IsBox, box_of};
+ghost use Rattle.std.specs.Prelude.{◌≡◌, ◌↔◌, IfOk, true};
+ghost use Rattle.edit_line.specs.Boxes.{IsBox, are_whole, box_of};
 ghost use Rattle.edit_line.specs.Sets.{AreSets};
 ghost use Rattle.edit_line.specs.Shapes.{domains_of, shape_of, whole_sets};
 
+use crate::code_sets::are_whole;
 use crate::shape::Shape;
 use edit_model::Survey;
 use foundation::OutOfMemory;
@@ -51,6 +52,14 @@ impl CodeBox {
         ensures fit { AreSets self.now.sets (whole_sets self.now.shape) }
     {
         self.sets.as_slice()
+    }
+
+    /// Whether the sets have all codes: the box has the codes of every point. No memory.
+    pub fn is_full(&self) -> bool
+        ensures exact { result ≡ are_whole self.now.shape self.now.sets }
+        ensures whole { result ≡ true ↔ self.now.sets ≡ whole_sets self.now.shape }
+    {
+        are_whole(self.shape(), self.sets())
     }
 
     /// The shape of the survey. No memory.

@@ -1,9 +1,13 @@
 //! Sets of codes, as bits: a set for each categorical field, in declared order.
-ghost use Rattle.std.specs.Prelude.{◌≡◌, IfOk, length};
+ghost use Rattle.std.specs.Prelude.{◌≡◌, ◌≤◌, ◌++◌, [], ◌∷◌, false, List, ℕ, IfNone, IfOk, IfSome, drop, length, nat_eq};
+ghost use Rattle.std.specs.Cmp.Lexicographic.{pointwise};
 ghost use Rattle.edit_model.specs.Points.{has_code};
+ghost use Rattle.edit_line.specs.Boxes.{are_whole};
 ghost use Rattle.edit_line.specs.Combinations.{all_meet, meets};
 ghost use Rattle.edit_line.specs.Sets.{all_inside, has_codes};
+ghost use Rattle.edit_line.specs.Shapes.{domain_with, domains_of, whole_sets};
 
+use crate::shape::{Shape, whole_set};
 use foundation::OutOfMemory;
 use std::alloc::Global;
 
@@ -67,4 +71,34 @@ pub fn has_code(set: u64, code: u8) -> bool
     ensures { result ≡ has_code set code }
 {
     code < 64 && (set >> code) & 1 == 1
+}
+
+/// Whether the sets have all codes of their fields. No memory.
+pub(crate) fn are_whole(shape: Shape, sets: &[u64]) -> bool
+    ensures { result ≡ are_whole (domains_of shape.count shape.codes) sets.now }
+{
+    let mut place = 0;
+    for count in shape.code_counts() {
+        match behind_whole(sets, place, *count) {
+            Some(next) => place = next,
+            None => return false,
+        }
+    }
+    place >= sets.len()
+}
+
+// The place behind the set of so many codes, where that is whole. Where there are no codes there is no set.
+fn behind_whole(sets: &[u64], place: usize, count: u8) -> Option<usize>
+    requires { count ≤ 64 }
+    ensures some { IfSome result (λ next. (rest : List ℕ) → pointwise nat_eq (drop place sets.now) (whole_sets (domain_with count ∷ []) ++ rest) ≡ pointwise nat_eq (drop next sets.now) rest) }
+    ensures none { IfNone result ((rest : List ℕ) → pointwise nat_eq (drop place sets.now) (whole_sets (domain_with count ∷ []) ++ rest) ≡ false) }
+{
+    if count == 0 {
+        return Some(place);
+    }
+    if place < sets.len() && sets[place] == whole_set(count) {
+        Some(place + 1)
+    } else {
+        None
+    }
 }

@@ -1,5 +1,5 @@
 ghost use Rattle.std.specs.Prelude.{◌≡◌, All, IfOk};
-ghost use Rattle.edit_line.specs.EditSets.{AreEdits, base_lines, edits_of};
+ghost use Rattle.edit_line.specs.EditSets.{AreEdits, IsReducedOf, base_lines, edits_of};
 ghost use Rattle.edit_line.specs.Lines.{IsLine};
 ghost use Rattle.edit_line.specs.Reductions.{lines_of, reduce_derived};
 ghost use Rattle.edit_line.specs.Shapes.{domains_of, shape_of};
@@ -70,6 +70,7 @@ impl Edits {
     pub fn reduced(&self) -> &[Derived]
         ensures exact { result.now ≡ reduce_derived (base_lines self.now.lines) }
         ensures lines { All IsLine (lines_of result.now) }
+        ensures kept { IsReducedOf self.now.shape self.now.lines result.now }
     {
         self.reduced.as_slice()
     }

@@ -1,6 +1,7 @@
-ghost use Rattle.std.specs.Prelude.{◌≡◌, ◌||◌, ◌<◌, ◌-◌, ◌++◌, [], ◌∷◌, drop, length, not, take, OnOk};
+ghost use Rattle.std.specs.Prelude.{◌≡◌, ◌||◌, ◌<◌, ◌-◌, ◌++◌, [], ◌∷◌, drop, length, not, take, OnErr, OnOk};
 ghost use Rattle.std.specs.List.{filter, list_any};
-ghost use Rattle.edit_line.specs.Keys.{key_of, keys_of};
+ghost use Rattle.std.specs.Vec.{vec_capacity, vec_len};
+ghost use Rattle.edit_line.specs.inner.Keys.{key_of, keys_of};
 ghost use Rattle.edit_line.specs.Reductions.{derived_from, with_derived};
 ghost use Rattle.edit_line.specs.Subsumption as subsumption;
 
@@ -22,7 +23,7 @@ pub struct Kept {
 
 impl Model for Kept {
     ghost use Rattle.std.specs.Prelude.{◌≡◌, List};
-    ghost use Rattle.edit_line.specs.Keys.{keys_of};
+    ghost use Rattle.edit_line.specs.inner.Keys.{keys_of};
     ghost use Rattle.edit_line.specs.declared.derived.Derived as declared;
 
     ghost Value = { List declared.Derived };
@@ -51,9 +52,10 @@ impl Kept {
     }
 
     /// Takes the line in: if it always holds, or a kept line subsumes it, it is dropped; else the kept
-    /// lines that it subsumes are, and it comes last.
+    /// lines that it subsumes are, and it comes last. After a refusal the kept lines are as before.
     pub fn take(&mut self, new: Derived) -> Result<(), OutOfMemory>
-        ensures { OnOk result (self.new ≡ with_derived self.old new) }
+        ensures taken { OnOk result (self.new ≡ with_derived self.old new) }
+        ensures refused { OnErr result (self.new ≡ self.old) }
     {
         let key = key_of(new.line.factors());
         if self.is_needless(&new.line, key) {
@@ -62,14 +64,16 @@ impl Kept {
         self.replace_subsumed(new, key)
     }
 
-    /// Takes in an equal line with this origin: no copy is made of a line that is dropped.
+    /// Takes in an equal line with this origin: no copy is made of a line that is dropped. After a refusal
+    /// the kept lines are as before.
     pub fn take_copy(
         &mut self,
         alloc: Global,
         line: &Line,
         origin: Origin,
     ) -> Result<(), OutOfMemory>
-        ensures { OnOk result (self.new ≡ with_derived self.old (derived_from line.now origin)) }
+        ensures taken { OnOk result (self.new ≡ with_derived self.old (derived_from line.now origin)) }
+        ensures refused { OnErr result (self.new ≡ self.old) }
     {
         let key = key_of(line.factors());
         if self.is_needless(line, key) {
@@ -79,21 +83,15 @@ impl Kept {
         self.replace_subsumed(Derived { line, origin }, key)
     }
 
-    /// Puts the line last, and compares it with none.
+    /// Puts the line last, and compares it with none. After a refusal the kept lines are as before.
     pub fn push(&mut self, new: Derived) -> Result<(), OutOfMemory>
-        ensures { OnOk result (self.new ≡ self.old ++ new ∷ []) }
+        ensures pushed { OnOk result (self.new ≡ self.old ++ new ∷ []) }
+        ensures refused { OnErr result (self.new ≡ self.old) }
     {
         let key = key_of(new.line.factors());
-        self.push_keyed(new, key)
-    }
-
-    // Puts the line with this key last.
-    fn push_keyed(&mut self, new: Derived, key: u64) -> Result<(), OutOfMemory>
-        requires { key ≡ key_of new.line.factors }
-        ensures { OnOk result (self.new ≡ self.old ++ new ∷ []) }
-    {
         self.keys.reserve(1)?;
-        self.lines.push(new)?;
+        self.lines.reserve(1)?;
+        self.lines.push_reserved(new);
         self.keys.push_reserved(key);
         Ok(())
     }
@@ -106,13 +104,18 @@ impl Kept {
         is_trivial(line) || is_subsumed(&self.lines, &self.keys, line, key)
     }
 
-    // Puts the line last, without those that it subsumes.
+    // Puts the line last, without those that it subsumes. Its place is reserved before one is removed.
     fn replace_subsumed(&mut self, new: Derived, key: u64) -> Result<(), OutOfMemory>
         requires { key ≡ key_of new.line.factors }
-        ensures { OnOk result (self.new ≡ filter (λ b. not (subsumption.subsumes new.line b.line)) self.old ++ new ∷ []) }
+        ensures replaced { OnOk result (self.new ≡ filter (λ b. not (subsumption.subsumes new.line b.line)) self.old ++ new ∷ []) }
+        ensures refused { OnErr result (self.new ≡ self.old) }
     {
+        self.keys.reserve(1)?;
+        self.lines.reserve(1)?;
         remove_subsumed(&mut self.lines, &mut self.keys, &new.line, key);
-        self.push_keyed(new, key)
+        self.lines.push_reserved(new);
+        self.keys.push_reserved(key);
+        Ok(())
     }
 }
 
@@ -130,12 +133,14 @@ fn is_subsumed(lines: &[Derived], keys: &[u64], line: &Line, key: u64) -> bool
     false
 }
 
-// Removes the lines that the line subsumes, and their keys.
+// Removes the lines that the line subsumes, and their keys. Room for one more stays.
 fn remove_subsumed(lines: &mut Vec<Derived>, keys: &mut Vec<u64>, line: &Line, key: u64)
     requires keyed { keys.old.items ≡ keys_of lines.old.items }
     requires key { key ≡ key_of line.now.factors }
     ensures lines { lines.new.items ≡ filter (λ b. not (subsumption.subsumes line.now b.line)) lines.old.items }
     ensures keyed { keys.new.items ≡ keys_of lines.new.items }
+    ensures room { vec_len lines.old < vec_capacity lines.old → vec_len lines.new < vec_capacity lines.new }
+    ensures key_room { vec_len keys.old < vec_capacity keys.old → vec_len keys.new < vec_capacity keys.new }
 {
     let mut place = 0;
     while place < lines.len() {
@@ -144,6 +149,7 @@ fn remove_subsumed(lines: &mut Vec<Derived>, keys: &mut Vec<u64>, line: &Line, k
 }
 
 // Removes the line at the place, and its key, if the line subsumes it; and tells the place of the next.
+// Room for one more stays.
 fn remove_at(
     lines: &mut Vec<Derived>,
     keys: &mut Vec<u64>,
@@ -157,6 +163,8 @@ fn remove_at(
     ensures lines { take result lines.new.items ++ filter (λ b. not (subsumption.subsumes line.now b.line)) (drop result lines.new.items)
         ≡ take place lines.old.items ++ filter (λ b. not (subsumption.subsumes line.now b.line)) (drop place lines.old.items) }
     ensures keyed { keys.new.items ≡ keys_of lines.new.items }
+    ensures room { vec_len lines.old < vec_capacity lines.old → vec_len lines.new < vec_capacity lines.new }
+    ensures key_room { vec_len keys.old < vec_capacity keys.old → vec_len keys.new < vec_capacity keys.new }
     ensures nearer { length lines.new.items - result < length lines.old.items - place }
 {
     if subsumes_keyed(line, key, &lines[place].line, keys[place]) {

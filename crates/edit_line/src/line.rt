@@ -96,6 +96,7 @@ impl Line {
     pub fn sets(&self) -> &[u64]
         ensures sets { result.now ≡ self.now.sets }
         ensures fit { AreSets self.now.sets (whole_sets self.now.shape) }
+        ensures line { IsLine self.now }
     {
         self.sets.as_slice()
     }

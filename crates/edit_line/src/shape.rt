@@ -78,8 +78,8 @@ fn push_whole(sets: &mut Vec<u64>, count: u8) -> Result<(), OutOfMemory>
     Ok(())
 }
 
-// The set of so many codes, as bits.
-fn whole_set(count: u8) -> u64
+/// The set of so many codes, as bits.
+pub(crate) fn whole_set(count: u8) -> u64
     requires { count ≤ 64 }
     ensures { result ≡ 2 ^ count - 1 }
 {

@@ -1,13 +1,11 @@
-use Rattle.std.proofs.Common.{◌≡◌, ◌≢◌, ℕ, zero, suc, ◌&&◌, ◌||◌, not, nat_eq, Bool, true, false, List, [], ◌∷◌, length, map, ℤ, pos, negsuc, int_le, int_lt, ◌<ℤ◌, ◌≤ℤ◌, ◌*ℤ◌, refl, sym, ap, ◌∙◌, subst, arith}
+use Rattle.std.proofs.Common.{◌≡◌, ◌≢◌, ℕ, zero, suc, ◌&&◌, ◌||◌, not, nat_eq, Bool, true, false, List, [], ◌∷◌, length, map, ℤ, pos, int_le, int_lt, refl, sym, ap, ◌∙◌, subst, arith}
 use Rattle.std.specs.Bool.{Decides}
 use Rattle.std.specs.Int.{bit_at}
-use Rattle.std.specs.List.{list_all}
 use Rattle.std.specs.Ordering.{int_eq}
 use Rattle.std.proofs.lemmas.Bool.Decides.{Decides-eqb}
 use Rattle.std.proofs.lemmas.Int.{ints}
 use Rattle.std.proofs.lemmas.Nat.Bits.{bit_at-zero}
 use lib.IntN.{neg_ℤ}
-use Rattle.fraction128.proofs.Whole.{parts, ring, same_dif}
 use Rattle.edit_model.specs.Points.{Point, compares, linear_sum}
 use Rattle.edit_model.specs.declared.rule.Compare.{Compare}
 use Rattle.edit_model.specs.declared.rule.Compare.TheVariants.{Ge, Gt, Le, Lt, Eq}
@@ -20,8 +18,7 @@ use Rattle.edit_line.specs.Subsumption.{is_enough}
 use Rattle.edit_line.proofs.DivisionLaws.{enough-reduced, reduced-enough}
 use Rattle.edit_line.proofs.Enough.{is_enough-Decides}
 use Rattle.edit_line.proofs.SetLaws.{both_decide, is_inside-Decides}
-use Rattle.edit_line.proofs.SubsumptionLaws.{amount-constant}
-use Rattle.edit_normal.specs.NormalForm.{compare_lines, contrary_lines, line_of, negative_line_of, never, term_factor}
+use Rattle.edit_normal.specs.NormalForm.{compare_lines, contrary_lines, line_of, negative_line_of, term_factor}
 use Rattle.edit_normal.proofs.SumLaws.{HasTerms, amount-negative, amount-sum}
 
 -- When the lines of a comparison hold at a point.
@@ -56,29 +53,6 @@ divided-Decides line b p d = by (is_inside line.sets (codes_at line.shape p)) (i
     by : (i : Bool) → Decides i (AllInside line.sets (codes_at line.shape p)) → Decides (not i || b) (LineHolds (reduced line) p)
     by true q = (λ h. enough-reduced line p (λ _. d.0 h), λ holds. d.1 (reduced-enough line p holds (q.0 refl)))
     by false q = (λ _. enough-reduced line p (λ inside. absurd (cc (q.1 inside))), λ _. refl)
-
-minus_one : (d : ℤ) → negsuc 0 *ℤ d ≡ neg_ℤ d
-minus_one d = rw (parts d) (simp ring (same_dif _ _ _ _ (omega arith)))
-
-no_factors : (fields : List ℕ) → list_all (λ a. int_eq a (pos 0)) (map (λ (f : ℕ). pos 0) fields) ≡ true
-no_factors [] = refl
-no_factors (f ∷ fields) = no_factors fields
-
--- the line -1 >= 0 holds where some code is outside its set
-pub never-Decides : (shape : List Domain) (sets : List ℕ) (p : Point) → Decides (not (is_inside sets (codes_at shape p))) (LineHolds (never shape sets) p)
-never-Decides shape sets p = by (is_inside sets (codes_at shape p)) (is_inside-Decides sets (codes_at shape p))
-  where
-    below : pos 0 ≤ℤ amount (never shape sets) p → ⊥
-    below h =
-        let is : amount (never shape sets) p ≡ neg_ℤ p.denominator = amount-constant (never shape sets) p (no_factors (number_fields shape)) ∙ minus_one p.denominator in
-        let least : pos 0 ≤ℤ neg_ℤ p.denominator = subst (λ (z : ℤ). pos 0 ≤ℤ z) is h in negative p.denominator p.positive least
-      where
-        negative : (d : ℤ) → pos 0 <ℤ d → pos 0 ≤ℤ neg_ℤ d → ⊥
-        negative d above least = omega (arith, ints)
-
-    by : (i : Bool) → Decides i (AllInside sets (codes_at shape p)) → Decides (not i) (LineHolds (never shape sets) p)
-    by true q = (λ h. absurd (cc), λ holds. absurd (below (holds.enough (q.0 refl))))
-    by false q = (λ _. record { enough = λ inside. absurd (cc (q.1 inside)) }, λ _. refl)
 
 -- ---- the lines of a comparison
 

@@ -11,9 +11,11 @@ use Rattle.edit_line.specs.Divisors.{reduced}
 use Rattle.edit_line.specs.Lines.{IsLine, LineParts, parts_of}
 use Rattle.edit_line.specs.Sets.{AreWithin, has_codes}
 use Rattle.edit_line.specs.Shapes.{Domain, number_fields, whole_sets}
+use Rattle.edit_line.specs.Negations.{never}
+use Rattle.edit_line.proofs.NegationLines.{zeros-are}
 use Rattle.edit_line.proofs.SetLaws.{AreSets-within}
-use Rattle.edit_normal.specs.NormalForm.{condition_lines, conclusion_lines, implied_lines, never, term_factor}
-use Rattle.edit_normal.specs.Sides.{is_negative, is_strict, joined_by, side_line, signed}
+use Rattle.edit_normal.specs.NormalForm.{condition_lines, conclusion_lines, implied_lines, term_factor}
+use Rattle.edit_normal.specs.inner.Sides.{is_negative, is_strict, joined_by, side_line, signed}
 use Rattle.edit_normal.specs.declared.rule_line.RuleLine.{RuleLine}
 use Rattle.edit_normal.specs.declared.side.Side.{Side}
 use Rattle.edit_normal.specs.declared.side.Side.TheVariants.{AtLeast, Above, AtMost, Below}
@@ -55,13 +57,9 @@ side_line-is own shape seen sets fields factors constant strict negative e side 
 
 -- ---- the line -1 >= 0
 
-zeros : (fields : List ℕ) → replicate (length fields) (pos 0) ≡ map (λ (f : ℕ). pos 0) fields
-zeros [] = refl
-zeros (f ∷ fields) = ap (λ (ns : List ℤ). pos 0 ∷ ns) (zeros fields)
-
 pub never-is : (own shape : List Domain) (sets fields : List ℕ) (factors : List ℤ) → own ≡ shape → fields ≡ number_fields shape → factors ≡ replicate (length fields) (pos 0) → parts_of own sets factors (negsuc 0) false ≡ never shape sets
 never-is own shape sets fields factors own_is fields_are factors_are =
-    let all : factors ≡ map (λ (f : ℕ). pos 0) (number_fields shape) = factors_are ∙ ap (λ (fs : List ℕ). replicate (length fs) (pos 0)) fields_are ∙ zeros (number_fields shape) in
+    let all : factors ≡ map (λ (f : ℕ). pos 0) (number_fields shape) = factors_are ∙ ap (λ (fs : List ℕ). replicate (length fs) (pos 0)) fields_are ∙ zeros-are (number_fields shape) (length (number_fields shape)) refl in
     λ i. parts_of (own_is i) sets (all i) (negsuc 0) false
 
 pub never-line : (own shape : List Domain) (sets fields : List ℕ) (factors : List ℤ) → own ≡ shape → fields ≡ number_fields shape → factors ≡ replicate (length fields) (pos 0)

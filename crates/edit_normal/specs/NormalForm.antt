@@ -1,4 +1,4 @@
-use Rattle.std.specs.Prelude.{ℕ, ℤ, ◌==◌, not, Bool, true, false, List, [], ◌∷◌, map, bit_and, bit_xor, pos, negsuc, slice_index_or, slice_set, if◌then◌else◌}
+use Rattle.std.specs.Prelude.{ℕ, ℤ, ◌==◌, not, Bool, true, false, List, [], ◌∷◌, map, bit_and, bit_xor, pos, slice_index_or, slice_set, if◌then◌else◌}
 use Rattle.std.specs.List.{filter}
 use lib.IntN.{neg_ℤ}
 use Rattle.edit_model.specs.declared.rule.Compare.{Compare}
@@ -10,6 +10,7 @@ use Rattle.edit_model.specs.declared.rule.Test.{Test}
 use Rattle.edit_model.specs.declared.rule.Test.TheVariants.{Number, Codes}
 use Rattle.edit_line.specs.Divisors.{reduced}
 use Rattle.edit_line.specs.Lines.{LineParts, parts_of}
+use Rattle.edit_line.specs.Negations.{never}
 use Rattle.edit_line.specs.Sets.{has_codes}
 use Rattle.edit_line.specs.Shapes.{Domain, code_fields, number_fields, place_in, whole_sets}
 
@@ -39,10 +40,6 @@ line_of shape sets e strict = reduced (parts_of shape sets (map (term_factor e.t
 -- the same of the negative of the sum
 abbrev pub negative_line_of : List Domain → List ℕ → Linear → Bool → LineParts
 negative_line_of shape sets e strict = reduced (parts_of shape sets (map (λ f. neg_ℤ (term_factor e.terms f)) (number_fields shape)) (neg_ℤ e.constant) strict)
-
--- the line -1 >= 0, which holds nowhere in the sets
-abbrev pub never : List Domain → List ℕ → LineParts
-never shape sets = parts_of shape sets (map (λ f. pos 0) (number_fields shape)) (negsuc 0) false
 
 -- the lines that say that the sum compares with 0 so, where the codes are in the sets
 abbrev pub compare_lines : List Domain → List ℕ → Linear → Compare → List LineParts
@@ -77,5 +74,5 @@ implied_lines shape sets (Codes field negated codes ∷ conditions) conclusion =
 implied_lines shape sets (Number e ∷ conditions) conclusion = condition_lines shape sets e conclusion
 
 -- the normal form of a rule: its lines, but for those with an empty set (Fellegi and Holt 1976, for code tests)
-abbrev pub normal_lines_of : List Domain → Rule → List LineParts
-normal_lines_of shape rule = filter (λ line. has_codes line.sets) (implied_lines shape (whole_sets shape) rule.conditions rule.conclusion)
+abbrev pub rule_lines_of : List Domain → Rule → List LineParts
+rule_lines_of shape rule = filter (λ line. has_codes line.sets) (implied_lines shape (whole_sets shape) rule.conditions rule.conclusion)

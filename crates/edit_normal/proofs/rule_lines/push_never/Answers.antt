@@ -1,7 +1,7 @@
 use Rattle.std.proofs.Common.{◌≡◌, ◌++◌, [], ◌∷◌, true, List, ℕ, sym, ap, ◌∙◌}
 use Rattle.edit_line.specs.Lines.{LineParts}
 use Rattle.edit_line.specs.Sets.{has_codes}
-use Rattle.edit_normal.specs.NormalForm.{never}
+use Rattle.edit_line.specs.Negations.{never}
 use Rattle.edit_normal.proofs.Pushes.{never-is, never-line, pushed}
 use Rattle.edit_normal.proofs.rule_lines.push_never.Goals as goal
 

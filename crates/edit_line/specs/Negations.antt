@@ -1,0 +1,24 @@
+use Rattle.std.specs.Prelude.{ℕ, suc, pos, negsuc, ◌==◌, not, false, List, [], ◌∷◌, map, bit_xor, if◌then◌else◌, slice_set}
+use lib.IntN.{neg_ℤ}
+use Rattle.edit_line.specs.Lines.{LineParts, parts_of}
+use Rattle.edit_line.specs.Shapes.{Domain, number_fields, whole_sets}
+
+-- the line -1 >= 0 where each code is in its set, so that no point has its codes there
+abbrev pub never : List Domain → List ℕ → LineParts
+never shape sets = parts_of shape sets (map (λ f. pos 0) (number_fields shape)) (negsuc 0) false
+
+-- the negative of the line's sum is at least 0, or above it where the line is not strict, whatever the codes are
+abbrev pub contrary : LineParts → LineParts
+contrary line = parts_of line.shape (whole_sets line.shape) (map neg_ℤ line.factors) (neg_ℤ line.constant) (not line.strict)
+
+-- for each set that is not whole, from a place on, the line that the field there has no code outside it
+abbrev pub never_outside : List Domain → ℕ → List ℕ → List ℕ → List LineParts
+never_outside shape place (set ∷ sets) (whole ∷ wholes) =
+    if set == whole
+    then never_outside shape (suc place) sets wholes
+    else never shape (slice_set (whole_sets shape) place (bit_xor whole set)) ∷ never_outside shape (suc place) sets wholes
+never_outside shape place _ _ = []
+
+-- the negation of a line, as lines: its sum is not enough, and each code is in its set
+abbrev pub negation_of : LineParts → List LineParts
+negation_of line = contrary line ∷ never_outside line.shape 0 line.sets (whole_sets line.shape)

@@ -1,0 +1,105 @@
+//! The negation of a line, as lines.
+ghost use Rattle.std.specs.Prelude.{◌≡◌, ◌<◌, ◌↔◌, ◌++◌, ◌∷◌, [], ◌==◌, All, IfOk, OnOk, bit_xor, if◌then◌else◌, length, map, neg_ℤ, slice_index_or, slice_set};
+ghost use Rattle.fraction128.specs.Range.{InRange};
+ghost use Rattle.edit_model.specs.Points.{Point};
+ghost use Rattle.edit_line.specs.Lines.{AllHold, IsLine, LineHolds};
+ghost use Rattle.edit_line.specs.Negations.{contrary, negation_of, never};
+ghost use Rattle.edit_line.specs.Sets.{AreSets};
+ghost use Rattle.edit_line.specs.Shapes.{HasCodes, whole_sets};
+
+use crate::line::Line;
+use foundation::OutOfMemory;
+use std::alloc::Global;
+
+impl Line {
+    /// The negation, as lines: the negative of the sum is at least 0, or above it where the line is not
+    /// strict; and for each set that is not whole, the field has no code outside it. At a point with codes
+    /// of their fields these hold exactly where the line does not.
+    pub fn negation(&self, alloc: Global) -> Result<Vec<Line>, OutOfMemory>
+        ensures exact { IfOk result (λ negation. negation.items ≡ negation_of self.now) }
+        ensures lines { IfOk result (λ negation. All IsLine negation.items) }
+        ensures contrary { IfOk result (λ negation. (p : Point)
+            → HasCodes 0 self.now.shape p → AllHold negation.items p ↔ (¬ LineHolds self.now p)) }
+    {
+        let wholes = self.shape().whole_sets(alloc)?;
+        let sets = self.sets();
+        let mut negation = Vec::new(alloc);
+        negation.push(contrary(alloc, self, &wholes)?)?;
+        for (place, set) in sets.iter().enumerate() {
+            push_never(alloc, &mut negation, self, &wholes, place, *set)?;
+        }
+        Ok(negation)
+    }
+}
+
+// The negative of the line's sum is at least 0, or above it where the line is not strict, for all codes.
+fn contrary(alloc: Global, line: &Line, wholes: &[u64]) -> Result<Line, OutOfMemory>
+    requires { wholes.now ≡ whole_sets line.now.shape }
+    ensures { IfOk result (λ other. other ≡ contrary line.now) }
+{
+    let _fit = line.sets(); // read for what it says
+    let sets = Vec::from_slice(alloc, wholes)?;
+    let factors = negatives(alloc, line.factors())?;
+    Ok(Line::over(
+        line.shape(),
+        sets,
+        factors,
+        negative(line.constant()),
+        !line.strict(),
+    ))
+}
+
+// The negative of each number.
+fn negatives(alloc: Global, numbers: &[i128]) -> Result<Vec<i128>, OutOfMemory>
+    requires { All InRange numbers.now }
+    ensures { IfOk result (λ others. others.items ≡ map neg_ℤ numbers.now) }
+{
+    let mut others = Vec::with_capacity(alloc, numbers.len())?;
+    for number in numbers {
+        others.push(negative(*number))?;
+    }
+    Ok(others)
+}
+
+// The negative of a number.
+fn negative(number: i128) -> i128
+    requires { InRange number }
+    ensures value { result ≡ neg_ℤ number }
+    ensures in_range { InRange result }
+{
+    -number
+}
+
+// Puts the line last that the code of the field at the place is never outside its set, where that is not
+// whole.
+fn push_never(
+    alloc: Global,
+    negation: &mut Vec<Line>,
+    line: &Line,
+    wholes: &[u64],
+    place: usize,
+    set: u64,
+) -> Result<(), OutOfMemory>
+    requires wholes { wholes.now ≡ whole_sets line.now.shape }
+    requires place { place < length line.now.sets }
+    requires set { set ≡ slice_index_or line.now.sets place 0 }
+    ensures { OnOk result (negation.new.items ≡ negation.old.items ++ (if set == slice_index_or wholes.now place 0 then [] else never line.now.shape (slice_set (whole_sets line.now.shape) place (bit_xor (slice_index_or wholes.now place 0) set)) ∷ [])) }
+{
+    let _fit = line.sets(); // read for what it says
+    let whole = wholes[place];
+    if set != whole {
+        let mut sets = Vec::from_slice(alloc, wholes)?;
+        sets[place] = whole ^ set;
+        negation.push(never(alloc, line, sets)?)?;
+    }
+    Ok(())
+}
+
+// The line that says that the codes are never in these sets.
+fn never(alloc: Global, line: &Line, sets: Vec<u64>) -> Result<Line, OutOfMemory>
+    requires { AreSets sets.items (whole_sets line.now.shape) }
+    ensures { IfOk result (λ other. other ≡ never line.now.shape sets.items) }
+{
+    let factors = vec![in alloc; 0; line.factors().len()]?;
+    Ok(Line::over(line.shape(), sets, factors, -1, false))
+}
