@@ -1,4 +1,4 @@
-use Rattle.std.proofs.Common.{◌≡◌, ◌↔◌, ℕ, List, [], ◌∷◌, ◌++◌, All, map, fold, Result, Ok, Err, refl, sym, ap, ◌∙◌, subst}
+use Rattle.std.proofs.Common.{◌≡◌, ◌↔◌, ℕ, List, [], ◌∷◌, ◌++◌, All, map, Result, Ok, Err, refl, sym, ap, ◌∙◌, subst}
 use Rattle.std.proofs.lemmas.List.Elements.{All-map}
 use Rattle.edit_model.specs.Points.{Point}
 use Rattle.edit_line.specs.EditSets.{AreEdits, EditsParts, base_lines}
@@ -7,13 +7,11 @@ use Rattle.edit_line.specs.Reductions.{lines_of, reduce, reduce_derived}
 use Rattle.edit_line.specs.Shapes.{Domain, IsNumerical}
 use Rattle.edit_line.specs.declared.derived.Derived.{Derived}
 use Rattle.edit_line.proofs.ReductionLaws.{all-reduce, reduce-lines, reduced-same}
-use Rattle.linear_elim.specs.PointChanges.{CanHoldIn}
-use Rattle.linear_elim.specs.Steps.{StepOverflow, step, step_result}
+use Rattle.linear_elim.specs.Steps.{StepOverflow, step_result}
 use Rattle.linear_elim.specs.Systems.{SystemOverflow, chosen_fields, fold_result, next_result, system_at, system_of}
 use Rattle.linear_elim.proofs.ChosenFields.{HasOneMore, chosen-more}
-use Rattle.linear_elim.proofs.ResultLaws.{HaveShape-result, base-plain, fold-plain, ok_same}
+use Rattle.linear_elim.proofs.ResultLaws.{HaveShape-result, base-plain, ok_same}
 use Rattle.linear_elim.proofs.ShapeLaws.{HaveShape-lines}
-use Rattle.linear_elim.proofs.SystemLaws.{chosen-numerical, fold-holds, fold-lifts}
 
 -- The fold over more fields is the fold over the first, and then over the others.
 
@@ -79,28 +77,12 @@ HaveShape-start shape edits start are is lines =
     (subst (λ (ls : List LineParts). AreOver shape ls) (sym (ap (λ (ds : List Derived). lines_of ds) is ∙ reduce-lines (base_lines edits) ∙ ap (λ (ls : List LineParts). reduce ls) (base-plain edits)))
     (all-reduce (λ (line : LineParts). line.shape ≡ shape) (map (λ (e : ℕ × LineParts). e.1) edits) (All-map (λ (line : LineParts). line.shape ≡ shape) (λ (e : ℕ × LineParts). e.1) edits are.over)))
 
--- ---- what the fold's lines say
-
-module _ (shape : List Domain) (edits : List (ℕ × LineParts)) (start : List Derived) (are : AreEdits shape edits) (is : start ≡ reduce_derived (base_lines edits)) (over : HaveShape shape (lines_of start))
-    (bits : ℕ) (ys : List Derived) (folded : fold_result start (chosen_fields shape bits) ≡ Ok ys) (p : Point) where
-  -- the reduced edits hold where the edits do
-  same_edits : (q : Point) → AllHold (lines_of start) q ↔ AllHold (map (λ (e : ℕ × LineParts). e.1) edits) q
-  same_edits q =
-      let base_over = subst (λ (ls : List LineParts). AreOver shape ls) (sym (base-plain edits)) (All-map (λ (line : LineParts). line.shape ≡ shape) (λ (e : ℕ × LineParts). e.1) edits are.over) in
-      let both = reduced-same (base_lines edits) start is shape q base_over in (
-        λ holds. subst (λ (ls : List LineParts). AllHold ls q) (base-plain edits) (both.0 holds),
-        λ holds. both.1 (subst (λ (ls : List LineParts). AllHold ls q) (sym (base-plain edits)) holds),
-      )
-
-  plain : lines_of ys ≡ fold step (lines_of start) (chosen_fields shape bits)
-  plain = fold-plain start (chosen_fields shape bits) ys folded
-
-  pub lifts-start : AllHold (lines_of ys) p ↔ CanHoldIn (map (λ (e : ℕ × LineParts). e.1) edits) (chosen_fields shape bits) p
-  lifts-start = (
-    λ holds.
-        let (q, differs, codes, at_q) = fold-lifts shape (lines_of start) (chosen_fields shape bits) p over (subst (λ (ls : List LineParts). AllHold ls p) plain holds) in
-        (q, differs, (same_edits q).0 at_q),
-    λ can.
-        let (q, differs, at_q) = can in
-        subst (λ (ls : List LineParts). AllHold ls p) (sym plain) (fold-holds shape (lines_of start) (chosen_fields shape bits) p q over (chosen-numerical shape bits) differs ((same_edits q).1 at_q)),
-  )
+-- the reduced edits hold where the edits do
+pub start-same : (shape : List Domain) (edits : List (ℕ × LineParts)) (start : List Derived) → AreEdits shape edits → start ≡ reduce_derived (base_lines edits)
+    → (q : Point) → AllHold (lines_of start) q ↔ AllHold (map (λ (e : ℕ × LineParts). e.1) edits) q
+start-same shape edits start are is q =
+    let base_over = subst (λ (ls : List LineParts). AreOver shape ls) (sym (base-plain edits)) (All-map (λ (line : LineParts). line.shape ≡ shape) (λ (e : ℕ × LineParts). e.1) edits are.over) in
+    let both = reduced-same (base_lines edits) start is shape q base_over in (
+      λ holds. subst (λ (ls : List LineParts). AllHold ls q) (base-plain edits) (both.0 holds),
+      λ holds. both.1 (subst (λ (ls : List LineParts). AllHold ls q) (sym (base-plain edits)) holds),
+    )

@@ -31,6 +31,11 @@ OneShape-have shape lines over =
     (in-all (λ l. HasShape shape l) s.line (lines_of lines) over (in-map (λ (d : Derived). d.line) s lines s_in))
     (in-all (λ l. HasShape shape l) t.line (lines_of lines) over (in-map (λ (d : Derived). d.line) t lines t_in))))
 
+-- each of the lines has the shape
+pub derived-shape : (shape : List Domain) (lines : List Derived) → HaveShape shape (lines_of lines) → All (λ (d : Derived). d.line.shape ≡ shape) lines
+derived-shape shape lines over =
+    all-in (λ (d : Derived). d.line.shape ≡ shape) lines (λ d there. (in-all (λ l. HasShape shape l) d.line (lines_of lines) over (in-map (λ (d : Derived). d.line) d lines there)).same)
+
 -- a line is over the fields of its shape
 pub HasShape-line : (line : LineParts) → IsLine line → HasShape line.shape line
 HasShape-line line is = record {

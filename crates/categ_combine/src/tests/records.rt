@@ -15,12 +15,16 @@ use std::test::Fail;
 /// The greatest number in range.
 const MOST: i128 = i128::MAX;
 
+fn name(bytes: &[u8]) -> Result<Name, Fail> {
+    Ok(Name::new(bytes).ok_or("a name")?)
+}
+
 /// A numerical field.
-fn number(name: &[u8]) -> Result<Field, Fail>
+fn number(bytes: &[u8]) -> Result<Field, Fail>
     ensures { IfOk result (λ field. domain_of field.kind ≡ Numerical) }
 {
     Ok(Field {
-        name: Name::new(name).ok_or("a name")?,
+        name: name(bytes)?,
         weight: 1,
         kind: Kind::Number { scale: 1 },
     })
@@ -30,11 +34,9 @@ fn number(name: &[u8]) -> Result<Field, Fail>
 fn two_codes(alloc: Global) -> Result<Field, Fail>
     ensures { IfOk result (λ field. domain_of field.kind ≡ Categorical 2) }
 {
-    let mut codes = Vec::new(alloc);
-    codes.push(Name::new(b"x").ok_or("a name")?)?;
-    codes.push(Name::new(b"y").ok_or("a name")?)?;
+    let codes = vec![in alloc; name(b"x")?, name(b"y")?]?;
     Ok(Field {
-        name: Name::new(b"H").ok_or("a name")?,
+        name: name(b"H")?,
         weight: 1,
         kind: Kind::Code {
             codes: Sequence::from_vec(codes),
