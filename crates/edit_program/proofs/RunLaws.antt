@@ -7,13 +7,13 @@ use Rattle.edit_model.specs.declared.field.Field.{Field}
 use Rattle.record_text.specs.Sheets.{SheetParts, IsSheet}
 use Rattle.record_text.specs.declared.fault.SheetFault.{SheetFault}
 use Rattle.record_text.specs.declared.fault.SheetFault.TheVariants as sheet
-use Rattle.edit_program.specs.Desk.{Asked, Told, Files, HoldsPrefix, IsLonger, PutsOnRecord, SameElsewhere, Stores, fetched, store_record, stored, failing}
+use Rattle.edit_program.specs.Desk.{Asked, Told, Files, HoldsPrefix, IsLonger, PutsOnRecord, SameElsewhere, Stores, fetched, store_record, stored, failing, after_store, raised}
 use Rattle.edit_program.specs.Refusals.{cause_status, refusal_status, sheet_refusal, store_refusal}
 use Rattle.edit_program.specs.Released.{HasReleased, IsRelease}
 use Rattle.edit_program.specs.Run.{AreCallsOf, most_bytes, HoldsText, HoldsRules, HoldsServed, IsCut, IsEdited, Refuses, ShowsCause}
 use Rattle.edit_program.specs.Words.{Names}
 use Rattle.edit_program.specs.inner.Holds.{HoldsNoRecords, HoldsNoRules, HoldsRecords}
-use Rattle.edit_program.specs.inner.Ends.{IsFetchOf, IsOfReading, end_of}
+use Rattle.edit_program.specs.inner.Ends.{IsFetchOf, IsOfReading, end_of, faults_after}
 use Rattle.edit_program.specs.declared.desk.calls.StoreError.{StoreError}
 use Rattle.edit_program.specs.declared.desk.calls.StoreError.TheVariants as store
 use Rattle.edit_program.specs.declared.refusal.Cause.{Cause}
@@ -146,6 +146,11 @@ both_read (Some f) names survey sheet answer hr hs h = record {
   where_due = λ c due. absurd (read_not_refused f names survey sheet c hr hs due);
 }
 
+-- its survey is served
+pub rules_served : (files : Option Files) (name bytes : List ℕ) (survey : SurveyParts) → IfSome files (λ f. Fetched f name bytes) → IsRuleText bytes survey → ((other : SurveyParts) → IsRuleText bytes other → other ≡ survey) → IsBounded survey → IfSome files (λ f. HoldsServed f name survey)
+rules_served None name bytes survey held read only served = tt
+rules_served (Some f) name bytes survey held read only served = (holds f name bytes held (record { read = read; only = only }), served)
+
 -- what is shown where it is not served
 pub rules_unserved : (files : Option Files) (names : Names) (bytes : List ℕ) (survey : SurveyParts) → IfSome files (λ f. Fetched f names.rules bytes) → IsRuleText bytes survey → ((other : SurveyParts) → IsRuleText bytes other → other ≡ survey) → (¬ IsBounded survey) → IfSome files (λ f. ShowsCause f names status.Unbuilt)
 rules_unserved None names bytes survey held read only unserved = tt
@@ -180,6 +185,18 @@ unstored files names survey sheet error (Ok answer) hr hs is = absurd is
 unstored None names survey sheet error (Err r) hr hs is = tt
 unstored (Some f) names survey sheet store.Failed (Err r) hr hs is = both_read (Some f) names survey sheet (refusal_status r) hr hs (inr (ap refusal_status is))
 unstored (Some f) names survey sheet store.OutOfMemory (Err r) hr hs is = subst (λ (answer : Status). ShowsCause f names answer) (sym (ap refusal_status is)) (no_memory f names)
+
+-- a store never says that the words are no command
+pub not_usage : {T : Type 0} (result : Result T Refusal) (error : StoreError) → IsErrAnd result (λ r. r ≡ store_refusal error) → result ≢ Err refusal.Usage
+not_usage (Ok value) error is = absurd is
+not_usage (Err r) store.Failed is = λ e. cc
+not_usage (Err r) store.OutOfMemory is = λ e. cc
+
+-- the count of faults after it
+pub store_counted : {T : Type 0} (result : Result T Refusal) (error : StoreError) (old before after : ℕ) → before ≡ old → IsErrAnd result (λ r. r ≡ store_refusal error) → after ≡ after_store (Err error) before → after ≡ faults_after result old
+store_counted (Ok value) error old before after same is h = absurd is
+store_counted {T} (Err r) store.Failed old before after same is h = h ∙ ap raised same ∙ sym (ap (λ (e : Refusal). faults_after {A = T} (Err e) old) is)
+store_counted {T} (Err r) store.OutOfMemory old before after same is h = h ∙ same ∙ sym (ap (λ (e : Refusal). faults_after {A = T} (Err e) old) is)
 
 -- a store that put nothing for want of memory left the files as they were
 pub untouched : (before after : Option Files) (name bytes : List ℕ) (error : StoreError) → Told before after (λ old new. Stores old new name bytes (Err error)) → store_refusal error ≢ refusal.WriteFault → after ≡ before
