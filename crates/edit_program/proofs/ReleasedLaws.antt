@@ -23,7 +23,8 @@ use Rattle.record_text.proofs.FieldCount.{first_has_field}
 use Rattle.record_text.proofs.HeaderLaws.{header_length}
 use Rattle.record_text.proofs.ValueLaws.{rows_length, values_are_row, values_at}
 use Rattle.edit_program.specs.Layouts.{IsLayout, LayoutParts, field_in}
-use Rattle.edit_program.specs.Released.{AreReleased, IsReleased, IsRelease, IsContradictory, rewritten, text_after, text_at, text_of}
+use Rattle.edit_program.specs.Released.{AreReleased, IsReleased, IsRelease, IsContradictory, rewritten, text_of}
+use Rattle.edit_program.specs.inner.ColumnTexts.{text_after, text_at}
 use Rattle.edit_program.specs.declared.status.Status.{Status}
 use Rattle.edit_program.specs.declared.status.Status.TheVariants.{Done, SomeUnresolved}
 

@@ -1,24 +1,19 @@
 -- What a run's answer shows of the files that the desk held.
-use Rattle.std.proofs.Common.{◌≡◌, ◌≢◌, ◌⊎◌, ℕ, ◌≤◌, List, [], ◌∷◌, ◌++◌, Option, Some, None, Result, Ok, Err, IfErr, IsErrAnd, IsErrOf, IfSome, length, map, take, string_bytes, String, inl, inr, ap, append_assoc, arith, refl, subst, sym, ◌∙◌}
-use Rattle.std.specs.declared.alloc.Global.{Global}
+use Rattle.std.proofs.Common.{◌≡◌, ◌≢◌, ◌⊎◌, ℕ, ◌≤◌, List, [], ◌∷◌, ◌++◌, Option, Some, None, Result, Ok, Err, IfErr, IsErrAnd, IsErrOf, IfSome, length, take, inl, inr, ap, append_assoc, arith, refl, subst, sym, ◌∙◌}
 use Rattle.edit_language.specs.Grammar.{IsRuleText}
-use Rattle.edit_language.specs.Reading.{IsNoRuleText}
-use Rattle.edit_language.specs.declared.fault.RulesFault.{RulesFault}
-use Rattle.edit_language.specs.declared.fault.RulesFault.TheVariants as rules
 use Rattle.edit_model.specs.Bounds.{IsBounded}
 use Rattle.edit_model.specs.Parts.{SurveyParts}
 use Rattle.edit_model.specs.declared.field.Field.{Field}
 use Rattle.record_text.specs.Sheets.{SheetParts, IsSheet}
 use Rattle.record_text.specs.declared.fault.SheetFault.{SheetFault}
 use Rattle.record_text.specs.declared.fault.SheetFault.TheVariants as sheet
-use Rattle.edit_program.specs.Desk.{Asked, BothTell, Fetches, Files, HoldsPrefix, IsLonger, PutsOnRecord, SameElsewhere, Stores, fetched, store_record, stored, unstored as unstored_call}
-use Rattle.edit_program.specs.Refusals.{cause_status, fetch_refusal, refusal_status, rules_refusal, sheet_refusal, store_refusal}
+use Rattle.edit_program.specs.Desk.{Asked, Told, Files, HoldsPrefix, IsLonger, PutsOnRecord, SameElsewhere, Stores, fetched, store_record, stored, failing, after_store, raised}
+use Rattle.edit_program.specs.Refusals.{cause_status, refusal_status, sheet_refusal, store_refusal}
 use Rattle.edit_program.specs.Released.{HasReleased, IsRelease}
-use Rattle.edit_program.specs.Run.{AreCallsOf, most_bytes, HoldsText, HoldsRules, HoldsNoRules, HoldsRecords, HoldsNoRecords, HoldsServed, IsCutOff, IsEdited, IsOrEndedBefore, ReadsAs, Refuses, ShowsCause}
-use Rattle.edit_program.specs.Words.{ForNames, IsEdit, Names}
-use Rattle.edit_program.specs.inner.Ends.{IsFetchOf, IsOfReading, end_of}
-use Rattle.edit_program.specs.declared.desk.calls.FetchError.{FetchError}
-use Rattle.edit_program.specs.declared.desk.calls.FetchError.TheVariants as fetch
+use Rattle.edit_program.specs.Run.{AreCallsOf, most_bytes, HoldsText, HoldsRules, HoldsServed, IsCut, IsEdited, Refuses, ShowsCause}
+use Rattle.edit_program.specs.Words.{Names}
+use Rattle.edit_program.specs.inner.Holds.{HoldsNoRecords, HoldsNoRules, HoldsRecords}
+use Rattle.edit_program.specs.inner.Ends.{IsFetchOf, IsOfReading, end_of, faults_after}
 use Rattle.edit_program.specs.declared.desk.calls.StoreError.{StoreError}
 use Rattle.edit_program.specs.declared.desk.calls.StoreError.TheVariants as store
 use Rattle.edit_program.specs.declared.refusal.Cause.{Cause}
@@ -151,19 +146,6 @@ both_read (Some f) names survey sheet answer hr hs h = record {
   where_due = λ c due. absurd (read_not_refused f names survey sheet c hr hs due);
 }
 
--- what is shown where the rule file was not fetched
-pub rules_unfetched : (files : Option Files) (names : Names) (error : FetchError) → IfSome files (λ f. Fetches f names.rules most_bytes (Err error)) → IfSome files (λ f. ShowsCause f names (refusal_status (fetch_refusal error)))
-rules_unfetched None names error h = tt
-rules_unfetched (Some f) names fetch.Failed h = not_fetched f names
-rules_unfetched (Some f) names (fetch.TooLong taken) h = refused f names TooLong (inl h.1)
-rules_unfetched (Some f) names fetch.OutOfMemory h = no_memory f names
-
--- what is shown where it has no reading
-pub rules_unread : (files : Option Files) (names : Names) (bytes : List ℕ) (fault : RulesFault) → IfSome files (λ f. Fetched f names.rules bytes) → IsNoRuleText bytes fault → IfSome files (λ f. ShowsCause f names (refusal_status (rules_refusal fault)))
-rules_unread None names bytes fault held unread = tt
-rules_unread (Some f) names bytes (rules.At line kind) held unread = refused f names Rules (holds f names.rules bytes held unread)
-rules_unread (Some f) names bytes rules.OutOfMemory held unread = no_memory f names
-
 -- its survey is served
 pub rules_served : (files : Option Files) (name bytes : List ℕ) (survey : SurveyParts) → IfSome files (λ f. Fetched f name bytes) → IsRuleText bytes survey → ((other : SurveyParts) → IsRuleText bytes other → other ≡ survey) → IsBounded survey → IfSome files (λ f. HoldsServed f name survey)
 rules_served None name bytes survey held read only served = tt
@@ -173,13 +155,6 @@ rules_served (Some f) name bytes survey held read only served = (holds f name by
 pub rules_unserved : (files : Option Files) (names : Names) (bytes : List ℕ) (survey : SurveyParts) → IfSome files (λ f. Fetched f names.rules bytes) → IsRuleText bytes survey → ((other : SurveyParts) → IsRuleText bytes other → other ≡ survey) → (¬ IsBounded survey) → IfSome files (λ f. ShowsCause f names status.Unbuilt)
 rules_unserved None names bytes survey held read only unserved = tt
 rules_unserved (Some f) names bytes survey held read only unserved = refused f names Unbuilt (survey, holds f names.rules bytes held (record { read = read; only = only }), unserved)
-
--- what is shown where the record file was not fetched
-pub records_unfetched : (files : Option Files) (names : Names) (survey : SurveyParts) (error : FetchError) → IfSome files (λ f. Fetches f names.records most_bytes (Err error)) → IfSome files (λ f. HoldsServed f names.rules survey → ShowsCause f names (refusal_status (fetch_refusal error)))
-records_unfetched None names survey error h = tt
-records_unfetched (Some f) names survey fetch.Failed h = λ served. not_fetched f names
-records_unfetched (Some f) names survey (fetch.TooLong taken) h = λ served. refused f names TooLong (inr (survey, served, h.1))
-records_unfetched (Some f) names survey fetch.OutOfMemory h = λ served. no_memory f names
 
 -- what is shown where it has no reading
 pub records_unread : (files : Option Files) (names : Names) (survey : SurveyParts) (bytes : List ℕ) (fault : SheetFault) → IfSome files (λ f. Fetched f names.records bytes) → (fault ≢ sheet.OutOfMemory → (s : SheetParts) → ¬ IsSheet survey.fields bytes s) → IfSome files (λ f. HoldsServed f names.rules survey → ShowsCause f names (refusal_status (sheet_refusal fault)))
@@ -197,11 +172,6 @@ pub records_read : (files : Option Files) (name bytes : List ℕ) (fields : List
 records_read None name bytes fields sheet held read = tt
 records_read (Some f) name bytes fields sheet held read = holds f name bytes held read
 
--- what is shown of served rules
-pub where_served : (files : Option Files) (names : Names) (survey : SurveyParts) (answer : Status) → IfSome files (λ f. HoldsServed f names.rules survey) → IfSome files (λ f. HoldsServed f names.rules survey → ShowsCause f names answer) → IfSome files (λ f. ShowsCause f names answer)
-where_served None names survey answer served shows = tt
-where_served (Some f) names survey answer served shows = shows served
-
 -- ---- a refusal that a call below became
 
 -- an error that was made into this refusal
@@ -216,8 +186,20 @@ unstored None names survey sheet error (Err r) hr hs is = tt
 unstored (Some f) names survey sheet store.Failed (Err r) hr hs is = both_read (Some f) names survey sheet (refusal_status r) hr hs (inr (ap refusal_status is))
 unstored (Some f) names survey sheet store.OutOfMemory (Err r) hr hs is = subst (λ (answer : Status). ShowsCause f names answer) (sym (ap refusal_status is)) (no_memory f names)
 
+-- a store never says that the words are no command
+pub not_usage : {T : Type 0} (result : Result T Refusal) (error : StoreError) → IsErrAnd result (λ r. r ≡ store_refusal error) → result ≢ Err refusal.Usage
+not_usage (Ok value) error is = absurd is
+not_usage (Err r) store.Failed is = λ e. cc
+not_usage (Err r) store.OutOfMemory is = λ e. cc
+
+-- the count of faults after it
+pub store_counted : {T : Type 0} (result : Result T Refusal) (error : StoreError) (old before after : ℕ) → before ≡ old → IsErrAnd result (λ r. r ≡ store_refusal error) → after ≡ after_store (Err error) before → after ≡ faults_after result old
+store_counted (Ok value) error old before after same is h = absurd is
+store_counted {T} (Err r) store.Failed old before after same is h = h ∙ ap raised same ∙ sym (ap (λ (e : Refusal). faults_after {A = T} (Err e) old) is)
+store_counted {T} (Err r) store.OutOfMemory old before after same is h = h ∙ same ∙ sym (ap (λ (e : Refusal). faults_after {A = T} (Err e) old) is)
+
 -- a store that put nothing for want of memory left the files as they were
-pub untouched : (before after : Option Files) (name bytes : List ℕ) (error : StoreError) → BothTell before after (λ old new. Stores old new name bytes (Err error)) → store_refusal error ≢ refusal.WriteFault → after ≡ before
+pub untouched : (before after : Option Files) (name bytes : List ℕ) (error : StoreError) → Told before after (λ old new. Stores old new name bytes (Err error)) → store_refusal error ≢ refusal.WriteFault → after ≡ before
 untouched None None name bytes error h not = refl
 untouched None (Some new) name bytes error h not = absurd h
 untouched (Some old) None name bytes error h not = absurd h
@@ -233,7 +215,7 @@ store_failed (Err r) store.OutOfMemory is h = absurd (cc)
 -- ---- a run that made its release
 
 -- the release that was stored
-pub edited : (before after : Option Files) (names : Names) (bytes stored : List ℕ) (survey : SurveyParts) (sheet : SheetParts) (answer : Status) → IfSome before (λ f. HoldsServed f names.rules survey) → IfSome before (λ f. HoldsRecords f names.records survey.fields sheet) → IsRelease survey sheet bytes answer → stored ≡ bytes → BothTell before after (λ old new. (new names.released ≡ Some stored) × SameElsewhere old new names.released) → BothTell before after (IsEdited names answer)
+pub edited : (before after : Option Files) (names : Names) (bytes stored : List ℕ) (survey : SurveyParts) (sheet : SheetParts) (answer : Status) → IfSome before (λ f. HoldsServed f names.rules survey) → IfSome before (λ f. HoldsRecords f names.records survey.fields sheet) → IsRelease survey sheet bytes answer → stored ≡ bytes → Told before after (λ old new. (new names.released ≡ Some stored) × SameElsewhere old new names.released) → Told before after (IsEdited names answer)
 edited None None names bytes stored survey sheet answer hr hs is e h = tt
 edited None (Some a) names bytes stored survey sheet answer hr hs is e h = absurd h
 edited (Some b) None names bytes stored survey sheet answer hr hs is e h = absurd h
@@ -245,7 +227,7 @@ edited (Some b) (Some a) names bytes stored survey sheet answer hr hs is e h = r
 }
 
 -- the release that was stored in part
-pub cut_off : (before after : Option Files) (names : Names) (bytes stored : List ℕ) (survey : SurveyParts) (sheet : SheetParts) (answer : Status) → IfSome before (λ f. HoldsServed f names.rules survey) → IfSome before (λ f. HoldsRecords f names.records survey.fields sheet) → IsRelease survey sheet bytes answer → stored ≡ bytes → BothTell before after (λ old new. (HoldsPrefix new names.released stored ⊎ (new names.released ≡ old names.released)) × SameElsewhere old new names.released) → BothTell before after (IsCutOff names)
+pub cut_off : (before after : Option Files) (names : Names) (bytes stored : List ℕ) (survey : SurveyParts) (sheet : SheetParts) (answer : Status) → IfSome before (λ f. HoldsServed f names.rules survey) → IfSome before (λ f. HoldsRecords f names.records survey.fields sheet) → IsRelease survey sheet bytes answer → stored ≡ bytes → Told before after (λ old new. (HoldsPrefix new names.released stored ⊎ (new names.released ≡ old names.released)) × SameElsewhere old new names.released) → Told before after (IsCut names)
 cut_off None None names bytes stored survey sheet answer hr hs is e h = tt
 cut_off None (Some a) names bytes stored survey sheet answer hr hs is e h = absurd h
 cut_off (Some b) None names bytes stored survey sheet answer hr hs is e h = absurd h
@@ -259,35 +241,10 @@ cut_off (Some b) (Some a) names bytes stored survey sheet answer hr hs is e h = 
 
 -- ---- the names that the words give
 
--- the same three files
-same_files : (a b : Names) → a.rules ≡ b.rules → a.records ≡ b.records → a.released ≡ b.released → a ≡ b
-same_files a b p q r =
-    let by_rules : List ℕ → Names = λ n. record { rules = n; records = a.records; released = a.released } in
-    let by_records : List ℕ → Names = λ n. record { rules = b.rules; records = n; released = a.released } in
-    let by_released : List ℕ → Names = λ n. record { rules = b.rules; records = b.records; released = n } in
-    ap by_rules p ∙ ap by_records q ∙ ap by_released r
-
--- words that ask for an edit do so by one choice of names
-pub for_names : (words : List (String Global)) (given : Names) (P : Names → Type 0) → IsEdit (map string_bytes words) given → P given → ForNames words P
-for_names words given P is h other too =
-    let one = is.form in
-    let two = too.form in
-    let same : too.options ≡ is.options = cc in
-    let rules = is.rules_given in
-    let rules_too = rw same at too.rules_given in
-    let records = is.records_given in
-    let records_too = rw same at too.records_given in
-    let released = is.released_given in
-    let released_too = rw same at too.released_given in
-    let same_rules : other.rules ≡ given.rules = cc in
-    let same_records : other.records ≡ given.records = cc in
-    let same_released : other.released ≡ given.released = cc in
-    subst P (sym (same_files other given same_rules same_records same_released)) h
-
 -- ---- what was put on record
 
 -- a call of the desk, as it was put on record
-pub one_call : (old new : Option (List Asked)) (more : List Asked) (P : List Asked → Type 0) → BothTell old new (λ before after. after ≡ before ++ more) → P more → PutsOnRecord old new P
+pub one_call : (old new : Option (List Asked)) (more : List Asked) (P : List Asked → Type 0) → Told old new (λ before after. after ≡ before ++ more) → P more → PutsOnRecord old new P
 one_call None None more P h p = tt
 one_call None (Some new) more P h p = absurd h
 one_call (Some old) None more P h p = absurd h
@@ -303,7 +260,7 @@ then_calls (Some a) (Some b) None P Q R joined p q = absurd q
 then_calls (Some a) (Some b) (Some c) P Q R joined (x, e, px) (y, f, qy) = (x ++ y, f ∙ ap (λ (l : List Asked). l ++ y) e ∙ append_assoc a x y, joined x y px qy)
 
 -- known calls, and then one more
-and_one : (a b c : Option (List Asked)) (x y : List Asked) (R : List Asked → Type 0) → PutsOnRecord a b (λ calls. calls ≡ x) → BothTell b c (λ before after. after ≡ before ++ y) → R (x ++ y) → PutsOnRecord a c R
+and_one : (a b c : Option (List Asked)) (x y : List Asked) (R : List Asked → Type 0) → PutsOnRecord a b (λ calls. calls ≡ x) → Told b c (λ before after. after ≡ before ++ y) → R (x ++ y) → PutsOnRecord a c R
 and_one a b c x y R p h r = then_calls a b c (λ calls. calls ≡ x) (λ calls. calls ≡ y) R (λ u v e f. subst R (sym (ap (λ (l : List Asked). l ++ v) e ∙ ap (λ (l : List Asked). x ++ l) f)) r) p (one_call b c y (λ calls. calls ≡ y) h refl)
 
 first_calls : (names : Names) (calls : List Asked) → (calls ≡ []) ⊎ (calls ≡ fetched names.records ∷ []) → (count : ℕ) × (fetched names.rules ∷ calls ≡ take count (fetched names.rules ∷ fetched names.records ∷ []))
@@ -341,14 +298,14 @@ asked_in_vain names (Err r) (Some a) None is p = absurd p
 asked_in_vain names (Err r) (Some a) (Some b) is (x, e, f) = (x, e, subst (λ (refused : Refusal). AreCallsOf names (refusal_status refused) x) (sym is) (2, f))
 
 -- and the store put not all the bytes
-pub store_asked : (names : Names) (name : List ℕ) (error : StoreError) (result : Result Status Refusal) (a b c : Option (List Asked)) → name ≡ names.released → IsErrAnd result (λ r. r ≡ store_refusal error) → PutsOnRecord a b (λ calls. calls ≡ fetched names.rules ∷ fetched names.records ∷ []) → BothTell b c (λ before after. after ≡ before ++ store_record name (Err error)) → PutsOnRecord a c (AreCallsOf names (end_of result))
+pub store_asked : (names : Names) (name : List ℕ) (error : StoreError) (result : Result Status Refusal) (a b c : Option (List Asked)) → name ≡ names.released → IsErrAnd result (λ r. r ≡ store_refusal error) → PutsOnRecord a b (λ calls. calls ≡ fetched names.rules ∷ fetched names.records ∷ []) → Told b c (λ before after. after ≡ before ++ store_record name (Err error)) → PutsOnRecord a c (AreCallsOf names (end_of result))
 store_asked names name error (Ok answer) a b c same is p h = absurd is
 store_asked names name store.Failed (Err r) a b c same is p h =
-    subst (λ (refused : Refusal). PutsOnRecord a c (AreCallsOf names (refusal_status refused))) (sym is) (and_one a b c (fetched names.rules ∷ fetched names.records ∷ []) (unstored_call names.released ∷ []) (AreCallsOf names status.WriteFault) p (subst (λ (n : List ℕ). BothTell b c (λ before after. after ≡ before ++ unstored_call n ∷ [])) same h) refl)
+    subst (λ (refused : Refusal). PutsOnRecord a c (AreCallsOf names (refusal_status refused))) (sym is) (and_one a b c (fetched names.rules ∷ fetched names.records ∷ []) (failing (stored names.released) ∷ []) (AreCallsOf names status.WriteFault) p (subst (λ (n : List ℕ). Told b c (λ before after. after ≡ before ++ failing (stored n) ∷ [])) same h) refl)
 store_asked names name store.OutOfMemory (Err r) a b c same is p h =
     subst (λ (refused : Refusal). PutsOnRecord a c (AreCallsOf names (refusal_status refused))) (sym is) (and_one a b c (fetched names.rules ∷ fetched names.records ∷ []) [] (AreCallsOf names status.OutOfMemory) p h (2, refl))
 
 -- and the release was stored
-pub all_asked : (names : Names) (answer : Status) (a b c : Option (List Asked)) → HasReleased answer → PutsOnRecord a b (λ calls. calls ≡ fetched names.rules ∷ fetched names.records ∷ []) → BothTell b c (λ before after. after ≡ before ++ stored names.released ∷ []) → PutsOnRecord a c (AreCallsOf names answer)
+pub all_asked : (names : Names) (answer : Status) (a b c : Option (List Asked)) → HasReleased answer → PutsOnRecord a b (λ calls. calls ≡ fetched names.rules ∷ fetched names.records ∷ []) → Told b c (λ before after. after ≡ before ++ stored names.released ∷ []) → PutsOnRecord a c (AreCallsOf names answer)
 all_asked names answer a b c (inl e) p h = subst (λ (s : Status). PutsOnRecord a c (AreCallsOf names s)) (sym e) (and_one a b c (fetched names.rules ∷ fetched names.records ∷ []) (stored names.released ∷ []) (AreCallsOf names status.Done) p h refl)
 all_asked names answer a b c (inr e) p h = subst (λ (s : Status). PutsOnRecord a c (AreCallsOf names s)) (sym e) (and_one a b c (fetched names.rules ∷ fetched names.records ∷ []) (stored names.released ∷ []) (AreCallsOf names status.SomeUnresolved) p h refl)

@@ -33,13 +33,6 @@ TakesOneMore limit (fetch.TooLong taken) = taken ≡ limit + 1
 TakesOneMore limit fetch.Failed = ⊤
 TakesOneMore limit fetch.OutOfMemory = ⊤
 
--- what a reading of these bytes may answer: all of them, within the limit, or that they are too many
-abbrev pub ReadsWhole : List ℕ → ℕ → Result (Vec ℕ Global) FetchError → Type 0
-ReadsWhole left limit (Ok bytes) = (bytes.items ≡ left) × (length left ≤ limit)
-ReadsWhole left limit (Err (fetch.TooLong taken)) = (taken ≡ limit + 1) × (limit < length left)
-ReadsWhole left limit (Err fetch.Failed) = ⊤
-ReadsWhole left limit (Err fetch.OutOfMemory) = ⊤
-
 -- every name but this one has what it had
 abbrev pub SameElsewhere : Files → Files → List ℕ → Type 0
 SameElsewhere old new name = (other : List ℕ) → other ≢ name → new other ≡ old other
@@ -58,29 +51,25 @@ Stores old new name bytes (Err store.OutOfMemory) = new ≡ old
 abbrev pub fetched : List ℕ → Asked
 fetched name = record { store = false; name = name; failed = false }
 
--- a fetch that failed
-abbrev pub unfetched : List ℕ → Asked
-unfetched name = record { store = false; name = name; failed = true }
-
 -- a store that did not fail
 abbrev pub stored : List ℕ → Asked
 stored name = record { store = true; name = name; failed = false }
 
--- a store that failed
-abbrev pub unstored : List ℕ → Asked
-unstored name = record { store = true; name = name; failed = true }
+-- the same call, where it failed
+abbrev pub failing : Asked → Asked
+failing asked = record asked { failed = true }
 
 -- what a fetch puts on record: a file that is too long is no failure, and nothing is put there for want of memory
 abbrev pub fetch_record : List ℕ → Result (Vec ℕ Global) FetchError → List Asked
 fetch_record name (Ok bytes) = fetched name ∷ []
 fetch_record name (Err (fetch.TooLong taken)) = fetched name ∷ []
-fetch_record name (Err fetch.Failed) = unfetched name ∷ []
+fetch_record name (Err fetch.Failed) = failing (fetched name) ∷ []
 fetch_record name (Err fetch.OutOfMemory) = []
 
 -- what a store puts on record: nothing for want of memory
 abbrev pub store_record : List ℕ → Result (Unit {0}) StoreError → List Asked
 store_record name (Ok done) = stored name ∷ []
-store_record name (Err store.Failed) = unstored name ∷ []
+store_record name (Err store.Failed) = failing (stored name) ∷ []
 store_record name (Err store.OutOfMemory) = []
 
 -- the count of faults after one more, as far as 64 bits go
@@ -98,12 +87,12 @@ after_store (Err store.Failed) faults = raised faults
 after_store result faults = faults
 
 -- both values are told and stand in this relation, or neither is told
-abbrev pub BothTell : {A : Type 0} → Option A → Option A → (A → A → Type 0) → Type 0
-BothTell None None P = ⊤
-BothTell None (Some new) P = ⊥
-BothTell (Some old) None P = ⊥
-BothTell (Some old) (Some new) P = P old new
+abbrev pub Told : {A : Type 0} → Option A → Option A → (A → A → Type 0) → Type 0
+Told None None P = ⊤
+Told None (Some new) P = ⊥
+Told (Some old) None P = ⊥
+Told (Some old) (Some new) P = P old new
 
 -- some calls that meet the claim, and no others, were put on record, where the calls are told
 abbrev pub PutsOnRecord : Option (List Asked) → Option (List Asked) → (List Asked → Type 0) → Type 0
-PutsOnRecord old new P = BothTell old new (λ before after. (more : List Asked) × (after ≡ before ++ more) × P more)
+PutsOnRecord old new P = Told old new (λ before after. (more : List Asked) × (after ≡ before ++ more) × P more)

@@ -1,5 +1,5 @@
 -- Where the fields stand in the rows of a file.
-use Rattle.std.specs.Prelude.{◌≡◌, ◌≢◌, ◌<◌, ◌==◌, ℕ, List, length, All, AllPairs, Option, position, slice_index_or}
+use Rattle.std.specs.Prelude.{◌≡◌, ◌≢◌, ◌<◌, ◌==◌, ℕ, List, length, All, AllPairs, Option, position}
 use Rattle.edit_model.specs.declared.field.Field.{Field}
 
 -- how many columns the rows have, and the column of each field
@@ -10,10 +10,6 @@ pub record LayoutParts : Type 0 where
 -- the number of the field that stands in a column, if one does
 abbrev pub field_in : List ℕ → ℕ → Option ℕ
 field_in columns column = position (λ c. c == column) columns
-
--- for each column, from the first on, the field that stands there
-abbrev pub AreFieldsIn : List ℕ → List (Option ℕ) → Type 0
-AreFieldsIn columns fields = (k : ℕ) (d : Option ℕ) → k < length fields → slice_index_or fields k d ≡ field_in columns k
 
 -- each field has a column of its own, among those that there are
 pub record IsLayout (fields : List Field) (layout : LayoutParts) : Type 0 where

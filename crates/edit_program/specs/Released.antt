@@ -1,4 +1,4 @@
-use Rattle.std.specs.Prelude.{◌≡◌, ◌≢◌, ◌==◌, ◌⊎◌, ◌↔◌, ℕ, if◌then◌else◌, List, [], ◌∷◌, Option, Some, None, length, slice_set, slice_index_or}
+use Rattle.std.specs.Prelude.{◌≡◌, ◌≢◌, ◌⊎◌, ◌↔◌, ℕ, List, [], ◌∷◌, Option, Some, None, length, slice_set, slice_index_or}
 use Rattle.fraction128.specs.Spelling.{spelling}
 use Rattle.edit_model.specs.Changes.{IsLeastChange}
 use Rattle.edit_model.specs.Parts.{SurveyParts}
@@ -19,21 +19,11 @@ text_of k (Number x) = spelling x
 text_of (kind.Code codes) (Code c) = slice_index_or codes c []
 text_of k v = []
 
--- the text that a field has afterwards: that of the value that it is given, or else the one that was read
-abbrev pub text_after : Kind → Option Value → List ℕ → List ℕ
-text_after k None read = read
-text_after k (Some v) read = text_of k v
-
 -- a row's texts with each given value's text in the column of its field; every other text is as it was read
 abbrev pub rewritten : List Field → List ℕ → List (Option Value) → List (List ℕ) → List (List ℕ)
 rewritten (field ∷ fields) (column ∷ columns) (Some v ∷ given) texts = rewritten fields columns given (slice_set texts column (text_of field.kind v))
 rewritten (field ∷ fields) (column ∷ columns) (None ∷ given) texts = rewritten fields columns given texts
 rewritten _ _ _ texts = texts
-
--- the text of one column afterwards: that of the field that stands there, or the one that was read
-abbrev pub text_at : List Field → List ℕ → List (Option Value) → ℕ → List ℕ → List ℕ
-text_at (field ∷ fields) (column ∷ columns) (v ∷ given) j read = if column == j then text_after field.kind v read else text_at fields columns given j read
-text_at _ _ _ j read = read
 
 -- no point is consistent: whatever the record, it has no correction
 abbrev pub IsContradictory : SurveyParts → Type 0

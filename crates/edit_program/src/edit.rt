@@ -1,11 +1,12 @@
 ghost use Rattle.std.specs.Prelude.{◌≡◌, ◌≢◌, ◌↔◌, ℕ, IfErr, IfOk, IfSome, IsErrOf, Err, List};
 ghost use Rattle.edit_model.specs.Bounds.{IsBounded};
 ghost use Rattle.edit_model.specs.Surveys.{IsWellFormed};
-ghost use Rattle.edit_program.specs.Desk.{PutsOnRecord, raised};
+ghost use Rattle.edit_program.specs.Desk.{PutsOnRecord, Told, raised};
 ghost use Rattle.edit_program.specs.Refusals.{refusal_status};
 ghost use Rattle.edit_program.specs.Released.{HasReleased};
-ghost use Rattle.edit_program.specs.Run.{AreCallsOf, CutsOff, Edits, HasStoredNothing, HoldsRecords, HoldsServed, ShowsCause};
+ghost use Rattle.edit_program.specs.Run.{AreCallsOf, HoldsServed, IsCut, IsEdited, ShowsCause};
 ghost use Rattle.edit_program.specs.Words.{ForNames, IsNoCommand};
+ghost use Rattle.edit_program.specs.inner.Holds.{HoldsRecords};
 ghost use Rattle.edit_program.specs.inner.Ends.{IsFetchOf, IsOfReading, end_of, faults_after};
 ghost use Rattle.record_text.specs.Sheets.{IsSheet};
 
@@ -31,7 +32,7 @@ pub fn fh_main<D: Desk>(alloc: Global, words: &[String], desk: &mut D) -> Status
     ensures usage { (result ≡ Status.Usage) ↔ IsNoCommand words.now }
 
     // The release guarantee: what stands in the released file after statuses 0 and 1.
-    ensures edited { HasReleased result → ForNames words.now (λ names. Edits names result (D.files desk.old) (D.files desk.new)) }
+    ensures edited { HasReleased result → ForNames words.now (λ names. Told (D.files desk.old) (D.files desk.new) (IsEdited names result)) }
 
     // A file that is too long or has no reading, and rules that are not served, exactly where they are.
     ensures cause { ForNames words.now (λ names. IfSome (D.files desk.old) (λ files. ShowsCause files names result)) }
@@ -46,8 +47,8 @@ pub fn fh_main<D: Desk>(alloc: Global, words: &[String], desk: &mut D) -> Status
     ensures unasked { result ≡ Status.Usage → D.calls desk.new ≡ D.calls desk.old }
 
     // What is left on the desk after each other status.
-    ensures unchanged { HasStoredNothing result → D.files desk.new ≡ D.files desk.old }
-    ensures cut_off { result ≡ Status.WriteFault → ForNames words.now (λ names. CutsOff names (D.files desk.old) (D.files desk.new)) }
+    ensures unchanged { ¬ HasReleased result → result ≢ Status.WriteFault → D.files desk.new ≡ D.files desk.old }
+    ensures cut_off { result ≡ Status.WriteFault → ForNames words.now (λ names. Told (D.files desk.old) (D.files desk.new) (IsCut names)) }
 {
     let Some(names) = edit_words(words) else {
         return Status::Usage;
@@ -62,12 +63,12 @@ pub fn fh_main<D: Desk>(alloc: Global, words: &[String], desk: &mut D) -> Status
 fn edit<D: Desk>(alloc: Global, names: &EditWords<'_>, desk: &mut D) -> Result<Status, Refusal>
     ensures command { result ≢ Err Refusal.Usage }
     ensures released { IfOk result HasReleased }
-    ensures edited { IfOk result (λ status. Edits names.now status (D.files desk.old) (D.files desk.new)) }
+    ensures edited { IfOk result (λ status. Told (D.files desk.old) (D.files desk.new) (IsEdited names.now status)) }
     ensures cause { IfSome (D.files desk.old) (λ files. ShowsCause files names.now (end_of result)) }
     ensures faults { D.faults desk.new ≡ faults_after result (D.faults desk.old) }
     ensures asked { PutsOnRecord (D.calls desk.old) (D.calls desk.new) (AreCallsOf names.now (end_of result)) }
     ensures unchanged { IfErr result (λ refusal. refusal ≢ Refusal.WriteFault → D.files desk.new ≡ D.files desk.old) }
-    ensures cut_off { IsErrOf result Refusal.WriteFault → CutsOff names.now (D.files desk.old) (D.files desk.new) }
+    ensures cut_off { IsErrOf result Refusal.WriteFault → Told (D.files desk.old) (D.files desk.new) (IsCut names.now) }
 {
     let survey = fetch_survey(alloc, names, desk)?;
     let sheet = fetch_sheet(alloc, names, &survey, desk)?;

@@ -1,5 +1,6 @@
 ghost use Rattle.std.specs.Prelude.{◌≡◌, ◌<◌, IfOk, length};
-ghost use Rattle.edit_program.specs.Layouts.{AreFieldsIn, field_in};
+ghost use Rattle.edit_program.specs.Layouts.{field_in};
+ghost use Rattle.edit_program.specs.inner.ColumnTexts.{AreFieldsIn};
 
 use foundation::{OutOfMemory, Sequence};
 use std::alloc::Global;
@@ -14,7 +15,8 @@ pub struct Layout {
 
 impl Model for Layout {
     ghost use Rattle.std.specs.Prelude.{length};
-    ghost use Rattle.edit_program.specs.Layouts.{AreFieldsIn, LayoutParts};
+    ghost use Rattle.edit_program.specs.Layouts.{LayoutParts};
+    ghost use Rattle.edit_program.specs.inner.ColumnTexts.{AreFieldsIn};
 
     ghost Value = { LayoutParts };
 

@@ -3,7 +3,8 @@ ghost use Rattle.std.specs.List.{AllByRecursion};
 ghost use Rattle.bound_correction.specs.Bounds.{AreBoundsOf};
 ghost use Rattle.edit_model.specs.Rows.{IsRow};
 ghost use Rattle.edit_program.specs.Layouts.{IsLayout};
-ghost use Rattle.edit_program.specs.Released.{AreReleased, IsReleased, rewritten, text_after, text_at, text_of};
+ghost use Rattle.edit_program.specs.Released.{AreReleased, IsReleased, rewritten, text_of};
+ghost use Rattle.edit_program.specs.inner.ColumnTexts.{text_after, text_at};
 ghost use Rattle.record_text.specs.Values.{AreRows};
 
 use crate::layout::Layout;

@@ -1,6 +1,6 @@
 -- How the parts of an edit end.
 use Rattle.std.specs.Prelude.{◌≡◌, ◌≢◌, ◌⊎◌, ℕ, List, [], ◌∷◌, Result, Ok, Err}
-use Rattle.edit_program.specs.Desk.{Asked, fetched, raised, unfetched}
+use Rattle.edit_program.specs.Desk.{Asked, failing, fetched, raised}
 use Rattle.edit_program.specs.Refusals.{refusal_status}
 use Rattle.edit_program.specs.declared.refusal.Refusal.{Refusal}
 use Rattle.edit_program.specs.declared.refusal.Refusal.TheVariants.{Usage, ReadFault, WriteFault}
@@ -24,5 +24,5 @@ IsOfReading refusal = (refusal ≢ Usage) × (refusal ≢ WriteFault)
 -- what a fetch, and the reading of what it gave, asks of the desk: the fetch, or nothing for want of memory
 abbrev pub IsFetchOf : {A : Type 0} → List ℕ → Result A Refusal → List Asked → Type 0
 IsFetchOf name (Ok read) calls = calls ≡ fetched name ∷ []
-IsFetchOf name (Err ReadFault) calls = calls ≡ unfetched name ∷ []
+IsFetchOf name (Err ReadFault) calls = calls ≡ failing (fetched name) ∷ []
 IsFetchOf name (Err refusal) calls = (calls ≡ []) ⊎ (calls ≡ fetched name ∷ [])

@@ -1,5 +1,5 @@
 ghost use Rattle.std.specs.Prelude.{◌≡◌, ◌≤◌, ◌++◌, ℕ, List, Option, IfErr, IfOk, IfSome, IsErrOf, length};
-ghost use Rattle.edit_program.specs.Desk.{Files, Asked, Fetches, Stores, BothTell, TakesOneMore, after_fetch, after_store, fetch_record, store_record};
+ghost use Rattle.edit_program.specs.Desk.{Files, Asked, Fetches, Stores, Told, TakesOneMore, after_fetch, after_store, fetch_record, store_record};
 ghost use Rattle.edit_program.specs.declared.desk.calls.FetchError.TheVariants as fetch;
 ghost use Rattle.edit_program.specs.declared.desk.calls.StoreError.TheVariants as store;
 
@@ -67,12 +67,12 @@ pub trait Desk {
         ensures within { IfOk result (λ bytes. length bytes.items ≤ limit) }
         ensures taken { IfErr result (TakesOneMore limit) }
         ensures bytes { IfSome (files self.old) (λ told. Fetches told name.now limit result) }
-        ensures calls { BothTell (calls self.old) (calls self.new) (λ old new. new ≡ old ++ fetch_record name.now result) }
+        ensures calls { Told (calls self.old) (calls self.new) (λ old new. new ≡ old ++ fetch_record name.now result) }
         ensures faults { faults self.new ≡ after_fetch result (faults self.old) };
 
     /// Puts the bytes under the name, in the place of what stood there.
     fn store(&mut self, alloc: Global, name: &str, bytes: &[u8]) -> Result<(), StoreError>
-        ensures files { BothTell (files self.old) (files self.new) (λ old new. Stores old new name.now bytes.now result) }
-        ensures calls { BothTell (calls self.old) (calls self.new) (λ old new. new ≡ old ++ store_record name.now result) }
+        ensures files { Told (files self.old) (files self.new) (λ old new. Stores old new name.now bytes.now result) }
+        ensures calls { Told (calls self.old) (calls self.new) (λ old new. new ≡ old ++ store_record name.now result) }
         ensures faults { faults self.new ≡ after_store result (faults self.old) };
 }

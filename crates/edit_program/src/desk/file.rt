@@ -1,5 +1,6 @@
 ghost use Rattle.std.specs.Prelude.{◌≡◌, ◌≤◌, ◌<◌, ℕ, None, IfErr, IfOk, IfSome, OnOk, length, take, vec_len};
-ghost use Rattle.edit_program.specs.Desk.{ReadsWhole, TakesOneMore, raised};
+ghost use Rattle.edit_program.specs.Desk.{TakesOneMore, raised};
+ghost use Rattle.edit_program.specs.inner.Reads.{ReadsWhole};
 ghost use Rattle.std.specs.Io.KnownBytes.{Appends};
 
 use crate::desk::calls::{Desk, FetchError, StoreError};

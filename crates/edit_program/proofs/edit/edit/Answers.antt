@@ -1,9 +1,15 @@
 use Rattle.std.proofs.Common.{◌≡◌, ◌∙◌, ap, inl}
-use Rattle.edit_program.proofs.RunLaws.{all_asked, asked_in_vain, both_asked, both_read, converted, cut_off, edited, records_asked, store_asked, store_failed, unstored, untouched}
+use Rattle.edit_program.proofs.RunLaws.{all_asked, asked_in_vain, both_asked, both_read, converted, cut_off, edited, not_usage, records_asked, store_asked, store_counted, store_failed, unstored, untouched}
 use Rattle.record_text.specs.Sheets.{SheetParts}
 use Rattle.edit_program.specs.Refusals.{store_refusal}
 use Rattle.edit_program.specs.Words.{Names}
 use Rattle.edit_program.proofs.edit.edit.Goals as goal
+
+pub returns-in_err-store-clause-command : goal.returns-in_err-store-clause-command
+returns-in_err-store-clause-command g c = not_usage c.from_residual-in_err-store.result c.in_err-store.field-0.0 c.from_residual-in_err-store.ensures.1
+
+pub returns-in_err-store-clause-faults : goal.returns-in_err-store-clause-faults
+returns-in_err-store-clause-faults g c = store_counted c.from_residual-in_err-store.result c.in_err-store.field-0.0 _ _ _ (c.in_ok-sheet.ensures.faults ∙ c.in_ok-survey.ensures.faults) c.from_residual-in_err-store.ensures.1 c.in_err-store.ensures.faults
 
 pub returns-in_err-store-clause-cause : goal.returns-in_err-store-clause-cause
 returns-in_err-store-clause-cause g c =

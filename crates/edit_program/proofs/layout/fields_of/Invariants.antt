@@ -1,5 +1,5 @@
 use Rattle.std.proofs.Common.{◌≡◌, length}
-use Rattle.edit_program.specs.Layouts.{AreFieldsIn}
+use Rattle.edit_program.specs.inner.ColumnTexts.{AreFieldsIn}
 use Rattle.edit_program.proofs.layout.fields_of.Given as goal
 
 abbrev pub invariant-loop-column : goal.invariant-loop-column

@@ -1,6 +1,6 @@
 use Rattle.std.proofs.Common.{arith, ◌≡◌, refl, get_or, length, [], ℕ}
 use Rattle.edit_program.proofs.ReleasedLaws.{columns_written, texts_more}
-use Rattle.edit_program.specs.Released.{text_at}
+use Rattle.edit_program.specs.inner.ColumnTexts.{text_at}
 use Rattle.edit_program.proofs.released_row.rewritten_row.Goals as goal
 
 pub loop-column-preserved : goal.loop-column-preserved

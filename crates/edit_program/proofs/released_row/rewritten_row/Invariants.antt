@@ -1,5 +1,5 @@
 use Rattle.std.proofs.Common.{◌≡◌, ◌<◌, ℕ, [], get_or, length}
-use Rattle.edit_program.specs.Released.{text_at}
+use Rattle.edit_program.specs.inner.ColumnTexts.{text_at}
 use Rattle.edit_program.proofs.released_row.rewritten_row.Given as goal
 
 abbrev pub invariant-loop-column : goal.invariant-loop-column

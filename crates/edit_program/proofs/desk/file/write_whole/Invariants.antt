@@ -1,5 +1,5 @@
 -- The file took the bytes before those that are left.
-use Rattle.std.proofs.Common.{◌≡◌, ◌≤◌, ℕ, take, drop}
+use Rattle.std.proofs.Common.{◌≡◌, ℕ, take, drop}
 use Rattle.std.specs.Io.KnownBytes.{Appends}
 use Rattle.edit_program.proofs.desk.file.write_whole.Given as goal
 
