@@ -1,0 +1,247 @@
+#!/usr/bin/env python3
+"""Keeps the tables of reading-order.md true.
+
+For each promise the page names calls; this script follows their clauses through the definitions that
+they cite, over all crates, and writes the table of the files in which these stand: how many lines of
+each file are reached (definitions and the comments above them), of how many lines. Files come in an
+order in which each stands behind those that its definitions cite.
+
+    docs/reading-order.py            writes the tables anew
+    docs/reading-order.py --check    says whether they are true; the exit status is 1 where they are not
+    docs/reading-order.py --unread   lists the definitions outside specs/inner/ that no public contract reaches
+"""
+import os
+import re
+import sys
+
+TOP = os.path.dirname(os.path.dirname(os.path.abspath(__file__)))
+PAGE = os.path.join(TOP, 'docs', 'reading-order.md')
+USE = re.compile(r'^\s*(?:ghost )?use (Rattle\.[\w.]+?)(?:\.\{([^}]*)\}| as (\w+))?;?\s*$', re.M)
+HEAD = re.compile(r'^(?:(?:abbrev|unfoldable|record|data|pub)\s+)+(\S+)')
+WORD = re.compile(r'[^\s(){}\[\].,;:∷λ→×=]+')
+CALLS = re.compile(r'^Calls: (.*)$', re.M)
+CALL = re.compile(r'`([\w:]+)` of `([\w/.]+)`')
+
+
+def page_of(name):
+    """The definition file of a module such as Rattle.edit_model.specs.Points."""
+    m = re.match(r'Rattle\.(\w+)\.specs\.(.+)$', name)
+    if not m or m.group(2).startswith('declared'):
+        return None
+    path = os.path.join(TOP, 'crates', m.group(1), 'specs', *m.group(2).split('.')) + '.antt'
+    return path if os.path.exists(path) else None
+
+
+def imports(text):
+    """The names that a file takes from definition files, and the names that it gives to whole ones."""
+    names, aliases = {}, {}
+    for m in USE.finditer(text):
+        page = page_of(m.group(1))
+        if page is None:
+            continue
+        if m.group(2) is None:
+            aliases[m.group(3) or m.group(1).split('.')[-1]] = page
+            continue
+        for item in filter(None, (x.strip() for x in m.group(2).split(','))):
+            name, _, other = item.partition(' as ')
+            names[(other or name).strip()] = (page, name.strip())
+    return names, aliases
+
+
+class Page:
+    """A definition file: its lines, its imports, and its definitions, each with the comment above it."""
+    known = {}
+
+    def __init__(self, path):
+        text = open(path, encoding='utf-8').read()
+        self.lines = text.count('\n')
+        self.names, self.aliases = imports(text)
+        self.definitions, self.owner = {}, {}
+        name, comment = None, []
+        for line in text.split('\n'):
+            if line.startswith('use ') or not line.strip():
+                continue
+            if line.startswith('--'):
+                comment = [] if line.startswith('-- ----') else comment + [line]
+                continue
+            head = HEAD.match(line)
+            if head and head.group(1) != name:
+                name = head.group(1)
+                self.definitions[name] = comment + [line]
+                comment = []
+            elif name:
+                self.definitions[name] += comment + [line]
+                comment = []
+                made = re.match(r'^  ([A-Z]\w*) :', line)
+                if made:
+                    self.owner[made.group(1)] = name
+
+    @classmethod
+    def at(cls, path):
+        if path not in cls.known:
+            cls.known[path] = cls(path)
+        return cls.known[path]
+
+    def cited(self, path, name):
+        """What the definition cites."""
+        code = [line for line in self.definitions[name] if not line.lstrip().startswith('--')]
+        return cited_in('\n'.join(code), self.names, self.aliases, path, self)
+
+
+def cited_in(text, names, aliases, path=None, page=None):
+    found = set()
+    for word in WORD.findall(text):
+        if page is not None and word in page.definitions:
+            found.add((path, word))
+        if page is not None and word in page.owner:
+            found.add((path, page.owner[word]))
+        if word in names:
+            found.add(names[word])
+    for alias, target in aliases.items():
+        for word in re.findall(r'\b' + re.escape(alias) + r'\.(\w+)', text):
+            found.add((target, word))
+    return found
+
+
+def reached(starts):
+    """All definitions that the starts reach, each with what it cites."""
+    edges, todo = {}, list(starts)
+    while todo:
+        path, name = todo.pop()
+        page = Page.at(path)
+        name = page.owner.get(name, name)
+        if (path, name) in edges or name not in page.definitions:
+            continue
+        edges[(path, name)] = page.cited(path, name)
+        todo += edges[(path, name)]
+    return edges
+
+
+def contract(text, start):
+    """The clauses of the function that starts there."""
+    end = re.compile(r'^\s*\{\s*$|;\s*$|\{\}\s*$', re.M)
+    stop = end.search(text, start)
+    part = text[start:stop.end() if stop else len(text)]
+    return '\n'.join(re.findall(r'(?:ensures|requires)[^{]*\{((?:[^{}]|\{[^{}]*\})*)\}', part))
+
+
+def contract_starts(file, function):
+    text = open(os.path.join(TOP, 'crates', *file.split('/')), encoding='utf-8').read()
+    at = re.search(r'\bfn ' + function.split('::')[-1] + r'\b', text)
+    if at is None:
+        raise SystemExit(f'{file} has no function {function}')
+    names, aliases = imports(text)
+    return cited_in(contract(text, at.start()), names, aliases)
+
+
+def crate_order():
+    """The crates in the order in which crates.txt names them, lowest first."""
+    text = open(os.path.join(TOP, 'crates.txt'), encoding='utf-8').read()
+    return re.findall(r'^(\w+)[^:\n#]*:', text, re.M)
+
+
+def ordered(edges):
+    """The files, crate by crate from the lowest up, each behind those that its definitions cite."""
+    cites = {}
+    for (path, _), cited in edges.items():
+        cites.setdefault(path, set()).update(p for p, name in cited if (p, name) in edges and p != path)
+    crates = crate_order()
+    order, left = [], dict(cites)
+    while left:
+        free = [p for p, on in left.items() if not on & set(left)] or list(left)
+        order.append(min(free, key=lambda p: (crates.index(os.path.relpath(p, TOP).split(os.sep)[1]), p)))
+        left.pop(order[-1])
+    return order
+
+
+def table(starts):
+    edges = reached(starts)
+    rows = ['| File of `crates/` | Lines to read | of |', '|---|---|---|']
+    total = 0
+    for path in ordered(edges):
+        page = Page.at(path)
+        lines = sum(len(page.definitions[name]) for p, name in edges if p == path)
+        total += lines
+        name = os.path.relpath(path, os.path.join(TOP, 'crates'))
+        rows.append(f'| `{name}` | {lines} | {page.lines} |')
+    rows.append(f'| all | {total} | |')
+    return '\n'.join(rows)
+
+
+def all_pages(inner):
+    for folder, _, files in sorted(os.walk(os.path.join(TOP, 'crates'))):
+        parts = os.path.relpath(folder, TOP).split(os.sep)
+        if len(parts) > 2 and parts[2] == 'specs' and ('inner' in parts) == inner:
+            yield from (os.path.join(folder, f) for f in sorted(files) if f.endswith('.antt') and f not in ('Lib.antt', 'inner.antt'))
+
+
+def counted():
+    public = sum(Page.at(p).lines for p in all_pages(False))
+    inner = sum(Page.at(p).lines for p in all_pages(True))
+    return f'All files of `specs/` have {public:,} lines, and those of `specs/inner/`, which private contracts alone cite, {inner:,}.'
+
+
+def written(text):
+    """The page with its tables and its count."""
+    parts = re.split(r'(?m)^(?=Calls: )', text)
+    made = [parts[0]]
+    for part in parts[1:]:
+        starts = set()
+        for function, file in CALL.findall(CALLS.match(part).group(1)):
+            starts |= contract_starts(file, function)
+        made.append(re.sub(r'(?ms)^\| File of.*?\n(?=\n|\Z)', lambda _: table(starts) + '\n', part, count=1))
+    return re.sub(r'(?m)^All files of `specs/` have .*$', lambda _: counted(), ''.join(made))
+
+
+def open_calls(text):
+    """Where the public functions of a file start, and the methods of its traits and of impls of traits."""
+    for at in re.finditer(r'^ *pub fn \w+', text, re.M):
+        yield at.start()
+    for block in re.finditer(r'^(?:pub trait|impl\b[^{;]*\bfor\b)[^{;]*\{.*?^\}', text, re.M | re.S):
+        for at in re.finditer(r'^    fn \w+', block.group(0), re.M):
+            yield block.start() + at.start()
+
+
+def public_starts():
+    """What the contracts of public calls, and the views and texts of types, cite."""
+    starts = set()
+    for folder, _, files in os.walk(os.path.join(TOP, 'crates')):
+        if os.sep + 'src' not in folder or os.sep + 'out' + os.sep in folder or folder.endswith('tests'):
+            continue
+        for file in files:
+            if not file.endswith('.rt') or file == 'tests.rt':
+                continue
+            text = open(os.path.join(folder, file), encoding='utf-8').read()
+            names, aliases = imports(text)
+            for at in open_calls(text):
+                starts |= cited_in(contract(text, at), names, aliases)
+            for line in re.findall(r'^\s*(?:pub )?ghost (?!use|invariant).*$', text, re.M):
+                starts |= cited_in(line, names, aliases)
+    return starts
+
+
+def unread():
+    edges = reached(public_starts())
+    total = 0
+    for path in all_pages(False):
+        page = Page.at(path)
+        names = [n for n in page.definitions if (path, n) not in edges]
+        lines = sum(len(page.definitions[n]) for n in names)
+        total += lines
+        if names:
+            print(f'{lines:4} {os.path.relpath(path, TOP)}: {" ".join(names)}')
+    print(f'{total:4} lines')
+
+
+def main():
+    if sys.argv[1:] == ['--unread']:
+        return unread()
+    text = open(PAGE, encoding='utf-8').read()
+    made = written(text)
+    if sys.argv[1:] == ['--check']:
+        print('the tables are true' if made == text else 'the tables are not true: run docs/reading-order.py')
+        return sys.exit(0 if made == text else 1)
+    open(PAGE, 'w', encoding='utf-8').write(made)
+
+
+main()
