@@ -2,7 +2,7 @@ use Rattle.std.proofs.Common.{◌≡◌, ◌&&◌, ◌||◌, ◌==◌, Bool, tru
 use Rattle.std.specs.List.{fold, list_all, remove}
 use Rattle.std.specs.Ordering.{int_eq}
 use Rattle.std.proofs.lemmas.Bool.Decides.{Decides-int_eq}
-use Rattle.edit_line.specs.Keys.{key_of, key_with, keys_of, may_subsume}
+use Rattle.edit_line.specs.inner.Keys.{key_of, key_with, keys_of, may_subsume}
 use Rattle.edit_line.specs.Lines.{LineParts}
 use Rattle.edit_line.specs.declared.derived.Derived.{Derived}
 use Rattle.edit_line.specs.Subsumption.{is_false, is_tighter, same_all, subsumes}

@@ -4,7 +4,6 @@ pub mod Combinations
 pub mod Divisors
 pub mod EditSets
 pub mod Equality
-pub mod Keys
 pub mod Lines
 pub mod Negations
 pub mod Places
@@ -13,3 +12,4 @@ pub mod Sets
 pub mod Shapes
 pub mod Subsumption
 pub mod Sums
+pub mod inner

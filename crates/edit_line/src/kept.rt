@@ -1,7 +1,7 @@
 ghost use Rattle.std.specs.Prelude.{◌≡◌, ◌||◌, ◌<◌, ◌-◌, ◌++◌, [], ◌∷◌, drop, length, not, take, OnErr, OnOk};
 ghost use Rattle.std.specs.List.{filter, list_any};
 ghost use Rattle.std.specs.Vec.{vec_capacity, vec_len};
-ghost use Rattle.edit_line.specs.Keys.{key_of, keys_of};
+ghost use Rattle.edit_line.specs.inner.Keys.{key_of, keys_of};
 ghost use Rattle.edit_line.specs.Reductions.{derived_from, with_derived};
 ghost use Rattle.edit_line.specs.Subsumption as subsumption;
 
@@ -23,7 +23,7 @@ pub struct Kept {
 
 impl Model for Kept {
     ghost use Rattle.std.specs.Prelude.{◌≡◌, List};
-    ghost use Rattle.edit_line.specs.Keys.{keys_of};
+    ghost use Rattle.edit_line.specs.inner.Keys.{keys_of};
     ghost use Rattle.edit_line.specs.declared.derived.Derived as declared;
 
     ghost Value = { List declared.Derived };

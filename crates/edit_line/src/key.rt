@@ -1,6 +1,6 @@
 //! Keys of lines' factors, by which most lines are seen not to subsume each other.
 ghost use Rattle.std.specs.Prelude.{◌≡◌};
-ghost use Rattle.edit_line.specs.Keys.{key_of, key_with, may_subsume};
+ghost use Rattle.edit_line.specs.inner.Keys.{key_of, key_with, may_subsume};
 ghost use Rattle.edit_line.specs.Subsumption as subsumption;
 
 use crate::line::Line;

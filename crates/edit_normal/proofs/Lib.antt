@@ -1,4 +1,5 @@
 pub mod LineSteps
+pub mod MeaningLaws
 pub mod NormalLaws
 pub mod Pushes
 pub mod RuleForms

@@ -13,13 +13,13 @@ use Rattle.edit_model.specs.declared.rule.Rule.{Rule}
 use Rattle.edit_model.specs.declared.rule.Test.{Test}
 use Rattle.edit_model.specs.declared.rule.Test.TheVariants.{Number, Codes}
 use Rattle.edit_line.specs.Divisors.{reduced}
-use Rattle.edit_line.specs.Lines.{AllHold, LineHolds, LineParts}
+use Rattle.edit_line.specs.Lines.{AllHold, AreOver, LineHolds, LineParts}
 use Rattle.edit_line.specs.Reductions.{IsIn}
 use Rattle.edit_line.specs.Sets.{has_codes, is_inside}
 use Rattle.edit_line.specs.Shapes.{Domain, HasCodes, code_fields, codes_at, has_field, whole_sets}
 use Rattle.edit_line.proofs.ShapeLaws.{length-wholes}
 use Rattle.edit_line.proofs.Members.{all-in, in-all, in-filter, in-filter-out}
-use Rattle.edit_normal.specs.NormalForm.{compare_lines, contrary_lines, implied_lines, narrowed, normal_lines_of}
+use Rattle.edit_normal.specs.NormalForm.{compare_lines, contrary_lines, implied_lines, narrowed, rule_lines_of}
 use Rattle.edit_normal.specs.RuleLines.{LinesHold, lines_from, numbered}
 use Rattle.edit_normal.specs.declared.rule_line.RuleLine.{RuleLine}
 use Rattle.edit_normal.proofs.LineSteps.{compare-Decides, contrary-Decides, empty-holds, one-Decides}
@@ -145,8 +145,13 @@ module _ (shape : List Domain) where
           let is = in-all (λ (l : LineParts). (l.shape ≡ shape) × (length l.sets ≡ length (code_fields shape))) line lines over there in
           empty-holds line p (is.1 ∙ ap (λ (s : List Domain). length (code_fields s)) (sym is.0) ∙ sym (length-map (code_fields line.shape) p.code)) e
 
+-- the lines of a rule are over the fields of the shape
+pub implied-own : (shape : List Domain) (rule : Rule) → AreOver shape (implied_lines shape (whole_sets shape) rule.conditions rule.conclusion)
+unfolding IsOver
+implied-own shape rule k d below = (implied-over shape (whole_sets shape) rule.conditions rule.conclusion (length-wholes 0 shape) k d below).0
+
 -- the lines of a rule all hold at a point exactly where the rule does
-pub normal-Decides : (shape : List Domain) (rule : Rule) (p : Point) → FitsRule shape rule.conditions rule.conclusion → HasCodes 0 shape p → Decides (rule_holds rule p) (AllHold (normal_lines_of shape rule) p)
+pub normal-Decides : (shape : List Domain) (rule : Rule) (p : Point) → FitsRule shape rule.conditions rule.conclusion → HasCodes 0 shape p → Decides (rule_holds rule p) (AllHold (rule_lines_of shape rule) p)
 normal-Decides shape rule p fits held =
     let same : length (whole_sets shape) ≡ length (code_fields shape) = length-wholes 0 shape in
     let all = implied-Decides shape p held (whole_sets shape) rule.conditions rule.conclusion same fits in
@@ -185,23 +190,23 @@ module _ (shape : List Domain) (p : Point) where
   -- no line of a later rule has an earlier number
   later-lines : (i j : ℕ) (rules : List Rule) → j < i → LinesHold (lines_from shape i rules) j p
   later-lines i j [] before = λ k d below. absurd (omega arith)
-  later-lines i j (rule ∷ rules) before = both-parts j (numbered i (normal_lines_of shape rule)) _ (numbered-hold i j _ (λ same. absurd (omega arith))) (later-lines (suc i) j rules (omega arith))
+  later-lines i j (rule ∷ rules) before = both-parts j (numbered i (rule_lines_of shape rule)) _ (numbered-hold i j _ (λ same. absurd (omega arith))) (later-lines (suc i) j rules (omega arith))
 
   -- the lines with a rule's number hold exactly where the rule's lines do
-  pub lines-at : (i k : ℕ) (rules : List Rule) (rule : Rule) → slice_get rules k ≡ Some rule → LinesHold (lines_from shape i rules) (i + k) p ↔ AllHold (normal_lines_of shape rule) p
+  pub lines-at : (i k : ℕ) (rules : List Rule) (rule : Rule) → slice_get rules k ≡ Some rule → LinesHold (lines_from shape i rules) (i + k) p ↔ AllHold (rule_lines_of shape rule) p
   lines-at i k [] rule there = absurd (cc)
   lines-at i zero (r ∷ rules) rule there =
       let same : r ≡ rule = cc in
       let number : i + 0 ≡ i = omega arith in
-      subst (λ n. LinesHold (lines_from shape i (r ∷ rules)) n p ↔ AllHold (normal_lines_of shape rule) p) (sym number) (
-        λ holds. subst (λ (s : Rule). AllHold (normal_lines_of shape s) p) same (own-lines i _ (first-part i (numbered i (normal_lines_of shape r)) _ holds)),
-        λ holds. both-parts i (numbered i (normal_lines_of shape r)) _ (numbered-hold i i _ (λ _. subst (λ (s : Rule). AllHold (normal_lines_of shape s) p) (sym same) holds)) (later-lines (suc i) i rules (omega arith)),
+      subst (λ n. LinesHold (lines_from shape i (r ∷ rules)) n p ↔ AllHold (rule_lines_of shape rule) p) (sym number) (
+        λ holds. subst (λ (s : Rule). AllHold (rule_lines_of shape s) p) same (own-lines i _ (first-part i (numbered i (rule_lines_of shape r)) _ holds)),
+        λ holds. both-parts i (numbered i (rule_lines_of shape r)) _ (numbered-hold i i _ (λ _. subst (λ (s : Rule). AllHold (rule_lines_of shape s) p) (sym same) holds)) (later-lines (suc i) i rules (omega arith)),
       )
   lines-at i (suc k) (r ∷ rules) rule there =
       let number : suc i + k ≡ i + suc k = omega arith in
-      let rest = subst (λ n. LinesHold (lines_from shape (suc i) rules) n p ↔ AllHold (normal_lines_of shape rule) p) number (lines-at (suc i) k rules rule there) in (
-        λ holds. rest.0 (second-part (i + suc k) (numbered i (normal_lines_of shape r)) _ holds),
-        λ holds. both-parts (i + suc k) (numbered i (normal_lines_of shape r)) _ (numbered-hold i (i + suc k) _ (λ same. absurd (omega arith))) (rest.1 holds),
+      let rest = subst (λ n. LinesHold (lines_from shape (suc i) rules) n p ↔ AllHold (rule_lines_of shape rule) p) number (lines-at (suc i) k rules rule there) in (
+        λ holds. rest.0 (second-part (i + suc k) (numbered i (rule_lines_of shape r)) _ holds),
+        λ holds. both-parts (i + suc k) (numbered i (rule_lines_of shape r)) _ (numbered-hold i (i + suc k) _ (λ same. absurd (omega arith))) (rest.1 holds),
       )
 
 -- ---- at most two lines a rule
@@ -245,8 +250,8 @@ count-other i j (line ∷ lines) apart = sum_by-cons (λ (l : RuleLine). cond (l
 count-later : (shape : List Domain) (i j : ℕ) (rules : List Rule) → j < i → count_by (λ (l : RuleLine). l.rule == j) (lines_from shape i rules) ≡ 0
 count-later shape i j [] before = refl
 count-later shape i j (rule ∷ rules) before =
-    count-append (λ (l : RuleLine). l.rule == j) (numbered i (normal_lines_of shape rule)) _
-    ∙ ap (λ n. n + count_by (λ (l : RuleLine). l.rule == j) (lines_from shape (suc i) rules)) (count-other i j (normal_lines_of shape rule) (λ same. absurd (omega arith)))
+    count-append (λ (l : RuleLine). l.rule == j) (numbered i (rule_lines_of shape rule)) _
+    ∙ ap (λ n. n + count_by (λ (l : RuleLine). l.rule == j) (lines_from shape (suc i) rules)) (count-other i j (rule_lines_of shape rule) (λ same. absurd (omega arith)))
     ∙ ap (λ n. 0 + n) (count-later shape (suc i) j rules (omega arith))
 
 -- a rule has at most two lines
@@ -254,15 +259,15 @@ pub lines-few : (shape : List Domain) (i j : ℕ) (rules : List Rule) → count_
 lines-few shape i j [] = omega arith
 lines-few shape i j (rule ∷ rules) = by (i == j) refl (lines-few shape (suc i) j rules)
   where
-    whole : count_by (λ (l : RuleLine). l.rule == j) (lines_from shape i (rule ∷ rules)) ≡ count_by (λ (l : RuleLine). l.rule == j) (numbered i (normal_lines_of shape rule)) + count_by (λ (l : RuleLine). l.rule == j) (lines_from shape (suc i) rules)
-    whole = count-append (λ (l : RuleLine). l.rule == j) (numbered i (normal_lines_of shape rule)) _
+    whole : count_by (λ (l : RuleLine). l.rule == j) (lines_from shape i (rule ∷ rules)) ≡ count_by (λ (l : RuleLine). l.rule == j) (numbered i (rule_lines_of shape rule)) + count_by (λ (l : RuleLine). l.rule == j) (lines_from shape (suc i) rules)
+    whole = count-append (λ (l : RuleLine). l.rule == j) (numbered i (rule_lines_of shape rule)) _
 
-    own : count_by (λ (l : RuleLine). l.rule == j) (numbered i (normal_lines_of shape rule)) ≤ 2
+    own : count_by (λ (l : RuleLine). l.rule == j) (numbered i (rule_lines_of shape rule)) ≤ 2
     own =
         omega (
           arith,
-          count_by-le-length (λ (l : RuleLine). l.rule == j) (numbered i (normal_lines_of shape rule)),
-          length-map {B = RuleLine} (normal_lines_of shape rule) (λ (line : LineParts). record { rule = i; line = line }),
+          count_by-le-length (λ (l : RuleLine). l.rule == j) (numbered i (rule_lines_of shape rule)),
+          length-map {B = RuleLine} (rule_lines_of shape rule) (λ (line : LineParts). record { rule = i; line = line }),
           filtered-few (implied_lines shape (whole_sets shape) rule.conditions rule.conclusion) (implied-few shape (whole_sets shape) rule.conditions rule.conclusion),
         )
 
@@ -271,4 +276,4 @@ lines-few shape i j (rule ∷ rules) = by (i == j) refl (lines-few shape (suc i)
         let same : i ≡ j = (Decides-eqb i j).0 e in
         let none = count-later shape (suc i) j rules (omega arith) in omega (arith, whole, own, none)
     by false e rest =
-        let none = count-other i j (normal_lines_of shape rule) (λ same. absurd (cc (sym e ∙ (Decides-eqb i j).1 same))) in omega (arith, whole, none, rest)
+        let none = count-other i j (rule_lines_of shape rule) (λ same. absurd (cc (sym e ∙ (Decides-eqb i j).1 same))) in omega (arith, whole, none, rest)

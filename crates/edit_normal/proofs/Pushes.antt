@@ -15,7 +15,7 @@ use Rattle.edit_line.specs.Negations.{never}
 use Rattle.edit_line.proofs.NegationLines.{zeros-are}
 use Rattle.edit_line.proofs.SetLaws.{AreSets-within}
 use Rattle.edit_normal.specs.NormalForm.{condition_lines, conclusion_lines, implied_lines, term_factor}
-use Rattle.edit_normal.specs.Sides.{is_negative, is_strict, joined_by, side_line, signed}
+use Rattle.edit_normal.specs.inner.Sides.{is_negative, is_strict, joined_by, side_line, signed}
 use Rattle.edit_normal.specs.declared.rule_line.RuleLine.{RuleLine}
 use Rattle.edit_normal.specs.declared.side.Side.{Side}
 use Rattle.edit_normal.specs.declared.side.Side.TheVariants.{AtLeast, Above, AtMost, Below}

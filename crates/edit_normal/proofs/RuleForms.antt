@@ -15,9 +15,9 @@ use Rattle.edit_model.specs.declared.rule.Test.TheVariants.{Number, Codes}
 use Rattle.edit_line.specs.Lines.{AllHold}
 use Rattle.edit_line.specs.Shapes.{Domain, code_fields, has_field, number_fields, shape_of, whole_sets}
 use Rattle.edit_line.proofs.ShapeLaws.{HasCodes-shape, codes-there, number-there}
-use Rattle.edit_normal.specs.Fits.{FitsCodes}
-use Rattle.edit_normal.specs.NormalForm.{implied_lines, normal_lines_of, term_factor}
-use Rattle.edit_normal.specs.Sides.{joined_by}
+use Rattle.edit_normal.specs.inner.Fits.{FitsCodes}
+use Rattle.edit_normal.specs.NormalForm.{implied_lines, rule_lines_of, term_factor}
+use Rattle.edit_normal.specs.inner.Sides.{joined_by}
 use Rattle.edit_normal.specs.declared.rule_line.RuleLine.{RuleLine}
 use Rattle.edit_normal.specs.RuleLines.{LinesHold, lines_from, numbered}
 use Rattle.edit_normal.proofs.NormalLaws.{FitsRule, FitsTest, lines-at, lines-few, normal-Decides}
@@ -109,7 +109,7 @@ module _ (fields : List Field) where
       → LinesHold (lines_from (shape_of fields) 0 rules) i p ↔ Holds rule p
   lines-same rules i rule p all there held =
       let number : 0 + i ≡ i = omega arith in
-      let at = subst (λ n. LinesHold (lines_from (shape_of fields) 0 rules) n p ↔ AllHold (normal_lines_of (shape_of fields) rule) p) number (lines-at (shape_of fields) p 0 i rules rule there) in
+      let at = subst (λ n. LinesHold (lines_from (shape_of fields) 0 rules) n p ↔ AllHold (rule_lines_of (shape_of fields) rule) p) number (lines-at (shape_of fields) p 0 i rules rule there) in
       let truth = normal-Decides (shape_of fields) rule p (fits-rule rule (at-place rules i rule there all)) (HasCodes-shape 0 fields p held) in
       (λ holds. truth.1 (at.0 holds), λ holds. at.1 (truth.0 holds))
 
@@ -126,11 +126,11 @@ rule-codes fields rules seen shape i rule shape_is same all below here =
 pub rule-more : (shape own : List Domain) (rules seen : List Rule) (i : ℕ) (rule : Rule) (before after whole : List RuleLine) → own ≡ shape → seen ≡ rules → i < length seen → rule ≡ get_or seen i rule
     → after ≡ joined_by before i (implied_lines own (whole_sets own) rule.conditions rule.conclusion) → before ++ lines_from shape i (drop i rules) ≡ whole → after ++ lines_from shape (i + 1) (drop (i + 1) rules) ≡ whole
 rule-more shape own rules seen i rule before after whole own_is same below here pushed invariant =
-    let own_lines : after ≡ before ++ numbered i (normal_lines_of shape rule) = pushed ∙ ap (λ (s : List Domain). before ++ numbered i (normal_lines_of s rule)) own_is in
+    let own_lines : after ≡ before ++ numbered i (rule_lines_of shape rule) = pushed ∙ ap (λ (s : List Domain). before ++ numbered i (rule_lines_of s rule)) own_is in
     let within : i < length rules = omega (arith, ap length same) in
     let split : drop i rules ≡ rule ∷ drop (suc i) rules = drop-cons rules i rule within ∙ ap (λ (r : Rule). r ∷ drop (suc i) rules) (ap (λ (rs : List Rule). get_or rs i rule) (sym same) ∙ sym here) in
     rw (add-one) (ap (λ (ls : List RuleLine). ls ++ lines_from shape (suc i) (drop (suc i) rules)) own_lines
-    ∙ append_assoc before (numbered i (normal_lines_of shape rule)) (lines_from shape (suc i) (drop (suc i) rules))
+    ∙ append_assoc before (numbered i (rule_lines_of shape rule)) (lines_from shape (suc i) (drop (suc i) rules))
     ∙ ap (λ (rs : List Rule). before ++ lines_from shape i rs) (sym split) ∙ invariant)
 
 -- past the last rule

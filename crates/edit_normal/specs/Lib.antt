@@ -1,5 +1,3 @@
-pub mod Fits
-pub mod Layouts
 pub mod NormalForm
 pub mod RuleLines
-pub mod Sides
+pub mod inner

@@ -74,5 +74,5 @@ implied_lines shape sets (Codes field negated codes ∷ conditions) conclusion =
 implied_lines shape sets (Number e ∷ conditions) conclusion = condition_lines shape sets e conclusion
 
 -- the normal form of a rule: its lines, but for those with an empty set (Fellegi and Holt 1976, for code tests)
-abbrev pub normal_lines_of : List Domain → Rule → List LineParts
-normal_lines_of shape rule = filter (λ line. has_codes line.sets) (implied_lines shape (whole_sets shape) rule.conditions rule.conclusion)
+abbrev pub rule_lines_of : List Domain → Rule → List LineParts
+rule_lines_of shape rule = filter (λ line. has_codes line.sets) (implied_lines shape (whole_sets shape) rule.conditions rule.conclusion)

@@ -1,9 +1,11 @@
 use Rattle.std.specs.Prelude.{ℕ, suc, ◌++◌, ◌≡◌, List, [], ◌∷◌, All, map}
+use Rattle.std.specs.List.{flat_map}
+use Rattle.edit_model.specs.Parts.{SurveyParts}
 use Rattle.edit_model.specs.Points.{Point}
 use Rattle.edit_model.specs.declared.rule.Rule.{Rule}
 use Rattle.edit_line.specs.Lines.{LineHolds, LineParts}
-use Rattle.edit_line.specs.Shapes.{Domain}
-use Rattle.edit_normal.specs.NormalForm.{normal_lines_of}
+use Rattle.edit_line.specs.Shapes.{Domain, shape_of}
+use Rattle.edit_normal.specs.NormalForm.{rule_lines_of}
 use Rattle.edit_normal.specs.declared.rule_line.RuleLine.{RuleLine}
 
 -- the lines, each with the number of their rule
@@ -13,8 +15,12 @@ numbered i lines = map (λ line. record { rule = i; line = line }) lines
 -- the normal lines of each rule, with its number counted from i, in order
 abbrev pub lines_from : List Domain → ℕ → List Rule → List RuleLine
 lines_from shape i [] = []
-lines_from shape i (rule ∷ rules) = numbered i (normal_lines_of shape rule) ++ lines_from shape (suc i) rules
+lines_from shape i (rule ∷ rules) = numbered i (rule_lines_of shape rule) ++ lines_from shape (suc i) rules
 
 -- the lines of the rule of this number all hold at the point
 abbrev pub LinesHold : List RuleLine → ℕ → Point → Type 0
 LinesHold lines i p = All (λ (l : RuleLine). l.rule ≡ i → LineHolds l.line p) lines
+
+-- the normal lines of all rules of a survey, in order
+abbrev pub normal_lines_of : SurveyParts → List LineParts
+normal_lines_of survey = flat_map (λ rule. rule_lines_of (shape_of survey.fields) rule) survey.rules

@@ -20,7 +20,7 @@ pub(crate) struct Layout {
 impl Model for Layout {
     ghost use Rattle.std.specs.Prelude.{List};
     ghost use Rattle.edit_line.specs.Shapes.{Domain, domains_of};
-    ghost use Rattle.edit_normal.specs.Layouts.{IsLayout};
+    ghost use Rattle.edit_normal.specs.inner.Layouts.{IsLayout};
 
     ghost Value = { List Domain };
 

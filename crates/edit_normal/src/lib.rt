@@ -1,8 +1,10 @@
 //! The normal form of edit rules: each rule as linear edits, which all hold exactly where the rule does.
-//! Begin with [`normal_lines`]; the normal form is defined in `specs/NormalForm.antt`.
+//! Begin with [`normal_lines`]; the normal form is defined in `specs/NormalForm.antt`. That it says what
+//! the rules say is the contract of [`normal_form_law`].
 #![tactic(auto)]
 
 mod layout;
+mod meaning;
 mod narrow;
 mod normal;
 mod rule_line;
@@ -11,5 +13,6 @@ mod side;
 #[cfg(test)]
 mod tests;
 
+pub use meaning::normal_form_law;
 pub use normal::normal_lines;
 pub use rule_line::RuleLine;

@@ -4,8 +4,8 @@ ghost use Rattle.edit_line.specs.Negations.{never};
 ghost use Rattle.edit_line.specs.Sets.{AreWithin, has_codes};
 ghost use Rattle.edit_line.specs.Shapes.{whole_sets};
 ghost use Rattle.edit_normal.specs.NormalForm.{compare_lines, condition_lines, conclusion_lines, contrary_lines, implied_lines};
-ghost use Rattle.edit_normal.specs.Sides.{joined_by, side_line};
-ghost use Rattle.edit_normal.specs.Fits.{FitsCodes};
+ghost use Rattle.edit_normal.specs.inner.Sides.{joined_by, side_line};
+ghost use Rattle.edit_normal.specs.inner.Fits.{FitsCodes};
 
 use crate::layout::Layout;
 use crate::narrow::{narrow, narrow_where_false};

@@ -4,7 +4,7 @@ ghost use Rattle.fraction128.specs.Range.{InRange};
 ghost use Rattle.edit_line.specs.Sets.{AreSets};
 ghost use Rattle.edit_line.specs.Shapes.{whole_sets};
 ghost use Rattle.edit_normal.specs.NormalForm.{term_factor};
-ghost use Rattle.edit_normal.specs.Sides.{is_negative, is_strict, side_line, signed};
+ghost use Rattle.edit_normal.specs.inner.Sides.{is_negative, is_strict, side_line, signed};
 
 use crate::layout::Layout;
 use edit_line::Line;

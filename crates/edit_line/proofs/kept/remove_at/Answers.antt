@@ -1,5 +1,5 @@
 use Rattle.std.proofs.Common.{◌∙◌, ap, sym, remove}
-use Rattle.edit_line.specs.Keys.{keys_of}
+use Rattle.edit_line.specs.inner.Keys.{keys_of}
 use Rattle.edit_line.proofs.KeyLaws.{keys-removed}
 use Rattle.edit_line.proofs.kept.remove_at.Goals as goal
 

@@ -1,7 +1,7 @@
 use Rattle.std.proofs.Common.{◌≡◌, ◌<◌, ◌-◌, ◌++◌, drop, length, not, take}
 use Rattle.std.specs.List.{filter}
 use Rattle.std.specs.Vec.{vec_capacity, vec_len}
-use Rattle.edit_line.specs.Keys.{keys_of}
+use Rattle.edit_line.specs.inner.Keys.{keys_of}
 use Rattle.edit_line.specs.Subsumption.{subsumes}
 use Rattle.edit_line.specs.declared.derived.Derived.{Derived}
 use Rattle.edit_line.proofs.kept.remove_subsumed.Given as goal

@@ -2,6 +2,7 @@ use Rattle.std.proofs.Common.{◌≡◌, ◌≤◌, List, length, subst}
 use Rattle.edit_model.specs.declared.rule.Rule.{Rule}
 use Rattle.edit_line.specs.Shapes.{shape_of}
 use Rattle.edit_normal.specs.RuleLines.{lines_from}
+use Rattle.edit_normal.proofs.MeaningLaws.{lines-all, lines-over}
 use Rattle.edit_normal.proofs.RuleForms.{few-answered, lines-answered, rule-codes, rule-more, rules-end}
 use Rattle.edit_normal.proofs.normal.normal_lines.Goals as goal
 
@@ -23,6 +24,8 @@ returns c =
     let is : c.loop-number.lines.items ≡ lines_from (shape_of survey.fields) 0 survey.rules = rules-end (shape_of survey.fields) survey.rules c.loop-number.number c.loop-number.lines.items _ past c.loop-number.invariant in
     record {
       exact = is;
+      lines = lines-all survey c.loop-number.lines.items is;
+      over = lines-over survey c.loop-number.lines.items is;
       few = few-answered (shape_of survey.fields) survey.rules c.loop-number.lines.items is;
       same = lines-answered survey.fields survey.rules c.loop-number.lines.items is c.rules-rule-items.ensures.well_formed.rules;
     }

@@ -3,7 +3,7 @@ use Rattle.edit_line.specs.Lines.{LineParts}
 use Rattle.edit_line.specs.Sets.{has_codes}
 use Rattle.edit_line.specs.Shapes.{whole_sets}
 use Rattle.edit_line.proofs.SetLaws.{AreSets-within}
-use Rattle.edit_normal.specs.Sides.{side_line}
+use Rattle.edit_normal.specs.inner.Sides.{side_line}
 use Rattle.edit_normal.proofs.Pushes.{pushed, side_line-sets, skipped}
 use Rattle.edit_normal.proofs.rule_lines.push_side.Goals as goal
 
