@@ -8,7 +8,7 @@ use Rattle.edit_line.proofs.ShapeLaws.{length-wholes}
 use Rattle.edit_line.proofs.WholeSets.{AreSets-whole, AreSets-wide, AreWithin-common, AreWithin-whole}
 use Rattle.edit_line.specs.CodeFields.{TakesCodes, place_of, size_of, whole_of}
 use Rattle.edit_line.specs.Combinations.{meets}
-use Rattle.categ_combine.specs.Spots.{IsSpot}
+use Rattle.categ_combine.specs.inner.Spots.{IsSpot}
 use Rattle.edit_line.proofs.PointCodes.{place_of-below, whole_of-is}
 
 -- A field's place in a box, and the sets of a box there.

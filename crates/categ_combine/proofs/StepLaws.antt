@@ -5,7 +5,8 @@ use Rattle.edit_line.specs.Boxes.{IsBox}
 use Rattle.edit_line.specs.Shapes.{Domain, HasCodes, codes_at, whole_sets}
 use Rattle.edit_line.proofs.Members.{in-all, in-map-out}
 use Rattle.edit_line.proofs.ShapeLaws.{length-wholes}
-use Rattle.categ_combine.specs.BoxLists.{AreBoxes, AreBoxesOver, Avoids, avoid, reduce_from, sets_of}
+use Rattle.categ_combine.specs.BoxLists.{AreBoxesOver, Avoids, avoid, reduce_from, sets_of}
+use Rattle.categ_combine.specs.inner.FitBoxes.{AreBoxes}
 use Rattle.edit_line.specs.CodeFields.{TakesCodes, codes_of, codes_up, place_of, size_of, whole_of, with_code_at}
 use Rattle.categ_combine.specs.Covers.{code_pairs, cover_count, covered, covered_from, first_cover, row_of, with_code, with_code_from}
 use Rattle.categ_combine.specs.Each.{each_from}

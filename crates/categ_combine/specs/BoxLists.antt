@@ -1,7 +1,6 @@
 use Rattle.std.specs.Prelude.{◌≡◌, ◌<◌, ℕ, not, Bool, List, [], ◌∷◌, ◌++◌, All, IsTrue, if◌then◌else◌, map}
 use Rattle.std.specs.List.{filter, fold, list_any}
 use Rattle.edit_model.specs.Points.{Point}
-use Rattle.edit_line.specs.Boxes.{IsBox}
 use Rattle.edit_line.specs.Sets.{all_inside, is_inside}
 use Rattle.edit_line.specs.Shapes.{Domain, codes_at}
 use Rattle.edit_line.specs.CodeFields.{TakesCodes, size_of}
@@ -46,10 +45,6 @@ sets_of boxes = map (λ (b : BoxFrom). b.code_box.sets) boxes
 -- the boxes are over the fields of this shape
 abbrev pub AreBoxesOver : List Domain → List BoxFrom → Type 0
 AreBoxesOver shape boxes = All (λ (b : BoxFrom). b.code_box.shape ≡ shape) boxes
-
--- each set of each box has a code, and none but its field's
-abbrev pub AreBoxes : List BoxFrom → Type 0
-AreBoxes boxes = All (λ (b : BoxFrom). IsBox b.code_box) boxes
 
 -- the boxes are over the fields of one shape, in which the field is categorical
 abbrev pub HaveCodeField : List BoxFrom → ℕ → Type 0

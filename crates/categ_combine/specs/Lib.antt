@@ -3,6 +3,7 @@ pub mod Covers
 pub mod Each
 pub mod FailingBoxes
 pub mod Fixing
-pub mod Spots
+pub mod Origins
 pub mod Steps
 pub mod Texts
+pub mod inner

@@ -1,12 +1,14 @@
-ghost use Rattle.std.specs.Prelude.{◌≡◌, ◌<◌, ◌↔◌, IfOk, List, OnOk, slice_set};
+ghost use Rattle.std.specs.Prelude.{◌≡◌, ◌<◌, ◌↔◌, All, IfOk, List, OnOk, slice_set};
 ghost use Rattle.std.specs.List.{fold};
 ghost use Rattle.edit_model.specs.Points.{Point};
 ghost use Rattle.edit_line.specs.Boxes.{IsBox, box_of};
 ghost use Rattle.edit_line.specs.Shapes.{Domain, HasCodes, domains_of};
-ghost use Rattle.categ_combine.specs.BoxLists.{AreBoxes, AreBoxesOver, Avoids, HaveCode, reduce_from, sets_of, with_from};
+ghost use Rattle.categ_combine.specs.BoxLists.{AreBoxesOver, Avoids, HaveCode, reduce_from, sets_of, with_from};
+ghost use Rattle.categ_combine.specs.inner.FitBoxes.{AreBoxes};
 ghost use Rattle.edit_line.specs.CodeFields.{size_of, with_code_at};
 ghost use Rattle.categ_combine.specs.Each.{each_from};
 ghost use Rattle.categ_combine.specs.Fixing.{fixed, fixed_from, fixed_one};
+ghost use Rattle.categ_combine.specs.Origins.{ComesFromFix};
 
 use crate::box_from::{BoxFrom, BoxOrigin};
 use crate::code_field::{set_at, spot_of};
@@ -31,6 +33,9 @@ pub fn fix(
     ensures over { IfOk result (λ left. (shape : List Domain)
         → AreBoxesOver shape boxes.now → code < size_of shape field
         → AreBoxesOver shape left.items) }
+    ensures origins { IfOk result (λ left. (shape : List Domain)
+        → AreBoxesOver shape boxes.now → code < size_of shape field
+        → All (λ b. ComesFromFix shape boxes.now field code b.code_box b.origin) left.items) }
     ensures sets { IfOk result (λ left. (shape : List Domain)
         → AreBoxesOver shape boxes.now → code < size_of shape field
         → sets_of left.items ≡ fixed shape (sets_of boxes.now) field code) }

@@ -1,5 +1,5 @@
 ghost use Rattle.edit_line.specs.Shapes.{domains_of};
-ghost use Rattle.categ_combine.specs.Spots.{IsSpot};
+ghost use Rattle.categ_combine.specs.inner.Spots.{IsSpot};
 
 use edit_line::Shape;
 

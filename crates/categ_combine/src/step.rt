@@ -1,12 +1,14 @@
-ghost use Rattle.std.specs.Prelude.{◌≡◌, ◌<◌, ◌≤◌, ◌*◌, ◌↔◌, [], ◌∷◌, ◌++◌, IfNone, IfOk, IfSome, List, OnOk, length, ℕ};
+ghost use Rattle.std.specs.Prelude.{◌≡◌, ◌<◌, ◌≤◌, ◌*◌, ◌↔◌, [], ◌∷◌, ◌++◌, All, IfNone, IfOk, IfSome, List, OnOk, length, ℕ};
 ghost use Rattle.std.specs.List.{filter, fold};
 ghost use Rattle.edit_model.specs.Points.{Point};
 ghost use Rattle.edit_line.specs.Boxes.{IsBox};
 ghost use Rattle.edit_line.specs.Shapes.{Domain, HasCodes, domains_of, whole_sets};
-ghost use Rattle.categ_combine.specs.BoxLists.{AreBoxes, AreBoxesOver, Avoids, HaveCodeField, reduce_from, sets_of, with_from};
+ghost use Rattle.categ_combine.specs.BoxLists.{AreBoxesOver, Avoids, HaveCodeField, reduce_from, sets_of, with_from};
+ghost use Rattle.categ_combine.specs.inner.FitBoxes.{AreBoxes};
 ghost use Rattle.edit_line.specs.CodeFields.{TakesCodes, codes_up, size_of, with_code_at};
 ghost use Rattle.categ_combine.specs.Covers.{code_pairs, cover_count, covered, covered_from, first_cover, takes_part, unchanged_one, with_code_from};
 ghost use Rattle.categ_combine.specs.Each.{each_from};
+ghost use Rattle.categ_combine.specs.Origins.{ComesFromCover};
 ghost use Rattle.categ_combine.specs.Steps.{IsDone, IsPassed};
 
 use crate::box_from::{BoxFrom, BoxOrigin};
@@ -46,6 +48,9 @@ pub fn cat_step(
     ensures over { IfOk result (λ told. (shape : List Domain)
         → AreBoxesOver shape boxes.now → TakesCodes shape field
         → IsDone told (λ left pairs. AreBoxesOver shape left)) }
+    ensures origins { IfOk result (λ told. (shape : List Domain)
+        → AreBoxesOver shape boxes.now → TakesCodes shape field
+        → IsDone told (λ left pairs. All (λ b. ComesFromCover shape boxes.now field b.code_box b.origin) left)) }
     ensures sets { IfOk result (λ told. (shape : List Domain)
         → AreBoxesOver shape boxes.now → TakesCodes shape field
         → IsDone told (λ left pairs. sets_of left ≡ covered shape (sets_of boxes.now) field)) }

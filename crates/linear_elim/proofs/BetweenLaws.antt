@@ -96,7 +96,8 @@ module _ {X : Type 0} (slope rest : X → ℤ) (strict : X → Bool) where
     pub there : IsIn best bounds
     pub tightest : (x : X) → IsIn x bounds → Implies best x
 
-  tightest : (x : X) (bounds : List X) → ((y z : X) → IsIn y (x ∷ bounds) → IsIn z (x ∷ bounds) → Implies y z ⊎ Implies z y) → (best : X) × IsTightest (x ∷ bounds) best
+  -- the tightest of some bounds
+  pub tightest : (x : X) (bounds : List X) → ((y z : X) → IsIn y (x ∷ bounds) → IsIn z (x ∷ bounds) → Implies y z ⊎ Implies z y) → (best : X) × IsTightest (x ∷ bounds) best
   tightest x [] either = (x, record { there = inl refl; tightest = one })
     where
       one : (y : X) → IsIn y (x ∷ []) → Implies x y

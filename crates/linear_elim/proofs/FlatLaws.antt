@@ -1,4 +1,4 @@
-use Rattle.std.proofs.Common.{◌≡◌, ◌⊎◌, inl, inr, ℕ, ◌==◌, ◌||◌, Bool, true, false, List, [], ◌∷◌, All, ℤ, pos, ◌<ℤ◌, ◌+ℤ◌, ◌*ℤ◌, refl, sym, ap, ◌∙◌, subst, arith}
+use Rattle.std.proofs.Common.{◌≡◌, ◌⊎◌, inl, inr, ℕ, ◌==◌, ◌||◌, Bool, true, false, List, [], ◌∷◌, ℤ, pos, ◌<ℤ◌, ◌+ℤ◌, ◌*ℤ◌, refl, sym, ap, ◌∙◌, subst, arith}
 use Rattle.std.specs.List.{fold}
 use Rattle.std.proofs.lemmas.Bool.Decides.{Decides-eqb}
 use Rattle.fraction128.proofs.Signs.{same_cancel}
@@ -9,16 +9,13 @@ use Rattle.edit_line.specs.Shapes.{Domain, has_field}
 use Rattle.edit_line.proofs.Members.{all-in, in-all}
 use Rattle.edit_line.proofs.ReductionLaws.{HaveShape-reduce, reduce-from}
 use Rattle.linear_elim.specs.Combinations.{combination}
+use Rattle.linear_elim.specs.Parts.{AreFlat}
 use Rattle.linear_elim.specs.Steps.{eliminated, step}
 use Rattle.linear_elim.specs.Systems.{system}
 use Rattle.linear_elim.proofs.PairLaws.{combination-is, factor-combined}
 use Rattle.linear_elim.proofs.StepLaws.{HaveShape-step, IsOppositePair, from-eliminated, step-flat}
 
 -- The fields that are eliminated stand in no line of a system.
-
--- the lines have no factor at the field
-abbrev pub AreFlat : ℕ → List LineParts → Type 0
-AreFlat i lines = All (λ line. factor line i ≡ pos 0) lines
 
 none_of_both : (g k m n a b : ℤ) → pos 0 <ℤ g → g *ℤ k ≡ m *ℤ a +ℤ n *ℤ b → a ≡ pos 0 → b ≡ pos 0 → k ≡ pos 0
 none_of_both g k m n a b above is a_none b_none = same_cancel k (pos 0) g above (comm k g ∙ is ∙ ap (λ (z : ℤ). m *ℤ z +ℤ n *ℤ b) a_none ∙ ap (λ (z : ℤ). m *ℤ pos 0 +ℤ n *ℤ z) b_none ∙ nothing m n g)
@@ -46,7 +43,8 @@ module _ (shape : List Domain) where
   fold-keeps_flat lines [] i over flat = flat
   fold-keeps_flat lines (f ∷ fields) i over flat = fold-keeps_flat (step lines f) fields i (HaveShape-step shape lines f over) (step-keeps_flat lines f i over flat)
 
-  fold-flat : (lines : List LineParts) (fields : List ℕ) (i : ℕ) → HaveShape shape lines → has_field fields i ≡ true → AreFlat i (fold step lines fields)
+  -- and keeps out those of the fold
+  pub fold-flat : (lines : List LineParts) (fields : List ℕ) (i : ℕ) → HaveShape shape lines → has_field fields i ≡ true → AreFlat i (fold step lines fields)
   fold-flat lines [] i over there = absurd (cc)
   fold-flat lines (f ∷ fields) i over there = by (f == i) refl there (λ h. fold-flat (step lines f) fields i (HaveShape-step shape lines f over) h)
     where

@@ -1,7 +1,10 @@
 pub mod BetweenLaws
+pub mod ChosenFields
+pub mod ColumnLaws
 pub mod CountLaws
 pub mod FlatLaws
-pub mod ListMembers
+pub mod FoldLaws
+pub mod MadeLaws
 pub mod OriginLaws
 pub mod OverflowLaws
 pub mod OwnLoops
@@ -11,11 +14,11 @@ pub mod ResultLaws
 pub mod ShapeLaws
 pub mod StepLaws
 pub mod SystemLaws
+pub mod TakenSums
+pub mod UpperLaws
 mod WorkedSystems
-mod ColumnLaws
 mod CombineSteps
-mod SixFields
+mod EightFields
 mod StepClauses
 mod StepLoops
 mod SystemLoops
-pub mod UpperLaws

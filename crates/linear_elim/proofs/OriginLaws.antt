@@ -6,16 +6,16 @@ use Rattle.edit_line.specs.Shapes.{Domain}
 use Rattle.edit_line.specs.Subsumption.{is_trivial, subsumes}
 use Rattle.edit_line.specs.declared.derived.Derived.{Derived}
 use Rattle.edit_line.specs.declared.derived.Origin.TheVariants.{Same}
-use Rattle.edit_line.proofs.Members.{all-in, in-all, in-either, in-get, in-reduced, in-taken}
-use Rattle.edit_line.proofs.SetLaws.{both_true}
-use Rattle.edit_line.specs.Combinations.{IsPositiveSum, first_overflow, numbers, unless_overflow}
+use Rattle.edit_line.proofs.ListPlaces.{StandsAt, first-at, later-at}
+use Rattle.edit_line.proofs.Members.{all-in, in-all, in-either, in-get, in-map, in-reduced, in-taken}
+use Rattle.edit_line.specs.Combinations.{first_overflow, numbers, unless_overflow}
 use Rattle.linear_elim.specs.Combinations.{combination, combined_with, first_multiplier, is_flat, is_lower, second_multiplier}
-use Rattle.linear_elim.specs.Origins.{AllComeFrom, ComesFrom}
+use Rattle.linear_elim.specs.Origins.{AllComeFrom, ComesFrom, IsTakenSum}
 use Rattle.linear_elim.specs.Steps.{StepOverflow, collect, eliminated_result, flat_from, is_opposite, pair_result, paired, reduced_result, row_result, step_result}
-use Rattle.linear_elim.proofs.ListMembers.{in-map}
-use Rattle.linear_elim.proofs.PairLaws.{combination-is, combination_divisor}
+use Rattle.linear_elim.proofs.PairLaws.{combination_divisor}
 use Rattle.linear_elim.proofs.ResultLaws.{followed, joined, ok_same}
-use Rattle.linear_elim.proofs.StepLaws.{above_tells, below_tells}
+use Rattle.linear_elim.proofs.StepLaws.{above_tells}
+use Rattle.linear_elim.proofs.TakenSums.{combination-taken}
 
 -- The origins of a step's lines name what was combined.
 
@@ -24,24 +24,8 @@ use Rattle.linear_elim.proofs.StepLaws.{above_tells, below_tells}
 some_at : {X : Type 0} (P : X → Type 0) (o : Option X) (x : X) → o ≡ Some x → P x → IsSomeAnd o P
 some_at P o x e h = subst (λ o. IsSomeAnd o P) (sym e) h
 
--- the list from place i on
-abbrev StandsAt : {X : Type 0} → List X → ℕ → List X → Type 0
-StandsAt whole i xs = (k : ℕ) → slice_get whole (i + k) ≡ slice_get xs k
-
-first-at : {X : Type 0} (whole : List X) (i : ℕ) (x : X) (xs : List X) → StandsAt whole i (x ∷ xs) → slice_get whole i ≡ Some x
-first-at whole i x xs at = ap (λ k. slice_get whole k) same ∙ at 0
-  where
-    same : i ≡ i + 0
-    same = omega arith
-
-later-at : {X : Type 0} (whole : List X) (i : ℕ) (x : X) (xs : List X) → StandsAt whole i (x ∷ xs) → StandsAt whole (suc i) xs
-later-at whole i x xs at k = ap (λ j. slice_get whole j) same ∙ at (suc k)
-  where
-    same : suc i + k ≡ i + suc k
-    same = omega arith
-
 -- what holds of all that each element gives
-collect-all : {X Y F : Type 0} (P : Y → Type 0) (each : ℕ → X → Result (List Y) F) (whole : List X) (i : ℕ) (xs : List X) (ys : List Y) → StandsAt whole i xs
+pub collect-all : {X Y F : Type 0} (P : Y → Type 0) (each : ℕ → X → Result (List Y) F) (whole : List X) (i : ℕ) (xs : List X) (ys : List Y) → StandsAt whole i xs
     → ((j : ℕ) (x : X) (zs : List Y) → slice_get whole j ≡ Some x → each j x ≡ Ok zs → (y : Y) → IsIn y zs → P y)
     → collect each i xs ≡ Ok ys → (y : Y) → IsIn y ys → P y
 collect-all {X} {Y} P each whole i [] ys at gives e y there = absurd (subst (λ (zs : List Y). IsIn y zs) (ok_same ys [] (Ok []) e refl) there)
@@ -79,23 +63,23 @@ module _ (shape : List Domain) (lines : List Derived) (f : ℕ) (over : HaveShap
   pair-comes : (i : ℕ) (s : Derived) (j : ℕ) (t : Derived) (zs : List Derived) → slice_get lines i ≡ Some s → slice_get lines j ≡ Some t → is_lower f s.line ≡ true
       → pair_result f i s j t ≡ Ok zs → (d : Derived) → IsIn d zs → ComesFrom lines d.line d.origin
   pair-comes i s j t zs s_at t_at lower e d there =
-      by (is_opposite f s.line t.line) (first_overflow 0 (first_multiplier s.line t.line f) (second_multiplier s.line t.line f) (numbers s.line) (numbers t.line)) refl e
+      by (is_opposite f s.line t.line) (first_overflow 0 (first_multiplier s.line t.line f) (second_multiplier s.line t.line f) (numbers s.line) (numbers t.line)) refl refl e
     where
-      sum : is_opposite f s.line t.line ≡ true → IsPositiveSum (first_multiplier s.line t.line f) (second_multiplier s.line t.line f) (combination_divisor s.line t.line f) s.line t.line (combination s.line t.line f)
-      sum opposite =
-          combination-is s.line t.line f ((has j t t_at).same ∙ sym (has i s s_at).same) (above_tells (factor s.line f) lower) (below_tells (factor t.line f) (both_true _ _ opposite).0)
+      sum : is_opposite f s.line t.line ≡ true → first_overflow 0 (first_multiplier s.line t.line f) (second_multiplier s.line t.line f) (numbers s.line) (numbers t.line) ≡ None
+          → IsTakenSum (first_multiplier s.line t.line f) (second_multiplier s.line t.line f) (combination_divisor s.line t.line f) s.line t.line (combination s.line t.line f)
+      sum opposite fits = combination-taken s.line t.line f ((has j t t_at).same ∙ sym (has i s s_at).same) (above_tells (factor s.line f) lower) opposite fits
 
       one : (new : Derived) → ComesFrom lines new.line new.origin → IsIn d (new ∷ []) → ComesFrom lines d.line d.origin
       one new comes (inl same) = subst (λ (e : Derived). ComesFrom lines e.line e.origin) (sym same) comes
       one new comes (inr none) = absurd none
 
-      by : (b : Bool) (o : Option ℕ) → is_opposite f s.line t.line ≡ b
+      by : (b : Bool) (o : Option ℕ) → is_opposite f s.line t.line ≡ b → first_overflow 0 (first_multiplier s.line t.line f) (second_multiplier s.line t.line f) (numbers s.line) (numbers t.line) ≡ o
           → (if b then paired s.line.shape i j (unless_overflow o (combined_with (first_multiplier s.line t.line f) (second_multiplier s.line t.line f) s.line t.line)) else Ok []) ≡ Ok zs
           → ComesFrom lines d.line d.origin
-      by true None opposite e =
-          one _ (some_at _ (slice_get lines i) s s_at (some_at _ (slice_get lines j) t t_at (sum opposite))) (subst (λ (ds : List Derived). IsIn d ds) (ok_same zs _ _ e refl) there)
-      by true (Some place) opposite e = absurd (cc)
-      by false o opposite e = absurd (subst (λ (ds : List Derived). IsIn d ds) (ok_same zs [] _ e refl) there)
+      by true None opposite fits e =
+          one _ (some_at _ (slice_get lines i) s s_at (some_at _ (slice_get lines j) t t_at (sum opposite fits))) (subst (λ (ds : List Derived). IsIn d ds) (ok_same zs _ _ e refl) there)
+      by true (Some place) opposite fits e = absurd (cc)
+      by false o opposite fits e = absurd (subst (λ (ds : List Derived). IsIn d ds) (ok_same zs [] _ e refl) there)
 
   row-comes : (i : ℕ) (s : Derived) (zs : List Derived) → slice_get lines i ≡ Some s → row_result f lines i s ≡ Ok zs → (d : Derived) → IsIn d zs → ComesFrom lines d.line d.origin
   row-comes i s zs at e d there = by (is_lower f s.line) refl e

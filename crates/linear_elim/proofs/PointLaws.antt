@@ -34,7 +34,8 @@ no_number-before f i (Numerical ∷ shape) below = by (i == f) refl (no_number-b
     by false e rest = rest
 no_number-before f i (Categorical k ∷ shape) below = no_number-before f (suc i) shape (omega arith)
 
-no_code-before : (f i : ℕ) (shape : List Domain) → f < i → has_field (codes_from i shape) f ≡ false
+-- a field before number i is no categorical field from there on
+pub no_code-before : (f i : ℕ) (shape : List Domain) → f < i → has_field (codes_from i shape) f ≡ false
 no_code-before f i [] below = refl
 no_code-before f i (Numerical ∷ shape) below = no_code-before f (suc i) shape (omega arith)
 no_code-before f i (Categorical k ∷ shape) below = by (i == f) refl (no_code-before f (suc i) shape (omega arith))
@@ -44,7 +45,7 @@ no_code-before f i (Categorical k ∷ shape) below = by (i == f) refl (no_code-b
     by false e rest = rest
 
 -- a numerical field is not categorical
-number-no_code : (f i : ℕ) (shape : List Domain) → has_field (numbers_from i shape) f ≡ true → has_field (codes_from i shape) f ≡ false
+pub number-no_code : (f i : ℕ) (shape : List Domain) → has_field (numbers_from i shape) f ≡ true → has_field (codes_from i shape) f ≡ false
 number-no_code f i [] h = refl
 number-no_code f i (Numerical ∷ shape) h = by (i == f) refl (number-no_code f (suc i) shape) h
   where

@@ -4,13 +4,12 @@ use Rattle.edit_line.specs.Lines.{AreOver, HasShape, HaveShape, IsLine, LinePart
 use Rattle.edit_line.specs.Reductions.{lines_of, reduce, reduce_derived}
 use Rattle.edit_line.specs.Shapes.{Domain, whole_sets}
 use Rattle.edit_line.specs.declared.derived.Derived.{Derived}
-use Rattle.edit_line.proofs.Members.{all-in, in-all}
+use Rattle.edit_line.proofs.Members.{all-in, in-all, in-map}
 use Rattle.edit_line.proofs.ReductionLaws.{HaveShape-reduce, reduce-lines}
 use Rattle.edit_line.proofs.SetLaws.{AreSets-length}
 use Rattle.edit_line.proofs.ShapeLaws.{length-wholes}
 use Rattle.linear_elim.specs.Combinations.{SameShape}
 use Rattle.linear_elim.specs.Steps.{OneShape}
-use Rattle.linear_elim.proofs.ListMembers.{in-map}
 use Rattle.linear_elim.proofs.ResultLaws.{base-plain}
 
 -- Lines over one survey's fields.
@@ -31,6 +30,11 @@ OneShape-have shape lines over =
     SameShape-have shape s.line t.line
     (in-all (λ l. HasShape shape l) s.line (lines_of lines) over (in-map (λ (d : Derived). d.line) s lines s_in))
     (in-all (λ l. HasShape shape l) t.line (lines_of lines) over (in-map (λ (d : Derived). d.line) t lines t_in))))
+
+-- each of the lines has the shape
+pub derived-shape : (shape : List Domain) (lines : List Derived) → HaveShape shape (lines_of lines) → All (λ (d : Derived). d.line.shape ≡ shape) lines
+derived-shape shape lines over =
+    all-in (λ (d : Derived). d.line.shape ≡ shape) lines (λ d there. (in-all (λ l. HasShape shape l) d.line (lines_of lines) over (in-map (λ (d : Derived). d.line) d lines there)).same)
 
 -- a line is over the fields of its shape
 pub HasShape-line : (line : LineParts) → IsLine line → HasShape line.shape line

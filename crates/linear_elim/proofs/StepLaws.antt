@@ -9,7 +9,7 @@ use Rattle.edit_line.specs.Reductions.{IsIn}
 use Rattle.edit_line.specs.Sets.{AllInside, is_inside}
 use Rattle.edit_line.specs.Shapes.{Domain, IsNumerical, code_fields, codes_at}
 use Rattle.edit_line.proofs.Enough.{IsEnough-times, IsEnough_cancel}
-use Rattle.edit_line.proofs.Members.{all-in, in-all, in-either, in-filter, in-filter-out, in-left, in-right}
+use Rattle.edit_line.proofs.Members.{all-in, in-all, in-either, in-filter, in-filter-out, in-flat_map, in-flat_map-out, in-left, in-map, in-map-out, in-right}
 use Rattle.edit_line.proofs.ReductionLaws.{HaveShape-reduce, all-reduce, holds-reduce, reduce-holds}
 use Rattle.edit_line.proofs.SetLaws.{both_true, is_inside-Decides}
 use Rattle.edit_line.specs.Combinations.{all_meet, meets}
@@ -18,7 +18,6 @@ use Rattle.linear_elim.specs.PointChanges.{DiffersOnlyAt}
 use Rattle.linear_elim.specs.Steps.{combinations, eliminated, is_opposite, step}
 use Rattle.linear_elim.proofs.BetweenLaws.{IsWithin, LeavesValue, between, by_sign}
 use Rattle.edit_line.proofs.CombinationLaws.{LineHolds-combined, amount-combined, inside-all_meet, inside-meets}
-use Rattle.linear_elim.proofs.ListMembers.{in-flat_map, in-flat_map-out, in-map, in-map-out}
 use Rattle.linear_elim.proofs.PairLaws.{HasShape-combination, combination-flat, combination-is, combination_divisor, multipliers-cancel}
 use Rattle.linear_elim.proofs.PointLaws.{LineHolds-others, holds-put, put, put-code, put-differs, rest_at}
 

@@ -6,7 +6,8 @@ use Rattle.edit_line.specs.Reductions.{reduce_derived, with_derived}
 use Rattle.edit_line.specs.declared.derived.Derived.{Derived}
 use Rattle.edit_line.specs.declared.derived.Origin.TheVariants.{Same}
 use Rattle.linear_elim.specs.Combinations.{is_flat}
-use Rattle.linear_elim.specs.Steps.{StepOverflow, collect, flat_from, followed_by, reduced_result, row_count, row_result, rows_count, step_result, taken_in, with_more}
+use Rattle.linear_elim.specs.Steps.{StepOverflow, collect, flat_from, followed_by, reduced_result, row_count, row_result, rows_count, step_result, with_more}
+use Rattle.linear_elim.specs.inner.Taken.{taken_in}
 
 -- Loops over the lines of a step: what is done, and what is left, give the whole.
 

@@ -1,4 +1,4 @@
-use Rattle.std.proofs.Common.{◌||◌, inl, inr, ◌≡◌, ◌≢◌, ◌==◌, Bool, true, false, if◌then◌else◌, ℕ, zero, suc, List, [], ◌∷◌, All, ℤ, pos, ◌<ℤ◌, ◌*ℤ◌, refl, sym, ap, ◌∙◌, arith}
+use Rattle.std.proofs.Common.{◌≡◌, ◌≢◌, ◌==◌, Bool, true, false, if◌then◌else◌, ℕ, zero, suc, List, [], ◌∷◌, All, ℤ, pos, ◌<ℤ◌, ◌*ℤ◌, refl, sym, ap, ◌∙◌, arith}
 use Rattle.std.specs.List.{fold}
 use Rattle.std.proofs.lemmas.Bool.Decides.{Decides-eqb}
 use Rattle.fraction128.proofs.Signs.{same_cancel}
@@ -6,8 +6,9 @@ use Rattle.fraction128.proofs.Whole.{assoc, swap_last}
 use Rattle.edit_model.specs.FieldSets.{has_number}
 use Rattle.edit_model.specs.Points.{Point}
 use Rattle.edit_line.specs.Lines.{AllHold, HaveShape, LineHolds, LineParts}
-use Rattle.edit_line.specs.Reductions.{IsIn, reduce}
-use Rattle.edit_line.specs.Shapes.{Domain, IsNumerical, code_fields, has_field, number_fields}
+use Rattle.edit_line.specs.Reductions.{reduce}
+use Rattle.edit_line.specs.Shapes.{Domain, IsNumerical, code_fields, number_fields}
+use Rattle.edit_line.proofs.FieldLists.{there-has}
 use Rattle.edit_line.proofs.Members.{all-in, in-all, in-filter-out}
 use Rattle.edit_line.proofs.ReductionLaws.{HaveShape-reduce, holds-reduce, reduce-holds}
 use Rattle.linear_elim.specs.PointChanges.{DiffersOnlyAt, DiffersOnlyIn}
@@ -124,16 +125,6 @@ module _ (shape : List Domain) where
       (q, differs, codes, holds-reduce shape lines q (λ k d below. (over k d below).same) at_q)
 
 -- ---- the fields of a set
-
--- a field that stands in a list
-there-has : (i : ℕ) (fields : List ℕ) → IsIn i fields → has_field fields i ≡ true
-there-has i [] none = absurd none
-there-has i (j ∷ fields) (inl same) = ap (λ b. b || has_field fields i) ((Decides-eqb j i).1 (sym same))
-there-has i (j ∷ fields) (inr there) = ap (λ b. (j == i) || b) (there-has i fields there) ∙ or_true (j == i)
-  where
-    or_true : (b : Bool) → (b || true) ≡ true
-    or_true true = refl
-    or_true false = refl
 
 -- the chosen fields are numerical
 pub chosen-numerical : (shape : List Domain) (bits : ℕ) → All (IsNumerical shape) (chosen_fields shape bits)

@@ -6,7 +6,9 @@ use Rattle.edit_line.specs.Combinations.{all_meet}
 use Rattle.edit_line.specs.Lines.{LineParts}
 use Rattle.edit_line.specs.declared.derived.Derived.{Derived}
 use Rattle.linear_elim.specs.Combinations.{combine_result, is_upper}
-use Rattle.linear_elim.specs.Steps.{collect, collect_at, count_at, found_count, found_result, followed_by, is_opposite, pair_result, paired, places_from, taken_in}
+use Rattle.linear_elim.specs.Steps.{collect, followed_by, is_opposite, pair_result, paired}
+use Rattle.linear_elim.specs.inner.Taken.{taken_in}
+use Rattle.linear_elim.specs.inner.Uppers.{collect_at, count_at, found_count, found_result, places_from}
 use Rattle.linear_elim.proofs.StepLoops.{taken-joined}
 
 -- A row of pairs takes the same lines, whether all are looked at or the upper ones alone.

@@ -1,12 +1,12 @@
 pub mod Answers
 pub mod Combinations
+pub mod Helds
 pub mod Origins
 pub mod Overflows
 pub mod Parts
 pub mod PointChanges
 pub mod Steps
 pub mod Systems
-pub mod Told
-pub mod Helds
-pub mod SixNumbers
 pub mod Texts
+pub mod Told
+pub mod inner

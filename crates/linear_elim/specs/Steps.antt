@@ -1,8 +1,8 @@
-use Rattle.std.specs.Prelude.{ℕ, suc, ◌+◌, ◌&&◌, Bool, List, [], ◌∷◌, ◌++◌, All, Result, Ok, Err, Option, Some, None, length, map, if◌then◌else◌}
-use Rattle.std.specs.List.{filter, flat_map, fold, slice_get}
+use Rattle.std.specs.Prelude.{ℕ, suc, ◌+◌, ◌&&◌, Bool, List, [], ◌∷◌, ◌++◌, All, Result, Ok, Err, length, map, if◌then◌else◌}
+use Rattle.std.specs.List.{filter, flat_map}
 use Rattle.edit_line.specs.Lines.{LineParts}
 use Rattle.edit_line.specs.Places.{place_of}
-use Rattle.edit_line.specs.Reductions.{reduce, reduce_derived, with_derived}
+use Rattle.edit_line.specs.Reductions.{reduce, reduce_derived}
 use Rattle.edit_line.specs.Shapes.{Domain, number_fields}
 use Rattle.edit_line.specs.declared.derived.Derived.{Derived}
 use Rattle.edit_line.specs.declared.derived.Origin.TheVariants.{Pair, Same}
@@ -85,11 +85,6 @@ abbrev pub reduced_result : {F : Type 0} → Result (List Derived) F → Result 
 reduced_result (Ok lines) = Ok (reduce_derived lines)
 reduced_result (Err fault) = Err fault
 
--- the kept lines with those of the answer taken in, one by one, or the first fault
-abbrev pub taken_in : {F : Type 0} → List Derived → Result (List Derived) F → Result (List Derived) F
-taken_in kept (Ok more) = Ok (fold with_derived kept more)
-taken_in kept (Err fault) = Err fault
-
 -- elimination of a numerical field: the step's lines with their origins, reduced, or the first pair and place that leave the range
 abbrev pub step_result : List Derived → ℕ → Result (List Derived) StepOverflow
 step_result lines f = reduced_result (eliminated_result lines f)
@@ -108,30 +103,3 @@ rows_count f lines (s ∷ rows) = row_count f lines s + rows_count f lines rows
 -- the number of pairs that the step combines
 abbrev pub pairs_count : List Derived → ℕ → ℕ
 pairs_count lines f = rows_count f lines lines
-
--- ---- the step with the upper lines listed once
-
--- the places of the lines that pass the test, counted from i
-abbrev pub places_from : (LineParts → Bool) → ℕ → List Derived → List ℕ
-places_from test i [] = []
-places_from test i (t ∷ lines) = if test t.line then i ∷ places_from test (suc i) lines else places_from test (suc i) lines
-
--- what the function gives for the line that is found at the place
-abbrev pub found_result : {F : Type 0} → (ℕ → Derived → Result (List Derived) F) → ℕ → Option Derived → Result (List Derived) F
-found_result each j (Some t) = each j t
-found_result each j None = Ok []
-
--- what the function gives for the lines at these places: all lists joined, or the first fault
-abbrev pub collect_at : {F : Type 0} → (ℕ → Derived → Result (List Derived) F) → List Derived → List ℕ → Result (List Derived) F
-collect_at each lines [] = Ok []
-collect_at each lines (j ∷ places) = followed_by (found_result each j (slice_get lines j)) (collect_at each lines places)
-
--- 1 where the line that is found passes the test
-abbrev pub found_count : (LineParts → Bool) → Option Derived → ℕ
-found_count test (Some t) = if test t.line then 1 else 0
-found_count test None = 0
-
--- how many of the lines at these places pass the test
-abbrev pub count_at : (LineParts → Bool) → List Derived → List ℕ → ℕ
-count_at test lines [] = 0
-count_at test lines (j ∷ places) = found_count test (slice_get lines j) + count_at test lines places

@@ -1,4 +1,4 @@
-use Rattle.std.specs.Prelude.{◌≡◌, ℕ, ◌+◌, List, [], ◌∷◌, Option, Some, None, Result, Ok, Err, IsTrue}
+use Rattle.std.specs.Prelude.{◌≡◌, ℕ, ◌+◌, List, [], ◌∷◌, Result, Ok, Err, IsTrue}
 use Rattle.std.specs.List.{filter, fold}
 use Rattle.edit_model.specs.FieldSets.{has_number}
 use Rattle.edit_line.specs.EditSets.{EditsParts, base_lines}
@@ -34,11 +34,6 @@ fold_result lines (f ∷ fields) = next_result f (step_result lines f) (λ next.
 -- the derived system of the edits without these fields: the fold of the step over them, from the reduced edits
 abbrev pub system_of : List (ℕ × LineParts) → List ℕ → Result (List Derived) SystemOverflow
 system_of edits fields = fold_result (reduce_derived (base_lines edits)) fields
-
--- the lines of the fold so far: those that it begins with, until a step has made others
-abbrev pub so_far : {V : Type 0} → (V → List Derived) → List Derived → Option V → List Derived
-so_far items base None = base
-so_far items base (Some lines) = items lines
 
 -- ---- how many pairs are combined
 

@@ -5,7 +5,7 @@ ghost use Rattle.edit_line.specs.Combinations.{all_meet};
 ghost use Rattle.edit_line.specs.Shapes.{domains_of};
 ghost use Rattle.edit_line.specs.declared.derived.Origin.TheVariants.{Pair};
 ghost use Rattle.linear_elim.specs.Combinations.{combine_result, is_lower, is_upper};
-ghost use Rattle.linear_elim.specs.Told.{told_combination};
+ghost use Rattle.linear_elim.specs.inner.ToldCombinations.{told_combination};
 
 use crate::column::Column;
 use edit_line::{Line, Origin, quotient};

@@ -4,13 +4,15 @@ ghost use Rattle.edit_model.specs.Points.{Point};
 ghost use Rattle.edit_line.specs.Lines.{AllHold, HaveShape};
 ghost use Rattle.edit_line.specs.Reductions.{AreOwn, lines_of, reduce_derived, with_derived};
 ghost use Rattle.edit_line.specs.Shapes.{Domain, IsNumerical, domains_of};
-ghost use Rattle.linear_elim.specs.Answers.{Answers, TakesIn};
+ghost use Rattle.linear_elim.specs.Answers.{Answers};
 ghost use Rattle.linear_elim.specs.Combinations.{is_lower, is_upper};
 ghost use Rattle.linear_elim.specs.Origins.{AllComeFrom};
 ghost use Rattle.linear_elim.specs.Overflows.{AllPairsFit, IsFirstOverflow};
 ghost use Rattle.linear_elim.specs.PointChanges.{CanHoldAt};
-ghost use Rattle.linear_elim.specs.Steps.{OneShape, collect, flat_from, found_count, found_result, is_opposite, pair_result, pairs_count, places_from, row_count, row_result, step_result};
+ghost use Rattle.linear_elim.specs.Steps.{OneShape, collect, flat_from, is_opposite, pair_result, pairs_count, row_count, row_result, step_result};
 ghost use Rattle.linear_elim.specs.Told.{told_step};
+ghost use Rattle.linear_elim.specs.inner.Taken.{TakesIn};
+ghost use Rattle.linear_elim.specs.inner.Uppers.{found_count, found_result, places_from};
 
 use crate::column::Column;
 use crate::combine::combine;

@@ -3,16 +3,18 @@ ghost use Rattle.std.specs.Arc.{arc_value};
 ghost use Rattle.std.specs.List.{filter};
 ghost use Rattle.edit_model.specs.FieldSets.{has_number};
 ghost use Rattle.edit_model.specs.Points.{Point};
-ghost use Rattle.edit_line.specs.Lines.{AllHold, HaveShape, IsLine};
+ghost use Rattle.edit_line.specs.Lines.{AllHold};
 ghost use Rattle.edit_line.specs.EditSets.{base_lines};
 ghost use Rattle.edit_line.specs.Reductions.{AreOwn, lines_of, reduce_derived};
 ghost use Rattle.edit_line.specs.Shapes.{domain_with, number_fields, numbers_from};
 ghost use Rattle.linear_elim.specs.Answers.{Answers};
 ghost use Rattle.linear_elim.specs.Overflows.{IsFoldOverflow};
+ghost use Rattle.linear_elim.specs.Parts.{IsMade, parts_of_system};
 ghost use Rattle.linear_elim.specs.PointChanges.{CanHoldIn};
 ghost use Rattle.linear_elim.specs.Steps.{OneShape};
-ghost use Rattle.linear_elim.specs.Systems.{AreNumerical, chosen_fields, fold_count, fold_result, so_far, system_at, system_count};
+ghost use Rattle.linear_elim.specs.Systems.{AreNumerical, chosen_fields, fold_count, fold_result, system_at, system_count};
 ghost use Rattle.linear_elim.specs.Told.{told_system};
+ghost use Rattle.linear_elim.specs.inner.FoldLines.{so_far};
 
 use crate::elimination::reduced_step;
 use crate::fault::{StepFault, SystemFault};
@@ -37,6 +39,7 @@ pub fn fold_system<L: Ledger>(
     ensures edits { IfOk result (λ system. system.edits ≡ arc_value edits.now) }
     ensures fields { IfOk result (λ system. system.fields ≡ fields) }
     ensures lifts { IfOk result (λ system. (p : Point) → AllHold (lines_of system.lines) p ↔ CanHoldIn (map (λ e. e.1) (arc_value edits.now).lines) (chosen_fields (arc_value edits.now).shape fields) p) }
+    ensures made { IfOk result (λ system. IsMade system) }
     ensures exact { Answers (λ system. system.lines) told_system result (system_at (arc_value edits.now) fields) }
     ensures overflow { IfErr result (λ fault. IfSome (told_system fault) (λ o. IsFoldOverflow (reduce_derived (base_lines (arc_value edits.now).lines)) (chosen_fields (arc_value edits.now).shape fields) o)) }
     ensures counted { OnOk result (steps.new ≡ steps.old + system_count (arc_value edits.now).lines (chosen_fields (arc_value edits.now).shape fields)) }
@@ -62,9 +65,9 @@ fn fold_lines<L: Ledger>(
     fields: FieldSet,
     steps: &mut Steps<L>,
 ) -> Result<Vec<Derived>, SystemFault>
+    requires { AreNumerical edits.now.shape fields }
     ensures exact { Answers (λ v. v.items) told_system result (system_at edits.now fields) }
-    ensures over { IfOk result (λ v. HaveShape edits.now.shape (lines_of v.items)) }
-    ensures lifts { IfOk result (λ v. (p : Point) → AllHold (lines_of v.items) p ↔ CanHoldIn (map (λ e. e.1) edits.now.lines) (chosen_fields edits.now.shape fields) p) }
+    ensures made { IfOk result (λ v. IsMade (parts_of_system edits.now fields v.items)) }
     ensures counted { OnOk result (steps.new ≡ steps.old + system_count edits.now.lines (chosen_fields edits.now.shape fields)) }
     ensures few { steps.new ≤ steps.old + system_count edits.now.lines (chosen_fields edits.now.shape fields) }
 {

@@ -1,6 +1,7 @@
 ghost use Rattle.std.specs.Prelude.{◌≡◌};
 ghost use Rattle.std.specs.Arc.{arc_value};
-ghost use Rattle.linear_elim.specs.Parts.{IsOver, Lifts, parts_of_system};
+ghost use Rattle.linear_elim.specs.Origins.{HaveOrigins};
+ghost use Rattle.linear_elim.specs.Parts.{IsFlat, IsMade, IsOver, Lifts, parts_of_system};
 ghost use Rattle.linear_elim.specs.Systems.{IsSystem};
 
 use edit_line::{Derived, Edits};
@@ -19,24 +20,20 @@ pub struct System {
 
 impl Model for System {
     ghost use Rattle.std.specs.Arc.{arc_value};
-    ghost use Rattle.linear_elim.specs.Parts.{IsOver, Lifts, parts_of_system};
-    ghost use Rattle.linear_elim.specs.Systems.{IsSystem, SystemParts};
+    ghost use Rattle.linear_elim.specs.Parts.{IsMade, parts_of_system};
+    ghost use Rattle.linear_elim.specs.Systems.{SystemParts};
 
     ghost Value = { SystemParts };
 
     ghost view = { λ s. parts_of_system (arc_value s.edits) s.fields s.lines.items };
 
-    ghost invariant = { λ s. IsSystem (parts_of_system (arc_value s.edits) s.fields s.lines.items)
-        × IsOver (parts_of_system (arc_value s.edits) s.fields s.lines.items)
-        × Lifts (parts_of_system (arc_value s.edits) s.fields s.lines.items) };
+    ghost invariant = { λ s. IsMade (parts_of_system (arc_value s.edits) s.fields s.lines.items) };
 }
 
 impl System {
     /// The system of these edits, fields and lines. No memory.
     pub(crate) fn of(edits: Arc<Edits>, fields: FieldSet, lines: Vec<Derived>) -> System
-        requires system { IsSystem (parts_of_system (arc_value edits) fields lines.items) }
-        requires over { IsOver (parts_of_system (arc_value edits) fields lines.items) }
-        requires lifts { Lifts (parts_of_system (arc_value edits) fields lines.items) }
+        requires { IsMade (parts_of_system (arc_value edits) fields lines.items) }
         ensures { result ≡ parts_of_system (arc_value edits) fields lines.items }
     {
         System {
@@ -66,6 +63,8 @@ impl System {
         ensures system { IsSystem self.now }
         ensures over { IsOver self.now }
         ensures lifts { Lifts self.now }
+        ensures flat { IsFlat self.now }
+        ensures origins { HaveOrigins self.now }
     {
         self.lines.as_slice()
     }

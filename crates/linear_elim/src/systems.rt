@@ -62,7 +62,14 @@ impl Systems for Recompute {
         edits: &Arc<Edits>,
         fields: FieldSet,
         steps: &mut Steps<L>,
-    ) -> Result<Held, SystemFault> {
+    ) -> Result<Held, SystemFault>
+        requires { AreNumerical (arc_value edits.now).shape fields }
+        ensures edits { IfOk result (λ held. (system_held held).edits ≡ arc_value edits.now) }
+        ensures fields { IfOk result (λ held. (system_held held).fields ≡ fields) }
+        ensures exact { Answers (λ held. (system_held held).lines) told_system result (system_at (arc_value edits.now) fields) }
+        ensures counted { OnOk result (steps.new ≡ steps.old + system_count (arc_value edits.now).lines (chosen_fields (arc_value edits.now).shape fields)) }
+        ensures few { steps.new ≤ steps.old + system_count (arc_value edits.now).lines (chosen_fields (arc_value edits.now).shape fields) }
+    {
         match fold_system(alloc, edits, fields, steps) {
             Ok(system) => Ok(Held::Own(system)),
             Err(fault) => Err(fault),

@@ -1,13 +1,12 @@
-ghost use Rattle.std.specs.Prelude.{◌≡◌, ◌<◌, [], ◌∷◌, ℕ, All, IfOk, OnOk, length, true};
+ghost use Rattle.std.specs.Prelude.{◌≡◌, ◌<◌, ◌∷◌, [], ℕ, All, IfOk, length, true};
 ghost use Rattle.std.specs.Arc.{arc_value};
 ghost use Rattle.edit_model.specs.FieldSets.{has_number};
 ghost use Rattle.fraction128.specs.Range.{InRange};
-ghost use Rattle.edit_line.specs.EditSets.{AreEdits};
 ghost use Rattle.edit_line.specs.Shapes.{Numerical, domain_of, shape_of};
-ghost use Rattle.linear_elim.specs.SixNumbers.{six_numbers};
+ghost use Rattle.linear_elim.specs.inner.EightNumbers.{eight_numbers};
 
-use crate::{Held, Recompute, StepFault, SystemFault, Systems, pairs};
-use edit_line::{Edits, Line, Origin, Place};
+use crate::{Held, Recompute, StepFault, SystemFault, Systems, pairs, step};
+use edit_line::{Derived, Edits, Line, Origin, Place};
 use edit_model::{Field, FieldSet, Kind, Name, Survey};
 use foundation::Steps;
 use std::alloc::Global;
@@ -16,8 +15,11 @@ use std::sync::Arc;
 use std::sync::ledger::{Blank, Ledger};
 use std::test::Fail;
 
-/// A line over six numerical fields: its factors, its constant, and whether it has to be above 0.
-type Row = ([i128; 6], i128, bool);
+/// A line over eight numerical fields: its factors, and its constant. It has to be at least 0.
+type Row = ([i128; 8], i128);
+
+/// Rows, the fields that are eliminated, and the lines that are left, with their origins.
+type Case = (&'static [Row], &'static [u32], &'static [(Row, Origin)]);
 
 /// A numerical field.
 fn number(name: &[u8]) -> Result<Field, Fail>
@@ -30,9 +32,9 @@ fn number(name: &[u8]) -> Result<Field, Fail>
     })
 }
 
-/// A survey of six numerical fields.
-fn survey_of_six(alloc: Global) -> Result<Survey, Fail>
-    ensures { IfOk result (λ survey. shape_of survey.fields ≡ six_numbers) }
+/// A survey of eight numerical fields.
+fn survey_of_eight(alloc: Global) -> Result<Survey, Fail>
+    ensures { IfOk result (λ survey. shape_of survey.fields ≡ eight_numbers) }
 {
     let fields = vec![in alloc;
         number(b"A")?,
@@ -41,6 +43,8 @@ fn survey_of_six(alloc: Global) -> Result<Survey, Fail>
         number(b"D")?,
         number(b"E")?,
         number(b"F")?,
+        number(b"G")?,
+        number(b"H")?,
     ]?;
     Ok(
         Survey::new(alloc, fields, Vec::new(alloc))
@@ -49,40 +53,44 @@ fn survey_of_six(alloc: Global) -> Result<Survey, Fail>
     )
 }
 
-/// The line of a row.
-fn line_of(alloc: Global, survey: &Survey, row: &Row) -> Result<Line, Fail>
-    requires { shape_of survey.now.fields ≡ six_numbers }
-    ensures { IfOk result (λ line. line.shape ≡ six_numbers) }
+/// Whether the number is in range.
+fn is_in_range(number: i128) -> bool
+    ensures { result ≡ true → InRange number }
 {
-    let ([a, b, c, d, e, f], constant, strict) = *row;
-    let factors = vec![in alloc;
-        in_range(a)?,
-        in_range(b)?,
-        in_range(c)?,
-        in_range(d)?,
-        in_range(e)?,
-        in_range(f)?,
-    ]?;
-    let constant = in_range(constant)?;
-    Ok(Line::new(survey, Vec::new(alloc), factors, constant, strict))
+    number != i128::MIN
 }
 
-/// The number, if it is in range.
-fn in_range(number: i128) -> Result<i128, Fail>
-    ensures { IfOk result (λ n. InRange n) }
+/// Whether the numbers are in range.
+fn are_in_range(numbers: &[i128]) -> bool
+    ensures { result ≡ true → All InRange numbers.now }
 {
-    if number == i128::MIN {
-        return Err(Fail::from("a number in range"));
+    for number in numbers {
+        if !is_in_range(*number) {
+            return false;
+        }
     }
-    Ok(number)
+    true
+}
+
+/// The line of a row.
+fn line_of(alloc: Global, survey: &Survey, row: &Row) -> Result<Line, Fail>
+    requires { shape_of survey.now.fields ≡ eight_numbers }
+    ensures { IfOk result (λ line. line.shape ≡ eight_numbers) }
+{
+    let (numbers, constant) = row;
+    if !are_in_range(numbers) || !is_in_range(*constant) {
+        return Err(Fail::from("numbers in range"));
+    }
+    let factors = Vec::from_slice(alloc, numbers)?;
+    Ok(Line::new(survey, Vec::new(alloc), factors, *constant, false))
 }
 
 /// The edits of these rows, numbered from 0.
 fn edits_of(alloc: Global, rows: &[Row]) -> Result<Arc<Edits>, Fail>
     requires { length rows.now < 100 }
-    ensures { IfOk result (λ edits. (arc_value edits).shape ≡ six_numbers) }
+    ensures { IfOk result (λ edits. (arc_value edits).shape ≡ eight_numbers) }
 {
-    let survey = survey_of_six(alloc)?;
+    let survey = survey_of_eight(alloc)?;
     let mut lines = Vec::new(alloc);
     for (i, row) in rows.iter().enumerate() {
         lines.push((i as u32, line_of(alloc, &survey, row)?))?;
@@ -92,15 +100,17 @@ fn edits_of(alloc: Global, rows: &[Row]) -> Result<Arc<Edits>, Fail>
 }
 
 /// The set of these fields.
-fn set_of(fields: &[u32]) -> FieldSet
-    requires { All (λ f. f < 6) fields.now }
-    ensures { (f : ℕ) → has_number result f ≡ true → f < 6 }
+fn set_of(fields: &[u32]) -> Result<FieldSet, Fail>
+    ensures { IfOk result (λ set. (f : ℕ) → has_number set f ≡ true → f < 8) }
 {
     let mut set = FieldSet::empty();
     for field in fields {
+        if *field >= 8 {
+            return Err(Fail::from("a field"));
+        }
         set = set.with(*field);
     }
-    set
+    Ok(set)
 }
 
 /// What the plain source answers for these edits and fields.
@@ -114,187 +124,220 @@ fn folded<L: Ledger>(
     requires parts { blank.parts ≡ L.parts }
     requires counts { 0 < blank.parts }
     requires few { length rows.now < 100 }
-    requires fields { All (λ f. f < 6) fields.now }
 {
     let edits = edits_of(alloc, rows)?;
     let mut steps = Steps::<L>::start(blank);
-    Ok(Recompute.system(alloc, &edits, set_of(fields), &mut steps))
+    Ok(Recompute.system(alloc, &edits, set_of(fields)?, &mut steps))
 }
 
 /// The same, where nothing is counted.
 fn system_of(alloc: Global, rows: &[Row], fields: &[u32]) -> Result<Result<Held, SystemFault>, Fail>
-    requires few { length rows.now < 100 }
-    requires fields { All (λ f. f < 6) fields.now }
+    requires { length rows.now < 100 }
 {
     folded::<Brand>(alloc, rows, fields, Blank::new(1))
 }
 
-/// Whether the system has exactly these lines.
-fn has_lines(held: &Held, rows: &[Row]) -> bool {
+/// The pairs that a step from the rows combines at the field, and what it gives.
+fn stepped(
+    alloc: Global,
+    rows: &[Row],
+    field: u32,
+) -> Result<(u128, Result<Vec<Derived>, StepFault>), Fail>
+    requires { length rows.now < 100 }
+{
+    let held = system_of(alloc, rows, &[])?.ok().ok_or("edits")?;
     let lines = held.system().lines();
-    lines.len() == rows.len()
-        && lines.iter().zip(rows).all(|(derived, (factors, constant, strict))| {
+    Ok((pairs(lines, field), step(alloc, lines, field)))
+}
+
+/// Whether these are the lines, with their origins.
+fn are_lines(lines: &[Derived], wanted: &[(Row, Origin)]) -> bool {
+    lines.len() == wanted.len()
+        && lines.iter().zip(wanted).all(|(derived, ((factors, constant), origin))| {
             derived.line.factors() == factors.as_slice()
                 && derived.line.constant() == *constant
-                && derived.line.strict() == *strict
+                && derived.origin == *origin
         })
 }
 
-/// Whether the system's lines have exactly these origins.
-fn has_origins(held: &Held, origins: &[Origin]) -> bool {
-    let lines = held.system().lines();
-    lines.len() == origins.len()
-        && lines
-            .iter()
-            .zip(origins)
-            .all(|(derived, origin)| derived.origin == *origin)
-}
-
-/// The pairs that the step combines at Costs in the one system, and at Profit in the other.
-fn pair_counts(first: &Held, second: &Held) -> (u128, u128) {
-    (
-        pairs(first.system().lines(), 1),
-        pairs(second.system().lines(), 2),
+/// Whether the system of a case has the wanted lines.
+fn is_folded(alloc: Global, case: &Case) -> Result<bool, Fail> {
+    let (rows, fields, wanted) = case;
+    if rows.len() >= 100 {
+        return Err(Fail::from("few rows"));
+    }
+    let held = system_of(alloc, rows, fields)?.ok().ok_or("a system")?;
+    let system = held.system();
+    Ok(
+        are_lines(system.lines(), wanted)
+            && system.fields() == set_of(fields)?
+            && system.edits().lines().len() == rows.len(),
     )
 }
 
 /// Turnover, Costs, Profit: `Turnover >= 0`, `Costs >= 0`, `Turnover - Costs - Profit = 0`,
 /// `10 Profit <= 6 Turnover`.
-const TRADE: [Row; 5] = [
-    ([1, 0, 0, 0, 0, 0], 0, false),
-    ([0, 1, 0, 0, 0, 0], 0, false),
-    ([1, -1, -1, 0, 0, 0], 0, false),
-    ([-1, 1, 1, 0, 0, 0], 0, false),
-    ([3, 0, -5, 0, 0, 0], 0, false),
+const TRADE: &[Row] = &[
+    ([1, 0, 0, 0, 0, 0, 0, 0], 0),
+    ([0, 1, 0, 0, 0, 0, 0, 0], 0),
+    ([1, -1, -1, 0, 0, 0, 0, 0], 0),
+    ([-1, 1, 1, 0, 0, 0, 0, 0], 0),
+    ([3, 0, -5, 0, 0, 0, 0, 0], 0),
 ];
 
-#[test]
-fn the_trade_survey_without_costs(rt: HostRuntime) -> Result<(), Fail> {
-    let alloc = rt.alloc();
-    let held = system_of(alloc, &TRADE, &[1])?.ok().ok_or("a system")?;
-    assert!(rt;
-        has_lines(
-            &held,
-            &[
-                ([1, 0, 0, 0, 0, 0], 0, false),
-                ([3, 0, -5, 0, 0, 0], 0, false),
-                ([1, 0, -1, 0, 0, 0], 0, false),
-            ]
-        )
-    );
-    assert_eq!(rt; held.system().fields(), set_of(&[1]));
-    assert_eq!(rt; held.system().edits().lines().len(), TRADE.len());
-    let both = system_of(alloc, &TRADE, &[1, 2])?.ok().ok_or("a system")?;
-    assert!(rt; has_lines(&both, &[([1, 0, 0, 0, 0, 0], 0, false)]));
-    Ok(())
-}
+/// `A >= 2 B`, `3 B >= C`, `2 C >= D`, `D >= 6`.
+const CHAIN: &[Row] = &[
+    ([1, -2, 0, 0, 0, 0, 0, 0], 0),
+    ([0, 3, -1, 0, 0, 0, 0, 0], 0),
+    ([0, 0, 2, -1, 0, 0, 0, 0], 0),
+    ([0, 0, 0, 1, 0, 0, 0, 0], -6),
+];
 
-#[test]
-fn the_trade_survey_combines_two_pairs_at_costs(rt: HostRuntime) -> Result<(), Fail> {
-    let alloc = rt.alloc();
-    let none = system_of(alloc, &TRADE, &[])?.ok().ok_or("a system")?;
-    assert!(rt; has_lines(&none, &TRADE));
-    let costs = system_of(alloc, &TRADE, &[1])?.ok().ok_or("a system")?;
-    assert_eq!(rt; pair_counts(&none, &costs), (2, 0));
-    Ok(())
-}
-
-#[test]
-fn a_number_above_0_and_not_above_0_is_a_false_line(rt: HostRuntime) -> Result<(), Fail> {
-    let alloc = rt.alloc();
-    let rows = [
-        ([1, 0, 0, 0, 0, 0], 0, true),
-        ([-1, 0, 0, 0, 0, 0], 0, false),
-    ];
-    let held = system_of(alloc, &rows, &[0])?.ok().ok_or("a system")?;
-    assert!(rt; has_lines(&held, &[([0, 0, 0, 0, 0, 0], 0, true)]));
-    Ok(())
-}
-
-#[test]
-fn three_fields_are_eliminated_with_origins(rt: HostRuntime) -> Result<(), Fail> {
-    let alloc = rt.alloc();
-    // A >= 2 B, 3 B >= C, 2 C >= D, D >= 6
-    let rows = [
-        ([1, -2, 0, 0, 0, 0], 0, false),
-        ([0, 3, -1, 0, 0, 0], 0, false),
-        ([0, 0, 2, -1, 0, 0], 0, false),
-        ([0, 0, 0, 1, 0, 0], -6, false),
-    ];
-    let one = system_of(alloc, &rows, &[1])?.ok().ok_or("a system")?;
-    assert!(rt;
-        has_lines(
-            &one,
-            &[
-                ([0, 0, 2, -1, 0, 0], 0, false),
-                ([0, 0, 0, 1, 0, 0], -6, false),
-                ([3, 0, -2, 0, 0, 0], 0, false),
-            ]
-        )
-    );
-    assert!(rt;
-        has_origins(
-            &one,
-            &[
-                Origin::Same(2),
-                Origin::Same(3),
+const CASES: &[Case] = &[
+    (
+        CHAIN,
+        &[],
+        &[
+            (([1, -2, 0, 0, 0, 0, 0, 0], 0), Origin::Base(0)),
+            (([0, 3, -1, 0, 0, 0, 0, 0], 0), Origin::Base(1)),
+            (([0, 0, 2, -1, 0, 0, 0, 0], 0), Origin::Base(2)),
+            (([0, 0, 0, 1, 0, 0, 0, 0], -6), Origin::Base(3)),
+        ],
+    ),
+    (
+        CHAIN,
+        &[1],
+        &[
+            (([0, 0, 2, -1, 0, 0, 0, 0], 0), Origin::Same(2)),
+            (([0, 0, 0, 1, 0, 0, 0, 0], -6), Origin::Same(3)),
+            (
+                ([3, 0, -2, 0, 0, 0, 0, 0], 0),
                 Origin::Pair {
                     a: 1,
                     m: 2,
                     b: 0,
                     n: 3,
-                    g: 1
+                    g: 1,
                 },
-            ]
-        )
-    );
-    let three = system_of(alloc, &rows, &[3, 1, 2])?.ok().ok_or("a system")?;
-    assert!(rt; has_lines(&three, &[([1, 0, 0, 0, 0, 0], -2, false)]));
-    assert!(rt;
-        has_origins(
-            &three,
-            &[Origin::Pair {
+            ),
+        ],
+    ),
+    (
+        CHAIN,
+        &[3, 1, 2],
+        &[(
+            ([1, 0, 0, 0, 0, 0, 0, 0], -2),
+            Origin::Pair {
                 a: 0,
                 m: 1,
                 b: 1,
                 n: 1,
-                g: 3
-            }]
+                g: 3,
+            },
+        )],
+    ),
+    (
+        TRADE,
+        &[1, 2],
+        &[(([1, 0, 0, 0, 0, 0, 0, 0], 0), Origin::Same(0))],
+    ),
+];
+
+#[test]
+fn fields_are_eliminated(rt: HostRuntime) -> Result<(), Fail> {
+    for (i, case) in CASES.iter().enumerate() {
+        assert!(rt; is_folded(rt.alloc(), case)?, "case {i}");
+    }
+    Ok(())
+}
+
+#[test]
+fn a_step_from_the_trade_survey(rt: HostRuntime) -> Result<(), Fail> {
+    let (count, left) = stepped(rt.alloc(), TRADE, 1)?;
+    assert_eq!(rt; count, 2);
+    let lines = left.ok().ok_or("lines")?;
+    assert!(rt;
+        are_lines(
+            &lines,
+            &[
+                (([1, 0, 0, 0, 0, 0, 0, 0], 0), Origin::Same(0)),
+                (([3, 0, -5, 0, 0, 0, 0, 0], 0), Origin::Same(4)),
+                (
+                    ([1, 0, -1, 0, 0, 0, 0, 0], 0),
+                    Origin::Pair {
+                        a: 1,
+                        m: 1,
+                        b: 2,
+                        n: 1,
+                        g: 1
+                    }
+                ),
+            ]
         )
     );
     Ok(())
 }
 
+/// `10^30`.
+const LARGE: i128 = 1_000_000_000_000_000_000_000_000_000_000;
+
+/// Seven fields that are at least 0, `G + 10^30 H >= 0`, and `H >= 10^9 G`.
+const FAR_FACTOR: &[Row] = &[
+    ([1, 0, 0, 0, 0, 0, 0, 0], 0),
+    ([0, 1, 0, 0, 0, 0, 0, 0], 0),
+    ([0, 0, 1, 0, 0, 0, 0, 0], 0),
+    ([0, 0, 0, 1, 0, 0, 0, 0], 0),
+    ([0, 0, 0, 0, 1, 0, 0, 0], 0),
+    ([0, 0, 0, 0, 0, 1, 0, 0], 0),
+    ([0, 0, 0, 0, 0, 0, 0, 1], 0),
+    ([0, 0, 0, 0, 0, 0, 1, LARGE], 0),
+    ([0, 0, 0, 0, 0, 0, -1_000_000_000, 1], 0),
+];
+
+/// The same with `G + 10^30 >= 0`.
+const FAR_CONSTANT: &[Row] = &[
+    ([1, 0, 0, 0, 0, 0, 0, 0], 0),
+    ([0, 1, 0, 0, 0, 0, 0, 0], 0),
+    ([0, 0, 1, 0, 0, 0, 0, 0], 0),
+    ([0, 0, 0, 1, 0, 0, 0, 0], 0),
+    ([0, 0, 0, 0, 1, 0, 0, 0], 0),
+    ([0, 0, 0, 0, 0, 1, 0, 0], 0),
+    ([0, 0, 0, 0, 0, 0, 0, 1], 0),
+    ([0, 0, 0, 0, 0, 0, 1, 0], LARGE),
+    ([0, 0, 0, 0, 0, 0, -1_000_000_000, 1], 0),
+];
+
 #[test]
-fn a_chain_of_large_factors_overflows_at_its_last_field(rt: HostRuntime) -> Result<(), Fail> {
+fn a_far_number_out_of_range_is_told(rt: HostRuntime) -> Result<(), Fail> {
     let alloc = rt.alloc();
-    let rows = [
-        ([999_999_999, -1_000_000_000, 0, 0, 0, 0], 0, false),
-        ([0, 999_999_999, -1_000_000_000, 0, 0, 0], 0, false),
-        ([0, 0, 999_999_999, -1_000_000_000, 0, 0], 0, false),
-        ([0, 0, 0, 999_999_999, -1_000_000_000, 0], 0, false),
-        ([0, 0, 0, 0, 999_999_999, -1_000_000_000], 0, false),
-    ];
-    let fault = system_of(alloc, &rows, &[1, 2, 3, 4])?
-        .err()
-        .ok_or("an overflow")?;
-    assert_eq!(rt;
-        fault,
-        SystemFault::Overflow {
-            field: 4,
-            first: 0,
-            second: 1,
-            place: Place::Field(0),
-        }
-    );
-    let text = format!(in alloc; "{fault}")?;
-    assert_eq!(rt; text.as_str(), "a number of a combination is out of range");
-    let step = StepFault::Overflow {
-        first: 0,
-        second: 1,
+    let (first, second) = (7, 8);
+    let factor = StepFault::Overflow {
+        first,
+        second,
+        place: Place::Field(7),
+    };
+    let constant = StepFault::Overflow {
+        first,
+        second,
         place: Place::Constant,
     };
-    let text = format!(in alloc; "{step}")?;
-    assert_eq!(rt; text.as_str(), "a number of a combination is out of range");
+    assert_eq!(rt; stepped(alloc, FAR_FACTOR, 6)?.1.err(), Some(factor));
+    assert_eq!(rt; stepped(alloc, FAR_CONSTANT, 6)?.1.err(), Some(constant));
+    Ok(())
+}
+
+#[test]
+fn a_far_field_with_such_a_number_is_told(rt: HostRuntime) -> Result<(), Fail> {
+    // without A each later line stands one place earlier
+    let fault = SystemFault::Overflow {
+        field: 6,
+        first: 6,
+        second: 7,
+        place: Place::Field(7),
+    };
+    assert_eq!(rt;
+        system_of(rt.alloc(), FAR_FACTOR, &[0, 6])?.err(),
+        Some(fault)
+    );
     Ok(())
 }

@@ -1,6 +1,7 @@
 ghost use Rattle.std.specs.Prelude.{◌≡◌, [], ◌∷◌, All, IfOk};
 ghost use Rattle.fraction128.specs.Range.{InRange};
-ghost use Rattle.edit_line.specs.Shapes.{Categorical, Numerical, shape_of};
+ghost use Rattle.edit_line.specs.Shapes.{Categorical, Numerical, domain_of, shape_of};
+ghost use Rattle.categ_combine.specs.inner.EightFields.{eight_fields};
 
 use crate::tests::plan::are_boxes;
 use crate::{BoxFault, BoxFrom, boxes_of};
@@ -14,26 +15,49 @@ use std::test::Fail;
 /// The greatest number in range.
 const MOST: i128 = i128::MAX;
 
-/// A survey of a numerical field and a field of two codes.
-fn survey_of_two(alloc: Global) -> Result<Survey, Fail>
-    ensures { IfOk result (λ survey. shape_of survey.fields ≡ Numerical ∷ Categorical 2 ∷ []) }
+fn name(bytes: &[u8]) -> Result<Name, Fail> {
+    Ok(Name::new(bytes).ok_or("a name")?)
+}
+
+/// A numerical field.
+fn number(bytes: &[u8]) -> Result<Field, Fail>
+    ensures { IfOk result (λ field. domain_of field.kind ≡ Numerical) }
 {
-    let mut codes = Vec::new(alloc);
-    codes.push(Name::new(b"x").ok_or("a name")?)?;
-    codes.push(Name::new(b"y").ok_or("a name")?)?;
-    let mut fields = Vec::new(alloc);
-    fields.push(Field {
-        name: Name::new(b"A").ok_or("a name")?,
+    Ok(Field {
+        name: name(bytes)?,
         weight: 1,
         kind: Kind::Number { scale: 1 },
-    })?;
-    fields.push(Field {
-        name: Name::new(b"C").ok_or("a name")?,
+    })
+}
+
+/// A field of two codes.
+fn two_codes(alloc: Global) -> Result<Field, Fail>
+    ensures { IfOk result (λ field. domain_of field.kind ≡ Categorical 2) }
+{
+    let codes = vec![in alloc; name(b"x")?, name(b"y")?]?;
+    Ok(Field {
+        name: name(b"H")?,
         weight: 1,
         kind: Kind::Code {
             codes: Sequence::from_vec(codes),
         },
-    })?;
+    })
+}
+
+/// A survey of a field of two codes and seven numerical ones.
+fn survey_of_eight(alloc: Global) -> Result<Survey, Fail>
+    ensures { IfOk result (λ survey. shape_of survey.fields ≡ eight_fields) }
+{
+    let fields = vec![in alloc;
+        two_codes(alloc)?,
+        number(b"A")?,
+        number(b"B")?,
+        number(b"C")?,
+        number(b"D")?,
+        number(b"E")?,
+        number(b"F")?,
+        number(b"G")?,
+    ]?;
     Ok(
         Survey::new(alloc, fields, Vec::new(alloc))
             .ok()
@@ -41,7 +65,8 @@ fn survey_of_two(alloc: Global) -> Result<Survey, Fail>
     )
 }
 
-/// A line on the two fields: where the code is in the set, `factor * A + constant` is at least 0.
+/// A line on the field of codes and the last numerical one: where the code is in the set,
+/// `factor * G + constant` is at least 0.
 #[derive(Clone, Copy, Debug)]
 struct LinePlan {
     set: u64,
@@ -49,17 +74,24 @@ struct LinePlan {
     constant: i128,
 }
 
+/// The plan of these parts.
+const fn plan(set: u64, factor: i128, constant: i128) -> LinePlan {
+    LinePlan {
+        set,
+        factor,
+        constant,
+    }
+}
+
 fn line_of(alloc: Global, survey: &Survey, plan: LinePlan) -> Result<Derived, Fail>
-    requires { shape_of survey.now.fields ≡ Numerical ∷ Categorical 2 ∷ [] }
+    requires { shape_of survey.now.fields ≡ eight_fields }
     ensures { IfOk result (λ derived. derived.line.shape ≡ shape_of survey.now.fields) }
 {
     if plan.set == 0 || plan.set > 3 || plan.factor == i128::MIN || plan.constant == i128::MIN {
         return Err("a line")?;
     }
-    let mut sets = Vec::new(alloc);
-    sets.push(plan.set)?;
-    let mut factors = Vec::new(alloc);
-    factors.push(plan.factor)?;
+    let sets = vec![in alloc; plan.set]?;
+    let factors = vec![in alloc; 0, 0, 0, 0, 0, 0, plan.factor]?;
     Ok(Derived {
         line: Line::new(survey, sets, factors, plan.constant, false),
         origin: Origin::Base(1),
@@ -67,7 +99,7 @@ fn line_of(alloc: Global, survey: &Survey, plan: LinePlan) -> Result<Derived, Fa
 }
 
 fn lines_of(alloc: Global, survey: &Survey, plans: &[LinePlan]) -> Result<Vec<Derived>, Fail>
-    requires { shape_of survey.now.fields ≡ Numerical ∷ Categorical 2 ∷ [] }
+    requires { shape_of survey.now.fields ≡ eight_fields }
     ensures { IfOk result (λ lines. All (λ derived. derived.line.shape ≡ shape_of survey.now.fields) lines.items) }
 {
     let mut lines = Vec::new(alloc);
@@ -77,66 +109,36 @@ fn lines_of(alloc: Global, survey: &Survey, plans: &[LinePlan]) -> Result<Vec<De
     Ok(lines)
 }
 
-/// The boxes of the lines where A has the value.
-fn boxes_at(
-    alloc: Global,
-    plans: &[LinePlan],
-    value: i128,
-) -> Result<Result<Vec<BoxFrom>, BoxFault>, Fail>
-    requires { InRange value }
-{
-    let survey = survey_of_two(alloc)?;
+/// The boxes of the lines where each number is 2.
+fn boxes_at_two(alloc: Global, plans: &[LinePlan]) -> Result<Result<Vec<BoxFrom>, BoxFault>, Fail> {
+    let survey = survey_of_eight(alloc)?;
     let lines = lines_of(alloc, &survey, plans)?;
-    let mut values = Vec::new(alloc);
-    values.push(Value::Number(Fraction::whole(value)))?;
-    values.push(Value::Bad)?;
+    let two = Value::Number(Fraction::whole(2));
+    let values = vec![in alloc; Value::Bad, two, two, two, two, two, two, two]?;
     let row = Row::new(&survey, values);
     Ok(boxes_of(alloc, &survey, &lines, &row))
 }
 
 #[test]
 fn failing_lines_make_boxes(rt: HostRuntime) -> Result<(), Fail> {
-    let alloc = rt.alloc();
-    let plan = |set, factor, constant| LinePlan {
-        set,
-        factor,
-        constant,
-    };
-    // at A = 2: the second line holds, and the box of the first lies inside that of the third
+    // the second line holds, and the box of the first lies inside that of the third
     let lines = [
         plan(1, -1, 1),
         plan(2, 1, 0),
         plan(3, 1, -3),
         plan(2, 0, -1),
     ];
-    match boxes_at(alloc, &lines, 2)? {
-        Ok(boxes) => assert!(rt; are_boxes(&boxes, &[(&[3], b'F', &[2])])),
-        Err(_) => assert!(rt; false),
-    }
-    let apart = [plan(1, -1, 1), plan(2, 0, -1)];
-    match boxes_at(alloc, &apart, 2)? {
-        Ok(boxes) => assert!(rt; are_boxes(&boxes, &[(&[1], b'F', &[0]), (&[2], b'F', &[1])])),
-        Err(_) => assert!(rt; false),
-    }
+    let boxes = boxes_at_two(rt.alloc(), &lines)?.ok().ok_or("boxes")?;
+    assert!(rt; are_boxes(&boxes, &[(&[3], b'F', &[2])]));
     Ok(())
 }
 
 #[test]
-fn the_first_line_out_of_range_is_told(rt: HostRuntime) -> Result<(), Fail> {
-    let alloc = rt.alloc();
-    let far = LinePlan {
-        set: 3,
-        factor: MOST,
-        constant: 1,
-    };
-    let near = LinePlan {
-        set: 3,
-        factor: 1,
-        constant: 1,
-    };
-    let first = BoxFault::Overflow { line: 0, field: 0 };
-    let second = BoxFault::Overflow { line: 1, field: 0 };
-    assert_eq!(rt; boxes_at(alloc, &[far], 2)?.err(), Some(first));
-    assert_eq!(rt; boxes_at(alloc, &[near, far, far], 2)?.err(), Some(second));
+fn a_far_line_out_of_range_is_told(rt: HostRuntime) -> Result<(), Fail> {
+    let near = plan(3, 1, 1);
+    let far = plan(3, MOST, 1);
+    let lines = [near, near, near, near, near, near, far, far];
+    let fault = boxes_at_two(rt.alloc(), &lines)?.err();
+    assert_eq!(rt; fault, Some(BoxFault::Overflow { line: 6, field: 7 }));
     Ok(())
 }

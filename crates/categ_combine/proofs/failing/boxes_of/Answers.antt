@@ -5,18 +5,24 @@ use Rattle.categ_combine.specs.BoxLists.{sets_of}
 use Rattle.categ_combine.specs.FailingBoxes.{failing_from}
 use Rattle.categ_combine.specs.declared.box_from.BoxFrom.{BoxFrom}
 use Rattle.categ_combine.proofs.AvoidLaws.{failing-avoids}
+use Rattle.categ_combine.proofs.BoxOrigins.{failing-comes}
 use Rattle.categ_combine.proofs.FailingLaws.{failing-end, failing-fault, failing-faults, failing-next, failing-sets}
 use Rattle.categ_combine.proofs.OverLaws.{over-failing}
 use Rattle.categ_combine.proofs.failing.boxes_of.Goals as goal
 
 pub returns-in-Err-clause-overflow : goal.returns-in-Err-clause-overflow
 returns-in-Err-clause-overflow c = λ line field told.
-    let first = failing-faults c.args.lines.now c.args.row.now (record { line = c.loop-i.i; field = c.in-Err.overflow.field }) (
-    sym c.loop-i.invariant ∙ failing-fault c.args.lines.now c.args.row.now c.loop-i.kept.items c.loop-i.i c.in-Err.overflow.field c.index-lines-i.result c.loop-i-test.true c.index-lines-i.is c.in-Err.ensures.overflow
-    ) in
+    let first = sym c.loop-i.invariant ∙ failing-fault c.args.lines.now c.args.row.now c.loop-i.kept.items c.loop-i.i c.in-Err.overflow.field c.index-lines-i.result c.loop-i-test.true c.index-lines-i.is c.in-Err.ensures.overflow in
     let same_line : c.loop-i.i ≡ line = cc in
     let same_field : c.in-Err.overflow.field ≡ field = cc in
     first ∙ ap (λ n. Err (record { line = n; field = c.in-Err.overflow.field })) same_line ∙ ap (λ n. Err (record { line = line; field = n })) same_field
+
+pub returns-in-Err-clause-overflow_sets : goal.returns-in-Err-clause-overflow_sets
+returns-in-Err-clause-overflow_sets c = λ line field told. failing-faults c.args.lines.now c.args.row.now (record { line = line; field = field }) (returns-in-Err-clause-overflow c line field told)
+
+pub returns-clause-origins : goal.returns-clause-origins
+returns-clause-origins c =
+    failing-comes c.args.lines.now c.args.row.now c.loop-i.kept.items (sym c.loop-i.invariant ∙ failing-end c.args.lines.now c.args.row.now c.loop-i.kept.items c.loop-i.i (omega arith))
 
 pub loop-i-preserved : goal.loop-i-preserved
 loop-i-preserved c =

@@ -1,5 +1,6 @@
 use Rattle.std.proofs.Common.{◌≡◌, take}
-use Rattle.categ_combine.specs.BoxLists.{AreBoxes, reduce_from}
+use Rattle.categ_combine.specs.BoxLists.{reduce_from}
+use Rattle.categ_combine.specs.inner.FitBoxes.{AreBoxes}
 use Rattle.categ_combine.specs.Each.{each_from}
 use Rattle.categ_combine.specs.Fixing.{fixed_one}
 use Rattle.categ_combine.proofs.fixing.fix_at.Given as goal

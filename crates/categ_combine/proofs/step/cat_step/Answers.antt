@@ -1,11 +1,14 @@
-use Rattle.std.proofs.Common.{◌≡◌, ◌<◌, ◌↔◌, ℕ, List, ap, arith, sym, subst, ◌∙◌}
+use Rattle.std.proofs.Common.{◌≡◌, ◌<◌, ◌↔◌, ℕ, All, List, ap, arith, sym, subst, ◌∙◌}
 use Rattle.edit_model.specs.Points.{Point}
 use Rattle.edit_line.specs.Shapes.{Domain, HasCodes, domains_of}
-use Rattle.categ_combine.specs.BoxLists.{AreBoxes, AreBoxesOver, Avoids, sets_of}
+use Rattle.categ_combine.specs.BoxLists.{AreBoxesOver, Avoids, sets_of}
+use Rattle.categ_combine.specs.inner.FitBoxes.{AreBoxes}
 use Rattle.edit_line.specs.CodeFields.{TakesCodes, size_of, with_code_at}
 use Rattle.categ_combine.specs.Covers.{cover_count, covered, covered_from}
+use Rattle.categ_combine.specs.Origins.{ComesFromCover}
 use Rattle.categ_combine.specs.Steps.{IsDone}
 use Rattle.categ_combine.specs.declared.box_from.BoxFrom.{BoxFrom}
+use Rattle.categ_combine.proofs.BoxOrigins.{covered-comes, done-comes}
 use Rattle.categ_combine.proofs.OriginLaws.{sets-covered}
 use Rattle.categ_combine.proofs.OverLaws.{done-over, over-covered}
 use Rattle.categ_combine.proofs.StepLaws.{done-same, done-sets, first-shape, if_ok, none-count, none-covered, none-first}
@@ -45,6 +48,23 @@ returns-in-Some-clause-over c =
     c.step_over.result (
     λ told are fit. λ shape over takes.
     done-over own shape boxes c.args.field (c.shape.ensures ∙ first-shape boxes c.in-Some.first.now shape c.in-Some.ensures.value over) over told are
+    ) c.step_over.ensures.exact c.step_over.ensures.fit
+
+pub returns-in-None-clause-origins : goal.returns-in-None-clause-origins
+returns-in-None-clause-origins c = λ shape over takes.
+    let none = none-first c.args.boxes.now c.in-None.ensures.value in
+    let exact : c.from_vec.result ≡ covered_from shape c.args.boxes.now c.args.field = cc (c.from_vec.ensures, c.new.ensures.items, none-covered shape c.args.field takes, ap (λ (bs : List BoxFrom). covered_from shape bs c.args.field) none) in
+    subst (λ bs. All (λ (b : BoxFrom). ComesFromCover shape c.args.boxes.now c.args.field b.code_box b.origin) bs) (sym exact) (covered-comes shape c.args.boxes.now c.args.field over takes)
+
+pub returns-in-Some-clause-origins : goal.returns-in-Some-clause-origins
+returns-in-Some-clause-origins c =
+    let boxes = c.args.boxes.now in
+    let own = domains_of c.shape.result.count c.shape.result.codes in
+    if_ok (λ told. IsDone told (λ left pairs. (left ≡ covered_from own boxes c.args.field) × (pairs ≡ cover_count own (sets_of boxes) c.args.field))) (λ told. IsDone told (λ left pairs. AreBoxes boxes))
+    (λ told. (shape : List Domain) → AreBoxesOver shape boxes → TakesCodes shape c.args.field → IsDone told (λ left pairs. All (λ (b : BoxFrom). ComesFromCover shape boxes c.args.field b.code_box b.origin) left))
+    c.step_over.result (
+    λ told are fit. λ shape over takes.
+    done-comes own shape boxes c.args.field (c.shape.ensures ∙ first-shape boxes c.in-Some.first.now shape c.in-Some.ensures.value over) over takes told are
     ) c.step_over.ensures.exact c.step_over.ensures.fit
 
 pub returns-in-Some-clause-sets : goal.returns-in-Some-clause-sets

@@ -1,5 +1,6 @@
 use Rattle.std.proofs.Common.{◌∙◌, refl, ap, arith, rules}
-use Rattle.linear_elim.specs.Steps.{collect, row_result, step_result, taken_in}
+use Rattle.linear_elim.specs.Steps.{collect, row_result, step_result}
+use Rattle.linear_elim.specs.inner.Taken.{taken_in}
 use Rattle.linear_elim.proofs.StepLoops.{collect-more, rows-at, step-taken}
 use Rattle.linear_elim.proofs.elimination.combined_step.Goals as goal
 

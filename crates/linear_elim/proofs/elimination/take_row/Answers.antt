@@ -1,6 +1,8 @@
 use Rattle.std.proofs.Common.{◌∙◌, ap, sym, arith}
-use Rattle.linear_elim.specs.Steps.{collect_at, is_opposite, pair_result, taken_in}
+use Rattle.linear_elim.specs.Steps.{is_opposite, pair_result}
 use Rattle.linear_elim.specs.Told.{told_step}
+use Rattle.linear_elim.specs.inner.Taken.{taken_in}
+use Rattle.linear_elim.specs.inner.Uppers.{collect_at}
 use Rattle.linear_elim.proofs.StepLoops.{fault-of-rest, if_told}
 use Rattle.linear_elim.proofs.UpperLaws.{count-uppers, places-end, places-fault, places-more, places_count-end, places_count-more, row-uppers}
 use Rattle.linear_elim.proofs.elimination.take_row.Goals as goal

@@ -1,6 +1,6 @@
 use Rattle.std.proofs.Common.{◌≡◌, ◌++◌, drop}
 use Rattle.linear_elim.specs.Combinations.{is_upper}
-use Rattle.linear_elim.specs.Steps.{places_from}
+use Rattle.linear_elim.specs.inner.Uppers.{places_from}
 use Rattle.linear_elim.proofs.elimination.upper_places.Given as goal
 
 abbrev pub invariant-loop-i : goal.invariant-loop-i

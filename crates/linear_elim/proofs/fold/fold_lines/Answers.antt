@@ -2,12 +2,15 @@ use Rattle.std.proofs.Common.{◌+◌, ◌∙◌, List, ℕ, get_or, ap, sym, ar
 use Rattle.edit_line.specs.declared.derived.Derived.{Derived}
 use Rattle.edit_line.specs.EditSets.{base_lines}
 use Rattle.edit_line.specs.Reductions.{reduce_derived}
-use Rattle.linear_elim.specs.Systems.{fold_count, fold_result, so_far, system_at}
+use Rattle.linear_elim.specs.Systems.{fold_count, fold_result, system_at}
 use Rattle.linear_elim.proofs.ShapeLaws.{OneShape-have}
 use Rattle.linear_elim.specs.Told.{told_system}
+use Rattle.linear_elim.specs.inner.FoldLines.{so_far}
 use Rattle.linear_elim.proofs.OwnLoops.{own-folded, own-start}
 use Rattle.linear_elim.proofs.StepLoops.{if_told}
-use Rattle.linear_elim.proofs.SystemLoops.{HaveShape-folded, HaveShape-start, chosen-all, chosen-end, chosen_from, chosen_here, count-more, count-stops, fold-more, fold-stops, lifts-reached}
+use Rattle.linear_elim.proofs.FoldLaws.{HaveShape-folded, HaveShape-start}
+use Rattle.linear_elim.proofs.MadeLaws.{system-made}
+use Rattle.linear_elim.proofs.SystemLoops.{chosen-all, chosen-end, chosen_from, chosen_here, count-more, count-stops, fold-more, fold-stops, reached-end}
 use Rattle.linear_elim.proofs.fold.fold_lines.Goals as goal
 
 pub loop-field-init : goal.loop-field-init
@@ -58,18 +61,19 @@ returns-in-Err-clause-few g c =
     let part = count-stops c.args.fields counts i (get_or counts i 0) c.loop-field-test.true (search rules) (so_far (λ v. v.items) c.reduced-base.result.now c.loop-field.lines) in
     omega (arith, part, c.in-Err.ensures.few, c.loop-field.invariant.1)
 
-pub returns-in-Some-clause-lifts : goal.returns-in-Some-clause-lifts
-returns-in-Some-clause-lifts g c = λ p.
+pub returns-in-Some-clause-made : goal.returns-in-Some-clause-made
+returns-in-Some-clause-made g c =
     let edits = c.args.edits.now in
     let start = c.reduced-base.result.now in
     let none = chosen-end c.args.fields c.code_counts-count-items.result.now c.loop-field.field (omega (arith, c.loop-field-test.false)) in
-    lifts-reached edits.shape edits.lines start c.lines-over.ensures.fit c.reduced-base.ensures.exact c.reduced-base.ensures.lines c.args.fields _ c.in-Some.lines.items _ none c.loop-field.invariant.0
-    (ap (λ ls. so_far (λ v. v.items) start ls) c.in-Some.is) p
+    system-made edits start (record { edits = c.lines-over.ensures.fit; lines_are = c.reduced-base.ensures.exact; are_lines = c.reduced-base.ensures.lines }) c.args.fields c.in-Some.lines.items c.requires
+    (reached-end _ c.in-Some.lines.items _ (system_at edits c.args.fields) none c.loop-field.invariant.0 (ap (λ ls. so_far (λ v. v.items) start ls) c.in-Some.is))
 
-pub returns-in_ok-copy_all-in-None-clause-lifts : goal.returns-in_ok-copy_all-in-None-clause-lifts
-returns-in_ok-copy_all-in-None-clause-lifts g c = λ p.
+pub returns-in_ok-copy_all-in-None-clause-made : goal.returns-in_ok-copy_all-in-None-clause-made
+returns-in_ok-copy_all-in-None-clause-made g c =
     let edits = c.args.edits.now in
     let start = c.reduced-base.result.now in
+    let lines = c.in_ok-copy_all-in-None.field-0.items in
     let none = chosen-end c.args.fields c.code_counts-count-items.result.now c.loop-field.field (omega (arith, c.loop-field-test.false)) in
-    lifts-reached edits.shape edits.lines start c.lines-over.ensures.fit c.reduced-base.ensures.exact c.reduced-base.ensures.lines c.args.fields _ c.in_ok-copy_all-in-None.field-0.items _ none c.loop-field.invariant.0
-    (ap (λ ls. so_far (λ v. v.items) start ls) c.in-None.is ∙ sym c.in_ok-copy_all-in-None.ensures) p
+    system-made edits start (record { edits = c.lines-over.ensures.fit; lines_are = c.reduced-base.ensures.exact; are_lines = c.reduced-base.ensures.lines }) c.args.fields lines c.requires
+    (reached-end _ lines _ (system_at edits c.args.fields) none c.loop-field.invariant.0 (ap (λ ls. so_far (λ v. v.items) start ls) c.in-None.is ∙ sym c.in_ok-copy_all-in-None.ensures))

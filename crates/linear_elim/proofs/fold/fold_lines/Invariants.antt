@@ -1,7 +1,8 @@
 use Rattle.std.proofs.Common.{◌≡◌, ◌+◌}
 use Rattle.edit_line.specs.Lines.{HaveShape}
 use Rattle.edit_line.specs.Reductions.{AreOwn, lines_of}
-use Rattle.linear_elim.specs.Systems.{chosen_fields, fold_count, fold_result, so_far, system_at, system_count}
+use Rattle.linear_elim.specs.Systems.{chosen_fields, fold_count, fold_result, system_at, system_count}
+use Rattle.linear_elim.specs.inner.FoldLines.{so_far}
 use Rattle.linear_elim.proofs.SystemLoops.{chosen_from}
 use Rattle.linear_elim.proofs.fold.fold_lines.Given as goal
 

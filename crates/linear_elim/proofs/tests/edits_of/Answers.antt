@@ -2,14 +2,14 @@ use Rattle.std.proofs.Common.{◌≡◌, ℕ, List, All, length, ap, sym, subst,
 use Rattle.edit_line.specs.Lines.{LineParts}
 use Rattle.edit_line.specs.EditSets.{AreEdits}
 use Rattle.edit_line.specs.Shapes.{Domain}
-use Rattle.linear_elim.specs.SixNumbers.{six_numbers}
-use Rattle.linear_elim.proofs.SixFields.{length-more, numbered-more, numbered-none, numbered-rising, over-more}
+use Rattle.linear_elim.specs.inner.EightNumbers.{eight_numbers}
+use Rattle.linear_elim.proofs.EightFields.{length-more, numbered-more, numbered-none, numbered-rising, over-more}
 use Rattle.linear_elim.proofs.tests.edits_of.Goals as goal
 
 pub loop-i-init : goal.loop-i-init
 loop-i-init c =
     let none = c.new-lines.ensures.items in (
-      subst (λ (es : List (ℕ × LineParts)). All (λ (e : ℕ × LineParts). e.1.shape ≡ six_numbers) es) (sym none) (λ k d below. absurd (omega arith)),
+      subst (λ (es : List (ℕ × LineParts)). All (λ (e : ℕ × LineParts). e.1.shape ≡ eight_numbers) es) (sym none) (λ k d below. absurd (omega arith)),
       numbered-none c.new-lines.result.items none,
       ap length none,
     )

@@ -1,4 +1,4 @@
-use Rattle.categ_combine.proofs.TwoFields.{below}
+use Rattle.categ_combine.proofs.EightFields.{below}
 use Rattle.categ_combine.proofs.tests.plan.has_code.Goals as goal
 
 pub returns : goal.returns

@@ -4,4 +4,4 @@ use Rattle.linear_elim.specs.Systems.{SystemParts}
 use Rattle.linear_elim.proofs.system.System.lines.Goals as goal
 
 pub returns-clause-lifts : goal.returns-clause-lifts
-returns-clause-lifts c = subst (λ (parts : SystemParts). Lifts parts) c.self.view_is c.self.invariant.2
+returns-clause-lifts c = subst (λ (parts : SystemParts). Lifts parts) c.self.view_is c.self.invariant.lifts

@@ -1,4 +1,4 @@
-use Rattle.std.proofs.Common.{◌≡◌, ℕ, zero, suc, ◌+◌, ◌<◌, List, [], ◌∷◌, ◌++◌, All, Bool, length, map, slice_index, ℤ, to_z, of_z, refl, sym, ap, ◌∙◌, subst, arith, length-append}
+use Rattle.std.proofs.Common.{◌≡◌, ℕ, zero, suc, ◌+◌, ◌<◌, List, [], ◌∷◌, ◌++◌, All, Bool, length, map, slice_index, ℤ, to_z, of_z, sym, ap, ◌∙◌, subst, arith, length-append}
 use Rattle.std.proofs.lemmas.List.Elements.{All-push}
 use Rattle.std.proofs.lemmas.Int.{to_z-of_z}
 use mir.Syntax.{w128}
@@ -7,7 +7,7 @@ use Rattle.fraction128.proofs.RangeLaws.{FitsSigned-in_range}
 use Rattle.fraction128.specs.Range.{InRange}
 use Rattle.edit_line.specs.Lines.{IsLine, LineParts, parts_of}
 use Rattle.edit_line.specs.Shapes.{Domain}
-use Rattle.linear_elim.specs.SixNumbers.{six_numbers}
+use Rattle.linear_elim.specs.inner.EightNumbers.{eight_numbers}
 
 -- Lines and edits over six numerical fields, for tests.
 
@@ -15,25 +15,12 @@ use Rattle.linear_elim.specs.SixNumbers.{six_numbers}
 pub passed : (z : ℤ) → InRange z → InRange (to_z w128 (of_z w128 z))
 passed z fits = subst InRange (sym (to_z-of_z w128 z (FitsSigned-in_range z fits))) fits
 
--- a line of six numbers in range
-pub six-line : (shape : List Domain) (sets : List ℕ) (factors : List ℤ) (a b c d e f constant : ℤ) (strict : Bool) → shape ≡ six_numbers → sets ≡ [] → factors ≡ a ∷ b ∷ c ∷ d ∷ e ∷ f ∷ []
-    → InRange a → InRange b → InRange c → InRange d → InRange e → InRange f → InRange constant → IsLine (parts_of shape sets factors constant strict)
-six-line shape sets factors a b c d e f constant strict shape_is sets_are factors_are ra rb rc rd re rf fits =
+-- a line of eight numbers in range
+pub eight-line : (shape : List Domain) (sets : List ℕ) (factors numbers : List ℤ) (constant : ℤ) (strict : Bool) → shape ≡ eight_numbers → sets ≡ [] → factors ≡ numbers → length numbers ≡ 8 → All InRange numbers → InRange constant
+    → IsLine (parts_of shape sets factors constant strict)
+eight-line shape sets factors numbers constant strict shape_is sets_are factors_are many each fits =
     subst (λ (l : LineParts). IsLine l) (λ i. parts_of (sym shape_is i) (sym sets_are i) (sym factors_are i) constant strict)
-    (record {
-      sets = tt;
-      factors = refl;
-      in_range = (each, fits);
-    })
-  where
-    each : All InRange (a ∷ b ∷ c ∷ d ∷ e ∷ f ∷ [])
-    each zero n below = ra
-    each (suc zero) n below = rb
-    each (suc (suc zero)) n below = rc
-    each (suc (suc (suc zero))) n below = rd
-    each (suc (suc (suc (suc zero)))) n below = re
-    each (suc (suc (suc (suc (suc zero))))) n below = rf
-    each (suc (suc (suc (suc (suc (suc k)))))) n below = absurd (omega arith)
+    (record { sets = tt; factors = many; in_range = (each, fits) })
 
 -- the edits are numbered from j on
 pub NumberedFrom : ℕ → List (ℕ × LineParts) → Type 0
@@ -59,8 +46,8 @@ numbered-rising es numbered k below =
 
 -- an edit more
 module _ (i : ℕ) (before after : List (ℕ × LineParts)) (line : LineParts) (items : after ≡ before ++ (i, line) ∷ []) where
-  pub over-more : All (λ (e : ℕ × LineParts). e.1.shape ≡ six_numbers) before → line.shape ≡ six_numbers → All (λ (e : ℕ × LineParts). e.1.shape ≡ six_numbers) after
-  over-more over here = subst (λ (es : List (ℕ × LineParts)). All (λ (e : ℕ × LineParts). e.1.shape ≡ six_numbers) es) (sym items) (All-push (λ (e : ℕ × LineParts). e.1.shape ≡ six_numbers) before (i, line) over here)
+  pub over-more : All (λ (e : ℕ × LineParts). e.1.shape ≡ eight_numbers) before → line.shape ≡ eight_numbers → All (λ (e : ℕ × LineParts). e.1.shape ≡ eight_numbers) after
+  over-more over here = subst (λ (es : List (ℕ × LineParts)). All (λ (e : ℕ × LineParts). e.1.shape ≡ eight_numbers) es) (sym items) (All-push (λ (e : ℕ × LineParts). e.1.shape ≡ eight_numbers) before (i, line) over here)
 
   pub numbered-more : NumberedFrom 0 before → length before ≡ i → NumberedFrom 0 after
   numbered-more numbered count = subst (λ (es : List (ℕ × LineParts)). NumberedFrom 0 es) (sym items) (numbered-push 0 before (i, line) numbered (omega (arith, count)))

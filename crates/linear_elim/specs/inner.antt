@@ -1,0 +1,5 @@
+pub mod EightNumbers
+pub mod FoldLines
+pub mod Taken
+pub mod ToldCombinations
+pub mod Uppers
