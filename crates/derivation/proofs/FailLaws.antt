@@ -12,6 +12,7 @@ use Rattle.edit_line.specs.Lines.{LineHolds, LineParts, amount}
 use Rattle.edit_line.specs.Sets.{AllInside}
 use Rattle.edit_line.specs.Shapes.{codes_at, number_fields, shape_of}
 use Rattle.edit_line.specs.Sums.{AtFactors, HasNumbers, fails_at, stands_only}
+use Rattle.edit_line.proofs.FactorLaws.{AtFactors-map, AtFactors-only}
 use Rattle.edit_line.proofs.Enough.{is_enough-Decides}
 use Rattle.edit_line.proofs.SetLaws.{both_true}
 use Rattle.edit_line.proofs.SumCallers.{numbers-held}
@@ -22,15 +23,9 @@ use Rattle.derivation.specs.ValidSteps.{is_true}
 -- A line that fails at the kept fields of a record holds only at points that have other values there, or a code outside its set.
 
 -- a fact of the kept fields is one of the fields that stand in a line, where these are kept
-at_kept : (P : ℕ → Type 0) (kept : ℕ) (fields : List ℕ) (factors : List ℤ) → ((f : ℕ) → has_number kept f ≡ true → P f) → stands_only (has_number kept) fields factors ≡ true → AtFactors P fields factors
-at_kept P kept [] factors each all = tt
-at_kept P kept (f ∷ fields) [] each all = tt
-at_kept P kept (f ∷ fields) (a ∷ factors) each all =
-    let (here, rest) = both_true (int_eq a (pos 0) || has_number kept f) _ all in (λ apart. each f (by (int_eq a (pos 0)) (λ none. apart ((Decides-int_eq a (pos 0)).0 none)) here), at_kept P kept fields factors each rest)
-  where
-    by : (none : Bool) → (none ≡ true → ⊥) → (none || has_number kept f) ≡ true → has_number kept f ≡ true
-    by true stands h = absurd (stands refl)
-    by false stands h = h
+at_kept : (P : ℕ → Type 0) (kept : ℕ) (line : LineParts) → ((f : ℕ) → has_number kept f ≡ true → P f) → stands_only (has_number kept) (number_fields line.shape) line.factors ≡ true → AtFactors P (number_fields line.shape) line.factors
+at_kept P kept line each only =
+    AtFactors-map (λ f. has_number kept f ≡ true) P each (number_fields line.shape) line.factors (AtFactors-only (has_number kept) (number_fields line.shape) line.factors only)
 
 -- an answer that is true
 answered : (r : Result Bool ℕ) → is_true r ≡ true → r ≡ Ok true
@@ -40,11 +35,11 @@ answered (Err field) h = absurd (cc)
 module _ (fields : List Field) (row : List Value) (kept : ℕ) (line : LineParts) (is : IsRow fields row) (has : HasKept row kept) (shape : line.shape ≡ shape_of fields) (all : stands_only (has_number kept) (number_fields line.shape) line.factors ≡ true) where
   -- the record has the numbers that the line reads
   pub kept-numbers : HasNumbers row line
-  kept-numbers = numbers-held fields row line shape is (at_kept (λ f. value_of row f ≢ Bad) kept (number_fields line.shape) line.factors has all)
+  kept-numbers = numbers-held fields row line shape is (at_kept (λ f. value_of row f ≢ Bad) kept line has all)
 
   -- where the line fails at the record, and holds at a point that agrees, the point's codes are not all inside
   pub failed-outside : is_true (fails_at line row) ≡ true → (point : Point) → AgreesAt row kept point → LineHolds line point → ¬ AllInside line.sets (codes_at line.shape point)
   failed-outside fails point agrees holds inside =
       let enough = (is_enough-Decides line.strict (amount line point)).1 (holds.enough inside) in
-      let truth = fails_at-truth line row point true kept-numbers (at_kept (λ f. Agrees row point f) kept (number_fields line.shape) line.factors agrees all) (answered (fails_at line row) fails) in
+      let truth = fails_at-truth line row point true kept-numbers (at_kept (λ f. Agrees row point f) kept line agrees all) (answered (fails_at line row) fails) in
       absurd (cc (truth ∙ ap not enough))

@@ -5,16 +5,12 @@ use Rattle.edit_model.specs.Rows.{IsRow}
 use Rattle.edit_model.specs.declared.field.Field.{Field}
 use Rattle.edit_model.specs.declared.field.Kind.{Kind}
 use Rattle.edit_model.specs.declared.value.Value.{Value}
-use Rattle.edit_model.proofs.OrderLaws.{field-below, numbers-below}
+use Rattle.edit_model.proofs.OrderLaws.{field-below}
 use Rattle.edit_model.proofs.RowLaws as rows
 use Rattle.edit_line.specs.Shapes.{code_fields, has_field, shape_of}
 use Rattle.edit_line.proofs.ShapeLaws.{code_fields-same}
 
--- The numbers of a survey's fields are small.
-
--- those of one kind are below 64, where there are at most 64 fields
-pub numbers-small : (test : Kind → Bool) (fields : List Field) (numbers : List ℕ) → length fields ≤ 64 → numbers ≡ corrections.numbers_from test 0 fields → All (λ f. f < 64) numbers
-numbers-small test fields numbers few are = numbers-below test 64 fields numbers few are
+-- The categorical fields of a shape are a survey's, and have values in a record.
 
 -- a field that is categorical by the shape is one by its kind
 by-kind : (fields : List Field) (f : ℕ) → has_field (code_fields (shape_of fields)) f ≡ true → has_field (corrections.code_fields fields) f ≡ true

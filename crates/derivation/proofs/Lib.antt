@@ -4,7 +4,6 @@ pub mod CoverLaws
 pub mod FailLaws
 pub mod FieldNumbers
 pub mod FourFields
-pub mod KeptFactors
 pub mod Places
 pub mod Soundness
 pub mod StepLoop

@@ -1,8 +1,6 @@
-ghost use Rattle.std.specs.Prelude.{◌≡◌, ◌<◌, All, IfOk, length, map};
-ghost use Rattle.edit_model.specs.FieldSets.{has_number};
+ghost use Rattle.std.specs.Prelude.{◌≡◌, IfOk, map};
 ghost use Rattle.edit_model.specs.Rows.{IsRow};
 ghost use Rattle.edit_line.specs.Shapes.{shape_of};
-ghost use Rattle.edit_line.specs.Sums.{stands_only};
 ghost use Rattle.derivation.specs.inner.Bases.{IsBasis, premises};
 ghost use Rattle.derivation.specs.inner.Meanings.{AllOver, meaning, meant};
 ghost use Rattle.derivation.specs.ValidSteps.{failed_box, fails_at_kept, proved_by};
@@ -59,26 +57,11 @@ pub fn fails_at_kept(survey: &Survey, row: &Row, kept: FieldSet, line: &Line) ->
     requires row { IsRow survey.now.fields row.now }
     ensures { result ≡ fails_at_kept row.now kept line.now }
 {
-    let _fields = survey.fields(); // read for what it says: there are at most 64
-    if !stand_only_in(kept, survey.numbers(), line.factors()) {
+    if !line.stands_only_in(survey, kept) {
         return false;
     }
     match fails(survey, line, row) {
         Ok(failed) => failed,
         Err(_) => false,
     }
-}
-
-// Whether only fields of the set stand beside factors other than 0.
-fn stand_only_in(set: FieldSet, fields: &[u32], factors: &[i128]) -> bool
-    requires count { length factors.now ≡ length fields.now }
-    requires few { All (λ f. f < 64) fields.now }
-    ensures { result ≡ stands_only (has_number set) fields.now factors.now }
-{
-    for (place, field) in fields.iter().enumerate() {
-        if factors[place] != 0 && !set.has(*field) {
-            return false;
-        }
-    }
-    true
 }

@@ -12,7 +12,7 @@ use Rattle.edit_line.specs.EditSets.{AreEdits, EditsParts, edits_of}
 use Rattle.edit_line.specs.Lines.{LineParts}
 use Rattle.edit_line.specs.Shapes.{Categorical, Domain, Numerical, domain_of, has_field, numbers_from, shape_of}
 use Rattle.linear_elim.specs.Systems.{AreNumerical}
-use Rattle.elimination_bench.specs.Differences.{count_of, difference_line, differences, draw_at, next_draw, numbered_line, numbers_of, shape_with}
+use Rattle.elimination_bench.specs.inner.Differences.{count_of, difference_line, differences, draw_at, next_draw, numbered_line, numbers_of, shape_with}
 use Rattle.elimination_bench.specs.declared.differences.Differences.{Differences}
 use Rattle.elimination_bench.specs.declared.differences.Differences.TheVariants.{Coded, Plain}
 

@@ -19,9 +19,9 @@ use Rattle.linear_elim.specs.declared.fault.SystemFault.{SystemFault}
 use Rattle.linear_elim.specs.declared.fault.SystemFault.TheVariants as system
 use Rattle.linear_elim.proofs.ResultLaws.{base-plain}
 use Rattle.linear_elim.proofs.ShapeLaws.{HaveShape-lines}
-use Rattle.elimination_bench.specs.Differences.{count_of, differences, numbered_line, numbers_of, shape_with}
-use Rattle.elimination_bench.specs.Folds.{answer_of, fold_answer, pairs_answer, steps_answer}
-use Rattle.elimination_bench.specs.Texts.{IsTold, fold_text, step_text, system_fault_of}
+use Rattle.elimination_bench.specs.inner.Differences.{count_of, differences, numbered_line, numbers_of, shape_with}
+use Rattle.elimination_bench.specs.inner.Folds.{answer_of, fold_answer, pairs_answer, steps_answer}
+use Rattle.elimination_bench.specs.inner.Texts.{IsTold, fold_text, step_text, system_fault_of}
 use Rattle.elimination_bench.specs.declared.differences.Differences.{Differences}
 use Rattle.elimination_bench.specs.declared.fault.Fault.{Fault}
 use Rattle.elimination_bench.specs.declared.fault.Fault.TheVariants.{OutOfMemory, Overflow, Usage}

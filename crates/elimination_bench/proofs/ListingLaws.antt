@@ -18,8 +18,8 @@ use Rattle.derivation.specs.Premises.{Premises, premises_of}
 use Rattle.derivation.specs.ValidSteps.{steps_result}
 use Rattle.derivation.specs.declared.proved.Proved.{Proved}
 use Rattle.derivation.specs.declared.step.Step.{Step}
-use Rattle.elimination_bench.specs.Differences.{count_of, differences, numbered_line, numbers_of, shape_with}
-use Rattle.elimination_bench.specs.Listings.{first_refused, generated_lines, generated_premises, refused_at, step_at, steps_of}
+use Rattle.elimination_bench.specs.inner.Differences.{count_of, differences, numbered_line, numbers_of, shape_with}
+use Rattle.elimination_bench.specs.inner.Listings.{first_refused, generated_lines, generated_premises, refused_at, step_at, steps_of}
 use Rattle.elimination_bench.specs.declared.differences.Differences.TheVariants.{Plain}
 use Rattle.elimination_bench.specs.declared.listing.Listing.{Listing}
 

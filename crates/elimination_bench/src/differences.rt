@@ -2,10 +2,10 @@ ghost use Rattle.std.specs.Prelude.{◌≡◌, ◌<◌, ◌≤◌, ◌%◌, ◌+
 ghost use Rattle.edit_line.specs.EditSets.{edits_of};
 ghost use Rattle.edit_line.specs.Shapes.{Categorical, Numerical, domain_of, domains_of, shape_of};
 ghost use Rattle.edit_model.specs.Surveys.{IsField, is_letter};
-ghost use Rattle.elimination_bench.specs.Differences.{count_of, difference, difference_line, differences, lower_field, next_draw, numbers_of, set_of, shape_with, upper_field};
+ghost use Rattle.elimination_bench.specs.inner.Differences.{count_of, difference, difference_line, differences, lower_field, next_draw, numbers_of, set_of, shape_with, upper_field};
 
 use edit_line::{Edits, Line, Shape};
-use edit_model::{Field, Kind, Name, Survey, SurveyFault};
+use edit_model::{Field, Kind, Name, Survey};
 use foundation::{OutOfMemory, Sequence};
 use std::alloc::Global;
 
@@ -134,11 +134,7 @@ pub fn survey_of(alloc: Global, numbers: usize) -> Result<Survey, OutOfMemory>
         fields.push(number_field(LETTERS[i]))?;
     }
     fields.push(code_field(alloc)?)?;
-    match Survey::new(alloc, fields, Vec::new(alloc)) {
-        Ok(survey) => Ok(survey),
-        Err(SurveyFault::Malformed) => unreachable!(),
-        Err(SurveyFault::OutOfMemory) => Err(OutOfMemory),
-    }
+    Survey::of(alloc, fields, Vec::new(alloc))
 }
 
 // A numerical field.

@@ -5,9 +5,9 @@ ghost use Rattle.linear_elim.specs.Answers.{Answers};
 ghost use Rattle.linear_elim.specs.Steps.{OneShape, pairs_count, step_result};
 ghost use Rattle.linear_elim.specs.Systems.{AreNumerical, system_at};
 ghost use Rattle.linear_elim.specs.Told.{told_system};
-ghost use Rattle.elimination_bench.specs.Differences.{numbers_of};
-ghost use Rattle.elimination_bench.specs.Folds.{fold_answer, pairs_answer, steps_answer};
-ghost use Rattle.elimination_bench.specs.Texts.{IsTold, step_text};
+ghost use Rattle.elimination_bench.specs.inner.Differences.{numbers_of};
+ghost use Rattle.elimination_bench.specs.inner.Folds.{fold_answer, pairs_answer, steps_answer};
+ghost use Rattle.elimination_bench.specs.inner.Texts.{IsTold, step_text};
 
 use crate::differences::Differences;
 use crate::fault::Fault;

@@ -1,5 +1,5 @@
 ghost use Rattle.std.specs.Prelude.{◌≡◌};
-ghost use Rattle.elimination_bench.specs.Texts.{status_of};
+ghost use Rattle.elimination_bench.specs.inner.Texts.{status_of};
 
 use foundation::OutOfMemory;
 use linear_elim::{StepFault, SystemFault};
@@ -32,7 +32,7 @@ impl Fault {
 
 impl fmt::Display for Fault {
     ghost use Rattle.std.specs.Prelude.{Some};
-    ghost use Rattle.elimination_bench.specs.Texts.{text_of};
+    ghost use Rattle.elimination_bench.specs.inner.Texts.{text_of};
 
     ghost output = { λ fault. Some (text_of fault) };
 
@@ -83,7 +83,7 @@ impl<T: Drop> From<AllocFailed<T>> for Fault {
 
 impl From<SystemFault> for Fault {
     ghost use Rattle.std.specs.Prelude.{◌≡◌};
-    ghost use Rattle.elimination_bench.specs.Texts.{system_fault_of};
+    ghost use Rattle.elimination_bench.specs.inner.Texts.{system_fault_of};
 
     ghost from_gives = { λ refused fault. fault ≡ system_fault_of refused };
 
@@ -97,7 +97,7 @@ impl From<SystemFault> for Fault {
 
 impl From<StepFault> for Fault {
     ghost use Rattle.std.specs.Prelude.{◌≡◌};
-    ghost use Rattle.elimination_bench.specs.Texts.{step_fault_of};
+    ghost use Rattle.elimination_bench.specs.inner.Texts.{step_fault_of};
 
     ghost from_gives = { λ refused fault. fault ≡ step_fault_of refused };
 

@@ -2,7 +2,7 @@ ghost use Rattle.std.specs.Prelude.{◌≡◌, ℕ, IfOk, length, map, replicate
 ghost use Rattle.edit_model.specs.Rows.{IsRow};
 ghost use Rattle.edit_model.specs.declared.value.Value.TheVariants.{Bad};
 ghost use Rattle.edit_line.specs.Lines.{LineParts};
-ghost use Rattle.elimination_bench.specs.Listings.{first_refused, generated_lines, step_at, steps_of, verdict_text};
+ghost use Rattle.elimination_bench.specs.inner.Listings.{first_refused, generated_lines, step_at, steps_of, verdict_text};
 
 use crate::differences::{Differences, survey_of};
 use derivation::{Step, StepsFault, check_steps};

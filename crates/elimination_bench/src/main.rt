@@ -4,9 +4,9 @@
 #![tactic(auto)]
 
 ghost use Rattle.std.specs.Prelude.{map, string_bytes};
-ghost use Rattle.elimination_bench.specs.Tasks.{task_in};
-ghost use Rattle.elimination_bench.specs.Texts.{IsTold};
-ghost use Rattle.elimination_bench.specs.Told.{told_of};
+ghost use Rattle.elimination_bench.specs.inner.Tasks.{task_in};
+ghost use Rattle.elimination_bench.specs.inner.Texts.{IsTold};
+ghost use Rattle.elimination_bench.specs.inner.Told.{told_of};
 
 mod differences;
 mod elimination;

@@ -1,6 +1,6 @@
 ghost use Rattle.std.specs.Prelude.{◌≡◌, ◌⊎◌, ◌^◌, IfErr, IfSome, map, string_bytes};
-ghost use Rattle.elimination_bench.specs.Differences.{numbers_of};
-ghost use Rattle.elimination_bench.specs.Tasks.{IsServed, listed, number_in, served, task_in};
+ghost use Rattle.elimination_bench.specs.inner.Differences.{numbers_of};
+ghost use Rattle.elimination_bench.specs.inner.Tasks.{IsServed, listed, number_in, served, task_in};
 
 use crate::differences::Differences;
 use crate::fault::Fault;

@@ -5,8 +5,8 @@ use Rattle.edit_line.specs.Reductions.{reduce_derived}
 use Rattle.edit_line.specs.declared.derived.Derived.{Derived}
 use Rattle.linear_elim.specs.Steps.{pairs_count, step_result, with_more}
 use Rattle.linear_elim.specs.Systems.{system_of}
-use Rattle.elimination_bench.specs.Differences.{count_of, differences}
-use Rattle.elimination_bench.specs.Texts.{fold_text, step_text}
+use Rattle.elimination_bench.specs.inner.Differences.{count_of, differences}
+use Rattle.elimination_bench.specs.inner.Texts.{fold_text, step_text}
 use Rattle.elimination_bench.specs.declared.differences.Differences.{Differences}
 use Rattle.elimination_bench.specs.declared.fault.Fault.{Fault}
 use Rattle.elimination_bench.specs.declared.fault.Fault.TheVariants.{Overflow}

@@ -7,8 +7,8 @@ use Rattle.derivation.specs.ValidSteps.{steps_result}
 use Rattle.derivation.specs.declared.proved.Proved.{Proved}
 use Rattle.derivation.specs.declared.step.Step.{Step}
 use Rattle.derivation.specs.declared.step.Step.TheVariants as step
-use Rattle.elimination_bench.specs.Differences.{count_of, differences, numbers_of, shape_with}
-use Rattle.elimination_bench.specs.Texts.{accepted_text, refused_text}
+use Rattle.elimination_bench.specs.inner.Differences.{count_of, differences, numbers_of, shape_with}
+use Rattle.elimination_bench.specs.inner.Texts.{accepted_text, refused_text}
 use Rattle.elimination_bench.specs.declared.differences.Differences.TheVariants.{Plain}
 use Rattle.elimination_bench.specs.declared.listing.Listing.{Listing}
 use Rattle.elimination_bench.specs.declared.listing.Listing.TheVariants.{Given, Sums}

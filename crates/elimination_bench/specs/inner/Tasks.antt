@@ -1,7 +1,7 @@
 use Rattle.std.specs.Prelude.{ℕ, ◌≤◌, ◌^◌, ◌&&◌, List, [], ◌∷◌, Option, Some, None, codes, bytes_eq, length, nat_le, if◌then◌else◌}
 use Rattle.std.specs.Str.{all_ascii_digits}
 use Rattle.std.specs.Str.Parse.{digits_value}
-use Rattle.elimination_bench.specs.Differences.{numbers_of}
+use Rattle.elimination_bench.specs.inner.Differences.{numbers_of}
 use Rattle.elimination_bench.specs.declared.differences.Differences.{Differences}
 use Rattle.elimination_bench.specs.declared.differences.Differences.TheVariants.{Coded, Plain}
 use Rattle.elimination_bench.specs.declared.listing.Listing.{Listing}

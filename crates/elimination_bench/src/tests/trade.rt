@@ -1,3 +1,5 @@
+//! The trade survey: its rules as lines, and the systems without some of its fields.
+
 use super::reading::{TRADE, edits_of, number_set, rule_lines, survey_of};
 use crate::elimination::system_of;
 use edit_line::{Derived, Line};
@@ -15,37 +17,11 @@ fn has_factors(line: &Line, factors: &Factors) -> bool {
 }
 
 fn have_factors(lines: &[Derived], wanted: &[Factors]) -> bool {
-    if lines.len() != wanted.len() {
-        return false;
-    }
-    for i in 0..lines.len() {
-        if !has_factors(&lines[i].line, &wanted[i]) {
-            return false;
-        }
-    }
-    true
-}
-
-#[test]
-fn the_rules_have_five_lines(rt: HostRuntime) -> Result<(), Fail> {
-    let alloc = rt.alloc();
-    let survey = survey_of(alloc, TRADE)?;
-    let lines = rule_lines(alloc, &survey)?;
-    let wanted: [(u32, Factors); 5] = [
-        (0, [1, 0, 0]),
-        (1, [0, 1, 0]),
-        (2, [1, -1, -1]),
-        (2, [-1, 1, 1]),
-        (3, [3, 0, -5]),
-    ];
-    assert_eq!(rt; lines.len(), wanted.len());
-    for (line, (rule, factors)) in lines.iter().zip(&wanted) {
-        assert!(rt;
-            line.rule == *rule && has_factors(&line.line, factors),
-            "at {factors:?}"
-        );
-    }
-    Ok(())
+    lines.len() == wanted.len()
+        && lines
+            .iter()
+            .zip(wanted)
+            .all(|(derived, factors)| has_factors(&derived.line, factors))
 }
 
 /// Whether the system of the rules without the fields has these lines.

@@ -1,4 +1,5 @@
-use Rattle.std.proofs.Common.{Err, ap, ◌∙◌, arith}
+use Rattle.std.proofs.Common.{ap, ◌∙◌, arith}
+use Rattle.std.proofs.lemmas.Result.{IfOk-weaker}
 use Rattle.edit_model.specs.Parts.{SurveyParts}
 use Rattle.edit_line.specs.Shapes.{shape_of}
 use Rattle.elimination_bench.proofs.DifferenceLaws.{codes-last, number-more}
@@ -16,13 +17,12 @@ loop-i-preserved c =
       form-more c.loop-i.fields.items c.push.new.self.items c.number_field.result c.in_ok-push.ensures.items c.number_field.ensures.form inv.2,
     )
 
-pub unreachable-requires : goal.unreachable-requires
-unreachable-requires c =
+pub of-requires : goal.of-requires
+of-requires c =
     let inv = c.loop-i.invariant in
-    c.in-Err-Malformed.ensures.malformed (ap Err c.in-Err-Malformed.field-0-is)
-    (fields-well_formed c.loop-i.i c.loop-i.fields.items c.push-2.new.self.items c.in_ok-code_field.field-0 c.new.result.items (omega (arith, c.requires, c.loop-i.auto.i-end)) c.in_ok-push-2.ensures.items c.new.ensures.items inv.1 inv.2 c.in_ok-code_field.ensures.name c.in_ok-code_field.ensures.form)
+    fields-well_formed c.loop-i.i c.loop-i.fields.items c.push-2.new.self.items c.in_ok-code_field.field-0 c.new.result.items (omega (arith, c.requires, c.loop-i.auto.i-end)) c.in_ok-push-2.ensures.items c.new.ensures.items inv.1 inv.2 c.in_ok-code_field.ensures.name c.in_ok-code_field.ensures.form
 
-pub returns-in-Ok : goal.returns-in-Ok
-returns-in-Ok c =
-    ap (λ (s : SurveyParts). shape_of s.fields) c.in-Ok.ensures.ok.0
-    ∙ codes-last c.args.numbers c.loop-i.i c.loop-i.fields.items c.push-2.new.self.items c.in_ok-code_field.field-0 c.in_ok-push-2.ensures.items c.in_ok-code_field.ensures.domain c.loop-i.invariant.0 (omega (arith, c.loop-i-test.false, c.loop-i.auto.i-end))
+pub returns : goal.returns
+returns c =
+    IfOk-weaker c.of.result _ _ (λ survey is. ap (λ (s : SurveyParts). shape_of s.fields) is
+    ∙ codes-last c.args.numbers c.loop-i.i c.loop-i.fields.items c.push-2.new.self.items c.in_ok-code_field.field-0 c.in_ok-push-2.ensures.items c.in_ok-code_field.ensures.domain c.loop-i.invariant.0 (omega (arith, c.loop-i-test.false, c.loop-i.auto.i-end))) c.of.ensures

@@ -2,9 +2,9 @@ use Rattle.std.proofs.Common.{ℕ, List, Ok, length, string_bytes, sym, ap, ◌�
 use Rattle.std.specs.Arc.{arc_value}
 use Rattle.edit_line.specs.Lines.{LineParts}
 use Rattle.edit_line.specs.declared.derived.Derived.{Derived}
-use Rattle.elimination_bench.specs.Differences.{count_of}
-use Rattle.elimination_bench.specs.Folds.{fold_answer}
-use Rattle.elimination_bench.specs.Texts.{fold_text}
+use Rattle.elimination_bench.specs.inner.Differences.{count_of}
+use Rattle.elimination_bench.specs.inner.Folds.{fold_answer}
+use Rattle.elimination_bench.specs.inner.Texts.{fold_text}
 use Rattle.elimination_bench.proofs.DifferenceLaws.{few-numbers, generated-numerical}
 use Rattle.elimination_bench.proofs.FoldLaws.{fold-made, fold-refused, given-count, system-first, told-handed}
 use Rattle.elimination_bench.proofs.elimination.fold_text.Goals as goal

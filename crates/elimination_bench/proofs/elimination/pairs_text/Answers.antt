@@ -4,9 +4,9 @@ use Rattle.edit_line.specs.declared.derived.Derived.{Derived}
 use Rattle.linear_elim.specs.Steps.{OneShape, pairs_count, step_result, with_more}
 use Rattle.linear_elim.proofs.ResultLaws.{HaveShape-result}
 use Rattle.linear_elim.proofs.ShapeLaws.{OneShape-have}
-use Rattle.elimination_bench.specs.Differences.{numbers_of, shape_with}
-use Rattle.elimination_bench.specs.Folds.{pairs_answer, steps_answer}
-use Rattle.elimination_bench.specs.Texts.{IsTold, step_text}
+use Rattle.elimination_bench.specs.inner.Differences.{numbers_of, shape_with}
+use Rattle.elimination_bench.specs.inner.Folds.{pairs_answer, steps_answer}
+use Rattle.elimination_bench.specs.inner.Texts.{IsTold, step_text}
 use Rattle.elimination_bench.specs.declared.fault.Fault.{Fault}
 use Rattle.elimination_bench.proofs.FoldLaws.{start-over, steps-end, steps-more, steps-start, steps-stop, told-handed}
 use Rattle.elimination_bench.proofs.elimination.pairs_text.Goals as goal

@@ -3,8 +3,8 @@ use Rattle.std.specs.List.{range_with_len}
 use Rattle.edit_line.specs.Lines.{HaveShape}
 use Rattle.edit_line.specs.Reductions.{lines_of}
 use Rattle.linear_elim.specs.Steps.{with_more}
-use Rattle.elimination_bench.specs.Differences.{numbers_of, shape_with}
-use Rattle.elimination_bench.specs.Folds.{pairs_answer, steps_answer}
+use Rattle.elimination_bench.specs.inner.Differences.{numbers_of, shape_with}
+use Rattle.elimination_bench.specs.inner.Folds.{pairs_answer, steps_answer}
 use Rattle.elimination_bench.proofs.elimination.pairs_text.Given as goal
 
 abbrev pub invariant-loop-field : goal.invariant-loop-field

@@ -1,6 +1,6 @@
 use Rattle.std.proofs.Common.{Err, List, length, replicate, true, ap, sym, ◌∙◌, arith}
 use Rattle.edit_line.specs.Lines.{LineParts}
-use Rattle.elimination_bench.specs.Differences.{shape_with}
+use Rattle.elimination_bench.specs.inner.Differences.{shape_with}
 use Rattle.elimination_bench.proofs.ListingLaws.{lines-over, refused-generated}
 use Rattle.elimination_bench.proofs.listing.first_refused.Goals as goal
 

@@ -1,5 +1,5 @@
 use Rattle.std.proofs.Common.{ap, sym, ◌∙◌}
-use Rattle.elimination_bench.specs.Listings.{verdict_text}
+use Rattle.elimination_bench.specs.inner.Listings.{verdict_text}
 use Rattle.elimination_bench.proofs.listing.steps_text.Goals as goal
 
 pub returns-in_ok-format-in-None : goal.returns-in_ok-format-in-None

@@ -1,6 +1,6 @@
 use Rattle.std.proofs.Common.{◌≡◌, ◌*◌, ◌-◌, IfOk, ap, ◌∙◌, subst, arith}
 use Rattle.edit_line.specs.EditSets.{EditsParts}
-use Rattle.elimination_bench.specs.Differences.{shape_with}
+use Rattle.elimination_bench.specs.inner.Differences.{shape_with}
 use Rattle.elimination_bench.proofs.DifferenceLaws.{all-edits, are-edits, differences-more, draw-more}
 use Rattle.elimination_bench.proofs.differences.Differences.edits.Goals as goal
 

@@ -1,5 +1,5 @@
 use Rattle.std.proofs.Common.{◌≡◌, ◌<◌}
-use Rattle.elimination_bench.specs.Differences.{differences, draw_at}
+use Rattle.elimination_bench.specs.inner.Differences.{differences, draw_at}
 use Rattle.elimination_bench.proofs.differences.Differences.edits.Given as goal
 
 abbrev pub invariant-loop-place : goal.invariant-loop-place
