@@ -10,7 +10,8 @@ use Rattle.rule_grammar.specs.declared.statement.Statement.{Statement as Written
 use Rattle.rule_grammar.specs.declared.statement.Statement.TheVariants as statement
 use Rattle.rule_grammar.specs.declared.statement.TestText.{TestText}
 use Rattle.rule_grammar.specs.declared.statement.TestText.TheVariants as written
-use Rattle.edit_language.specs.Faults.{has_fault, has_unknown_code, is_known_test, kind_number, tests_of}
+use Rattle.edit_language.specs.Faults.{has_fault, has_unknown_code, is_known_test, kind_number}
+use Rattle.edit_language.specs.inner.FirstFault.{tests_of}
 use Rattle.edit_language.specs.declared.fault.RulesKind.{RulesKind}
 use Rattle.edit_language.specs.declared.fault.RulesKind.TheVariants.{BadByte, Syntax, UnknownField, DoubleField, UnknownCode, DoubleCode, NumberRange, TooMany, ConditionForm}
 use Rattle.edit_language.specs.inner.FirstFault.{IsLeastOf, fault_of, has_known_codes}

@@ -18,7 +18,8 @@ use Rattle.edit_model.specs.declared.rule.Test.TheVariants as test
 use Rattle.rule_grammar.specs.declared.statement.SumText.{SumText}
 use Rattle.rule_grammar.specs.declared.statement.TestText.{TestText}
 use Rattle.rule_grammar.specs.declared.statement.TestText.TheVariants as written
-use Rattle.edit_language.specs.Faults.{has_double_code, has_form, is_equation, is_known_test, is_large_test, is_sums, tests_of}
+use Rattle.edit_language.specs.Faults.{has_double_code, has_form, is_equation, is_known_test, is_large_test, is_sums}
+use Rattle.edit_language.specs.inner.FirstFault.{tests_of}
 use Rattle.edit_language.specs.inner.FirstFault.{declaration_fault, fault_of, first_true, has_known_codes}
 use Rattle.edit_language.specs.Meaning.{extended, field_of, rule_of, test_of}
 use Rattle.edit_language.specs.declared.fault.RulesKind.{RulesKind}

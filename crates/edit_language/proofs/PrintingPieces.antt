@@ -12,7 +12,8 @@ use Rattle.std.specs.List.{list_all, prefix_len}
 use Rattle.std.specs.Str.Parse.{AllDigits}
 use Rattle.edit_model.specs.Surveys.{IsName, is_digit, is_letter, is_name}
 use Rattle.rule_grammar.specs.Names.{IsCodeText}
-use Rattle.rule_grammar.specs.Tokens.{decimals_len, is_code_byte, is_inside_after, is_word_byte, tokens_from, whole_numeral}
+use Rattle.rule_grammar.specs.Tokens.{decimals_len, is_code_byte, is_inside_after, is_word_byte, whole_numeral}
+use Rattle.rule_grammar.specs.inner.Fronts.{tokens_from}
 use Rattle.rule_grammar.specs.declared.token.Keyword.{Keyword}
 use Rattle.rule_grammar.specs.declared.token.Keyword.TheVariants as keyword
 use Rattle.rule_grammar.specs.declared.token.Numeral.TheVariants as numeral

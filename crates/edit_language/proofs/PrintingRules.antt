@@ -17,7 +17,7 @@ use Rattle.edit_model.specs.declared.rule.Test.{Test}
 use Rattle.edit_model.specs.declared.rule.Test.TheVariants as test
 use Rattle.rule_grammar.specs.Names.{IsCodeText}
 use Rattle.rule_grammar.specs.Statements.{conditions_tokens, list_tokens, rule_tokens, sign_tokens, signed_term_tokens, sum_tokens, term_tokens, test_tokens}
-use Rattle.rule_grammar.specs.Tokens.{tokens_from}
+use Rattle.rule_grammar.specs.inner.Fronts.{tokens_from}
 use Rattle.rule_grammar.specs.declared.statement.TestText.{TestText}
 use Rattle.rule_grammar.specs.declared.token.Keyword.TheVariants as keyword
 use Rattle.rule_grammar.specs.declared.token.Numeral.TheVariants as numeral

@@ -23,7 +23,8 @@ use Rattle.rule_grammar.specs.declared.statement.TestText.{TestText}
 use Rattle.rule_grammar.specs.declared.statement.TestText.TheVariants as written
 use Rattle.rule_grammar.specs.declared.token.Numeral.{Numeral}
 use Rattle.rule_grammar.specs.declared.token.Numeral.TheVariants as numeral
-use Rattle.edit_language.specs.Faults.{has_form, is_equation, is_known_test, is_large_test, is_outside, is_sums, tests_of}
+use Rattle.edit_language.specs.Faults.{has_form, is_equation, is_known_test, is_large_test, is_outside, is_sums}
+use Rattle.edit_language.specs.inner.FirstFault.{tests_of}
 use Rattle.edit_language.specs.inner.FirstFault.{fault_of, has_known_codes}
 use Rattle.edit_language.specs.Meaning.{extended, field_of, listed, number_or_one, rule_of, test_of}
 use Rattle.edit_language.specs.declared.fault.RulesKind.{RulesKind}

@@ -21,7 +21,7 @@ use Rattle.rule_grammar.specs.declared.statement.TestText.{TestText}
 use Rattle.rule_grammar.specs.declared.statement.TestText.TheVariants as written
 use Rattle.rule_grammar.specs.declared.token.Numeral.{Numeral}
 use Rattle.rule_grammar.specs.declared.token.Numeral.TheVariants as numeral
-use Rattle.edit_language.specs.Meaning.{codes_of, field_named, is_listed, listed, moved_constant, moved_factor, terms_of}
+use Rattle.edit_language.specs.Meaning.{codes_of, field_named, field_of, is_listed, listed, moved_constant, moved_factor, terms_of}
 use Rattle.edit_language.specs.declared.fault.RulesFault.{RulesFault}
 use Rattle.edit_language.specs.declared.fault.RulesFault.TheVariants as fault
 use Rattle.edit_language.specs.declared.fault.RulesKind.{RulesKind}
@@ -142,12 +142,8 @@ is_sums (written.Codes field negated list) = false
 is_sums (written.Sums left compare right) = true
 
 abbrev pub is_equation : TestText → Bool
-is_equation (written.Codes field negated list) = false
 is_equation (written.Sums left Eq right) = true
-is_equation (written.Sums left Ge right) = false
-is_equation (written.Sums left Gt right) = false
-is_equation (written.Sums left Le right) = false
-is_equation (written.Sums left Lt right) = false
+is_equation other = false
 
 -- a number test among the conditions is the only one, is no equation, and implies a code test
 abbrev pub has_form : RuleText → Bool
@@ -155,36 +151,27 @@ has_form r = not (list_any is_sums r.conditions) || ((length r.conditions == 1) 
 
 -- ---- the faults of a statement
 
--- all tests of a rule
-abbrev pub tests_of : RuleText → List TestText
-tests_of r = r.conditions ++ r.conclusion ∷ []
-
 -- all tests of a statement; a declaration has none
 abbrev pub tests_in : Written → List TestText
 tests_in (statement.Declaration d) = []
-tests_in (statement.Rule r) = tests_of r
-
--- the name that is declared
-abbrev pub declared_name : Declared → List ℕ
-declared_name (declaration.Number name weight scale) = name
-declared_name (declaration.Code name weight list) = name
+tests_in (statement.Rule r) = r.conditions ++ r.conclusion ∷ []
 
 -- whether the statement declares a name that a field has already
 abbrev pub is_declared_again : List Field → Written → Bool
-is_declared_again fields (statement.Declaration d) = list_any (λ (f : Field). bytes_eq f.name (declared_name d)) fields
+is_declared_again fields (statement.Declaration d) = list_any (λ (f : Field). bytes_eq f.name (field_of d).name) fields
 is_declared_again fields (statement.Rule r) = false
 
 -- whether a code stands twice in one list of the statement
 abbrev pub has_code_twice : Written → Bool
 has_code_twice (statement.Declaration (declaration.Number name weight scale)) = false
 has_code_twice (statement.Declaration (declaration.Code name weight list)) = has_double (listed list)
-has_code_twice (statement.Rule r) = list_any has_double_code (tests_of r)
+has_code_twice (statement.Rule r) = list_any has_double_code (tests_in (statement.Rule r))
 
 -- whether a weight, a scale, or a number of a test is out of its limits
 abbrev pub is_out_of_range : List Field → Written → Bool
 is_out_of_range fields (statement.Declaration (declaration.Number name weight scale)) = is_outside 1000 weight || is_outside (10 ^ 12) scale
 is_out_of_range fields (statement.Declaration (declaration.Code name weight list)) = is_outside 1000 weight
-is_out_of_range fields (statement.Rule r) = list_any (is_large_test fields) (tests_of r)
+is_out_of_range fields (statement.Rule r) = list_any (is_large_test fields) (tests_in (statement.Rule r))
 
 -- whether the statement declares the 65th field or more than 64 codes, or is the 501st rule
 abbrev pub is_too_many : SurveyParts → Written → Bool
@@ -199,8 +186,6 @@ has_wrong_form (statement.Rule r) = not (has_form r)
 
 -- whether the statement, after the lines before it, has a fault of this kind; bad bytes and syntax are faults of a line, not of a statement
 abbrev pub has_fault : SurveyParts → Written → RulesKind → Bool
-has_fault before s BadByte = false
-has_fault before s Syntax = false
 has_fault before s UnknownField = not (list_all (is_known_test before.fields) (tests_in s))
 has_fault before s DoubleField = is_declared_again before.fields s
 has_fault before s UnknownCode = list_any (has_unknown_code before.fields) (tests_in s)
@@ -208,3 +193,4 @@ has_fault before s DoubleCode = has_code_twice s
 has_fault before s NumberRange = is_out_of_range before.fields s
 has_fault before s TooMany = is_too_many before s
 has_fault before s ConditionForm = has_wrong_form s
+has_fault before s kind = false

@@ -55,9 +55,8 @@ factor_in name (term.Constant number) = 0
 
 -- what a term is, where it is no field's
 abbrev pub constant_in : TermText → ℕ
-constant_in (term.Product factor times field) = 0
-constant_in (term.Field field) = 0
 constant_in (term.Constant number) = number_in number
+constant_in other = 0
 
 -- all terms of a sum with their signs; a first term without a sign is added
 abbrev pub terms_of : SumText → List SignedTerm

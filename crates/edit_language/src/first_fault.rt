@@ -3,7 +3,8 @@ ghost use Rattle.std.specs.Prelude.{◌≡◌, List, IfOk};
 ghost use Rattle.std.specs.List.{list_all, list_any};
 ghost use Rattle.std.specs.Str.{bytes_eq};
 ghost use Rattle.edit_model.specs.Parts.{parts_of};
-ghost use Rattle.edit_language.specs.Faults.{has_double_code, has_form, is_equation, is_known_test, is_large_test, is_sums, tests_of};
+ghost use Rattle.edit_language.specs.Faults.{has_double_code, has_form, is_equation, is_known_test, is_large_test, is_sums};
+ghost use Rattle.edit_language.specs.inner.FirstFault.{tests_of};
 ghost use Rattle.edit_language.specs.inner.FirstFault.{declaration_fault, fault_of, has_known_codes, rule_fault};
 
 use crate::codes::{has_double, has_double_code};

@@ -2,7 +2,8 @@
 ghost use Rattle.std.specs.Prelude.{◌≡◌, ◌≤◌, All, IfOk, false, length, map};
 ghost use Rattle.std.specs.List.{list_any};
 ghost use Rattle.edit_model.specs.Surveys.{IsField};
-ghost use Rattle.edit_language.specs.Faults.{is_large_test, is_outside, tests_of};
+ghost use Rattle.edit_language.specs.Faults.{is_large_test, is_outside};
+ghost use Rattle.edit_language.specs.inner.FirstFault.{tests_of};
 ghost use Rattle.edit_language.specs.Meaning.{field_of, number_or_one, rule_of, test_of};
 ghost use Rattle.edit_language.specs.inner.Weights.{weight_of};
 

@@ -16,12 +16,8 @@ IsFileName (first ∷ rest) = first ≢ 45
 
 -- three texts that may name files, no two of them the same
 pub record AreFileNames (names : Names) : Type 0 where
-  pub rules_named : IsFileName names.rules
-  pub records_named : IsFileName names.records
-  pub released_named : IsFileName names.released
-  pub rules_apart : names.rules ≢ names.records
-  pub records_apart : names.records ≢ names.released
-  pub released_apart : names.released ≢ names.rules
+  pub named : IsFileName names.rules × IsFileName names.records × IsFileName names.released
+  pub apart : (names.rules ≢ names.records) × (names.records ≢ names.released) × (names.released ≢ names.rules)
 
 -- the values of an option among words that come in pairs of an option and its value
 abbrev pub values_of : List ℕ → List (List ℕ) → List (List ℕ)

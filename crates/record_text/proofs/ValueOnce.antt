@@ -10,7 +10,8 @@ use Rattle.edit_model.specs.declared.value.Value.TheVariants.{Code, Number, Bad}
 use Rattle.fraction128.proofs.CommonDenominator.{IsOver-unique}
 use Rattle.fraction128.proofs.LowestLaws.{Fraction-same}
 use Rattle.fraction128.specs.declared.fraction.Fraction.{Fraction}
-use Rattle.record_text.specs.Numerals.{IsDecimal, IsNumeral, IsQuotient, IsUnsigned, has_minus, signed, without_sign}
+use Rattle.record_text.specs.inner.Marks.{signed}
+use Rattle.record_text.specs.Numerals.{IsDecimal, IsNumeral, IsQuotient, IsUnsigned, has_minus, without_sign}
 use Rattle.record_text.specs.inner.Marks.{is_mark}
 use Rattle.record_text.specs.Trimming.{trimmed}
 use Rattle.record_text.specs.Values.{AreRows, AreValues, IsValueText}

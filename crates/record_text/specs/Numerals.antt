@@ -39,13 +39,9 @@ abbrev pub has_minus : List ℕ → Bool
 has_minus [] = false
 has_minus (b ∷ bs) = b == 45
 
--- a size with its sign
-abbrev pub signed : Bool → ℕ → ℤ
-signed minus size = if minus then neg_ℤ (pos size) else pos size
-
 -- the text is a numeral, and x is the fraction that it spells
 pub record IsNumeral (text : List ℕ) (x : Fraction) : Type 0 where
   pub numerator : ℕ
   pub denominator : ℕ
   pub spelled : IsUnsigned (without_sign text) numerator denominator
-  pub value : x.numerator *ℤ pos denominator ≡ signed (has_minus text) numerator *ℤ x.denominator
+  pub value : x.numerator *ℤ pos denominator ≡ (if has_minus text then neg_ℤ (pos numerator) else pos numerator) *ℤ x.denominator

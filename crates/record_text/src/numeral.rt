@@ -1,8 +1,8 @@
 ghost use Rattle.std.specs.Prelude.{◌≡◌, ◌<◌, ◌≤◌, ◌^◌, ◌*ℤ◌, IfSome, IfNone, ℕ, pos, position};
 ghost use Rattle.std.specs.Str.Parse.{digits_value};
 ghost use Rattle.fraction128.specs.declared.fraction.Fraction.{Fraction as Spelled};
-ghost use Rattle.record_text.specs.Numerals.{AreDigits, IsDecimal, IsNumeral, IsQuotient, IsUnsigned, has_minus, signed, without_sign};
-ghost use Rattle.record_text.specs.inner.Marks.{is_mark};
+ghost use Rattle.record_text.specs.Numerals.{AreDigits, IsDecimal, IsNumeral, IsQuotient, IsUnsigned, has_minus, without_sign};
+ghost use Rattle.record_text.specs.inner.Marks.{is_mark, signed};
 
 use fraction128::Fraction;
 

@@ -2,7 +2,8 @@
 use Rattle.std.proofs.Common.{◌≡◌, refl, ℕ, Bool, List, [], ◌∷◌}
 use Rattle.rule_grammar.proofs.TokenSteps.{tokens_from_step}
 use Rattle.rule_grammar.specs.inner.Cursors.{IsFrontOf}
-use Rattle.rule_grammar.specs.Tokens.{after_blanks, is_inside_after, tokens_from, with_front}
+use Rattle.rule_grammar.specs.Tokens.{after_blanks, is_inside_after, with_front}
+use Rattle.rule_grammar.specs.inner.Fronts.{tokens_from}
 use Rattle.rule_grammar.specs.declared.token.Token.{Token}
 
 front_is_first : (inside : Bool) (after : List ℕ) (t : Token) (rest : List ℕ) → IsFrontOf inside after t rest → with_front inside after tokens_from ≡ t ∷ tokens_from (is_inside_after inside t) rest

@@ -19,7 +19,8 @@ use Rattle.rule_grammar.proofs.Runs.{prefix_passes, run_passes}
 use Rattle.rule_grammar.proofs.TokenSteps.{after_blanks_length, front_of_code, front_of_numeral, front_of_rest, front_of_word, letter_is_word, prefix_of_run, prefix_some}
 use Rattle.rule_grammar.specs.Names.{IsCodeText}
 use Rattle.rule_grammar.specs.Spellings.{AreLongestTokens, IsDecimal, IsDigits, IsLongestToken, IsNumeralText, IsSpelled, compare_text, keyword_text}
-use Rattle.rule_grammar.specs.Tokens.{Front, after_blanks, code_len, decimals_len, front_code, front_compare, front_numeral, front_of, front_word, is_code_byte, is_inside_after, is_word_byte, list_mark_token, mark_token, tokens_from, tokens_within, whole_numeral, with_front, word_len, word_token}
+use Rattle.rule_grammar.specs.Tokens.{Front, after_blanks, decimals_len, front_compare, front_numeral, front_of, is_code_byte, is_inside_after, is_word_byte, list_mark_token, mark_token, tokens_within, whole_numeral, with_front, word_token}
+use Rattle.rule_grammar.specs.inner.Fronts.{code_len, front_code, front_word, tokens_from, word_len}
 use Rattle.rule_grammar.specs.declared.token.Keyword.{Keyword}
 use Rattle.rule_grammar.specs.declared.token.Keyword.TheVariants as keyword
 use Rattle.rule_grammar.specs.declared.token.Numeral.{Numeral}

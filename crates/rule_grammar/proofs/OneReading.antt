@@ -14,7 +14,8 @@ use Rattle.rule_grammar.proofs.LongestTokens.{first_is_digit, front_is_longest, 
 use Rattle.rule_grammar.proofs.TokenSteps.{front_code_is, front_numeral_is, front_of_code, front_of_numeral, front_of_word, front_word_is, letter_is_word, prefix_of_run, prefix_some, tokens_from_step, word_token_is}
 use Rattle.rule_grammar.specs.Names.{IsCodeText}
 use Rattle.rule_grammar.specs.Spellings.{AreLongestTokens, IsDecimal, IsDigits, IsLongestToken, IsNumeralText, IsSpelled, begins_token, compare_text, keyword_text}
-use Rattle.rule_grammar.specs.Tokens.{Front, after_blanks, front_code, front_numeral, front_of, front_word, is_code_byte, is_inside_after, is_word_byte, tokens_from, whole_numeral, with_front}
+use Rattle.rule_grammar.specs.Tokens.{Front, after_blanks, front_numeral, front_of, is_code_byte, is_inside_after, is_word_byte, whole_numeral, with_front}
+use Rattle.rule_grammar.specs.inner.Fronts.{front_code, front_word, tokens_from}
 use Rattle.rule_grammar.specs.declared.token.Keyword.{Keyword}
 use Rattle.rule_grammar.specs.declared.token.Keyword.TheVariants as keyword
 use Rattle.rule_grammar.specs.declared.token.Numeral.{Numeral}

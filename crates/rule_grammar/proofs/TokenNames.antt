@@ -8,7 +8,8 @@ use Rattle.rule_grammar.proofs.LongestTokens.{tokens_are_longest}
 use Rattle.rule_grammar.specs.Names.{GivesNames, IsCodeText}
 use Rattle.rule_grammar.specs.Spellings.{AreLongestTokens, IsSpelled}
 use Rattle.rule_grammar.specs.Statements.{option_tokens, statement_tokens}
-use Rattle.rule_grammar.specs.Tokens.{is_inside_after, tokens_from, tokens_of}
+use Rattle.rule_grammar.specs.Tokens.{is_inside_after, tokens_of}
+use Rattle.rule_grammar.specs.inner.Fronts.{tokens_from}
 use Rattle.rule_grammar.specs.declared.statement.Declaration.TheVariants as declaration
 use Rattle.rule_grammar.specs.declared.statement.Statement.{Statement as Written}
 use Rattle.rule_grammar.specs.declared.statement.Statement.TheVariants as statement

@@ -12,7 +12,8 @@ use Rattle.edit_model.specs.Surveys.{IsName, is_digit, is_letter, reserved_words
 use Rattle.edit_model.specs.declared.rule.Compare.{Compare as Comparison}
 use Rattle.rule_grammar.specs.Names.{IsCodeText}
 pub use Rattle.rule_grammar.specs.Spellings.{keyword_text}
-use Rattle.rule_grammar.specs.Tokens.{Front, after_blanks, code_len, decimals_len, front_code, front_compare, front_numeral, front_of, front_word, is_blank, is_code_byte, is_inside_after, is_word_byte, tokens_from, tokens_within, whole_numeral, with_front, word_len, word_token}
+use Rattle.rule_grammar.specs.Tokens.{Front, after_blanks, decimals_len, front_compare, front_numeral, front_of, is_blank, is_code_byte, is_inside_after, is_word_byte, tokens_within, whole_numeral, with_front, word_token}
+use Rattle.rule_grammar.specs.inner.Fronts.{code_len, front_code, front_word, tokens_from, word_len}
 use Rattle.rule_grammar.specs.declared.token.Keyword.{Keyword}
 use Rattle.rule_grammar.specs.declared.token.Keyword.TheVariants as keyword
 use Rattle.rule_grammar.specs.declared.token.Token.{Token}

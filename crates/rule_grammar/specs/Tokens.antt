@@ -50,20 +50,13 @@ word_token word =
     else if bytes_eq word (codes "then") then token.Keyword keyword.Then
     else token.Name word
 
--- how long the word at the front is: it ends at the first byte that is none of a word's, and has at most 32
-abbrev pub word_len : List ℕ → ℕ
-word_len text = min 32 (prefix_len is_word_byte text)
+-- how long the run of such bytes at the front is, at most 32
+abbrev pub run_len : (ℕ → Bool) → List ℕ → ℕ
+run_len inside text = min 32 (prefix_len inside text)
 
--- the word at the front
-abbrev pub front_word : List ℕ → Front
-front_word text = record { token = word_token (take (word_len text) text); rest = drop (word_len text) text }
-
--- the same of a code
-abbrev pub code_len : List ℕ → ℕ
-code_len text = min 32 (prefix_len is_code_byte text)
-
-abbrev pub front_code : List ℕ → Front
-front_code text = record { token = token.Code (take (code_len text) text); rest = drop (code_len text) text }
+-- the token that is made of the run at the front
+abbrev pub front_run : (ℕ → Bool) → (List ℕ → Token) → List ℕ → Front
+front_run inside made text = record { token = made (take (run_len inside text) text); rest = drop (run_len inside text) text }
 
 -- ---- numerals
 
@@ -114,10 +107,10 @@ list_mark_token b =
 -- the token at the front of a text that begins with no blank; `inside` says whether it stands inside braces
 abbrev pub front_of : Bool → ℕ → List ℕ → Front
 front_of true b bs =
-    if is_code_byte b then front_code (b ∷ bs)
+    if is_code_byte b then front_run is_code_byte (λ code. token.Code code) (b ∷ bs)
     else record { token = list_mark_token b; rest = bs }
 front_of false b bs =
-    if is_letter b then front_word (b ∷ bs)
+    if is_letter b then front_run is_word_byte word_token (b ∷ bs)
     else if is_digit b then front_numeral (b ∷ bs)
     else if b == 62 then front_compare Ge Gt bs
     else if b == 60 then front_compare Le Lt bs
@@ -127,15 +120,7 @@ front_of false b bs =
 abbrev pub is_inside_after : Bool → Token → Bool
 is_inside_after inside token.Open = true
 is_inside_after inside token.Close = false
-is_inside_after inside (token.Keyword k) = inside
-is_inside_after inside (token.Name n) = inside
-is_inside_after inside (token.Numeral n) = inside
-is_inside_after inside (token.Code c) = inside
-is_inside_after inside (token.Sign s) = inside
-is_inside_after inside (token.Compare c) = inside
-is_inside_after inside token.Times = inside
-is_inside_after inside token.Comma = inside
-is_inside_after inside token.Stray = inside
+is_inside_after inside other = inside
 
 -- the token at the front, and those that `more` finds in what follows it
 abbrev pub with_front : Bool → List ℕ → (Bool → List ℕ → List Token) → List Token
@@ -149,10 +134,6 @@ abbrev pub tokens_within : ℕ → Bool → List ℕ → List Token
 tokens_within zero inside text = []
 tokens_within (suc n) inside text = with_front inside (after_blanks text) (tokens_within n)
 
--- the tokens of a text that begins inside braces, or outside; there are at most as many as bytes
-abbrev pub tokens_from : Bool → List ℕ → List Token
-tokens_from inside text = tokens_within (length text) inside text
-
--- the tokens of a line's text
+-- the tokens of a line's text, which begins outside braces; there are at most as many as bytes
 abbrev pub tokens_of : List ℕ → List Token
-tokens_of text = tokens_from false text
+tokens_of text = tokens_within (length text) false text

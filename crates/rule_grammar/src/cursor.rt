@@ -1,6 +1,7 @@
 //! The tokens of a text, read one after another. No memory.
 ghost use Rattle.std.specs.Prelude.{◌≡◌, List, [], ◌∷◌, IfSome, IfNone};
-ghost use Rattle.rule_grammar.specs.Tokens.{is_inside_after, tokens_from, tokens_of};
+ghost use Rattle.rule_grammar.specs.Tokens.{is_inside_after, tokens_of};
+ghost use Rattle.rule_grammar.specs.inner.Fronts.{tokens_from};
 ghost use Rattle.rule_grammar.specs.declared.token.Token.{Token as AnyToken};
 
 mod byte;

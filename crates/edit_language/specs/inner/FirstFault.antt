@@ -11,10 +11,14 @@ use Rattle.rule_grammar.specs.declared.statement.Statement.{Statement as Written
 use Rattle.rule_grammar.specs.declared.statement.Statement.TheVariants as statement
 use Rattle.rule_grammar.specs.declared.statement.TestText.{TestText}
 use Rattle.rule_grammar.specs.declared.statement.TestText.TheVariants as written
-use Rattle.edit_language.specs.Faults.{has_double, has_double_code, has_fault, has_form, is_known_test, is_large_test, is_outside, kind_number, tests_of}
+use Rattle.edit_language.specs.Faults.{has_double, has_double_code, has_fault, has_form, is_known_test, is_large_test, is_outside, kind_number, tests_in}
 use Rattle.edit_language.specs.Meaning.{codes_of, field_named, is_listed, listed}
 use Rattle.edit_language.specs.declared.fault.RulesKind.{RulesKind}
 use Rattle.edit_language.specs.declared.fault.RulesKind.TheVariants.{UnknownField, DoubleField, UnknownCode, DoubleCode, NumberRange, TooMany, ConditionForm}
+
+-- all tests of a rule
+abbrev pub tests_of : RuleText → List TestText
+tests_of r = tests_in (statement.Rule r)
 
 -- whether each code of a code test is a code of its field
 abbrev pub has_known_codes : List Field → TestText → Bool

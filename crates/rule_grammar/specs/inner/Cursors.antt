@@ -1,6 +1,7 @@
 -- What a reader of tokens has still to give, and what one step of it gives.
 use Rattle.std.specs.Prelude.{◌≡◌, ℕ, Bool, Option, Some, None, List, [], ◌∷◌}
-use Rattle.rule_grammar.specs.Tokens.{Front, front_of, tokens_from}
+use Rattle.rule_grammar.specs.Tokens.{Front, front_of}
+use Rattle.rule_grammar.specs.inner.Fronts.{tokens_from}
 use Rattle.rule_grammar.specs.declared.token.Token.{Token}
 
 -- the token that was read ahead and those of the rest; where none was, the text has ended

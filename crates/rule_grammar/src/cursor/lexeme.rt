@@ -1,7 +1,8 @@
 //! The first token of a text.
 ghost use Rattle.std.specs.Prelude.{◌≡◌, [], ◌∷◌, IfSome, IfNone, false, true};
 ghost use Rattle.rule_grammar.specs.inner.Cursors.{IsFrontOf};
-ghost use Rattle.rule_grammar.specs.Tokens.{after_blanks, is_inside_after, tokens_from};
+ghost use Rattle.rule_grammar.specs.Tokens.{after_blanks, is_inside_after};
+ghost use Rattle.rule_grammar.specs.inner.Fronts.{tokens_from};
 
 use super::byte::{is_code_byte, is_digit, is_letter};
 use super::mark::{first_compare, list_mark_token, mark_token};

@@ -2,7 +2,8 @@
 ghost use Rattle.std.specs.Prelude.{◌≡◌, ◌≤◌, length};
 ghost use Rattle.std.specs.List.{prefix_len};
 ghost use Rattle.edit_model.specs.Surveys.{is_digit};
-ghost use Rattle.rule_grammar.specs.Tokens.{code_len, is_blank, is_code_byte, is_word_byte, word_len};
+ghost use Rattle.rule_grammar.specs.Tokens.{is_blank, is_code_byte, is_word_byte};
+ghost use Rattle.rule_grammar.specs.inner.Fronts.{code_len, word_len};
 
 use super::byte::{is_blank, is_code_byte, is_digit, is_word_byte};
 

@@ -1,7 +1,8 @@
 //! Words and codes at the front of a text.
 ghost use Rattle.std.specs.Prelude.{◌≡◌, ◌≤◌, length};
 ghost use Rattle.rule_grammar.specs.inner.Cursors.{IsFront};
-ghost use Rattle.rule_grammar.specs.Tokens.{code_len, front_code, front_word, word_len, word_token};
+ghost use Rattle.rule_grammar.specs.Tokens.{word_token};
+ghost use Rattle.rule_grammar.specs.inner.Fronts.{code_len, front_code, front_word, word_len};
 
 use super::lexeme::Lexeme;
 use super::run::{code_len, word_len};
