@@ -1,4 +1,5 @@
-use Rattle.std.specs.Prelude.{ℕ, ℤ, zero, suc, ◌<◌, ◌-◌, ◌^◌, ◌==◌, ◌||◌, Bool, false, List, [], ◌∷◌, length, map, take, IsTrue, if◌then◌else◌}
+use Rattle.std.specs.Prelude.{ℕ, ℤ, zero, suc, ◌<◌, ◌-◌, ◌^◌, ◌==◌, List, [], ◌∷◌, length, map, take, IsTrue, if◌then◌else◌}
+pub use Rattle.edit_model.specs.FieldSets.{has_field}
 use Rattle.edit_model.specs.Points.{Point}
 use Rattle.edit_model.specs.declared.field.Field.{Field}
 use Rattle.edit_model.specs.declared.field.Kind.{Kind}
@@ -57,11 +58,6 @@ abbrev pub whole_sets : List Domain → List ℕ
 whole_sets [] = []
 whole_sets (Numerical ∷ shape) = whole_sets shape
 whole_sets (Categorical k ∷ shape) = (2 ^ k - 1) ∷ whole_sets shape
-
--- whether a list of fields has the field
-abbrev pub has_field : List ℕ → ℕ → Bool
-has_field [] f = false
-has_field (i ∷ fields) f = (i == f) || has_field fields f
 
 -- the element beside the field, and the given one where the field is none of them
 abbrev pub beside : {X : Type 0} → X → List ℕ → List X → ℕ → X

@@ -3,47 +3,45 @@ use Rattle.std.specs.List.{position_or_len}
 use Rattle.std.specs.Str.{bytes_eq}
 use Rattle.std.proofs.lemmas.Bool.{cases_lt}
 use Rattle.std.proofs.lemmas.Bool.Decides.{Decides-ltb}
-use Rattle.std.proofs.lemmas.List.{get_or-map, get_or-take, length-map, length-take-le, map_more}
+use Rattle.std.proofs.lemmas.List.{get_or-map, get_or-take, get_or_default, length-map, length-take-le, map_more}
+use Rattle.std.proofs.lemmas.List.Elements.{All-map}
 use Rattle.std.proofs.lemmas.List.Quantifiers.{position-Some}
 use Rattle.std.proofs.lemmas.List.Sums.{prefix_len_passes}
 use Rattle.std.proofs.lemmas.Option.{slice_get_cases}
 use Rattle.std.proofs.lemmas.Slice.Eq.{bytes_eq-Decides}
 use Rattle.edit_model.proofs.NameLemmas.{false_from_not}
-use Rattle.edit_model.specs.Indexes.{names_of}
+use Rattle.edit_model.specs.inner.Indexes.{names_of}
 use Rattle.edit_model.specs.declared.field.Field.{Field}
 
 -- the name at a place of the list of names is the name of the field there
-pub name_at : (fields : List Field) (i : ℕ) (d : Field) (e : List ℕ) → i < length fields → get_or (names_of fields) i e ≡ (get_or fields i d).name
+name_at : (fields : List Field) (i : ℕ) (d : Field) (e : List ℕ) → i < length fields → get_or (names_of fields) i e ≡ (get_or fields i d).name
 name_at fields i d e below = get_or-map (λ (f : Field). f.name) fields i d e below
 
--- among the first names, the name at a place is that of the field there
-name_before : (fields : List Field) (i j : ℕ) (d : Field) (e : List ℕ) → i < length fields → j < i → get_or (names_of (take i fields)) j e ≡ (get_or fields j d).name
-name_before fields i j d e below earlier =
-    let many : length (take i fields) ≡ i = length-take-le i fields (omega arith) in
-    name_at (take i fields) j d e (omega arith) ∙ ap (λ (f : Field). f.name) (get_or-take i fields j d earlier)
+-- the field at a place, among those that come after others
+module _ (fields : List Field) (i : ℕ) (field : Field) (below : i < length fields) (here : field ≡ get_or fields i field) where
+  many_before : length (take i fields) ≡ i
+  many_before = length-take-le i fields (omega arith)
 
--- the fields before a place have distinct names, and so with the field there where its name is new
-pub distinct_more : (fields : List Field) (i : ℕ) (e : Field) → i < length fields
-    → ((j k : ℕ) (d : Field) → j < k → k < i → (get_or fields j d).name ≢ (get_or fields k d).name)
-    → All (λ n. n ≢ (get_or fields i e).name) (names_of (take i fields))
-    → (j k : ℕ) (d : Field) → j < k → k < i + 1 → (get_or fields j d).name ≢ (get_or fields k d).name
-distinct_more fields i e below before new j k d earlier under same =
-    elim (cases_lt k i) [
-      | inl first ↦ before j k d earlier first same
-      | inr last ↦
-          let at : k ≡ i = omega arith in
-          let many : length (names_of (take i fields)) ≡ i = simp (length-map) (length-take-le i fields (omega arith)) in
-          let named : get_or (names_of (take i fields)) j [] ≡ (get_or fields i e).name = name_before fields i j d [] below (omega arith) ∙ same ∙ ap (λ (n : ℕ). (get_or fields n d).name) at ∙ sym (name_at fields i d [] below) ∙ name_at fields i e [] below in
-          new j [] (omega arith) named
-    ]
+  named_here : (d : Field) → (get_or fields i d).name ≡ field.name
+  named_here d = ap (λ (f : Field). f.name) (get_or_default fields i d field below ∙ sym here)
 
--- where the fields have distinct names, a field's name is new
-name_is_new : (fields : List Field) (i : ℕ) (d : Field) → i < length fields → AllPairs (λ (f : Field) (g : Field). f.name ≢ g.name) fields
-    → All (λ n. n ≢ (get_or fields i d).name) (names_of (take i fields))
-name_is_new fields i d below distinct j e under same =
-    let many : length (names_of (take i fields)) ≡ i = simp (length-map) (length-take-le i fields (omega arith)) in
-    let earlier : j < i = omega arith in
-    distinct j i d earlier below (sym (name_before fields i j d e below earlier) ∙ same)
+  -- where all fields have distinct names, none before it has its name
+  pub name_is_new : AllPairs (λ (f : Field) (g : Field). f.name ≢ g.name) fields → All (λ (f : Field). f.name ≢ field.name) (take i fields)
+  name_is_new distinct j d under same =
+      let many = many_before in
+      let earlier : j < i = omega arith in
+      distinct j i d earlier below (ap (λ (f : Field). f.name) (sym (get_or-take i fields j d earlier)) ∙ same ∙ sym (named_here d))
+
+  -- where the fields before it have distinct names and none has its name, the fields up to it have distinct names
+  pub distinct_more : ((j k : ℕ) (d : Field) → j < k → k < i → (get_or fields j d).name ≢ (get_or fields k d).name) → All (λ (f : Field). f.name ≢ field.name) (take i fields)
+      → (j k : ℕ) (d : Field) → j < k → k < i + 1 → (get_or fields j d).name ≢ (get_or fields k d).name
+  distinct_more before new j k d earlier under same = elim (cases_lt k i) [
+    | inl first ↦ before j k d earlier first same
+    | inr last ↦
+        let many = many_before in
+        let at : k ≡ i = omega arith in
+        new j d (omega arith) (ap (λ (f : Field). f.name) (get_or-take i fields j d (omega arith)) ∙ same ∙ ap (λ (n : ℕ). (get_or fields n d).name) at ∙ named_here d)
+  ]
 
 -- a table of the fields' names, up to the field at a place
 module _ (fields : List Field) (i : ℕ) (table : List (List ℕ)) (field : Field) (below : i < length fields) (are : table ≡ names_of (take i fields)) (here : field ≡ get_or fields i field) where
@@ -51,18 +49,11 @@ module _ (fields : List Field) (i : ℕ) (table : List (List ℕ)) (field : Fiel
   pub names_more : table ++ field.name ∷ [] ≡ names_of (take (i + 1) fields)
   names_more = ap (λ (ns : List (List ℕ)). ns ++ field.name ∷ []) are ∙ ap (λ (f : Field). names_of (take i fields) ++ f.name ∷ []) here ∙ sym (map_more (λ (f : Field). f.name) fields i field below)
 
-  -- a new name is distinct from those before it
-  pub still_distinct : ((j k : ℕ) (d : Field) → j < k → k < i → (get_or fields j d).name ≢ (get_or fields k d).name) → All (λ n. n ≢ field.name) table
-      → (j k : ℕ) (d : Field) → j < k → k < i + 1 → (get_or fields j d).name ≢ (get_or fields k d).name
-  still_distinct before new =
-      let P : List (List ℕ) → List ℕ → Type 0 = λ ns name. All (λ n. n ≢ name) ns in
-      distinct_more fields i field below before (subst (λ (f : Field). P (names_of (take i fields)) f.name) here (subst (λ (ns : List (List ℕ)). P ns field.name) are new))
-
-  -- a name that the table has already stands at two fields
-  pub name_repeats : ¬ All (λ n. n ≢ field.name) table → ¬ AllPairs (λ (f : Field) (g : Field). f.name ≢ g.name) fields
-  name_repeats there distinct =
-      let P : List (List ℕ) → List ℕ → Type 0 = λ ns name. All (λ n. n ≢ name) ns in
-      there (subst (λ (ns : List (List ℕ)). P ns field.name) (sym are) (subst (λ (f : Field). P (names_of (take i fields)) f.name) (sym here) (name_is_new fields i field below distinct)))
+  -- which is new to it, where the fields have distinct names
+  pub still_new : AllPairs (λ (f : Field) (g : Field). f.name ≢ g.name) fields → All (λ n. n ≢ field.name) table
+  still_new distinct =
+      subst (λ (ns : List (List ℕ)). All (λ n. n ≢ field.name) ns) (sym are)
+      (All-map (λ n. n ≢ field.name) (λ (f : Field). f.name) (take i fields) (name_is_new fields i field below here distinct))
 
 -- where no place passes a test, the first that does is past the end
 past_all : (test : List ℕ → Bool) (names : List (List ℕ)) → position test names ≡ None → length names ≤ position_or_len test names

@@ -1,11 +1,15 @@
 pub mod BitSets
 pub mod FieldNames
 pub mod FieldNumbers
+pub mod FieldSetLaws
 pub mod Kept
 pub mod NameLemmas
+pub mod OrderLaws
 pub mod Rising
+pub mod RowLaws
 pub mod RowPointLaws
 pub mod TableLemmas
 pub mod TrialCallers
 pub mod TrialLaws
 pub mod TrialSteps
+pub mod WordLaws

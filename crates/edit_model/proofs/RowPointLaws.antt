@@ -1,4 +1,4 @@
-use Rattle.std.proofs.Common.{◌≡◌, ◌≢◌, ℕ, zero, suc, ◌+◌, ◌<◌, not, List, [], ◌∷◌, length, ℤ, pos, ◌*ℤ◌, ◌<ℤ◌, refl, sym, ap, ◌∙◌, subst, arith}
+use Rattle.std.proofs.Common.{◌≡◌, ◌≢◌, ℕ, zero, suc, ◌+◌, ◌<◌, not, All, List, [], ◌∷◌, length, ℤ, pos, ◌*ℤ◌, ◌<ℤ◌, refl, sym, ap, ◌∙◌, subst, arith}
 use Rattle.std.proofs.lemmas.Bool.Decides.{Decides-int_eq, Decides-eqb}
 use Rattle.std.proofs.lemmas.Int.{ints}
 use Rattle.fraction128.proofs.Signs.{above-*}
@@ -7,6 +7,7 @@ use Rattle.fraction128.specs.declared.fraction.Fraction.{Fraction}
 use Rattle.edit_model.specs.Points.{HasCodesFrom, IsInDomain, Point}
 use Rattle.edit_model.specs.RowPoints.{Agrees, code_in}
 use Rattle.edit_model.specs.Rows.{IsOfKind, IsRow, value_of}
+use Rattle.edit_model.specs.Surveys.{IsField, IsKind}
 use Rattle.edit_model.specs.declared.field.Field.{Field}
 use Rattle.edit_model.specs.declared.field.Kind.{Kind}
 use Rattle.edit_model.specs.declared.field.Kind.TheVariants as kind
@@ -90,25 +91,24 @@ agreeing_point row held = (point_of row, λ f within. point_of-agrees row f (hel
 value_after : (row values : List Value) (i : ℕ) (v : Value) → ((j : ℕ) → value_of row (i + j) ≡ value_of (v ∷ values) j) → (j : ℕ) → value_of row (suc i + j) ≡ value_of values j
 value_after row values i v same j = ap (λ (n : ℕ). value_of row n) (omega arith) ∙ same (suc j)
 
--- the code of a value of the kind is of the kind's domain
-in_domain : (k : Kind) (v : Value) → IsOfKind k v → v ≢ Bad → IsInDomain k (code_in v)
-in_domain (kind.Number scale) v is held = tt
-in_domain (kind.Code codes) (Code c) is held = is
-in_domain (kind.Code codes) (Number x) is held = absurd is
-in_domain (kind.Code codes) Bad is held = absurd (held refl)
+-- the code of a value of the kind is of the kind's domain, and so is the first, which stands for Bad
+in_domain : (k : Kind) (v : Value) → IsKind k → IsOfKind k v → IsInDomain k (code_in v)
+in_domain (kind.Number scale) v fits is = tt
+in_domain (kind.Code codes) (Code c) fits is = is
+in_domain (kind.Code codes) (Number x) fits is = absurd is
+in_domain (kind.Code codes) Bad fits is = omega (arith, fits.0)
 
--- the codes of a point that agrees with a record without Bad fields are of their fields' domains
-codes_from : (fields : List Field) (values row : List Value) (i : ℕ) → IsRow fields values → ((j : ℕ) → j < length values → value_of values j ≢ Bad)
-    → ((j : ℕ) → value_of row (i + j) ≡ value_of values j) → HasCodesFrom i fields (point_of row)
+-- the codes of the point of a record, from a field on, are of their fields' domains
+codes_from : (fields : List Field) (values row : List Value) (i : ℕ) → All IsField fields → IsRow fields values → ((j : ℕ) → value_of row (i + j) ≡ value_of values j) → HasCodesFrom i fields (point_of row)
 unfolding point_of
-codes_from [] values row i is held same = tt
-codes_from (field ∷ fields) [] row i is held same = absurd is
-codes_from (field ∷ fields) (v ∷ values) row i is held same =
+codes_from [] values row i fit is same = tt
+codes_from (field ∷ fields) [] row i fit is same = absurd is
+codes_from (field ∷ fields) (v ∷ values) row i fit is same =
     let here : value_of row i ≡ v = ap (λ (n : ℕ). value_of row n) (omega arith) ∙ same 0 in (
-      subst (λ (w : Value). IsInDomain field.kind (code_in w)) (sym here) (in_domain field.kind v is.0 (held 0 (omega arith))),
-      codes_from fields values row (suc i) is.1 (λ j within. held (suc j) (omega arith)) (value_after row values i v same),
+      subst (λ (w : Value). IsInDomain field.kind (code_in w)) (sym here) (in_domain field.kind v (fit 0 field (omega arith)).fits is.0),
+      codes_from fields values row (suc i) (λ k d below. fit (suc k) d (omega arith)) is.1 (value_after row values i v same),
     )
 
--- a record of the survey without Bad fields has its codes in their domains
-pub point_of-codes : (fields : List Field) (row : List Value) → IsRow fields row → ((f : ℕ) → f < length row → value_of row f ≢ Bad) → HasCodesFrom 0 fields (point_of row)
-point_of-codes fields row is held = codes_from fields row row 0 is held (λ j. ap (λ (n : ℕ). value_of row n) (omega arith))
+-- a record of a survey has its codes in their domains, with the first one where it is Bad
+pub point_of-codes : (fields : List Field) (row : List Value) → All IsField fields → IsRow fields row → HasCodesFrom 0 fields (point_of row)
+point_of-codes fields row fit is = codes_from fields row row 0 fit is (λ j. ap (λ (n : ℕ). value_of row n) (omega arith))

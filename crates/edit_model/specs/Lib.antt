@@ -3,10 +3,11 @@ pub mod Changes
 pub mod Corrections
 pub mod Faults
 pub mod FieldSets
-pub mod Indexes
+pub mod inner
 pub mod Parts
 pub mod Points
 pub mod RowPoints
 pub mod Rows
 pub mod Surveys
 pub mod Trials
+pub mod Words

@@ -1,4 +1,4 @@
-use Rattle.std.specs.Prelude.{ℕ, ◌<◌, List, [], ◌∷◌, length, slice_index_or}
+use Rattle.std.specs.Prelude.{ℕ, ◌<◌, Bool, true, false, List, [], ◌∷◌, length, slice_index_or}
 use Rattle.edit_model.specs.declared.field.Field.{Field}
 use Rattle.edit_model.specs.declared.field.Kind.{Kind}
 use Rattle.edit_model.specs.declared.field.Kind.TheVariants as kind
@@ -21,3 +21,9 @@ IsRow _ _ = ⊥
 -- the record's value at a field, Bad past the end
 abbrev pub value_of : List Value → ℕ → Value
 value_of row i = slice_index_or row i Bad
+
+-- whether there is no value
+abbrev pub is_bad : Value → Bool
+is_bad Bad = true
+is_bad (Code c) = false
+is_bad (Number x) = false

@@ -1,6 +1,7 @@
 //! Whether the parts of a survey are well formed: one question a function.
-ghost use Rattle.std.specs.Prelude.{◌≤◌, ◌↔◌, All, IsTrue, length};
-ghost use Rattle.edit_model.specs.Surveys.{IsField, IsRule};
+ghost use Rattle.std.specs.Prelude.{◌≢◌, ◌↔◌, All, AllPairs, IsTrue};
+ghost use Rattle.edit_model.specs.Parts.{parts_of};
+ghost use Rattle.edit_model.specs.Surveys.{IsField, IsRule, IsWellFormed};
 
 mod field;
 mod kind;
@@ -9,6 +10,7 @@ mod name;
 mod rule;
 
 use crate::field::Field;
+use crate::name::Name;
 use crate::rule::Rule;
 use field::is_field;
 use rule::is_rule;
@@ -31,12 +33,32 @@ fn are_rules(fields: &[Field], rules: &[Rule]) -> bool
     rules.iter().all(|rule| is_rule(fields, rule))
 }
 
-/// Whether there are few enough fields and rules, and each is well formed.
-pub(crate) fn are_in_form(fields: &[Field], rules: &[Rule]) -> bool
-    ensures { IsTrue result ↔ ((length fields.now ≤ 64) × (length rules.now ≤ 500) × All IsField fields.now × All (IsRule fields.now) rules.now) }
+// Whether none of the fields has this name.
+fn is_new(fields: &[Field], name: &Name) -> bool
+    ensures { IsTrue result ↔ All (λ f. f.name ≢ name.now) fields.now }
+{
+    fields.iter().all(|f| f.name.as_bytes() != name.as_bytes())
+}
+
+// Whether no two of the fields have the same name.
+fn have_distinct_names(fields: &[Field]) -> bool
+    ensures { IsTrue result ↔ AllPairs (λ f g. f.name ≢ g.name) fields.now }
+{
+    for (i, field) in fields.iter().enumerate() {
+        if !is_new(&fields[..i], &field.name) {
+            return false;
+        }
+    }
+    true
+}
+
+/// Whether the survey of these fields and rules is well formed.
+pub(crate) fn is_well_formed(fields: &[Field], rules: &[Rule]) -> bool
+    ensures { IsTrue result ↔ IsWellFormed (parts_of fields.now rules.now) }
 {
     fields.len() <= MOST_FIELDS
         && rules.len() <= MOST_RULES
+        && have_distinct_names(fields)
         && are_fields(fields)
         && are_rules(fields, rules)
 }

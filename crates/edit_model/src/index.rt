@@ -1,24 +1,21 @@
 //! What a survey keeps beside its parts, so that it is not looked for each time.
 ghost use Rattle.std.specs.Prelude.{◌≡◌, ◌≢◌, ◌∷◌, ◌++◌, [], ◌≤◌, if◌then◌else◌, AllPairs, IfOk, OnOk, length};
 ghost use Rattle.edit_model.specs.Corrections.{numbers_from};
-ghost use Rattle.edit_model.specs.Indexes.{is_of_kind, names_of};
+ghost use Rattle.edit_model.specs.inner.Indexes.{is_of_kind, names_of};
 
-use crate::fault::SurveyFault;
 use crate::field::{Field, Kind};
 use crate::name_table::NameTable;
 use foundation::OutOfMemory;
 use std::alloc::Global;
 
-/// The table of the fields' names. Malformed where two of them are the same.
-pub(crate) fn name_table(alloc: Global, fields: &[Field]) -> Result<NameTable, SurveyFault>
-    ensures ok { IfOk result (λ table. (table ≡ names_of fields.now) × AllPairs (λ f g. f.name ≢ g.name) fields.now) }
-    ensures malformed { result ≡ Err SurveyFault.Malformed → ¬ AllPairs (λ f g. f.name ≢ g.name) fields.now }
+/// The table of the fields' names, which are distinct.
+pub(crate) fn name_table(alloc: Global, fields: &[Field]) -> Result<NameTable, OutOfMemory>
+    requires { AllPairs (λ f g. f.name ≢ g.name) fields.now }
+    ensures { IfOk result (λ table. table ≡ names_of fields.now) }
 {
     let mut table = NameTable::new(alloc);
     for field in fields {
-        if !table.insert(alloc, &field.name)? {
-            return Err(SurveyFault::Malformed);
-        }
+        table.push(alloc, &field.name)?;
     }
     Ok(table)
 }

@@ -1,4 +1,4 @@
-ghost use Rattle.std.specs.Prelude.{◌≡◌, ◌≢◌, ◌∷◌, ◌++◌, [], All, IfOk, MatchBool, position};
+ghost use Rattle.std.specs.Prelude.{◌≡◌, ◌≢◌, ◌∷◌, ◌++◌, [], All, OnOk, position};
 ghost use Rattle.std.specs.Str.{bytes_eq};
 
 use crate::name::Name;
@@ -31,12 +31,14 @@ impl NameTable {
         }
     }
 
-    /// Puts the name last, and answers whether it is new. A name that is there already stays in its place.
-    pub(crate) fn insert(&mut self, alloc: Global, name: &Name) -> Result<bool, OutOfMemory>
-        ensures { IfOk result (λ added. MatchBool added ((self.new ≡ self.old ++ name.now ∷ []) × All (λ n. n ≢ name.now) self.old) (¬ All (λ n. n ≢ name.now) self.old)) }
+    /// Puts a new name last.
+    pub(crate) fn push(&mut self, alloc: Global, name: &Name) -> Result<(), OutOfMemory>
+        requires { All (λ n. n ≢ name.now) self.old }
+        ensures { OnOk result (self.new ≡ self.old ++ name.now ∷ []) }
     {
         let key = Vec::from_slice(alloc, name.as_bytes())?;
-        Ok(self.names.insert(key)?)
+        let _ = self.names.insert(key)?; // whether it is new, which it is
+        Ok(())
     }
 
     /// The place of the name, from 0. No memory.

@@ -1,5 +1,5 @@
-ghost use Rattle.std.specs.Prelude.{◌≡◌, ◌<◌, List, length, slice_set, IfOk};
-ghost use Rattle.edit_model.specs.Rows.{IsRow, value_of};
+ghost use Rattle.std.specs.Prelude.{◌≡◌, ◌<◌, List, length, slice_get, slice_set, IfOk, IsSomeAnd};
+ghost use Rattle.edit_model.specs.Rows.{IsOfKind, IsRow, value_of};
 
 use crate::survey::Survey;
 use crate::value::Value;
@@ -50,9 +50,10 @@ impl Row {
 
     /// Puts a value at the field of this number: one of the field's kind, or Bad. No memory.
     pub fn set(&mut self, survey: &Survey, field: u32, value: Value)
-        requires within { field < length self.old }
-        requires fits { IsRow survey.now.fields (slice_set self.old field value) }
-        ensures { self.new ≡ slice_set self.old field value }
+        requires row { IsRow survey.now.fields self.old }
+        requires kind { IsSomeAnd (slice_get survey.now.fields field) (λ f. IsOfKind f.kind value) }
+        ensures set { self.new ≡ slice_set self.old field value }
+        ensures row { IsRow survey.now.fields self.new }
     {
         let _ = survey;
         self.values[field as usize] = value;

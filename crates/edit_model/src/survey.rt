@@ -1,14 +1,15 @@
-ghost use Rattle.std.specs.Prelude.{◌≡◌, ◌≢◌, All, IfNone, IfOk, IfSome, IsSomeAnd, slice_get};
-ghost use Rattle.edit_model.specs.Corrections.{code_fields, number_fields};
+ghost use Rattle.std.specs.Prelude.{◌≡◌, ◌≢◌, ◌<◌, All, IfNone, IfOk, IfSome, IsSomeAnd, length, slice_get, slice_index_or};
+ghost use Rattle.edit_model.specs.Corrections.{code_fields, number_fields, path_order};
 ghost use Rattle.edit_model.specs.Parts.{SurveyParts, parts_of};
 ghost use Rattle.edit_model.specs.Surveys.{IsWellFormed};
 
-use crate::check::are_in_form;
+use crate::check::is_well_formed;
 use crate::fault::SurveyFault;
 use crate::field::Field;
 use crate::index::{field_numbers, name_table};
 use crate::name_table::NameTable;
 use crate::rule::Rule;
+use foundation::OutOfMemory;
 use std::alloc::Global;
 use std::marker::Model;
 
@@ -23,7 +24,7 @@ pub struct Survey {
 }
 
 impl Model for Survey {
-    ghost use Rattle.edit_model.specs.Indexes.{IsKept};
+    ghost use Rattle.edit_model.specs.inner.Indexes.{IsKept};
     ghost use Rattle.edit_model.specs.Parts.{SurveyParts, parts_of};
 
     ghost Value = { SurveyParts };
@@ -39,10 +40,18 @@ impl Survey {
         ensures ok { IfOk result (λ survey. (survey ≡ parts_of fields.items rules.items) × IsWellFormed survey) }
         ensures malformed { result ≡ Err SurveyFault.Malformed → ¬ IsWellFormed (parts_of fields.items rules.items) }
     {
-        let declared = fields.as_slice();
-        if !are_in_form(declared, &rules) {
+        if !is_well_formed(&fields, &rules) {
             return Err(SurveyFault::Malformed);
         }
+        Ok(Survey::of(alloc, fields, rules)?)
+    }
+
+    /// The survey of these fields and rules, which are well formed.
+    pub fn of(alloc: Global, fields: Vec<Field>, rules: Vec<Rule>) -> Result<Survey, OutOfMemory>
+        requires { IsWellFormed (parts_of fields.items rules.items) }
+        ensures { IfOk result (λ survey. survey ≡ parts_of fields.items rules.items) }
+    {
+        let declared = fields.as_slice();
         let names = name_table(alloc, declared)?;
         let numbers = field_numbers(alloc, declared, true)?;
         let categories = field_numbers(alloc, declared, false)?;
@@ -94,5 +103,21 @@ impl Survey {
         ensures { result.now ≡ code_fields self.now.fields }
     {
         self.categories.as_slice()
+    }
+
+    /// The number of the field at a place of the order in which fields are looked at: the numerical
+    /// ones as declared, and then the categorical ones. No memory.
+    pub fn path_field(&self, place: u32) -> u32
+        requires { place < length self.now.fields }
+        ensures field { result ≡ slice_index_or (path_order self.now.fields) place 0 }
+        ensures within { result < length self.now.fields }
+    {
+        let place = place as usize;
+        let numbers = self.numbers();
+        if place < numbers.len() {
+            numbers[place]
+        } else {
+            self.codes()[place - numbers.len()]
+        }
     }
 }

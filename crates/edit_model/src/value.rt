@@ -1,3 +1,6 @@
+ghost use Rattle.std.specs.Prelude.{◌≡◌};
+ghost use Rattle.edit_model.specs.Rows.{is_bad};
+
 use fraction128::Fraction;
 
 /// What a record holds in a field.
@@ -9,4 +12,13 @@ pub enum Value {
     Number(Fraction),
     /// Missing or faulty: every correction changes it.
     Bad,
+}
+
+impl Value {
+    /// Whether there is no value.
+    pub fn is_bad(&self) -> bool
+        ensures { result ≡ is_bad self.now }
+    {
+        matches!(self, Value::Bad)
+    }
 }
