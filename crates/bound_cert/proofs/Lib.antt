@@ -6,4 +6,3 @@ pub mod OrderLoop
 pub mod PathLaws
 pub mod PathLoops
 pub mod TreeLaws
-pub mod WorkedTrees

@@ -1,8 +1,8 @@
-use Rattle.std.proofs.Common.{◌≡◌, ◌≢◌, ℕ, suc, ◌+◌, ◌≤◌, ◌&&◌, not, Bool, true, false, cond, if◌then◌else◌, List, [], ◌∷◌, ◌++◌, map, inl, inr, refl, sym, ap, ◌∙◌, subst, arith}
-use Rattle.std.specs.List.{filter, list_any, sum_by}
+use Rattle.std.proofs.Common.{◌≡◌, ◌≢◌, ℕ, ◌+◌, ◌≤◌, not, Bool, true, false, cond, if◌then◌else◌, List, [], ◌∷◌, map, inl, inr, sym, ap, ◌∙◌, subst, arith}
+use Rattle.std.specs.List.{filter, sum_by}
 use Rattle.std.proofs.lemmas.List.Sums.{sum_by-cons}
-use Rattle.edit_model.specs.Corrections.{change_weight, differs_from, is_numerical, numbers_from, path_order, weight_from, word_of}
-use Rattle.edit_model.specs.FieldSets.{has_number, set_of}
+use Rattle.edit_model.specs.Corrections.{change_weight, differs_from, path_order, word_of}
+use Rattle.edit_model.specs.FieldSets.{has_number}
 use Rattle.edit_model.specs.Parts.{SurveyParts}
 use Rattle.edit_model.specs.Points.{Point}
 use Rattle.edit_model.specs.Rows.{IsRow, is_bad, value_of}
@@ -12,7 +12,7 @@ use Rattle.edit_model.proofs.RowLaws.{not-bad, was-bad}
 use Rattle.edit_model.proofs.WordLaws.{changed-weigh, word-weighs}
 use Rattle.edit_model.specs.declared.field.Field.{Field}
 use Rattle.edit_model.specs.declared.value.Value.{Value}
-use Rattle.edit_model.specs.declared.value.Value.TheVariants.{Bad, Code, Number}
+use Rattle.edit_model.specs.declared.value.Value.TheVariants.{Bad}
 use Rattle.edit_line.specs.Reductions.{IsIn}
 use Rattle.edit_line.proofs.FieldLists.{has-there}
 use Rattle.edit_line.proofs.Members.{in-any, in-filter-out}

@@ -1,4 +1,4 @@
-use Rattle.std.proofs.Common.{◌≡◌, ℕ, zero, suc, ◌+◌, ◌<◌, ◌&&◌, Bool, true, false, List, [], ◌∷◌, ◌++◌, map, length, refl, ap, ◌∙◌, inl, inr, arith}
+use Rattle.std.proofs.Common.{◌≡◌, ℕ, zero, suc, ◌+◌, ◌<◌, ◌&&◌, Bool, true, false, List, [], ◌∷◌, ◌++◌, map, length, refl, ap, ◌∙◌, inl, arith}
 use Rattle.std.proofs.lemmas.List.{length-append, length-map}
 use Rattle.edit_line.specs.Reductions.{IsIn}
 use Rattle.edit_line.proofs.BoolLaws.{true-both}
@@ -48,6 +48,13 @@ parted p ((true ∷ s) ∷ rest) h =
     let (changed, same, order) = behind s rest later in
     ([], s, changed, ap (λ (ps : List (List Bool)). (true ∷ s) ∷ ps) same, ends, start, order)
 
+-- the leaves of two trees are those of the tree that forks into them
+forked : (p : List Bool) (rest kept : List (List Bool)) (q : List Bool) (changed : List (List Bool)) (left right : Tree) → rest ≡ map keep kept ++ map change (q ∷ changed) → p ∷ kept ≡ leaf_paths left → q ∷ changed ≡ leaf_paths right → AreLeafPaths ((false ∷ p) ∷ rest)
+forked p rest kept q changed left right same left_paths right_paths = (
+  Fork left right,
+  ap (λ (ps : List (List Bool)). (false ∷ p) ∷ ps) same ∙ ap (λ (ps : List (List Bool)). map keep ps ++ map change (q ∷ changed)) left_paths ∙ ap (λ (ps : List (List Bool)). map keep (leaf_paths left) ++ map change ps) right_paths,
+)
+
 grown : (n : ℕ) (p : List Bool) (rest : List (List Bool)) → length rest < n → all_kept p ≡ true → are_rest p rest ≡ true → AreLeafPaths (p ∷ rest)
 grown zero p rest few start order = absurd (omega arith)
 grown (suc n) [] [] few start order = (Tip, refl)
@@ -59,11 +66,8 @@ grown (suc n) (false ∷ p) rest few start order =
     ap length same ∙ length-append (map keep kept) (map change (q ∷ changed)) ∙ ap (λ (k : ℕ). k + suc (length (map change changed))) (length-map kept keep)
     ∙ ap (λ (k : ℕ). length kept + suc k) (length-map changed change) in
     let (left, left_paths) = grown n p kept (omega (arith, many, few)) start first in
-    let (right, right_paths) = grown n q changed (omega (arith, many, few)) begins second in (
-      Fork left right,
-      ap (λ (ps : List (List Bool)). (false ∷ p) ∷ ps) same
-          ∙ ap (λ (ps : List (List Bool)). map keep ps ++ map change (q ∷ changed)) left_paths ∙ ap (λ (ps : List (List Bool)). map keep (leaf_paths left) ++ map change ps) right_paths,
-    )
+    let (right, right_paths) = grown n q changed (omega (arith, many, few)) begins second in
+    forked p rest kept q changed left right same left_paths right_paths
 
 -- paths in order are those of a full tree
 pub tree-grown : (p : List Bool) (rest : List (List Bool)) → all_kept p ≡ true → are_rest p rest ≡ true → AreLeafPaths (p ∷ rest)

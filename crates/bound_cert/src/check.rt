@@ -10,7 +10,7 @@ use crate::fault::CertFault;
 use crate::leaf_check::verdict_at;
 use crate::task::Task;
 use crate::verdict::Verdict;
-use edit_line::{Line, Shape};
+use edit_line::Line;
 use edit_model::{Row, Survey};
 use std::alloc::Global;
 
@@ -37,14 +37,12 @@ pub fn check_cert(
     ensures invalid { (leaf : ℕ) (step : Option ℕ) → result ≡ Err (CertFault.Bad leaf step) → ¬ IsValidTree (tree_case survey.now given.now usable.now row.now weight) cert.now.leaves }
     ensures shown { OnOk result (NoneIsLighter (tree_case survey.now given.now usable.now row.now weight)) }
 {
-    let wholes = Shape::of(survey).whole_sets(alloc)?;
     let task = Task {
         survey,
         given,
         usable,
         row,
         weight,
-        wholes: &wholes,
     };
     check_leaves(alloc, &task, cert.leaves.as_slice())
 }

@@ -1,20 +1,24 @@
 //! Whether a leaf is valid.
 ghost use Rattle.std.specs.Prelude.{◌≡◌, ◌<◌, ◌≤◌, ◌&&◌, ◌==◌, IfOk, IsSomeAnd, None, Some, drop, if◌then◌else◌, length, nat_le, option_map, true};
 ghost use Rattle.std.specs.Bool.{Decides};
+ghost use Rattle.edit_line.specs.Shapes.{shape_of};
+ghost use Rattle.derivation.specs.Premises.{HasKept};
+ghost use Rattle.derivation.specs.declared.proved.Proved.{Proved};
 ghost use Rattle.bound_cert.specs.Paths.{path_weight};
-ghost use Rattle.bound_cert.specs.inner.Tasks.{IsTask, SaysOf, SaysOfPlace, case};
 ghost use Rattle.bound_cert.specs.Trees.{all_changed, may_stand};
+ghost use Rattle.bound_cert.specs.ValidTrees.{Refutes};
+ghost use Rattle.bound_cert.specs.inner.Tasks.{IsTask, SaysOf, SaysOfPlace, case, premises_with};
 ghost use Rattle.bound_cert.specs.declared.cert.LeafWhy.{LeafWhy};
 ghost use Rattle.bound_cert.specs.declared.verdict.Verdict.{Verdict};
 
 use crate::cert::{Leaf, LeafWhy};
 use crate::order::{all_changed, may_stand, path_before};
 use crate::path::Path;
-use crate::refuting::{box_refutes, line_refutes};
 use crate::task::Task;
 use crate::verdict::Verdict;
-use derivation::{Proved, Step, StepsFault, check_steps};
-use edit_model::Survey;
+use derivation::{Proved, Step, StepsFault, check_steps, fails_at_kept};
+use edit_line::Line;
+use edit_model::{FieldSet, Survey};
 use foundation::OutOfMemory;
 use std::alloc::Global;
 
@@ -110,6 +114,16 @@ fn line_verdict(
     }
 }
 
+// Whether the line is for all codes, and fails at the kept fields.
+fn line_refutes(task: &Task, kept: FieldSet, line: &Line) -> bool
+    requires task { IsTask task.now }
+    requires kept { HasKept task.now.row.now kept }
+    requires over { line.now.shape ≡ shape_of task.now.survey.now.fields }
+    ensures { Decides result (Refutes (premises_with task.now kept) (Proved.Line line.now)) }
+{
+    line.is_full() && fails_at_kept(task.survey, task.row, kept, line)
+}
+
 // Whether the steps prove a box that refutes the path.
 fn box_verdict(
     alloc: Global,
@@ -131,7 +145,7 @@ fn box_verdict(
         kept,
         steps,
     ) {
-        Ok(Proved::Box(code_box)) => Ok(verdict_of(box_refutes(task, kept, &code_box))),
+        Ok(Proved::Box(code_box)) => Ok(verdict_of(code_box.is_full())),
         Ok(Proved::Line(_)) => Ok(Verdict::Invalid(None)),
         Err(StepsFault::Bad { place }) => Ok(Verdict::Invalid(step_at(steps, place))),
         Err(StepsFault::OutOfMemory) => Err(OutOfMemory),

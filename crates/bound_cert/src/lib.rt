@@ -13,7 +13,6 @@ mod order;
 mod outcome;
 mod path;
 mod path_fields;
-mod refuting;
 mod task;
 #[cfg(test)]
 mod tests;

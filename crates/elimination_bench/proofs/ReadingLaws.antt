@@ -4,7 +4,7 @@ use Rattle.std.specs.List.{range_with_len}
 use Rattle.std.specs.List.Sorted.{IsStrictlyIncreasing}
 use Rattle.std.proofs.lemmas.Bool.Decides.{Decides-eqb}
 use Rattle.std.proofs.lemmas.List.{map-append}
-use Rattle.std.proofs.lemmas.List.Elements.{All-weaker}
+use Rattle.std.proofs.lemmas.List.Elements.{All-push, All-weaker}
 use Rattle.edit_model.specs.Corrections as corrections
 use Rattle.edit_model.specs.FieldSets.{has_number}
 use Rattle.edit_model.specs.Rows.{value_of}
@@ -44,6 +44,12 @@ pub numbers-more : (place number : ℕ) (before after : List (ℕ × LineParts))
 numbers-more place number before after line items same numbers =
     ap (λ (es : List (ℕ × LineParts)). map (λ (e : ℕ × LineParts). e.0) es) items ∙ map-append (λ (e : ℕ × LineParts). e.0) before ((number, line) ∷ []) ∙ ap (λ (ns : List ℕ). ns ++ number ∷ []) numbers
     ∙ ap (λ n. range_with_len 0 place ++ n ∷ []) same ∙ sym (range-next place)
+
+-- a line over the fields more
+pub over-more : (own : List Domain) (number : ℕ) (line : LineParts) (before after : List (ℕ × LineParts)) → after ≡ before ++ (number, line) ∷ [] → line.shape ≡ own → All (λ (e : ℕ × LineParts). e.1.shape ≡ own) before
+    → All (λ (e : ℕ × LineParts). e.1.shape ≡ own) after
+over-more own number line before after items here all =
+    subst (λ (es : List (ℕ × LineParts)). All (λ (e : ℕ × LineParts). e.1.shape ≡ own) es) (sym items) (All-push (λ (e : ℕ × LineParts). e.1.shape ≡ own) before (number, line) all here)
 
 -- lines over the fields that are numbered by their places
 pub numbered-edits : (shape own : List Domain) (count : ℕ) (lines : List (ℕ × LineParts)) → own ≡ shape → All (λ (e : ℕ × LineParts). e.1.shape ≡ own) lines → map (λ (e : ℕ × LineParts). e.0) lines ≡ range_with_len 0 count → AreEdits shape lines

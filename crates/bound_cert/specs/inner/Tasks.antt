@@ -1,7 +1,7 @@
 use Rattle.std.specs.Prelude.{◌≡◌, ℕ, zero, suc, Bool, true, List, [], ◌∷◌, Option, Some, None, length}
 use Rattle.edit_model.specs.Rows.{IsRow}
 use Rattle.edit_line.specs.Lines.{AreOver}
-use Rattle.edit_line.specs.Shapes.{shape_of, whole_sets}
+use Rattle.edit_line.specs.Shapes.{shape_of}
 use Rattle.derivation.specs.Premises.{Premises, premises_of}
 use Rattle.bound_cert.specs.ValidTrees.{TreeCase, IsFaultBehind, IsValidLeaf, tree_case, invalid_step, is_right}
 use Rattle.bound_cert.specs.declared.cert.Leaf.{Leaf}
@@ -25,7 +25,6 @@ pub record IsTask (task : Task) : Type 0 where
   pub lists : length task.given.now ≡ length task.usable.now
   pub over : AreOver (shape_of task.survey.now.fields) task.given.now
   pub row : IsRow task.survey.now.fields task.row.now
-  pub wholes : task.wholes.now ≡ whole_sets (shape_of task.survey.now.fields)
 
 -- the path of the leaf before the one at this place
 abbrev pub path_before : List Leaf → ℕ → Option (List Bool)

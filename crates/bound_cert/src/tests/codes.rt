@@ -1,22 +1,10 @@
 //! Trees over categorical fields.
 
-use super::fixture::{Codes, checked_codes};
+use super::fixture::{Codes, Question};
 use super::plan::StepPlan::{Cover, Fail as Fails, Fix, Given};
 use super::plan::Why::{Bound, Box, Line};
-use super::plan::{Case, LeafPlan, StepPlan, cert_of, is_told};
-use std::alloc::Global;
+use super::plan::{Case, LeafPlan, StepPlan, first_wrong};
 use std::test::Fail;
-
-/// The first of the trees of which something else is answered.
-fn first_wrong(alloc: Global, codes: &Codes, cases: &[Case]) -> Result<Option<usize>, Fail> {
-    for (i, (weight, leaves, told)) in cases.iter().enumerate() {
-        let cert = cert_of(alloc, leaves)?;
-        if !is_told(checked_codes(alloc, codes, &cert, *weight)?, *told) {
-            return Ok(Some(i));
-        }
-    }
-    Ok(None)
-}
 
 // that a child is single is violated
 const ALL_KEPT: [StepPlan; 4] = [Given(0), Fails(0), Fix(0, 1), Fix(1, 2)];
@@ -91,10 +79,10 @@ const TREES: [Case; 10] = [
 #[test]
 fn the_age_of_a_child_that_is_a_married_spouse_is_changed(rt: HostRuntime) -> Result<(), Fail> {
     // age, status and relation: no married child, and no single spouse
-    let household = Codes {
+    let household = Question::Codes(Codes {
         forbidden: [[0b01, 0b10, 0b11], [0b11, 0b01, 0b01]],
         values: [0, 1, 0],
-    };
+    });
     assert_eq!(rt; first_wrong(rt.alloc(), &household, &TREES)?, None);
     Ok(())
 }

@@ -1,6 +1,5 @@
 //! Surveys of three fields of one kind, with lines over them and a record.
 ghost use Rattle.std.specs.Prelude.{◌≡◌, [], ◌∷◌, All, IfOk, length, true};
-ghost use Rattle.fraction128.specs.Range.{InRange};
 ghost use Rattle.edit_model.specs.Rows.{IsOfKind, IsRow};
 ghost use Rattle.edit_line.specs.Shapes.{Categorical, Numerical, domain_of, shape_of};
 
@@ -12,18 +11,25 @@ use fraction128::Fraction;
 use std::alloc::Global;
 use std::test::Fail;
 
-/// Three numerical fields: their weights; lines, each with its factors and its constant, all to be at least
-/// 0, and whether it is usable; and a record, whose values may be missing.
-#[derive(Clone, Copy, Debug)]
+/// A line over three numerical fields, whose sum has to be at least 0, and whether it is usable.
+#[derive(Clone, Copy)]
+pub(super) struct NumberLine {
+    pub(super) factors: [i128; 3],
+    pub(super) constant: i128,
+    pub(super) usable: bool,
+}
+
+/// Three numerical fields by their weights, lines over them, and a record, whose values may be missing.
+#[derive(Clone, Copy)]
 pub(super) struct Numbers {
     pub(super) weights: [u32; 3],
-    pub(super) lines: &'static [([i128; 3], i128, bool)],
-    pub(super) values: [Option<i128>; 3],
+    pub(super) lines: &'static [NumberLine],
+    pub(super) values: [Option<i32>; 3],
 }
 
 /// Three fields of two codes each, of weight 1: sets of codes that may not all stand together, of which all
 /// are usable; and a record.
-#[derive(Clone, Copy, Debug)]
+#[derive(Clone, Copy)]
 pub(super) struct Codes {
     pub(super) forbidden: [[u64; 3]; 2],
     pub(super) values: [u8; 3],
@@ -86,27 +92,19 @@ fn survey_of_codes(alloc: Global) -> Result<Survey, Fail>
     )
 }
 
-fn in_range(number: i128) -> Result<i128, Fail>
-    ensures { IfOk result (λ n. InRange n) }
-{
-    if number == i128::MIN {
-        return Err(Fail::from("a number in range"));
-    }
-    Ok(number)
-}
-
-fn number_line(
-    alloc: Global,
-    survey: &Survey,
-    factors: [i128; 3],
-    constant: i128,
-) -> Result<Line, Fail>
+fn number_line(alloc: Global, survey: &Survey, plan: &NumberLine) -> Result<Line, Fail>
     requires { shape_of survey.now.fields ≡ Numerical ∷ Numerical ∷ Numerical ∷ [] }
     ensures { IfOk result (λ line. line.shape ≡ shape_of survey.now.fields) }
 {
-    let [a, b, c] = factors;
-    let factors = vec![in alloc; in_range(a)?, in_range(b)?, in_range(c)?]?;
-    let constant = in_range(constant)?;
+    let NumberLine {
+        factors: [a, b, c],
+        constant,
+        ..
+    } = *plan;
+    if a == i128::MIN || b == i128::MIN || c == i128::MIN || constant == i128::MIN {
+        return Err("numbers in range")?;
+    }
+    let factors = vec![in alloc; a, b, c]?;
     Ok(Line::new(survey, Vec::new(alloc), factors, constant, false))
 }
 
@@ -160,41 +158,56 @@ fn row_of(survey: &Survey, values: Vec<Value>) -> Result<Row, Fail>
     Ok(Row::new(survey, values))
 }
 
-fn number_value(value: Option<i128>) -> Result<Value, Fail> {
+fn number_value(value: Option<i32>) -> Value {
     match value {
-        None => Ok(Value::Bad),
-        Some(number) => Ok(Value::Number(Fraction::whole(in_range(number)?))),
+        None => Value::Bad,
+        Some(number) => Value::Number(Fraction::whole(i128::from(number))),
     }
 }
 
-fn number_lines(
-    alloc: Global,
-    survey: &Survey,
-    plans: &[([i128; 3], i128, bool)],
-) -> Result<Vec<Line>, Fail>
+fn number_lines(alloc: Global, survey: &Survey, plans: &[NumberLine]) -> Result<Vec<Line>, Fail>
     requires { shape_of survey.now.fields ≡ Numerical ∷ Numerical ∷ Numerical ∷ [] }
     ensures over { IfOk result (λ lines. All (λ line. line.shape ≡ shape_of survey.now.fields) lines.items) }
     ensures count { IfOk result (λ lines. length lines.items ≡ length plans.now) }
 {
     let mut lines = Vec::new(alloc);
-    for (factors, constant, _) in plans {
-        lines.push(number_line(alloc, survey, *factors, *constant)?)?;
+    for plan in plans {
+        lines.push(number_line(alloc, survey, plan)?)?;
     }
     Ok(lines)
 }
 
-fn usable_lines(alloc: Global, plans: &[([i128; 3], i128, bool)]) -> Result<Vec<bool>, Fail>
+fn usable_lines(alloc: Global, plans: &[NumberLine]) -> Result<Vec<bool>, Fail>
     ensures { IfOk result (λ usable. length usable.items ≡ length plans.now) }
 {
     let mut usable = Vec::new(alloc);
-    for (_, _, is_usable) in plans {
-        usable.push(*is_usable)?;
+    for plan in plans {
+        usable.push(plan.usable)?;
     }
     Ok(usable)
 }
 
-/// What the checker answers of a tree over the numbers.
-pub(super) fn checked_numbers(
+/// What a tree is about.
+#[derive(Clone, Copy)]
+pub(super) enum Question {
+    Numbers(Numbers),
+    Codes(Codes),
+}
+
+/// What the checker answers of the tree.
+pub(super) fn checked(
+    alloc: Global,
+    question: &Question,
+    cert: &Cert,
+    weight: Option<u64>,
+) -> Result<Result<(), CertFault>, Fail> {
+    match question {
+        Question::Numbers(numbers) => checked_numbers(alloc, numbers, cert, weight),
+        Question::Codes(codes) => checked_codes(alloc, codes, cert, weight),
+    }
+}
+
+fn checked_numbers(
     alloc: Global,
     numbers: &Numbers,
     cert: &Cert,
@@ -204,13 +217,12 @@ pub(super) fn checked_numbers(
     let given = number_lines(alloc, &survey, numbers.lines)?;
     let usable = usable_lines(alloc, numbers.lines)?;
     let [a, b, c] = numbers.values;
-    let values = vec![in alloc; number_value(a)?, number_value(b)?, number_value(c)?]?;
+    let values = vec![in alloc; number_value(a), number_value(b), number_value(c)]?;
     let row = row_of(&survey, values)?;
     Ok(check_cert(alloc, &survey, &given, &usable, &row, cert, weight))
 }
 
-/// What it answers of a tree over the codes.
-pub(super) fn checked_codes(
+fn checked_codes(
     alloc: Global,
     codes: &Codes,
     cert: &Cert,

@@ -1,31 +1,39 @@
 //! Trees over numerical fields.
 
-use super::fixture::{Numbers, checked_numbers};
+use super::fixture::{NumberLine, Numbers, Question};
 use super::plan::StepPlan::{Given, Sum};
 use super::plan::Why::{Bad, Bound, Box, Line};
-use super::plan::{Case, LeafPlan, cert_of, is_told};
-use std::alloc::Global;
+use super::plan::{Case, LeafPlan, first_wrong};
 use std::test::Fail;
-
-/// The first of the trees of which something else is answered.
-fn first_wrong(alloc: Global, numbers: &Numbers, cases: &[Case]) -> Result<Option<usize>, Fail> {
-    for (i, (weight, leaves, told)) in cases.iter().enumerate() {
-        let cert = cert_of(alloc, leaves)?;
-        if !is_told(checked_numbers(alloc, numbers, &cert, *weight)?, *told) {
-            return Ok(Some(i));
-        }
-    }
-    Ok(None)
-}
 
 // Turnover, Costs and Profit: `Turnover >= 0`; `Costs >= 0`, which may not be used;
 // `Turnover - Costs - Profit = 0`, as two lines; and `10 Profit <= 6 Turnover`.
-const TRADE: [([i128; 3], i128, bool); 5] = [
-    ([1, 0, 0], 0, true),
-    ([0, 1, 0], 0, false),
-    ([1, -1, -1], 0, true),
-    ([-1, 1, 1], 0, true),
-    ([3, 0, -5], 0, true),
+const TRADE: [NumberLine; 5] = [
+    NumberLine {
+        factors: [1, 0, 0],
+        constant: 0,
+        usable: true,
+    },
+    NumberLine {
+        factors: [0, 1, 0],
+        constant: 0,
+        usable: false,
+    },
+    NumberLine {
+        factors: [1, -1, -1],
+        constant: 0,
+        usable: true,
+    },
+    NumberLine {
+        factors: [-1, 1, 1],
+        constant: 0,
+        usable: true,
+    },
+    NumberLine {
+        factors: [3, 0, -5],
+        constant: 0,
+        usable: true,
+    },
 ];
 
 // the line at place 2 fails at 100, 60 and 400
@@ -85,17 +93,28 @@ const TRADE_TREES: [Case; 17] = [
 
 #[test]
 fn profit_alone_is_the_lightest_change_of_a_trade_record(rt: HostRuntime) -> Result<(), Fail> {
-    let trade = Numbers {
+    let trade = Question::Numbers(Numbers {
         weights: [2, 1, 1],
         lines: &TRADE,
         values: [Some(100), Some(60), Some(400)],
-    };
+    });
     assert_eq!(rt; first_wrong(rt.alloc(), &trade, &TRADE_TREES)?, None);
     Ok(())
 }
 
 // `A + B = 10` where A is 3 and B is 4; then where A has no value
-const SUM: [([i128; 3], i128, bool); 2] = [([1, 1, 0], -10, true), ([-1, -1, 0], 10, true)];
+const SUM: [NumberLine; 2] = [
+    NumberLine {
+        factors: [1, 1, 0],
+        constant: -10,
+        usable: true,
+    },
+    NumberLine {
+        factors: [-1, -1, 0],
+        constant: 10,
+        usable: true,
+    },
+];
 
 const SUM_TREES: [Case; 1] = [(Some(1), &[("KK", Line(&[Given(0)])), KC, C], None)];
 
@@ -118,23 +137,34 @@ const BLANK_TREES: [Case; 3] = [
 #[test]
 fn one_of_two_numbers_is_changed(rt: HostRuntime) -> Result<(), Fail> {
     let weights = [1, 1, 1];
-    let sum = Numbers {
+    let sum = Question::Numbers(Numbers {
         weights,
         lines: &SUM,
         values: [Some(3), Some(4), Some(0)],
-    };
+    });
     assert_eq!(rt; first_wrong(rt.alloc(), &sum, &SUM_TREES)?, None);
-    let blank = Numbers {
+    let blank = Question::Numbers(Numbers {
         weights,
         lines: &SUM,
         values: [None, Some(4), Some(0)],
-    };
+    });
     assert_eq!(rt; first_wrong(rt.alloc(), &blank, &BLANK_TREES)?, None);
     Ok(())
 }
 
 // `A >= 5` and `A <= 3`
-const APART: [([i128; 3], i128, bool); 2] = [([1, 0, 0], -5, true), ([-1, 0, 0], 3, true)];
+const APART: [NumberLine; 2] = [
+    NumberLine {
+        factors: [1, 0, 0],
+        constant: -5,
+        usable: true,
+    },
+    NumberLine {
+        factors: [-1, 0, 0],
+        constant: 3,
+        usable: true,
+    },
+];
 
 // A is 4, and then whatever it is
 const K: LeafPlan = ("K", Line(&[Given(0)]));
@@ -170,11 +200,11 @@ const APART_TREES: [Case; 5] = [
 
 #[test]
 fn two_lines_that_contradict_each_other_leave_no_correction(rt: HostRuntime) -> Result<(), Fail> {
-    let apart = Numbers {
+    let apart = Question::Numbers(Numbers {
         weights: [1, 1, 1],
         lines: &APART,
         values: [Some(4), Some(0), Some(0)],
-    };
+    });
     assert_eq!(rt; first_wrong(rt.alloc(), &apart, &APART_TREES)?, None);
     Ok(())
 }

@@ -1,5 +1,6 @@
 //! Trees as values that take no memory.
 
+use super::fixture::{Question, checked};
 use crate::{Cert, CertFault, Leaf, LeafWhy, Path};
 use derivation::Step;
 use foundation::Sequence;
@@ -7,7 +8,7 @@ use std::alloc::Global;
 use std::test::Fail;
 
 /// A step of a leaf.
-#[derive(Clone, Copy, Debug)]
+#[derive(Clone, Copy)]
 pub(super) enum StepPlan {
     Given(u64),
     /// The sum of the lines of two steps, divided by the last number.
@@ -18,7 +19,7 @@ pub(super) enum StepPlan {
 }
 
 /// Why a leaf is valid.
-#[derive(Clone, Copy, Debug)]
+#[derive(Clone, Copy)]
 pub(super) enum Why {
     Bound,
     Bad,
@@ -80,8 +81,7 @@ fn why_of(alloc: Global, why: Why) -> Result<LeafWhy, Fail> {
     })
 }
 
-/// The tree of these leaves.
-pub(super) fn cert_of(alloc: Global, plans: &[LeafPlan]) -> Result<Cert, Fail> {
+fn cert_of(alloc: Global, plans: &[LeafPlan]) -> Result<Cert, Fail> {
     let mut leaves = Vec::new(alloc);
     for (text, why) in plans {
         leaves.push(Leaf {
@@ -94,11 +94,25 @@ pub(super) fn cert_of(alloc: Global, plans: &[LeafPlan]) -> Result<Cert, Fail> {
     })
 }
 
-/// Whether this was to be answered.
-pub(super) fn is_told(answer: Result<(), CertFault>, told: Option<(u64, Option<u64>)>) -> bool {
+fn is_told(answer: Result<(), CertFault>, told: Option<(u64, Option<u64>)>) -> bool {
     match answer {
         Ok(()) => told.is_none(),
         Err(CertFault::Bad { leaf, step }) => told == Some((leaf, step)),
         Err(CertFault::OutOfMemory) => false,
     }
+}
+
+/// The first of the trees of which something else is answered.
+pub(super) fn first_wrong(
+    alloc: Global,
+    question: &Question,
+    cases: &[Case],
+) -> Result<Option<usize>, Fail> {
+    for (i, (weight, leaves, told)) in cases.iter().enumerate() {
+        let cert = cert_of(alloc, leaves)?;
+        if !is_told(checked(alloc, question, &cert, *weight)?, *told) {
+            return Ok(Some(i));
+        }
+    }
+    Ok(None)
 }

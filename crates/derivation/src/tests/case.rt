@@ -7,7 +7,7 @@ use std::alloc::Global;
 use std::test::Fail;
 
 /// A last step.
-#[derive(Clone, Copy, Debug)]
+#[derive(Clone, Copy)]
 pub(super) enum Last {
     Given(u64),
     /// `a`, `m`, `b`, `n` and `g`.
@@ -19,7 +19,7 @@ pub(super) enum Last {
 
 /// The sets, the factors, the constant of a line and whether it is strict; the sets of a box; or the place
 /// of the first step that is not valid.
-#[derive(Clone, Copy, Debug)]
+#[derive(Clone, Copy)]
 pub(super) enum Told {
     Line([u64; 2], [i128; 2], i128, bool),
     Box([u64; 2]),

@@ -18,7 +18,7 @@ pub(super) const MOST: i128 = i128::MAX;
 
 /// A line: where each code is in its set, the sum of factor * value and the constant is at least 0, or
 /// above it where the line is strict.
-#[derive(Clone, Copy, Debug)]
+#[derive(Clone, Copy)]
 struct Plan {
     sets: [u64; 2],
     factors: [i128; 2],

@@ -24,7 +24,7 @@ Costs < 0
 const NONE: usize = usize::MAX;
 
 /// A step, as a value that takes no memory.
-#[derive(Clone, Copy, Debug)]
+#[derive(Clone, Copy)]
 enum Plan {
     Given(u64),
     /// The line of the first step, and so many times that of the second, divided.
