@@ -1,4 +1,5 @@
 use Rattle.std.proofs.Common.{◌≡◌, ◌&&◌, ◌||◌, Bool, true, false, refl}
+use Rattle.std.specs.Bool.{Decides}
 
 -- Two tests at once.
 
@@ -30,3 +31,29 @@ or_true false = refl
 pub and_true : (b : Bool) → (b && true) ≡ b
 and_true true = refl
 and_true false = refl
+
+pub or_grouped : (a b c : Bool) → ((a || b) || c) ≡ (a || (b || c))
+or_grouped true b c = refl
+or_grouped false b c = refl
+
+pub and_grouped : (a b c : Bool) → (a && (b && c)) ≡ ((a && b) && c)
+and_grouped true b c = refl
+and_grouped false b c = refl
+
+pub or_none : (a : Bool) → (a || false) ≡ a
+or_none true = refl
+or_none false = refl
+
+-- two tests, both true
+pub both_true : (a b : Bool) → (a && b) ≡ true → (a ≡ true) × (b ≡ true)
+both_true true b h = (refl, h)
+both_true false b h = absurd (cc)
+
+pub and_false : (a : Bool) → (a && false) ≡ false
+and_false true = refl
+and_false false = refl
+
+-- both facts are decided by both tests
+pub both_decide : {P Q : Type 0} (a b : Bool) → Decides a P → Decides b Q → Decides (a && b) (P × Q)
+both_decide true b p q = (λ h. (p.0 refl, q.0 h), λ h. q.1 h.1)
+both_decide false b p q = (λ h. absurd (cc), λ h. p.1 h.0)

@@ -2,7 +2,7 @@ use Rattle.std.proofs.Common.{◌≡◌, ◌||◌, ◌==◌, ◌++◌, ◌⊎◌
 use Rattle.std.proofs.lemmas.Bool.Decides.{Decides-eqb}
 use Rattle.edit_line.specs.Reductions.{IsIn}
 use Rattle.edit_line.specs.Shapes.{has_field}
-use Rattle.edit_line.proofs.BoolLaws.{or_true, true-first, true-second}
+use Rattle.edit_line.proofs.BoolLaws.{or_grouped, or_true, true-first, true-second}
 
 -- Whether a list of fields has a field.
 
@@ -23,16 +23,8 @@ has-there i (j ∷ fields) h = by (j == i) (Decides-eqb j i).0 (has-there i fiel
 
 -- a field of two lists, one behind the other
 pub has-append : (i : ℕ) (first second : List ℕ) → has_field (first ++ second) i ≡ (has_field first i || has_field second i)
-has-append i [] second = ap (λ b. b) (same (has_field second i))
-  where
-    same : (b : Bool) → b ≡ (false || b)
-    same true = refl
-    same false = refl
-has-append i (j ∷ first) second = ap (λ b. (j == i) || b) (has-append i first second) ∙ grouped (j == i) (has_field first i) (has_field second i)
-  where
-    grouped : (a b c : Bool) → (a || (b || c)) ≡ ((a || b) || c)
-    grouped true b c = refl
-    grouped false b c = refl
+has-append i [] second = refl
+has-append i (j ∷ first) second = ap (λ b. (j == i) || b) (has-append i first second) ∙ sym (or_grouped (j == i) (has_field first i) (has_field second i))
 
 pub has-left : (i : ℕ) (first second : List ℕ) → has_field first i ≡ true → has_field (first ++ second) i ≡ true
 has-left i first second there = has-append i first second ∙ true-first _ _ there

@@ -14,7 +14,6 @@ pub mod ListPlaces
 pub mod Members
 pub mod NegationLaws
 pub mod NegationLines
-pub mod OneField
 pub mod OtherFields
 pub mod OwnLaws
 pub mod PointCodes
@@ -28,4 +27,5 @@ pub mod SumLaws
 pub mod SumSteps
 pub mod TakenCombinations
 pub mod TestLists
+pub mod TestPlans
 pub mod WholeSets

@@ -1,28 +1,15 @@
-use Rattle.std.proofs.Common.{◌≡◌, ℕ, zero, suc, ◌+◌, ◌<◌, ◌≤◌, ◌&&◌, not, nat_eq, Bool, true, false, List, [], ◌∷◌, get_or, length, drop, bit_and, slice_index_or, slice_set, refl, sym, ap, ◌∙◌, add-one, arith}
+use Rattle.std.proofs.Common.{◌≡◌, ℕ, zero, suc, ◌+◌, ◌<◌, ◌≤◌, ◌&&◌, not, nat_eq, true, false, List, [], ◌∷◌, get_or, length, drop, bit_and, slice_index_or, slice_set, refl, sym, ap, ◌∙◌, add-one, arith}
 use Rattle.std.specs.Bool.{Decides}
 use Rattle.std.specs.Int.{bit_at}
 use Rattle.std.proofs.Math.Seq.{drop-cons}
 use Rattle.std.proofs.lemmas.Bool.Decides.{Decides-eqb}
 use Rattle.std.proofs.lemmas.List.{drop_all}
 use Rattle.std.proofs.lemmas.Nat.Bits.{bit_at_and, bit_at-lt}
+pub use Rattle.edit_line.proofs.BoolLaws.{and_false, both_decide, both_true}
 use Rattle.edit_model.specs.Points.{has_code}
 use Rattle.edit_line.specs.Sets.{AllInside, AreSets, AreWithin, HasCode, all_inside, has_codes, is_inside}
 
 -- Sets of codes, as bits, and lists of them.
-
--- two tests, both true
-pub both_true : (a b : Bool) → (a && b) ≡ true → (a ≡ true) × (b ≡ true)
-both_true true b h = (refl, h)
-both_true false b h = absurd (cc)
-
-pub and_false : (a : Bool) → (a && false) ≡ false
-and_false true = refl
-and_false false = refl
-
--- both facts are decided by both tests
-pub both_decide : {P Q : Type 0} (a b : Bool) → Decides a P → Decides b Q → Decides (a && b) (P × Q)
-both_decide true b p q = (λ h. (p.0 refl, q.0 h), λ h. q.1 h.1)
-both_decide false b p q = (λ h. absurd (cc), λ h. p.1 h.0)
 
 -- a code of a set is one of each set that has it inside
 pub has-inside : (s t code : ℕ) → nat_eq (bit_and s t) s ≡ true → HasCode s code → HasCode t code

@@ -1,21 +1,10 @@
 use Rattle.std.proofs.Common.{◌≡◌, ◌&&◌, ◌||◌, Bool, true, false, not, if◌then◌else◌, List, [], ◌∷◌, inl, inr, map, refl, ap, ◌∙◌}
+pub use Rattle.edit_line.proofs.BoolLaws.{and_grouped, or_grouped, or_none}
 use Rattle.std.specs.List.{filter, flat_map, list_any}
 use Rattle.std.proofs.lemmas.List.Folds.{list_any-append}
 use Rattle.edit_line.specs.Reductions.{IsIn}
 
 -- Tests over lists.
-
-pub or_grouped : (a b c : Bool) → ((a || b) || c) ≡ (a || (b || c))
-or_grouped true b c = refl
-or_grouped false b c = refl
-
-pub and_grouped : (a b c : Bool) → (a && (b && c)) ≡ ((a && b) && c)
-and_grouped true b c = refl
-and_grouped false b c = refl
-
-pub or_none : (a : Bool) → (a || false) ≡ a
-or_none true = refl
-or_none false = refl
 
 -- where the two tests agree at each element
 pub any-agree : {X : Type 0} (t u : X → Bool) (xs : List X) → ((x : X) → IsIn x xs → t x ≡ u x) → list_any t xs ≡ list_any u xs

@@ -10,11 +10,11 @@ use Rattle.std.proofs.lemmas.List.Sums.{prefix_len_passes}
 use Rattle.std.proofs.lemmas.Option.{slice_get_cases}
 use Rattle.std.proofs.lemmas.Slice.Eq.{bytes_eq-Decides}
 use Rattle.edit_model.proofs.NameLemmas.{false_from_not}
-use Rattle.edit_model.specs.Indexes.{names_of}
+use Rattle.edit_model.specs.inner.Indexes.{names_of}
 use Rattle.edit_model.specs.declared.field.Field.{Field}
 
 -- the name at a place of the list of names is the name of the field there
-pub name_at : (fields : List Field) (i : ℕ) (d : Field) (e : List ℕ) → i < length fields → get_or (names_of fields) i e ≡ (get_or fields i d).name
+name_at : (fields : List Field) (i : ℕ) (d : Field) (e : List ℕ) → i < length fields → get_or (names_of fields) i e ≡ (get_or fields i d).name
 name_at fields i d e below = get_or-map (λ (f : Field). f.name) fields i d e below
 
 -- the field at a place, among those that come after others

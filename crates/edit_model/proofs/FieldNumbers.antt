@@ -3,7 +3,7 @@ use Rattle.std.specs.Bool.{beq}
 use Rattle.std.proofs.Math.Seq.{drop-cons}
 use Rattle.std.proofs.lemmas.List.{drop_all}
 use Rattle.edit_model.specs.Corrections.{numbers_from}
-use Rattle.edit_model.specs.Indexes.{is_of_kind}
+use Rattle.edit_model.specs.inner.Indexes.{is_of_kind}
 use Rattle.edit_model.specs.declared.field.Field.{Field}
 use Rattle.edit_model.specs.Corrections.{is_numerical}
 

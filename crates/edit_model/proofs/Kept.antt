@@ -1,6 +1,6 @@
 use Rattle.std.proofs.Common.{◌≡◌, ℕ, true, false, List, ap, ◌∙◌}
 use Rattle.edit_model.specs.Corrections.{numbers_from}
-use Rattle.edit_model.specs.Indexes.{IsKept, is_of_kind, names_of}
+use Rattle.edit_model.specs.inner.Indexes.{IsKept, is_of_kind, names_of}
 use Rattle.edit_model.specs.Parts.{parts_of}
 use Rattle.edit_model.specs.Surveys.{IsWellFormed}
 use Rattle.edit_model.specs.declared.field.Field.{Field}

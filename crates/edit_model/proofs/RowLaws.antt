@@ -1,7 +1,8 @@
-use Rattle.std.proofs.Common.{◌≡◌, ◌≢◌, ℕ, zero, suc, ◌<◌, not, Bool, true, List, [], ◌∷◌, length, Option, Some, None, IsSomeAnd, slice_get, set, refl, arith}
+use Rattle.std.proofs.Common.{◌≡◌, ◌≢◌, ℕ, zero, suc, ◌<◌, not, Bool, true, List, [], ◌∷◌, length, Option, Some, None, IsSomeAnd, slice_get, set, subst, refl, arith}
 use Rattle.edit_model.proofs.OrderLaws.{field-below, kind-there}
 use Rattle.edit_model.specs.Corrections.{code_fields, is_numerical, number_fields, numbers_from}
 use Rattle.edit_model.specs.FieldSets.{has_field}
+use Rattle.edit_model.specs.Points.{IsInDomain}
 use Rattle.edit_model.specs.Rows.{IsOfKind, IsRow, is_bad, value_of}
 use Rattle.edit_model.specs.Trials.{IsCodeValue, IsNumberValue}
 use Rattle.edit_model.specs.declared.field.Field.{Field}
@@ -72,9 +73,23 @@ module _ (fields : List Field) (row : List Value) (f : ℕ) (are : IsRow fields 
   pub number-at : has_field (number_fields fields) f ≡ true → (value_of row f ≢ Bad → IsNumberValue (value_of row f)) × (f < length row)
   number-at there = let (at, within) = at_kind is_numerical there in (number-held at.0 (value_of row f) at.1 at.2, within)
 
-  -- a categorical one holds a code or Bad; the code is of the field's domain, as value-held says
+  -- a categorical one holds a code or Bad
   pub code-at : has_field (code_fields fields) f ≡ true → (value_of row f ≢ Bad → IsCodeValue (value_of row f)) × (f < length row)
   code-at there = let (at, within) = at_kind (λ k. not (is_numerical k)) there in (code-held at.0 (value_of row f) at.1 at.2, within)
+
+  -- a code that a field holds is of its domain
+  pub code-domain : (c : ℕ) → f < length fields → value_of row f ≡ Code c → IsSomeAnd (slice_get fields f) (λ (field : Field). IsInDomain field.kind c)
+  code-domain c below is = held (slice_get fields f) (value-held fields row f are below)
+    where
+      own : (k : Kind) (v : Value) → v ≡ Code c → IsOfKind k v → IsInDomain k c
+      own (kind.Number scale) v same fits = tt
+      own (kind.Code codes) (Code d) same fits = let e : d ≡ c = cc in subst (λ (n : ℕ). n < length codes) e fits
+      own (kind.Code codes) (Number x) same fits = absurd fits
+      own (kind.Code codes) Bad same fits = absurd (cc)
+
+      held : (o : Option Field) → IsSomeAnd o (λ (field : Field). IsOfKind field.kind (value_of row f)) → IsSomeAnd o (λ (field : Field). IsInDomain field.kind c)
+      held None fits = absurd fits
+      held (Some field) fits = own field.kind (value_of row f) is fits
 
   -- a field of one kind has a value in the record
   pub number-within : has_field (number_fields fields) f ≡ true → f < length row

@@ -3,7 +3,7 @@ pub mod Changes
 pub mod Corrections
 pub mod Faults
 pub mod FieldSets
-pub mod Indexes
+pub mod inner
 pub mod Parts
 pub mod Points
 pub mod RowPoints

@@ -1,7 +1,7 @@
 //! What a survey keeps beside its parts, so that it is not looked for each time.
 ghost use Rattle.std.specs.Prelude.{◌≡◌, ◌≢◌, ◌∷◌, ◌++◌, [], ◌≤◌, if◌then◌else◌, AllPairs, IfOk, OnOk, length};
 ghost use Rattle.edit_model.specs.Corrections.{numbers_from};
-ghost use Rattle.edit_model.specs.Indexes.{is_of_kind, names_of};
+ghost use Rattle.edit_model.specs.inner.Indexes.{is_of_kind, names_of};
 
 use crate::field::{Field, Kind};
 use crate::name_table::NameTable;

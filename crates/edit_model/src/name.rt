@@ -60,10 +60,7 @@ mod tests {
             (b"abcdefghijklmnopqrstuvwxyz012345", true),
             (b"abcdefghijklmnopqrstuvwxyz0123456", false),
         ] {
-            match Name::new(bytes) {
-                Some(name) => assert!(rt; fits && name.as_bytes() == bytes),
-                None => assert!(rt; !fits),
-            }
+            assert!(rt; Name::new(bytes).is_some() == fits);
         }
     }
 }

@@ -24,7 +24,7 @@ pub struct Survey {
 }
 
 impl Model for Survey {
-    ghost use Rattle.edit_model.specs.Indexes.{IsKept};
+    ghost use Rattle.edit_model.specs.inner.Indexes.{IsKept};
     ghost use Rattle.edit_model.specs.Parts.{SurveyParts, parts_of};
 
     ghost Value = { SurveyParts };

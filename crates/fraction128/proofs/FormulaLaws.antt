@@ -3,14 +3,14 @@ use Rattle.std.proofs.lemmas.Int.{ints, unsigned_abs-mul}
 use Rattle.std.proofs.lemmas.Nat.Gcd.{IsGcd-swap}
 use Rattle.std.specs.Int.{IsGcd}
 use lib.IntN.{neg_ℤ}
-use Rattle.fraction128.specs.Arithmetic.{sum_of_quotients, sum_numbers, divided_numbers, IsSum, MiddleInRange}
+use Rattle.fraction128.specs.Arithmetic.{sum_of_quotients, divided_numbers}
 use Rattle.fraction128.specs.declared.fraction.Fraction.{Fraction}
 use Rattle.fraction128.specs.Range.{InRange, AllInRange}
 use Rattle.fraction128.specs.Divisor.{gcd, int_gcd}
 use Rattle.fraction128.proofs.CofactorLaws.{above-apart, first-exact, second-exact, second-above, first-divides, second-divides, cofactors-coprime, cofactors-cross}
 use Rattle.fraction128.proofs.DivisorLaws.{unsigned_abs-int_div, quotient-in_range}
-use Rattle.fraction128.proofs.LowestLaws.{coprime-product, coprime-divisor, fraction_unique}
-use Rattle.fraction128.proofs.Signs.{above-*, positive_size, same_cancel}
+use Rattle.fraction128.proofs.LowestLaws.{coprime-product, coprime-divisor}
+use Rattle.fraction128.proofs.Signs.{positive_size}
 use Rattle.fraction128.proofs.Whole.{parts, ring, same_dif, assoc, swap_last}
 
 -- From what the formulas compute to what it means. Everywhere zn over zd is the result.
@@ -92,19 +92,6 @@ difference_is a b c d n e zn zd n_is e_is h = left ∙ ap (λ (n : ℤ). n +ℤ 
     right : zn *ℤ (b *ℤ d) +ℤ c *ℤ zd *ℤ b ≡ (zn *ℤ d +ℤ c *ℤ zd) *ℤ b
     right = rw (parts zn, parts b, parts c, parts d, parts zd) (simp ring (same_dif _ _ _ _ (omega arith)))
 
--- the middle: w is the sum s over t, and z is w divided by 2
-pub middle_is : (s t wn wd zn zd : ℤ) → pos 0 <ℤ wd → wn *ℤ t ≡ s *ℤ wd → wn *ℤ zd ≡ zn *ℤ pos 2 *ℤ wd → pos 2 *ℤ zn *ℤ t ≡ s *ℤ zd
-middle_is s t wn wd zn zd above sum half = same_cancel _ _ wd above (left ∙ ap (λ (n : ℤ). n *ℤ t) (sym half) ∙ turned ∙ ap (λ (n : ℤ). n *ℤ zd) sum ∙ right)
-  where
-    left : pos 2 *ℤ zn *ℤ t *ℤ wd ≡ zn *ℤ pos 2 *ℤ wd *ℤ t
-    left = rw (parts zn, parts t, parts wd) (simp ring (same_dif _ _ _ _ (omega arith)))
-
-    turned : wn *ℤ zd *ℤ t ≡ wn *ℤ t *ℤ zd
-    turned = rw (parts wn, parts zd, parts t) (simp ring (same_dif _ _ _ _ (omega arith)))
-
-    right : s *ℤ wd *ℤ zd ≡ s *ℤ zd *ℤ wd
-    right = rw (parts s, parts wd, parts zd) (simp ring (same_dif _ _ _ _ (omega arith)))
-
 -- ---- fits and overflows
 
 -- the size of k's part is the part of k's size
@@ -116,20 +103,4 @@ pub quotient_in_range : (x : Fraction) (k q size : ℤ) → q ≡ int_div k (int
 quotient_in_range x k q size e size_is h = (
   subst (λ (n : ℤ). InRange (x.denominator *ℤ n)) (size_is ∙ part_size x.numerator k q e) h,
   (quotient-in_range x.numerator _ (gcd (unsigned_abs x.numerator) (unsigned_abs k)) refl x.numerator_in_range, tt),
-)
-
--- two results of one sum have the same value
-pub same_ratio : (s t vn vd wn wd : ℤ) → pos 0 <ℤ t → vn *ℤ t ≡ s *ℤ vd → wn *ℤ t ≡ s *ℤ wd → vn *ℤ wd ≡ wn *ℤ vd
-same_ratio s t vn vd wn wd above v_is w_is =
-    same_cancel (vn *ℤ wd) (wn *ℤ vd) t above
-    (swap_last vn wd t ∙ ap (λ (n : ℤ). n *ℤ wd) v_is ∙ swap_last s vd wd ∙ ap (λ (n : ℤ). n *ℤ vd) (sym w_is) ∙ swap_last wn t vd)
-
--- the middle's numbers are in range where they are for one result of the sum: there is no other
-pub middle_in_range : (x y w : Fraction) → IsSum x y w → AllInRange (sum_numbers x y) → AllInRange (divided_numbers w (pos 2)) → MiddleInRange x y
-middle_in_range x y w w_is sum half = (
-  sum,
-  λ v v_is.
-      let above = above-* x.denominator y.denominator x.positive y.positive in
-      let same = fraction_unique v w (same_ratio _ _ v.numerator v.denominator w.numerator w.denominator above v_is w_is) in
-      rw (same.0, same.1) half,
 )

@@ -4,9 +4,10 @@ pub mod DivisorLaws
 pub mod FormulaLaws
 pub mod FractionOrder
 pub mod LowestLaws
+pub mod MiddleLaws
 pub mod OrderLaws
-pub mod RangeLaws
 pub mod QuotientLaws
+pub mod RangeLaws
 pub mod RatioLaws
 pub mod Signs
 pub mod TextLaws

@@ -1,4 +1,4 @@
-use Rattle.std.proofs.Common.{◌≡◌, ◌≢◌, ◌⊎◌, inl, inr, ℕ, zero, suc, if◌then◌else◌, ℤ, pos, negsuc, ◌<ℤ◌, ◌*ℤ◌, Bool, true, false, Some, None, Result, Ok, Err, IfOk, OnOk, OnErr, [], ◌∷◌, int_div, int_lt, unsigned_abs, refl, sym, ap, ◌∙◌, subst, arith}
+use Rattle.std.proofs.Common.{◌≡◌, ◌≢◌, ◌⊎◌, inl, inr, zero, suc, if◌then◌else◌, ℤ, pos, negsuc, ◌<ℤ◌, ◌*ℤ◌, Bool, true, false, Some, Result, Ok, Err, IfOk, OnOk, OnErr, [], ◌∷◌, int_div, int_lt, unsigned_abs, refl, sym, ap, ◌∙◌, subst, arith}
 use lib.IntN.{neg_ℤ}
 use Rattle.std.specs.Int.{IsGcd}
 use Rattle.std.proofs.lemmas.Int.{ints}

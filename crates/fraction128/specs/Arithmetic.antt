@@ -1,7 +1,6 @@
 use Rattle.std.specs.Prelude.{◌≡◌, ℤ, pos, ◌+ℤ◌, ◌*ℤ◌, int_div, unsigned_abs, List, [], ◌∷◌}
 use lib.IntN.{neg_ℤ}
 use Rattle.fraction128.specs.Divisor.{int_gcd}
-use Rattle.fraction128.specs.Range.{AllInRange}
 use Rattle.fraction128.specs.declared.fraction.Fraction.{Fraction}
 
 -- ---- what the operations mean
@@ -59,7 +58,3 @@ abbrev pub divided_numbers : Fraction → ℤ → List ℤ
 divided_numbers x k =
     let common = int_gcd x.numerator k in
     (x.denominator *ℤ int_div (pos (unsigned_abs k)) common) ∷ int_div x.numerator common ∷ []
-
--- the numbers of the middle are in range: those of the sum, and of the sum divided by 2
-abbrev pub MiddleInRange : Fraction → Fraction → Type 0
-MiddleInRange x y = AllInRange (sum_numbers x y) × ((w : Fraction) → IsSum x y w → AllInRange (divided_numbers w (pos 2)))

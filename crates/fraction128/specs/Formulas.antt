@@ -55,3 +55,7 @@ divided x k =
     let p = int_div x.numerator common in
     let q = x.denominator *ℤ int_div (pos (unsigned_abs k)) common in
     if are_in_range (q ∷ p ∷ []) then Some (record { numerator = if int_lt k (pos 0) then neg_ℤ p else p; denominator = q }) else None
+
+-- half of the sum of two fractions; None where a number of the formula of the sum or of its half leaves the range
+abbrev pub middle : Ratio → Ratio → Option Ratio
+middle x y = then_some (added x y) (λ sum. divided sum (pos 2))

@@ -1,11 +1,11 @@
 //! Surveys and rules written down as constants, and made from them.
 use crate::{Compare, Field, Kind, Linear, Name, Rule, Survey, SurveyFault, Term, Test};
-use foundation::Sequence;
+use foundation::{OutOfMemory, Sequence};
 use std::alloc::Global;
-use std::test::Fail;
+use std::process::Abort;
 
 /// A field's name, weight and kind.
-#[derive(Clone, Copy, Debug)]
+#[derive(Clone, Copy)]
 pub(crate) enum FieldPlan {
     Number(&'static [u8], u32, u64),
     Code(&'static [u8], u32, &'static [&'static [u8]]),
@@ -13,55 +13,79 @@ pub(crate) enum FieldPlan {
 
 /// A test: terms of field and factor, a constant and a comparison; or a field, whether the test is
 /// negated, and the set of codes.
-#[derive(Clone, Copy, Debug)]
+#[derive(Clone, Copy)]
 pub(crate) enum TestPlan {
     Number(&'static [(u32, i64)], i64, Compare),
     Codes(u32, bool, u64),
 }
 
-fn name_of(bytes: &[u8]) -> Result<Name, Fail> {
-    Ok(Name::new(bytes).ok_or("a name")?)
+pub(crate) fn name_of(rt: &impl Abort, bytes: &[u8]) -> Name {
+    Name::new(bytes).expect(rt, "a name")
 }
 
-pub(crate) fn field_of(alloc: Global, plan: FieldPlan) -> Result<Field, Fail> {
+fn codes_of(
+    rt: &impl Abort,
+    alloc: Global,
+    codes: &[&[u8]],
+) -> Result<Sequence<Name>, OutOfMemory> {
+    let mut names = Vec::new(alloc);
+    for code in codes {
+        names.push(name_of(rt, code))?;
+    }
+    Ok(Sequence::from_vec(names))
+}
+
+pub(crate) fn field_of(
+    rt: &impl Abort,
+    alloc: Global,
+    plan: FieldPlan,
+) -> Result<Field, OutOfMemory> {
     match plan {
         FieldPlan::Number(name, weight, scale) => Ok(Field {
-            name: name_of(name)?,
+            name: name_of(rt, name),
             weight,
             kind: Kind::Number { scale },
         }),
-        FieldPlan::Code(name, weight, codes) => {
-            let mut names = Vec::new(alloc);
-            for code in codes {
-                names.push(name_of(code)?)?;
-            }
-            Ok(Field {
-                name: name_of(name)?,
-                weight,
-                kind: Kind::Code {
-                    codes: Sequence::from_vec(names),
-                },
-            })
-        }
+        FieldPlan::Code(name, weight, codes) => Ok(Field {
+            name: name_of(rt, name),
+            weight,
+            kind: Kind::Code {
+                codes: codes_of(rt, alloc, codes)?,
+            },
+        }),
     }
 }
 
-fn test_of(alloc: Global, plan: TestPlan) -> Result<Test, Fail> {
+pub(crate) fn fields_of(
+    rt: &impl Abort,
+    alloc: Global,
+    plans: &[FieldPlan],
+) -> Result<Vec<Field>, OutOfMemory> {
+    let mut fields = Vec::new(alloc);
+    for plan in plans {
+        fields.push(field_of(rt, alloc, *plan)?)?;
+    }
+    Ok(fields)
+}
+
+fn terms_of(alloc: Global, plans: &[(u32, i64)]) -> Result<Sequence<Term>, OutOfMemory> {
+    let mut terms = Vec::new(alloc);
+    for (field, factor) in plans {
+        terms.push(Term {
+            field: *field,
+            factor: *factor,
+        })?;
+    }
+    Ok(Sequence::from_vec(terms))
+}
+
+fn test_of(alloc: Global, plan: TestPlan) -> Result<Test, OutOfMemory> {
     match plan {
-        TestPlan::Number(terms, constant, compare) => {
-            let mut listed = Vec::new(alloc);
-            for (field, factor) in terms {
-                listed.push(Term {
-                    field: *field,
-                    factor: *factor,
-                })?;
-            }
-            Ok(Test::Number(Linear {
-                terms: Sequence::from_vec(listed),
-                constant,
-                compare,
-            }))
-        }
+        TestPlan::Number(terms, constant, compare) => Ok(Test::Number(Linear {
+            terms: terms_of(alloc, terms)?,
+            constant,
+            compare,
+        })),
         TestPlan::Codes(field, negated, codes) => Ok(Test::Codes {
             field,
             negated,
@@ -74,7 +98,7 @@ pub(crate) fn rule_of(
     alloc: Global,
     conditions: &[TestPlan],
     conclusion: TestPlan,
-) -> Result<Rule, Fail> {
+) -> Result<Rule, OutOfMemory> {
     let mut listed = Vec::new(alloc);
     for condition in conditions {
         listed.push(test_of(alloc, *condition)?)?;
@@ -85,33 +109,15 @@ pub(crate) fn rule_of(
     })
 }
 
-pub(crate) fn fields_of(alloc: Global, plans: &[FieldPlan]) -> Result<Vec<Field>, Fail> {
-    let mut fields = Vec::new(alloc);
-    for plan in plans {
-        fields.push(field_of(alloc, *plan)?)?;
-    }
-    Ok(fields)
-}
-
-/// A numerical field whose name ends in the number.
-pub(crate) fn numbered_field(alloc: Global, number: u32) -> Result<Field, Fail> {
-    let name = format!(in alloc; "F{number}")?;
-    Ok(Field {
-        name: name_of(name.as_bytes())?,
-        weight: 1,
-        kind: Kind::Number { scale: 1 },
-    })
-}
-
 /// Whether the fields and rules make a survey.
 pub(crate) fn make_a_survey(
     alloc: Global,
     fields: Vec<Field>,
     rules: Vec<Rule>,
-) -> Result<bool, Fail> {
+) -> Result<bool, OutOfMemory> {
     match Survey::new(alloc, fields, rules) {
         Ok(_) => Ok(true),
         Err(SurveyFault::Malformed) => Ok(false),
-        Err(SurveyFault::OutOfMemory) => Err("memory")?,
+        Err(SurveyFault::OutOfMemory) => Err(OutOfMemory),
     }
 }

@@ -1,5 +1,5 @@
 //! Records, and whether rules hold at them. The expected answers were worked out by hand.
-ghost use Rattle.std.specs.Prelude.{◌≡◌, All, IsTrue};
+ghost use Rattle.std.specs.Prelude.{◌≡◌, All, IfOk, IsTrue};
 ghost use Rattle.edit_model.specs.Rows.{IsOfKind, IsRow};
 ghost use Rattle.edit_model.specs.Trials.{CanTry, HasValues};
 
@@ -7,7 +7,8 @@ use super::plan::{FieldPlan, TestPlan, fields_of, rule_of};
 use crate::{Compare, Field, Kind, Row, Rule, Survey, Test, Value, holds};
 use TestPlan::{Codes, Number as Sum};
 use ValuePlan::{Code, Greatest, Number};
-use fraction128::{Fraction, Overflow};
+use foundation::OutOfMemory;
+use fraction128::Fraction;
 use std::alloc::Global;
 use std::process::Abort;
 use std::test::Fail;
@@ -19,27 +20,13 @@ const FIELDS: [FieldPlan; 3] = [
     FieldPlan::Code(b"Size", 1, &[b"small", b"large"]),
 ];
 
-const IS_LARGE: TestPlan = Codes(2, false, 0b10);
-
-const IS_NOT_LARGE: TestPlan = Codes(2, true, 0b10);
-
-const COSTS_POSITIVE: TestPlan = Sum(&[(1, 1)], 0, Compare::Gt);
-
 /// A value: a numerator over a denominator, 2^127 - 1 over a denominator, or a code.
-#[derive(Clone, Copy, Debug)]
+#[derive(Clone, Copy)]
 enum ValuePlan {
     Number(i64, u32),
     Greatest(u32),
     Code(u8),
     Bad,
-}
-
-/// What a rule of these fields answers.
-#[derive(Clone, Copy, Debug, PartialEq, Eq)]
-enum Answer {
-    Holds,
-    Fails,
-    Overflow,
 }
 
 fn is_of_kind(kind: &Kind, value: &Value) -> bool
@@ -88,28 +75,11 @@ fn can_try(row: &Row, rule: &Rule) -> bool
         && has_values(row, &rule.conclusion)
 }
 
-/// The record of these values.
-fn row_of(alloc: Global, survey: &Survey, plans: &[ValuePlan]) -> Result<Row, Fail> {
-    let mut values = Vec::new(alloc);
-    for plan in plans {
-        values.push(value_of(*plan))?;
+fn number(numerator: i128, denominator: u32) -> Value {
+    if denominator == 0 || numerator == i128::MIN {
+        return Value::Bad;
     }
-    if !is_row(survey.fields(), &values) {
-        Err("values of the fields' kinds")?;
-    }
-    Ok(Row::new(survey, values))
-}
-
-/// What the rule answers at the record.
-fn answer_of(row: &Row, rule: &Rule) -> Result<Answer, Fail> {
-    if !can_try(row, rule) {
-        Err("a record with the values that the rule needs")?;
-    }
-    match holds(rule, row) {
-        Ok(true) => Ok(Answer::Holds),
-        Ok(false) => Ok(Answer::Fails),
-        Err(Overflow) => Ok(Answer::Overflow),
-    }
+    Value::Number(Fraction::reduced(numerator, i128::from(denominator)))
 }
 
 fn value_of(plan: ValuePlan) -> Value {
@@ -121,176 +91,184 @@ fn value_of(plan: ValuePlan) -> Value {
     }
 }
 
-fn number(numerator: i128, denominator: u32) -> Value {
-    if denominator == 0 || numerator == i128::MIN {
-        return Value::Bad;
+/// The survey of the three fields, without rules.
+fn survey_of(rt: &impl Abort, alloc: Global) -> Result<Survey, Fail> {
+    Ok(Survey::new(alloc, fields_of(rt, alloc, &FIELDS)?, Vec::new(alloc))?)
+}
+
+/// The record of these values.
+fn row_of(
+    rt: &impl Abort,
+    alloc: Global,
+    survey: &Survey,
+    plans: &[ValuePlan],
+) -> Result<Row, OutOfMemory>
+    ensures { IfOk result (λ row. IsRow survey.now.fields row) }
+{
+    let mut values = Vec::new(alloc);
+    for plan in plans {
+        values.push(value_of(*plan))?;
     }
-    Value::Number(Fraction::reduced(numerator, i128::from(denominator)))
+    assert!(rt; is_row(survey.fields(), &values));
+    Ok(Row::new(survey, values))
+}
+
+/// Puts the value at the field, whose kind it is of.
+fn put(rt: &impl Abort, survey: &Survey, row: &mut Row, field: u32, value: Value)
+    requires { IsRow survey.now.fields row.old }
+{
+    match survey.fields().get(field as usize) {
+        Some(of) if is_of_kind(&of.kind, &value) => row.set(survey, field, value),
+        _ => assert!(rt; false),
+    }
 }
 
 #[test]
 fn a_record_gives_its_values_and_a_copy_of_itself(rt: HostRuntime) -> Result<(), Fail> {
     let alloc = rt.alloc();
-    let survey = Survey::new(alloc, fields_of(alloc, &FIELDS)?, Vec::new(alloc))?;
-    let row = row_of(alloc, &survey, &[Number(14, 6), ValuePlan::Bad, Code(1)])?;
-    let values = [number(7, 3), Value::Bad, Value::Code(1)];
-    assert_eq!(rt; row.values(), values.as_slice());
-    assert_eq!(rt; row.copy(alloc)?.values(), values.as_slice());
-    if row.values().len() == 3 {
-        assert_eq!(rt; row.value(2), &Value::Code(1));
-    }
+    let survey = survey_of(&rt, alloc)?;
+    let mut row = row_of(
+        &rt,
+        alloc,
+        &survey,
+        &[Number(14, 6), ValuePlan::Bad, Code(1)],
+    )?;
+    let before = row.copy(alloc)?;
+    put(&rt, &survey, &mut row, 2, Value::Code(0));
+    assert!(rt; before.values() == [number(7, 3), Value::Bad, Value::Code(1)].as_slice());
+    assert!(rt; row.values() == [number(7, 3), Value::Bad, Value::Code(0)].as_slice());
+    assert!(rt; row.values().len() == 3);
+    assert!(rt; row.value(1).is_bad() && !row.value(2).is_bad());
     Ok(())
 }
 
 const NO_CONDITIONS: &[TestPlan] = &[];
 
+const IS_LARGE: TestPlan = Codes(2, false, 0b10);
+
 const LARGE_ALONE: &[TestPlan] = &[IS_LARGE];
 
-const POSITIVE_COSTS_ALONE: &[TestPlan] = &[COSTS_POSITIVE];
+const COSTS_POSITIVE: TestPlan = Sum(&[(1, 1)], 0, Compare::Gt);
 
 const TWICE_TURNOVER: TestPlan = Sum(&[(0, 2)], 0, Compare::Ge);
 
-/// Conditions, a conclusion, a record, and whether the rule of these holds at it.
-const CASES: [(&[TestPlan], TestPlan, &[ValuePlan], Answer); 19] = [
-    // Turnover - Costs - 3 compared with 0, at a difference of 3, above 3, and below 3.
+const FIVE_AND_TWO: &[ValuePlan] = &[Number(5, 1), Number(2, 1), Code(0)];
+
+/// Conditions, a conclusion, a record, and whether the rule of these holds at it, None for an overflow.
+const CASES: [(&[TestPlan], TestPlan, &[ValuePlan], Option<bool>); 14] = [
+    // Turnover - Costs - 3 compared with 0, at a difference of 3.
     (
         NO_CONDITIONS,
         Sum(&[(0, 1), (1, -1)], -3, Compare::Ge),
-        &[Number(5, 1), Number(2, 1), Code(0)],
-        Answer::Holds,
+        FIVE_AND_TWO,
+        Some(true),
     ),
     (
         NO_CONDITIONS,
         Sum(&[(0, 1), (1, -1)], -3, Compare::Gt),
-        &[Number(5, 1), Number(2, 1), Code(0)],
-        Answer::Fails,
+        FIVE_AND_TWO,
+        Some(false),
     ),
     (
         NO_CONDITIONS,
         Sum(&[(0, 1), (1, -1)], -3, Compare::Le),
-        &[Number(5, 1), Number(2, 1), Code(0)],
-        Answer::Holds,
+        FIVE_AND_TWO,
+        Some(true),
     ),
     (
         NO_CONDITIONS,
         Sum(&[(0, 1), (1, -1)], -3, Compare::Lt),
-        &[Number(5, 1), Number(2, 1), Code(0)],
-        Answer::Fails,
+        FIVE_AND_TWO,
+        Some(false),
     ),
     (
         NO_CONDITIONS,
         Sum(&[(0, 1), (1, -1)], -3, Compare::Eq),
-        &[Number(5, 1), Number(2, 1), Code(0)],
-        Answer::Holds,
-    ),
-    (
-        NO_CONDITIONS,
-        Sum(&[(0, 1), (1, -1)], -3, Compare::Gt),
-        &[Number(31, 6), Number(2, 1), Code(0)],
-        Answer::Holds,
-    ),
-    (
-        NO_CONDITIONS,
-        Sum(&[(0, 1), (1, -1)], -3, Compare::Ge),
-        &[Number(29, 6), Number(2, 1), Code(0)],
-        Answer::Fails,
+        FIVE_AND_TWO,
+        Some(true),
     ),
     (
         NO_CONDITIONS,
         Sum(&[(0, 3)], -1, Compare::Eq),
         &[Number(1, 3), Number(0, 1), Code(0)],
-        Answer::Holds,
+        Some(true),
     ),
     (
         NO_CONDITIONS,
-        IS_LARGE,
+        Codes(2, true, 0b10),
         &[Number(0, 1), Number(0, 1), Code(1)],
-        Answer::Holds,
+        Some(false),
     ),
     (
         NO_CONDITIONS,
-        IS_LARGE,
+        Codes(2, true, 0b10),
         &[Number(0, 1), Number(0, 1), Code(0)],
-        Answer::Fails,
-    ),
-    (
-        NO_CONDITIONS,
-        IS_NOT_LARGE,
-        &[Number(0, 1), Number(0, 1), Code(1)],
-        Answer::Fails,
-    ),
-    (
-        NO_CONDITIONS,
-        IS_NOT_LARGE,
-        &[Number(0, 1), Number(0, 1), Code(0)],
-        Answer::Holds,
+        Some(true),
     ),
     // A false condition makes the rule hold, and its conclusion is not tried.
     (
         LARGE_ALONE,
         COSTS_POSITIVE,
         &[Number(0, 1), Number(-1, 1), Code(0)],
-        Answer::Holds,
+        Some(true),
     ),
     (
         LARGE_ALONE,
         COSTS_POSITIVE,
         &[Number(0, 1), Number(-1, 1), Code(1)],
-        Answer::Fails,
-    ),
-    (
-        POSITIVE_COSTS_ALONE,
-        IS_LARGE,
-        &[Number(0, 1), Number(1, 2), Code(0)],
-        Answer::Fails,
+        Some(false),
     ),
     (
         LARGE_ALONE,
         TWICE_TURNOVER,
         &[Greatest(1), Number(0, 1), Code(0)],
-        Answer::Holds,
+        Some(true),
     ),
     (
         LARGE_ALONE,
         TWICE_TURNOVER,
         &[Greatest(1), Number(0, 1), Code(1)],
-        Answer::Overflow,
+        None,
     ),
     (
         NO_CONDITIONS,
         Sum(&[(0, 1)], 1, Compare::Ge),
         &[Greatest(1), Number(0, 1), Code(0)],
-        Answer::Overflow,
+        None,
     ),
     // 2^127 - 1 over 2, twice, is 2^127 - 1 and stays in range.
     (
         NO_CONDITIONS,
         TWICE_TURNOVER,
         &[Greatest(2), Number(0, 1), Code(0)],
-        Answer::Holds,
+        Some(true),
     ),
 ];
+
+/// Whether the rule holds at the record, None for an overflow.
+fn answer_of(rt: &impl Abort, row: &Row, rule: &Rule) -> Option<bool> {
+    assert!(rt; can_try(row, rule));
+    holds(rule, row).ok()
+}
 
 /// Asks whether each rule holds at its record, and compares with the table.
 fn answer_rules(
     rt: &impl Abort,
     alloc: Global,
-    cases: &[(&[TestPlan], TestPlan, &[ValuePlan], Answer)],
-) -> Result<(), Fail> {
-    let survey = Survey::new(alloc, fields_of(alloc, &FIELDS)?, Vec::new(alloc))?;
+    survey: &Survey,
+    cases: &[(&[TestPlan], TestPlan, &[ValuePlan], Option<bool>)],
+) -> Result<(), OutOfMemory> {
     for (conditions, conclusion, values, answer) in cases {
         let rule = rule_of(alloc, conditions, *conclusion)?;
-        let row = row_of(alloc, &survey, values)?;
-        assert_eq!(rt;
-            answer_of(&row, &rule)?,
-            *answer,
-            "at {conditions:?}, {conclusion:?}, {values:?}"
-        );
+        let row = row_of(rt, alloc, survey, values)?;
+        assert!(rt; answer_of(rt, &row, &rule) == *answer);
     }
     Ok(())
 }
 
 #[test]
 fn a_rule_holds_exactly_where_it_is_true(rt: HostRuntime) -> Result<(), Fail> {
-    answer_rules(&rt, rt.alloc(), &CASES)
+    let alloc = rt.alloc();
+    answer_rules(&rt, alloc, &survey_of(&rt, alloc)?, &CASES)?;
+    Ok(())
 }

@@ -1,8 +1,9 @@
 use super::plan::{FieldPlan, LinePlan, RulePlan, TestPlan, is_line, lines_of};
-use crate::RuleLine;
+use crate::{RuleLine, normal_form_law};
 use FieldPlan::{Code, Number};
 use TestPlan::{Codes, Sum};
 use edit_model::Compare::{Eq, Ge, Gt, Le, Lt};
+use std::alloc::Global;
 use std::test::Fail;
 
 /// The fields of the trade survey.
@@ -26,7 +27,7 @@ type Case = (
     &'static [LinePlan],
 );
 
-const SURVEYS: [Case; 3] = [
+const CASES: [Case; 5] = [
     (
         &TRADE,
         &[
@@ -59,104 +60,61 @@ const SURVEYS: [Case; 3] = [
         &[(&[Codes(0, false, 0b01)], Sum(&[(1, 1)], 0, Eq))],
         &[(0, &[0b01], &[1], 0, false), (0, &[0b01], &[-1], 0, false)],
     ),
-];
-
-const COMPARISONS: [Case; 7] = [
+    // each comparison, and sums without a field
     (
         &MIXED,
-        &[(&[], Sum(&[(0, 2), (2, -4)], 6, Ge))],
-        &[(0, &[0b111], &[1, -2], 3, false)],
-    ),
-    (
-        &MIXED,
-        &[(&[], Sum(&[(0, 2), (2, -4)], 6, Gt))],
-        &[(0, &[0b111], &[1, -2], 3, true)],
-    ),
-    (
-        &MIXED,
-        &[(&[], Sum(&[(0, 2), (2, -4)], 6, Le))],
-        &[(0, &[0b111], &[-1, 2], -3, false)],
-    ),
-    (
-        &MIXED,
-        &[(&[], Sum(&[(0, 2), (2, -4)], 6, Lt))],
-        &[(0, &[0b111], &[-1, 2], -3, true)],
-    ),
-    (
-        &MIXED,
-        &[(&[], Sum(&[(0, 2), (2, -4)], 6, Eq))],
+        &[
+            (&[], Sum(&[(0, 2), (2, -4)], 6, Ge)),
+            (&[], Sum(&[(0, 2), (2, -4)], 6, Gt)),
+            (&[], Sum(&[(0, 2), (2, -4)], 6, Le)),
+            (&[], Sum(&[(0, 2), (2, -4)], 6, Lt)),
+            (&[], Sum(&[(0, 2), (2, -4)], 6, Eq)),
+            (&[], Sum(&[], -4, Ge)),
+            (&[], Sum(&[], 0, Gt)),
+        ],
         &[
             (0, &[0b111], &[1, -2], 3, false),
-            (0, &[0b111], &[-1, 2], -3, false),
+            (1, &[0b111], &[1, -2], 3, true),
+            (2, &[0b111], &[-1, 2], -3, false),
+            (3, &[0b111], &[-1, 2], -3, true),
+            (4, &[0b111], &[1, -2], 3, false),
+            (4, &[0b111], &[-1, 2], -3, false),
+            (5, &[0b111], &[0, 0], -1, false),
+            (6, &[0b111], &[0, 0], 0, true),
         ],
     ),
-    (
-        &MIXED,
-        &[(&[], Sum(&[], -4, Ge))],
-        &[(0, &[0b111], &[0, 0], -1, false)],
-    ),
-    (
-        &MIXED,
-        &[(&[], Sum(&[], 0, Gt))],
-        &[(0, &[0b111], &[0, 0], 0, true)],
-    ),
-];
-
-const CONDITIONS: [Case; 10] = [
-    (
-        &MIXED,
-        &[(&[Sum(&[(0, 1)], -1, Ge)], Codes(1, false, 0b001))],
-        &[(0, &[0b110], &[-1, 0], 1, true)],
-    ),
-    (
-        &MIXED,
-        &[(&[Sum(&[(0, 1)], -1, Gt)], Codes(1, false, 0b001))],
-        &[(0, &[0b110], &[-1, 0], 1, false)],
-    ),
-    (
-        &MIXED,
-        &[(&[Sum(&[(0, 1)], -1, Le)], Codes(1, true, 0b001))],
-        &[(0, &[0b001], &[1, 0], -1, true)],
-    ),
-    (
-        &MIXED,
-        &[(&[Sum(&[(0, 1)], -1, Lt)], Codes(1, true, 0b001))],
-        &[(0, &[0b001], &[1, 0], -1, false)],
-    ),
-    (
-        &MIXED,
-        &[(&[Codes(1, true, 0b001)], Sum(&[(2, 1)], 0, Ge))],
-        &[(0, &[0b110], &[0, 1], 0, false)],
-    ),
-    (
-        &MIXED,
-        &[(
-            &[Codes(1, false, 0b011), Codes(1, true, 0b001)],
-            Sum(&[(2, 1)], 0, Ge),
-        )],
-        &[(0, &[0b010], &[0, 1], 0, false)],
-    ),
-    (
-        &MIXED,
-        &[(
-            &[Codes(1, false, 0b001), Codes(1, false, 0b010)],
-            Sum(&[(2, 1)], 0, Eq),
-        )],
-        &[],
-    ),
-    (
-        &MIXED,
-        &[(&[Codes(1, false, 0b011)], Codes(1, true, 0b001))],
-        &[(0, &[0b001], &[0, 0], -1, false)],
-    ),
-    (&MIXED, &[(&[], Codes(1, false, 0b111))], &[]),
+    // each comparison as a condition, and conditions on codes
     (
         &MIXED,
         &[
+            (&[Sum(&[(0, 1)], -1, Ge)], Codes(1, false, 0b001)),
+            (&[Sum(&[(0, 1)], -1, Gt)], Codes(1, false, 0b001)),
+            (&[Sum(&[(0, 1)], -1, Le)], Codes(1, true, 0b001)),
+            (&[Sum(&[(0, 1)], -1, Lt)], Codes(1, true, 0b001)),
+            (&[Codes(1, true, 0b001)], Sum(&[(2, 1)], 0, Ge)),
+            (
+                &[Codes(1, false, 0b011), Codes(1, true, 0b001)],
+                Sum(&[(2, 1)], 0, Ge),
+            ),
+            (
+                &[Codes(1, false, 0b001), Codes(1, false, 0b010)],
+                Sum(&[(2, 1)], 0, Eq),
+            ),
+            (&[Codes(1, false, 0b011)], Codes(1, true, 0b001)),
+            (&[], Codes(1, false, 0b111)),
             (&[Sum(&[(0, 1)], 0, Ge)], Codes(1, false, 0b111)),
             (&[], Sum(&[(0, 1)], 0, Ge)),
         ],
-        &[(1, &[0b111], &[1, 0], 0, false)],
+        &[
+            (0, &[0b110], &[-1, 0], 1, true),
+            (1, &[0b110], &[-1, 0], 1, false),
+            (2, &[0b001], &[1, 0], -1, true),
+            (3, &[0b001], &[1, 0], -1, false),
+            (4, &[0b110], &[0, 1], 0, false),
+            (5, &[0b010], &[0, 1], 0, false),
+            (7, &[0b001], &[0, 0], -1, false),
+            (10, &[0b111], &[1, 0], 0, false),
+        ],
     ),
 ];
 
@@ -166,29 +124,21 @@ fn are_lines(lines: &[RuleLine], wanted: &[LinePlan]) -> bool {
             && is_line(&line.line, plan))
 }
 
-#[test]
-fn surveys_have_their_normal_lines(rt: HostRuntime) -> Result<(), Fail> {
-    for (fields, rules, wanted) in SURVEYS {
-        let lines = lines_of(rt.alloc(), fields, rules)?;
-        assert!(rt; are_lines(&lines, wanted), "at {rules:?}");
+/// The place of the first case whose lines are not the wanted ones.
+fn first_wrong(alloc: Global, cases: &[Case]) -> Result<Option<usize>, Fail> {
+    for (place, case) in cases.iter().enumerate() {
+        let lines = lines_of(alloc, case.0, case.1)?;
+        if !are_lines(&lines, case.2) {
+            return Ok(Some(place));
+        }
     }
-    Ok(())
+    Ok(None)
 }
 
 #[test]
-fn each_comparison_has_its_lines(rt: HostRuntime) -> Result<(), Fail> {
-    for (fields, rules, wanted) in COMPARISONS {
-        let lines = lines_of(rt.alloc(), fields, rules)?;
-        assert!(rt; are_lines(&lines, wanted), "at {rules:?}");
-    }
-    Ok(())
-}
-
-#[test]
-fn each_condition_has_its_lines(rt: HostRuntime) -> Result<(), Fail> {
-    for (fields, rules, wanted) in CONDITIONS {
-        let lines = lines_of(rt.alloc(), fields, rules)?;
-        assert!(rt; are_lines(&lines, wanted), "at {rules:?}");
-    }
+fn rules_have_their_normal_lines(rt: HostRuntime) -> Result<(), Fail> {
+    normal_form_law();
+    let wrong = first_wrong(rt.alloc(), &CASES)?;
+    assert_eq!(rt; wrong, None);
     Ok(())
 }

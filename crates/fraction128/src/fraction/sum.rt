@@ -1,5 +1,6 @@
-ghost use Rattle.std.specs.Prelude.{IfOk, OnOk, OnErr};
-ghost use Rattle.fraction128.specs.Arithmetic.{IsSum, IsDifference, IsMiddle, sum_numbers, difference_numbers, MiddleInRange};
+ghost use Rattle.std.specs.Prelude.{◌≡◌, IfOk, OnOk, OnErr};
+ghost use Rattle.fraction128.specs.Arithmetic.{IsSum, IsDifference, IsMiddle, sum_numbers, difference_numbers};
+ghost use Rattle.fraction128.specs.Formulas.{answered, middle, ratio_of};
 ghost use Rattle.fraction128.specs.Range.{AllInRange};
 
 use crate::divisor::Cofactors;
@@ -37,8 +38,7 @@ impl Fraction {
     /// The fraction half way between the two. It overflows where the sum does, or the sum divided by 2.
     pub fn middle(self, other: Fraction) -> Result<Fraction, Overflow>
         ensures value { IfOk result (λ z. IsMiddle self other z) }
-        ensures fits { OnOk result (MiddleInRange self other) }
-        ensures overflow { OnErr result (¬ MiddleInRange self other) }
+        ensures formula { answered result ≡ middle (ratio_of self) (ratio_of other) }
     {
         self.add(other)?.divide(2)
     }

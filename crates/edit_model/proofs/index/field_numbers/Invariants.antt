@@ -1,6 +1,6 @@
 use Rattle.std.proofs.Common.{◌≡◌, ◌++◌, drop}
 use Rattle.edit_model.specs.Corrections.{numbers_from}
-use Rattle.edit_model.specs.Indexes.{is_of_kind}
+use Rattle.edit_model.specs.inner.Indexes.{is_of_kind}
 use Rattle.edit_model.proofs.index.field_numbers.Given as goal
 
 abbrev pub invariant-loop-i : goal.invariant-loop-i

@@ -1,5 +1,5 @@
 use Rattle.std.proofs.Common.{◌≡◌, take}
-use Rattle.edit_model.specs.Indexes.{names_of}
+use Rattle.edit_model.specs.inner.Indexes.{names_of}
 use Rattle.edit_model.proofs.index.name_table.Given as goal
 
 abbrev pub invariant-loop-field : goal.invariant-loop-field
