@@ -14,7 +14,7 @@ use Rattle.edit_line.specs.declared.derived.Derived.{Derived}
 use Rattle.edit_line.proofs.ListPlaces.{StandsAt, first-at, later-at}
 use Rattle.edit_line.proofs.Members.{all-in, in-all, in-either, in-flat_map-out, in-get, in-taken}
 use Rattle.edit_line.proofs.OtherFields.{set-set, set-whole}
-use Rattle.edit_line.proofs.SetLaws.{both_true}
+use Rattle.edit_line.proofs.BoolLaws.{both_true}
 use Rattle.categ_combine.specs.BoxLists.{AreBoxesOver, sets_of}
 use Rattle.categ_combine.specs.Covers.{cover_count, covered_from, covers_from, first_cover, from_of, is_whole_at, joined, joined_for, meets_but, parts_of, row_of, takes_part, unchanged_one, with_code_from}
 use Rattle.categ_combine.specs.Each.{each_from}

@@ -6,7 +6,7 @@ use Rattle.edit_model.specs.Points.{has_code}
 use Rattle.edit_line.specs.Reductions.{IsIn}
 use Rattle.edit_line.specs.Sets.{has_codes, is_inside}
 use Rattle.edit_line.proofs.Members.{in-filter-out, in-flat_map-out, in-map-out}
-use Rattle.edit_line.proofs.SetLaws.{both_true}
+use Rattle.edit_line.proofs.BoolLaws.{both_true}
 use Rattle.categ_combine.specs.BoxLists.{reduce_boxes}
 use Rattle.edit_line.specs.Combinations.{meets}
 use Rattle.categ_combine.specs.Covers.{is_whole_at, meets_but, takes_part, with_code}

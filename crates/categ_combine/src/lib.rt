@@ -1,7 +1,7 @@
 //! Boxes of codes that a record's edits forbid, and the elimination of categorical fields from them.
 //! Begin with [`boxes_of`], which makes the boxes of a record, [`fix`], which keeps a field's code, and
 //! [`cat_step`], which changes it; their meaning is in `specs/FailingBoxes.antt`, `specs/Fixing.antt` and
-//! `specs/Covers.antt`.
+//! `specs/Covers.antt`, and what the origins of their boxes name in `specs/Origins.antt`.
 #![tactic(auto)]
 
 mod box_from;

@@ -81,8 +81,8 @@ module _ (edits : EditsParts) (start : List Derived) (of : IsReducedOf edits.sha
         system = record { numerical = numerical; lines_are = is };
         over = made-over fields ys is;
         lifts = λ p. (
-            λ holds. let (q, differs, codes, at_q) = made-lifts fields ys is p holds in (q, differs, at_q),
-            λ can. let (q, differs, at_q) = can in made-holds fields ys is p q (chosen-numerical edits.shape bits) differs at_q,
+          λ holds. let (q, differs, codes, at_q) = made-lifts fields ys is p holds in (q, differs, at_q),
+          λ can. let (q, differs, at_q) = can in made-holds fields ys is p q (chosen-numerical edits.shape bits) differs at_q,
         );
         flat = λ f there. made-flat fields ys is f (chosen-has edits.shape bits f numerical there);
         origins = record { edits = made-edits fields ys is; lines = made-comes fields ys is };

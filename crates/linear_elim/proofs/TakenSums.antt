@@ -2,7 +2,7 @@ use Rattle.std.proofs.Common.{◌≡◌, true, ℕ, None, ℤ, pos, ◌<ℤ◌, 
 use Rattle.edit_line.specs.Combinations.{IsPositiveSum, first_overflow, numbers, sum_of}
 use Rattle.edit_line.specs.Divisors.{reduced}
 use Rattle.edit_line.specs.Lines.{LineParts, factor}
-use Rattle.edit_line.proofs.SetLaws.{both_true}
+use Rattle.edit_line.proofs.BoolLaws.{both_true}
 use Rattle.edit_line.proofs.TakenCombinations.{divides-divisor, may-positive, positive-may}
 use Rattle.linear_elim.specs.Combinations.{combination, first_multiplier, second_multiplier}
 use Rattle.linear_elim.specs.Origins.{IsTakenSum}

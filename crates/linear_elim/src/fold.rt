@@ -72,7 +72,6 @@ fn fold_lines<L: Ledger>(
     ensures few { steps.new ≤ steps.old + system_count edits.now.lines (chosen_fields edits.now.shape fields) }
 {
     let shape = edits.shape();
-    let _over = edits.lines(); // read for what it says: all lines are over one shape
     let base = edits.reduced();
     let mut lines = None;
     for (field, count) in shape.code_counts().iter().enumerate() {

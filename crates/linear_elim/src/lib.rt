@@ -1,8 +1,9 @@
 //! Elimination of numerical fields from linear edits, by Fourier and Motzkin: [`step`] eliminates one
-//! field, [`fold_system`] a set of them. The definitions are in `specs/Steps.antt` and
-//! `specs/Systems.antt`. The contracts say exactly which lines come out, with their origins, or which
-//! number first leaves the range; and that the lines that come out hold at a point exactly where some
-//! values at the eliminated fields make the given lines hold.
+//! field, [`fold_system`] a set of them. The definitions are in `specs/Steps.antt`, `specs/Systems.antt`
+//! and `specs/Origins.antt`. The contracts say exactly which lines come out, or which number first leaves
+//! the range; that the lines that come out hold at a point exactly where some values at the eliminated
+//! fields make the given lines hold; that the eliminated fields stand in none of them; and that each comes
+//! from the lines that its origin names.
 #![tactic(auto)]
 
 mod column;

@@ -57,7 +57,8 @@ impl System {
         self.fields
     }
 
-    /// The lines, in order, with their origins in the lines of the last step. No memory.
+    /// The lines, in order, with their origins in the lines that the last step took, which are those of the
+    /// system of the fields before the last; in the edits where no field was eliminated. No memory.
     pub fn lines(&self) -> &[Derived]
         ensures lines { result.now ≡ self.now.lines }
         ensures system { IsSystem self.now }

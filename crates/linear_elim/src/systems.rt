@@ -45,7 +45,7 @@ pub trait Systems {
         ensures kept { OnOk result (keeps self.new fields ≡ true) };
 }
 
-/// The source that folds each system anew.
+/// The source that folds each system anew, and counts one step for each pair that its fold combines.
 #[derive(Clone, Copy, Debug, PartialEq, Eq)]
 pub struct Recompute;
 

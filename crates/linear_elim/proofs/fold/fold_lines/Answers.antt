@@ -8,8 +8,8 @@ use Rattle.linear_elim.specs.Told.{told_system}
 use Rattle.linear_elim.specs.inner.FoldLines.{so_far}
 use Rattle.linear_elim.proofs.OwnLoops.{own-folded, own-start}
 use Rattle.linear_elim.proofs.StepLoops.{if_told}
-use Rattle.linear_elim.proofs.FoldLaws.{HaveShape-folded, HaveShape-start}
-use Rattle.linear_elim.proofs.MadeLaws.{system-made}
+use Rattle.linear_elim.proofs.FoldLaws.{HaveShape-folded}
+use Rattle.linear_elim.proofs.MadeLaws.{start_over, system-made}
 use Rattle.linear_elim.proofs.SystemLoops.{chosen-all, chosen-end, chosen_from, chosen_here, count-more, count-stops, fold-more, fold-stops, reached-end}
 use Rattle.linear_elim.proofs.fold.fold_lines.Goals as goal
 
@@ -22,7 +22,7 @@ loop-field-init g c =
     let chosen = chosen-all c.args.fields c.code_counts-count-items.result.now _ edits.shape c.code_counts-count-items.ensures.domains c.shape-shape.ensures in (
       ap (λ (ls : List Derived). fold_result ls (chosen_from c.args.fields c.code_counts-count-items.result.now 0)) is ∙ ap (λ (fs : List ℕ). fold_result base fs) chosen,
       ap (λ (n : ℕ). c.args.steps.now + n) (ap (λ (ls : List Derived). fold_count ls (chosen_from c.args.fields c.code_counts-count-items.result.now 0)) is ∙ ap (λ (fs : List ℕ). fold_count base fs) chosen),
-      HaveShape-start edits.shape edits.lines start c.lines-over.ensures.fit is c.reduced-base.ensures.lines,
+      start_over edits start c.reduced-base.ensures.kept,
       own-start (base_lines edits.lines) start is,
     )
 
@@ -66,7 +66,7 @@ returns-in-Some-clause-made g c =
     let edits = c.args.edits.now in
     let start = c.reduced-base.result.now in
     let none = chosen-end c.args.fields c.code_counts-count-items.result.now c.loop-field.field (omega (arith, c.loop-field-test.false)) in
-    system-made edits start (record { edits = c.lines-over.ensures.fit; lines_are = c.reduced-base.ensures.exact; are_lines = c.reduced-base.ensures.lines }) c.args.fields c.in-Some.lines.items c.requires
+    system-made edits start c.reduced-base.ensures.kept c.args.fields c.in-Some.lines.items c.requires
     (reached-end _ c.in-Some.lines.items _ (system_at edits c.args.fields) none c.loop-field.invariant.0 (ap (λ ls. so_far (λ v. v.items) start ls) c.in-Some.is))
 
 pub returns-in_ok-copy_all-in-None-clause-made : goal.returns-in_ok-copy_all-in-None-clause-made
@@ -75,5 +75,5 @@ returns-in_ok-copy_all-in-None-clause-made g c =
     let start = c.reduced-base.result.now in
     let lines = c.in_ok-copy_all-in-None.field-0.items in
     let none = chosen-end c.args.fields c.code_counts-count-items.result.now c.loop-field.field (omega (arith, c.loop-field-test.false)) in
-    system-made edits start (record { edits = c.lines-over.ensures.fit; lines_are = c.reduced-base.ensures.exact; are_lines = c.reduced-base.ensures.lines }) c.args.fields lines c.requires
+    system-made edits start c.reduced-base.ensures.kept c.args.fields lines c.requires
     (reached-end _ lines _ (system_at edits c.args.fields) none c.loop-field.invariant.0 (ap (λ ls. so_far (λ v. v.items) start ls) c.in-None.is ∙ sym c.in_ok-copy_all-in-None.ensures))
