@@ -10,7 +10,8 @@ use Rattle.edit_line.specs.Sets.{AllInside}
 use Rattle.edit_line.specs.Shapes.{Domain, HasCodes, codes_at, shape_of, whole_sets}
 use Rattle.edit_line.proofs.Members.{in-map-out}
 use Rattle.edit_line.proofs.PointCodes.{wholes-inside}
-use Rattle.edit_line.proofs.SetLaws.{both_true, is_inside-Decides}
+use Rattle.edit_line.proofs.BoolLaws.{both_true}
+use Rattle.edit_line.proofs.SetLaws.{is_inside-Decides}
 use Rattle.edit_line.proofs.ShapeLaws.{HasCodes-shape}
 use Rattle.derivation.specs.Premises.{AgreesAt, usable_lines}
 use Rattle.derivation.specs.ValidSteps.{AreValidSteps}

@@ -2,8 +2,7 @@ use Rattle.std.proofs.Common.{◌≡◌, ◌≢◌, ◌⊎◌, ℕ, zero, suc, �
 use Rattle.std.specs.List.{AllByRecursion}
 use Rattle.std.specs.Result.{result_err}
 use Rattle.std.proofs.lemmas.Bool.Decides.{nat_tests}
-use Rattle.edit_line.proofs.BoolLaws.{true-both}
-use Rattle.edit_line.proofs.SetLaws.{both_true}
+use Rattle.edit_line.proofs.BoolLaws.{both_true, true-both}
 use Rattle.derivation.specs.Premises.{Premises}
 use Rattle.derivation.specs.ValidSteps.{steps_result}
 use Rattle.derivation.specs.declared.proved.Proved.{Proved}

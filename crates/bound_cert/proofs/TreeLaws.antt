@@ -1,9 +1,8 @@
 use Rattle.std.proofs.Common.{◌≡◌, ℕ, zero, suc, ◌+◌, ◌<◌, ◌&&◌, Bool, true, false, List, [], ◌∷◌, ◌++◌, map, length, refl, ap, ◌∙◌, inl, arith}
 use Rattle.std.proofs.lemmas.List.{length-append, length-map}
 use Rattle.edit_line.specs.Reductions.{IsIn}
-use Rattle.edit_line.proofs.BoolLaws.{true-both}
+use Rattle.edit_line.proofs.BoolLaws.{both_true, true-both}
 use Rattle.edit_line.proofs.Members.{in-left, in-map, in-right}
-use Rattle.edit_line.proofs.SetLaws.{both_true}
 use Rattle.bound_cert.specs.Trees.{AreLeafPaths, Fork, Tip, Tree, all_changed, all_kept, comes_next, leaf_paths}
 
 -- The leaves of a full tree, by the tree and one after another.

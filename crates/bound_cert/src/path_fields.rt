@@ -1,11 +1,11 @@
 //! What a path says of a survey's fields and of a record.
-ghost use Rattle.std.specs.Prelude.{◌≡◌, ◌<◌, ◌≤◌, ◌&&◌, if◌then◌else◌, length, not, slice_index_or};
-ghost use Rattle.edit_model.specs.Corrections.{path_order};
+ghost use Rattle.std.specs.Prelude.{◌≡◌, ◌<◌, ◌≤◌, ◌&&◌, if◌then◌else◌, length, not};
 ghost use Rattle.edit_model.specs.Rows.{IsRow, is_bad, value_of};
 ghost use Rattle.edit_model.specs.FieldSets.{with_number};
 ghost use Rattle.edit_model.specs.Words.{weight_at};
 ghost use Rattle.derivation.specs.Premises.{HasKept};
 ghost use Rattle.bound_cert.specs.Paths.{keeps_bad, kept_set, path_weight};
+ghost use Rattle.bound_cert.specs.inner.Places.{field_at};
 
 use edit_model::{FieldSet, Row, Survey};
 
@@ -54,7 +54,7 @@ pub(crate) fn kept_set(survey: &Survey, row: &Row, path: &[bool]) -> FieldSet
 // The weight of the field at this place of the path order, if it is changed.
 fn changed_weight(survey: &Survey, place: usize, changed: bool) -> u64
     requires { place < length survey.now.fields }
-    ensures weight { result ≡ (if changed then weight_at survey.now.fields (slice_index_or (path_order survey.now.fields) place 0) else 0) }
+    ensures weight { result ≡ (if changed then weight_at survey.now.fields (field_at survey.now.fields place) else 0) }
     ensures few { result ≤ 1000 }
 {
     if !changed {
@@ -68,7 +68,7 @@ fn changed_weight(survey: &Survey, place: usize, changed: bool) -> u64
 fn keeps_bad_at(survey: &Survey, row: &Row, place: usize, changed: bool) -> bool
     requires short { place < length survey.now.fields }
     requires row { IsRow survey.now.fields row.now }
-    ensures { result ≡ (not changed && is_bad (value_of row.now (slice_index_or (path_order survey.now.fields) place 0))) }
+    ensures { result ≡ (not changed && is_bad (value_of row.now (field_at survey.now.fields place))) }
 {
     !changed && is_bad_at(survey, row, place)
 }
@@ -77,7 +77,7 @@ fn keeps_bad_at(survey: &Survey, row: &Row, place: usize, changed: bool) -> bool
 fn keeps_value_at(survey: &Survey, row: &Row, place: usize, changed: bool) -> bool
     requires short { place < length survey.now.fields }
     requires row { IsRow survey.now.fields row.now }
-    ensures { result ≡ (not changed && not (is_bad (value_of row.now (slice_index_or (path_order survey.now.fields) place 0)))) }
+    ensures { result ≡ (not changed && not (is_bad (value_of row.now (field_at survey.now.fields place)))) }
 {
     !changed && !is_bad_at(survey, row, place)
 }
@@ -86,7 +86,7 @@ fn keeps_value_at(survey: &Survey, row: &Row, place: usize, changed: bool) -> bo
 fn with_kept(set: FieldSet, survey: &Survey, row: &Row, place: usize, changed: bool) -> FieldSet
     requires short { place < length survey.now.fields }
     requires row { IsRow survey.now.fields row.now }
-    ensures { result ≡ (if not changed && not (is_bad (value_of row.now (slice_index_or (path_order survey.now.fields) place 0))) then with_number set (slice_index_or (path_order survey.now.fields) place 0) else set) }
+    ensures { result ≡ (if not changed && not (is_bad (value_of row.now (field_at survey.now.fields place))) then with_number set (field_at survey.now.fields place) else set) }
 {
     let _fields = survey.fields(); // read for what it says: there are at most 64
     if keeps_value_at(survey, row, place, changed) {
@@ -100,7 +100,7 @@ fn with_kept(set: FieldSet, survey: &Survey, row: &Row, place: usize, changed: b
 fn is_bad_at(survey: &Survey, row: &Row, place: usize) -> bool
     requires short { place < length survey.now.fields }
     requires row { IsRow survey.now.fields row.now }
-    ensures { result ≡ is_bad (value_of row.now (slice_index_or (path_order survey.now.fields) place 0)) }
+    ensures { result ≡ is_bad (value_of row.now (field_at survey.now.fields place)) }
 {
     let _fields = survey.fields(); // read for what it says: there are at most 64
     row.value(survey.path_field(place as u32)).is_bad()

@@ -3,7 +3,7 @@ use Rattle.edit_line.specs.Combinations.{all_meet, divides, first_overflow, may_
 use Rattle.edit_line.specs.Divisors.{divided_by}
 use Rattle.edit_line.specs.Lines.{LineParts}
 use Rattle.edit_line.proofs.Enough.{is_enough-Decides}
-use Rattle.edit_line.proofs.SetLaws.{both_true}
+use Rattle.edit_line.proofs.BoolLaws.{both_true}
 use Rattle.derivation.specs.ValidSteps.{combined_line, only_if}
 use Rattle.derivation.specs.declared.proved.Proved.TheVariants as proved
 

@@ -7,7 +7,7 @@ use Rattle.edit_line.specs.Combinations.{meets}
 use Rattle.edit_line.specs.Sets.{is_inside}
 use Rattle.edit_line.specs.Shapes.{Categorical, Domain, HasCodes, Numerical, code_fields, codes_at, codes_from, has_field, place_in}
 use Rattle.edit_line.proofs.OtherFields.{inside_but, inside_but-meets}
-use Rattle.edit_line.proofs.SetLaws.{both_true}
+use Rattle.edit_line.proofs.BoolLaws.{both_true}
 use Rattle.fraction128.specs.Formulas.{then_some}
 use Rattle.derivation.specs.ValidSteps.{as_box, common_from, only_if, part_with}
 use Rattle.derivation.specs.declared.proved.Proved.{Proved}

@@ -14,7 +14,7 @@ use Rattle.edit_line.specs.Shapes.{codes_at, number_fields, shape_of}
 use Rattle.edit_line.specs.Sums.{AtFactors, HasNumbers, fails_at, stands_only}
 use Rattle.edit_line.proofs.FactorLaws.{AtFactors-map, AtFactors-only}
 use Rattle.edit_line.proofs.Enough.{is_enough-Decides}
-use Rattle.edit_line.proofs.SetLaws.{both_true}
+use Rattle.edit_line.proofs.BoolLaws.{both_true}
 use Rattle.edit_line.proofs.SumCallers.{numbers-held}
 use Rattle.edit_line.proofs.SumLaws.{fails_at-truth}
 use Rattle.derivation.specs.Premises.{AgreesAt, HasKept}

@@ -18,7 +18,8 @@ use Rattle.edit_line.specs.Shapes.{Domain, HasCodes, code_fields, codes_at, has_
 use Rattle.edit_line.specs.Sums.{stands_only}
 use Rattle.edit_line.proofs.Members.{in-all, in-either, in-get}
 use Rattle.edit_line.proofs.OtherFields.{inside_but}
-use Rattle.edit_line.proofs.SetLaws.{both_true, is_inside-Decides}
+use Rattle.edit_line.proofs.BoolLaws.{both_true}
+use Rattle.edit_line.proofs.SetLaws.{is_inside-Decides}
 use Rattle.edit_line.proofs.TakenCombinations.{combined-holds}
 use Rattle.derivation.specs.Premises.{AgreesAt, HasKept, Premises, usable_lines}
 use Rattle.derivation.specs.Shown.{IsOver, IsShown}
