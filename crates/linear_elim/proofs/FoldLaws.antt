@@ -81,26 +81,26 @@ HaveShape-start shape edits start are is lines =
 
 -- ---- what the fold's lines say
 
-module _ (shape : List Domain) (edits : List (ℕ × LineParts)) (start : List Derived) (are : AreEdits shape edits) (is : start ≡ reduce_derived (base_lines edits)) (over : HaveShape shape (lines_of start))
-    (bits : ℕ) (ys : List Derived) (folded : fold_result start (chosen_fields shape bits) ≡ Ok ys) (p : Point) where
+module _ (shape : List Domain) (edits : List (ℕ × LineParts)) (start : List Derived) (are : AreEdits shape edits) (is : start ≡ reduce_derived (base_lines edits)) where
   -- the reduced edits hold where the edits do
-  same_edits : (q : Point) → AllHold (lines_of start) q ↔ AllHold (map (λ (e : ℕ × LineParts). e.1) edits) q
-  same_edits q =
+  pub same-start : (q : Point) → AllHold (lines_of start) q ↔ AllHold (map (λ (e : ℕ × LineParts). e.1) edits) q
+  same-start q =
       let base_over = subst (λ (ls : List LineParts). AreOver shape ls) (sym (base-plain edits)) (All-map (λ (line : LineParts). line.shape ≡ shape) (λ (e : ℕ × LineParts). e.1) edits are.over) in
       let both = reduced-same (base_lines edits) start is shape q base_over in (
         λ holds. subst (λ (ls : List LineParts). AllHold ls q) (base-plain edits) (both.0 holds),
         λ holds. both.1 (subst (λ (ls : List LineParts). AllHold ls q) (sym (base-plain edits)) holds),
       )
 
-  plain : lines_of ys ≡ fold step (lines_of start) (chosen_fields shape bits)
-  plain = fold-plain start (chosen_fields shape bits) ys folded
+  module _ (over : HaveShape shape (lines_of start)) (bits : ℕ) (ys : List Derived) (folded : fold_result start (chosen_fields shape bits) ≡ Ok ys) (p : Point) where
+    plain : lines_of ys ≡ fold step (lines_of start) (chosen_fields shape bits)
+    plain = fold-plain start (chosen_fields shape bits) ys folded
 
-  pub lifts-start : AllHold (lines_of ys) p ↔ CanHoldIn (map (λ (e : ℕ × LineParts). e.1) edits) (chosen_fields shape bits) p
-  lifts-start = (
-    λ holds.
-        let (q, differs, codes, at_q) = fold-lifts shape (lines_of start) (chosen_fields shape bits) p over (subst (λ (ls : List LineParts). AllHold ls p) plain holds) in
-        (q, differs, (same_edits q).0 at_q),
-    λ can.
-        let (q, differs, at_q) = can in
-        subst (λ (ls : List LineParts). AllHold ls p) (sym plain) (fold-holds shape (lines_of start) (chosen_fields shape bits) p q over (chosen-numerical shape bits) differs ((same_edits q).1 at_q)),
-  )
+    pub lifts-start : AllHold (lines_of ys) p ↔ CanHoldIn (map (λ (e : ℕ × LineParts). e.1) edits) (chosen_fields shape bits) p
+    lifts-start = (
+      λ holds.
+          let (q, differs, codes, at_q) = fold-lifts shape (lines_of start) (chosen_fields shape bits) p over (subst (λ (ls : List LineParts). AllHold ls p) plain holds) in
+          (q, differs, (same-start q).0 at_q),
+      λ can.
+          let (q, differs, at_q) = can in
+          subst (λ (ls : List LineParts). AllHold ls p) (sym plain) (fold-holds shape (lines_of start) (chosen_fields shape bits) p q over (chosen-numerical shape bits) differs ((same-start q).1 at_q)),
+    )
