@@ -1,0 +1,16 @@
+use Rattle.edit_paths.proofs.ClosedPaths.{closed-path}
+use Rattle.edit_paths.proofs.OpenPaths.{open-path}
+use Rattle.edit_paths.proofs.ReachedLaws.{best-first, reached-are}
+use Rattle.edit_paths.proofs.laws.path_laws.Goals as goal
+
+pub returns-clause-closed_path : goal.returns-clause-closed_path
+returns-clause-closed_path c d path is closed p meets agrees = closed-path d is path closed p meets agrees
+
+pub returns-clause-open_path : goal.returns-clause-open_path
+returns-clause-open_path c d path is complete fits = open-path d is path complete fits
+
+pub returns-clause-reached : goal.returns-clause-reached
+returns-clause-reached c d path = reached-are d path
+
+pub returns-clause-walk : goal.returns-clause-walk
+returns-clause-walk c d = best-first d
