@@ -1,6 +1,7 @@
-use Rattle.std.proofs.Common.{Bool, List, Ok, [], ap, arith, false, if◌then◌else◌, inl, inr, length, nat_lt, not, refl, slice_index_or, suc, sym, take, true, zero, ℕ, ◌++◌, ◌+◌, ◌-◌, ◌<◌, ◌==◌, ◌||◌, ◌∙◌, ◌∷◌, ◌≡◌, ◌≢◌, ◌≤◌, ◌⊎◌}
+use Rattle.std.proofs.Common.{Bool, List, Ok, [], ap, arith, false, if◌then◌else◌, inl, inr, length, nat_lt, not, refl, slice_index_or, suc, sym, take, true, ℕ, ◌++◌, ◌+◌, ◌-◌, ◌<◌, ◌==◌, ◌||◌, ◌∙◌, ◌∷◌, ◌≡◌, ◌≢◌, ◌≤◌, ◌⊎◌}
 use Rattle.std.specs.List.{filter, fold, sum_by}
-use Rattle.std.proofs.Math.Seq.{take-append_seam}
+use Rattle.std.proofs.Math.Seq.{get_or-append_right, take-append_seam}
+use Rattle.std.proofs.lemmas.List.{get_or_append_left, get_or_past}
 use Rattle.std.proofs.lemmas.Bool.Decides.{Decides-eqb}
 use Rattle.std.proofs.lemmas.List.Sums.{fold-append, sum_by-append, sum_by-cons}
 use Rattle.edit_line.specs.EditSets.{base_lines}
@@ -29,7 +30,7 @@ use Rattle.edit_model.proofs.OrderLaws.{order-length}
 use Rattle.linear_elim.proofs.FoldLaws.{fold-joined}
 use Rattle.bound_cert.proofs.Letters.{filter-agree}
 use Rattle.edit_paths.proofs.FieldPlaces.{Placed, codes-placed, fields-placed, numbers-placed}
-use Rattle.edit_paths.proofs.LetterLaws.{count-kinds, letter-after, letter-before, letter-here, longer, number-place, order-shape}
+use Rattle.edit_paths.proofs.LetterLaws.{count-kinds, letter-here, longer, number-place, order-shape}
 
 -- A path with one letter more: its work, weight, system and boxes, from those of the path before.
 
@@ -69,14 +70,14 @@ module _ (c : Case) (path : List Bool) (b : Bool) (short : length path < field_c
           order false e = inr (grind (arith, e))
 
       by : (path_place c.survey.fields f < length path) ⊎ (length path ≤ path_place c.survey.fields f) → changes c.survey.fields (path ++ b ∷ []) f ≡ changes c.survey.fields path f
-      by (inl below) = letter-before path b false (path_place c.survey.fields f) below
-      by (inr past) = letter-after (path ++ b ∷ []) false (path_place c.survey.fields f) (omega (arith, longer path b, past, other)) ∙ sym (letter-after path false (path_place c.survey.fields f) past)
+      by (inl below) = get_or_append_left path (b ∷ []) false (path_place c.survey.fields f) below
+      by (inr past) = get_or_past (path ++ b ∷ []) (path_place c.survey.fields f) false (omega (arith, longer path b, past, other)) ∙ sym (get_or_past path (path_place c.survey.fields f) false past)
 
   pub changes-next : (f : ℕ) → path_place c.survey.fields f ≡ length path → changes c.survey.fields (path ++ b ∷ []) f ≡ b
   changes-next f here = letter-here path b false (path_place c.survey.fields f) here
 
   not-yet : (f : ℕ) → path_place c.survey.fields f ≡ length path → changes c.survey.fields path f ≡ false
-  not-yet f here = letter-after path false (path_place c.survey.fields f) (omega (arith, here))
+  not-yet f here = get_or_past path (path_place c.survey.fields f) false (omega (arith, here))
 
   -- where the next field is kept, the changed numerical fields stay
   pub child-kept : b ≡ false → changed_numbers c (path ++ b ∷ []) ≡ changed_numbers c path
@@ -141,7 +142,7 @@ module _ (c : Case) where
 
 module _ (c : Case) (path : List Bool) (b : Bool) (short : length path < field_count c) where
   pub not-changed : (f : ℕ) → length path ≤ path_place c.survey.fields f → changes c.survey.fields path f ≡ false
-  not-changed f past = letter-after path false (path_place c.survey.fields f) past
+  not-changed f past = get_or_past path (path_place c.survey.fields f) false past
 
   -- its weight
   pub child-weight : path_weight c.survey.fields (path ++ b ∷ []) ≡ path_weight c.survey.fields path + (if b then weight_at c.survey.fields (slice_index_or (path_order c.survey.fields) (length path) 0) else 0)
@@ -177,22 +178,22 @@ module _ (c : Case) (path : List Bool) (b : Bool) (short : length path < field_c
   keeps-same f other = ap not (by (nat_lt (path_place c.survey.fields f) (length path)) refl)
     where
       by : (l : Bool) → nat_lt (path_place c.survey.fields f) (length path) ≡ l → slice_index_or (path ++ b ∷ []) (path_place c.survey.fields f) true ≡ slice_index_or path (path_place c.survey.fields f) true
-      by true e = letter-before path b true (path_place c.survey.fields f) (grind (arith, e))
+      by true e = get_or_append_left path (b ∷ []) true (path_place c.survey.fields f) (grind (arith, e))
       by false e =
           let past : length path ≤ path_place c.survey.fields f = grind (arith, e) in
-          letter-after (path ++ b ∷ []) true (path_place c.survey.fields f) (omega (arith, longer path b, past, other)) ∙ sym (letter-after path true (path_place c.survey.fields f) past)
+          get_or_past (path ++ b ∷ []) (path_place c.survey.fields f) true (omega (arith, longer path b, past, other)) ∙ sym (get_or_past path (path_place c.survey.fields f) true past)
 
   -- its treated categorical fields are one more
   pub child-codes : number_count c ≤ length path → treated_codes c (path ++ b ∷ []) ≡ treated_codes c path ++ slice_index_or (path_order c.survey.fields) (length path) 0 ∷ []
   child-codes enough =
       filter-more c (length path) (treats c path) (treats c (path ++ b ∷ [])) true same past here (number_count c) (code_fields (shape_of c.survey.fields)) enough (omega (arith, short, count-kinds c)) (codes-placed c)
-      ∙ ap (λ f. treated_codes c path ++ f ∷ []) (sym (ap (λ (fs : List ℕ). slice_index_or fs (length path) 0) (order-shape c.survey.fields) ∙ get-second (number_fields (shape_of c.survey.fields)) (code_fields (shape_of c.survey.fields)) (length path) enough))
+      ∙ ap (λ f. treated_codes c path ++ f ∷ []) (sym (ap (λ (fs : List ℕ). slice_index_or fs (length path) 0) (order-shape c.survey.fields) ∙ get_or-append_right (number_fields (shape_of c.survey.fields)) (code_fields (shape_of c.survey.fields)) (length path) 0 enough))
     where
       same : (f : ℕ) → path_place c.survey.fields f ≢ length path → treats c (path ++ b ∷ []) f ≡ treats c path f
       same f other = ap (λ x. x || changes c.survey.fields (path ++ b ∷ []) f) (keeps-same f other) ∙ ap (λ x. keeps c.survey.fields path f || x) (changes-same c path b short f other)
 
       past : (f : ℕ) → length path ≤ path_place c.survey.fields f → treats c path f ≡ false
-      past f late = ap (λ x. not x || changes c.survey.fields path f) (letter-after path true (path_place c.survey.fields f) late) ∙ not-changed f late
+      past f late = ap (λ x. not x || changes c.survey.fields path f) (get_or_past path (path_place c.survey.fields f) true late) ∙ not-changed f late
 
       here : (f : ℕ) → path_place c.survey.fields f ≡ length path → treats c (path ++ b ∷ []) f ≡ true
       here f at = ap (λ x. not x || changes c.survey.fields (path ++ b ∷ []) f) (letter-here path b true (path_place c.survey.fields f) at) ∙ ap (λ x. not b || x) (changes-next c path b short f at) ∙ either b
@@ -200,11 +201,6 @@ module _ (c : Case) (path : List Bool) (b : Bool) (short : length path < field_c
           either : (b : Bool) → (not b || b) ≡ true
           either true = refl
           either false = refl
-
-      get-second : (first second : List ℕ) (i : ℕ) → length first ≤ i → slice_index_or (first ++ second) i 0 ≡ slice_index_or second (i - length first) 0
-      get-second [] second i past = ap (λ n. slice_index_or second n 0) (omega arith)
-      get-second (x ∷ first) second zero past = absurd (omega arith)
-      get-second (x ∷ first) second (suc i) past = get-second first second i (omega arith) ∙ ap (λ n. slice_index_or second n 0) (omega arith)
 
   -- and its boxes are those of the path before, with the field treated
   pub child-boxes : number_count c ≤ length path → boxes_along c (path ++ b ∷ []) ≡ boxes_after c (path ++ b ∷ []) (boxes_along c path) (slice_index_or (path_order c.survey.fields) (length path) 0)
@@ -216,7 +212,7 @@ module _ (c : Case) (path : List Bool) (b : Bool) (short : length path < field_c
     where
       late : (f : ℕ) → treats c path f ≡ true → path_place c.survey.fields f ≢ length path
       late f treated at =
-          absurd (cc (sym treated ∙ ap (λ x. not x || changes c.survey.fields path f) (letter-after path true (path_place c.survey.fields f) (omega (arith, at))) ∙ not-changed f (omega (arith, at))))
+          absurd (cc (sym treated ∙ ap (λ x. not x || changes c.survey.fields path f) (get_or_past path (path_place c.survey.fields f) true (omega (arith, at))) ∙ not-changed f (omega (arith, at))))
 
       early : (bs : List BoxFrom) (fields : List ℕ) → ((f : ℕ) → IsIn f fields → path_place c.survey.fields f ≢ length path) → fold (boxes_after c (path ++ b ∷ [])) bs fields ≡ fold (boxes_after c path) bs fields
       early bs [] each = refl

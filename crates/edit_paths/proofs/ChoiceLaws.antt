@@ -1,6 +1,7 @@
 use Rattle.std.proofs.Common.{Bool, List, None, Some, [], ap, append-nil, append_assoc, arith, drop, false, if◌then◌else◌, inl, inr, length, map, nat_lt, not, refl, slice_index_or, subst, suc, sym, take, true, zero, ℕ, ◌++◌, ◌+◌, ◌<◌, ◌==◌, ◌||◌, ◌∙◌, ◌∷◌, ◌≡◌, ◌≤◌}
 use Rattle.std.proofs.lemmas.Bool.Decides.{Decides-eqb}
-use Rattle.std.proofs.lemmas.List.{length-map, take-append-drop}
+use Rattle.std.proofs.Math.Seq.{take-suc}
+use Rattle.std.proofs.lemmas.List.{length-take-le, length-map, take-append-drop}
 use Rattle.edit_model.specs.Corrections.{differs_from, is_first, path_order, word_of}
 use Rattle.edit_model.specs.Points.{Point}
 use Rattle.edit_model.specs.Rows.{value_of}
@@ -24,7 +25,7 @@ use Rattle.bound_cert.specs.declared.cert.Cert.{Cert}
 use Rattle.bound_cert.specs.declared.outcome.Event.{Event}
 use Rattle.edit_paths.proofs.ClosedPaths.{closed-path}
 use Rattle.edit_paths.proofs.FieldPlaces.{place-of}
-use Rattle.edit_paths.proofs.LetterLaws.{all-treated, take-next, take-none, taken-kept, taken-length}
+use Rattle.edit_paths.proofs.LetterLaws.{all-treated, taken-kept}
 use Rattle.edit_paths.proofs.OpenPaths.{open-point}
 use Rattle.edit_model.proofs.OrderLaws.{order-length}
 use Rattle.edit_line.proofs.FieldLists.{there-has}
@@ -203,18 +204,18 @@ module _ (c : Case) (is : IsCase c) (q : Point) (meets : Meets c q) where
   module _ (before : List (List Bool)) (each : (p : List Bool) → IsIn p before → EndsNot c p) (within : (k : ℕ) → IsIn (take k (word_of c.survey c.row q)) (reached_paths c) → IsIn (take k (word_of c.survey c.row q)) before) where
     -- each prefix is reached
     prefix-reached : (k : ℕ) → k ≤ field_count c → IsIn (take k (word_of c.survey c.row q)) (reached_paths c)
-    prefix-reached zero few = subst (λ (p : List Bool). IsIn p (reached_paths c)) (take-none (word_of c.survey c.row q)) (empty-reached c)
+    prefix-reached zero few = subst (λ (p : List Bool). IsIn p (reached_paths c)) (refl) (empty-reached c)
     prefix-reached (suc k) few =
         let there = prefix-reached k (omega arith) in
-        subst (λ (p : List Bool). IsIn p (reached_paths c)) (sym (take-next (word_of c.survey c.row q) k (omega (arith, few, word-length))))
+        subst (λ (p : List Bool). IsIn p (reached_paths c)) (sym (take-suc (word_of c.survey c.row q) k false (omega (arith, few, word-length))))
         (next-reached c (take k (word_of c.survey c.row q)) (slice_index_or (word_of c.survey c.row q) k false) there (ap is_open (prefix-open k (each (take k (word_of c.survey c.row q)) (within k there))))
-        (omega (arith, few, taken-length (word_of c.survey c.row q) k (omega (arith, few, word-length)))))
+        (omega (arith, few, length-take-le k (word_of c.survey c.row q) (omega (arith, few, word-length)))))
 
     -- so some path ends the search
     word-ends : ⊥
     word-ends =
         let ends = each (take (field_count c) (word_of c.survey c.row q)) (within (field_count c) (prefix-reached (field_count c) (omega arith))) in
-        ends.1 (prefix-open (field_count c) ends) ((Decides-eqb _ _).1 (taken-length (word_of c.survey c.row q) (field_count c) (omega (arith, word-length))))
+        ends.1 (prefix-open (field_count c) ends) ((Decides-eqb _ _).1 (length-take-le (field_count c) (word_of c.survey c.row q) (omega (arith, word-length))))
 
 -- no point meets the edits of a contradictory case
 pub contradictory : (c : Case) → IsCase c → (budget : ℕ) (cert : Cert) → outcome_of c budget ≡ outcome.Contradictory cert → (p : Point) → Meets c p → ⊥

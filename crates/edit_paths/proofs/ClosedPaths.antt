@@ -46,10 +46,10 @@ use Rattle.edit_paths.proofs.PathBoxes.{avoids-forward, sets-along, sets_after, 
 -- A path is closed only where no point at which the edits hold has the record's values at its kept fields.
 
 -- a value that is a code
-pub some-code : (v : Value) → IsCodeValue v → (k : ℕ) × (v ≡ Code k)
-some-code (Code k) is = (k, refl)
-some-code (Number x) is = absurd is
-some-code Bad is = absurd is
+pub code-value : (v : Value) → IsCodeValue v → (k : ℕ) × (v ≡ Code k)
+code-value (Code k) is = (k, refl)
+code-value (Number x) is = absurd is
+code-value Bad is = absurd is
 
 -- a point that agrees with a code has it
 pub code-agrees : (v : Value) (p : Point) (f : ℕ) → IsCodeValue v → differs_from v p f ≡ false → p.code f ≡ code_in v

@@ -24,7 +24,7 @@ use Rattle.categ_combine.specs.Fixing.{fixed_from}
 use Rattle.categ_combine.specs.Origins.{ComesFromCover, ComesFromFix, ComesFromLine}
 use Rattle.categ_combine.specs.declared.box_from.BoxFrom.{BoxFrom}
 use Rattle.categ_combine.proofs.BoxOrigins.{covered-comes, failing-comes, fixed-comes}
-use Rattle.categ_combine.proofs.OverLaws.{over-covered, over-failing, over-fixed}
+use Rattle.categ_combine.proofs.OverLaws.{over-failing}
 use Rattle.derivation.specs.Premises.{Premises, premises_of}
 use Rattle.derivation.specs.ValidSteps.{steps_result}
 use Rattle.derivation.specs.declared.proved.Proved.{Proved}
@@ -37,10 +37,11 @@ use Rattle.edit_paths.specs.Paths.{changed_numbers, number_count, treated_codes,
 use Rattle.edit_paths.specs.States.{asks_kept, boxes_after, closed_by, first_boxes, first_failing, first_whole, lines_along, or_empty, state_of, state_with_boxes, state_with_system}
 use Rattle.edit_paths.specs.declared.state.PathState.TheVariants.{ClosedBad, ClosedBox, ClosedLine}
 use Rattle.edit_paths.proofs.BoxHistories.{box-value, box_values, covered-made, first-made, fixed-made}
-use Rattle.edit_paths.proofs.ClosedPaths.{kept-code, some-code, treated-code}
+use Rattle.edit_paths.proofs.ClosedPaths.{code-value, kept-code, treated-code}
 use Rattle.edit_paths.proofs.KeptLines.{IsKeptAlone, all-over, derived-over, kept-alone, standing}
 use Rattle.edit_paths.proofs.LetterLaws.{code-field, number-field, treated-kept}
 use Rattle.edit_paths.proofs.LineHistories.{AreUsable, line-history-made, line-value, line_values}
+use Rattle.edit_paths.proofs.PathBoxes.{after-over}
 use Rattle.edit_paths.proofs.StepsWritten.{Elements, IsMade, IsMadeBy, last_of, list-made, steps-valid}
 
 -- The steps of the line, or of the box, that closes a path are valid, and prove it.
@@ -85,13 +86,6 @@ module _ (c : Case) (is : IsCase c) (path : List Bool) (none : keeps_bad c.surve
           first-made premises lines (λ d at. (derived-over c is path none lines made d at).same) (λ d at. only-kept d.line (derived-over c is path none lines made d at) (kept-alone c is path none lines made enough d at)) b.code_box b.origin
           (in-all (λ (b : BoxFrom). ComesFromLine lines c.row b.code_box b.origin) b boxes (failing-comes lines c.row boxes told) there)
 
-      next-over : (list : List BoxFrom) (f : ℕ) → AreBoxesOver (shape_of c.survey.fields) list → AreBoxesOver (shape_of c.survey.fields) (boxes_after c path list f)
-      next-over list f over = by (changes c.survey.fields path f)
-        where
-          by : (t : Bool) → AreBoxesOver (shape_of c.survey.fields) (if t then covered_from (shape_of c.survey.fields) list f else fixed_from (shape_of c.survey.fields) list f (code_in (value_of c.row f)))
-          by true = over-covered (shape_of c.survey.fields) list f over
-          by false = over-fixed (shape_of c.survey.fields) list f (code_in (value_of c.row f)) over
-
       next-each : (list : List BoxFrom) (f : ℕ) → IsIn f (treated_codes c path) → AreBoxesOver (shape_of c.survey.fields) list → BoxesMade (box_values list) f (boxes_after c path list f)
       next-each list f there over b = by (changes c.survey.fields path f) refl
         where
@@ -102,7 +96,7 @@ module _ (c : Case) (is : IsCase c) (path : List Bool) (none : keeps_bad c.surve
               (in-all (λ (b : BoxFrom). ComesFromCover (shape_of c.survey.fields) list f b.code_box b.origin) b (covered_from (shape_of c.survey.fields) list f) (covered-comes (shape_of c.survey.fields) list f over (treated-code c is path f there).0) b_in)
           by false e b_in =
               let keeps_it = treated-kept c path f (in-filter-out (treats c path) f (code_fields (shape_of c.survey.fields)) there).1 e in
-              let (k, own) = some-code (value_of c.row f) (kept-code c is path none f there e) in
+              let (k, own) = code-value (value_of c.row f) (kept-code c is path none f there e) in
               fixed-made premises list f (treated-code c is path f there).1 (code_in (value_of c.row f)) (kept_is f (code-field c f (treated-code c is path f there).1) ∙ keeps_it) (own ∙ ap (λ n. Code n) (sym (ap code_in own))) b.code_box b.origin
               (in-all (λ (b : BoxFrom). ComesFromFix (shape_of c.survey.fields) list f (code_in (value_of c.row f)) b.code_box b.origin) b (fixed_from (shape_of c.survey.fields) list f (code_in (value_of c.row f)))
               (fixed-comes (shape_of c.survey.fields) list f over (code_in (value_of c.row f))) b_in)
@@ -111,7 +105,7 @@ module _ (c : Case) (is : IsCase c) (path : List Bool) (none : keeps_bad c.surve
           → last_of before ≡ box_values list → (values : Elements) × IsMade premises (boxes_from c path history list fields) values × (last_of values ≡ box_values (fold (boxes_after c path) list fields))
       boxes-made history before list [] among over history_made last = (before, history_made, last)
       boxes-made history before list (f ∷ fields) among over history_made last =
-          boxes-made (with_boxes history f (boxes_after c path list f)) (box_values (boxes_after c path list f) ∷ before) (boxes_after c path list f) fields (λ g at. among g (inr at)) (next-over list f over)
+          boxes-made (with_boxes history f (boxes_after c path list f)) (box_values (boxes_after c path list f) ∷ before) (boxes_after c path list f) fields (λ g at. among g (inr at)) (after-over c path list f over)
           (boxes-listed (box_values list) f (boxes_after c path list f) (next-each list f (among f (inl refl)) over) history before last history_made) refl
 
       history-made : (values : Elements) × IsMade premises (boxes_from c path (with_boxes (line_history c path) 0 boxes) boxes (treated_codes c path)) values × (last_of values ≡ box_values (fold (boxes_after c path) boxes (treated_codes c path)))

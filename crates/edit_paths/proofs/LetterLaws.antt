@@ -1,4 +1,5 @@
 use Rattle.std.proofs.Common.{◌≡◌, ◌||◌, ◌==◌, ◌++◌, ◌⊎◌, inl, inr, ℕ, zero, suc, ◌+◌, ◌<◌, ◌≤◌, Bool, true, false, not, if◌then◌else◌, List, [], ◌∷◌, length, length-append, slice_index_or, take, refl, sym, ap, ◌∙◌, subst, arith}
+use Rattle.std.proofs.Math.Seq.{get_or-append_seam}
 use Rattle.edit_model.specs.Corrections.{path_order}
 use Rattle.edit_model.specs.Corrections as corrections
 use Rattle.edit_model.specs.declared.field.Field.{Field}
@@ -69,42 +70,14 @@ letter-there [] i below = absurd (omega arith)
 letter-there (a ∷ path) zero below = refl
 letter-there (a ∷ path) (suc i) below = letter-there path i (omega arith)
 
--- the letters of a path with one letter more
+-- the letter of a path with one letter more
 pub longer : (path : List Bool) (b : Bool) → length (path ++ b ∷ []) ≡ suc (length path)
 longer path b = length-append path (b ∷ []) ∙ omega arith
 
-pub letter-before : (path : List Bool) (b d : Bool) (i : ℕ) → i < length path → slice_index_or (path ++ b ∷ []) i d ≡ slice_index_or path i d
-letter-before [] b d i below = absurd (omega arith)
-letter-before (x ∷ path) b d zero below = refl
-letter-before (x ∷ path) b d (suc i) below = letter-before path b d i (omega arith)
-
 pub letter-here : (path : List Bool) (b d : Bool) (i : ℕ) → i ≡ length path → slice_index_or (path ++ b ∷ []) i d ≡ b
-letter-here [] b d i same = ap (λ n. slice_index_or (b ∷ []) n d) same
-letter-here (x ∷ path) b d zero same = absurd (omega (arith, same))
-letter-here (x ∷ path) b d (suc i) same = letter-here path b d i (omega (arith, same))
+letter-here path b d i same = ap (λ n. slice_index_or (path ++ b ∷ []) n d) same ∙ get_or-append_seam path b [] d
 
-pub letter-after : (path : List Bool) (d : Bool) (i : ℕ) → length path ≤ i → slice_index_or path i d ≡ d
-letter-after [] d i past = refl
-letter-after (x ∷ path) d zero past = absurd (omega arith)
-letter-after (x ∷ path) d (suc i) past = letter-after path d i (omega arith)
-
--- ---- the first letters of a path
-
-pub take-next : (w : List Bool) (k : ℕ) → k < length w → take (suc k) w ≡ take k w ++ slice_index_or w k false ∷ []
-take-next [] k below = absurd (omega arith)
-take-next (x ∷ w) zero below = refl
-take-next (x ∷ w) (suc k) below = ap (λ (p : List Bool). x ∷ p) (take-next w k (omega arith))
-
-pub taken-length : (w : List Bool) (k : ℕ) → k ≤ length w → length (take k w) ≡ k
-taken-length [] zero below = refl
-taken-length [] (suc k) below = absurd (omega arith)
-taken-length (x ∷ w) zero below = refl
-taken-length (x ∷ w) (suc k) below = let rest = taken-length w k (omega arith) in omega (arith, rest)
-
-pub take-none : (w : List Bool) → [] ≡ take 0 w
-take-none [] = refl
-take-none (x ∷ w) = refl
-
+-- a field that the first letters keep is kept
 pub taken-kept : (w : List Bool) (k i : ℕ) → not (slice_index_or (take k w) i true) ≡ true → not (slice_index_or w i true) ≡ true
 taken-kept [] zero i h = absurd (cc)
 taken-kept [] (suc k) i h = absurd (cc)

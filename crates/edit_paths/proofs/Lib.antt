@@ -7,6 +7,7 @@ pub mod ChildLaws
 pub mod ChoiceLaws
 pub mod ClosedPaths
 pub mod ClosingSteps
+pub mod EventLaws
 pub mod FieldPlaces
 pub mod KeptLines
 pub mod LeastLaws

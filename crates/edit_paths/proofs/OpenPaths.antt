@@ -2,6 +2,7 @@ use Rattle.std.proofs.Common.{◌≡◌, ◌≢◌, ◌↔◌, ◌==◌, inl, in
 use Rattle.std.specs.List.{filter, fold, position}
 use Rattle.std.specs.Ordering.{int_eq}
 use Rattle.std.proofs.lemmas.Bool.Decides.{Decides-eqb, Decides-int_eq}
+use Rattle.std.proofs.lemmas.List.{nil_from_length}
 use Rattle.fraction128.proofs.Signs.{same_cancel}
 use Rattle.fraction128.proofs.Whole.{swap_last}
 use Rattle.edit_model.specs.Corrections.{Differs, differs_from, path_order}
@@ -56,10 +57,6 @@ agrees-same (Number x) p q f codes numbers agrees =
     same_over x y z d e g above first second = same_cancel (x *ℤ d) (z *ℤ g) e above (swap_last x d e ∙ ap (λ (k : ℤ). k *ℤ d) first ∙ swap_last y g d ∙ ap (λ (k : ℤ). k *ℤ g) second ∙ swap_last z e g)
 agrees-same Bad p q f codes numbers agrees = absurd (cc)
 
-no_length : (xs : List ℕ) → length xs ≡ 0 → xs ≡ []
-no_length [] e = refl
-no_length (x ∷ xs) e = absurd (omega (arith, e))
-
 module _ (c : Case) (is : IsCase c) (path : List Bool) where
   -- where all lines are asked and none closes the path, there are no boxes
   none-fails : (i : ℕ) (lines : List Derived) (boxes : List BoxFrom) → ((d : Derived) → IsIn d lines → asks_kept c path d.line ≡ true) → first_failing c path i lines ≡ Open → failing_from i lines c.row [] ≡ Ok boxes → boxes ≡ []
@@ -109,7 +106,7 @@ module _ (c : Case) (is : IsCase c) (path : List Bool) where
               → fold (boxes_after c path) boxes (treated_codes c path) ≡ []
           by true e h =
               let same : length path ≡ number_count c = (Decides-eqb (length path) (number_count c)).0 e in
-              let no_codes : code_fields (shape_of c.survey.fields) ≡ [] = no_length (code_fields (shape_of c.survey.fields)) (omega (arith, complete, same, count-kinds c)) in
+              let no_codes : code_fields (shape_of c.survey.fields) ≡ [] = nil_from_length (code_fields (shape_of c.survey.fields)) (omega (arith, complete, same, count-kinds c)) in
               ap (λ (fs : List ℕ). fold (boxes_after c path) boxes (filter (treats c path) fs)) no_codes ∙ none-fails 0 lines boxes (asked no_codes) h told
           by false e h =
               none-passes (λ (b : BoxFrom). are_whole (shape_of c.survey.fields) b.code_box.sets) (fold (boxes_after c path) boxes (treated_codes c path)) left-whole

@@ -12,13 +12,14 @@ use Rattle.edit_line.specs.Sets.{is_inside}
 use Rattle.edit_line.specs.Shapes.{Domain, HasCodes, code_fields, codes_at, has_field, shape_of, whole_sets}
 use Rattle.edit_line.proofs.Members.{any-in}
 use Rattle.edit_line.proofs.PointCodes.{HasCodes-with, codes-own, place_of-below, wholes-inside}
-use Rattle.categ_combine.specs.BoxLists.{Avoids, avoid, sets_of}
+use Rattle.categ_combine.specs.BoxLists.{AreBoxesOver, Avoids, avoid, sets_of}
 use Rattle.categ_combine.specs.Covers.{covered, covered_from}
 use Rattle.categ_combine.specs.Fixing.{fixed, fixed_from}
 use Rattle.categ_combine.specs.declared.box_from.BoxFrom.{BoxFrom}
 use Rattle.categ_combine.proofs.BoxSets.{AreWhole, IsWhole, HaveSets-covered, HaveSets-fixed, covered-whole, fixed-whole, whole-covered, whole-fixed}
 use Rattle.categ_combine.proofs.CoverLaws.{HaveSets, covered-holds, covered-lifts, fixed-avoids}
 use Rattle.categ_combine.proofs.OriginLaws.{sets-covered, sets-fixed_from}
+use Rattle.categ_combine.proofs.OverLaws.{over-covered, over-fixed}
 use Rattle.derivation.proofs.CoverLaws.{code-below}
 use Rattle.bound_cert.specs.Paths.{changes}
 use Rattle.edit_paths.specs.Cases.{Case}
@@ -45,6 +46,18 @@ module _ (c : Case) (path : List Bool) where
   pub sets-along : (boxes : List BoxFrom) (fields : List ℕ) → sets_of (fold (boxes_after c path) boxes fields) ≡ fold sets_after (sets_of boxes) fields
   sets-along boxes [] = refl
   sets-along boxes (f ∷ fields) = sets-along (boxes_after c path boxes f) fields ∙ ap (λ bs. fold sets_after bs fields) (sets-one boxes f)
+
+  -- the boxes are over the survey's fields
+  pub after-over : (boxes : List BoxFrom) (f : ℕ) → AreBoxesOver (shape_of c.survey.fields) boxes → AreBoxesOver (shape_of c.survey.fields) (boxes_after c path boxes f)
+  after-over boxes f over = by (changes c.survey.fields path f)
+    where
+      by : (t : Bool) → AreBoxesOver (shape_of c.survey.fields) (if t then covered_from (shape_of c.survey.fields) boxes f else fixed_from (shape_of c.survey.fields) boxes f (code_in (value_of c.row f)))
+      by true = over-covered shape boxes f over
+      by false = over-fixed shape boxes f (code_in (value_of c.row f)) over
+
+  pub along-over : (boxes : List BoxFrom) (fields : List ℕ) → AreBoxesOver (shape_of c.survey.fields) boxes → AreBoxesOver (shape_of c.survey.fields) (fold (boxes_after c path) boxes fields)
+  along-over boxes [] over = over
+  along-over boxes (f ∷ fields) over = along-over (boxes_after c path boxes f) fields (after-over boxes f over)
 
   -- ---- boxes that are whole
 

@@ -15,9 +15,10 @@ use Rattle.edit_paths.specs.PathStates.{is_open}
 use Rattle.edit_paths.specs.States.{state_of}
 use Rattle.edit_paths.specs.declared.state.PathState.{PathState}
 use Rattle.edit_paths.specs.declared.state.PathState.TheVariants.{ClosedBad, ClosedBox, ClosedLine, Open, Overflows}
-use Rattle.std.proofs.Math.Seq.{take-append_seam}
+use Rattle.std.proofs.Math.Seq.{take-append_seam, take-length, take-suc}
+use Rattle.std.proofs.lemmas.List.{length-take-le, nil_from_length}
 use Rattle.edit_paths.specs.Walks.{next_paths, walk}
-use Rattle.edit_paths.proofs.LetterLaws.{longer, take-next, take-none, taken-length}
+use Rattle.edit_paths.proofs.LetterLaws.{longer}
 use Rattle.edit_paths.proofs.OrderLaws.{IsSorted, count, count-append, folded-sorted, in-folded, in-order, in_order-sorted, least-first, out-order, permuted-folded, same-order}
 use Rattle.edit_paths.proofs.PathOrder.{before-chain, before-equal, before-extends, before-total}
 
@@ -163,13 +164,9 @@ module _ (c : Case) where
       by true true e h = absurd h
       by false b e h = absurd h
 
-  no_more : (paths : List (List Bool)) → length paths ≤ 0 → paths ≡ []
-  no_more [] few = refl
-  no_more (p ∷ paths) few = absurd (omega (arith, few))
-
   walk-all : (more : ℕ) (ends : List (List Bool)) → ((x : List Bool) → IsIn x ends → length x ≤ field_count c) → IsSorted (is_before c.survey.fields) (before-total c) (before-chain c) (before-equal c) ends
       → length (order (reached_beyond c ends)) ≤ more → walk c more ends ≡ order (reached_beyond c ends)
-  walk-all zero ends fit sorted few = sym (no_more (order (reached_beyond c ends)) few)
+  walk-all zero ends fit sorted few = sym (nil_from_length (order (reached_beyond c ends)) (omega (arith, few)))
   walk-all (suc more) [] fit sorted few = refl
   walk-all (suc more) (path ∷ rest) fit sorted few =
       ap (λ (ps : List (List Bool)). path ∷ ps) (walk-all more (fold (placed (is_before c.survey.fields)) rest (next_paths c path)) new-fit (folded-sorted (is_before c.survey.fields) (before-total c) (before-chain c) (before-equal c) rest (next_paths c path) sorted.1) (omega (arith, few, ap (λ (ps : List (List Bool)). length ps) is, ap (λ (ps : List (List Bool)). length ps) same)) ∙ same) ∙ sym is
@@ -287,10 +284,10 @@ module _ (c : Case) where
   opens (Overflows e) h = absurd (cc)
 
   prefixes-reached : (p : List Bool) → length p ≤ field_count c → IsReached c p → (k : ℕ) → k ≤ length p → IsIn (take k p) (reached_paths c)
-  prefixes-reached p fits reached zero few = subst (λ (q : List Bool). IsIn q (reached_paths c)) (take-none p) empty-reached
+  prefixes-reached p fits reached zero few = subst (λ (q : List Bool). IsIn q (reached_paths c)) refl empty-reached
   prefixes-reached p fits reached (suc k) few =
-      subst (λ (q : List Bool). IsIn q (reached_paths c)) (sym (take-next p k (omega arith)))
-      (next-reached (take k p) (slice_index_or p k false) (prefixes-reached p fits reached k (omega arith)) (ap is_open (reached k (grind (arith, few)))) (omega (arith, few, fits, taken-length p k (omega arith))))
+      subst (λ (q : List Bool). IsIn q (reached_paths c)) (sym (take-suc p k false (omega arith)))
+      (next-reached (take k p) (slice_index_or p k false) (prefixes-reached p fits reached k (omega arith)) (ap is_open (reached k (grind (arith, few)))) (omega (arith, few, fits, length-take-le k p (omega arith))))
 
   -- the list has just the paths, of the fields at hand, all whose proper prefixes are open
   pub reached-are : (p : List Bool) → IsIn p (reached_paths c) ↔ ((length p ≤ field_count c) × IsReached c p)
@@ -298,9 +295,5 @@ module _ (c : Case) where
     λ there.
         let (fits, each) = prefix-open (field_count c) [] p (out-order (is_before c.survey.fields) (before-total c) (before-chain c) (before-equal c) p (reached_from c (field_count c) []) there) in
         (omega (arith, fits), λ k below. opens (state_of c (take k p)) (each k (omega arith) (grind (arith, below)))),
-    λ both. subst (λ (q : List Bool). IsIn q (reached_paths c)) (whole p) (prefixes-reached p both.0 both.1 (length p) (omega arith)),
+    λ both. subst (λ (q : List Bool). IsIn q (reached_paths c)) (take-length p) (prefixes-reached p both.0 both.1 (length p) (omega arith)),
   )
-    where
-      whole : (p : List Bool) → take (length p) p ≡ p
-      whole [] = refl
-      whole (x ∷ p) = ap (λ (q : List Bool). x ∷ q) (whole p)

@@ -6,17 +6,21 @@ use Rattle.edit_model.specs.declared.value.Value.{Value}
 use Rattle.edit_line.specs.EditSets.{EditsParts}
 use Rattle.edit_line.specs.Lines.{LineParts}
 use Rattle.edit_line.specs.Reductions.{IsIn}
+use Rattle.edit_line.specs.declared.place.Place.{Place}
 use Rattle.bound_cert.specs.Paths.{path_weight}
 use Rattle.bound_cert.specs.ValidTrees.{IsValidTree, tree_case}
 use Rattle.bound_cert.specs.declared.cert.Cert.{Cert}
 use Rattle.bound_cert.specs.declared.outcome.Event.{Event}
+use Rattle.bound_cert.specs.declared.outcome.Event.TheVariants as event
 use Rattle.bound_cert.specs.declared.outcome.Outcome.TheVariants as outcome
 use Rattle.edit_paths.specs.Cases.{AreGiven, Case, IsCase, Meets, case_of}
 use Rattle.edit_paths.specs.Choices.{IsChoice}
+use Rattle.edit_paths.specs.Events.{IsStepOverflow, IsTestOverflow}
 use Rattle.edit_paths.specs.Outcomes.{outcome_of, total_work}
 use Rattle.edit_paths.specs.Paths.{AgreesAlong, DiffersOnlyOn, field_count}
 use Rattle.edit_paths.specs.ReachedPaths.{IsReached, reached_paths}
-use Rattle.edit_paths.specs.States.{Fits, IsClosed, IsOpen}
+use Rattle.edit_paths.specs.States.{Fits, IsClosed, IsOpen, state_of}
+use Rattle.edit_paths.specs.declared.state.PathState.TheVariants.{Overflows}
 use Rattle.edit_paths.specs.Walks.{walk}
 
 -- ---- paths
@@ -36,6 +40,14 @@ ReachedLaw = (c : Case) (path : List Bool) → IsIn path (reached_paths c) ↔ (
 -- a best-first walk from the empty path on takes the reached paths in their order
 abbrev pub WalkLaw : Type 0
 WalkLaw = (c : Case) → walk c (length (reached_paths c)) ([] ∷ []) ≡ reached_paths c
+
+-- a reached path that overflows in a step does so at its last field, in the system of the path before
+abbrev pub StepOverflowLaw : Type 0
+StepOverflowLaw = (c : Case) (path : List Bool) (first second : ℕ) (place : Place) → length path ≤ field_count c → IsReached c path → state_of c path ≡ Overflows (event.Step first second place) → IsStepOverflow c path first second place
+
+-- a path that overflows in a test does so at this line of its system, at this field
+abbrev pub TestOverflowLaw : Type 0
+TestOverflowLaw = (c : Case) (path : List Bool) (line field : ℕ) → state_of c path ≡ Overflows (event.Test line field) → IsTestOverflow c path line field
 
 -- ---- outcomes
 

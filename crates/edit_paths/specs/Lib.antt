@@ -1,6 +1,7 @@
 pub mod Cases
 pub mod Certificates
 pub mod Choices
+pub mod Events
 pub mod Histories
 pub mod Laws
 pub mod Outcomes

@@ -1,12 +1,14 @@
-ghost use Rattle.edit_paths.specs.Laws.{BudgetLaw, ChangeLaw, ChangeTreeLaw, ClosedPathLaw, ContradictionLaw, ContradictionTreeLaw, FoundLaw, LeastLaw, OpenPathLaw, ReachedLaw, WalkLaw};
+ghost use Rattle.edit_paths.specs.Laws.{BudgetLaw, ChangeLaw, ChangeTreeLaw, ClosedPathLaw, ContradictionLaw, ContradictionTreeLaw, FoundLaw, LeastLaw, OpenPathLaw, ReachedLaw, StepOverflowLaw, TestOverflowLaw, WalkLaw};
 
-/// What the state of a path tells of the points at which the edits hold, which paths are reached, and in
-/// which order a best-first walk takes them. Nothing is computed.
+/// What the state of a path tells of the points at which the edits hold, which paths are reached, in which
+/// order a best-first walk takes them, and which numbers the event of an overflow names. Nothing is computed.
 pub fn path_laws()
     ensures closed_path { ClosedPathLaw }
     ensures open_path { OpenPathLaw }
     ensures reached { ReachedLaw }
     ensures walk { WalkLaw }
+    ensures step_overflow { StepOverflowLaw }
+    ensures test_overflow { TestOverflowLaw }
 {}
 
 /// What the outcome of a record tells of its corrections: a change is the first of the least

@@ -1,4 +1,5 @@
 use Rattle.edit_paths.proofs.ClosedPaths.{closed-path}
+use Rattle.edit_paths.proofs.EventLaws.{step-names, test-names}
 use Rattle.edit_paths.proofs.OpenPaths.{open-path}
 use Rattle.edit_paths.proofs.ReachedLaws.{best-first, reached-are}
 use Rattle.edit_paths.proofs.laws.path_laws.Goals as goal
@@ -14,3 +15,9 @@ returns-clause-reached c d path = reached-are d path
 
 pub returns-clause-walk : goal.returns-clause-walk
 returns-clause-walk c d = best-first d
+
+pub returns-clause-step_overflow : goal.returns-clause-step_overflow
+returns-clause-step_overflow c d path first second place fits reached e = step-names d path first second place fits reached e
+
+pub returns-clause-test_overflow : goal.returns-clause-test_overflow
+returns-clause-test_overflow c d path line field e = test-names d path line field e
