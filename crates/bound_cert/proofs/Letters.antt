@@ -104,14 +104,15 @@ order-distinct fields =
 -- ---- the letters at the places of distinct fields
 
 -- a field of a list that has not g is not g
-other-field : (g f : ℕ) (fields : List ℕ) → has_field fields g ≡ false → IsIn f fields → (g == f) ≡ false
+pub other-field : (g f : ℕ) (fields : List ℕ) → has_field fields g ≡ false → IsIn f fields → (g == f) ≡ false
 other-field g f fields none there = by (g == f) (Decides-eqb g f).0
   where
     by : (b : Bool) → (b ≡ true → g ≡ f) → b ≡ false
     by true same = absurd (cc (sym (there-has f fields there) ∙ ap (has_field fields) (sym (same refl)) ∙ none))
     by false same = refl
 
-filter-agree : (t u : ℕ → Bool) (xs : List ℕ) → ((x : ℕ) → IsIn x xs → t x ≡ u x) → filter t xs ≡ filter u xs
+-- tests that agree on the elements pass the same
+pub filter-agree : (t u : ℕ → Bool) (xs : List ℕ) → ((x : ℕ) → IsIn x xs → t x ≡ u x) → filter t xs ≡ filter u xs
 filter-agree t u [] same = refl
 filter-agree t u (x ∷ xs) same =
     ap (λ b. cond b (x ∷ filter t xs) (filter t xs)) (same x (inl refl)) ∙ ap (λ ys. cond (u x) (x ∷ ys) ys) (filter-agree t u xs (λ y there. same y (inr there)))

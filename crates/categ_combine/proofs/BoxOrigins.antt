@@ -11,7 +11,7 @@ use Rattle.edit_line.specs.Sets.{all_inside, has_codes}
 use Rattle.edit_line.specs.Shapes.{Domain, whole_sets}
 use Rattle.edit_line.specs.Sums.{fails_at}
 use Rattle.edit_line.specs.declared.derived.Derived.{Derived}
-use Rattle.edit_line.proofs.ListPlaces.{StandsAt, first-at, later-at}
+use Rattle.edit_line.proofs.ListPlaces.{StandsAt, first-at, later-at, whole-at}
 use Rattle.edit_line.proofs.Members.{all-in, in-all, in-either, in-flat_map-out, in-get, in-taken}
 use Rattle.edit_line.proofs.OtherFields.{set-set, set-whole}
 use Rattle.edit_line.proofs.BoolLaws.{both_true}
@@ -35,9 +35,6 @@ some_at : {X : Type 0} (P : X → Type 0) (o : Option X) (x : X) → o ≡ Some 
 some_at P o x e h = subst (λ o. IsSomeAnd o P) (sym e) h
 
 -- ---- elements with their places
-
-whole-at : {X : Type 0} (xs : List X) → StandsAt xs 0 xs
-whole-at xs k = ap (λ n. slice_get xs n) (omega arith)
 
 -- what each element with its place gives
 in-each : {X A : Type 0} (give : ℕ → X → List A) (whole : List X) (i : ℕ) (xs : List X) (a : A) → StandsAt whole i xs → IsIn a (each_from give i xs) → (j : ℕ) × (x : X) × (slice_get whole j ≡ Some x) × IsIn a (give j x)

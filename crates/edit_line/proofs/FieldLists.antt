@@ -1,8 +1,10 @@
 use Rattle.std.proofs.Common.{◌≡◌, ◌||◌, ◌==◌, ◌++◌, ◌⊎◌, inl, inr, ℕ, Bool, true, false, List, [], ◌∷◌, refl, sym, ap, ◌∙◌}
+use Rattle.std.specs.List.{filter}
 use Rattle.std.proofs.lemmas.Bool.Decides.{Decides-eqb}
 use Rattle.edit_line.specs.Reductions.{IsIn}
 use Rattle.edit_line.specs.Shapes.{has_field}
 use Rattle.edit_line.proofs.BoolLaws.{or_grouped, or_true, true-first, true-second}
+use Rattle.edit_line.proofs.Members.{in-filter, in-filter-out}
 
 -- Whether a list of fields has a field.
 
@@ -31,3 +33,12 @@ has-left i first second there = has-append i first second ∙ true-first _ _ the
 
 pub has-right : (i : ℕ) (first second : List ℕ) → has_field second i ≡ true → has_field (first ++ second) i ≡ true
 has-right i first second there = has-append i first second ∙ true-second _ _ there
+
+-- a field that stands there is one of those that pass a test exactly where it passes
+pub has-filter : (test : ℕ → Bool) (i : ℕ) (fields : List ℕ) → has_field fields i ≡ true → has_field (filter test fields) i ≡ test i
+has-filter test i fields there = by (test i) refl (has_field (filter test fields) i) refl
+  where
+    by : (passes : Bool) → test i ≡ passes → (has : Bool) → has_field (filter test fields) i ≡ has → has ≡ passes
+    by true is has told = sym told ∙ there-has i (filter test fields) (in-filter test i fields is (has-there i fields there))
+    by false is true told = absurd (cc (sym is ∙ (in-filter-out test i fields (has-there i (filter test fields) told)).1))
+    by false is false told = refl

@@ -1,6 +1,7 @@
 use Rattle.std.proofs.Common.{◌≡◌, ℕ, zero, suc, ◌++◌, ◌||◌, Bool, true, false, if◌then◌else◌, List, [], ◌∷◌, All, Some, map, slice_get, ◌⊎◌, inl, inr, refl, sym, ap, ◌∙◌, subst, arith}
 use Rattle.std.specs.List.{filter, flat_map, fold, list_any}
 use Rattle.edit_line.specs.Reductions.{IsIn}
+use Rattle.edit_line.proofs.BoolLaws.{true-first, true-second}
 
 -- Elements of lists.
 
@@ -111,3 +112,9 @@ in-any {X} test (y ∷ ys) h = by (test y) refl (in-any test ys) h
     by : (b : Bool) → test y ≡ b → (list_any test ys ≡ true → (x : X) × IsIn x ys × (test x ≡ true)) → (b || list_any test ys) ≡ true → (x : X) × IsIn x (y ∷ ys) × (test x ≡ true)
     by true e rest any = (y, inl refl, e)
     by false e rest any = let (x, there, passes) = rest any in (x, inr there, passes)
+
+-- and where an element passes, some does
+pub any-in : {X : Type 0} (test : X → Bool) (x : X) (xs : List X) → IsIn x xs → test x ≡ true → list_any test xs ≡ true
+any-in test x [] there passes = absurd there
+any-in test x (y ∷ ys) (inl same) passes = true-first _ _ (ap test (sym same) ∙ passes)
+any-in test x (y ∷ ys) (inr later) passes = true-second _ _ (any-in test x ys later passes)

@@ -1,4 +1,4 @@
-use Rattle.std.proofs.Common.{◌≡◌, ℕ, zero, suc, ◌+◌, ◌-◌, ◌<◌, ◌≤◌, ◌^◌, ◌==◌, ◌&&◌, nat_eq, if◌then◌else◌, Bool, true, false, List, [], ◌∷◌, length, map, slice_index_or, slice_set, refl, sym, ap, ◌∙◌, arith, All, ◌||◌}
+use Rattle.std.proofs.Common.{◌≡◌, ℕ, zero, suc, ◌+◌, ◌-◌, ◌<◌, ◌≤◌, ◌^◌, ◌==◌, ◌&&◌, nat_eq, if◌then◌else◌, Bool, true, false, List, [], ◌∷◌, length, map, slice_index_or, slice_set, refl, sym, ap, ◌∙◌, arith, All, ◌||◌, subst}
 use Rattle.std.specs.List.{list_all}
 use Rattle.std.proofs.lemmas.Bool.Decides.{Decides-eqb}
 use Rattle.std.proofs.lemmas.List.{length-map}
@@ -158,3 +158,45 @@ not_all t i (suc k) code from below fails = by (nat_eq i code) refl (λ after. n
       where
         later : (i ≡ code → ⊥) → suc i ≤ code
         later apart = omega arith
+
+-- ---- a point with another code
+
+-- with its own code it has the codes that it had
+pub codes-own : (shape : List Domain) (p : Point) (f code : ℕ) → p.code f ≡ code → codes_at shape (with_code_at p f code) ≡ codes_at shape p
+codes-own shape p f code same = all (code_fields shape)
+  where
+    own : (i : ℕ) (b : Bool) → (i == f) ≡ b → (if b then code else p.code i) ≡ p.code i
+    own i true e = sym same ∙ ap (λ j. p.code j) (sym ((Decides-eqb i f).0 e))
+    own i false e = refl
+
+    all : (fields : List ℕ) → map (with_code_at p f code).code fields ≡ map p.code fields
+    all [] = refl
+    all (i ∷ fields) = ap (λ n. n ∷ map (with_code_at p f code).code fields) (own i (i == f) refl) ∙ ap (λ (ns : List ℕ). p.code i ∷ ns) (all fields)
+
+no_size : (i : ℕ) (shape : List Domain) (f : ℕ) → f < i → size_from i shape f ≡ 0
+no_size i [] f less = refl
+no_size i (Numerical ∷ shape) f less = no_size (suc i) shape f (omega arith)
+no_size i (Categorical k ∷ shape) f less = ap (λ b. if b then k else size_from (suc i) shape f) (not_self i f less) ∙ no_size (suc i) shape f (omega arith)
+
+held-from : (i : ℕ) (shape : List Domain) (p : Point) (f code : ℕ) → HasCodes i shape p → (0 < size_from i shape f → code < size_from i shape f) → HasCodes i shape (with_code_at p f code)
+held-from i [] p f code held below = tt
+held-from i (Numerical ∷ shape) p f code held below = held-from (suc i) shape p f code held below
+held-from i (Categorical k ∷ shape) p f code held below = by (i == f) refl held.0 (held-from (suc i) shape p f code held.1) below
+  where
+    by : (b : Bool) → (i == f) ≡ b → p.code i < k → ((0 < size_from (suc i) shape f → code < size_from (suc i) shape f) → HasCodes (suc i) shape (with_code_at p f code))
+        → (0 < (if b then k else size_from (suc i) shape f) → code < (if b then k else size_from (suc i) shape f)) → ((if b then code else p.code i) < k) × HasCodes (suc i) shape (with_code_at p f code)
+    by true e own rest h =
+        let same : i ≡ f = (Decides-eqb i f).0 e in
+        let none : size_from (suc i) shape f ≡ 0 = no_size (suc i) shape f (omega arith) in
+        (h (omega (arith, own)), rest (λ some. absurd (omega (arith, none))))
+    by false e own rest h = (own, rest h)
+
+-- with another code of the field's domain its codes are still in their domains
+pub HasCodes-with : (shape : List Domain) (p : Point) (f code : ℕ) → HasCodes 0 shape p → code < size_of shape f → HasCodes 0 shape (with_code_at p f code)
+HasCodes-with shape p f code held below = held-from 0 shape p f code held (λ some. below)
+
+-- and so are those of a point with the same codes
+pub HasCodes-same : (i : ℕ) (shape : List Domain) (p q : Point) → ((j : ℕ) → q.code j ≡ p.code j) → HasCodes i shape p → HasCodes i shape q
+HasCodes-same i [] p q same held = tt
+HasCodes-same i (Numerical ∷ shape) p q same held = HasCodes-same (suc i) shape p q same held
+HasCodes-same i (Categorical k ∷ shape) p q same held = (subst (λ (n : ℕ). n < k) (sym (same i)) held.0, HasCodes-same (suc i) shape p q same held.1)

@@ -1,0 +1,22 @@
+pub mod BadFields
+pub mod BoxHistories
+pub mod BudgetLaws
+pub mod CaseSystems
+pub mod CertificateTrees
+pub mod ChildLaws
+pub mod ChoiceLaws
+pub mod ClosedPaths
+pub mod ClosingSteps
+pub mod EventLaws
+pub mod FieldPlaces
+pub mod KeptLines
+pub mod LeastLaws
+pub mod LetterLaws
+pub mod LineHistories
+pub mod OpenPaths
+pub mod OrderLaws
+pub mod PathBoxes
+pub mod PathOrder
+pub mod ReachedLaws
+pub mod StepsWritten
+mod WorkedRows

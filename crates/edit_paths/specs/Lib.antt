@@ -1,0 +1,14 @@
+pub mod Cases
+pub mod Certificates
+pub mod Choices
+pub mod Events
+pub mod Histories
+pub mod Laws
+pub mod Outcomes
+pub mod PathHistories
+pub mod PathStates
+pub mod Paths
+pub mod ReachedPaths
+pub mod States
+pub mod Walks
+pub mod Works
