@@ -1,0 +1,3 @@
+mod CaseLaws
+mod PlanLaws
+mod WordLaws

@@ -1,0 +1,5 @@
+pub mod Cases
+pub mod Certificates
+pub mod Plans
+pub mod Texts
+pub mod Told
