@@ -9,10 +9,11 @@
 #
 # How to read a line: the kind, its number, the leaves and the steps; the seconds of the program, and its
 # leaves or steps a second, which should stay nearly the same however many there are (a leaf of the next depth
-# has one field more); the script's seconds, and how many times as fast the program is. All seconds are those of the
-# processor, for making the certificate and checking it together; the time of the smallest certificate, one leaf
-# with one step, is taken off. The two verdicts are compared, also where the last step names a line
-# that is not there, and a difference ends the run with status 1.
+# has one field more); the script's seconds, and how many times as fast the program is. All seconds are those
+# of the processor, the user's and the system's, for making the certificate and checking it together; the time
+# of the smallest certificate, one leaf with one step, is taken off. In `steps` much of the program's time is
+# the system's, for the memory: a million steps take some 240 MB. The two verdicts are compared, also where the
+# last step names a line that is not there, and a difference ends the run with status 1.
 set -eu
 top=$(cd "$(dirname "$0")/.." && pwd)
 program="$top/crates/certificate_bench/out/certificate_bench"

@@ -1,4 +1,4 @@
-"""A plain checker of the same certificates, which it makes first.
+"""A plain checker of the certificates of `certificate_bench`, which it makes first.
 
 Usage: certificates.py leaves DEPTH [broken] | steps COUNT [broken]
 
@@ -28,7 +28,7 @@ def certificate(depth, count, broken):
 
 
 def comes_next(before, path):
-    """The path is the one before without the changed fields at its end, the last kept one changed, and then kept ones."""
+    """The one before without the changed fields at its end, its last kept one changed, and then kept ones."""
     kept = len(before) - 1
     while kept >= 0 and before[kept]:
         kept -= 1
@@ -66,7 +66,7 @@ def fails_at_kept(line, row, kept):
 
 
 def check(given, usable, row, leaves):
-    """Raises Refused at the first leaf that is at fault. Without a weight only `line` leaves are valid here."""
+    """Raises Refused at the first leaf that is at fault; all leaves here are of the kind `line`."""
     fields = len(row)
     if not leaves:
         raise Refused(0, None)
