@@ -5,7 +5,6 @@ pub mod CoverLaws
 pub mod CoverLoops
 pub mod CoverSteps
 pub mod EachLaws
-mod EightFields
 pub mod FailingLaws
 pub mod OriginLaws
 pub mod OverLaws

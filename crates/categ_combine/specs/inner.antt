@@ -1,3 +1,2 @@
-pub mod EightFields
 pub mod FitBoxes
 pub mod Spots

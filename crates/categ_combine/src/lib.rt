@@ -14,8 +14,6 @@ mod fixing;
 mod reduction;
 mod spot;
 mod step;
-#[cfg(test)]
-mod tests;
 
 pub use box_from::{BoxFrom, BoxOrigin};
 pub use covered::Covered;

@@ -16,8 +16,6 @@ mod given;
 mod known;
 mod proved;
 mod step;
-#[cfg(test)]
-mod tests;
 
 pub use check::check_steps;
 pub use failing::fails_at_kept;

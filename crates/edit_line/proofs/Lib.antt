@@ -27,5 +27,4 @@ pub mod SumLaws
 pub mod SumSteps
 pub mod TakenCombinations
 pub mod TestLists
-pub mod TestPlans
 pub mod WholeSets

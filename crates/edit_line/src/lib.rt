@@ -23,8 +23,6 @@ mod reduction;
 mod shape;
 mod subsumption;
 mod sum;
-#[cfg(test)]
-mod tests;
 
 pub use code_box::CodeBox;
 pub use code_sets::{all_meet, are_inside, has_code, has_codes, meets, narrow};

@@ -10,8 +10,6 @@ mod normal;
 mod rule_line;
 mod rule_lines;
 mod side;
-#[cfg(test)]
-mod tests;
 
 pub use meaning::normal_form_law;
 pub use normal::normal_lines;

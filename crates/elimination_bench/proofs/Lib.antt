@@ -2,5 +2,4 @@ mod DifferenceLaws
 mod FoldLaws
 mod ListingLaws
 mod NameLaws
-mod ReadingLaws
 mod WordLaws

@@ -1,6 +1,5 @@
 //! A program that eliminates fields from generated edits, and checks generated derivations, so that both
-//! can be timed; and the tests of several crates together. The edits are in `differences`, what is done with
-//! them in `elimination` and `listing`.
+//! can be timed. The edits are in `differences`, what is done with them in `elimination` and `listing`.
 #![tactic(auto)]
 
 ghost use Rattle.std.specs.Prelude.{map, string_bytes};
@@ -12,8 +11,6 @@ mod differences;
 mod elimination;
 mod fault;
 mod listing;
-#[cfg(test)]
-mod tests;
 mod words;
 
 use fault::Fault;

@@ -18,7 +18,6 @@ pub mod TakenSums
 pub mod UpperLaws
 mod WorkedSystems
 mod CombineSteps
-mod EightFields
 mod StepClauses
 mod StepLoops
 mod SystemLoops

@@ -1,4 +1,3 @@
-pub mod EightNumbers
 pub mod FoldLines
 pub mod Taken
 pub mod ToldCombinations

@@ -15,8 +15,6 @@ mod held;
 mod pair_count;
 mod system;
 mod systems;
-#[cfg(test)]
-mod tests;
 
 pub use elimination::step;
 pub use fault::{StepFault, SystemFault};

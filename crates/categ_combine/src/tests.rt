@@ -1,3 +1,0 @@
-mod boxes;
-mod plan;
-mod records;

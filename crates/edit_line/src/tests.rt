@@ -1,3 +1,0 @@
-mod calls;
-mod plan;
-mod sums;

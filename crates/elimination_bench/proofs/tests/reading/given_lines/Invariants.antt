@@ -1,6 +1,0 @@
-use Rattle.edit_line.specs.Lines.{AreOver}
-use Rattle.edit_line.specs.Shapes.{domains_of}
-use Rattle.elimination_bench.proofs.tests.reading.given_lines.Given as goal
-
-abbrev pub invariant-loop-rule_line : goal.invariant-loop-rule_line
-invariant-loop-rule_line l = AreOver (domains_of l.shape.count l.shape.codes) l.lines.items

@@ -1,6 +1,0 @@
-use Rattle.edit_line.specs.Shapes.{shape_of}
-use Rattle.linear_elim.specs.Systems.{AreNumerical}
-use Rattle.elimination_bench.proofs.tests.reading.number_set.Given as goal
-
-abbrev pub invariant-loop-field : goal.invariant-loop-field
-invariant-loop-field l = AreNumerical (shape_of l.survey.fields) l.set

@@ -1,6 +1,0 @@
-mod boxes;
-mod derivations;
-mod household;
-mod reading;
-mod trade;
-mod words;

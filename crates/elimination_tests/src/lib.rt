@@ -1,0 +1,16 @@
+//! Tests over the crates of linear edits and elimination: what their clauses mean in numbers, and that memory
+//! suffices for each call. They stand in a crate of their own, since a crate with tests is proved twice.
+#![tactic(auto)]
+
+#[cfg(test)]
+mod boxes;
+#[cfg(test)]
+mod derivations;
+#[cfg(test)]
+mod lines;
+#[cfg(test)]
+mod reading;
+#[cfg(test)]
+mod records;
+#[cfg(test)]
+mod systems;
