@@ -8,8 +8,6 @@ ghost use Rattle.certificate_bench.specs.inner.Told.{IsTold};
 
 mod certificate;
 mod fault;
-#[cfg(test)]
-mod tests;
 mod verdict;
 mod words;
 

@@ -14,8 +14,6 @@ mod numbers;
 mod printing;
 mod reading;
 mod sums;
-#[cfg(test)]
-mod tests;
 
 pub use fault::{RulesFault, RulesKind};
 pub use printing::print_rules;

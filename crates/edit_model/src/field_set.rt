@@ -60,16 +60,3 @@ impl FieldSet {
         (self.bits >> field) & 1 == 1
     }
 }
-
-#[cfg(test)]
-mod tests {
-    use super::*;
-
-    #[test]
-    fn a_set_has_the_fields_that_it_was_given(rt: HostRuntime) {
-        let set = FieldSet::empty().with(0).with(63).with(5).with(5);
-        assert!(rt; set.has(0) && set.has(5) && set.has(63) && !set.has(62));
-        let left = set.without(63).without(7);
-        assert!(rt; left.has(0) && left.has(5) && !left.has(63) && !left.has(7));
-    }
-}

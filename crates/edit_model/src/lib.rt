@@ -13,8 +13,6 @@ mod name_table;
 mod row;
 mod rule;
 mod survey;
-#[cfg(test)]
-mod tests;
 mod trial;
 mod value;
 

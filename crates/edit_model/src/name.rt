@@ -47,20 +47,3 @@ impl Name {
         &self.bytes[..self.size]
     }
 }
-
-#[cfg(test)]
-mod tests {
-    use super::*;
-
-    #[test]
-    fn a_name_has_1_to_32_bytes(rt: HostRuntime) {
-        for (bytes, fits) in [
-            (b"".as_slice(), false),
-            (b"T", true),
-            (b"abcdefghijklmnopqrstuvwxyz012345", true),
-            (b"abcdefghijklmnopqrstuvwxyz0123456", false),
-        ] {
-            assert!(rt; Name::new(bytes).is_some() == fits);
-        }
-    }
-}

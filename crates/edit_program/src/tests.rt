@@ -203,13 +203,3 @@ fn a_file_of_one_byte_past_the_limit_is_too_long(rt: HostRuntime) -> Result<(), 
     assert_eq!(rt; status_of_a_comment(alloc, 67_108_865)?, Status::TooLong);
     Ok(())
 }
-
-// A desk that has no file.
-#[test]
-fn a_file_that_is_missing_ends_the_run(rt: HostRuntime) -> Result<(), Fail> {
-    let alloc = rt.alloc();
-    let mut desk = MemoryDesk::new(alloc, BTreeMap::new(alloc), Vec::new(alloc));
-    let status = fh_main(alloc, &words(alloc)?, &mut desk);
-    assert_eq!(rt; status.number(), 5);
-    Ok(())
-}

@@ -18,6 +18,3 @@ pub use reading::read_records;
 pub use sheet::{Sheet, SheetRows};
 pub use texts::Texts;
 pub use writing::write_rows;
-
-#[cfg(test)]
-mod tests;

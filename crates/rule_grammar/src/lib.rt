@@ -7,8 +7,6 @@ mod cursor;
 mod line;
 mod parser;
 mod statement;
-#[cfg(test)]
-mod tests;
 mod token;
 
 pub use line::{LineText, read_line};

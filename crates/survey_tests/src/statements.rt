@@ -1,7 +1,9 @@
-use crate::{
+//! Lines as statements.
+
+use edit_model::Compare;
+use rule_grammar::{
     Declaration, LineText, Numeral, Sign, Statement, SumText, TermText, TestText, read_line,
 };
-use edit_model::Compare;
 use std::alloc::Global;
 use std::process::Abort;
 use std::test::Fail;

@@ -1,5 +1,5 @@
 use Rattle.std.proofs.Common.{length}
-use Rattle.edit_model.proofs.tests.rows.+is_row.Given as goal
+use Rattle.survey_tests.proofs.rows.+is_row.Given as goal
 
 abbrev pub decreases-is_row : goal.decreases-is_row
 decreases-is_row l = length l.fields.now

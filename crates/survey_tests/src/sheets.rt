@@ -1,33 +1,16 @@
-use crate::{Sheet, SheetFault, Texts, read_records, write_rows};
-use edit_model::{Field, Kind, Name, Survey, Value};
-use foundation::Sequence;
+//! Record files as sheets with their first fault, and rows as bytes.
+
+use edit_language::read_rules;
+use edit_model::{Survey, Value};
+use record_text::{Sheet, SheetFault, Texts, read_records, write_rows};
 use std::alloc::Global;
 use std::process::Abort;
 use std::slice;
 use std::test::Fail;
 
-fn name(bytes: &[u8]) -> Result<Name, Fail> {
-    Ok(Name::new(bytes).ok_or("a name")?)
-}
-
-fn field(called: &[u8], kind: Kind) -> Result<Field, Fail> {
-    Ok(Field {
-        name: name(called)?,
-        weight: 1,
-        kind,
-    })
-}
-
 /// The fields `A`, which is numerical, and `Size`, of the codes `s` and `M.1`.
 fn two_fields(alloc: Global) -> Result<Survey, Fail> {
-    let mut codes = Vec::new(alloc);
-    codes.push(name(b"s")?)?;
-    codes.push(name(b"M.1")?)?;
-    let codes = Sequence::from_vec(codes);
-    let mut fields = Vec::new(alloc);
-    fields.push(field(b"A", Kind::Number { scale: 1 })?)?;
-    fields.push(field(b"Size", Kind::Code { codes })?)?;
-    Ok(Survey::new(alloc, fields, Vec::new(alloc))?)
+    Ok(read_rules(alloc, b"number A\ncode Size in {s, M.1}\n")?)
 }
 
 /// Appends the texts, a `|` after each.
@@ -119,23 +102,6 @@ fn the_first_fault_is_told(rt: HostRuntime) -> Result<(), Fail> {
             ),
         ],
     )
-}
-
-#[test]
-fn there_are_at_most_200_000_rows(rt: HostRuntime) -> Result<(), Fail> {
-    let survey = two_fields(rt.alloc())?;
-    let mut file = Vec::new(rt.alloc());
-    file.extend_from_slice(b"A,Size\n")?;
-    for _ in 0..200_001 {
-        file.extend_from_slice(b"1,s\n")?;
-    }
-    match read_records(rt.alloc(), &survey, file.as_slice()) {
-        Ok(_) => Err(Fail::from("too many rows")),
-        Err(fault) => {
-            assert_eq!(rt; fault, SheetFault::TooManyRows);
-            Ok(())
-        }
-    }
 }
 
 #[test]

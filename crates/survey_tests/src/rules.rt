@@ -1,4 +1,6 @@
-use crate::{RulesFault, print_rules, read_rules};
+//! Rule files as surveys with their first fault, and surveys as rule files.
+
+use edit_language::{RulesFault, print_rules, read_rules};
 use edit_model::Survey;
 use std::alloc::Global;
 use std::process::Abort;

@@ -1,3 +1,0 @@
-mod plan;
-mod rows;
-mod surveys;

@@ -1,0 +1,41 @@
+//! What a survey finds, and fields that make none.
+
+use edit_language::read_rules;
+use edit_model::{Field, Kind, Name, Survey, SurveyFault};
+use std::alloc::Global;
+use std::test::Fail;
+
+/// A survey of so many fields with one name, or why they make none.
+fn fields_of_one_name(alloc: Global, count: usize) -> Result<Result<Survey, SurveyFault>, Fail> {
+    let mut fields = Vec::new(alloc);
+    for _ in 0..count {
+        fields.push(Field {
+            name: Name::new(b"abcdefghijklmnopqrstuvwxyz012345").ok_or("a name of 32 bytes")?,
+            weight: 1,
+            kind: Kind::Number { scale: 1 },
+        })?;
+    }
+    Ok(Survey::new(alloc, fields, Vec::new(alloc)))
+}
+
+#[test]
+fn a_name_is_declared_once(rt: HostRuntime) -> Result<(), Fail> {
+    let survey = fields_of_one_name(rt.alloc(), 1)?.ok().ok_or("a survey")?;
+    assert_eq!(rt; survey.find(b"abcdefghijklmnopqrstuvwxyz012345"), Some(0));
+    let two = fields_of_one_name(rt.alloc(), 2)?;
+    assert!(rt; matches!(two, Err(SurveyFault::Malformed)));
+    assert!(rt; Name::new(b"abcdefghijklmnopqrstuvwxyz0123456").is_none());
+    Ok(())
+}
+
+#[test]
+fn a_survey_finds_its_fields(rt: HostRuntime) -> Result<(), Fail> {
+    let survey = read_rules(
+        rt.alloc(),
+        b"number Turnover\ncode Size in {s, l}\nnumber Costs weight 9\ncode Country in {NL}\n",
+    )?;
+    assert!(rt; survey.find(b"Country") == Some(3) && survey.find(b"country").is_none());
+    assert!(rt; survey.numbers() == [0, 2].as_slice() && survey.codes() == [1, 3].as_slice());
+    assert!(rt; survey.path_field(1) == 2 && survey.path_field(2) == 1);
+    Ok(())
+}
