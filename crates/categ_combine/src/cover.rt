@@ -1,15 +1,16 @@
 //! The covers of a field's codes: intersections of one box for each code, made whole at the field.
-ghost use Rattle.std.specs.Prelude.{◌≡◌, ◌++◌, [], ◌∷◌, IfOk, OnOk};
+ghost use Rattle.std.specs.Prelude.{◌≡◌, ◌++◌, [], ◌∷◌, true, IfOk, OnOk};
 ghost use Rattle.std.specs.List.{fold};
-ghost use Rattle.edit_line.specs.Shapes.{domains_of};
+ghost use Rattle.edit_line.specs.Sets.{AreSets, has_codes};
+ghost use Rattle.edit_line.specs.Shapes.{domains_of, whole_sets};
 ghost use Rattle.categ_combine.specs.BoxLists.{AreBoxesOver, with_from};
-ghost use Rattle.categ_combine.specs.Covers.{joined_for, parts_of, row_of, takes_part, with_code_from};
+ghost use Rattle.categ_combine.specs.Covers.{from_of, joined_for, meets_but, parts_of, row_of, takes_part, with_code_from};
 
 use crate::box_from::{BoxFrom, BoxOrigin};
 use crate::code_field::set_at;
-use crate::reduction::take_in;
+use crate::reduction::{lie_inside, put_in};
 use crate::spot::Spot;
-use edit_line::{CodeBox, has_code, has_codes, meets};
+use edit_line::{CodeBox, has_code, has_codes, narrow};
 use foundation::{OutOfMemory, Sequence};
 use std::alloc::Global;
 
@@ -28,8 +29,9 @@ pub(crate) fn with_code(
     ensures over { IfOk result (λ next. AreBoxesOver (domains_of spot.now.shape.count spot.now.shape.codes) next.items) }
 {
     let mut next = Vec::new(alloc);
+    let mut sets = Vec::new(alloc);
     for cover in covers {
-        take_row(alloc, &mut next, boxes, cover, spot, code)?;
+        take_row(alloc, &mut next, &mut sets, boxes, cover, spot, code)?;
     }
     Ok(next)
 }
@@ -43,10 +45,12 @@ pub(crate) fn takes_part(b: &BoxFrom, spot: &Spot, code: u8) -> bool
     set != spot.whole && has_code(set, code)
 }
 
-// Takes what the cover has in common with each box that takes part for the code into the next covers.
+// Takes what the cover has in common with each box that takes part for the code into the next covers. The
+// sets are room to work in.
 fn take_row(
     alloc: Global,
     next: &mut Vec<BoxFrom>,
+    sets: &mut Vec<u64>,
     boxes: &[BoxFrom],
     cover: &BoxFrom,
     spot: &Spot,
@@ -57,16 +61,17 @@ fn take_row(
     ensures { OnOk result (next.new.items ≡ fold with_from next.old.items (row_of spot.now.place spot.now.whole code boxes.now cover.now)) }
 {
     for (i, b) in boxes.iter().enumerate() {
-        take_joined(alloc, next, cover, spot, code, i as u64, b)?;
+        take_joined(alloc, next, sets, cover, spot, code, i as u64, b)?;
     }
     Ok(())
 }
 
 // Takes the cover with the box as its next part into the next covers, where the box takes part for the
-// code and that leaves codes.
+// code and that leaves codes. The sets are room to work in, so that nothing is made of what is left out.
 fn take_joined(
     alloc: Global,
     next: &mut Vec<BoxFrom>,
+    sets: &mut Vec<u64>,
     cover: &BoxFrom,
     spot: &Spot,
     code: u8,
@@ -80,15 +85,51 @@ fn take_joined(
     if !takes_part(b, spot, code) {
         return Ok(());
     }
-    let mut sets = meets(alloc, cover.sets(), b.sets())?;
+    write_joined(sets, cover, spot, b)?;
+    if has_codes(sets) {
+        take_sets(alloc, next, sets, cover, place)
+    } else {
+        Ok(())
+    }
+}
+
+// Writes what the cover and the box have in common on the other fields, and the whole set at the field.
+fn write_joined(
+    sets: &mut Vec<u64>,
+    cover: &BoxFrom,
+    spot: &Spot,
+    b: &BoxFrom,
+) -> Result<(), OutOfMemory>
+    requires cover { cover.now.code_box.shape ≡ domains_of spot.now.shape.count spot.now.shape.codes }
+    requires other { b.now.code_box.shape ≡ domains_of spot.now.shape.count spot.now.shape.codes }
+    ensures joined { OnOk result (sets.new.items ≡ meets_but spot.now.place spot.now.whole cover.now.code_box.sets b.now.code_box.sets) }
+    ensures fit { OnOk result (has_codes sets.new.items ≡ true → AreSets sets.new.items (whole_sets cover.now.code_box.shape)) }
+{
+    sets.clear();
+    sets.extend_from_slice(cover.sets())?;
+    narrow(sets, b.sets());
     sets[spot.place] = spot.whole;
-    if !has_codes(&sets) {
+    Ok(())
+}
+
+// Takes the cover of these sets, with the box at the place as its last part, into the next covers.
+fn take_sets(
+    alloc: Global,
+    next: &mut Vec<BoxFrom>,
+    sets: &[u64],
+    cover: &BoxFrom,
+    place: u64,
+) -> Result<(), OutOfMemory>
+    requires { AreSets sets.now (whole_sets cover.now.code_box.shape) }
+    ensures { OnOk result (next.new.items ≡ with_from next.old.items (from_of cover.now.code_box.shape sets.now (BoxOrigin.Cover (parts_of cover.now.origin ++ place ∷ [])))) }
+{
+    if lie_inside(sets, next) {
         return Ok(());
     }
+    let code_box = CodeBox::over(cover.shape(), Vec::from_slice(alloc, sets)?);
     let parts = longer(alloc, parts_of(&cover.origin), place)?;
-    let code_box = CodeBox::over(cover.shape(), sets);
     let origin = BoxOrigin::Cover(Sequence::from_vec(parts));
-    take_in(next, BoxFrom { code_box, origin })
+    put_in(next, BoxFrom { code_box, origin })
 }
 
 // The parts of a cover; another box has none.

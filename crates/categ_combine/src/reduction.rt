@@ -1,4 +1,4 @@
-ghost use Rattle.std.specs.Prelude.{◌≡◌, not, OnOk};
+ghost use Rattle.std.specs.Prelude.{◌≡◌, ◌++◌, [], ◌∷◌, not, OnOk};
 ghost use Rattle.std.specs.List.{filter, list_any};
 ghost use Rattle.edit_line.specs.Sets.{all_inside};
 ghost use Rattle.categ_combine.specs.BoxLists.{with_from};
@@ -11,19 +11,26 @@ use foundation::OutOfMemory;
 pub(crate) fn take_in(kept: &mut Vec<BoxFrom>, new: BoxFrom) -> Result<(), OutOfMemory>
     ensures { OnOk result (kept.new.items ≡ with_from kept.old.items new) }
 {
-    if lies_inside(&new, kept) {
+    if lie_inside(new.sets(), kept) {
         return Ok(());
     }
+    put_in(kept, new)
+}
+
+/// Whether the sets lie inside those of a kept box. It looks no further than the first in which they do.
+pub(crate) fn lie_inside(sets: &[u64], kept: &[BoxFrom]) -> bool
+    ensures { result ≡ list_any (λ b. all_inside sets.now b.code_box.sets) kept.now }
+{
+    kept.iter().any(|b| are_inside(sets, b.sets()))
+}
+
+/// Appends the box without those that lie inside it.
+pub(crate) fn put_in(kept: &mut Vec<BoxFrom>, new: BoxFrom) -> Result<(), OutOfMemory>
+    ensures { OnOk result (kept.new.items ≡ filter (λ b. not (all_inside b.code_box.sets new.code_box.sets)) kept.old.items ++ new ∷ []) }
+{
     remove_inside(kept, &new);
     kept.push(new)?;
     Ok(())
-}
-
-// Whether the box lies inside a kept one. It looks no further than the first in which it does.
-fn lies_inside(new: &BoxFrom, kept: &[BoxFrom]) -> bool
-    ensures { result ≡ list_any (λ b. all_inside new.now.code_box.sets b.code_box.sets) kept.now }
-{
-    kept.iter().any(|b| are_inside(new.sets(), b.sets()))
 }
 
 // Removes the boxes that lie inside the box.

@@ -1,7 +1,7 @@
 use edit_line::Line;
 use edit_model::{FieldSet, Row, Survey};
 
-/// What the steps may build on, and the set of all codes of each categorical field.
+/// What the steps may build on.
 #[derive(Clone, Copy)]
 pub(crate) struct Basis<'a> {
     pub(crate) survey: &'a Survey,
@@ -9,5 +9,4 @@ pub(crate) struct Basis<'a> {
     pub(crate) usable: &'a [bool],
     pub(crate) row: &'a Row,
     pub(crate) kept: FieldSet,
-    pub(crate) wholes: &'a [u64],
 }

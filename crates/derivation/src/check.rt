@@ -18,7 +18,7 @@ use crate::given::given;
 use crate::known::Known;
 use crate::proved::Proved;
 use crate::step::Step;
-use edit_line::{Line, Shape};
+use edit_line::Line;
 use edit_model::{FieldSet, Row, Survey};
 use foundation::OutOfMemory;
 use std::alloc::Global;
@@ -48,14 +48,12 @@ pub fn check_steps(
     ensures shown { IfOk result (λ proved. IsShown (premises_of (shape_of survey.now.fields) given.now usable.now row.now kept) proved) }
     ensures over { IfOk result (λ proved. IsOver (shape_of survey.now.fields) proved) }
 {
-    let wholes = Shape::of(survey).whole_sets(alloc)?;
     let basis = Basis {
         survey,
         given,
         usable,
         row,
         kept,
-        wholes: &wholes,
     };
     match known_of(alloc, &basis, steps) {
         Ok(known) => last_known(alloc, known),
@@ -84,7 +82,7 @@ fn known_of<'a>(
     ensures proved { IfOk result (λ known. proved_from (premises basis.now) [] steps.now ≡ Ok (map meaning known.items)) }
     ensures bad { (place : ℕ) → result ≡ Err (StepsFault.Bad place) → proved_from (premises basis.now) [] steps.now ≡ Err place }
 {
-    let mut known = Vec::new(alloc);
+    let mut known = Vec::with_capacity(alloc, steps.len())?;
     for step in steps {
         let Some(made) = made_by(alloc, basis, &known, step)? else {
             return Err(StepsFault::Bad {

@@ -63,7 +63,7 @@ fn combined_lines<'a>(
     let mut sum = s.copy(alloc)?;
     match sum.write_sum(by.first, s, by.second, t) {
         Some(_) => Ok(None),
-        None => Ok(divided(sum, by.divisor)),
+        None => divided(alloc, sum, by.divisor),
     }
 }
 
@@ -75,15 +75,19 @@ fn are_positive(by: Multipliers) -> bool
 }
 
 // The line, divided, if that leaves no remainder.
-fn divided<'a>(mut line: Line, divisor: i128) -> Option<Known<'a>>
+fn divided<'a>(
+    alloc: Global,
+    mut line: Line,
+    divisor: i128,
+) -> Result<Option<Known<'a>>, OutOfMemory>
     requires { pos 0 <ℤ divisor }
-    ensures { meant result ≡ only_if (divides divisor line) (Proved.Line (divided_by divisor line)) }
+    ensures { IfOk result (λ made. meant made ≡ only_if (divides divisor line) (Proved.Line (divided_by divisor line))) }
 {
     if !divides(divisor, &line) {
-        return None;
+        return Ok(None);
     }
     line.divide_by(divisor);
-    Some(Known::Line(line))
+    Ok(Some(Known::of_line(alloc, line)?))
 }
 
 // Whether all numbers of the line are multiples of the divisor.

@@ -6,7 +6,7 @@ ghost use Rattle.derivation.specs.inner.Meanings.{AllOver, meaning, meant, place
 ghost use Rattle.derivation.specs.ValidSteps.{common_from, covered_box, covered_sets, part_with};
 
 use crate::basis::Basis;
-use crate::code_field::place_of;
+use crate::code_field::{place_of, whole_at};
 use crate::known::{Known, box_at};
 use edit_line::{CodeBox, Shape, has_code, has_codes, narrow};
 use foundation::OutOfMemory;
@@ -33,27 +33,30 @@ pub(crate) fn covered<'a>(
     }
     match common_sets(alloc, basis, known, place, parts)? {
         None => Ok(None),
-        Some(common) => Ok(covered_at(basis, common, field, place)),
+        Some(common) => covered_at(alloc, basis, common, field, place),
     }
 }
 
 // The box of these sets, made whole at the categorical field of this place, if no set of it is empty.
 fn covered_at<'a>(
+    alloc: Global,
     basis: &Basis<'a>,
     mut common: Vec<u64>,
     field: u32,
     place: usize,
-) -> Option<Known<'a>>
+) -> Result<Option<Known<'a>>, OutOfMemory>
     requires basis { IsBasis basis.now }
     requires within { AreWithin common.items (whole_sets (shape_of basis.now.survey.now.fields)) }
     requires place { place_there (code_fields (shape_of basis.now.survey.now.fields)) field ≡ Some place }
-    ensures { meant result ≡ covered_sets (shape_of basis.now.survey.now.fields) field common.items }
+    ensures { IfOk result (λ made. meant made ≡ covered_sets (shape_of basis.now.survey.now.fields) field common.items) }
 {
-    common[place] = basis.wholes[place];
+    let whole = whole_at(alloc, basis.survey, place)?;
+    common[place] = whole;
     if has_codes(&common) {
-        Some(Known::Box(CodeBox::new(basis.survey, common)))
+        let code_box = CodeBox::new(basis.survey, common);
+        Ok(Some(Known::of_box(alloc, code_box)?))
     } else {
-        None
+        Ok(None)
     }
 }
 
@@ -71,7 +74,7 @@ fn common_sets(
     ensures common { IfOk result (λ found. option_map (λ v. v.items) found ≡ common_from (map meaning known.now) place 0 parts.now (whole_sets (shape_of basis.now.survey.now.fields))) }
     ensures within { IfOk result (λ found. IfSome found (λ sets. AreWithin sets.items (whole_sets (shape_of basis.now.survey.now.fields)))) }
 {
-    let mut common = Vec::from_slice(alloc, basis.wholes)?;
+    let mut common = Shape::of(basis.survey).whole_sets(alloc)?;
     for (code, part) in parts.iter().enumerate() {
         let Some(sets) = part_with(known, place, code as u8, *part) else {
             return Ok(None);

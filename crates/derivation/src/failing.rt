@@ -45,7 +45,8 @@ fn failed_box<'a>(
         return Ok(None);
     }
     let sets = Vec::from_slice(alloc, line.sets())?;
-    Ok(Some(Known::Box(CodeBox::over(line.shape(), sets))))
+    let code_box = CodeBox::over(line.shape(), sets);
+    Ok(Some(Known::of_box(alloc, code_box)?))
 }
 
 /// Whether only kept fields stand in the line, and its linear part is false at the record. A kept field at

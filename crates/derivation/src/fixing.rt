@@ -7,7 +7,7 @@ ghost use Rattle.derivation.specs.inner.Meanings.{AllOver, meaning, meant, place
 ghost use Rattle.derivation.specs.ValidSteps.{fixed_box, fixed_sets, has_value};
 
 use crate::basis::Basis;
-use crate::code_field::place_of;
+use crate::code_field::{place_of, whole_at};
 use crate::known::{Known, box_at};
 use edit_line::{CodeBox, has_code};
 use edit_model::Value;
@@ -65,8 +65,10 @@ fn fixed_at<'a>(
         return Ok(None);
     }
     let mut sets = Vec::from_slice(alloc, code_box.sets())?;
-    sets[place] = basis.wholes[place];
-    Ok(Some(Known::Box(CodeBox::new(basis.survey, sets))))
+    let whole = whole_at(alloc, basis.survey, place)?;
+    sets[place] = whole;
+    let code_box = CodeBox::new(basis.survey, sets);
+    Ok(Some(Known::of_box(alloc, code_box)?))
 }
 
 // Whether the value is a code of the set.

@@ -9,15 +9,30 @@ use edit_line::{CodeBox, Line};
 use foundation::OutOfMemory;
 use std::alloc::Global;
 
-/// What a step proved. A given line is not copied.
+/// What a step proved. A given line is not copied, and another stands behind a pointer, so that a long list
+/// of given lines stays small.
 #[derive(Debug, Drop)]
 pub(crate) enum Known<'a> {
     Given(&'a Line),
-    Line(Line),
-    Box(CodeBox),
+    Line(Box<Line>),
+    Box(Box<CodeBox>),
 }
 
 impl<'a> Known<'a> {
+    /// A line that was made.
+    pub(crate) fn of_line(alloc: Global, line: Line) -> Result<Known<'a>, OutOfMemory>
+        ensures { IfOk result (λ known. meaning known ≡ Proved.Line line) }
+    {
+        Ok(Known::Line(Box::new(alloc, line)?))
+    }
+
+    /// A box that was made.
+    pub(crate) fn of_box(alloc: Global, code_box: CodeBox) -> Result<Known<'a>, OutOfMemory>
+        ensures { IfOk result (λ known. meaning known ≡ Proved.Box code_box) }
+    {
+        Ok(Known::Box(Box::new(alloc, code_box)?))
+    }
+
     // The line, if it is one. No memory.
     fn line(&self) -> Option<&Line>
         ensures some { IfSome result (λ line. meaning self.now ≡ Proved.Line line.now) }
@@ -25,7 +40,7 @@ impl<'a> Known<'a> {
     {
         match self {
             Known::Given(line) => Some(*line),
-            Known::Line(line) => Some(line),
+            Known::Line(line) => Some(&**line),
             Known::Box(_) => None,
         }
     }
@@ -37,7 +52,7 @@ impl<'a> Known<'a> {
     {
         match self {
             Known::Given(_) | Known::Line(_) => None,
-            Known::Box(code_box) => Some(code_box),
+            Known::Box(code_box) => Some(&**code_box),
         }
     }
 
@@ -47,8 +62,8 @@ impl<'a> Known<'a> {
     {
         match self {
             Known::Given(line) => Ok(Proved::Line(line.copy(alloc)?)),
-            Known::Line(line) => Ok(Proved::Line(line)),
-            Known::Box(code_box) => Ok(Proved::Box(code_box)),
+            Known::Line(line) => Ok(Proved::Line(Box::into_inner(line))),
+            Known::Box(code_box) => Ok(Proved::Box(Box::into_inner(code_box))),
         }
     }
 }

@@ -175,3 +175,7 @@ gcd_onto-stops g (x ∷ xs) (suc i) one = gcd_onto-stops (gcd g (unsigned_abs x)
 pub divisor-stops : (constant d : ℤ) (factors : List ℤ) (i : ℕ) → d ≡ pos (gcd_all (constant ∷ take i factors)) → d ≡ pos 1 → d ≡ pos (gcd_all (constant ∷ factors))
 divisor-stops constant d factors i is one =
     one ∙ ap (λ n. pos n) (sym (gcd_onto-stops (gcd 0 (unsigned_abs constant)) factors i (cc (is, one))))
+
+-- the quotient by 1
+pub quotient-one : (z g : ℤ) → g ≡ pos 1 → z ≡ int_div z g
+quotient-one z g is = sym (ap (λ (d : ℤ). int_div z d) is ∙ int_div-one z)

@@ -1,5 +1,5 @@
 //! The numbers of a line, divided by their greatest common divisor.
-ghost use Rattle.std.specs.Prelude.{◌≡◌, ◌<ℤ◌, ◌∷◌, All, IfSome, int_div, map, pos, unsigned_abs};
+ghost use Rattle.std.specs.Prelude.{◌≡◌, ◌<ℤ◌, ◌∷◌, All, IfSome, if◌then◌else◌, int_div, int_lt, map, neg_ℤ, pos, unsigned_abs};
 ghost use Rattle.fraction128.specs.Divisor as euclid;
 ghost use Rattle.fraction128.specs.Divisor.{int_gcd};
 ghost use Rattle.fraction128.specs.Range.{InRange};
@@ -38,7 +38,40 @@ pub fn quotient(number: i128, divisor: i128) -> i128
     requires { pos 0 <ℤ divisor }
     ensures { result ≡ int_div number divisor }
 {
+    if divisor == 1 {
+        return number;
+    }
+    quotient_of(number, divisor)
+}
+
+// The quotient by any positive divisor. It is found in 64 bits where both fit.
+fn quotient_of(number: i128, divisor: i128) -> i128
+    requires { pos 0 <ℤ divisor }
+    ensures { result ≡ int_div number divisor }
+{
+    match (word_of(number), word_of(divisor)) {
+        (Some(size), Some(by)) => with_sign(number, size / by),
+        _ => long_quotient(number, divisor),
+    }
+}
+
+// The quotient in 128 bits.
+fn long_quotient(number: i128, divisor: i128) -> i128
+    requires { pos 0 <ℤ divisor }
+    ensures { result ≡ int_div number divisor }
+{
     number / divisor
+}
+
+// The number of this size that is below 0 where the other is.
+fn with_sign(other: i128, size: u64) -> i128
+    ensures { result ≡ (if int_lt other (pos 0) then neg_ℤ (pos size) else pos size) }
+{
+    if other < 0 {
+        -i128::from(size)
+    } else {
+        i128::from(size)
+    }
 }
 
 // The greatest common divisor of the numbers. It looks no further than where that is 1.

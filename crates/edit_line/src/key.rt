@@ -1,5 +1,5 @@
 //! Keys of lines' factors, by which most lines are seen not to subsume each other.
-ghost use Rattle.std.specs.Prelude.{◌≡◌};
+ghost use Rattle.std.specs.Prelude.{◌≡◌, false};
 ghost use Rattle.edit_line.specs.inner.Keys.{key_of, key_with, may_subsume};
 ghost use Rattle.edit_line.specs.Subsumption as subsumption;
 
@@ -35,6 +35,19 @@ pub(crate) fn subsumes_keyed(a: &Line, a_key: u64, b: &Line, b_key: u64) -> bool
     ensures { result ≡ subsumption.subsumes a.now b.now }
 {
     may_subsume(a_key, b_key) && subsumes(a, b)
+}
+
+/// Whether, as far as their keys tell, one of both may subsume the other. No memory.
+#[inline(always)]
+pub(crate) fn may_concern(a: &Line, a_key: u64, b: &Line, b_key: u64) -> bool
+    requires first { a_key ≡ key_of a.now.factors }
+    requires second { b_key ≡ key_of b.now.factors }
+    ensures over { result ≡ false → subsumption.subsumes a.now b.now ≡ false }
+    ensures under { result ≡ false → subsumption.subsumes b.now a.now ≡ false }
+{
+    let _ = a;
+    let _ = b;
+    may_subsume(a_key, b_key) || may_subsume(b_key, a_key)
 }
 
 // Whether a line with the first key may subsume one with the second.

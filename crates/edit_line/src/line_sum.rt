@@ -55,8 +55,19 @@ fn product(a: i128, b: i128) -> Option<i128>
     product_of(a, b)
 }
 
-// The product, where it is in range, of any two numbers.
+// The product, where it is in range, of any two numbers. Where both have 64 bits no check is needed.
 fn product_of(a: i128, b: i128) -> Option<i128>
+    ensures { result ≡ (if in_range (a *ℤ b) then Some (a *ℤ b) else None) }
+{
+    match (i64::try_from(a), i64::try_from(b)) {
+        (Ok(first), Ok(second)) => checked_product(i128::from(first), i128::from(second)),
+        _ => checked_product(a, b),
+    }
+}
+
+// The product, where it is in range.
+#[inline(always)]
+fn checked_product(a: i128, b: i128) -> Option<i128>
     ensures { result ≡ (if in_range (a *ℤ b) then Some (a *ℤ b) else None) }
 {
     match a.checked_mul(b) {

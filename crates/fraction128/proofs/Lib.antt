@@ -12,3 +12,4 @@ pub mod RatioLaws
 pub mod Signs
 pub mod TextLaws
 pub mod Whole
+pub mod WholeLaws

@@ -1,4 +1,4 @@
-ghost use Rattle.std.specs.Prelude.{◌≡◌, pos, ◌<ℤ◌, ◌*ℤ◌, unsigned_abs};
+ghost use Rattle.std.specs.Prelude.{◌≡◌, pos, ◌<ℤ◌, ◌*ℤ◌, true, unsigned_abs};
 ghost use lib.IntN.{neg_ℤ};
 ghost use Rattle.std.specs.Int.{IsGcd};
 ghost use Rattle.fraction128.specs.Range.{InRange};
@@ -63,6 +63,13 @@ impl Fraction {
         ensures { result ≡ self.now.denominator }
     {
         self.denominator
+    }
+
+    /// Whether the denominator is 1.
+    fn is_whole(&self) -> bool
+        ensures { result ≡ true → self.now.denominator ≡ pos 1 }
+    {
+        self.denominator == 1
     }
 
     /// The fraction of two numbers in range that have no common divisor. The denominator is positive.

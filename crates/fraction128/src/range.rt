@@ -3,8 +3,19 @@ ghost use Rattle.fraction128.specs.Range.{InRange, AllInRange};
 
 use crate::Overflow;
 
-/// The product, where it is in range.
+/// The product, where it is in range. Where both numbers have 64 bits no check is needed.
 pub(crate) fn product(a: i128, b: i128) -> Result<i128, Overflow>
+    ensures { OkIff result (InRange (a *ℤ b)) (a *ℤ b) }
+{
+    match (i64::try_from(a), i64::try_from(b)) {
+        (Ok(first), Ok(second)) => product_of(i128::from(first), i128::from(second)),
+        _ => product_of(a, b),
+    }
+}
+
+/// The product of any two numbers, where it is in range.
+#[inline(always)]
+fn product_of(a: i128, b: i128) -> Result<i128, Overflow>
     ensures { OkIff result (InRange (a *ℤ b)) (a *ℤ b) }
 {
     match a.checked_mul(b) {
@@ -14,7 +25,7 @@ pub(crate) fn product(a: i128, b: i128) -> Result<i128, Overflow>
 }
 
 /// The sum, where it is in range.
-fn sum(a: i128, b: i128) -> Result<i128, Overflow>
+pub(crate) fn sum(a: i128, b: i128) -> Result<i128, Overflow>
     ensures { OkIff result (InRange (a +ℤ b)) (a +ℤ b) }
 {
     match a.checked_add(b) {

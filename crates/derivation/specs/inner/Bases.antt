@@ -1,7 +1,7 @@
 use Rattle.std.specs.Prelude.{◌≡◌, length}
 use Rattle.edit_model.specs.Rows.{IsRow}
 use Rattle.edit_line.specs.Lines.{AreOver}
-use Rattle.edit_line.specs.Shapes.{shape_of, whole_sets}
+use Rattle.edit_line.specs.Shapes.{shape_of}
 use Rattle.derivation.specs.Premises.{HasKept, Premises, premises_of}
 use Rattle.derivation.specs.declared.basis.Basis.{Basis}
 
@@ -15,4 +15,3 @@ pub record IsBasis (basis : Basis) : Type 0 where
   pub over : AreOver (shape_of basis.survey.now.fields) basis.given.now
   pub row : IsRow basis.survey.now.fields basis.row.now
   pub kept : HasKept basis.row.now basis.kept
-  pub wholes : basis.wholes.now ≡ whole_sets (shape_of basis.survey.now.fields)

@@ -9,8 +9,8 @@ use Rattle.derivation.specs.declared.proved.Proved.TheVariants.{Box, Line}
 -- what a step proved
 abbrev pub meaning : Known → Proved
 meaning (known.Given line) = Line line.now
-meaning (known.Line line) = Line line
-meaning (known.Box code_box) = Box code_box
+meaning (known.Line line) = Line line.value
+meaning (known.Box code_box) = Box code_box.value
 
 -- what a step proved, if it did
 abbrev pub meant : Option Known → Option Proved

@@ -1,6 +1,8 @@
-use Rattle.std.specs.Prelude.{ℕ, ℤ, ◌+◌, ◌*◌, ◌%◌, ◌^◌, ◌==◌, ◌||◌, Bool, List, map}
+use Rattle.std.specs.Prelude.{◌≡◌, ℕ, ℤ, ◌+◌, ◌*◌, ◌%◌, ◌^◌, ◌==◌, ◌||◌, not, Bool, List, ◌++◌, drop, map, take}
 use Rattle.std.specs.Int.{cast_unsigned, w128}
-use Rattle.std.specs.List.{fold}
+use Rattle.std.specs.List.{filter, fold, list_any}
+use Rattle.edit_line.specs.Lines.{LineParts}
+use Rattle.edit_line.specs.Subsumption.{subsumes}
 use Rattle.edit_line.specs.declared.derived.Derived.{Derived}
 
 -- A key of a line's factors: lines with equal factors have equal keys, and a line without a factor has the key 0. So most lines need not be compared.
@@ -20,3 +22,15 @@ keys_of lines = map (λ (d : Derived). key_of d.line.factors) lines
 -- whether a line with the first key may subsume one with the second
 abbrev pub may_subsume : ℕ → ℕ → Bool
 may_subsume first second = (first == second) || (first == 0)
+
+-- none of the first lines, so many, subsumes the line
+abbrev pub NoneOver : ℕ → LineParts → List Derived → Type 0
+NoneOver count line lines = list_any (λ (a : Derived). subsumes a.line line) (drop count lines) ≡ list_any (λ (a : Derived). subsumes a.line line) lines
+
+-- the lines that the line does not subsume
+abbrev pub not_under : LineParts → List Derived → List Derived
+not_under line lines = filter (λ (b : Derived). not (subsumes line b.line)) lines
+
+-- the line subsumes none of the first lines, so many
+abbrev pub NoneUnder : ℕ → LineParts → List Derived → Type 0
+NoneUnder count line lines = take count lines ++ not_under line (drop count lines) ≡ not_under line lines

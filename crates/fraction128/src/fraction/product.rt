@@ -1,4 +1,4 @@
-ghost use Rattle.std.specs.Prelude.{◌≢◌, pos, IfOk, OnOk, OnErr};
+ghost use Rattle.std.specs.Prelude.{◌≡◌, ◌≢◌, pos, IfOk, OnOk, OnErr};
 ghost use Rattle.fraction128.specs.Arithmetic.{IsProduct, IsQuotient, scaled_numbers, divided_numbers};
 ghost use Rattle.fraction128.specs.Range.{InRange, AllInRange};
 
@@ -10,6 +10,32 @@ impl Fraction {
     /// The fraction times a whole number in range. What the factor and the denominator share is divided
     /// out first, and then it overflows exactly where the numerator leaves the range.
     pub fn scale(self, factor: i128) -> Result<Fraction, Overflow>
+        requires { InRange factor }
+        ensures value { IfOk result (λ z. IsProduct self factor z) }
+        ensures fits { OnOk result (AllInRange (scaled_numbers self factor)) }
+        ensures overflow { OnErr result (¬ AllInRange (scaled_numbers self factor)) }
+    {
+        if self.is_whole() {
+            self.scale_whole(factor)
+        } else {
+            self.scale_parts(factor)
+        }
+    }
+
+    /// A whole number times a whole number in range.
+    fn scale_whole(self, factor: i128) -> Result<Fraction, Overflow>
+        requires whole { self.denominator ≡ pos 1 }
+        requires in_range { InRange factor }
+        ensures value { IfOk result (λ z. IsProduct self factor z) }
+        ensures fits { OnOk result (AllInRange (scaled_numbers self factor)) }
+        ensures overflow { OnErr result (¬ AllInRange (scaled_numbers self factor)) }
+    {
+        let numerator = product(self.numerator, factor)?;
+        Ok(Fraction::whole(numerator))
+    }
+
+    /// Any fraction times a whole number in range.
+    fn scale_parts(self, factor: i128) -> Result<Fraction, Overflow>
         requires { InRange factor }
         ensures value { IfOk result (λ z. IsProduct self factor z) }
         ensures fits { OnOk result (AllInRange (scaled_numbers self factor)) }

@@ -1,16 +1,41 @@
-ghost use Rattle.std.specs.Prelude.{◌≡◌, IfOk, OnOk, OnErr};
+ghost use Rattle.std.specs.Prelude.{◌≡◌, pos, IfOk, OnOk, OnErr};
 ghost use Rattle.fraction128.specs.Arithmetic.{IsSum, IsDifference, IsMiddle, sum_numbers, difference_numbers};
 ghost use Rattle.fraction128.specs.Formulas.{answered, middle, ratio_of};
 ghost use Rattle.fraction128.specs.Range.{AllInRange};
 
 use crate::divisor::Cofactors;
-use crate::range::{product, sum_of_products};
+use crate::range::{product, sum, sum_of_products};
 use crate::{Fraction, Overflow};
 
 impl Fraction {
     /// The sum. It overflows exactly where a number of the formula over the least common multiple of
     /// the denominators is out of range.
     pub fn add(self, other: Fraction) -> Result<Fraction, Overflow>
+        ensures value { IfOk result (λ z. IsSum self other z) }
+        ensures fits { OnOk result (AllInRange (sum_numbers self other)) }
+        ensures overflow { OnErr result (¬ AllInRange (sum_numbers self other)) }
+    {
+        if self.is_whole() && other.is_whole() {
+            self.add_whole(other)
+        } else {
+            self.add_parts(other)
+        }
+    }
+
+    /// The sum of two whole numbers.
+    fn add_whole(self, other: Fraction) -> Result<Fraction, Overflow>
+        requires first { self.denominator ≡ pos 1 }
+        requires second { other.denominator ≡ pos 1 }
+        ensures value { IfOk result (λ z. IsSum self other z) }
+        ensures fits { OnOk result (AllInRange (sum_numbers self other)) }
+        ensures overflow { OnErr result (¬ AllInRange (sum_numbers self other)) }
+    {
+        let numerator = sum(self.numerator, other.numerator)?;
+        Ok(Fraction::whole(numerator))
+    }
+
+    /// The sum of any two fractions.
+    fn add_parts(self, other: Fraction) -> Result<Fraction, Overflow>
         ensures value { IfOk result (λ z. IsSum self other z) }
         ensures fits { OnOk result (AllInRange (sum_numbers self other)) }
         ensures overflow { OnErr result (¬ AllInRange (sum_numbers self other)) }

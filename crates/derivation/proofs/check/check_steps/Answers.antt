@@ -26,7 +26,7 @@ returns-in-Ok-clause-named c =
     let p = premises_of (shape_of c.args.survey.now.fields) c.args.given.now c.args.usable.now c.args.row.now c.args.kept in
     λ place is. place-steps_result p c.args.steps.now place (ap last_proved c.in-Ok.ensures.proved ∙ c.last_known.ensures.bad place is)
 
-pub returns-clause-named : goal.returns-clause-named
-returns-clause-named c =
+pub returns-in-Err-clause-named : goal.returns-in-Err-clause-named
+returns-in-Err-clause-named c =
     let p = premises_of (shape_of c.args.survey.now.fields) c.args.given.now c.args.usable.now c.args.row.now c.args.kept in
     λ place is. let same : c.in-Err.fault ≡ Bad place = cc in place-steps_result p c.args.steps.now place (ap last_proved (c.in-Err.ensures.bad place (ap (λ (f : StepsFault). Err f) same)))

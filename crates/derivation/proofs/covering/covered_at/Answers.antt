@@ -1,17 +1,22 @@
-use Rattle.std.proofs.Common.{◌<◌, length, rules, ap, sym, ◌∙◌}
-use Rattle.edit_line.specs.Sets.{has_codes}
-use Rattle.edit_line.specs.Shapes.{shape_of}
-use Rattle.derivation.proofs.WholeBoxes.{common-fits, within-sets, within-wholes}
+use Rattle.std.proofs.Common.{◌≡◌, ◌<◌, ℕ, true, length, refl, rules, ap, subst, sym, slice_set, ◌∙◌}
+use Rattle.edit_line.specs.Sets.{AreSets, has_codes}
+use Rattle.edit_line.specs.Shapes.{shape_of, whole_sets}
+use Rattle.derivation.proofs.CodePlaces.{place-wholes}
+use Rattle.derivation.proofs.WholeBoxes.{common-fits, within-sets}
 use Rattle.derivation.proofs.covering.covered_at.Goals as goal
 
-pub offset_bounds-basis-place : goal.offset_bounds-basis-place
-offset_bounds-basis-place c = let below : c.args.place < length c.args.basis.now.wholes.now = within-wholes (shape_of c.args.basis.now.survey.now.fields) c.args.field c.args.place _ c.requires.place c.requires.basis.wholes in search rules
-
-pub bounds-basis-place : goal.bounds-basis-place
-bounds-basis-place c = within-wholes (shape_of c.args.basis.now.survey.now.fields) c.args.field c.args.place _ c.requires.place c.requires.basis.wholes
+pub whole_at-requires : goal.whole_at-requires
+whole_at-requires c = place-wholes (shape_of c.args.basis.now.survey.now.fields) c.args.field c.args.place c.requires.place
 
 pub index_mut-requires : goal.index_mut-requires
-index_mut-requires c = let below : c.args.place < length c.args.common.items = within-sets (shape_of c.args.basis.now.survey.now.fields) c.args.field c.args.place _ c.requires.place c.requires.basis.wholes c.args.common.items c.requires.within in search rules
+index_mut-requires c =
+    let shape = shape_of c.args.basis.now.survey.now.fields in
+    let below : c.args.place < length c.args.common.items = within-sets shape c.args.field c.args.place (whole_sets shape) c.requires.place refl c.args.common.items c.requires.within in
+    search rules
 
-pub new-requires : goal.new-requires
-new-requires c = common-fits (shape_of c.args.basis.now.survey.now.fields) c.args.field c.args.place _ c.requires.place c.requires.basis.wholes c.args.common.items c.requires.within (ap has_codes (sym c.deref.ensures.value) ∙ sym c.has_codes.ensures ∙ c.if-has_codes.true)
+pub new-code_box-requires : goal.new-code_box-requires
+new-code_box-requires c =
+    let shape = shape_of c.args.basis.now.survey.now.fields in
+    let told : has_codes (slice_set c.args.common.items c.args.place c.in_ok-whole.whole) ≡ true = ap has_codes (sym c.deref.ensures.value) ∙ sym c.has_codes.ensures ∙ c.if-has_codes.true in
+    let full = ap (λ (w : ℕ). has_codes (slice_set c.args.common.items c.args.place w)) (sym c.in_ok-whole.ensures) ∙ told in
+    subst (λ (w : ℕ). AreSets (slice_set c.args.common.items c.args.place w) (whole_sets shape)) (sym c.in_ok-whole.ensures) (common-fits shape c.args.field c.args.place (whole_sets shape) c.requires.place refl c.args.common.items c.requires.within full)

@@ -6,8 +6,8 @@ use Rattle.fraction128.proofs.RangeLaws.{FitsSigned-in_range, OnErr-always}
 use Rattle.fraction128.proofs.CofactorLaws.{first-above}
 use Rattle.fraction128.proofs.FormulaLaws.{sum_is, sum_numerator_overflow, sum_denominator_overflow}
 use Rattle.fraction128.proofs.Signs.{above-*}
-use Rattle.fraction128.proofs.fraction.Fraction.add.Goals as goal
-use Rattle.fraction128.proofs.fraction.Fraction.add.Goals.{After-of-parts}
+use Rattle.fraction128.proofs.fraction.Fraction.add_parts.Goals as goal
+use Rattle.fraction128.proofs.fraction.Fraction.add_parts.Goals.{After-of-parts}
 
 module _ (c : After-of-parts) where
   first : c.of-parts.result.first ≡ int_div c.args.self.denominator (int_gcd c.args.self.denominator c.args.other.denominator)

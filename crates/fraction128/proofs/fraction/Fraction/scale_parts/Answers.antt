@@ -5,8 +5,8 @@ use Rattle.fraction128.specs.Divisor.{int_gcd}
 use Rattle.fraction128.proofs.RangeLaws.{FitsSigned-in_range}
 use Rattle.fraction128.proofs.CofactorLaws.{second-above}
 use Rattle.fraction128.proofs.FormulaLaws.{product-coprime, product_is}
-use Rattle.fraction128.proofs.fraction.Fraction.scale.Goals as goal
-use Rattle.fraction128.proofs.fraction.Fraction.scale.Goals.{After-of-parts}
+use Rattle.fraction128.proofs.fraction.Fraction.scale_parts.Goals as goal
+use Rattle.fraction128.proofs.fraction.Fraction.scale_parts.Goals.{After-of-parts}
 
 module _ (c : After-of-parts) where
   first : c.of-parts.result.first ≡ int_div c.args.factor (int_gcd c.args.factor c.args.self.denominator)
