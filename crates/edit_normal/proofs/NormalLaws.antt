@@ -1,10 +1,10 @@
-use Rattle.std.proofs.Common.{◌≡◌, ◌≢◌, ◌↔◌, ℕ, zero, suc, ◌+◌, ◌<◌, ◌≤◌, ◌==◌, cond, Some, slice_get, ◌++◌, ◌&&◌, ◌||◌, not, Bool, true, false, List, [], ◌∷◌, All, length, refl, sym, ap, ◌∙◌, subst, arith}
+use Rattle.std.proofs.Common.{◌≡◌, ◌≢◌, ◌↔◌, ℕ, zero, suc, ◌+◌, ◌*◌, ◌<◌, ◌≤◌, ◌==◌, cond, Some, slice_get, ◌++◌, ◌&&◌, ◌||◌, not, Bool, true, false, List, [], ◌∷◌, All, length, refl, sym, ap, ◌∙◌, subst, arith}
 use Rattle.std.specs.Bool.{Decides}
 use Rattle.std.specs.List.{count_by, filter, list_any}
 use Rattle.std.proofs.lemmas.Bool.Decides.{Decides-eqb}
 use Rattle.std.proofs.lemmas.List.Sums.{count_by-le-length, length-filter, sum_by-append, sum_by-cons}
 use Rattle.std.proofs.lemmas.List.Elements.{All-cons}
-use Rattle.std.proofs.lemmas.List.{length-map}
+use Rattle.std.proofs.lemmas.List.{length-append, length-map}
 use Rattle.edit_model.specs.Points.{Point, compares, has_code, linear_sum, rule_holds, test_holds}
 use Rattle.edit_model.specs.declared.rule.Compare.{Compare}
 use Rattle.edit_model.specs.declared.rule.Compare.TheVariants.{Ge, Gt, Le, Lt, Eq}
@@ -236,6 +236,21 @@ implied-few shape sets (Number e ∷ conditions) (Codes field negated codes) = b
     by Lt = omega arith
     by Eq = omega arith
 
+own-few : (shape : List Domain) (rule : Rule) → length (rule_lines_of shape rule) ≤ 2
+own-few shape rule = filtered-few (implied_lines shape (whole_sets shape) rule.conditions rule.conclusion) (implied-few shape (whole_sets shape) rule.conditions rule.conclusion)
+
+-- there are at most twice as many lines as rules
+pub lines-most : (shape : List Domain) (i : ℕ) (rules : List Rule) → length (lines_from shape i rules) ≤ 2 * length rules
+lines-most shape i [] = omega arith
+lines-most shape i (rule ∷ rules) =
+    omega (
+      arith,
+      length-append (numbered i (rule_lines_of shape rule)) (lines_from shape (suc i) rules),
+      length-map {B = RuleLine} (rule_lines_of shape rule) (λ (line : LineParts). record { rule = i; line = line }),
+      own-few shape rule,
+      lines-most shape (suc i) rules,
+    )
+
 count-append : (test : RuleLine → Bool) (first second : List RuleLine) → count_by test (first ++ second) ≡ count_by test first + count_by test second
 count-append test first second = sum_by-append (λ (l : RuleLine). cond (test l) 1 0) first second
 
@@ -268,7 +283,7 @@ lines-few shape i j (rule ∷ rules) = by (i == j) refl (lines-few shape (suc i)
           arith,
           count_by-le-length (λ (l : RuleLine). l.rule == j) (numbered i (rule_lines_of shape rule)),
           length-map {B = RuleLine} (rule_lines_of shape rule) (λ (line : LineParts). record { rule = i; line = line }),
-          filtered-few (implied_lines shape (whole_sets shape) rule.conditions rule.conclusion) (implied-few shape (whole_sets shape) rule.conditions rule.conclusion),
+          own-few shape rule,
         )
 
     by : (b : Bool) → (i == j) ≡ b → count_by (λ (l : RuleLine). l.rule == j) (lines_from shape (suc i) rules) ≤ 2 → count_by (λ (l : RuleLine). l.rule == j) (lines_from shape i (rule ∷ rules)) ≤ 2

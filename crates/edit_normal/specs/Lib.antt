@@ -1,3 +1,4 @@
 pub mod NormalForm
+pub mod RuleEdits
 pub mod RuleLines
 pub mod inner

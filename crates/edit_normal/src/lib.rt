@@ -1,8 +1,9 @@
 //! The normal form of edit rules: each rule as linear edits, which all hold exactly where the rule does.
 //! Begin with [`normal_lines`]; the normal form is defined in `specs/NormalForm.antt`. That it says what
-//! the rules say is the contract of [`normal_form_law`].
+//! the rules say is the contract of [`normal_form_law`]; [`rule_edits`] makes the lines the survey's edits.
 #![tactic(auto)]
 
+mod edits;
 mod layout;
 mod meaning;
 mod narrow;
@@ -11,6 +12,7 @@ mod rule_line;
 mod rule_lines;
 mod side;
 
+pub use edits::rule_edits;
 pub use meaning::normal_form_law;
 pub use normal::normal_lines;
 pub use rule_line::RuleLine;

@@ -1,4 +1,4 @@
-ghost use Rattle.std.specs.Prelude.{◌≡◌, ◌↔◌, ◌≤◌, ◌==◌, ℕ, Some, IfOk, count_by, map, slice_get};
+ghost use Rattle.std.specs.Prelude.{◌≡◌, ◌↔◌, ◌≤◌, ◌==◌, ◌*◌, ℕ, Some, IfOk, count_by, length, map, slice_get};
 ghost use Rattle.edit_model.specs.Points.{HasCodesFrom, Holds, Point};
 ghost use Rattle.edit_model.specs.declared.rule.Rule.{Rule as AnyRule};
 ghost use Rattle.edit_line.specs.Lines.{AreOver};
@@ -20,6 +20,7 @@ pub fn normal_lines(alloc: Global, survey: &Survey) -> Result<Vec<RuleLine>, Out
     ensures lines { IfOk result (λ lines. map (λ l. l.line) lines.items ≡ normal_lines_of survey.now) }
     ensures over { IfOk result (λ lines. AreOver (shape_of survey.now.fields) (map (λ l. l.line) lines.items)) }
     ensures few { IfOk result (λ lines. (i : ℕ) → count_by (λ l. l.rule == i) lines.items ≤ 2) }
+    ensures most { IfOk result (λ lines. length lines.items ≤ 2 * length survey.now.rules) }
     ensures same { IfOk result (λ lines. (i : ℕ) (rule : AnyRule) (p : Point)
         → slice_get survey.now.rules i ≡ Some rule
         → HasCodesFrom 0 survey.now.fields p

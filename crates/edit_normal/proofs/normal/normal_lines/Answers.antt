@@ -1,8 +1,10 @@
-use Rattle.std.proofs.Common.{◌≡◌, ◌≤◌, List, length, subst}
+use Rattle.std.proofs.Common.{◌≡◌, ◌≤◌, ◌*◌, List, length, subst, sym}
 use Rattle.edit_model.specs.declared.rule.Rule.{Rule}
 use Rattle.edit_line.specs.Shapes.{shape_of}
 use Rattle.edit_normal.specs.RuleLines.{lines_from}
 use Rattle.edit_normal.proofs.MeaningLaws.{lines-all, lines-over}
+use Rattle.edit_normal.specs.declared.rule_line.RuleLine.{RuleLine}
+use Rattle.edit_normal.proofs.NormalLaws.{lines-most}
 use Rattle.edit_normal.proofs.RuleForms.{few-answered, lines-answered, rule-codes, rule-more, rules-end}
 use Rattle.edit_normal.proofs.normal.normal_lines.Goals as goal
 
@@ -27,5 +29,6 @@ returns c =
       lines = lines-all survey c.loop-number.lines.items is;
       over = lines-over survey c.loop-number.lines.items is;
       few = few-answered (shape_of survey.fields) survey.rules c.loop-number.lines.items is;
+      most = subst (λ (ls : List RuleLine). length ls ≤ 2 * length survey.rules) (sym is) (lines-most (shape_of survey.fields) 0 survey.rules);
       same = lines-answered survey.fields survey.rules c.loop-number.lines.items is c.rules-rule-items.ensures.well_formed.rules;
     }
