@@ -11,6 +11,7 @@ pub mod EventLaws
 pub mod FieldPlaces
 pub mod KeptLines
 pub mod LeastLaws
+pub mod HistoryLists
 pub mod LetterLaws
 pub mod LineHistories
 pub mod OpenPaths
