@@ -1,7 +1,8 @@
-use Rattle.std.proofs.Common.{List, None, [], ap, arith, false, if◌then◌else◌, length, refl, sym, true, ℕ, ◌++◌, ◌+◌, ◌∙◌, ◌∷◌, ◌≡◌}
+use Rattle.std.proofs.Common.{Bool, List, None, [], ap, arith, drop, false, if◌then◌else◌, length, refl, sym, true, ℕ, ◌&&◌, ◌++◌, ◌+◌, ◌<◌, ◌==◌, ◌||◌, ◌∙◌, ◌∷◌, ◌≡◌, ◌≤◌}
+use Rattle.std.proofs.lemmas.List.{at_drop_all}
 use Rattle.std.specs.List.{fold, list_any}
 use Rattle.derivation.specs.declared.step.Step.{Step}
-use Rattle.edit_paths.specs.Histories.{History, is_element, made_or, maker, making_at, number_in, parts_of, proof_by, renumbered, with_proof, with_step}
+use Rattle.edit_paths.specs.Histories.{Element, History, is_element, made_or, maker, making_at, number_in, parts_of, proof_by, renumbered, with_proof, with_step}
 use Rattle.edit_paths.specs.Levels.{history_of, makings_of}
 use Rattle.edit_paths.specs.declared.levels.Level.{Level}
 use Rattle.edit_paths.specs.declared.making.Making.{Making}
@@ -64,3 +65,50 @@ module _ (levels before : List Level) (level : Level) (place : ℕ) (is : levels
       ∙ ap (λ (ws : List Written). with_step (length before, place) (λ i. maker (history_of before) i) step ws) (sym parts)
       ∙ ap (λ (s : Step). parted ++ record { element = (length before, place); step = s } ∷ []) (sym number)
       )
+
+-- ---- what is written for elements of the lists
+
+-- at the end of a list of parts, all of them have their steps
+pub parts-end : (history : History) (done parted : List Written) (items parts : List ℕ) (i : ℕ) → length items ≤ i → fold (λ done i. with_proof history i done) parted (drop i items) ≡ fold (λ done i. with_proof history i done) done items
+    → items ≡ parts → parted ≡ fold (λ done i. with_proof history i done) done parts
+parts-end history done parted items parts i past kept same =
+    sym (at_drop_all (λ (xs : List ℕ). fold (λ done i. with_proof history i done) parted xs) items i past) ∙ kept ∙ ap (λ (xs : List ℕ). fold (λ done i. with_proof history i done) done xs) same
+
+module _ (e : Element) where
+  abbrev pub is_written : List Written → Bool
+  is_written done = list_any (λ (w : Written). is_element w.element e) done
+
+  fold-apart : (prove : ℕ → List Written → List Written) → ((i : ℕ) (done : List Written) → is_written (prove i done) ≡ is_written done) → (done : List Written) (parts : List ℕ) → is_written (fold (λ done i. prove i done) done parts) ≡ is_written done
+  fold-apart prove each done [] = refl
+  fold-apart prove each done (i ∷ parts) = fold-apart prove each (prove i done) parts ∙ each i done
+
+  last-apart : (done : List Written) (w : Written) → is_element w.element e ≡ false → is_written (done ++ w ∷ []) ≡ is_written done
+  last-apart [] w apart = ap (λ b. b || false) apart
+  last-apart (x ∷ done) w apart = ap (λ b. is_element x.element e || b) (last-apart done w apart)
+
+  -- the steps for an element of the lists prove none of a later list
+  pub proof-apart : (history : History) (place : ℕ) (done : List Written) → length history ≤ e.0 → is_written (with_proof history place done) ≡ is_written done
+  proof-apart [] place done before = refl
+  proof-apart (list ∷ history) place done before = by (λ i done. proof-apart history i done (omega (arith, before))) (making_at list place)
+    where
+      not_same : (n m : ℕ) → n < m → (n == m) ≡ false
+      not_same n m below = grind (arith, below)
+
+      apart : is_element (length history, place) e ≡ false
+      apart = ap (λ b. b && (place == e.1)) (not_same (length history) e.0 (omega (arith, before)))
+
+      by : ((i : ℕ) (done : List Written) → is_written (with_proof history i done) ≡ is_written done) → (m : Making)
+          → is_written (proof_by (length history, place) (λ i. maker history i) (λ i done. with_proof history i done) m done) ≡ is_written done
+      by earlier (Same place) = earlier place done
+      by earlier (By step) = by_new (list_any (λ (w : Written). is_element w.element (length history, place)) done)
+        where
+          by_new : (b : Bool) → is_written (if b then done else with_step (length history, place) (λ i. maker history i) step (fold (λ done i. with_proof history i done) done (parts_of step))) ≡ is_written done
+          by_new true = refl
+          by_new false = last-apart (fold (λ done i. with_proof history i done) done (parts_of step)) _ apart ∙ fold-apart (λ i done. with_proof history i done) earlier done (parts_of step)
+
+-- so the step of an element of the list behind them is new
+pub parts-apart : (before : List Level) (place : ℕ) (done parted : List Written) (parts : List ℕ) → list_any (λ (w : Written). is_element w.element (length before, place)) done ≡ false
+    → parted ≡ fold (λ done i. with_proof (history_of before) i done) done parts → list_any (λ (w : Written). is_element w.element (length before, place)) parted ≡ false
+parts-apart before place done parted parts new are =
+    ap (λ (ws : List Written). is_written (length before, place) ws) are
+    ∙ fold-apart (length before, place) (λ i done. with_proof (history_of before) i done) (λ i done. proof-apart (length before, place) (history_of before) i done (omega (arith, length-history before))) done parts ∙ new

@@ -19,5 +19,6 @@ pub mod OrderLaws
 pub mod PathBoxes
 pub mod PathOrder
 pub mod ReachedLaws
+pub mod StepNumbers
 pub mod StepsWritten
 mod WorkedRows

@@ -8,6 +8,7 @@ mod laws;
 mod levels;
 mod making;
 mod state;
+mod step_list;
 #[cfg(test)]
 mod tests;
 mod writing;

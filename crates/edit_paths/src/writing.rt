@@ -1,11 +1,11 @@
 //! The steps that prove an element of a derived list: each element once, parts before the whole.
-ghost use Rattle.std.specs.Prelude.{◌≡◌, ◌++◌, ◌∷◌, [], IfOk, OnOk, map};
-ghost use Rattle.std.specs.List.{list_any};
-ghost use Rattle.edit_paths.specs.Histories.{is_element, maker, number_in, parts_of, renumbered, steps_to, with_proof};
+ghost use Rattle.std.specs.Prelude.{◌≡◌, IfOk, OnOk, map};
+ghost use Rattle.edit_paths.specs.Histories.{maker, number_in, parts_of, renumbered, steps_to, with_proof};
 ghost use Rattle.edit_paths.specs.Levels.{history_of};
 
 use crate::levels::{Level, earlier_at, making_at};
-use crate::making::{Making, Written};
+use crate::making::Making;
+use crate::step_list::StepList;
 use derivation::Step;
 use foundation::{OutOfMemory, Sequence};
 use std::alloc::Global;
@@ -19,16 +19,9 @@ pub fn write_steps(
 ) -> Result<Sequence<Step>, OutOfMemory>
     ensures { IfOk result (λ steps. steps ≡ steps_to (history_of levels.now) place) }
 {
-    let mut done = Vec::new(alloc);
+    let mut done = StepList::new(alloc);
     prove(alloc, levels, place, &mut done)?;
-    Ok(Sequence::from_vec(steps_of(alloc, done)?))
-}
-
-// The steps alone.
-fn steps_of(alloc: Global, done: Vec<Written>) -> Result<Vec<Step>, OutOfMemory>
-    ensures { IfOk result (λ steps. steps.items ≡ map (λ w. w.step) done.items) }
-{
-    Ok(done.into_iter().map(|written| written.step).collect(alloc)?)
+    done.into_steps(alloc)
 }
 
 // Appends the steps that prove the element at this place of the last list, but for those that stand there.
@@ -36,9 +29,9 @@ fn prove(
     alloc: Global,
     levels: &[Level],
     place: u64,
-    done: &mut Vec<Written>,
+    done: &mut StepList,
 ) -> Result<(), OutOfMemory>
-    ensures { OnOk result (done.new.items ≡ with_proof (history_of levels.now) place done.old.items) }
+    ensures { OnOk result (done.new ≡ with_proof (history_of levels.now) place done.old) }
 {
     let Some((level, before)) = levels.split_last() else {
         return Ok(());
@@ -50,7 +43,7 @@ fn prove(
         }
         Making::By(step) => {
             let element = (before.len() as u64, place);
-            if is_written(done, element) {
+            if done.has(element) {
                 return Ok(());
             }
             let parts = parts_of(alloc, &step)?;
@@ -58,29 +51,10 @@ fn prove(
                 prove(alloc, before, *part, done)?;
             }
             let step = renumbered(alloc, before, done, step)?;
-            done.push(Written { element, step })?;
+            done.push(element, step)?;
             Ok(())
         }
     }
-}
-
-// Whether the element has a step.
-fn is_written(done: &[Written], element: (u64, u64)) -> bool
-    ensures { result ≡ list_any (λ w. is_element w.element element) done.now }
-{
-    done.iter().any(|written| written.element == element)
-}
-
-// The number of the step that proves the element, past the end where there is none.
-fn number_in(done: &[Written], element: (u64, u64)) -> usize
-    ensures { result ≡ number_in done.now element }
-{
-    for (number, written) in done.iter().enumerate() {
-        if written.element == element {
-            return number;
-        }
-    }
-    done.len()
 }
 
 // The element at this place of the last list, where it was made.
@@ -110,17 +84,17 @@ fn parts_of(alloc: Global, step: &Step) -> Result<Vec<u64>, OutOfMemory>
 }
 
 // The number of the step that proves the element at this place of the last list.
-fn part_number(levels: &[Level], done: &[Written], place: u64) -> u64
+fn part_number(levels: &[Level], done: &StepList, place: u64) -> u64
     ensures { result ≡ number_in done.now (maker (history_of levels.now) place) }
 {
-    number_in(done, maker(levels, place)) as u64
+    done.number_of(maker(levels, place))
 }
 
 // The numbers of the steps that prove the elements at these places of the last list.
 fn part_numbers(
     alloc: Global,
     levels: &[Level],
-    done: &[Written],
+    done: &StepList,
     parts: &[u64],
 ) -> Result<Vec<u64>, OutOfMemory>
     ensures { IfOk result (λ numbers. numbers.items ≡ map (λ i. number_in done.now (maker (history_of levels.now) i)) parts.now) }
@@ -137,7 +111,7 @@ fn part_numbers(
 fn renumbered(
     alloc: Global,
     levels: &[Level],
-    done: &[Written],
+    done: &StepList,
     step: Step,
 ) -> Result<Step, OutOfMemory>
     ensures { IfOk result (λ with. with ≡ renumbered (λ i. number_in done.now (maker (history_of levels.now) i)) step) }

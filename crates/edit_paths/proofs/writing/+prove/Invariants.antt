@@ -9,6 +9,6 @@ decreases-prove l = length l.levels.now
 
 abbrev pub invariant-loop-part : goal.invariant-loop-part
 invariant-loop-part l =
-    (fold (λ done i. with_proof (history_of l.before) i done) l.done.items (drop l.part-index l.part-items)
-    ≡ fold (λ done i. with_proof (history_of l.before) i done) l.initial.done.items l.part-items)
+    (fold (λ done i. with_proof (history_of l.before) i done) l.done (drop l.part-index l.part-items)
+    ≡ fold (λ done i. with_proof (history_of l.before) i done) l.initial.done l.part-items)
     × (l.step ≡ l.initial.step)
