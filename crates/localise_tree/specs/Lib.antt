@@ -1,0 +1,2 @@
+pub mod KeptFields
+pub mod inner
