@@ -1,14 +1,12 @@
 //! Certificates over the lines of surveys' rules.
 
 use super::derivations::{Plan, all_but, steps_of};
-use super::reading::{HOUSEHOLD, TRADE, given_lines, row_of, rule_lines, survey_of};
+use super::reading::{HOUSEHOLD, given_lines, row_of, rule_lines, survey_of};
 use Plan::{Cover, Fail as Fails, Fix, Given, Sum};
-use Why::{Bound, Box, Line};
+use Why::{Blank, Bound, Box, Line};
 use bound_cert::{Cert, CertFault, Leaf, LeafWhy, Path, check_cert};
 use edit_model::Value;
-use edit_model::Value::{Bad, Code, Number};
 use foundation::Sequence;
-use fraction128::Fraction;
 use std::alloc::Global;
 use std::test::Fail;
 
@@ -24,17 +22,21 @@ enum Why {
 /// A leaf: the letters of its path, K for kept and C for changed, and why it is valid.
 type LeafPlan = (&'static [u8], Why);
 
-/// A survey's rules, the place of a line that may not be used, and a record's values.
+/// A survey's rules, and a record's codes, where they are known.
 #[derive(Clone, Copy)]
 struct Question {
     rules: &'static [u8],
-    left_out: usize,
-    values: [Value; 3],
+    codes: [Option<u8>; 3],
 }
 
-/// What a tree is to show: a weight, or, without one, that there is no correction; its leaves; and what is
-/// to be answered: nothing where it is valid, else the leaf at fault and the step.
-type Case = (Option<u64>, &'static [LeafPlan], Option<(u64, Option<u64>)>);
+/// What a tree is to show of a record: a weight, or, without one, that there is no correction; its leaves; and
+/// what is to be answered: nothing where it is valid, else the leaf at fault and the step.
+type Case = (
+    Question,
+    Option<u64>,
+    &'static [LeafPlan],
+    Option<(u64, Option<u64>)>,
+);
 
 fn leaf_of(alloc: Global, plan: &LeafPlan) -> Result<Leaf, Fail> {
     let (text, why) = plan;
@@ -64,6 +66,13 @@ fn cert_of(alloc: Global, plans: &[LeafPlan]) -> Result<Cert, Fail> {
     })
 }
 
+fn value_of(code: Option<u8>) -> Value {
+    match code {
+        Some(code) => Value::Code(code),
+        None => Value::Bad,
+    }
+}
+
 /// What the checker answers of the tree.
 fn checked(
     alloc: Global,
@@ -73,8 +82,9 @@ fn checked(
 ) -> Result<Result<(), CertFault>, Fail> {
     let survey = survey_of(alloc, question.rules)?;
     let given = given_lines(alloc, &survey, &rule_lines(alloc, &survey)?)?;
-    let usable = all_but(alloc, given.len(), question.left_out)?;
-    let row = row_of(alloc, &survey, &question.values)?;
+    let usable = all_but(alloc, given.len(), usize::MAX)?;
+    let [a, b, c] = question.codes;
+    let row = row_of(alloc, &survey, &[value_of(a), value_of(b), value_of(c)])?;
     Ok(check_cert(alloc, &survey, &given, &usable, &row, cert, weight))
 }
 
@@ -87,64 +97,14 @@ fn is_told(answer: Result<(), CertFault>, told: Option<(u64, Option<u64>)>) -> b
 }
 
 /// The first of the trees of which something else is answered.
-fn first_wrong(alloc: Global, question: &Question, cases: &[Case]) -> Result<Option<usize>, Fail> {
-    for (i, (weight, leaves, told)) in cases.iter().enumerate() {
+fn first_wrong(alloc: Global, cases: &[Case]) -> Result<Option<usize>, Fail> {
+    for (i, (question, weight, leaves, told)) in cases.iter().enumerate() {
         let cert = cert_of(alloc, leaves)?;
         if !is_told(checked(alloc, question, &cert, *weight)?, *told) {
             return Ok(Some(i));
         }
     }
     Ok(None)
-}
-
-// the line at place 2 fails at 100, 60 and 400
-const KKK: LeafPlan = (b"KKK", Line(&[Given(2)]));
-
-const KKC: LeafPlan = (b"KKC", Bound);
-
-const KC: LeafPlan = (b"KC", Bound);
-
-const C: LeafPlan = (b"C", Bound);
-
-const TRADE_TREES: &[Case] = &[
-    (Some(1), &[KKK, KKC, KC, C], None),
-    // a bound that is too light; without a weight none is heavy enough
-    (Some(2), &[KKK, KKC, KC, C], Some((1, None))),
-    (None, &[KKK, KKC, KC, C], Some((1, None))),
-    // no leaves; a branch is missing, within and at the end; leaves are swapped
-    (Some(1), &[], Some((0, None))),
-    (Some(1), &[KKK, KC, C], Some((1, None))),
-    (Some(1), &[KKK, KKC, KC], Some((2, None))),
-    (Some(1), &[KKK, KC, KKC, C], Some((1, None))),
-    // no field without a value is kept; a line that may not be used
-    (
-        Some(1),
-        &[KKK, (b"KKC", Why::Blank), KC, C],
-        Some((1, None)),
-    ),
-    (
-        Some(1),
-        &[(b"KKK", Line(&[Given(2), Given(1)])), KKC, KC, C],
-        Some((0, Some(1))),
-    ),
-];
-
-fn whole(number: i128) -> Value {
-    if number == i128::MIN {
-        return Bad;
-    }
-    Number(Fraction::whole(number))
-}
-
-#[test]
-fn a_trade_record_is_changed_at_one_field(rt: HostRuntime) -> Result<(), Fail> {
-    let trade = Question {
-        rules: TRADE,
-        left_out: 1,
-        values: [whole(100), whole(60), whole(400)],
-    };
-    assert_eq!(rt; first_wrong(rt.alloc(), &trade, TRADE_TREES)?, None);
-    Ok(())
 }
 
 // that a child is single is violated
@@ -161,59 +121,74 @@ const STATUS_CHANGED: [Plan; 7] = [
     Fix(2, 5),
 ];
 
-const HOUSEHOLD_LEAVES: &[LeafPlan] = &[
-    (b"KK", Box(&ALL_KEPT)),
-    (b"KCK", Box(&STATUS_CHANGED)),
-    (b"KCC", Bound),
-    (b"CKK", Bound),
-    (b"CKC", Bound),
-    (b"CC", Bound),
-];
+const KK: LeafPlan = (b"KK", Box(&ALL_KEPT));
 
-#[test]
-fn the_age_of_a_child_that_is_a_married_spouse_is_changed(rt: HostRuntime) -> Result<(), Fail> {
-    let household = Question {
-        rules: HOUSEHOLD,
-        left_out: usize::MAX,
-        values: [Code(0), Code(1), Code(0)],
-    };
-    let cases: &[Case] = &[
-        (Some(1), HOUSEHOLD_LEAVES, None),
-        (Some(2), HOUSEHOLD_LEAVES, Some((3, None))),
-    ];
-    assert_eq!(rt; first_wrong(rt.alloc(), &household, cases)?, None);
-    Ok(())
-}
+const KCK: LeafPlan = (b"KCK", Box(&STATUS_CHANGED));
 
-/// `A >= 5` and `A <= 3`.
-const APART: &[u8] = b"number A
+const KCC: LeafPlan = (b"KCC", Bound);
+
+const CKK: LeafPlan = (b"CKK", Bound);
+
+const CKC: LeafPlan = (b"CKC", Bound);
+
+const CC: LeafPlan = (b"CC", Bound);
+
+/// A child that is a married spouse: the lightest correction weighs 1.
+const SPOUSE: Question = Question {
+    rules: HOUSEHOLD,
+    codes: [Some(0), Some(1), Some(0)],
+};
+
+/// `A >= 5` and `A <= 3`, of a record of which nothing is known.
+const APART: Question = Question {
+    rules: b"number A
 number B
 number C
 A >= 5
 A <= 3
-";
+",
+    codes: [None; 3],
+};
 
-// A is 4, or whatever it is; then A has no value
-const APART_TREES: &[Case] = &[(
-    None,
-    &[
-        (b"K", Line(&[Given(0)])),
-        (b"C", Line(&[Given(0), Given(1), Sum(0, 1, 1, 2)])),
-    ],
-    None,
-)];
-
-const BLANK_TREES: &[Case] = &[(Some(1), &[(b"K", Why::Blank), C], None)];
+const TREES: &[Case] = &[
+    (SPOUSE, Some(1), &[KK, KCK, KCC, CKK, CKC, CC], None),
+    (
+        SPOUSE,
+        Some(2),
+        &[KK, KCK, KCC, CKK, CKC, CC],
+        Some((3, None)),
+    ),
+    // no leaves; a branch is missing, within and at the end; leaves are swapped
+    (SPOUSE, Some(1), &[], Some((0, None))),
+    (SPOUSE, Some(1), &[KK, CKK, CKC, CC], Some((1, None))),
+    (SPOUSE, Some(1), &[KK, KCK, KCC, CKK, CKC], Some((4, None))),
+    (
+        SPOUSE,
+        Some(1),
+        &[KK, KCK, KCC, CKC, CKK, CC],
+        Some((3, None)),
+    ),
+    // steps of another leaf, where status is not kept
+    (
+        SPOUSE,
+        Some(1),
+        &[KK, (b"KCK", Box(&ALL_KEPT)), KCC, CKK, CKC, CC],
+        Some((1, Some(3))),
+    ),
+    // no correction: what is not known is not kept, and the lines contradict each other
+    (
+        APART,
+        None,
+        &[
+            (b"K", Blank),
+            (b"C", Line(&[Given(0), Given(1), Sum(0, 1, 1, 2)])),
+        ],
+        None,
+    ),
+];
 
 #[test]
-fn two_lines_that_contradict_each_other_leave_no_correction(rt: HostRuntime) -> Result<(), Fail> {
-    for (first, trees) in [(whole(4), APART_TREES), (Bad, BLANK_TREES)] {
-        let apart = Question {
-            rules: APART,
-            left_out: usize::MAX,
-            values: [first, whole(0), whole(0)],
-        };
-        assert_eq!(rt; first_wrong(rt.alloc(), &apart, trees)?, None);
-    }
+fn trees_are_checked_leaf_by_leaf(rt: HostRuntime) -> Result<(), Fail> {
+    assert_eq!(rt; first_wrong(rt.alloc(), TREES)?, None);
     Ok(())
 }
