@@ -14,8 +14,6 @@ mod outcome;
 mod path;
 mod path_fields;
 mod task;
-#[cfg(test)]
-mod tests;
 mod verdict;
 
 pub use cert::{Cert, Leaf, LeafWhy};

@@ -1,6 +1,6 @@
 //! Boxes of records, and what is left of them without a field.
 ghost use Rattle.std.specs.Prelude.{◌≡◌, ◌<◌, true};
-ghost use Rattle.edit_line.specs.CodeFields.{TakesCodes, size_of};
+ghost use Rattle.edit_line.specs.CodeFields.{size_of};
 ghost use Rattle.edit_line.specs.Shapes.{domains_of};
 ghost use Rattle.categ_combine.specs.BoxLists.{AreBoxesOver};
 
@@ -56,7 +56,7 @@ fn without(
     most: u64,
 ) -> Result<Covered, Fail> {
     let shape = Shape::of(survey);
-    if !takes_codes(&shape, field) || !are_over(shape, boxes) {
+    if !has_code(&shape, field, 0) || !are_over(shape, boxes) {
         return Err("boxes over a field of codes")?;
     }
     Ok(cat_step(alloc, boxes, field, most).ok().ok_or("memory")?)
@@ -75,12 +75,6 @@ fn left(
         return Err("boxes over a field that has the code")?;
     }
     Ok(fix(alloc, boxes, field, code)?)
-}
-
-fn takes_codes(shape: &Shape, field: u32) -> bool
-    ensures { result ≡ true → TakesCodes (domains_of shape.now.count shape.now.codes) field }
-{
-    0 < shape.size_of(field)
 }
 
 fn has_code(shape: &Shape, field: u32, code: u8) -> bool

@@ -1,9 +1,11 @@
-//! Tests over the crates of linear edits and elimination: what their clauses mean in numbers, and that memory
+//! Tests over the crates of linear edits, elimination and certificates: what their clauses mean in numbers, and that memory
 //! suffices for each call. They stand in a crate of their own, since a crate with tests is proved twice.
 #![tactic(auto)]
 
 #[cfg(test)]
 mod boxes;
+#[cfg(test)]
+mod certificates;
 #[cfg(test)]
 mod derivations;
 #[cfg(test)]

@@ -1,14 +1,12 @@
 //! Surveys and what is made of them, each tested for what the calls ask.
-ghost use Rattle.std.specs.Prelude.{◌≡◌, ◌≢◌, All, IfOk, false, true};
+ghost use Rattle.std.specs.Prelude.{◌≡◌, All, IfOk, true};
 ghost use Rattle.std.specs.Arc.{arc_value};
 ghost use Rattle.fraction128.specs.Range.{InRange};
 ghost use Rattle.edit_model.specs.Rows.{IsOfKind, IsRow};
-ghost use Rattle.edit_model.specs.declared.value.Value.TheVariants.{Bad};
 ghost use Rattle.edit_line.specs.Lines.{AreOver};
 ghost use Rattle.edit_line.specs.Sets.{AreSets};
 ghost use Rattle.edit_line.specs.Shapes.{domains_of, has_field, shape_of};
 ghost use Rattle.linear_elim.specs.Systems.{AreNumerical};
-ghost use Rattle.derivation.specs.Premises.{HasKept};
 
 use edit_language::read_rules;
 use edit_line::{Derived, Edits, Line, Origin, Shape};
@@ -224,38 +222,6 @@ pub(crate) fn row_of(alloc: Global, survey: &Survey, values: &[Value]) -> Result
         return Err("a record")?;
     }
     Ok(Row::new(survey, Vec::from_slice(alloc, values)?))
-}
-
-/// The set of these fields, at which the record has values.
-pub(crate) fn kept_of(row: &Row, fields: &[u32]) -> Result<FieldSet, Fail>
-    ensures { IfOk result (λ kept. HasKept row.now kept) }
-{
-    let mut kept = FieldSet::empty();
-    for field in fields {
-        kept = with_kept(row, kept, *field)?;
-    }
-    Ok(kept)
-}
-
-/// The set with the field more.
-fn with_kept(row: &Row, kept: FieldSet, field: u32) -> Result<FieldSet, Fail>
-    requires { HasKept row.now kept }
-    ensures { IfOk result (λ more. HasKept row.now more) }
-{
-    if field >= 64 || field as usize >= row.values().len() || is_bad(row.value(field)) {
-        return Err("a field with a value")?;
-    }
-    Ok(kept.with(field))
-}
-
-fn is_bad(value: &Value) -> bool
-    ensures { result ≡ false → value.now ≢ Bad }
-{
-    match value {
-        Value::Bad => true,
-        Value::Code(_) => false,
-        Value::Number(_) => false,
-    }
 }
 
 /// Numbers the lines by their places.

@@ -8,7 +8,7 @@ use edit_line::{Derived, Origin, Place};
 use edit_model::Survey;
 use edit_normal::RuleLine;
 use foundation::Steps;
-use linear_elim::{Held, Recompute, SystemFault, Systems, pairs, step};
+use linear_elim::{Held, Recompute, SystemFault, Systems};
 use std::alloc::Global;
 use std::marker::Brand;
 use std::sync::ledger::{Blank, Ledger};
@@ -52,6 +52,24 @@ const CASES: &[Case] = &[
                 g: 3,
             },
         )],
+    ),
+    (
+        TRADE,
+        &[1],
+        &[
+            ((&[], &[1, 0, 0], 0, false), Origin::Same(0)),
+            ((&[], &[3, 0, -5], 0, false), Origin::Same(4)),
+            (
+                (&[], &[1, 0, -1], 0, false),
+                Origin::Pair {
+                    a: 1,
+                    m: 1,
+                    b: 2,
+                    n: 1,
+                    g: 1,
+                },
+            ),
+        ],
     ),
     (
         TRADE,
@@ -113,39 +131,6 @@ fn first_wrong(alloc: Global, cases: &[Case]) -> Result<Option<usize>, Fail> {
 #[test]
 fn fields_are_eliminated(rt: HostRuntime) -> Result<(), Fail> {
     assert_eq!(rt; first_wrong(rt.alloc(), CASES)?, None);
-    Ok(())
-}
-
-/// How many pairs a step from the trade survey combines at the costs, and its lines.
-fn stepped(alloc: Global) -> Result<(u128, Vec<Derived>), Fail> {
-    let survey = survey_of(alloc, TRADE)?;
-    let lines = rule_lines(alloc, &survey)?;
-    let held = system_of(alloc, &survey, &lines, &[])?.ok().ok_or("edits")?;
-    let lines = held.system().lines();
-    Ok((pairs(lines, 1), step(alloc, lines, 1).ok().ok_or("lines")?))
-}
-
-#[test]
-fn a_step_from_the_trade_survey(rt: HostRuntime) -> Result<(), Fail> {
-    let (count, lines) = stepped(rt.alloc())?;
-    let origin = Origin::Pair {
-        a: 1,
-        m: 1,
-        b: 2,
-        n: 1,
-        g: 1,
-    };
-    assert_eq!(rt; count, 2);
-    assert!(rt;
-        are_lines(
-            &lines,
-            &[
-                ((&[], &[1, 0, 0], 0, false), Origin::Same(0)),
-                ((&[], &[3, 0, -5], 0, false), Origin::Same(4)),
-                ((&[], &[1, 0, -1], 0, false), origin),
-            ]
-        )
-    );
     Ok(())
 }
 

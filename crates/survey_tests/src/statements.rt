@@ -1,9 +1,6 @@
 //! Lines as statements.
 
-use edit_model::Compare;
-use rule_grammar::{
-    Declaration, LineText, Numeral, Sign, Statement, SumText, TermText, TestText, read_line,
-};
+use rule_grammar::{LineText, Statement, read_line};
 use std::alloc::Global;
 use std::process::Abort;
 use std::test::Fail;
@@ -52,63 +49,6 @@ fn a_line_is_a_statement_or_unreadable(rt: HostRuntime) -> Result<(), Fail> {
             ("abcdefghijklmnopqrstuvwxyz0123456 = 0", "unreadable"),
         ],
     )
-}
-
-/// Whether the declaration is of A with weight 7, and a scale that has a point.
-fn is_declaration_of_a(declaration: &Declaration) -> bool {
-    match declaration {
-        Declaration::Number {
-            name,
-            weight: Some(Numeral::Whole(7)),
-            scale: Some(Numeral::OutOfRange),
-        } => name.as_bytes() == b"A".as_slice(),
-        _ => false,
-    }
-}
-
-/// Whether the sum is twice A with a minus sign and a `*`, and nothing more.
-fn is_minus_twice_a(sum: &SumText) -> bool {
-    match &sum.first {
-        TermText::Product {
-            factor: Numeral::Whole(2),
-            times: true,
-            field,
-        } => {
-            field.as_bytes() == b"A".as_slice()
-                && sum.sign == Some(Sign::Minus)
-                && sum.rest.is_empty()
-        }
-        _ => false,
-    }
-}
-
-/// Whether the statement is the one declaration, or says that the sum is below the other side.
-fn has_its_parts(statement: &Statement) -> bool {
-    match statement {
-        Statement::Declaration(declaration) => is_declaration_of_a(declaration),
-        Statement::Rule(rule) => match &rule.conclusion {
-            TestText::Sums {
-                left,
-                compare: Compare::Lt,
-                ..
-            } => is_minus_twice_a(left),
-            _ => false,
-        },
-    }
-}
-
-#[test]
-fn a_statement_has_the_parts_that_are_written(rt: HostRuntime) -> Result<(), Fail> {
-    for text in [
-        "number A weight 007 scale 1.5",
-        "- 2 * A < 1000000000000001",
-    ] {
-        match read_line(rt.alloc(), text.as_bytes())? {
-            LineText::Says(statement) => assert!(rt; has_its_parts(&statement), "at {text}"),
-            _ => return Err(Fail::from("a statement")),
-        }
-    }
-    Ok(())
 }
 
 // The parser does not go deeper with each term.
