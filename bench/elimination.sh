@@ -17,7 +17,7 @@
 # field, which makes the same edits, is taken off) and its pairs a second; and where the script runs too, its
 # seconds for the fold alone and how many times as fast the program is. The script's pairs and lines are
 # compared, step by step, and a difference ends the run with status 1. It is not run where it takes minutes.
-# The pairs a second fall with the lines that are kept, since each new line is compared with them all.
+# The pairs a second fall with the lines that are kept, since the key of each new line is compared with those of all.
 #
 # How to read the second table: the kind of step, the steps, the seconds of the whole run, and the steps a
 # second, which should stay the same however many steps there are. `given` steps name given lines, `sums` add
