@@ -12,7 +12,7 @@ use Rattle.edit_model.specs.declared.field.Field.{Field}
 use Rattle.edit_line.specs.EditSets.{AreEdits}
 use Rattle.edit_line.specs.Lines.{IsLine, LineParts, parts_of}
 use Rattle.edit_line.specs.Sets.{AreSets}
-use Rattle.edit_line.specs.Shapes.{Domain, IsNumerical, has_field, number_fields, shape_of, whole_sets}
+use Rattle.edit_line.specs.Shapes.{Domain, IsNumerical, has_field, shape_of, whole_sets}
 use Rattle.fraction128.specs.Range.{InRange}
 use Rattle.edit_line.proofs.ShapeLaws.{number_fields-same}
 use Rattle.linear_elim.specs.Systems.{AreNumerical}
