@@ -1,28 +1,23 @@
-use Rattle.std.proofs.Common.{◌≡◌, ◌≢◌, ℕ, ℤ, zero, suc, ◌+◌, ◌<◌, ◌==◌, Bool, true, false, List, [], ◌∷◌, ◌++◌, All, length, map, refl, sym, ap, ◌∙◌, subst, add-one, arith}
+use Rattle.std.proofs.Common.{◌≡◌, ◌≢◌, ℕ, ℤ, zero, suc, ◌+◌, ◌==◌, Bool, true, false, List, [], ◌∷◌, ◌++◌, All, length, map, refl, sym, ap, ◌∙◌, subst, add-one, arith}
 use Rattle.std.specs.Bool.{Decides}
 use Rattle.std.specs.List.{range_with_len}
 use Rattle.std.specs.List.Sorted.{IsStrictlyIncreasing}
 use Rattle.std.proofs.lemmas.List.FromFn.{get_or-range_with_len, length-range_with_len}
 use Rattle.std.proofs.lemmas.Bool.Decides.{Decides-eqb}
 use Rattle.std.proofs.lemmas.List.{map-append}
-use Rattle.std.proofs.lemmas.List.Elements.{All-push, All-weaker}
+use Rattle.std.proofs.lemmas.List.Elements.{All-push}
 use Rattle.edit_model.specs.Corrections as corrections
 use Rattle.edit_model.specs.FieldSets.{has_number}
-use Rattle.edit_model.specs.Rows.{value_of}
-use Rattle.edit_model.specs.Trials.{IsNumberValue}
 use Rattle.edit_model.specs.declared.field.Field.{Field}
-use Rattle.edit_model.specs.declared.value.Value.{Value}
 use Rattle.edit_line.specs.EditSets.{AreEdits}
 use Rattle.edit_line.specs.Lines.{IsLine, LineParts, parts_of}
 use Rattle.edit_line.specs.Sets.{AreSets}
-use Rattle.edit_line.specs.Shapes.{Domain, IsNumerical, has_field, number_fields, shape_of, whole_sets}
+use Rattle.edit_line.specs.Shapes.{Domain, IsNumerical, has_field, shape_of, whole_sets}
 use Rattle.fraction128.specs.Range.{InRange}
-use Rattle.edit_line.specs.Sums.{AtFactors, HasNumbers}
-use Rattle.edit_line.specs.declared.derived.Derived.{Derived}
 use Rattle.edit_line.proofs.ShapeLaws.{number_fields-same}
 use Rattle.linear_elim.specs.Systems.{AreNumerical}
 
--- What the tests owe: fields of a kind, and numbered lines.
+-- What the tests owe: lines that were looked at, fields of a kind, and numbered lines.
 
 -- the line of sets and numbers that were looked at
 pub planned-line : (fields : List Field) (shape : List Domain) (wholes plan sets numbers : List ℕ) (given factors : List ℤ) (constant : ℤ) (strict : Bool) → shape ≡ shape_of fields → wholes ≡ whole_sets shape → AreSets plan wholes → sets ≡ plan
