@@ -1,4 +1,4 @@
-ghost use Rattle.std.specs.Prelude.{◌≡◌, ◌||◌, ◌<◌, ◌-◌, ◌++◌, [], ◌∷◌, drop, length, not, take, OnErr, OnOk};
+ghost use Rattle.std.specs.Prelude.{◌≡◌, ◌<◌, ◌-◌, ◌++◌, [], ◌∷◌, drop, length, not, take, OnErr, OnOk};
 ghost use Rattle.std.specs.List.{filter, list_any};
 ghost use Rattle.std.specs.Vec.{vec_capacity, vec_len};
 ghost use Rattle.edit_line.specs.inner.Keys.{NoneOver, NoneUnder, key_of, keys_of};
