@@ -68,7 +68,8 @@ fn push_leaves<S: Systems, L: Ledger>(
     requires fit { length letters.old.items ≤ field_count (case_in problem.now) }
     ensures letters { OnOk result (letters.new.items ≡ letters.old.items) }
     ensures leaves { OnOk result ((paths : List (List Bool)) → Knows (case_in problem.now) paths known.now
-        → leaves.new.items ≡ leaves.old.items ++ leaves_from (case_in problem.now) paths (field_count (case_in problem.now) - length letters.old.items) letters.old.items) }
+        → leaves.new.items ≡ leaves.old.items
+        ++ leaves_from (case_in problem.now) paths (field_count (case_in problem.now) - length letters.old.items) letters.old.items) }
     ensures serves { (e : EditsParts) → S.serves source.old e → S.serves source.new e }
     ensures keeps { (f : ℕ) → S.keeps source.old f ≡ true → S.keeps source.new f ≡ true }
 {

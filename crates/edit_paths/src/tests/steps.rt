@@ -79,22 +79,28 @@ fn boxes(alloc: Global, survey: &Survey, field: u32, origins: Vec<BoxOrigin>) ->
     })
 }
 
-#[test]
-fn a_line_that_two_boxes_come_from_is_given_once(rt: HostRuntime) -> Result<(), Fail> {
-    let alloc = rt.alloc();
-    let survey = survey_of_one(alloc)?;
-    let edits = edit(alloc, &survey, 7)?;
+// A line, two boxes of it, their cover, and the cover as it was.
+fn levels(alloc: Global, survey: &Survey) -> Result<Vec<Level>, Fail>
+    requires { shape_of survey.now.fields ≡ Numerical ∷ [] }
+{
+    let given = lines_alone(alloc, &edit(alloc, survey, 7)?)?;
     let failing = vec![in alloc; BoxOrigin::Failing(0), BoxOrigin::Failing(0)]?;
     let parts = Sequence::from_vec(vec![in alloc; 1, 0, 1]?);
     let cover = vec![in alloc; BoxOrigin::Fixed(0), BoxOrigin::Cover(parts)]?;
     let unchanged = vec![in alloc; BoxOrigin::Unchanged(1)]?;
-    let levels = vec![in alloc;
-        Level::Lines(lines_alone(alloc, &edits)?),
-        boxes(alloc, &survey, 0, failing)?,
-        boxes(alloc, &survey, 1, cover)?,
-        boxes(alloc, &survey, 2, unchanged)?,
-    ]?;
-    let steps = write_steps(alloc, &levels, 0)?;
+    Ok(vec![in alloc;
+        Level::Lines(given),
+        boxes(alloc, survey, 0, failing)?,
+        boxes(alloc, survey, 1, cover)?,
+        boxes(alloc, survey, 2, unchanged)?,
+    ]?)
+}
+
+#[test]
+fn a_line_that_two_boxes_come_from_is_given_once(rt: HostRuntime) -> Result<(), Fail> {
+    let alloc = rt.alloc();
+    let survey = survey_of_one(alloc)?;
+    let steps = write_steps(alloc, &levels(alloc, &survey)?, 0)?;
     let text = format!(in alloc; "{:?}", steps.as_slice())?;
     assert_eq!(rt;
         text.as_str(),
