@@ -1,2 +1,4 @@
+pub mod Histories
+pub mod Knowns
 pub mod Problems
 pub mod Takens

@@ -5,5 +5,8 @@
 #![tactic(auto)]
 
 mod best_first;
+mod certificates;
+mod histories;
+mod known;
 mod number_paths;
 mod problem;

@@ -1,5 +1,5 @@
-use Rattle.std.proofs.Common.{List, ap, drop, length, sym, ℕ, ◌+◌, ◌∙◌}
-use Rattle.std.specs.List.{fold, list_any}
+use Rattle.std.proofs.Common.{List, ap, drop, sym, ℕ, ◌+◌, ◌∙◌}
+use Rattle.std.specs.List.{fold}
 use Rattle.std.proofs.lemmas.List.{at_drop_more}
 use Rattle.derivation.specs.declared.step.Step.{Step}
 use Rattle.edit_paths.specs.Histories.{maker, number_in, renumbered, with_proof}
