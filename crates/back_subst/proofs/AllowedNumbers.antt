@@ -18,7 +18,7 @@ use Rattle.linear_elim.specs.Systems.{system}
 use Rattle.linear_elim.proofs.PointLaws.{LineHolds-others, LineHolds-same, amount-put, holds-put, map-agree, put, put-code, put-differs, rest_at}
 use Rattle.linear_elim.proofs.SystemLaws.{HaveShape-system, system-follows, system-holds, system-lifts}
 use Rattle.back_subst.specs.Allowed.{AllowsNumber, Completes}
-use Rattle.back_subst.specs.Bounds.{DecideFor}
+use Rattle.back_subst.specs.inner.Bounds.{DecideFor}
 use Rattle.back_subst.proofs.FieldPoints.{Agrees-carried, HasCodesFrom-same, SameNumber, SameNumber-sym, SameNumber-trans, apart-absent, both-code, both-number, code-at, absent-apart, factor-numerical, number-at, number-listed, number-no_code}
 
 -- The numbers that a field may be given are those within the bounds of the lines of the system of the numerical fields that are left after it.

@@ -8,7 +8,7 @@ use Rattle.fraction128.specs.declared.fraction.Fraction.{Fraction}
 use Rattle.fraction128.proofs.FractionOrder.{IsBelow}
 use Rattle.edit_line.specs.Subsumption.{is_enough}
 use Rattle.back_subst.specs.NumberWalk.{inside_by, is_tighter}
-use Rattle.back_subst.specs.Sides.{found_of, side_of}
+use Rattle.back_subst.specs.inner.Sides.{found_of, side_of}
 use Rattle.back_subst.specs.declared.bound.Bound.{Bound}
 use Rattle.back_subst.proofs.BoundLaws.{minus, once}
 

@@ -27,14 +27,14 @@ use Rattle.categ_combine.proofs.CoverLaws.{HaveSets}
 use Rattle.derivation.proofs.CoverLaws.{code-below}
 use Rattle.edit_line.specs.Sets.{all_inside}
 use Rattle.back_subst.specs.Allowed.{AgreesBut, AllowsCode, Completes}
-use Rattle.back_subst.specs.Bounds.{DecideFor}
-use Rattle.back_subst.specs.Codes.{boxes_for}
+use Rattle.back_subst.specs.inner.Bounds.{DecideFor}
+use Rattle.back_subst.specs.inner.Codes.{boxes_for}
+use Rattle.back_subst.specs.inner.UnderWay.{AreDistinct}
 use Rattle.back_subst.proofs.CodeDomains.{HasCodes-same, HasCodes-with, code-other, code-own}
 use Rattle.back_subst.proofs.FieldPoints.{Agrees-carried, SameNumber, SameNumber-trans, absent-apart, agrees-held, code-at, factor-numerical, no_code-before, number-at, number-listed, number-no_code}
 use Rattle.back_subst.proofs.NumberLaws.{code-agreed}
 use Rattle.back_subst.proofs.Rests.{at-factors}
 use Rattle.back_subst.proofs.SettledBoxes.{HasCodesOf, IsLifted, settled-holds, settled-lifts}
-use Rattle.back_subst.specs.UnderWay.{AreDistinct}
 use Rattle.linear_elim.proofs.FlatLaws.{system-flat}
 
 -- The codes that a field may be given are those that no box has, after the other fields are settled.

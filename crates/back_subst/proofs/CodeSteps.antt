@@ -19,9 +19,9 @@ use Rattle.edit_line.proofs.ShapeLaws.{length-wholes}
 use Rattle.categ_combine.specs.BoxLists.{AreBoxesOver, sets_of}
 use Rattle.categ_combine.specs.Fixing.{fixed}
 use Rattle.categ_combine.specs.declared.box_from.BoxFrom.{BoxFrom}
-use Rattle.back_subst.specs.Codes.{IsFree, is_free_at, settled_at, settled_but, settled_by}
 use Rattle.back_subst.specs.Given.{IsGivenCode}
-use Rattle.back_subst.specs.UnderWay.{AreBlankBut}
+use Rattle.back_subst.specs.inner.Codes.{IsFree, is_free_at, settled_at, settled_but, settled_by}
+use Rattle.back_subst.specs.inner.UnderWay.{AreBlankBut}
 use Rattle.back_subst.proofs.FieldPoints.{code-at}
 
 -- The code of a field, as the code finds it.

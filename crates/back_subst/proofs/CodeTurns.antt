@@ -27,11 +27,11 @@ use Rattle.linear_elim.proofs.FlatLaws.{system-flat}
 use Rattle.categ_combine.specs.FailingBoxes.{failing_boxes}
 use Rattle.edit_line.proofs.FieldLists.{has-append}
 use Rattle.back_subst.specs.Allowed.{AllowsCode, Completes}
-use Rattle.back_subst.specs.Bounds.{DecideFor}
-use Rattle.back_subst.specs.Codes.{IsFree, boxes_for}
-use Rattle.edit_model.specs.RowPoints.{code_in}
 use Rattle.back_subst.specs.Given.{IsGiven, IsGivenCode}
-use Rattle.back_subst.specs.UnderWay.{AreBlankBut, AreCodesToGive, IsUnderWay}
+use Rattle.back_subst.specs.inner.Bounds.{DecideFor}
+use Rattle.back_subst.specs.inner.Codes.{IsFree, boxes_for}
+use Rattle.back_subst.specs.inner.UnderWay.{AreBlankBut, AreCodesToGive, IsUnderWay}
+use Rattle.edit_model.specs.RowPoints.{code_in}
 use Rattle.back_subst.proofs.CodeLaws.{absent-joined}
 use Rattle.back_subst.proofs.FieldPoints.{agrees-held, code-at, number-no_code}
 use Rattle.back_subst.proofs.FreeCodes.{allowed-free}

@@ -23,14 +23,14 @@ use Rattle.categ_combine.specs.FailingBoxes.{failing_boxes}
 use Rattle.categ_combine.specs.Fixing.{fixed}
 use Rattle.categ_combine.proofs.CoverLaws.{HaveSets}
 use Rattle.back_subst.specs.Allowed.{AllowsCode, Completes}
-use Rattle.back_subst.specs.Bounds.{DecideFor}
-use Rattle.back_subst.specs.Codes.{boxes_for, is_free, settled_at, settled_but}
+use Rattle.back_subst.specs.inner.Bounds.{DecideFor}
+use Rattle.back_subst.specs.inner.Codes.{boxes_for, is_free, settled_at, settled_but}
+use Rattle.back_subst.specs.inner.UnderWay.{AreDistinct}
 use Rattle.categ_combine.proofs.BoxSets.{AreWhole, covered-whole, fixed-whole, whole-covered, whole-fixed}
 use Rattle.derivation.proofs.CoverLaws.{code-below}
 use Rattle.back_subst.proofs.CodeDomains.{HasCodes-with, code-own}
 use Rattle.back_subst.proofs.CodeLaws.{allowed-code, distinct-from, have_sets}
 use Rattle.back_subst.proofs.SettledBoxes.{next-sets}
-use Rattle.back_subst.specs.UnderWay.{AreDistinct}
 
 -- After the other fields are settled, a box has the record's codes, with one at the field, where it has that code there.
 

@@ -14,11 +14,11 @@ use Rattle.edit_line.specs.declared.derived.Derived.{Derived}
 use Rattle.edit_line.proofs.FieldLists.{has-there, there-has}
 use Rattle.edit_line.proofs.Members.{all-in, in-all}
 use Rattle.linear_elim.specs.Systems.{system_of}
-use Rattle.back_subst.specs.Given.{IsImputed, giving_order, number_in, target_of}
 use Rattle.back_subst.specs.GiveFaults.{StopsAtLine}
+use Rattle.back_subst.specs.Given.{IsImputed, giving_order, number_in, target_of}
 use Rattle.back_subst.specs.NumberWalk.{number_result}
-use Rattle.back_subst.specs.UnderWay.{AreOrders, IsUnderWay, StopsAmong}
-use Rattle.back_subst.specs.Walks.{start_lines}
+use Rattle.back_subst.specs.inner.Systems.{start_lines}
+use Rattle.back_subst.specs.inner.UnderWay.{AreOrders, IsUnderWay, StopsAmong}
 use Rattle.back_subst.proofs.OrderLaws.{has-filtered}
 use Rattle.back_subst.proofs.StartLaws.{order-changed}
 use Rattle.back_subst.proofs.SystemLines.{system-first, system-is}

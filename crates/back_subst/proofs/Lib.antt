@@ -30,4 +30,5 @@ pub mod NeedLaws
 pub mod GiftLaws
 pub mod BlankLaws
 pub mod HowLaws
+pub mod ValueLaws
 mod WorkedValues

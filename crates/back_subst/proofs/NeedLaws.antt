@@ -23,8 +23,8 @@ use Rattle.bound_cert.specs.Paths.{changes}
 use Rattle.edit_paths.proofs.ChoiceLaws.{word-at}
 use Rattle.edit_paths.proofs.PathOrder.{sum-less}
 use Rattle.back_subst.specs.Allowed.{Completes}
-use Rattle.back_subst.specs.Given.{IsImputed}
 use Rattle.back_subst.specs.Gifts.{IsNeeded, path_of}
+use Rattle.back_subst.specs.Given.{IsImputed}
 use Rattle.back_subst.proofs.StartLaws.{past-end}
 
 -- A correction that changes a set that is needed differs at each of its fields.

@@ -29,9 +29,8 @@ use Rattle.linear_elim.proofs.PointLaws.{map-agree, put-code, put-differs, rest_
 use Rattle.linear_elim.proofs.StepLaws.{above_tells, below_tells}
 use Rattle.linear_elim.proofs.SystemLaws.{HaveShape-system}
 use Rattle.back_subst.specs.Allowed.{AllowsNumber, Completes}
-use Rattle.back_subst.specs.Bounds.{AreWithinBounds, BoundsField, DecideFor, IsWithinBound}
-use Rattle.back_subst.specs.Walks.{RestsFit}
 use Rattle.back_subst.specs.Intervals.{End, Interval, is_past_any, is_within}
+use Rattle.back_subst.specs.inner.Bounds.{AreWithinBounds, BoundsField, DecideFor, IsWithinBound, RestsFit}
 use Rattle.back_subst.proofs.AllowedNumbers.{IsBoundedAt, allowed-bounded}
 use Rattle.back_subst.proofs.FieldPoints.{Agrees-carried, agrees-held, code-at, factor-numerical, number-at, number-listed, number-no_code}
 use Rattle.back_subst.proofs.Rests.{Adds, rest-over, value-other, value-set, without_number}

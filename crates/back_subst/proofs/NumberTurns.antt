@@ -25,8 +25,8 @@ use Rattle.linear_elim.proofs.SystemLaws.{chosen-numerical}
 use Rattle.back_subst.specs.Allowed.{AllowsNumber}
 use Rattle.back_subst.specs.Given.{IsGiven, number_in}
 use Rattle.back_subst.specs.NumberWalk.{number_result}
-use Rattle.back_subst.specs.UnderWay.{AreOrders, IsUnderWay, StopsAmong}
-use Rattle.back_subst.specs.Walks.{start_lines, system_left}
+use Rattle.back_subst.specs.inner.Systems.{start_lines, system_left}
+use Rattle.back_subst.specs.inner.UnderWay.{AreOrders, IsUnderWay, StopsAmong}
 use Rattle.back_subst.proofs.FieldPoints.{number-at}
 use Rattle.back_subst.proofs.NumberWalkLaws.{walked-number}
 use Rattle.back_subst.proofs.OrderLaws.{chosen-rest, field-numerical, parted}

@@ -23,11 +23,10 @@ use Rattle.edit_model.specs.declared.value.Value.TheVariants.{Bad, Code, Number}
 use Rattle.edit_line.proofs.Enough.{IsEnough-times, IsEnough-weaker, IsEnough_cancel, is_enough-Decides}
 use Rattle.edit_line.proofs.SetLaws.{both_true, is_inside-Decides}
 use Rattle.linear_elim.proofs.BetweenLaws.{above_neg, by_sign}
-use Rattle.back_subst.specs.Bounds.{AreWithinBounds, BoundsField, IsWithinBound, rest_of}
 use Rattle.back_subst.specs.Given.{IsGivenNumber, IsSame}
 use Rattle.back_subst.specs.Intervals.{End, further_in, is_past_any, is_within, kept_past}
-use Rattle.back_subst.specs.NumberWalk.{Found, FoundEnds, bound_at, ends_from, found_at, inside_by, is_bounding, no_ends, number_result, or_place, step_in, then_nearest, tighter, unless_out, value_in, with_found}
-use Rattle.back_subst.specs.Walks.{RestsFit}
+use Rattle.back_subst.specs.NumberWalk.{Found, FoundEnds, bound_at, ends_from, found_at, inside_by, is_bounding, no_ends, number_result, or_place, rest_of, step_in, then_nearest, tighter, unless_out, value_in, with_found}
+use Rattle.back_subst.specs.inner.Bounds.{AreWithinBounds, BoundsField, IsWithinBound, RestsFit}
 use Rattle.back_subst.proofs.BoundLaws.{bound-depth, further, further-in, multiple}
 
 -- What the walk's number is.

@@ -10,7 +10,7 @@ use Rattle.edit_line.specs.Shapes.{Categorical, Domain, Numerical, code_fields, 
 use Rattle.edit_line.proofs.ShapeLaws.{same_codes, same_fields}
 use Rattle.linear_elim.specs.Systems.{AreNumerical, chosen_fields}
 use Rattle.edit_line.proofs.FieldLists.{has-append}
-use Rattle.back_subst.specs.UnderWay.{AreDistinct, AreOrders}
+use Rattle.back_subst.specs.inner.UnderWay.{AreDistinct, AreOrders}
 use Rattle.back_subst.proofs.FieldPoints.{no_number-before}
 use Rattle.back_subst.proofs.UnderWayLaws.{own-there}
 use Rattle.back_subst.proofs.WalkLaws.{has-reverse}

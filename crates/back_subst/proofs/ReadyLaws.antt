@@ -36,11 +36,11 @@ use Rattle.edit_paths.proofs.ChoiceLaws.{word-at}
 use Rattle.edit_paths.proofs.LetterLaws.{count-kinds, number-field, order-shape}
 use Rattle.edit_paths.proofs.OpenPaths.{open-point}
 use Rattle.back_subst.specs.Allowed.{AgreesBut, Completes}
-use Rattle.back_subst.specs.Bounds.{DecideFor}
-use Rattle.back_subst.specs.Given.{giving_order}
 use Rattle.back_subst.specs.Gifts.{CanGive, path_of}
-use Rattle.back_subst.specs.UnderWay.{AreCodesToGive, AreOrders, IsUnderWay}
-use Rattle.back_subst.specs.Walks.{start_lines}
+use Rattle.back_subst.specs.Given.{giving_order}
+use Rattle.back_subst.specs.inner.Bounds.{DecideFor}
+use Rattle.back_subst.specs.inner.Systems.{start_lines}
+use Rattle.back_subst.specs.inner.UnderWay.{AreCodesToGive, AreOrders, IsUnderWay}
 use Rattle.back_subst.proofs.StartLaws.{field-either, order-changed, order-there, start-way}
 use Rattle.back_subst.proofs.SystemLines.{system-is}
 

@@ -11,8 +11,8 @@ use Rattle.categ_combine.specs.Covers.{covered}
 use Rattle.categ_combine.specs.Fixing.{fixed}
 use Rattle.categ_combine.proofs.CoverLaws.{HaveSets, covered-holds, covered-lifts, fixed-avoids}
 use Rattle.derivation.proofs.CoverLaws.{code-below}
-use Rattle.back_subst.specs.UnderWay.{AreDistinct}
-use Rattle.back_subst.specs.Codes.{settled_at, settled_but}
+use Rattle.back_subst.specs.inner.Codes.{settled_at, settled_but}
+use Rattle.back_subst.specs.inner.UnderWay.{AreDistinct}
 use Rattle.categ_combine.proofs.BoxSets.{HaveSets-covered, HaveSets-fixed}
 use Rattle.back_subst.proofs.CodeDomains.{HasCodes-with, SameCodes, code-other, codes-same}
 

@@ -15,9 +15,9 @@ use Rattle.edit_line.specs.Shapes.{Categorical, Domain, Numerical, code_fields, 
 use Rattle.edit_line.proofs.ShapeLaws.{same_codes, same_fields}
 use Rattle.edit_line.proofs.FieldLists.{has-append}
 use Rattle.back_subst.specs.Allowed.{Completes}
-use Rattle.back_subst.specs.Bounds.{DecideFor}
 use Rattle.back_subst.specs.Given.{giving_order}
-use Rattle.back_subst.specs.UnderWay.{AreDistinct, IsUnderWay}
+use Rattle.back_subst.specs.inner.Bounds.{DecideFor}
+use Rattle.back_subst.specs.inner.UnderWay.{AreDistinct, IsUnderWay}
 use Rattle.back_subst.proofs.CodeLaws.{distinct-from}
 use Rattle.back_subst.proofs.FieldPoints.{number-no_code}
 use Rattle.back_subst.proofs.OrderLaws.{distinct-numbers, has-filtered}

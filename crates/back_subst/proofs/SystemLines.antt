@@ -14,7 +14,7 @@ use Rattle.linear_elim.specs.declared.fault.SystemFault.{SystemFault}
 use Rattle.linear_elim.specs.declared.fault.SystemFault.TheVariants.{Overflow}
 use Rattle.linear_elim.proofs.FoldLaws.{fold-fault}
 use Rattle.linear_elim.proofs.ResultLaws.{base-plain, system-plain}
-use Rattle.back_subst.specs.Walks.{start_lines, system_left}
+use Rattle.back_subst.specs.inner.Systems.{start_lines, system_left}
 
 -- The lines of systems.
 

@@ -12,9 +12,10 @@ use Rattle.edit_model.specs.declared.field.Field.{Field}
 use Rattle.edit_model.proofs.OrderLaws.{field-below}
 use Rattle.edit_model.proofs.RowLaws.{row-length}
 use Rattle.edit_line.proofs.FieldLists.{has-append}
+use Rattle.back_subst.specs.Gifts.{IsDonor}
 use Rattle.back_subst.specs.GiveFaults.{AreGivenFirst}
 use Rattle.back_subst.specs.Given.{AreGiven, IsGiven}
-use Rattle.back_subst.specs.UnderWay.{AreDistinct, IsDonor, IsUnderWay}
+use Rattle.back_subst.specs.inner.UnderWay.{AreDistinct, IsUnderWay}
 use Rattle.back_subst.proofs.ImputedLaws.{given-next}
 use Rattle.back_subst.proofs.Rests.{value-other, value-set}
 use Rattle.back_subst.proofs.WalkLaws.{IsGiven-rows, SameBut, completes-rows, decide-turn}

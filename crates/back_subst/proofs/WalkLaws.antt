@@ -17,10 +17,9 @@ use Rattle.edit_line.specs.declared.derived.Derived.{Derived}
 use Rattle.linear_elim.specs.Systems.{system}
 use Rattle.categ_combine.specs.FailingBoxes.{failing_boxes}
 use Rattle.back_subst.specs.Allowed.{AgreesBut, AllowsCode, AllowsNumber, Completes}
-use Rattle.back_subst.specs.Bounds.{AreWithinBounds, DecideFor}
-use Rattle.back_subst.specs.Walks.{RestsFit}
-use Rattle.back_subst.specs.Codes.{boxes_for, is_free}
 use Rattle.back_subst.specs.Given.{IsGiven, IsGivenCode, IsGivenNumber, number_in}
+use Rattle.back_subst.specs.inner.Bounds.{AreWithinBounds, DecideFor, RestsFit}
+use Rattle.back_subst.specs.inner.Codes.{boxes_for, is_free}
 use Rattle.back_subst.proofs.FreeCodes.{allowed-free}
 use Rattle.back_subst.proofs.NumberLaws.{allowed-within}
 

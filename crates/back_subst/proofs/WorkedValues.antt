@@ -5,8 +5,8 @@ use Rattle.edit_line.specs.Lines.{parts_of}
 use Rattle.edit_line.specs.Shapes.{Domain, Numerical}
 use Rattle.fraction128.specs.Divisor.{gcd}
 use Rattle.edit_model.specs.declared.value.Value.TheVariants.{Bad}
-use Rattle.back_subst.specs.NumberWalk.{number_result}
 use Rattle.back_subst.specs.Intervals.{End, nearest}
+use Rattle.back_subst.specs.NumberWalk.{number_result}
 
 -- Worked values.
 

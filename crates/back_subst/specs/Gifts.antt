@@ -1,4 +1,4 @@
-use Rattle.std.specs.Prelude.{◌≡◌, ◌⊎◌, ◌<◌, ℕ, ◌*ℤ◌, ◌==◌, Bool, true, false, List, Option, Some, None, if◌then◌else◌, length, map}
+use Rattle.std.specs.Prelude.{◌≡◌, ◌≢◌, ◌⊎◌, ◌<◌, ℕ, ◌*ℤ◌, ◌==◌, Bool, true, false, List, Option, Some, None, IfSome, if◌then◌else◌, length, map}
 use Rattle.std.specs.List.{filter}
 use Rattle.std.specs.Ordering.{int_eq}
 use Rattle.edit_model.specs.Corrections.{IsCorrection, IsLeastWeight, path_order}
@@ -43,6 +43,10 @@ changed_fields survey changed = filter (has_number changed) (path_order survey.f
 abbrev pub hows_of : SurveyParts → ℕ → Option (List Value) → List Value → List How
 hows_of survey changed donor new = map (λ f. how_of donor f (value_of new f)) (changed_fields survey changed)
 
+-- the donor, if there is one, is a record of the survey with a value at each field
+abbrev pub IsDonor : SurveyParts → Option (List Value) → Type 0
+IsDonor survey donor = IfSome donor (λ row. IsRow survey.fields row × ((f : ℕ) → f < length row → value_of row f ≢ Bad))
+
 -- the path that says something of all fields, and changes those of the set
 abbrev pub path_of : List Field → ℕ → List Bool
 path_of fields changed = map (has_number changed) (path_order fields)
@@ -52,10 +56,14 @@ abbrev pub IsNeeded : SurveyParts → List Value → ℕ → Type 0
 IsNeeded survey row changed =
     IsLeastWeight survey row (path_weight survey.fields (path_of survey.fields changed)) ⊎ ((f : ℕ) → f < length row → has_number changed f ≡ true → value_of row f ≡ Bad)
 
+-- the point has the record's values at all fields outside the set
+abbrev pub AgreesOutside : List Value → ℕ → Point → Type 0
+AgreesOutside row changed p = (f : ℕ) → f < length row → has_number changed f ≡ false → Agrees row p f
+
 -- what is asked of a record and of its changed fields before values are given: the path that changes just these is open, every rule follows from the edits, and each edit holds at each correction that has the record's values at the other fields
 pub record CanGive (survey : SurveyParts) (edits : EditsParts) (row : List Value) (changed : ℕ) : Type 0 where
   pub is_row : IsRow survey.fields row
   pub shape : edits.shape ≡ shape_of survey.fields
   pub path : IsOpen (case_of survey edits row) (path_of survey.fields changed)
   pub sound : (p : Point) → Meets (case_of survey edits row) p → IsCorrection survey p
-  pub complete : (p : Point) → IsCorrection survey p → ((f : ℕ) → f < length row → has_number changed f ≡ false → Agrees row p f) → AllHold (edit_lines (case_of survey edits row)) p
+  pub complete : (p : Point) → IsCorrection survey p → AgreesOutside row changed p → AllHold (edit_lines (case_of survey edits row)) p

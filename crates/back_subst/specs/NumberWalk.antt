@@ -1,4 +1,4 @@
-use Rattle.std.specs.Prelude.{ℕ, suc, ℤ, pos, negsuc, ◌-ℤ◌, ◌*ℤ◌, ◌&&◌, ◌||◌, not, Bool, List, [], ◌∷◌, Option, Some, None, Result, Ok, Err, int_lt, if◌then◌else◌}
+use Rattle.std.specs.Prelude.{ℕ, suc, ℤ, pos, negsuc, ◌-ℤ◌, ◌*ℤ◌, ◌&&◌, ◌||◌, not, Bool, List, [], ◌∷◌, Option, Some, None, Result, Ok, Err, int_lt, if◌then◌else◌, slice_set}
 use lib.IntN.{neg_ℤ}
 use Rattle.std.specs.Ordering.{int_eq}
 use Rattle.fraction128.specs.Formulas.{Ratio, added, divided, middle, then_some}
@@ -7,8 +7,8 @@ use Rattle.edit_line.specs.CodeFields.{codes_in}
 use Rattle.edit_line.specs.Lines.{LineParts, factor}
 use Rattle.edit_line.specs.Sets.{is_inside}
 use Rattle.edit_line.specs.Subsumption.{is_enough}
-use Rattle.edit_line.specs.Sums.{whole}
-use Rattle.back_subst.specs.Bounds.{rest_of}
+use Rattle.edit_line.specs.Sums.{sum_at, whole}
+use Rattle.edit_model.specs.declared.value.Value.TheVariants.{Bad}
 
 -- The number of a field as the walk finds it, in numbers of at most 127 bits; or the place of the line at which one leaves the range.
 
@@ -20,6 +20,10 @@ value_in (Err e) = None
 -- whether the line bounds the field at the record
 abbrev pub is_bounding : LineParts → List Value → ℕ → Bool
 is_bounding line row f = is_inside line.sets (codes_in line.shape row) && not (int_eq (factor line f) (pos 0))
+
+-- the line's sum at the record without a field: what a value adds that is no number is nothing
+abbrev pub rest_of : LineParts → List Value → ℕ → Result Ratio ℕ
+rest_of line row f = sum_at line (slice_set row f Bad)
 
 -- the bound of the line: its rest, divided by the negative of its factor
 abbrev pub bound_at : LineParts → List Value → ℕ → Option Ratio

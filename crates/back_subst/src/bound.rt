@@ -3,7 +3,7 @@ ghost use Rattle.fraction128.specs.Formulas.{answered, ratio_of};
 ghost use Rattle.edit_line.specs.Subsumption.{is_enough};
 ghost use Rattle.edit_line.specs.Sums.{whole};
 ghost use Rattle.back_subst.specs.NumberWalk.{inside_by, is_tighter, nearest_found, no_ends, number_at, step_in, tighter, with_found};
-ghost use Rattle.back_subst.specs.Sides.{ends_of, found_any, found_of, number_told, side_of};
+ghost use Rattle.back_subst.specs.inner.Sides.{ends_of, found_any, found_of, number_told, side_of};
 
 use fraction128::{Fraction, Overflow};
 use std::cmp::Ordering;

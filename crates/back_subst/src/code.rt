@@ -8,9 +8,9 @@ ghost use Rattle.edit_line.specs.Reductions.{lines_of};
 ghost use Rattle.edit_line.specs.Shapes.{Domain, IsCategorical, code_fields, shape_of};
 ghost use Rattle.categ_combine.specs.BoxLists.{AreBoxesOver, sets_of};
 ghost use Rattle.categ_combine.specs.FailingBoxes.{failing_boxes};
-ghost use Rattle.back_subst.specs.Codes.{IsFree, boxes_for, is_free_at, settled_by};
 ghost use Rattle.back_subst.specs.Given.{IsGivenCode};
-ghost use Rattle.back_subst.specs.UnderWay.{AreBlankBut};
+ghost use Rattle.back_subst.specs.inner.Codes.{IsFree, boxes_for, is_free_at, settled_by};
+ghost use Rattle.back_subst.specs.inner.UnderWay.{AreBlankBut};
 
 use crate::line_bounds::place_among;
 use categ_combine::{BoxFault, BoxFrom, Covered, boxes_of, cat_step, fix};

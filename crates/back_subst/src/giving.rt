@@ -8,9 +8,10 @@ ghost use Rattle.edit_line.specs.Reductions.{lines_of};
 ghost use Rattle.edit_line.specs.Shapes.{shape_of};
 ghost use Rattle.edit_line.specs.declared.derived.Derived as derived;
 ghost use Rattle.linear_elim.specs.Systems.{system_of};
+ghost use Rattle.back_subst.specs.Gifts.{IsDonor};
 ghost use Rattle.back_subst.specs.Given.{target_of};
-ghost use Rattle.back_subst.specs.UnderWay.{AreCodesToGive, AreOrders, IsDonor, IsUnderWay, StopsAmong};
-ghost use Rattle.back_subst.specs.Walks.{start_lines};
+ghost use Rattle.back_subst.specs.inner.Systems.{start_lines};
+ghost use Rattle.back_subst.specs.inner.UnderWay.{AreCodesToGive, AreOrders, IsUnderWay, StopsAmong};
 ghost use Rattle.back_subst.specs.declared.gift.GiveFault.TheVariants as fault;
 
 use crate::code::code_for;

@@ -1,8 +1,7 @@
 //! How the values of a record were found.
 ghost use Rattle.std.specs.Prelude.{◌≡◌, ◌<◌, IfOk, IfSome, length, option_copied};
 ghost use Rattle.edit_model.specs.Rows.{IsRow};
-ghost use Rattle.back_subst.specs.Gifts.{how_of, hows_of, is_target, taken_from};
-ghost use Rattle.back_subst.specs.UnderWay.{IsDonor};
+ghost use Rattle.back_subst.specs.Gifts.{IsDonor, how_of, hows_of, is_target, taken_from};
 
 use crate::gift::How;
 use crate::value::{code_of, number_of, target_of};

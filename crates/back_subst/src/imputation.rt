@@ -9,11 +9,11 @@ ghost use Rattle.edit_line.specs.EditSets.{EditsParts};
 ghost use Rattle.edit_line.specs.Shapes.{shape_of};
 ghost use Rattle.edit_paths.specs.Cases.{IsCase, case_of};
 ghost use Rattle.back_subst.specs.Allowed.{Completes};
-ghost use Rattle.back_subst.specs.Given.{IsImputed, giving_order, target_of};
+ghost use Rattle.back_subst.specs.Gifts.{CanGive, IsDonor, IsNeeded, hows_of};
 ghost use Rattle.back_subst.specs.GiveFaults.{StopsAtLine, StopsAtRule};
-ghost use Rattle.back_subst.specs.Gifts.{CanGive, IsNeeded, hows_of};
-ghost use Rattle.back_subst.specs.UnderWay.{AreOrders, IsDonor, IsUnderWay};
-ghost use Rattle.back_subst.specs.Walks.{start_lines};
+ghost use Rattle.back_subst.specs.Given.{IsImputed, giving_order, target_of};
+ghost use Rattle.back_subst.specs.inner.Systems.{start_lines};
+ghost use Rattle.back_subst.specs.inner.UnderWay.{AreOrders, IsUnderWay};
 ghost use Rattle.back_subst.specs.declared.gift.GiveFault.TheVariants as fault;
 
 use crate::blank::blanked;

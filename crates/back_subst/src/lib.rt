@@ -10,6 +10,7 @@ mod gift;
 mod giving;
 mod how;
 mod imputation;
+mod laws;
 mod line_bounds;
 mod number;
 mod order;
@@ -17,3 +18,4 @@ mod value;
 
 pub use gift::{Gift, GiveFault, How};
 pub use imputation::give;
+pub use laws::value_laws;

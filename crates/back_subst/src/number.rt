@@ -11,8 +11,8 @@ ghost use Rattle.edit_line.specs.declared.derived.Derived as derived;
 ghost use Rattle.linear_elim.specs.Systems.{AreNumerical, system_at};
 ghost use Rattle.back_subst.specs.Given.{number_in};
 ghost use Rattle.back_subst.specs.NumberWalk.{number_result};
-ghost use Rattle.back_subst.specs.Sides.{number_told};
-ghost use Rattle.back_subst.specs.Walks.{system_left};
+ghost use Rattle.back_subst.specs.inner.Sides.{number_told};
+ghost use Rattle.back_subst.specs.inner.Systems.{system_left};
 ghost use Rattle.back_subst.specs.declared.gift.GiveFault.TheVariants as fault;
 
 use crate::gift::GiveFault;

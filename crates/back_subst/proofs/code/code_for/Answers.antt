@@ -2,8 +2,8 @@ use Rattle.std.proofs.Common.{◌≡◌, List, ℕ, ap, subst, sym, ◌∙◌}
 use Rattle.edit_line.specs.Shapes.{shape_of}
 use Rattle.categ_combine.specs.BoxLists.{sets_of}
 use Rattle.categ_combine.specs.declared.box_from.BoxFrom.{BoxFrom}
-use Rattle.back_subst.specs.Codes.{IsFree, boxes_for}
 use Rattle.back_subst.specs.Given.{IsGivenCode}
+use Rattle.back_subst.specs.inner.Codes.{IsFree, boxes_for}
 use Rattle.back_subst.proofs.CodeSteps.{same-boxes}
 use Rattle.back_subst.proofs.code.code_for.Goals as goal
 

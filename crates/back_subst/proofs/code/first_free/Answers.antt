@@ -3,7 +3,7 @@ use Rattle.edit_line.specs.CodeFields.{place_of, size_of}
 use Rattle.edit_line.specs.Shapes.{code_fields, place_in, shape_of}
 use Rattle.edit_line.proofs.ShapeLaws.{place-within, same_codes}
 use Rattle.categ_combine.specs.BoxLists.{sets_of}
-use Rattle.back_subst.specs.Codes.{is_free_at}
+use Rattle.back_subst.specs.inner.Codes.{is_free_at}
 use Rattle.back_subst.proofs.CodeSteps.{none-free, some-given, target-free}
 use Rattle.back_subst.proofs.code.first_free.Goals as goal
 use Rattle.back_subst.proofs.code.first_free.Goals.{After-first_among, After-place_among-place, else-target-size-via-then-target-size+else-is_free, else-target-size-via-else-target-size}

@@ -5,7 +5,7 @@ use Rattle.edit_model.specs.Rows.{value_of}
 use Rattle.categ_combine.specs.BoxLists.{AreBoxesOver, sets_of}
 use Rattle.categ_combine.specs.declared.box_from.BoxFrom.{BoxFrom}
 use Rattle.std.proofs.lemmas.Bool.Decides.{Decides-eqb}
-use Rattle.back_subst.specs.Codes.{settled_but, settled_by}
+use Rattle.back_subst.specs.inner.Codes.{settled_but, settled_by}
 use Rattle.back_subst.proofs.CodeSteps.{listed-at, passed-by, settled-more, unequal}
 use Rattle.back_subst.proofs.code.settle_others.Goals as goal
 use Rattle.back_subst.proofs.code.settle_others.Goals.{After-codes-field-items, then-field-but+in_ok-kept, else-field-but}

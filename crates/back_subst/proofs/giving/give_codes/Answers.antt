@@ -3,9 +3,9 @@ use Rattle.std.proofs.lemmas.List.{drop_all, take_all}
 use Rattle.edit_model.specs.RowPoints.{code_in}
 use Rattle.edit_model.specs.declared.value.Value.{Value}
 use Rattle.edit_line.specs.Shapes.{shape_of}
-use Rattle.back_subst.specs.Codes.{IsFree, boxes_for}
 use Rattle.back_subst.specs.Given.{IsGivenCode, target_of}
-use Rattle.back_subst.specs.UnderWay.{IsUnderWay}
+use Rattle.back_subst.specs.inner.Codes.{IsFree, boxes_for}
+use Rattle.back_subst.specs.inner.UnderWay.{IsUnderWay}
 use Rattle.back_subst.proofs.CodeTurns.{categorical-here, code-turned, codes-end, kind-found, some-here, shapes-here, takes-codes}
 use Rattle.back_subst.proofs.UnderWayLaws.{code-field_below, donor-within}
 use Rattle.back_subst.proofs.giving.give_codes.Goals as goal

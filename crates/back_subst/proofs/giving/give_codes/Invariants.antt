@@ -1,7 +1,7 @@
 use Rattle.std.proofs.Common.{◌++◌, drop, option_copied, take}
 use Rattle.edit_line.specs.Reductions.{lines_of}
 use Rattle.back_subst.specs.Given.{target_of}
-use Rattle.back_subst.specs.UnderWay.{AreCodesToGive, IsUnderWay}
+use Rattle.back_subst.specs.inner.UnderWay.{AreCodesToGive, IsUnderWay}
 use Rattle.back_subst.proofs.giving.give_codes.Given as goal
 
 abbrev pub invariant-loop-field : goal.invariant-loop-field

@@ -6,8 +6,8 @@ use Rattle.edit_line.specs.Shapes.{has_field}
 use Rattle.linear_elim.specs.Systems.{AreNumerical}
 use Rattle.back_subst.specs.Given.{number_in, target_of}
 use Rattle.back_subst.specs.NumberWalk.{number_result}
-use Rattle.back_subst.specs.UnderWay.{IsUnderWay, StopsAmong}
-use Rattle.back_subst.specs.Walks.{start_lines, system_left}
+use Rattle.back_subst.specs.inner.Systems.{start_lines, system_left}
+use Rattle.back_subst.specs.inner.UnderWay.{IsUnderWay, StopsAmong}
 use Rattle.back_subst.specs.declared.gift.GiveFault.TheVariants.{Bound}
 use Rattle.back_subst.proofs.NumberTurns.{blank-here, kind-here, left-here, number-stopped, number-turned, numbers-end, numerical-here, system-here}
 use Rattle.back_subst.proofs.OrderLaws.{left-numerical, parted}

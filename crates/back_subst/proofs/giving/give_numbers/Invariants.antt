@@ -5,8 +5,8 @@ use Rattle.edit_model.specs.declared.value.Value.{Value}
 use Rattle.edit_line.specs.EditSets.{EditsParts}
 use Rattle.edit_line.specs.Shapes.{has_field}
 use Rattle.back_subst.specs.Given.{target_of}
-use Rattle.back_subst.specs.UnderWay.{IsUnderWay}
-use Rattle.back_subst.specs.Walks.{start_lines}
+use Rattle.back_subst.specs.inner.Systems.{start_lines}
+use Rattle.back_subst.specs.inner.UnderWay.{IsUnderWay}
 use Rattle.back_subst.proofs.giving.give_numbers.Given as goal
 
 abbrev pub invariant-loop-field : goal.invariant-loop-field

@@ -1,6 +1,6 @@
 use Rattle.std.proofs.Common.{option_copied}
 use Rattle.std.specs.Arc.{arc_value}
-use Rattle.back_subst.specs.Walks.{start_lines}
+use Rattle.back_subst.specs.inner.Systems.{start_lines}
 use Rattle.back_subst.proofs.GiftLaws.{imputed-from}
 use Rattle.back_subst.proofs.NeedLaws.{gift-differs}
 use Rattle.back_subst.proofs.ReadyLaws.{in-order}

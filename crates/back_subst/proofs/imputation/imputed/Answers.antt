@@ -3,8 +3,8 @@ use Rattle.std.specs.Arc.{arc_value}
 use Rattle.edit_model.specs.Corrections.{code_fields, number_fields}
 use Rattle.edit_model.proofs.OrderLaws.{numbers-below}
 use Rattle.back_subst.specs.Given.{target_of}
-use Rattle.back_subst.specs.UnderWay.{IsUnderWay}
-use Rattle.back_subst.specs.Walks.{start_lines}
+use Rattle.back_subst.specs.inner.Systems.{start_lines}
+use Rattle.back_subst.specs.inner.UnderWay.{IsUnderWay}
 use Rattle.back_subst.specs.declared.gift.GiveFault.TheVariants.{Bound, Test}
 use Rattle.back_subst.proofs.GiftLaws.{chosen-read, imputed-from, order-parts, orders-are, orders-with, stops-from}
 use Rattle.back_subst.proofs.ReadyLaws.{over, system-made}

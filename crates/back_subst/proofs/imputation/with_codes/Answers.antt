@@ -7,7 +7,7 @@ use Rattle.edit_line.specs.Reductions.{lines_of}
 use Rattle.edit_line.specs.Shapes.{Domain}
 use Rattle.linear_elim.specs.Systems.{AreNumerical, chosen_fields, system, system_of}
 use Rattle.back_subst.specs.Given.{target_of}
-use Rattle.back_subst.specs.Walks.{start_lines}
+use Rattle.back_subst.specs.inner.Systems.{start_lines}
 use Rattle.back_subst.proofs.OrderLaws.{all-numerical, chosen-all}
 use Rattle.back_subst.proofs.ReadyLaws.{codes-given, codes-ready, system-made}
 use Rattle.back_subst.proofs.SystemLines.{no-overflow, system-lines}

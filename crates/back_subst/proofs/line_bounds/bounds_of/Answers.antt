@@ -1,7 +1,7 @@
 use Rattle.std.proofs.Common.{◌∙◌, ap, refl, sym}
 use Rattle.edit_line.specs.Shapes.{place_in, shape_of}
 use Rattle.edit_line.proofs.ShapeLaws.{same_fields}
-use Rattle.back_subst.specs.Sides.{bounds_told, ends_of}
+use Rattle.back_subst.specs.inner.Sides.{bounds_told, ends_of}
 use Rattle.back_subst.proofs.LineSteps.{ends-end, ends-more}
 use Rattle.back_subst.proofs.line_bounds.bounds_of.Goals as goal
 

@@ -8,7 +8,7 @@ use Rattle.edit_line.specs.Sums.{sum_at}
 use Rattle.edit_line.proofs.ShapeLaws.{place-within}
 use lib.IntN.{neg_ℤ}
 use Rattle.back_subst.specs.NumberWalk.{found_at, value_in, with_found}
-use Rattle.back_subst.specs.Sides.{ends_of}
+use Rattle.back_subst.specs.inner.Sides.{ends_of}
 use Rattle.back_subst.proofs.LineSteps.{factor-at, with-bound, without-bound, without-codes, without-factor}
 use Rattle.back_subst.proofs.line_bounds.with_line.Goals as goal
 use Rattle.back_subst.proofs.line_bounds.with_line.Goals.{After-factors, then-factor-eq0-via-then-factor-eq0, then-factor-eq0-via-else-factor-eq0+then-not-has_codes_of}

@@ -6,7 +6,7 @@ use Rattle.edit_line.specs.Reductions.{lines_of}
 use Rattle.edit_line.specs.Shapes.{shape_of}
 use Rattle.back_subst.specs.Given.{number_in}
 use Rattle.back_subst.specs.NumberWalk.{number_result}
-use Rattle.back_subst.specs.Sides.{number_told}
+use Rattle.back_subst.specs.inner.Sides.{number_told}
 use Rattle.linear_elim.proofs.ShapeLaws.{derived-shape}
 use Rattle.back_subst.proofs.SystemLines.{system-lines}
 use Rattle.back_subst.proofs.number.number_for.Goals as goal

@@ -2,7 +2,7 @@ use Rattle.std.proofs.Common.{Option, ap, sym, ◌∙◌}
 use Rattle.fraction128.specs.Formulas.{added, ratio_of}
 use Rattle.fraction128.proofs.RatioLaws.{added-answered}
 use Rattle.back_subst.specs.NumberWalk.{step_in}
-use Rattle.back_subst.specs.Sides.{found_any, side_of}
+use Rattle.back_subst.specs.inner.Sides.{found_any, side_of}
 use Rattle.back_subst.specs.declared.bound.Bound.{Bound}
 use Rattle.back_subst.proofs.bound.Bound.further_in.Goals as goal
 

@@ -5,11 +5,6 @@ use Rattle.edit_line.specs.EditSets.{EditsParts, base_lines}
 use Rattle.edit_line.specs.Lines.{LineParts}
 use Rattle.edit_line.specs.Reductions.{IsIn, lines_of, reduce_derived}
 use Rattle.linear_elim.specs.Systems.{chosen_fields, system}
-use Rattle.back_subst.specs.Bounds.{BoundsField, rest_of}
-
--- the rests of all lines that bound the field are in range
-abbrev pub RestsFit : List LineParts → List Value → ℕ → Type 0
-RestsFit lines row f = (line : LineParts) → IsIn line lines → BoundsField line row f → (r : Ratio) × (rest_of line row f ≡ Ok r)
 
 -- the lines that elimination begins with: those of the edits, reduced
 abbrev pub start_lines : EditsParts → List LineParts

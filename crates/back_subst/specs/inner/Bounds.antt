@@ -10,17 +10,13 @@ use Rattle.edit_line.specs.Sets.{AllInside}
 use Rattle.edit_model.specs.Parts.{SurveyParts}
 use Rattle.edit_model.specs.Corrections.{IsCorrection}
 use Rattle.edit_model.specs.Points.{HasCodesFrom}
-use Rattle.edit_line.specs.Sums.{sum_at}
 use Rattle.back_subst.specs.Allowed.{AgreesBut}
+use Rattle.back_subst.specs.NumberWalk.{rest_of}
 
 -- the edits hold exactly at the corrections, among the points that have the record's values at all fields but these
 pub record DecideFor (survey : SurveyParts) (edits : List LineParts) (row : List Value) (left : List ℕ) : Type 0 where
   pub sound : (p : Point) → HasCodesFrom 0 survey.fields p → AllHold edits p → IsCorrection survey p
   pub complete : (p : Point) → IsCorrection survey p → AgreesBut left row p → AllHold edits p
-
--- the line's sum at the record without a field: what a value adds that is no number is nothing
-abbrev pub rest_of : LineParts → List Value → ℕ → Result Ratio ℕ
-rest_of line row f = sum_at line (slice_set row f Bad)
 
 -- the line bounds the field at the record: the record's codes are in its sets, and it has a factor there
 pub record BoundsField (line : LineParts) (row : List Value) (f : ℕ) : Type 0 where
@@ -34,3 +30,7 @@ IsWithinBound line f rest x = IsEnough line.strict (factor line f *ℤ x.numerat
 -- the number is within the bounds of all lines that bound the field
 abbrev pub AreWithinBounds : List LineParts → List Value → ℕ → Ratio → Type 0
 AreWithinBounds lines row f x = (line : LineParts) (rest : Ratio) → IsIn line lines → BoundsField line row f → rest_of line row f ≡ Ok rest → IsWithinBound line f rest x
+
+-- the rests of all lines that bound the field are in range
+abbrev pub RestsFit : List LineParts → List Value → ℕ → Type 0
+RestsFit lines row f = (line : LineParts) → IsIn line lines → BoundsField line row f → (r : Ratio) × (rest_of line row f ≡ Ok r)

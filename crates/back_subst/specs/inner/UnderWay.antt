@@ -13,10 +13,10 @@ use Rattle.edit_line.specs.Shapes.{Domain, code_fields, has_field, shape_of}
 use Rattle.linear_elim.specs.Systems.{system}
 use Rattle.categ_combine.specs.FailingBoxes.{failing_boxes}
 use Rattle.back_subst.specs.Allowed.{Completes}
-use Rattle.back_subst.specs.Bounds.{DecideFor}
 use Rattle.back_subst.specs.GiveFaults.{AreGivenFirst}
 use Rattle.back_subst.specs.Given.{number_in}
 use Rattle.back_subst.specs.NumberWalk.{number_result}
+use Rattle.back_subst.specs.inner.Bounds.{DecideFor}
 
 -- the record is Bad exactly at those categorical fields, other than g, that are left
 abbrev pub AreBlankBut : List Domain → List Value → List ℕ → ℕ → Type 0
@@ -54,10 +54,6 @@ pub record StopsAmong (survey : SurveyParts) (edits : List LineParts) (target : 
   pub so_far : List Value
   pub way : IsUnderWay survey edits target row (given ++ first) (field ∷ rest) so_far
   pub stops : number_result (system edits (reverse rest)) so_far field (number_in (target field)) ≡ Err line
-
--- the donor, if there is one, is a record of the survey with a value at each field
-abbrev pub IsDonor : SurveyParts → Option (List Value) → Type 0
-IsDonor survey donor = IfSome donor (λ row. IsRow survey.fields row × ((f : ℕ) → f < length row → value_of row f ≢ Bad))
 
 -- codes are to be given at the fields of an order, by the lines of the system without the changed numerical fields, none of which leaves the range at the record
 pub record AreCodesToGive (survey : SurveyParts) (target : ℕ → Value) (lines : List LineParts) (order : List ℕ) (so_far : List Value) : Type 0 where

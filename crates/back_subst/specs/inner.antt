@@ -1,0 +1,5 @@
+pub mod Bounds
+pub mod Codes
+pub mod Sides
+pub mod Systems
+pub mod UnderWay
