@@ -2,4 +2,5 @@ pub mod Bounds
 pub mod Codes
 pub mod Sides
 pub mod Systems
+pub mod TestSurveys
 pub mod UnderWay

@@ -117,8 +117,8 @@ fn first_free(survey: &Survey, boxes: &[BoxFrom], field: u32, target: u8) -> u8
     }
 }
 
-// The first of so many codes that no box has at the place.
-fn first_among(boxes: &[BoxFrom], place: usize, size: u8) -> Option<u8>
+/// The first of so many codes that no box has at the place.
+pub(crate) fn first_among(boxes: &[BoxFrom], place: usize, size: u8) -> Option<u8>
     requires { (shape : List Domain) × AreBoxesOver shape boxes.now × (place < length (code_fields shape)) }
     ensures free { IfSome result (λ code. (code < size) × (is_free_at (sets_of boxes.now) place code ≡ true)
         × ((c : ℕ) → c < code → is_free_at (sets_of boxes.now) place c ≡ false)) }
@@ -132,8 +132,8 @@ fn first_among(boxes: &[BoxFrom], place: usize, size: u8) -> Option<u8>
     None
 }
 
-// Whether no box has the code at the place.
-fn is_free(boxes: &[BoxFrom], place: usize, code: u8) -> bool
+/// Whether no box has the code at the place.
+pub(crate) fn is_free(boxes: &[BoxFrom], place: usize, code: u8) -> bool
     requires { (shape : List Domain) × AreBoxesOver shape boxes.now × (place < length (code_fields shape)) }
     ensures { result ≡ is_free_at (sets_of boxes.now) place code }
 {

@@ -32,8 +32,8 @@ pub(crate) fn hows(
     Ok(how)
 }
 
-// How the value at the field was found.
-fn how_of(donor: Option<&Row>, field: u32, value: &Value) -> How
+/// How the value at the field was found.
+pub(crate) fn how_of(donor: Option<&Row>, field: u32, value: &Value) -> How
     requires { IfSome (option_copied donor) (λ row. field < length row) }
     ensures { result ≡ how_of (option_copied donor.entry) field value.now }
 {

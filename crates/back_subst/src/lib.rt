@@ -14,6 +14,8 @@ mod laws;
 mod line_bounds;
 mod number;
 mod order;
+#[cfg(test)]
+mod tests;
 mod value;
 
 pub use gift::{Gift, GiveFault, How};

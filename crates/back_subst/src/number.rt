@@ -65,9 +65,9 @@ pub(crate) fn number_for<S: Systems, L: Ledger>(
     }
 }
 
-// The number nearest to the target within the bounds that the lines give to the field, or the place of the
-// line at which a number leaves the range.
-fn nearest_of(
+/// The number nearest to the target within the bounds that the lines give to the field, or the place of the
+/// line at which a number leaves the range.
+pub(crate) fn nearest_of(
     survey: &Survey,
     lines: &[Derived],
     row: &Row,
