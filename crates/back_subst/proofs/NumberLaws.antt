@@ -1,0 +1,251 @@
+use Rattle.std.proofs.Common.{int_lt, ◌≡◌, ◌≢◌, ◌↔◌, ◌⊎◌, inl, inr, ℕ, zero, suc, ◌==◌, ◌||◌, ◌&&◌, not, Bool, true, false, if◌then◌else◌, List, [], ◌∷◌, Option, Some, None, All, IsTrue, slice_set, ℤ, pos, negsuc, ◌<ℤ◌, ◌+ℤ◌, ◌-ℤ◌, ◌*ℤ◌, refl, sym, ap, ◌∙◌, subst, arith}
+use lib.IntN.{neg_ℤ}
+use Rattle.std.specs.List.{filter}
+use Rattle.std.proofs.lemmas.Bool.Decides.{Decides-eqb}
+use Rattle.std.proofs.lemmas.Int.{ints}
+use Rattle.fraction128.specs.Formulas.{Ratio}
+use Rattle.fraction128.proofs.Signs.{above-*}
+use Rattle.fraction128.proofs.Whole.{parts, ring, same_dif}
+use Rattle.edit_model.specs.Parts.{SurveyParts}
+use Rattle.edit_model.specs.Points.{Point}
+use Rattle.edit_model.specs.RowPoints.{Agrees, code_in}
+use Rattle.edit_model.specs.Rows.{IsRow, value_of}
+use Rattle.edit_model.specs.Corrections.{differs_from}
+use Rattle.edit_model.specs.Trials.{IsCodeValue}
+use Rattle.edit_model.specs.declared.value.Value.{Value}
+use Rattle.edit_model.specs.declared.value.Value.TheVariants.{Bad, Code, Number}
+use Rattle.edit_line.specs.CodeFields.{codes_in}
+use Rattle.edit_line.specs.Lines.{HaveShape, IsEnough, LineParts, factor}
+use Rattle.edit_line.specs.Reductions.{IsIn}
+use Rattle.edit_line.specs.Sets.{AllInside, is_inside}
+use Rattle.edit_line.specs.Shapes.{Domain, IsNumerical, code_fields, codes_at, has_field, number_fields, shape_of}
+use Rattle.edit_line.proofs.Enough.{IsEnough-times, IsEnough_cancel, is_enough-Decides}
+use Rattle.edit_line.proofs.Members.{in-all, in-filter, in-filter-out}
+use Rattle.edit_line.proofs.SetLaws.{both_true, is_inside-Decides}
+use Rattle.linear_elim.specs.Combinations.{is_lower, is_upper}
+use Rattle.linear_elim.specs.Systems.{system}
+use Rattle.linear_elim.proofs.BetweenLaws.{IsTightest, above_neg, by_sign, lower_implies, upper_implies}
+use Rattle.linear_elim.proofs.PointLaws.{map-agree, put-code, put-differs, rest_at}
+use Rattle.linear_elim.proofs.StepLaws.{above_tells, below_tells}
+use Rattle.linear_elim.proofs.SystemLaws.{HaveShape-system}
+use Rattle.back_subst.specs.Allowed.{AllowsNumber, Completes}
+use Rattle.back_subst.specs.Intervals.{End, Interval, is_past_any, is_within}
+use Rattle.back_subst.specs.inner.Bounds.{AreWithinBounds, BoundsField, DecideFor, IsWithinBound, RestsFit}
+use Rattle.back_subst.proofs.AllowedNumbers.{IsBoundedAt, allowed-bounded}
+use Rattle.back_subst.proofs.FieldPoints.{Agrees-carried, agrees-held, code-at, factor-numerical, number-at, number-listed, number-no_code}
+use Rattle.back_subst.proofs.Rests.{Adds, rest-over, value-other, value-set, without_number}
+use Rattle.back_subst.proofs.Tightest.{tightest}
+use Rattle.linear_elim.proofs.FlatLaws.{system-flat}
+
+-- The numbers that a field may be given, by the record's rests; and that they are an interval.
+
+pub code-agreed : (v : Value) (p : Point) (f : ℕ) → IsCodeValue v → differs_from v p f ≡ false → p.code f ≡ code_in v
+code-agreed (Code c) p f is agrees = sym ((Decides-eqb c (p.code f)).0 (yes _ agrees))
+  where
+    yes : (b : Bool) → not b ≡ false → b ≡ true
+    yes true h = refl
+    yes false h = absurd (cc)
+code-agreed (Number x) p f is agrees = absurd is
+code-agreed Bad p f is agrees = absurd is
+
+-- a bound by a point's rest is the bound by the rest over the point's denominator
+same_bound : (a x_n x_d d r_n r_d r : ℤ) → r_n *ℤ d ≡ r *ℤ r_d → (a *ℤ (x_n *ℤ d) +ℤ r *ℤ x_d) *ℤ r_d ≡ (a *ℤ x_n *ℤ r_d +ℤ r_n *ℤ x_d) *ℤ d
+same_bound a x_n x_d d r_n r_d r h = opened a x_n x_d d r_d r ∙ ap (λ (k : ℤ). a *ℤ x_n *ℤ d *ℤ r_d +ℤ k *ℤ x_d) (sym h) ∙ closed a x_n x_d d r_n r_d
+  where
+    opened : (a x_n x_d d r_d r : ℤ) → (a *ℤ (x_n *ℤ d) +ℤ r *ℤ x_d) *ℤ r_d ≡ a *ℤ x_n *ℤ d *ℤ r_d +ℤ r *ℤ r_d *ℤ x_d
+    opened a x_n x_d d r_d r = rw (parts a, parts x_n, parts x_d, parts d, parts r_d, parts r) (simp ring (same_dif _ _ _ _ (omega arith)))
+
+    closed : (a x_n x_d d r_n r_d : ℤ) → a *ℤ x_n *ℤ d *ℤ r_d +ℤ r_n *ℤ d *ℤ x_d ≡ (a *ℤ x_n *ℤ r_d +ℤ r_n *ℤ x_d) *ℤ d
+    closed a x_n x_d d r_n r_d = rw (parts a, parts x_n, parts x_d, parts d, parts r_n, parts r_d) (simp ring (same_dif _ _ _ _ (omega arith)))
+
+pub bound-over : (line : LineParts) (f : ℕ) (p : Point) (r x : Ratio) → r.numerator *ℤ p.denominator ≡ rest_at line f p *ℤ r.denominator → pos 0 <ℤ r.denominator → IsBoundedAt p f x line ↔ IsWithinBound line f r x
+bound-over line f p r x over above =
+    let same = same_bound (factor line f) x.numerator x.denominator p.denominator r.numerator r.denominator (rest_at line f p) over in (
+      λ h. IsEnough_cancel line.strict _ p.denominator p.positive (subst (λ (z : ℤ). IsEnough line.strict z) same (IsEnough-times line.strict _ r.denominator above h)),
+      λ h. IsEnough_cancel line.strict _ r.denominator above (subst (λ (z : ℤ). IsEnough line.strict z) (sym same) (IsEnough-times line.strict _ p.denominator p.positive h)),
+    )
+
+module _ (survey : SurveyParts) (edits : List LineParts) (row : List Value) (f : ℕ) (before : List ℕ)
+    (is_row : IsRow survey.fields row) (over : HaveShape (shape_of survey.fields) edits) (decide : DecideFor survey edits row (f ∷ before))
+    (number : IsNumerical (shape_of survey.fields) f) (numbers : All (IsNumerical (shape_of survey.fields)) before) (other : has_field before f ≡ false)
+    (p : Point) (completes : Completes survey row (f ∷ before) p) where
+  abbrev shape : List Domain
+  shape = shape_of survey.fields
+
+  abbrev lines : List LineParts
+  lines = system edits before
+
+  shape-of : (line : LineParts) → IsIn line lines → line.shape ≡ shape
+  shape-of line there = in-all (λ l. l.shape ≡ shape) line lines (λ k d below. (HaveShape-system shape edits before over k d below).same) there
+
+  all_numbers : All (IsNumerical shape) (f ∷ before)
+  all_numbers zero d below = number
+  all_numbers (suc k) d below = numbers k d (omega arith)
+
+  kept-code : (i : ℕ) → has_field (code_fields shape) i ≡ true → has_field (f ∷ before) i ≡ false
+  kept-code i there = by (has_field (f ∷ before) i) refl
+    where
+      by : (b : Bool) → has_field (f ∷ before) i ≡ b → b ≡ false
+      by false e = refl
+      by true e = absurd (cc (sym there ∙ number-no_code i 0 shape (number-listed shape (f ∷ before) i all_numbers e)))
+
+  -- the point's codes are the record's
+  codes-are : codes_at shape p ≡ codes_in shape row
+  codes-are = map-agree p.code (λ i. code_in (value_of row i)) (code_fields shape) (λ i there.
+      let (of_code, within) = code-at survey.fields row i is_row there in
+      let agrees = completes.agrees i within (kept-code i there) in
+      code-agreed (value_of row i) p i (of_code (agrees-held row p i agrees)) agrees)
+
+  -- the numbers that stand in a line are the record's, but at f
+  adds-all : (line : LineParts) → IsIn line lines → (i : ℕ) → factor line i ≢ pos 0 → Adds (without_number p f) (value_of (slice_set row f Bad) i) i
+  adds-all line there i some = by (f == i) refl
+    where
+      numerical : has_field (number_fields shape) i ≡ true
+      numerical = subst (λ (s : List Domain). has_field (number_fields s) i ≡ true) (shape-of line there) (factor-numerical line i some)
+
+      outside : (b : Bool) → has_field before i ≡ b → b ≡ false
+      outside false e = refl
+      outside true e = absurd (some (in-all (λ l. factor l i ≡ pos 0) line lines (system-flat shape edits before i over e) there))
+
+      own : (b : Bool) → b ≡ true → (if b then pos 0 else p.numerator f *ℤ pos 1) ≡ pos 0
+      own true e = refl
+      own false e = absurd (cc)
+
+      by : (b : Bool) → (f == i) ≡ b → Adds (without_number p f) (value_of (slice_set row f Bad) i) i
+      by true e =
+          let same : f ≡ i = (Decides-eqb f i).0 e in
+          subst (λ (j : ℕ). Adds (without_number p f) (value_of (slice_set row f Bad) j) j) same
+          (inr (value-set row f Bad (number-at survey.fields row f is_row number).1, own (f == f) ((Decides-eqb f f).1 refl)))
+      by false e =
+          let apart : f ≢ i = λ same. absurd (cc (sym e ∙ (Decides-eqb f i).1 same)) in
+          let (of_number, within) = number-at survey.fields row i is_row numerical in
+          let agrees : Agrees row p i = completes.agrees i within (ap (λ b. b || has_field before i) e ∙ outside (has_field before i) refl) in
+          let at_zero : Agrees row (without_number p f) i =
+          Agrees-carried row p (without_number p f) i (put-code p f (pos 0) (pos 1) (omega (arith, ints)) i) ((put-differs p f (p.code f) (pos 0) (pos 1) (omega (arith, ints))).numbers i (λ same. apart (sym same))) agrees in
+          subst (λ (v : Value). Adds (without_number p f) v i) (sym (value-other row f i Bad apart)) (inl (of_number (agrees-held row p i agrees), at_zero))
+
+  -- where the rests are in range, the numbers allowed at f are those within the bounds that the lines of the system give at the record
+  pub allowed-within : RestsFit lines row f → (x : Ratio) → pos 0 <ℤ x.denominator → AllowsNumber survey row (f ∷ before) f x ↔ AreWithinBounds lines row f x
+  allowed-within fit x above =
+      let law = allowed-bounded survey edits row f before is_row over decide number numbers other p completes x above in (
+        λ allowed line r there bounds rest.
+            let at_record = rest-over line row p f r (adds-all line there) rest in
+            (bound-over line f p r x at_record.0 at_record.1).0 (law.0 allowed line there (subst (λ (cs : List ℕ). AllInside line.sets cs) (ap (λ s. codes_in s row) (shape-of line there) ∙ sym codes-are) bounds.codes) bounds.stands),
+        λ within. law.1 (λ line there inside some.
+            let bounds : BoundsField line row f = record { codes = subst (λ (cs : List ℕ). AllInside line.sets cs) (codes-are ∙ ap (λ s. codes_in s row) (sym (shape-of line there))) inside; stands = some } in
+            let (r, rest) = fit line there bounds in
+            let at_record = rest-over line row p f r (adds-all line there) rest in
+            (bound-over line f p r x at_record.0 at_record.1).1 (within line r there bounds rest)),
+      )
+
+  -- ---- the allowed numbers are an interval
+
+  -- the lines that bound f from one side
+  abbrev on_side : (ℕ → LineParts → Bool) → List LineParts
+  on_side test = filter (λ l. test f l && is_inside l.sets (codes_at shape p)) lines
+
+  abbrev Meets_all : List LineParts → Ratio → Type 0
+  Meets_all bounds x = (line : LineParts) → IsIn line bounds → IsBoundedAt p f x line
+
+  -- the end of the numbers that the lines of one side leave
+  pub record IsEndOf (side : ℤ) (bounds : List LineParts) (end : Option End) : Type 0 where
+    pub tells : (x : Ratio) → pos 0 <ℤ x.denominator → Meets_all bounds x ↔ (is_past_any side end x ≡ true)
+
+  no_end : (side : ℤ) → IsEndOf side [] None
+  no_end side = record { tells = λ x above. (λ _. refl, λ _ line none. absurd none) }
+
+  -- a lower end
+  low-past : (a x_n x_d d r : ℤ) → a *ℤ (x_n *ℤ d) +ℤ r *ℤ x_d ≡ pos 1 *ℤ (x_n *ℤ (a *ℤ d) -ℤ neg_ℤ r *ℤ x_d)
+  low-past a x_n x_d d r = rw (parts a, parts x_n, parts x_d, parts d, parts r) (simp ring (same_dif _ _ _ _ (omega arith)))
+
+  -- and an upper one
+  high-past : (a x_n x_d d r : ℤ) → a *ℤ (x_n *ℤ d) +ℤ r *ℤ x_d ≡ negsuc 0 *ℤ (x_n *ℤ (neg_ℤ a *ℤ d) -ℤ r *ℤ x_d)
+  high-past a x_n x_d d r = rw (parts a, parts x_n, parts x_d, parts d, parts r) (simp ring (same_dif _ _ _ _ (omega arith)))
+
+  abbrev Tightest : List LineParts → LineParts → Type 0
+  Tightest bounds best = IsTightest (λ l. factor l f) (λ l. rest_at l f p) (λ (l : LineParts). l.strict) bounds best
+
+  -- the tightest line's own end is that of all
+  end-of : (side : ℤ) (bounds : List LineParts) (best : LineParts) (end : End) → Tightest bounds best → end.strict ≡ best.strict
+      → ((x : Ratio) → factor best f *ℤ (x.numerator *ℤ p.denominator) +ℤ rest_at best f p *ℤ x.denominator ≡ side *ℤ (x.numerator *ℤ end.at.denominator -ℤ end.at.numerator *ℤ x.denominator)) → IsEndOf side bounds (Some end)
+  end-of side bounds best end is strict same = record {
+    tells = λ x above. (
+      λ meets. (is_enough-Decides end.strict (gap x)).1 (subst (λ b. IsEnough b (gap x)) (sym strict) (subst (λ (z : ℤ). IsEnough best.strict z) (same x) (meets best is.there))),
+      λ past line there. is.tightest line there (x.numerator *ℤ p.denominator) x.denominator above (subst (λ (z : ℤ). IsEnough best.strict z) (sym (same x)) (subst (λ b. IsEnough b (gap x)) strict ((is_enough-Decides end.strict (gap x)).0 past))),
+    );
+  }
+    where
+      gap : Ratio → ℤ
+      gap x = side *ℤ (x.numerator *ℤ end.at.denominator -ℤ end.at.numerator *ℤ x.denominator)
+
+  lower_end : (bounds : List LineParts) → ((l : LineParts) → IsIn l bounds → pos 0 <ℤ factor l f) → (end : Option End) × IsEndOf (pos 1) bounds end
+  lower_end [] rising = (None, no_end (pos 1))
+  lower_end (l ∷ bounds) rising =
+      let (best, is) = tightest (λ l. factor l f) (λ l. rest_at l f p) (λ (l : LineParts). l.strict) l bounds
+      (λ y z y_in z_in. lower_implies (λ l. factor l f) (λ l. rest_at l f p) (λ (l : LineParts). l.strict) y z (rising y y_in) (rising z z_in)) in
+      let end : End = record {
+        at = record { numerator = neg_ℤ (rest_at best f p); denominator = factor best f *ℤ p.denominator };
+        positive = above-* (factor best f) p.denominator (rising best is.there) p.positive;
+        strict = best.strict;
+      } in
+      (Some end, end-of (pos 1) (l ∷ bounds) best end is refl (λ x. low-past (factor best f) x.numerator x.denominator p.denominator (rest_at best f p)))
+
+  upper_end : (bounds : List LineParts) → ((l : LineParts) → IsIn l bounds → factor l f <ℤ pos 0) → (end : Option End) × IsEndOf (negsuc 0) bounds end
+  upper_end [] falling = (None, no_end (negsuc 0))
+  upper_end (l ∷ bounds) falling =
+      let (best, is) = tightest (λ l. factor l f) (λ l. rest_at l f p) (λ (l : LineParts). l.strict) l bounds
+      (λ y z y_in z_in. upper_implies (λ l. factor l f) (λ l. rest_at l f p) (λ (l : LineParts). l.strict) y z (falling y y_in) (falling z z_in)) in
+      let end : End = record {
+        at = record { numerator = rest_at best f p; denominator = neg_ℤ (factor best f) *ℤ p.denominator };
+        positive = above-* (neg_ℤ (factor best f)) p.denominator (above_neg (factor best f) (falling best is.there)) p.positive;
+        strict = best.strict;
+      } in
+      (Some end, end-of (negsuc 0) (l ∷ bounds) best end is refl (λ x. high-past (factor best f) x.numerator x.denominator p.denominator (rest_at best f p)))
+
+  -- where some correction completes the record, the numbers allowed at f are an interval that is not empty, and its ends are fractions
+  pub allowed-interval : (i : Interval) × ((x : Ratio) → pos 0 <ℤ x.denominator → AllowsNumber survey row (f ∷ before) f x ↔ IsTrue (is_within i x)) × ((x : Ratio) × (pos 0 <ℤ x.denominator) × AllowsNumber survey row (f ∷ before) f x)
+  allowed-interval =
+      let (low, low_is) = lower_end (on_side is_lower) (λ l there. above_tells (factor l f) (both_true _ _ (in-filter-out _ l lines there).1).0) in
+      let (high, high_is) = upper_end (on_side is_upper) (λ l there. below_tells (factor l f) (both_true _ _ (in-filter-out _ l lines there).1).0) in (
+        record { lower = low; upper = high },
+        λ x above. exact x above low high low_is high_is,
+        (record { numerator = p.numerator f; denominator = p.denominator }, p.positive, (p, completes, refl)),
+      )
+    where
+      both : (a b : Bool) → a ≡ true → b ≡ true → (a && b) ≡ true
+      both true b e h = h
+      both false b e h = absurd (cc)
+
+      told_above : (a : ℤ) → pos 0 <ℤ a → int_lt (pos 0) a ≡ true
+      told_above a h = grind (arith, ints)
+
+      told_below : (a : ℤ) → a <ℤ pos 0 → int_lt a (pos 0) ≡ true
+      told_below a h = grind (arith, ints)
+
+      of_side : (test : ℕ → LineParts → Bool) (x : Ratio)
+          → ((line : LineParts) → IsIn line lines → AllInside line.sets (codes_at shape p) → factor line f ≢ pos 0 → IsBoundedAt p f x line) → ((l : LineParts) → test f l ≡ true → factor l f ≢ pos 0) → Meets_all (on_side test) x
+      of_side test x bounded stands line there =
+          let (was, passes) = in-filter-out (λ l. test f l && is_inside l.sets (codes_at shape p)) line lines there in
+          let (side, inside) = both_true _ _ passes in
+          bounded line was ((is_inside-Decides line.sets (codes_at shape p)).0 inside) (stands line side)
+
+      exact : (x : Ratio) → pos 0 <ℤ x.denominator → (low high : Option End) → IsEndOf (pos 1) (on_side is_lower) low → IsEndOf (negsuc 0) (on_side is_upper) high
+          → AllowsNumber survey row (f ∷ before) f x ↔ IsTrue (is_within (record { lower = low; upper = high }) x)
+      exact x above low high low_is high_is =
+          let law = allowed-bounded survey edits row f before is_row over decide number numbers other p completes x above in (
+            λ allowed.
+                let bounded = law.0 allowed in
+                both _ _ ((low_is.tells x above).0 (of_side is_lower x bounded (λ l is none. absurd (cc (sym is ∙ ap (λ (a : ℤ). int_lt (pos 0) a) none)))))
+                ((high_is.tells x above).0 (of_side is_upper x bounded (λ l is none. absurd (cc (sym is ∙ ap (λ (a : ℤ). int_lt a (pos 0)) none))))),
+            λ within.
+                let (past_low, past_high) = both_true _ _ within in
+                law.1 (λ line there inside some. at line there inside some (by_sign (factor line f)) ((low_is.tells x above).1 past_low) ((high_is.tells x above).1 past_high)),
+          )
+        where
+          at : (line : LineParts) → IsIn line lines → AllInside line.sets (codes_at shape p) → factor line f ≢ pos 0 → (pos 0 <ℤ factor line f) ⊎ ((factor line f ≡ pos 0) ⊎ (factor line f <ℤ pos 0))
+              → Meets_all (on_side is_lower) x → Meets_all (on_side is_upper) x → IsBoundedAt p f x line
+          at line there inside some (inl above) lows highs =
+              lows line (in-filter (λ l. is_lower f l && is_inside l.sets (codes_at shape p)) line lines (both _ _ (told_above (factor line f) above) ((is_inside-Decides line.sets (codes_at shape p)).1 inside)) there)
+          at line there inside some (inr (inl none)) lows highs = absurd (some none)
+          at line there inside some (inr (inr below)) lows highs =
+              highs line (in-filter (λ l. is_upper f l && is_inside l.sets (codes_at shape p)) line lines (both _ _ (told_below (factor line f) below) ((is_inside-Decides line.sets (codes_at shape p)).1 inside)) there)

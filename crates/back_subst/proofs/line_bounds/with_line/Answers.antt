@@ -1,0 +1,75 @@
+use Rattle.std.proofs.Common.{◌≡◌, ◌≢◌, ◌<◌, Ok, int_lt, length, get_or, ℤ, List, pos, sym, ap, ◌∙◌, arith, FitsSigned, to_z, of_z, rules}
+use mir.Syntax.{w128}
+use Rattle.std.proofs.lemmas.Int.{to_z-of_z}
+use Rattle.fraction128.specs.Formulas.{answered, divided, ratio_of, then_some}
+use Rattle.edit_line.specs.Lines.{factor}
+use Rattle.edit_line.specs.Shapes.{number_fields, shape_of}
+use Rattle.edit_line.specs.Sums.{sum_at}
+use Rattle.edit_line.proofs.ShapeLaws.{place-within}
+use lib.IntN.{neg_ℤ}
+use Rattle.back_subst.specs.NumberWalk.{found_at, value_in, with_found}
+use Rattle.back_subst.specs.inner.Sides.{ends_of}
+use Rattle.back_subst.proofs.LineSteps.{factor-at, with-bound, without-bound, without-codes, without-factor}
+use Rattle.back_subst.proofs.line_bounds.with_line.Goals as goal
+use Rattle.back_subst.proofs.line_bounds.with_line.Goals.{After-factors, then-factor-eq0-via-then-factor-eq0, then-factor-eq0-via-else-factor-eq0+then-not-has_codes_of}
+
+module _ (c : After-factors) where
+  within : c.args.place < length c.factors.result.now
+  within =
+      let shape = shape_of c.args.survey.now.fields in
+      let found = place-within (number_fields shape) c.args.field c.requires.numerical in
+      let many = ap length c.factors.ensures.factors ∙ c.factors.ensures.count ∙ ap (λ s. length (number_fields s)) c.requires.shape in
+      omega (arith, found, many, c.requires.place)
+
+  -- the factor that is read is the field's
+  read : FitsSigned w128 (get_or c.factors.result.now c.args.place (pos 0)) → to_z w128 (of_z w128 (get_or c.factors.result.now c.args.place (pos 0))) ≡ factor c.args.line.now c.args.field
+  read fits =
+      to_z-of_z w128 _ fits ∙ ap (λ (fs : List ℤ). get_or fs c.args.place (pos 0)) c.factors.ensures.factors
+      ∙ factor-at (shape_of c.args.survey.now.fields) c.args.line.now c.args.field c.args.place c.requires.shape c.factors.ensures.count c.requires.place
+
+pub offset_bounds-factors-place : goal.offset_bounds-factors-place
+offset_bounds-factors-place c =
+    let below = within (goal.at.offset_bounds-factors-place c).After-factors in
+    search rules
+
+pub bounds-factors-place : goal.bounds-factors-place
+bounds-factors-place c = within (goal.at.bounds-factors-place c).After-factors
+
+pub returns-then-factor-eq0 : goal.returns-then-factor-eq0
+returns-then-factor-eq0 c =
+    let line = c.args.line.now in
+    let at = (goal.at.returns-then-factor-eq0 c).After-factors in
+    elim c.then-factor-eq0.branch [
+      | then-factor-eq0-via-then-factor-eq0 w ↦
+          let fits : FitsSigned w128 (get_or c.factors.result.now c.args.place (pos 0)) = search rules in
+          without-factor c.args.i c.args.field line c.args.row.now (ends_of c.args.bounds) (sym (read at fits) ∙ ap (to_z w128) w.if-factor-eq0.true)
+      | then-factor-eq0-via-else-factor-eq0+then-not-has_codes_of w ↦ without-codes c.args.i c.args.field line c.args.row.now (ends_of c.args.bounds) (sym w.if-not-has_codes_of.ensures)
+    ]
+
+pub returns-in-Ok : goal.returns-in-Ok
+returns-in-Ok c =
+    let line = c.args.line.now in
+    let row = c.args.row.now in
+    let f = c.args.field in
+    let at = (goal.at.returns-in-Ok c).After-factors in
+    let fits : FitsSigned w128 (get_or c.factors.result.now c.args.place (pos 0)) = search rules in
+    let own = read at fits in
+    let some : factor line f ≢ pos 0 = λ none. c.if-factor-eq0.false (ap (of_z w128) (sym (to_z-of_z w128 _ fits) ∙ own ∙ none)) in
+    let bound = c.bound_at.ensures ∙ ap (λ (k : ℤ). then_some (value_in (sum_at line row)) (λ s. divided s (neg_ℤ k))) own in
+    ap Ok (
+    c.with.ensures ∙ ap (λ (k : ℤ). with_found (ends_of c.args.bounds) (int_lt (pos 0) k) (found_at (ratio_of c.in-Ok.at) c.strict.result c.args.i)) own
+    ∙ ap (λ s. with_found (ends_of c.args.bounds) (int_lt (pos 0) (factor line f)) (found_at (ratio_of c.in-Ok.at) s c.args.i)) c.strict.ensures
+    )
+    ∙ with-bound c.args.i f line row (ends_of c.args.bounds) (sym c.if-not-has_codes_of.ensures) some c.requires.blank (answered c.bound_at.result) bound (ratio_of c.in-Ok.at) (ap answered c.in-Ok.is)
+
+pub returns-in-Err : goal.returns-in-Err
+returns-in-Err c =
+    let line = c.args.line.now in
+    let row = c.args.row.now in
+    let f = c.args.field in
+    let at = (goal.at.returns-in-Err c).After-factors in
+    let fits : FitsSigned w128 (get_or c.factors.result.now c.args.place (pos 0)) = search rules in
+    let own = read at fits in
+    let some : factor line f ≢ pos 0 = λ none. c.if-factor-eq0.false (ap (of_z w128) (sym (to_z-of_z w128 _ fits) ∙ own ∙ none)) in
+    let bound = c.bound_at.ensures ∙ ap (λ (k : ℤ). then_some (value_in (sum_at line row)) (λ s. divided s (neg_ℤ k))) own in
+    without-bound c.args.i f line row (ends_of c.args.bounds) (sym c.if-not-has_codes_of.ensures) some c.requires.blank (answered c.bound_at.result) bound (ap answered c.in-Err.is)

@@ -1,0 +1,114 @@
+use Rattle.std.specs.Prelude.{ℕ, suc, ℤ, pos, negsuc, ◌-ℤ◌, ◌*ℤ◌, ◌&&◌, ◌||◌, not, Bool, List, [], ◌∷◌, Option, Some, None, Result, Ok, Err, int_lt, if◌then◌else◌, slice_set}
+use lib.IntN.{neg_ℤ}
+use Rattle.std.specs.Ordering.{int_eq}
+use Rattle.fraction128.specs.Formulas.{Ratio, added, divided, middle, then_some}
+use Rattle.edit_model.specs.declared.value.Value.{Value}
+use Rattle.edit_line.specs.CodeFields.{codes_in}
+use Rattle.edit_line.specs.Lines.{LineParts, factor}
+use Rattle.edit_line.specs.Sets.{is_inside}
+use Rattle.edit_line.specs.Subsumption.{is_enough}
+use Rattle.edit_line.specs.Sums.{sum_at, whole}
+use Rattle.edit_model.specs.declared.value.Value.TheVariants.{Bad}
+
+-- The number of a field as the walk finds it, in numbers of at most 127 bits; or the place of the line at which one leaves the range.
+
+-- an answer's value, if it has one
+abbrev pub value_in : {A E : Type 0} → Result A E → Option A
+value_in (Ok a) = Some a
+value_in (Err e) = None
+
+-- whether the line bounds the field at the record
+abbrev pub is_bounding : LineParts → List Value → ℕ → Bool
+is_bounding line row f = is_inside line.sets (codes_in line.shape row) && not (int_eq (factor line f) (pos 0))
+
+-- the line's sum at the record without a field: what a value adds that is no number is nothing
+abbrev pub rest_of : LineParts → List Value → ℕ → Result Ratio ℕ
+rest_of line row f = sum_at line (slice_set row f Bad)
+
+-- the bound of the line: its rest, divided by the negative of its factor
+abbrev pub bound_at : LineParts → List Value → ℕ → Option Ratio
+bound_at line row f = then_some (value_in (rest_of line row f)) (λ rest. divided rest (neg_ℤ (factor line f)))
+
+-- a bound that was found, and the place of its line
+pub record Found : Type 0 where
+  pub at : Ratio
+  pub strict : Bool
+  pub line : ℕ
+
+abbrev pub found_at : Ratio → Bool → ℕ → Found
+found_at at strict line = record { at = at; strict = strict; line = line }
+
+-- how far a number is inside a bound, seen from a side
+abbrev pub inside_by : ℤ → Found → Ratio → ℤ
+inside_by side b x = side *ℤ (x.numerator *ℤ b.at.denominator -ℤ b.at.numerator *ℤ x.denominator)
+
+-- whether a later bound is tighter: it is further in, or is the same number and only it is left out
+abbrev pub is_tighter : ℤ → Found → Found → Bool
+is_tighter side old new =
+    let gap = inside_by side old new.at in
+    int_lt (pos 0) gap || (int_eq gap (pos 0) && (new.strict && not old.strict))
+
+-- the tighter of two bounds, the earlier one where they are equal
+abbrev pub tighter : ℤ → Option Found → Found → Found
+tighter side None new = new
+tighter side (Some old) new = if is_tighter side old new then new else old
+
+-- the bounds so far
+pub record FoundEnds : Type 0 where
+  pub lower : Option Found
+  pub upper : Option Found
+
+abbrev pub no_ends : FoundEnds
+no_ends = record { lower = None; upper = None }
+
+-- the bounds, and one more: a lower one where the factor is positive
+abbrev pub with_found : FoundEnds → Bool → Found → FoundEnds
+with_found ends lower new =
+    if lower then record { lower = Some (tighter (pos 1) ends.lower new); upper = ends.upper } else record { lower = ends.lower; upper = Some (tighter (negsuc 0) ends.upper new) }
+
+-- the next answer, or the place of the line
+abbrev pub or_place : {A B : Type 0} → ℕ → Option A → (A → Result B ℕ) → Result B ℕ
+or_place place None next = Err place
+or_place place (Some a) next = next a
+
+-- the bounds with that of the line at place i, if it gives one
+abbrev pub with_line : ℕ → LineParts → List Value → ℕ → FoundEnds → Result FoundEnds ℕ
+with_line i line row f ends =
+    if is_bounding line row f
+    then or_place i (bound_at line row f) (λ at. Ok (with_found ends (int_lt (pos 0) (factor line f)) (found_at at line.strict i)))
+    else Ok ends
+
+-- the bounds of the lines, from place i on
+abbrev pub ends_from : ℕ → List LineParts → List Value → ℕ → FoundEnds → Result FoundEnds ℕ
+ends_from i [] row f ends = Ok ends
+ends_from i (line ∷ lines) row f ends =
+    if is_bounding line row f
+    then or_place i (bound_at line row f) (λ at. ends_from (suc i) lines row f (with_found ends (int_lt (pos 0) (factor line f)) (found_at at line.strict i)))
+    else ends_from (suc i) lines row f ends
+
+-- the middle of both bounds, or one further in, where there is no other
+abbrev pub step_in : ℤ → Ratio → Option Found → Option Ratio
+step_in side x None = added x (whole side)
+step_in side x (Some other) = middle x other.at
+
+-- the number at a bound, where that keeps the target out
+abbrev pub number_at : ℤ → Found → Option Found → Result Ratio ℕ
+number_at side b other = if b.strict then or_place b.line (step_in side b.at other) (λ x. Ok x) else Ok b.at
+
+-- the number at a bound that keeps the target out, and else the next answer
+abbrev pub unless_out : ℤ → Option Found → Option Found → Ratio → Result Ratio ℕ → Result Ratio ℕ
+unless_out side None other target next = next
+unless_out side (Some b) other target next =
+    if is_enough b.strict (inside_by side b target) then next else number_at side b other
+
+-- the number nearest to the target between the bounds
+abbrev pub nearest_found : FoundEnds → Ratio → Result Ratio ℕ
+nearest_found ends target = unless_out (pos 1) ends.lower ends.upper target (unless_out (negsuc 0) ends.upper ends.lower target (Ok target))
+
+abbrev pub then_nearest : Result FoundEnds ℕ → Ratio → Result Ratio ℕ
+then_nearest (Ok ends) target = nearest_found ends target
+then_nearest (Err place) target = Err place
+
+-- the number that the lines give to the field for the target, or the place of the line at which a number leaves the range
+abbrev pub number_result : List LineParts → List Value → ℕ → Ratio → Result Ratio ℕ
+number_result lines row f target = then_nearest (ends_from 0 lines row f no_ends) target

@@ -1,0 +1,6 @@
+pub mod Bounds
+pub mod Codes
+pub mod Sides
+pub mod Systems
+pub mod TestSurveys
+pub mod UnderWay

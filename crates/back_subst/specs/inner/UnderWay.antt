@@ -1,0 +1,68 @@
+use Rattle.std.specs.Prelude.{◌≡◌, ◌≢◌, ◌<◌, All, ◌↔◌, ◌==◌, ◌++◌, ℕ, true, false, List, [], ◌∷◌, Option, Ok, Err, IfSome, length, reverse}
+use Rattle.std.specs.List.{filter}
+use Rattle.edit_model.specs.Corrections as corrections
+use Rattle.edit_model.specs.FieldSets.{has_number}
+use Rattle.edit_model.specs.declared.field.Field.{Field}
+use Rattle.edit_model.specs.Parts.{SurveyParts}
+use Rattle.edit_model.specs.Points.{Point}
+use Rattle.edit_model.specs.Rows.{IsRow, value_of}
+use Rattle.edit_model.specs.declared.value.Value.{Value}
+use Rattle.edit_model.specs.declared.value.Value.TheVariants.{Bad}
+use Rattle.edit_line.specs.Lines.{HaveShape, LineParts}
+use Rattle.edit_line.specs.Shapes.{Domain, code_fields, has_field, shape_of}
+use Rattle.linear_elim.specs.Systems.{system}
+use Rattle.categ_combine.specs.FailingBoxes.{failing_boxes}
+use Rattle.back_subst.specs.Allowed.{Completes}
+use Rattle.back_subst.specs.GiveFaults.{AreGivenFirst}
+use Rattle.back_subst.specs.Given.{number_in}
+use Rattle.back_subst.specs.NumberWalk.{number_result}
+use Rattle.back_subst.specs.inner.Bounds.{DecideFor}
+
+-- the record is Bad exactly at those categorical fields, other than g, that are left
+abbrev pub AreBlankBut : List Domain → List Value → List ℕ → ℕ → Type 0
+AreBlankBut shape row left g = (i : ℕ) → has_field (code_fields shape) i ≡ true → (i == g) ≡ false → (has_field left i ≡ true) ↔ (value_of row i ≡ Bad)
+
+-- each field stands once in the list
+abbrev pub AreDistinct : List ℕ → Type 0
+AreDistinct [] = Unit {0}
+AreDistinct (i ∷ fields) = (has_field fields i ≡ false) × AreDistinct fields
+
+-- the changed fields of each kind in the order in which they are given values, the last first
+pub record AreOrders (fields : List Field) (codes numbers : List ℕ) : Type 0 where
+  pub changed : ℕ
+  pub codes_small : All (λ f. f < 64) codes
+  pub numbers_small : All (λ f. f < 64) numbers
+  pub codes_are : codes ≡ reverse (filter (has_number changed) (corrections.code_fields fields))
+  pub numbers_are : numbers ≡ reverse (filter (has_number changed) (corrections.number_fields fields))
+
+-- values are being given: those at the first fields of an order are given, and the record is Bad at the others, which are left; at all other fields it is as before
+pub record IsUnderWay (survey : SurveyParts) (edits : List LineParts) (target : ℕ → Value) (row : List Value) (given left : List ℕ) (so_far : List Value) : Type 0 where
+  pub is_row : IsRow survey.fields so_far
+  pub keeps : (f : ℕ) → has_field (given ++ left) f ≡ false → value_of so_far f ≡ value_of row f
+  pub blank : (f : ℕ) → has_field left f ≡ true → value_of so_far f ≡ Bad
+  pub distinct : AreDistinct (given ++ left)
+  pub first : AreGivenFirst survey target so_far given left
+  pub decide : DecideFor survey edits so_far left
+  pub point : Point
+  pub completes : Completes survey so_far left point
+
+-- the giving stopped in an order of numerical fields: at a field, at a line of the system of those after it
+pub record StopsAmong (survey : SurveyParts) (edits : List LineParts) (target : ℕ → Value) (row : List Value) (given order : List ℕ) (field line : ℕ) : Type 0 where
+  pub first : List ℕ
+  pub rest : List ℕ
+  pub order_is : order ≡ first ++ field ∷ rest
+  pub so_far : List Value
+  pub way : IsUnderWay survey edits target row (given ++ first) (field ∷ rest) so_far
+  pub stops : number_result (system edits (reverse rest)) so_far field (number_in (target field)) ≡ Err line
+
+-- codes are to be given at the fields of an order, by the lines of the system without the changed numerical fields, none of which leaves the range at the record
+pub record AreCodesToGive (survey : SurveyParts) (target : ℕ → Value) (lines : List LineParts) (order : List ℕ) (so_far : List Value) : Type 0 where
+  pub row : List Value
+  pub numbers : List ℕ
+  pub edits : List LineParts
+  pub orders : AreOrders survey.fields order numbers
+  pub over : HaveShape (shape_of survey.fields) edits
+  pub lines_are : lines ≡ system edits (reverse numbers)
+  pub boxes : List (List ℕ)
+  pub made : failing_boxes lines row ≡ Ok boxes
+  pub way : IsUnderWay survey edits target row [] (order ++ numbers) so_far

@@ -1,0 +1,151 @@
+ghost use Rattle.std.specs.Prelude.{◌≡◌};
+ghost use Rattle.fraction128.specs.Formulas.{answered, ratio_of};
+ghost use Rattle.edit_line.specs.Subsumption.{is_enough};
+ghost use Rattle.edit_line.specs.Sums.{whole};
+ghost use Rattle.back_subst.specs.NumberWalk.{inside_by, is_tighter, nearest_found, no_ends, number_at, step_in, tighter, with_found};
+ghost use Rattle.back_subst.specs.inner.Sides.{ends_of, found_any, found_of, number_told, side_of};
+
+use fraction128::{Fraction, Overflow};
+use std::cmp::Ordering;
+
+/// A bound of a field's numbers: a lower or an upper one.
+#[derive(Clone, Copy, Debug, PartialEq, Eq)]
+pub struct Bound {
+    /// Where the numbers end.
+    pub at: Fraction,
+    /// Whether this number is left out.
+    pub strict: bool,
+    /// The place, in the system, of the line that gave it.
+    pub line: u64,
+}
+
+/// The bounds of a field's numbers, where there are such.
+#[derive(Clone, Copy, Debug, PartialEq, Eq)]
+pub struct Bounds {
+    pub lower: Option<Bound>,
+    pub upper: Option<Bound>,
+}
+
+impl Bound {
+    /// Whether the number is on the inner side of the bound, which is a lower or an upper one.
+    pub fn admits(self, lower: bool, x: Fraction) -> bool
+        ensures { result ≡ is_enough self.strict (inside_by (side_of lower) (found_of self) (ratio_of x)) }
+    {
+        match x.compare(self.at) {
+            Ordering::Less => !lower,
+            Ordering::Equal => !self.strict,
+            Ordering::Greater => lower,
+        }
+    }
+
+    /// Whether this bound, which comes later, is tighter than the other: it is further in, or is the
+    /// same number and left out where the other is not.
+    fn is_tighter(self, lower: bool, other: Bound) -> bool
+        ensures { result ≡ is_tighter (side_of lower) (found_of other) (found_of self) }
+    {
+        match self.at.compare(other.at) {
+            Ordering::Less => !lower,
+            Ordering::Equal => self.strict && !other.strict,
+            Ordering::Greater => lower,
+        }
+    }
+
+    /// The tighter of both bounds; the earlier one where they are equal.
+    pub fn narrow(self, lower: bool, old: Option<Bound>) -> Bound
+        ensures { found_of result ≡ tighter (side_of lower) (found_any old) (found_of self) }
+    {
+        match old {
+            None => self,
+            Some(other) => {
+                if self.is_tighter(lower, other) {
+                    self
+                } else {
+                    other
+                }
+            }
+        }
+    }
+
+    /// The number at this bound, where the target is not past it: the bound, or, where that is left out,
+    /// the middle of both bounds, or one further in where there is no other. The line of this bound where
+    /// a number leaves the range.
+    fn nearest_at(self, lower: bool, other: Option<Bound>) -> Result<Fraction, u64>
+        ensures { number_told result ≡ number_at (side_of lower) (found_of self) (found_any other) }
+    {
+        if !self.strict {
+            return Ok(self.at);
+        }
+        match self.further_in(lower, other) {
+            Ok(x) => Ok(x),
+            Err(Overflow) => Err(self.line),
+        }
+    }
+
+    /// The middle of both bounds, or one further in where there is no other.
+    fn further_in(self, lower: bool, other: Option<Bound>) -> Result<Fraction, Overflow>
+        ensures { answered result ≡ step_in (side_of lower) (ratio_of self.at) (found_any other) }
+    {
+        match other {
+            Some(other) => self.at.middle(other.at),
+            None => self.at.add(inward(lower)),
+        }
+    }
+}
+
+/// 1 for a lower bound, -1 for an upper one.
+fn inward(lower: bool) -> Fraction
+    ensures { ratio_of result ≡ whole (side_of lower) }
+{
+    if lower {
+        Fraction::whole(1)
+    } else {
+        Fraction::whole(-1)
+    }
+}
+
+impl Bounds {
+    /// No bounds: all numbers.
+    pub fn none() -> Bounds
+        ensures { ends_of result ≡ no_ends }
+    {
+        Bounds {
+            lower: None,
+            upper: None,
+        }
+    }
+
+    /// The number between the bounds that is given for the target: the target, or the one at the bound
+    /// that keeps it out. The place of that bound's line where a number leaves the range.
+    pub fn nearest(self, target: Fraction) -> Result<Fraction, u64>
+        ensures { number_told result ≡ nearest_found (ends_of self) (ratio_of target) }
+    {
+        if let Some(lower) = self.lower {
+            if !lower.admits(true, target) {
+                return lower.nearest_at(true, self.upper);
+            }
+        }
+        if let Some(upper) = self.upper {
+            if !upper.admits(false, target) {
+                return upper.nearest_at(false, self.lower);
+            }
+        }
+        Ok(target)
+    }
+
+    /// The bounds, and one more.
+    pub fn with(self, lower: bool, new: Bound) -> Bounds
+        ensures { ends_of result ≡ with_found (ends_of self) lower (found_of new) }
+    {
+        if lower {
+            Bounds {
+                lower: Some(new.narrow(true, self.lower)),
+                upper: self.upper,
+            }
+        } else {
+            Bounds {
+                lower: self.lower,
+                upper: Some(new.narrow(false, self.upper)),
+            }
+        }
+    }
+}

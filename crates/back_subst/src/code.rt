@@ -1,0 +1,146 @@
+//! The code that is given to a categorical field.
+ghost use Rattle.std.specs.Prelude.{◌≡◌, ◌<◌, ◌==◌, ◌↔◌, Ok, false, true, All, IfNone, IfOk, IfSome, IsTrue, List, ℕ, length, slice_index_or};
+ghost use Rattle.std.specs.List.{list_any};
+ghost use Rattle.edit_model.specs.Points.{has_code};
+ghost use Rattle.edit_model.specs.Rows.{IsRow, value_of};
+ghost use Rattle.edit_line.specs.CodeFields.{TakesCodes, place_of, size_of};
+ghost use Rattle.edit_line.specs.Reductions.{lines_of};
+ghost use Rattle.edit_line.specs.Shapes.{Domain, IsCategorical, code_fields, shape_of};
+ghost use Rattle.categ_combine.specs.BoxLists.{AreBoxesOver, sets_of};
+ghost use Rattle.categ_combine.specs.FailingBoxes.{failing_boxes};
+ghost use Rattle.back_subst.specs.Given.{IsGivenCode};
+ghost use Rattle.back_subst.specs.inner.Codes.{IsFree, boxes_for, is_free_at, settled_by};
+ghost use Rattle.back_subst.specs.inner.UnderWay.{AreBlankBut};
+
+use crate::line_bounds::place_among;
+use categ_combine::{BoxFault, BoxFrom, Covered, boxes_of, cat_step, fix};
+use edit_line::{Derived, Shape, has_code};
+use edit_model::{Row, Survey, Value};
+use foundation::OutOfMemory;
+use std::alloc::Global;
+
+/// The code that is given to a categorical field of the record, where the record is Bad at the fields that
+/// are left after it, and these are the lines of the system without the changed numerical fields: the
+/// target, where no box has it after the other fields are settled, and else the first code that none has.
+/// There is such a code.
+pub(crate) fn code_for(
+    alloc: Global,
+    survey: &Survey,
+    lines: &[Derived],
+    row: &Row,
+    field: u32,
+    target: u8,
+) -> Result<u8, OutOfMemory>
+    requires shape { All (λ d. d.line.shape ≡ shape_of survey.now.fields) lines.now }
+    requires row { IsRow survey.now.fields row.now }
+    requires field { IsCategorical (shape_of survey.now.fields) field }
+    requires codes { (f : ℕ) → IsCategorical (shape_of survey.now.fields) f → TakesCodes (shape_of survey.now.fields) f }
+    requires some { (left : List ℕ) × AreBlankBut (shape_of survey.now.fields) row.now left field
+        × (boxes : List (List ℕ)) × (failing_boxes (lines_of lines.now) row.now ≡ Ok boxes)
+        × ((code : ℕ) × IsFree (shape_of survey.now.fields) (boxes_for (shape_of survey.now.fields) row.now left field boxes) field code) }
+    ensures { IfOk result (λ code. (boxes : List (List ℕ)) × (failing_boxes (lines_of lines.now) row.now ≡ Ok boxes)
+        × ((left : List ℕ) → AreBlankBut (shape_of survey.now.fields) row.now left field
+        → IsGivenCode (IsFree (shape_of survey.now.fields) (boxes_for (shape_of survey.now.fields) row.now left field boxes) field) target code)) }
+{
+    let boxes = match boxes_of(alloc, survey, lines, row) {
+        Ok(boxes) => boxes,
+        Err(BoxFault::OutOfMemory) => return Err(OutOfMemory),
+        Err(BoxFault::Overflow { .. }) => unreachable!(),
+    };
+    let settled = settle_others(alloc, survey, boxes, row, field)?;
+    Ok(first_free(survey, &settled, field, target))
+}
+
+// The boxes after all categorical fields but one.
+fn settle_others(
+    alloc: Global,
+    survey: &Survey,
+    boxes: Vec<BoxFrom>,
+    row: &Row,
+    but: u32,
+) -> Result<Vec<BoxFrom>, OutOfMemory>
+    requires over { AreBoxesOver (shape_of survey.now.fields) boxes.items }
+    requires row { IsRow survey.now.fields row.now }
+    requires codes { (f : ℕ) → IsCategorical (shape_of survey.now.fields) f → TakesCodes (shape_of survey.now.fields) f }
+    ensures over { IfOk result (λ kept. AreBoxesOver (shape_of survey.now.fields) kept.items) }
+    ensures sets { IfOk result (λ kept. (left : List ℕ) → AreBlankBut (shape_of survey.now.fields) row.now left but
+        → sets_of kept.items ≡ boxes_for (shape_of survey.now.fields) row.now left but (sets_of boxes.items)) }
+{
+    let mut kept = boxes;
+    for field in survey.codes() {
+        if *field != but {
+            kept = settled(alloc, survey, &kept, row, *field)?;
+        }
+    }
+    Ok(kept)
+}
+
+// The boxes after one field: it is eliminated where the record is Bad, and else fixed at its code.
+fn settled(
+    alloc: Global,
+    survey: &Survey,
+    boxes: &[BoxFrom],
+    row: &Row,
+    field: u32,
+) -> Result<Vec<BoxFrom>, OutOfMemory>
+    requires over { AreBoxesOver (shape_of survey.now.fields) boxes.now }
+    requires row { IsRow survey.now.fields row.now }
+    requires field { IsCategorical (shape_of survey.now.fields) field }
+    requires codes { TakesCodes (shape_of survey.now.fields) field }
+    ensures over { IfOk result (λ kept. AreBoxesOver (shape_of survey.now.fields) kept.items) }
+    ensures sets { IfOk result (λ kept. sets_of kept.items ≡ settled_by (shape_of survey.now.fields) (value_of row.now field) field (sets_of boxes.now)) }
+{
+    match row.value(field) {
+        Value::Code(code) => fix(alloc, boxes, field, *code),
+        Value::Number(_) | Value::Bad => match cat_step(alloc, boxes, field, u64::MAX)? {
+            Covered::Done { boxes, .. } => Ok(boxes.into_vec()),
+            Covered::Passed => Err(OutOfMemory),
+        },
+    }
+}
+
+// The target, where no box has it, and else the first code that none has. There is such a code.
+fn first_free(survey: &Survey, boxes: &[BoxFrom], field: u32, target: u8) -> u8
+    requires over { AreBoxesOver (shape_of survey.now.fields) boxes.now }
+    requires field { IsCategorical (shape_of survey.now.fields) field }
+    requires some { (code : ℕ) × IsFree (shape_of survey.now.fields) (sets_of boxes.now) field code }
+    ensures { IsGivenCode (IsFree (shape_of survey.now.fields) (sets_of boxes.now) field) target result }
+{
+    let size = Shape::of(survey).size_of(field);
+    let place = place_among(survey.codes(), field);
+    if target < size && is_free(boxes, place, target) {
+        return target;
+    }
+    match first_among(boxes, place, size) {
+        Some(code) => code,
+        None => unreachable!(),
+    }
+}
+
+/// The first of so many codes that no box has at the place.
+pub(crate) fn first_among(boxes: &[BoxFrom], place: usize, size: u8) -> Option<u8>
+    requires { (shape : List Domain) × AreBoxesOver shape boxes.now × (place < length (code_fields shape)) }
+    ensures free { IfSome result (λ code. (code < size) × (is_free_at (sets_of boxes.now) place code ≡ true)
+        × ((c : ℕ) → c < code → is_free_at (sets_of boxes.now) place c ≡ false)) }
+    ensures none { IfNone result ((c : ℕ) → c < size → is_free_at (sets_of boxes.now) place c ≡ false) }
+{
+    for code in 0..size {
+        if is_free(boxes, place, code) {
+            return Some(code);
+        }
+    }
+    None
+}
+
+/// Whether no box has the code at the place.
+pub(crate) fn is_free(boxes: &[BoxFrom], place: usize, code: u8) -> bool
+    requires { (shape : List Domain) × AreBoxesOver shape boxes.now × (place < length (code_fields shape)) }
+    ensures { result ≡ is_free_at (sets_of boxes.now) place code }
+{
+    for b in boxes {
+        if has_code(b.sets()[place], code) {
+            return false;
+        }
+    }
+    true
+}

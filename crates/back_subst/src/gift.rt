@@ -1,0 +1,42 @@
+use edit_model::Row;
+use foundation::{OutOfMemory, Sequence};
+
+/// How the value at a changed field was found.
+#[derive(Clone, Copy, Debug, PartialEq, Eq)]
+pub enum How {
+    /// It is the donor's.
+    Donor,
+    /// There is no donor, and it is 0 or the first code.
+    Default,
+    /// It is the allowed value nearest to the target.
+    Nearest,
+}
+
+/// A record that was given values, and how each was found, per changed field in path order.
+#[derive(Debug, Drop)]
+pub struct Gift {
+    pub row: Row,
+    pub how: Sequence<How>,
+}
+
+/// Why no values are given.
+#[derive(Clone, Copy, Debug, PartialEq, Eq)]
+pub enum GiveFault {
+    /// A number of a bound of the field, by the line at this place, leaves the range.
+    Bound { field: u32, line: u64 },
+    /// A number of the final test of a rule leaves the range.
+    Test { rule: u32 },
+    /// Want of memory.
+    OutOfMemory,
+}
+
+impl From<OutOfMemory> for GiveFault {
+    ghost use Rattle.std.specs.Prelude.{◌≡◌};
+    ghost use Rattle.back_subst.specs.declared.gift.GiveFault.TheVariants as faults;
+
+    ghost from_gives = { λ _ fault. fault ≡ faults.OutOfMemory };
+
+    fn from(_refused: OutOfMemory) -> Self {
+        GiveFault::OutOfMemory
+    }
+}

@@ -1,0 +1,94 @@
+//! The values that are given to fields of a record, one after the other.
+ghost use Rattle.std.specs.Prelude.{◌≡◌, ◌≢◌, ◌++◌, [], Err, List, Ok, OnOk, option_copied, reverse, true, ℕ};
+ghost use Rattle.std.specs.Arc.{arc_value};
+ghost use Rattle.edit_model.specs.declared.value.Value as value;
+ghost use Rattle.edit_line.specs.EditSets.{EditsParts};
+ghost use Rattle.edit_line.specs.Lines.{HaveShape};
+ghost use Rattle.edit_line.specs.Reductions.{lines_of};
+ghost use Rattle.edit_line.specs.Shapes.{shape_of};
+ghost use Rattle.edit_line.specs.declared.derived.Derived as derived;
+ghost use Rattle.linear_elim.specs.Systems.{system_of};
+ghost use Rattle.back_subst.specs.Gifts.{IsDonor};
+ghost use Rattle.back_subst.specs.Given.{target_of};
+ghost use Rattle.back_subst.specs.inner.Systems.{start_lines};
+ghost use Rattle.back_subst.specs.inner.UnderWay.{AreCodesToGive, AreOrders, IsUnderWay, StopsAmong};
+ghost use Rattle.back_subst.specs.declared.gift.GiveFault.TheVariants as fault;
+
+use crate::code::code_for;
+use crate::gift::GiveFault;
+use crate::number::number_for;
+use crate::order::set_of;
+use crate::value::{code_of, target_of};
+use edit_line::{Derived, Edits};
+use edit_model::{Row, Survey, Value};
+use foundation::{OutOfMemory, Steps};
+use linear_elim::Systems;
+use std::alloc::Global;
+use std::sync::Arc;
+use std::sync::ledger::Ledger;
+
+/// Gives the numbers at the fields of the order, at which the record is Bad.
+pub(crate) fn give_numbers<S: Systems, L: Ledger>(
+    alloc: Global,
+    source: &mut S,
+    survey: &Survey,
+    edits: &Arc<Edits>,
+    order: &[u32],
+    new: &mut Row,
+    donor: Option<&Row>,
+    steps: &mut Steps<L>,
+) -> Result<(), GiveFault>
+    requires shape { (arc_value edits.now).shape ≡ shape_of survey.now.fields }
+    requires over { HaveShape (shape_of survey.now.fields) (start_lines (arc_value edits.now)) }
+    requires served { S.serves source.old (arc_value edits.now) }
+    requires donor { IsDonor survey.now (option_copied donor) }
+    requires in_range { (lines : List derived.Derived) × (system_of (arc_value edits.now).lines (reverse order.now) ≡ Ok lines) }
+    requires order { (codes : List ℕ) × AreOrders survey.now.fields codes order.now }
+    requires way { (row : List value.Value) × (given : List ℕ) × IsUnderWay survey.now (start_lines (arc_value edits.now)) (target_of (option_copied donor)) row given order.now new.old }
+    ensures given { OnOk result ((row : List value.Value) (given : List ℕ)
+        → IsUnderWay survey.now (start_lines (arc_value edits.now)) (target_of (option_copied donor.entry)) row given order.now new.old
+        → IsUnderWay survey.now (start_lines (arc_value edits.now)) (target_of (option_copied donor.entry)) row (given ++ order.now) [] new.new) }
+    ensures bound { (f line : ℕ) (row : List value.Value) (given : List ℕ) → result ≡ Err (fault.Bound f line)
+        → IsUnderWay survey.now (start_lines (arc_value edits.now)) (target_of (option_copied donor.entry)) row given order.now new.old
+        → StopsAmong survey.now (start_lines (arc_value edits.now)) (target_of (option_copied donor.entry)) row given order.now f line }
+    ensures test { (rule : ℕ) → result ≢ Err (fault.Test rule) }
+    ensures serves { (e : EditsParts) → S.serves source.old e → S.serves source.new e }
+    ensures keeps { (f : ℕ) → S.keeps source.old f ≡ true → S.keeps source.new f ≡ true }
+{
+    let mut left = set_of(order);
+    for field in order {
+        left = left.without(*field);
+        let target = target_of(donor, *field);
+        match number_for(
+            alloc, source, survey, edits, new, *field, left, &target, steps,
+        ) {
+            Ok(x) => new.set(survey, *field, Value::Number(x)),
+            Err(fault) => return Err(fault),
+        }
+    }
+    Ok(())
+}
+
+/// Gives the codes at the fields of the order, at which the record is Bad, by the lines of the system without
+/// the changed numerical fields.
+pub(crate) fn give_codes(
+    alloc: Global,
+    survey: &Survey,
+    lines: &[Derived],
+    order: &[u32],
+    new: &mut Row,
+    donor: Option<&Row>,
+) -> Result<(), OutOfMemory>
+    requires donor { IsDonor survey.now (option_copied donor) }
+    requires ready { AreCodesToGive survey.now (target_of (option_copied donor)) (lines_of lines.now) order.now new.old }
+    ensures { OnOk result ((t : AreCodesToGive survey.now (target_of (option_copied donor.entry)) (lines_of lines.now) order.now new.old)
+        → IsUnderWay survey.now t.edits (target_of (option_copied donor.entry)) t.row order.now t.numbers new.new) }
+{
+    for field in order {
+        let value = target_of(donor, *field);
+        let target = code_of(&value);
+        let code = code_for(alloc, survey, lines, new, *field, target)?;
+        new.set(survey, *field, Value::Code(code));
+    }
+    Ok(())
+}

@@ -1,0 +1,158 @@
+//! Values for all changed fields of a record.
+ghost use Rattle.std.specs.Prelude.{◌≡◌, ◌≤◌, [], ℕ, Err, IfOk, length, true, option_copied};
+ghost use Rattle.std.specs.Arc.{arc_value};
+ghost use Rattle.edit_model.specs.Corrections.{Differs};
+ghost use Rattle.edit_model.specs.FieldSets.{has_number};
+ghost use Rattle.edit_model.specs.Points.{Point};
+ghost use Rattle.edit_model.specs.Rows.{IsRow};
+ghost use Rattle.edit_line.specs.EditSets.{EditsParts};
+ghost use Rattle.edit_line.specs.Shapes.{shape_of};
+ghost use Rattle.edit_paths.specs.Cases.{IsCase, case_of};
+ghost use Rattle.back_subst.specs.Allowed.{Completes};
+ghost use Rattle.back_subst.specs.Gifts.{CanGive, IsDonor, IsNeeded, hows_of};
+ghost use Rattle.back_subst.specs.GiveFaults.{StopsAtLine, StopsAtRule};
+ghost use Rattle.back_subst.specs.Given.{IsImputed, giving_order, target_of};
+ghost use Rattle.back_subst.specs.inner.Systems.{start_lines};
+ghost use Rattle.back_subst.specs.inner.UnderWay.{AreOrders, IsUnderWay};
+ghost use Rattle.back_subst.specs.declared.gift.GiveFault.TheVariants as fault;
+
+use crate::blank::blanked;
+use crate::final_test::test_rules;
+use crate::gift::{Gift, GiveFault};
+use crate::giving::{give_codes, give_numbers};
+use crate::how::hows;
+use crate::order::{chosen_backwards, set_of};
+use edit_line::Edits;
+use edit_model::{FieldSet, Row, Survey};
+use foundation::{OutOfMemory, Sequence, Steps};
+use linear_elim::{SystemFault, Systems};
+use std::alloc::Global;
+use std::sync::Arc;
+use std::sync::ledger::Ledger;
+
+/// The record with values at its changed fields, by back substitution through the systems of the path that
+/// changes just these (De Waal, Pannekoek and Scholtus 2011, imputation under edit restrictions). A field
+/// takes the donor's value where some correction has it beside the values that are kept and those that were
+/// given before, and else the nearest value that some such correction has; without a donor 0 and the first
+/// code stand for it. `Bound` and `Test` where a number of a bound or of the final test leaves the range.
+pub fn give<S: Systems, L: Ledger>(
+    alloc: Global,
+    source: &mut S,
+    survey: &Survey,
+    edits: &Arc<Edits>,
+    row: &Row,
+    changed: FieldSet,
+    donor: Option<&Row>,
+    steps: &mut Steps<L>,
+) -> Result<Gift, GiveFault>
+    requires path { CanGive survey.now (arc_value edits.now) row.now changed }
+    requires donor { IsDonor survey.now (option_copied donor) }
+    requires served { S.serves source.old (arc_value edits.now) }
+    ensures imputed { IfOk result (λ gift. IsImputed survey.now row.now changed (option_copied donor.entry) gift.row) }
+    ensures how { IfOk result (λ gift. gift.how ≡ hows_of survey.now changed (option_copied donor.entry) gift.row) }
+    ensures consistent { IfOk result (λ gift. (p : Point) × Completes survey.now gift.row [] p) }
+    ensures differs { IfOk result (λ gift. IsNeeded survey.now row.now changed
+        → (p : Point) (f : ℕ) → Completes survey.now gift.row [] p → has_number changed f ≡ true → Differs row.now p f) }
+    ensures bound { (field line : ℕ) → result ≡ Err (fault.Bound field line)
+        → StopsAtLine survey.now (arc_value edits.now) row.now changed (option_copied donor.entry) field line }
+    ensures test { (rule : ℕ) → result ≡ Err (fault.Test rule) → StopsAtRule survey.now row.now changed (option_copied donor.entry) rule }
+    ensures serves { (e : EditsParts) → S.serves source.old e → S.serves source.new e }
+    ensures keeps { (f : ℕ) → S.keeps source.old f ≡ true → S.keeps source.new f ≡ true }
+{
+    case_known(survey, edits, row);
+    let new = match imputed(alloc, source, survey, edits, row, changed, donor, steps) {
+        Ok(new) => new,
+        Err(fault) => return Err(fault),
+    };
+    match hows(alloc, survey, changed, donor, &new) {
+        Ok(how) => Ok(Gift {
+            row: new,
+            how: Sequence::from_vec(how),
+        }),
+        Err(OutOfMemory) => Err(GiveFault::OutOfMemory),
+    }
+}
+
+// The survey, the edits and the record are a case. Nothing is computed.
+fn case_known(survey: &Survey, edits: &Arc<Edits>, row: &Row)
+    requires row { IsRow survey.now.fields row.now }
+    requires shape { (arc_value edits.now).shape ≡ shape_of survey.now.fields }
+    ensures case { IsCase (case_of survey.now (arc_value edits.now) row.now) }
+    ensures few { length survey.now.fields ≤ 64 }
+{
+    let _fields = survey.fields();
+    let _lines = edits.reduced();
+}
+
+// The record with values at its changed fields, after its final test.
+fn imputed<S: Systems, L: Ledger>(
+    alloc: Global,
+    source: &mut S,
+    survey: &Survey,
+    edits: &Arc<Edits>,
+    row: &Row,
+    changed: FieldSet,
+    donor: Option<&Row>,
+    steps: &mut Steps<L>,
+) -> Result<Row, GiveFault>
+    requires case { IsCase (case_of survey.now (arc_value edits.now) row.now) }
+    requires few { length survey.now.fields ≤ 64 }
+    requires path { CanGive survey.now (arc_value edits.now) row.now changed }
+    requires donor { IsDonor survey.now (option_copied donor) }
+    requires served { S.serves source.old (arc_value edits.now) }
+    ensures given { IfOk result (λ new. IsUnderWay survey.now (start_lines (arc_value edits.now)) (target_of (option_copied donor.entry)) row.now (giving_order survey.now.fields changed) [] new) }
+    ensures bound { (field line : ℕ) → result ≡ Err (fault.Bound field line)
+        → StopsAtLine survey.now (arc_value edits.now) row.now changed (option_copied donor.entry) field line }
+    ensures test { (rule : ℕ) → result ≡ Err (fault.Test rule) → StopsAtRule survey.now row.now changed (option_copied donor.entry) rule }
+    ensures serves { (e : EditsParts) → S.serves source.old e → S.serves source.new e }
+    ensures keeps { (f : ℕ) → S.keeps source.old f ≡ true → S.keeps source.new f ≡ true }
+{
+    let codes = chosen_backwards(alloc, survey.codes(), changed)?;
+    let numbers = chosen_backwards(alloc, survey.numbers(), changed)?;
+    let mut new = with_codes(
+        alloc, source, survey, edits, row, changed, &codes, &numbers, donor, steps,
+    )?;
+    match give_numbers(
+        alloc, source, survey, edits, &numbers, &mut new, donor, steps,
+    ) {
+        Ok(()) => {}
+        Err(fault) => return Err(fault),
+    }
+    match test_rules(survey, &new) {
+        Ok(()) => Ok(new),
+        Err(fault) => Err(fault),
+    }
+}
+
+// The record with codes at its changed categorical fields, and Bad at the changed numerical ones.
+fn with_codes<S: Systems, L: Ledger>(
+    alloc: Global,
+    source: &mut S,
+    survey: &Survey,
+    edits: &Arc<Edits>,
+    row: &Row,
+    changed: FieldSet,
+    codes: &[u32],
+    numbers: &[u32],
+    donor: Option<&Row>,
+    steps: &mut Steps<L>,
+) -> Result<Row, OutOfMemory>
+    requires case { IsCase (case_of survey.now (arc_value edits.now) row.now) }
+    requires path { CanGive survey.now (arc_value edits.now) row.now changed }
+    requires donor { IsDonor survey.now (option_copied donor) }
+    requires served { S.serves source.old (arc_value edits.now) }
+    requires order { (orders : AreOrders survey.now.fields codes.now numbers.now) × (orders.changed ≡ changed) }
+    ensures given { IfOk result (λ new. IsUnderWay survey.now (start_lines (arc_value edits.now)) (target_of (option_copied donor.entry)) row.now codes.now numbers.now new) }
+    ensures serves { (e : EditsParts) → S.serves source.old e → S.serves source.new e }
+    ensures keeps { (f : ℕ) → S.keeps source.old f ≡ true → S.keeps source.new f ≡ true }
+{
+    let mut new = blanked(alloc, survey, row, changed)?;
+    match source.system(alloc, edits, set_of(numbers), steps) {
+        Ok(held) => {
+            give_codes(alloc, survey, held.system().lines(), codes, &mut new, donor)?;
+            Ok(new)
+        }
+        Err(SystemFault::OutOfMemory) => Err(OutOfMemory),
+        Err(SystemFault::Overflow { .. }) => unreachable!(),
+    }
+}

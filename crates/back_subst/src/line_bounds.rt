@@ -1,0 +1,126 @@
+//! The bounds that the lines of a system give to a numerical field of a record.
+ghost use Rattle.std.specs.Prelude.{◌≡◌, ◌≢◌, ◌<◌, ◌==◌, pos, All, length, map};
+ghost use Rattle.std.specs.List.{position};
+ghost use lib.IntN.{neg_ℤ};
+ghost use Rattle.fraction128.specs.Formulas.{answered, divided, then_some};
+ghost use Rattle.fraction128.specs.Range.{InRange};
+ghost use Rattle.edit_model.specs.RowPoints.{code_in};
+ghost use Rattle.edit_model.specs.Rows.{IsRow, value_of};
+ghost use Rattle.edit_model.specs.declared.value.Value.TheVariants.{Bad};
+ghost use Rattle.edit_line.specs.CodeFields.{codes_in};
+ghost use Rattle.edit_line.specs.Reductions.{lines_of};
+ghost use Rattle.edit_line.specs.Sets.{is_inside};
+ghost use Rattle.edit_line.specs.Shapes.{IsNumerical, number_fields, place_in, shape_of};
+ghost use Rattle.edit_line.specs.Sums.{sum_at};
+ghost use Rattle.back_subst.specs.NumberWalk.{ends_from, no_ends, value_in, with_line};
+ghost use Rattle.back_subst.specs.inner.Sides.{bounds_told, ends_of};
+
+use crate::bound::{Bound, Bounds};
+use crate::value::code_of;
+use edit_line::{Derived, Line, has_code, value_at};
+use edit_model::{Row, Survey};
+use fraction128::{Fraction, Overflow};
+
+/// The bounds that the lines, in order, give to the numerical field of the record, which is Bad there. The
+/// place of the first line of which a number leaves the range. No memory.
+pub fn bounds_of(survey: &Survey, lines: &[Derived], row: &Row, field: u32) -> Result<Bounds, u64>
+    requires shape { All (λ d. d.line.shape ≡ shape_of survey.now.fields) lines.now }
+    requires row { IsRow survey.now.fields row.now }
+    requires numerical { IsNumerical (shape_of survey.now.fields) field }
+    requires blank { value_of row.now field ≡ Bad }
+    ensures { bounds_told result ≡ ends_from 0 (lines_of lines.now) row.now field no_ends }
+{
+    let place = place_among(survey.numbers(), field);
+    let mut bounds = Bounds::none();
+    for (i, derived) in lines.iter().enumerate() {
+        bounds = with_line(survey, &derived.line, i as u64, row, field, place, bounds)?;
+    }
+    Ok(bounds)
+}
+
+/// The field's place in the list, past the end where it is not there.
+pub(crate) fn place_among(fields: &[u32], field: u32) -> usize
+    ensures { result ≡ place_in fields.now field }
+{
+    match first_place(fields, field) {
+        Some(place) => place,
+        None => fields.len(),
+    }
+}
+
+// The first place of the field in the list, if it is there.
+fn first_place(fields: &[u32], field: u32) -> Option<usize>
+    ensures { result ≡ position (λ i. i == field) fields.now }
+{
+    fields.iter().position(|f| *f == field)
+}
+
+// The bounds with that of the line at place `i`, if it gives one.
+fn with_line(
+    survey: &Survey,
+    line: &Line,
+    i: u64,
+    row: &Row,
+    field: u32,
+    place: usize,
+    bounds: Bounds,
+) -> Result<Bounds, u64>
+    requires shape { line.now.shape ≡ shape_of survey.now.fields }
+    requires row { IsRow survey.now.fields row.now }
+    requires numerical { IsNumerical (shape_of survey.now.fields) field }
+    requires place { place ≡ place_in (number_fields (shape_of survey.now.fields)) field }
+    requires blank { value_of row.now field ≡ Bad }
+    ensures { bounds_told result ≡ with_line i line.now row.now field (ends_of bounds) }
+{
+    let factor = line.factors()[place];
+    if factor == 0 || !has_codes_of(survey, line, row) {
+        return Ok(bounds);
+    }
+    match bound_at(survey, line, row, factor) {
+        Ok(at) => Ok(bounds.with(
+            factor > 0,
+            Bound {
+                at,
+                strict: line.strict(),
+                line: i,
+            },
+        )),
+        Err(Overflow) => Err(i),
+    }
+}
+
+// Where the line bounds the field that has this factor in it, and at which the record is Bad.
+fn bound_at(survey: &Survey, line: &Line, row: &Row, factor: i128) -> Result<Fraction, Overflow>
+    requires shape { line.now.shape ≡ shape_of survey.now.fields }
+    requires row { IsRow survey.now.fields row.now }
+    requires in_range { InRange factor }
+    requires not_zero { factor ≢ pos 0 }
+    ensures { answered result ≡ then_some (value_in (sum_at line.now row.now)) (λ rest. divided rest (neg_ℤ factor)) }
+{
+    match value_at(survey, line, row) {
+        Ok(rest) => rest.divide(-factor),
+        Err(_) => Err(Overflow),
+    }
+}
+
+// Whether the record's codes are in the line's sets.
+fn has_codes_of(survey: &Survey, line: &Line, row: &Row) -> bool
+    requires shape { line.now.shape ≡ shape_of survey.now.fields }
+    requires row { IsRow survey.now.fields row.now }
+    ensures { result ≡ is_inside line.now.sets (codes_in line.now.shape row.now) }
+{
+    are_inside(line.sets(), survey.codes(), row)
+}
+
+fn are_inside(sets: &[u64], fields: &[u32], row: &Row) -> bool
+    requires count { length sets.now ≡ length fields.now }
+    requires within { All (λ f. f < length row.now) fields.now }
+    ensures { result ≡ is_inside sets.now (map (λ f. code_in (value_of row.now f)) fields.now) }
+{
+    for (place, field) in fields.iter().enumerate() {
+        if !has_code(sets[place], code_of(row.value(*field))) {
+            return false;
+        }
+    }
+    true
+}

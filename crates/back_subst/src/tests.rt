@@ -1,0 +1,4 @@
+mod codes;
+mod gifts;
+mod numbers;
+mod plan;

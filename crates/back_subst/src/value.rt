@@ -1,0 +1,39 @@
+//! Values as targets.
+ghost use Rattle.std.specs.Prelude.{◌≡◌, ◌<◌, IfSome, length, option_copied};
+ghost use Rattle.fraction128.specs.Formulas.{ratio_of};
+ghost use Rattle.edit_model.specs.RowPoints.{code_in};
+ghost use Rattle.back_subst.specs.Given.{number_in, target_of};
+
+use edit_model::{Row, Value};
+use fraction128::Fraction;
+
+/// The number of a value's code, 0 where it is none.
+pub(crate) fn code_of(value: &Value) -> u8
+    ensures { result ≡ code_in value.now }
+{
+    match value {
+        Value::Code(code) => *code,
+        Value::Number(_) | Value::Bad => 0,
+    }
+}
+
+/// The number of a value, 0 where it is none.
+pub(crate) fn number_of(value: &Value) -> Fraction
+    ensures { ratio_of result ≡ number_in value.now }
+{
+    match value {
+        Value::Number(x) => *x,
+        Value::Code(_) | Value::Bad => Fraction::whole(0),
+    }
+}
+
+/// The donor's value at the field, Bad where there is no donor.
+pub(crate) fn target_of(donor: Option<&Row>, field: u32) -> Value
+    requires { IfSome (option_copied donor) (λ row. field < length row) }
+    ensures { result ≡ target_of (option_copied donor.entry) field }
+{
+    match donor {
+        Some(row) => *row.value(field),
+        None => Value::Bad,
+    }
+}
