@@ -12,7 +12,7 @@
 # has one field more); the script's seconds, and how many times as fast the program is. All seconds are those
 # of the processor, the user's and the system's, for making the certificate and checking it together; the time
 # of the smallest certificate, one leaf with one step, is taken off. In `steps` much of the program's time is
-# the system's, for the memory: a million steps take some 240 MB. The two verdicts are compared, also where the
+# the system's, for the memory: a million steps take some 95 MB. The two verdicts are compared, also where the
 # last step names a line that is not there, and a difference ends the run with status 1.
 set -eu
 top=$(cd "$(dirname "$0")/.." && pwd)
