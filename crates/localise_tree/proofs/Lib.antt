@@ -1,1 +1,7 @@
+pub mod CodePathLaws
+pub mod EndLaws
+pub mod ModelLaws
+pub mod NumberPathLaws
 pub mod ProblemLaws
+pub mod SearchLaws
+pub mod SearchLoop

@@ -16,7 +16,7 @@ use Rattle.edit_paths.proofs.FieldPlaces.{Placed, numbers-placed}
 -- The numerical fields of a case, and those that a path changes.
 
 -- a field's place is the place at which it stands
-placed-at : (c : Case) (k i : ℕ) (fields : List ℕ) → Placed c k fields → i < length fields → path_place c.survey.fields (slice_index_or fields i 0) ≡ k + i
+pub placed-at : (c : Case) (k i : ℕ) (fields : List ℕ) → Placed c k fields → i < length fields → path_place c.survey.fields (slice_index_or fields i 0) ≡ k + i
 placed-at c k i [] placed below = absurd (omega arith)
 placed-at c k zero (f ∷ fields) placed below = placed.0 ∙ omega arith
 placed-at c k (suc i) (f ∷ fields) placed below = placed-at c (suc k) i fields placed.1 (omega arith) ∙ omega arith

@@ -1,2 +1,5 @@
+pub mod Knowns
+pub mod Nodes
 pub mod Problems
 pub mod Takens
+pub mod Tries

@@ -5,5 +5,11 @@
 #![tactic(auto)]
 
 mod best_first;
+mod certificates;
+mod code_paths;
+mod ends;
+mod looks;
 mod number_paths;
 mod problem;
+
+pub use best_first::localise;
