@@ -44,10 +44,10 @@ use Rattle.edit_paths.proofs.KeptLines.{all-over}
 use Rattle.edit_paths.proofs.LetterLaws.{count-kinds, longer, order-shape}
 use Rattle.edit_paths.proofs.PathBoxes.{along-over}
 use Rattle.localise_tree.specs.KeptFields.{KeepsChanged}
-use Rattle.localise_tree.specs.declared.looks.Known.{Known}
-use Rattle.localise_tree.specs.declared.looks.Known.TheVariants.{Boxes, Lines}
+use Rattle.localise_tree.specs.declared.looks.Basis.{Basis}
+use Rattle.localise_tree.specs.declared.looks.Basis.TheVariants.{Boxes, Lines}
 use Rattle.localise_tree.specs.declared.looks.Look.{Look}
-use Rattle.localise_tree.specs.inner.Knowns.{IsKnown}
+use Rattle.localise_tree.specs.inner.Bases.{IsBasis}
 use Rattle.localise_tree.specs.inner.Nodes.{IsLook, TellsLook}
 use Rattle.localise_tree.specs.inner.Tries.{AreBoxes, IsChanged, IsKept, whole_state}
 use Rattle.localise_tree.proofs.NumberPathLaws.{in-index, split-last}
@@ -235,9 +235,9 @@ no-number c is f x there own =
 
 -- ---- a look into the path, from the boxes of the path before
 
-boxes-known : (c : Case) (path : List Bool) (boxes : List BoxFrom) (known : Known) → number_count c ≤ length path → AreBoxes boxes known → boxes ≡ boxes_along c path → IsKnown c path known
-boxes-known c path boxes (Boxes own) enough are along = (enough, are ∙ along)
-boxes-known c path boxes (Lines own) enough are along = absurd are
+boxes-basis : (c : Case) (path : List Bool) (boxes : List BoxFrom) (basis : Basis) → number_count c ≤ length path → AreBoxes boxes basis → boxes ≡ boxes_along c path → IsBasis c path basis
+boxes-basis c path boxes (Boxes own) enough are along = (enough, are ∙ along)
+boxes-basis c path boxes (Lines own) enough are along = absurd are
 
 module _ (c : Case) (is : IsCase c) (letters : List Bool) (more : number_count c < length letters) (fit : length letters ≤ field_count c) (reached : IsOpen c (before_last letters)) (boxes : List BoxFrom) (boxes_are : boxes ≡ boxes_along c (before_last letters))
     (f : ℕ) (field_is : f ≡ slice_index_or (path_order c.survey.fields) (length letters - 1) 0) where
@@ -291,7 +291,7 @@ module _ (c : Case) (is : IsCase c) (letters : List Bool) (more : number_count c
     is-look look told = record {
       work = told.work ∙ sym changed-count;
       state = told.state ∙ ap (λ (bs : List BoxFrom). whole_state c bs) (sym changed-along) ∙ sym changed-state;
-      known = λ is_open. boxes-known c letters (covered_from (shape_of c.survey.fields) boxes f) look.known (omega (arith, more)) told.known (sym changed-along);
+      basis = λ is_open. boxes-basis c letters (covered_from (shape_of c.survey.fields) boxes f) look.basis (omega (arith, more)) told.basis (sym changed-along);
     }
 
     pub changed-passed : {E : Type 0} (most : ℕ) (r : Result (Option Look) E) → IfOk r (λ told. IfNone told (most < 1 + cover_count (shape_of c.survey.fields) (sets_of boxes) f)) → IfOk r (λ told. IfNone told (most < work_of c letters))
@@ -329,12 +329,12 @@ module _ (c : Case) (is : IsCase c) (letters : List Bool) (more : number_count c
               work = one ∙ sym counts-one;
               state = h.1 ∙ ap (λ (bs : List BoxFrom). whole_state c bs) along ∙ ap (λ (p : List Bool). whole_state c (boxes_along c p)) split
                   ∙ sym (ap (λ (p : List Bool). state_of c p) split ∙ child-state c before b enough short reached (held-is ∙ ap (λ (v : Value). is_bad v) own));
-              known = λ is_open. boxes-known c letters (fixed_from (shape_of c.survey.fields) boxes f k) look.known (omega (arith, more)) h.0 along;
+              basis = λ is_open. boxes-basis c letters (fixed_from (shape_of c.survey.fields) boxes f k) look.basis (omega (arith, more)) h.0 along;
             }
         by Bad own h = record {
           work = one ∙ sym counts-one;
           state = h ∙ sym (ap (λ (p : List Bool). state_of c p) split ∙ child-bad c before b enough short reached (held-is ∙ ap (λ (v : Value). is_bad v) own));
-          known = λ is_open. absurd (cc (sym h ∙ is_open));
+          basis = λ is_open. absurd (cc (sym h ∙ is_open));
         }
         by (Number x) own h = absurd (no-number c is f x (subst (λ (g : ℕ). has_field (code_fields (shape_of c.survey.fields)) g ≡ true) (sym next_is) (next-code c before b enough short reached)) own)
 

@@ -21,9 +21,9 @@ use Rattle.edit_paths.proofs.ChildLaws.{child-before, child-weight}
 use Rattle.edit_paths.proofs.LetterLaws.{longer}
 use Rattle.localise_tree.specs.KeptFields.{KeepsChanged}
 use Rattle.localise_tree.specs.declared.ends.Node.{Node}
-use Rattle.localise_tree.specs.declared.looks.Known.{Known}
-use Rattle.localise_tree.specs.declared.looks.Known.TheVariants.{Boxes, Lines}
-use Rattle.localise_tree.specs.inner.Knowns.{IsKnown, IsKnownBefore, IsSame}
+use Rattle.localise_tree.specs.declared.looks.Basis.{Basis}
+use Rattle.localise_tree.specs.declared.looks.Basis.TheVariants.{Boxes, Lines}
+use Rattle.localise_tree.specs.inner.Bases.{IsBasis, IsBasisBefore, IsSame}
 use Rattle.localise_tree.specs.inner.Nodes.{AreKept, IsFirstEnd, IsNode, IsOfSystem, before, paths_of}
 
 -- The ends of a search: nodes whose paths are reached.
@@ -34,17 +34,17 @@ pub first-long : (a b : List Bool) (i : ℕ) → i < length a → length b ≤ i
 first-long a b i below past so_far =
     sym (at_drop_more (λ (l : List Bool). is_first l (drop i b)) a i false below ∙ at_drop_all (λ (l : List Bool). is_first (slice_index_or a i false ∷ drop (i + 1) a) l) b i past) ∙ so_far
 
--- ---- what is known
+-- ---- bases
 
-pub same-known : (c : Case) (path : List Bool) (first second : Known) → IsSame first second → IsKnown c path first → IsKnown c path second
-same-known c path (Lines a) (Lines b) same is = (is.0, is.1 ∙ ap (λ (h : Held). Ok (system_held h).lines) (sym same))
-same-known c path (Boxes a) (Boxes b) same is = (is.0, same ∙ is.1)
-same-known c path (Lines a) (Boxes b) same is = absurd same
-same-known c path (Boxes a) (Lines b) same is = absurd same
+pub same-basis : (c : Case) (path : List Bool) (first second : Basis) → IsSame first second → IsBasis c path first → IsBasis c path second
+same-basis c path (Lines a) (Lines b) same is = (is.0, is.1 ∙ ap (λ (h : Held). Ok (system_held h).lines) (sym same))
+same-basis c path (Boxes a) (Boxes b) same is = (is.0, same ∙ is.1)
+same-basis c path (Lines a) (Boxes b) same is = absurd same
+same-basis c path (Boxes a) (Lines b) same is = absurd same
 
-known-before : (c : Case) (path more : List Bool) (k : Known) → length more ≡ suc (length path) → before_last more ≡ path → IsKnown c path k → IsKnownBefore c more k
-known-before c path more (Lines system) longer parent is = (omega (arith, longer, is.0), ap (λ (p : List Bool). system_of c.edits (changed_numbers c p)) parent ∙ is.1)
-known-before c path more (Boxes boxes) longer parent is = (omega (arith, longer, is.0), is.1 ∙ ap (λ (p : List Bool). boxes_along c p) (sym parent))
+basis-before : (c : Case) (path more : List Bool) (k : Basis) → length more ≡ suc (length path) → before_last more ≡ path → IsBasis c path k → IsBasisBefore c more k
+basis-before c path more (Lines system) longer parent is = (omega (arith, longer, is.0), ap (λ (p : List Bool). system_of c.edits (changed_numbers c p)) parent ∙ is.1)
+basis-before c path more (Boxes boxes) longer parent is = (omega (arith, longer, is.0), is.1 ∙ ap (λ (p : List Bool). boxes_along c p) (sym parent))
 
 -- ---- nodes
 
@@ -53,14 +53,14 @@ none-changed c [] = refl
 none-changed c (f ∷ fs) = none-changed c fs
 
 -- the node of the empty path
-first-node : (c : Case) (held : Held) (before : Known) → IsOfSystem held before → system_of c.edits (changed_numbers c []) ≡ Ok (system_held held).lines → IsNode c (record { path = []; weight = 0; before = before })
+first-node : (c : Case) (held : Held) (before : Basis) → IsOfSystem held before → system_of c.edits (changed_numbers c []) ≡ Ok (system_held held).lines → IsNode c (record { path = []; weight = 0; before = before })
 first-node c held (Boxes boxes) is made = absurd is
 first-node c held (Lines system) is made = record {
   fit = omega arith;
   weight = sym (ap (λ (fs : List ℕ). sum_by (weight_at c.survey.fields) fs) (none-changed c (path_order c.survey.fields)));
   few = omega arith;
   reached = λ some. absurd (omega (arith, some));
-  known = (omega arith, made ∙ ap (λ (h : Held). Ok (system_held h).lines) (sym is));
+  basis = (omega arith, made ∙ ap (λ (h : Held). Ok (system_held h).lines) (sym is));
 }
 
 pub first-nodes : (c : Case) (held : Held) (ends : List Node) → IsFirstEnd held ends → system_of c.edits (changed_numbers c []) ≡ Ok (system_held held).lines → AllByRecursion (IsNode c) ends
@@ -80,13 +80,13 @@ module _ (c : Case) (node more : Node) (b : Bool) (is_node : IsNode c node) (sho
   parent = ap (λ (p : List Bool). before_last p) path_is ∙ child-before c node.path b short
 
   -- the node of a path with one letter more
-  pub child-node : state_of c node.path ≡ Open → (added : ℕ) → added ≡ (if b then weight_at c.survey.fields (slice_index_or (path_order c.survey.fields) (length node.path) 0) else 0) → added ≤ 1000 → more.weight ≡ node.weight + added → IsKnown c node.path more.before → IsNode c more
-  child-node is_open added is few weighs known = record {
+  pub child-node : state_of c node.path ≡ Open → (added : ℕ) → added ≡ (if b then weight_at c.survey.fields (slice_index_or (path_order c.survey.fields) (length node.path) 0) else 0) → added ≤ 1000 → more.weight ≡ node.weight + added → IsBasis c node.path more.before → IsNode c more
+  child-node is_open added is few weighs basis = record {
     fit = omega (arith, short, counted);
     weight = weighs ∙ ap (λ (n : ℕ). n + added) is_node.weight ∙ ap (λ (n : ℕ). path_weight c.survey.fields node.path + n) is ∙ sym (ap (λ (p : List Bool). path_weight c.survey.fields p) path_is ∙ child-weight c node.path b short);
     few = omega (arith, weighs, few, is_node.few, counted);
     reached = λ some. subst (λ (p : List Bool). IsOpen c p) (sym parent) is_open;
-    known = known-before c node.path more.path more.before counted parent known;
+    basis = basis-before c node.path more.path more.before counted parent basis;
   }
 
   pub child-kept : (keeps : ℕ → Bool) → KeepsChanged keeps c node.path → KeepsChanged keeps c (before_last more.path)

@@ -36,7 +36,7 @@ use Rattle.edit_paths.proofs.ChildLaws.{child-kept, not-changed}
 use Rattle.edit_paths.proofs.FieldPlaces.{Placed, codes-placed}
 use Rattle.edit_paths.proofs.KeptLines.{derived-over, kept-held}
 use Rattle.edit_paths.proofs.LetterLaws.{count-kinds, longer, number-field, order-shape}
-use Rattle.localise_tree.specs.inner.Knowns.{HasLines}
+use Rattle.localise_tree.specs.inner.Bases.{HasLines}
 
 -- Paths that say something of numerical fields alone.
 

@@ -1,4 +1,4 @@
-pub mod Knowns
+pub mod Bases
 pub mod Nodes
 pub mod Problems
 pub mod Takens

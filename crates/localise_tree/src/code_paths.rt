@@ -14,7 +14,7 @@ ghost use Rattle.localise_tree.specs.inner.Nodes.{TellsLook};
 ghost use Rattle.localise_tree.specs.inner.Problems.{IsProblem, case_in};
 ghost use Rattle.localise_tree.specs.inner.Tries.{IsChanged, IsKept, whole_state};
 
-use crate::looks::{Known, Look};
+use crate::looks::{Basis, Look};
 use crate::problem::Problem;
 use categ_combine::{BoxFrom, Covered, cat_step, fix};
 use edit_model::Value;
@@ -70,7 +70,7 @@ fn look_at_changed(
         Covered::Done { boxes, pairs } => Ok(Some(Look {
             work: 1 + pairs,
             state: first_whole(problem, boxes.as_slice()),
-            known: Known::Boxes(Arc::new(alloc, boxes)?),
+            basis: Basis::Boxes(Arc::new(alloc, boxes)?),
         })),
     }
 }
@@ -94,13 +94,13 @@ fn look_at_kept(
             Ok(Look {
                 work: 1,
                 state: first_whole(problem, boxes.as_slice()),
-                known: Known::Boxes(Arc::new(alloc, Sequence::from_vec(boxes))?),
+                basis: Basis::Boxes(Arc::new(alloc, Sequence::from_vec(boxes))?),
             })
         }
         Value::Number(_) | Value::Bad => Ok(Look {
             work: 1,
             state: PathState::ClosedBad,
-            known: Known::Boxes(Arc::new(alloc, Sequence::from_vec(Vec::new(alloc)))?),
+            basis: Basis::Boxes(Arc::new(alloc, Sequence::from_vec(Vec::new(alloc)))?),
         }),
     }
 }

@@ -10,11 +10,11 @@ ghost use Rattle.edit_paths.specs.States.{state_of};
 ghost use Rattle.edit_paths.specs.Walks.{next_paths};
 ghost use Rattle.edit_paths.specs.declared.state.PathState.TheVariants.{Open};
 ghost use Rattle.localise_tree.specs.KeptFields.{KeepsChanged};
-ghost use Rattle.localise_tree.specs.inner.Knowns.{IsKnown};
+ghost use Rattle.localise_tree.specs.inner.Bases.{IsBasis};
 ghost use Rattle.localise_tree.specs.inner.Nodes.{AreKept, IsFirstEnd, IsLook, IsNode, before, paths_of};
 ghost use Rattle.localise_tree.specs.inner.Problems.{IsProblem, case_in, edits_in};
 
-use crate::looks::{Known, Look};
+use crate::looks::{Basis, Look};
 use crate::number_paths::system_along;
 use crate::problem::{Problem, field_count};
 use bound_cert::Path;
@@ -25,12 +25,12 @@ use std::alloc::Global;
 use std::sync::Arc;
 use std::sync::ledger::Ledger;
 
-/// A reached path that is not yet taken, its weight, and what is known of the path before its last letter.
+/// A reached path that is not yet taken, its weight, and the basis of the path before its last letter.
 #[derive(Drop)]
 pub(crate) struct Node {
     pub(crate) path: Path,
     pub(crate) weight: u64,
-    pub(crate) before: Known,
+    pub(crate) before: Basis,
 }
 
 impl Node {
@@ -68,7 +68,7 @@ pub(crate) fn first_end<S: Systems, L: Ledger>(
 fn one_end(alloc: Global, held: Held) -> Result<Vec<Node>, OutOfMemory>
     ensures { IfOk result (λ ends. IsFirstEnd held ends.items) }
 {
-    let before = Known::Lines(Arc::new(alloc, held)?);
+    let before = Basis::Lines(Arc::new(alloc, held)?);
     let mut ends = Vec::new(alloc);
     ends.push(Node {
         path: Path::new(Vec::new(alloc)),
@@ -111,8 +111,8 @@ pub(crate) fn lead_on(
     if !leads_on(problem, node, look.state) {
         return Ok(());
     }
-    let kept = child(alloc, problem, node, false, look.known.share()?)?;
-    let changed = child(alloc, problem, node, true, look.known)?;
+    let kept = child(alloc, problem, node, false, look.basis.share()?)?;
+    let changed = child(alloc, problem, node, true, look.basis)?;
     place_end(ends, kept)?;
     place_end(ends, changed)?;
     Ok(())
@@ -132,13 +132,13 @@ fn child(
     problem: &Problem,
     node: &Node,
     changed: bool,
-    before: Known,
+    before: Basis,
 ) -> Result<Node, OutOfMemory>
     requires problem { IsProblem problem.now }
     requires node { IsNode (case_in problem.now) node.now }
     requires short { length node.now.path < field_count (case_in problem.now) }
     requires state { state_of (case_in problem.now) node.now.path ≡ Open }
-    requires known { IsKnown (case_in problem.now) node.now.path before }
+    requires basis { IsBasis (case_in problem.now) node.now.path before }
     ensures path { IfOk result (λ more. more.path ≡ node.now.path ++ changed ∷ []) }
     ensures node { IfOk result (λ more. IsNode (case_in problem.now) more) }
 {

@@ -5,7 +5,7 @@ ghost use Rattle.edit_paths.specs.States.{IsOpen};
 ghost use Rattle.edit_paths.specs.Works.{work_of};
 ghost use Rattle.edit_paths.specs.declared.state.PathState.TheVariants.{Open};
 ghost use Rattle.localise_tree.specs.KeptFields.{KeepsChanged};
-ghost use Rattle.localise_tree.specs.inner.Knowns.{IsSame};
+ghost use Rattle.localise_tree.specs.inner.Bases.{IsSame};
 ghost use Rattle.localise_tree.specs.inner.Nodes.{IsLook, IsNode, TellsLook};
 ghost use Rattle.localise_tree.specs.inner.Problems.{IsProblem, case_in, edits_in};
 
@@ -21,32 +21,32 @@ use std::alloc::Global;
 use std::sync::Arc;
 use std::sync::ledger::Ledger;
 
-/// What the paths with one letter more need to know of an open path: the lines of its system, or, where it
+/// What the paths with one letter more are looked into from: the lines of an open path's system, or, where it
 /// says something of all numerical fields, its boxes.
 #[derive(Drop)]
-pub(crate) enum Known {
+pub(crate) enum Basis {
     Lines(Arc<Held>),
     Boxes(Arc<Sequence<BoxFrom>>),
 }
 
-impl Known {
+impl Basis {
     /// The same, owned once more.
-    pub(crate) fn share(&self) -> Result<Known, OutOfMemory>
+    pub(crate) fn share(&self) -> Result<Basis, OutOfMemory>
         ensures { IfOk result (λ other. IsSame self.now other) }
     {
         match self {
-            Known::Lines(system) => Ok(Known::Lines(Arc::try_clone(system)?)),
-            Known::Boxes(boxes) => Ok(Known::Boxes(Arc::try_clone(boxes)?)),
+            Basis::Lines(system) => Ok(Basis::Lines(Arc::try_clone(system)?)),
+            Basis::Boxes(boxes) => Ok(Basis::Boxes(Arc::try_clone(boxes)?)),
         }
     }
 }
 
-/// What a look into a path tells: its work, what becomes of it, and, where it is open, what is known of it.
+/// What a look into a path tells: its work, what becomes of it, and its basis, which counts where it is open.
 #[derive(Drop)]
 pub(crate) struct Look {
     pub(crate) work: u64,
     pub(crate) state: PathState,
-    pub(crate) known: Known,
+    pub(crate) basis: Basis,
 }
 
 /// Looks into the path, unless its work is more than `most`.
@@ -72,10 +72,10 @@ pub(crate) fn look_into<S: Systems, L: Ledger>(
         return Ok(None);
     }
     match &node.before {
-        Known::Lines(system) => {
+        Basis::Lines(system) => {
             look_at_numbers(alloc, source, problem, &node.path, system, most, steps)
         }
-        Known::Boxes(boxes) => {
+        Basis::Boxes(boxes) => {
             look_at_codes(alloc, problem, node.path.letters(), boxes.as_slice(), most)
         }
     }

@@ -17,12 +17,12 @@ ghost use Rattle.edit_paths.specs.Works.{work_of};
 ghost use Rattle.edit_paths.specs.declared.state.PathState.{PathState as State};
 ghost use Rattle.edit_paths.specs.declared.state.PathState.TheVariants.{Open};
 ghost use Rattle.localise_tree.specs.KeptFields.{KeepsChanged};
-ghost use Rattle.localise_tree.specs.inner.Knowns.{HasLines, IsKnown};
+ghost use Rattle.localise_tree.specs.inner.Bases.{HasLines, IsBasis};
 ghost use Rattle.localise_tree.specs.inner.Nodes.{IsLook, TellsLook};
 ghost use Rattle.localise_tree.specs.inner.Problems.{IsProblem, case_in, edits_in};
 ghost use Rattle.localise_tree.specs.inner.Tries.{or_next};
 
-use crate::looks::{Known, Look};
+use crate::looks::{Basis, Look};
 use crate::problem::{Problem, changed_numbers, number_count};
 use bound_cert::{Event, Path};
 use categ_combine::{BoxFault, boxes_of};
@@ -125,7 +125,7 @@ fn looked_at<S: Systems, L: Ledger>(
     requires before { KeepsChanged (S.keeps source.old) (case_in problem.now) (before_last path.now) }
     ensures work { IfOk result (λ look. look.work ≡ work) }
     ensures state { IfOk result (λ look. look.state ≡ state_of (case_in problem.now) path.now) }
-    ensures known { IfOk result (λ look. look.state ≡ Open → IsKnown (case_in problem.now) path.now look.known) }
+    ensures basis { IfOk result (λ look. look.state ≡ Open → IsBasis (case_in problem.now) path.now look.basis) }
     ensures kept { IfOk result (λ look. look.state ≡ Open → KeepsChanged (S.keeps source.new) (case_in problem.now) path.now) }
     ensures serves { (e : EditsParts) → S.serves source.old e → S.serves source.new e }
     ensures keeps { (f : ℕ) → S.keeps source.old f ≡ true → S.keeps source.new f ≡ true }
@@ -163,7 +163,7 @@ fn ended(work: u64, state: PathState, system: &Arc<Held>) -> Result<Look, OutOfM
     Ok(Look {
         work,
         state,
-        known: Known::Lines(Arc::try_clone(system)?),
+        basis: Basis::Lines(Arc::try_clone(system)?),
     })
 }
 
@@ -223,7 +223,7 @@ fn tried(
     requires system { HasLines (case_in problem.now) path.now (arc_value system) }
     ensures work { IfOk result (λ look. look.work ≡ work) }
     ensures state { IfOk result (λ look. look.state ≡ state_of (case_in problem.now) path.now) }
-    ensures known { IfOk result (λ look. look.state ≡ Open → IsKnown (case_in problem.now) path.now look.known) }
+    ensures basis { IfOk result (λ look. look.state ≡ Open → IsBasis (case_in problem.now) path.now look.basis) }
 {
     let lines = system.system().lines();
     if path.letters().len() < number_count(problem) {
@@ -231,14 +231,14 @@ fn tried(
         return Ok(Look {
             work,
             state,
-            known: Known::Lines(system),
+            basis: Basis::Lines(system),
         });
     }
     match boxes_of(alloc, problem.survey, lines, problem.row) {
         Ok(boxes) => Ok(Look {
             work,
             state: first_failing(problem, path, lines),
-            known: Known::Boxes(Arc::new(alloc, Sequence::from_vec(boxes))?),
+            basis: Basis::Boxes(Arc::new(alloc, Sequence::from_vec(boxes))?),
         }),
         Err(BoxFault::Overflow { line, field }) => ended(
             work,

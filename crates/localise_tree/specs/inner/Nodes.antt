@@ -11,20 +11,20 @@ use Rattle.edit_paths.specs.Works.{work_of}
 use Rattle.edit_paths.specs.declared.state.PathState.TheVariants.{Open}
 use Rattle.localise_tree.specs.KeptFields.{KeepsChanged}
 use Rattle.localise_tree.specs.declared.ends.Node.{Node}
-use Rattle.localise_tree.specs.declared.looks.Known.{Known}
-use Rattle.localise_tree.specs.declared.looks.Known.TheVariants.{Boxes, Lines}
+use Rattle.localise_tree.specs.declared.looks.Basis.{Basis}
+use Rattle.localise_tree.specs.declared.looks.Basis.TheVariants.{Boxes, Lines}
 use Rattle.localise_tree.specs.declared.looks.Look.{Look}
-use Rattle.localise_tree.specs.inner.Knowns.{IsKnown, IsKnownBefore}
+use Rattle.localise_tree.specs.inner.Bases.{IsBasis, IsBasisBefore}
 
 -- ---- ends
 
--- a reached path with its weight, and what is known of the path before
+-- a reached path with its weight, and the basis of the path before
 pub record IsNode (c : Case) (node : Node) : Type 0 where
   pub fit : length node.path ≤ field_count c
   pub weight : node.weight ≡ path_weight c.survey.fields node.path
   pub few : node.weight ≤ 1000 * length node.path
   pub reached : 0 < length node.path → IsOpen c (before_last node.path)
-  pub known : IsKnownBefore c node.path node.before
+  pub basis : IsBasisBefore c node.path node.before
 
 -- their paths
 abbrev pub paths_of : List Node → List (List Bool)
@@ -38,22 +38,22 @@ before first second = nat_lt first.weight second.weight || ((first.weight == sec
 abbrev pub AreKept : (ℕ → Bool) → Case → List Node → Type 0
 AreKept keeps c ends = AllByRecursion (λ (node : Node). KeepsChanged keeps c (before_last node.path)) ends
 
--- the lines of this system alone are known
-abbrev pub IsOfSystem : Held → Known → Type 0
+-- the basis is this system
+abbrev pub IsOfSystem : Held → Basis → Type 0
 IsOfSystem held (Lines system) = arc_value system ≡ held
 IsOfSystem held (Boxes boxes) = ⊥
 
 -- the empty path alone, with this system
 abbrev pub IsFirstEnd : Held → List Node → Type 0
-IsFirstEnd held ends = (before : Known) × (ends ≡ record { path = []; weight = 0; before = before } ∷ []) × IsOfSystem held before
+IsFirstEnd held ends = (before : Basis) × (ends ≡ record { path = []; weight = 0; before = before } ∷ []) × IsOfSystem held before
 
 -- ---- looks
 
--- the work and the state of the path, and what is known of it where it is open
+-- the work and the state of the path, and its basis where it is open
 pub record IsLook (c : Case) (path : List Bool) (look : Look) : Type 0 where
   pub work : look.work ≡ work_of c path
   pub state : look.state ≡ state_of c path
-  pub known : look.state ≡ Open → IsKnown c path look.known
+  pub basis : look.state ≡ Open → IsBasis c path look.basis
 
 -- the look, if there is one, is right, and its work no more than may be done
 abbrev pub TellsLook : Case → List Bool → ℕ → Option Look → Type 0

@@ -13,8 +13,8 @@ use Rattle.edit_paths.specs.Cases.{Case}
 use Rattle.edit_paths.specs.States.{first_whole}
 use Rattle.edit_paths.specs.declared.state.PathState.{PathState}
 use Rattle.edit_paths.specs.declared.state.PathState.TheVariants.{ClosedBad}
-use Rattle.localise_tree.specs.declared.looks.Known.{Known}
-use Rattle.localise_tree.specs.declared.looks.Known.TheVariants.{Boxes, Lines}
+use Rattle.localise_tree.specs.declared.looks.Basis.{Basis}
+use Rattle.localise_tree.specs.declared.looks.Basis.TheVariants.{Boxes, Lines}
 use Rattle.localise_tree.specs.declared.looks.Look.{Look}
 
 -- ---- a line that is tried
@@ -30,20 +30,20 @@ or_next None next = next
 abbrev pub whole_state : Case → List BoxFrom → PathState
 whole_state c boxes = first_whole (position (λ (b : BoxFrom). are_whole (shape_of c.survey.fields) b.code_box.sets) boxes)
 
--- these boxes are known
-abbrev pub AreBoxes : List BoxFrom → Known → Type 0
+-- the boxes are these
+abbrev pub AreBoxes : List BoxFrom → Basis → Type 0
 AreBoxes boxes (Lines system) = ⊥
-AreBoxes boxes (Boxes known) = arc_value known ≡ boxes
+AreBoxes boxes (Boxes own) = arc_value own ≡ boxes
 
 -- the field was changed: the boxes are combined there
 pub record IsChanged (c : Case) (before : List BoxFrom) (f : ℕ) (look : Look) : Type 0 where
   pub work : look.work ≡ 1 + cover_count (shape_of c.survey.fields) (sets_of before) f
-  pub known : AreBoxes (covered_from (shape_of c.survey.fields) before f) look.known
+  pub basis : AreBoxes (covered_from (shape_of c.survey.fields) before f) look.basis
   pub state : look.state ≡ whole_state c (covered_from (shape_of c.survey.fields) before f)
 
 -- the field was kept: the boxes are fixed at its code, and a field without one closes the path
 abbrev pub IsKept : Case → List BoxFrom → ℕ → Value → Look → Type 0
 IsKept c before f (Code code) look =
-    AreBoxes (fixed_from (shape_of c.survey.fields) before f code) look.known × (look.state ≡ whole_state c (fixed_from (shape_of c.survey.fields) before f code))
+    AreBoxes (fixed_from (shape_of c.survey.fields) before f code) look.basis × (look.state ≡ whole_state c (fixed_from (shape_of c.survey.fields) before f code))
 IsKept c before f (Number x) look = look.state ≡ ClosedBad
 IsKept c before f Bad look = look.state ≡ ClosedBad

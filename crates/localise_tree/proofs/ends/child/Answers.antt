@@ -11,4 +11,4 @@ returns-clause-node c =
     (c.new.ensures ∙ c.in_ok-with_letter.ensures ∙ ap (λ (p : List Bool). p ++ c.args.changed ∷ []) c.letters-letters.ensures) c.requires.state c.changed_weight.result
     (c.changed_weight.ensures.weight
     ∙ ap (λ (p : List Bool). if c.args.changed then weight_at c.args.problem.now.survey.now.fields (slice_index_or (path_order c.args.problem.now.survey.now.fields) (length p) 0) else 0) c.letters-letters.ensures)
-    c.changed_weight.ensures.few refl c.requires.known
+    c.changed_weight.ensures.few refl c.requires.basis
