@@ -11,5 +11,7 @@ mod ends;
 mod looks;
 mod number_paths;
 mod problem;
+#[cfg(test)]
+mod tests;
 
 pub use best_first::localise;
