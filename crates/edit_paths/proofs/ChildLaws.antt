@@ -202,23 +202,31 @@ module _ (c : Case) (path : List Bool) (b : Bool) (short : length path < field_c
           either true = refl
           either false = refl
 
+  -- a field that the path treats has its place within the path
+  pub treated-within : (f : ℕ) → IsIn f (treated_codes c path) → path_place c.survey.fields f ≢ length path
+  treated-within f there at =
+      absurd (cc (sym (in-filter-out (treats c path) f (code_fields (shape_of c.survey.fields)) there).1 ∙ ap (λ x. not x || changes c.survey.fields path f) (get_or_past path (path_place c.survey.fields f) true (omega (arith, at))) ∙ not-changed f (omega (arith, at))))
+
+  -- and its boxes are treated alike
+  pub after-same : (bs : List BoxFrom) (f : ℕ) → path_place c.survey.fields f ≢ length path → boxes_after c (path ++ b ∷ []) bs f ≡ boxes_after c path bs f
+  after-same bs f other = ap (λ x. if x then covered_from (shape_of c.survey.fields) bs f else fixed_from (shape_of c.survey.fields) bs f (code_in (value_of c.row f))) (changes-same c path b short f other)
+
+  -- its first boxes are those of the path before, where it treats a categorical field
+  pub first-same : number_count c ≤ length path → first_boxes c (path ++ b ∷ []) ≡ first_boxes c path
+  first-same enough = ap (λ (fs : List ℕ). or_empty (failing_from 0 (or_empty (system_of c.edits fs)) c.row [])) (child-numbers-same enough)
+
   -- and its boxes are those of the path before, with the field treated
   pub child-boxes : number_count c ≤ length path → boxes_along c (path ++ b ∷ []) ≡ boxes_after c (path ++ b ∷ []) (boxes_along c path) (slice_index_or (path_order c.survey.fields) (length path) 0)
   child-boxes enough =
       ap (λ (fs : List ℕ). fold (boxes_after c (path ++ b ∷ [])) (first_boxes c (path ++ b ∷ [])) fs) (child-codes enough)
-      ∙ ap (λ (fs : List ℕ). fold (boxes_after c (path ++ b ∷ [])) (or_empty (failing_from 0 (or_empty (system_of c.edits fs)) c.row [])) (treated_codes c path ++ slice_index_or (path_order c.survey.fields) (length path) 0 ∷ [])) (child-numbers-same enough)
+      ∙ ap (λ (bs : List BoxFrom). fold (boxes_after c (path ++ b ∷ [])) bs (treated_codes c path ++ slice_index_or (path_order c.survey.fields) (length path) 0 ∷ [])) (first-same enough)
       ∙ fold-append (boxes_after c (path ++ b ∷ [])) (first_boxes c path) (treated_codes c path) (slice_index_or (path_order c.survey.fields) (length path) 0 ∷ [])
-      ∙ ap (λ (bs : List BoxFrom). boxes_after c (path ++ b ∷ []) bs (slice_index_or (path_order c.survey.fields) (length path) 0)) (early (first_boxes c path) (treated_codes c path) (λ f at. late f (in-filter-out (treats c path) f (code_fields (shape_of c.survey.fields)) at).1))
+      ∙ ap (λ (bs : List BoxFrom). boxes_after c (path ++ b ∷ []) bs (slice_index_or (path_order c.survey.fields) (length path) 0)) (early (first_boxes c path) (treated_codes c path) treated-within)
     where
-      late : (f : ℕ) → treats c path f ≡ true → path_place c.survey.fields f ≢ length path
-      late f treated at =
-          absurd (cc (sym treated ∙ ap (λ x. not x || changes c.survey.fields path f) (get_or_past path (path_place c.survey.fields f) true (omega (arith, at))) ∙ not-changed f (omega (arith, at))))
-
       early : (bs : List BoxFrom) (fields : List ℕ) → ((f : ℕ) → IsIn f fields → path_place c.survey.fields f ≢ length path) → fold (boxes_after c (path ++ b ∷ [])) bs fields ≡ fold (boxes_after c path) bs fields
       early bs [] each = refl
       early bs (f ∷ fields) each =
-          ap (λ (ds : List BoxFrom). fold (boxes_after c (path ++ b ∷ [])) ds fields)
-          (ap (λ x. if x then covered_from (shape_of c.survey.fields) bs f else fixed_from (shape_of c.survey.fields) bs f (code_in (value_of c.row f))) (changes-same c path b short f (each f (inl refl))))
+          ap (λ (ds : List BoxFrom). fold (boxes_after c (path ++ b ∷ [])) ds fields) (after-same bs f (each f (inl refl)))
           ∙ early (boxes_after c path bs f) fields (λ g at. each g (inr at))
 
   -- ---- its system, where it changes a numerical field

@@ -11,6 +11,7 @@ pub mod EventLaws
 pub mod FieldPlaces
 pub mod KeptLines
 pub mod LeastLaws
+pub mod HistoryLists
 pub mod LetterLaws
 pub mod LineHistories
 pub mod OpenPaths
@@ -18,5 +19,6 @@ pub mod OrderLaws
 pub mod PathBoxes
 pub mod PathOrder
 pub mod ReachedLaws
+pub mod StepNumbers
 pub mod StepsWritten
 mod WorkedRows

@@ -166,7 +166,7 @@ level_of (values ∷ before) level = if length before == level then values else 
 abbrev pub value_at : Elements → Element → Option Proved
 value_at all e = slice_get (level_of all e.0) e.1
 
-same_element : (a b : Element) → is_element a b ≡ true → a ≡ b
+pub same_element : (a b : Element) → is_element a b ≡ true → a ≡ b
 same_element (l, i) (k, j) h =
     let (first, second) = both_true (l == k) _ h in
     ap (λ n. (n, i)) ((Decides-eqb l k).0 first) ∙ ap (λ n. (k, n)) ((Decides-eqb i j).0 second)

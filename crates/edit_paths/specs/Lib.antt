@@ -4,6 +4,7 @@ pub mod Choices
 pub mod Events
 pub mod Histories
 pub mod Laws
+pub mod Levels
 pub mod Outcomes
 pub mod PathHistories
 pub mod PathStates
@@ -12,3 +13,4 @@ pub mod ReachedPaths
 pub mod States
 pub mod Walks
 pub mod Works
+pub mod inner

@@ -5,11 +5,16 @@
 #![tactic(auto)]
 
 mod laws;
+mod levels;
 mod making;
 mod state;
+mod step_list;
 #[cfg(test)]
 mod tests;
+mod writing;
 
 pub use laws::{outcome_laws, path_laws};
+pub use levels::Level;
 pub use making::{Making, Written};
 pub use state::PathState;
+pub use writing::write_steps;

@@ -1,3 +1,5 @@
+mod steps;
+
 use crate::{PathState, outcome_laws, path_laws};
 use bound_cert::Event;
 use edit_line::Place;

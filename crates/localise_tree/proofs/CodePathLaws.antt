@@ -50,7 +50,8 @@ use Rattle.localise_tree.specs.declared.looks.Look.{Look}
 use Rattle.localise_tree.specs.inner.Bases.{IsBasis}
 use Rattle.localise_tree.specs.inner.Nodes.{IsLook, TellsLook}
 use Rattle.localise_tree.specs.inner.Tries.{AreBoxes, IsChanged, IsKept, whole_state}
-use Rattle.localise_tree.proofs.NumberPathLaws.{in-index, split-last}
+use Rattle.localise_tree.proofs.LastLetters.{split-last}
+use Rattle.localise_tree.proofs.NumberPathLaws.{in-index}
 use Rattle.localise_tree.proofs.ProblemLaws.{placed-at}
 
 -- Paths that say something of categorical fields, from the open path before.
@@ -202,30 +203,7 @@ module _ (c : Case) (before : List Bool) (b : Bool) (enough : number_count c ≤
   child-bad : keeps_bad c.survey.fields c.row (before ++ b ∷ []) ≡ true → state_of c (before ++ b ∷ []) ≡ ClosedBad
   child-bad bad = ap (λ t. if t then ClosedBad else state_with_system c (before ++ b ∷ []) (system_of c.edits (changed_numbers c (before ++ b ∷ [])))) bad
 
--- ---- the record's code at a field
-
-size-next : (i f : ℕ) (d : Domain) (shape : List Domain) → size_from i (d ∷ shape) (i + suc f) ≡ size_from (suc i) shape (suc i + f)
-size-next i f Numerical shape = ap (λ n. size_from (suc i) shape n) (omega arith)
-size-next i f (Categorical k) shape = by (i == i + suc f) refl ∙ ap (λ n. size_from (suc i) shape n) (omega arith)
-  where
-    by : (t : Bool) → (i == i + suc f) ≡ t → (if t then k else size_from (suc i) shape (i + suc f)) ≡ size_from (suc i) shape (i + suc f)
-    by false e = refl
-    by true e = absurd (omega (arith, (Decides-eqb i (i + suc f)).0 e))
-
-row-size : (i : ℕ) (fields : List Field) (values : List Value) (f k : ℕ) → IsRow fields values → value_of values f ≡ Code k → k < size_from i (shape_of fields) (i + f)
-row-size i [] [] f k is own = absurd (cc)
-row-size i [] (v ∷ values) f k is own = absurd is
-row-size i (x ∷ fields) [] f k is own = absurd is
-row-size i (x ∷ fields) (v ∷ values) zero k is own = by x.kind (subst (λ (w : Value). IsOfKind x.kind w) own is.0)
-  where
-    by : (kd : Kind) → IsOfKind kd (Code k) → k < size_from i (domain_of kd ∷ shape_of fields) (i + 0)
-    by (kind.Number scale) h = absurd h
-    by (kind.Code codes) h = subst (λ (t : Bool). k < (if t then length codes else size_from (suc i) (shape_of fields) (i + 0))) (sym ((Decides-eqb i (i + 0)).1 (omega arith))) h
-row-size i (x ∷ fields) (v ∷ values) (suc f) k is own = subst (λ n. k < n) (sym (size-next i f (domain_of x.kind) (shape_of fields))) (row-size (suc i) fields values f k is.1 own)
-
--- a code that the record has is of its field's domain
-pub row-code : (c : Case) → IsCase c → (f k : ℕ) → value_of c.row f ≡ Code k → k < size_of (shape_of c.survey.fields) f
-row-code c is f k own = subst (λ n. k < size_from 0 (shape_of c.survey.fields) n) (omega arith) (row-size 0 c.survey.fields c.row f k is.row own)
+-- ---- the record's value at a field
 
 -- a categorical field holds no number
 no-number : (c : Case) → IsCase c → (f : ℕ) (x : Fraction) → has_field (code_fields (shape_of c.survey.fields)) f ≡ true → value_of c.row f ≡ Number x → ⊥
@@ -248,7 +226,7 @@ module _ (c : Case) (is : IsCase c) (letters : List Bool) (more : number_count c
   b = last_letter letters
 
   split : letters ≡ before ++ b ∷ []
-  split = split-last letters (omega (arith, more))
+  split = split-last letters false (omega (arith, more))
 
   counted : length letters ≡ suc (length before)
   counted = ap (λ (p : List Bool). length p) split ∙ longer before b
@@ -342,7 +320,7 @@ module _ (c : Case) (is : IsCase c) (letters : List Bool) (more : number_count c
 pub codes-kept : (c : Case) (letters : List Bool) → number_count c < length letters → length letters ≤ field_count c → (keeps : ℕ → Bool) → KeepsChanged keeps c (before_last letters) → {E : Type 0} (r : Result (Option Look) E)
     → IfOk r (λ told. IfSome told (λ look. look.state ≡ Open → KeepsChanged keeps c letters))
 codes-kept c letters more fit keeps (bits, chosen, kept) (Ok (Some look)) = λ is_open.
-    let split = split-last letters (omega (arith, more)) in
+    let split = split-last letters false (omega (arith, more)) in
     let counted = ap (λ (p : List Bool). length p) split ∙ longer (before_last letters) (last_letter letters) in
     (bits, chosen ∙ sym (ap (λ (p : List Bool). changed_numbers c p) split ∙ child-numbers-same c (before_last letters) (last_letter letters) (omega (arith, fit, counted)) (omega (arith, more, counted))), kept)
 codes-kept c letters more fit keeps known (Ok None) = tt

@@ -34,9 +34,10 @@ use Rattle.edit_paths.specs.declared.state.PathState.{PathState}
 use Rattle.edit_paths.specs.declared.state.PathState.TheVariants.{ClosedBad, Overflows}
 use Rattle.edit_paths.proofs.ChildLaws.{child-kept, not-changed}
 use Rattle.edit_paths.proofs.FieldPlaces.{Placed, codes-placed}
-use Rattle.edit_paths.proofs.KeptLines.{derived-over, kept-held}
+use Rattle.edit_paths.proofs.KeptLines.{derived-over, kept-number}
 use Rattle.edit_paths.proofs.LetterLaws.{count-kinds, longer, number-field, order-shape}
 use Rattle.localise_tree.specs.inner.Bases.{HasLines}
+use Rattle.localise_tree.proofs.LastLetters.{split-last}
 
 -- Paths that say something of numerical fields alone.
 
@@ -52,18 +53,6 @@ first-of [] ys i below = absurd (omega arith)
 first-of (x ∷ xs) ys zero below = refl
 first-of (x ∷ xs) ys (suc i) below = first-of xs ys i (omega arith)
 
--- a word before its last letter, and that letter
-pub split-last : (xs : List Bool) → 0 < length xs → xs ≡ before_last xs ++ last_letter xs ∷ []
-split-last [] some = absurd (omega arith)
-split-last (x ∷ []) some = refl
-split-last (x ∷ y ∷ xs) some = ap (λ (l : List Bool). x ∷ l) (split-last (y ∷ xs) (omega arith)) ∙ again
-  where
-    again : (x ∷ (before_last (y ∷ xs) ++ last_letter (y ∷ xs) ∷ [])) ≡ before_last (x ∷ y ∷ xs) ++ last_letter (x ∷ y ∷ xs) ∷ []
-    again = sym (ap (λ (n : ℕ). take n (x ∷ y ∷ xs) ++ slice_index_or (x ∷ y ∷ xs) n false ∷ []) one_more)
-      where
-        one_more : length (x ∷ y ∷ xs) - 1 ≡ suc (length (y ∷ xs) - 1)
-        one_more = omega arith
-
 -- ---- a line that is tried
 
 only-alike : (s t : ℕ → Bool) (fields : List ℕ) (factors : List ℤ) → ((f : ℕ) → IsIn f fields → s f ≡ t f) → stands_only s fields factors ≡ stands_only t fields factors
@@ -73,29 +62,12 @@ only-alike s t (f ∷ fields) (a ∷ factors) same =
     ap (λ b. (int_eq a (pos 0) || b) && stands_only s fields factors) (same f (inl refl)) ∙ ap (λ b. (int_eq a (pos 0) || t f) && b) (only-alike s t fields factors (λ g at. same g (inr at)))
 
 module _ (c : Case) (is : IsCase c) (path : List Bool) (none : keeps_bad c.survey.fields c.row path ≡ false) where
-  -- a numerical field is in the set of the kept ones exactly where the path keeps it
-  kept-number : (f : ℕ) → IsIn f (number_fields (shape_of c.survey.fields)) → has_number (kept_set c.survey.fields c.row path) f ≡ keeps c.survey.fields path f
-  kept-number f there =
-      has-set_of (filter (λ f. keeps c.survey.fields path f && not (is_bad (value_of c.row f))) (path_order c.survey.fields)) f
-      ∙ has-filter (λ f. keeps c.survey.fields path f && not (is_bad (value_of c.row f))) f (path_order c.survey.fields) at ∙ by (keeps c.survey.fields path f) refl
-    where
-      at : has_field (path_order c.survey.fields) f ≡ true
-      at = number-field c f (there-has f (number_fields (shape_of c.survey.fields)) there)
-
-      held : (b : Bool) → is_bad (value_of c.row f) ≡ b → value_of c.row f ≢ Bad → not b ≡ true
-      held true e other = absurd (other (was-bad (value_of c.row f) e))
-      held false e other = refl
-
-      by : (b : Bool) → keeps c.survey.fields path f ≡ b → (b && not (is_bad (value_of c.row f))) ≡ b
-      by true kept = held (is_bad (value_of c.row f)) refl (kept-held c is path none f at kept)
-      by false kept = refl
-
   -- the tests of the factors and of the sets tell whether a line is asked
   pub asked-when : (line : LineParts) → HasShape (shape_of c.survey.fields) line → (alone full : Bool) → alone ≡ stands_only (has_number (kept_set c.survey.fields c.row path)) (number_fields line.shape) line.factors
       → full ≡ are_whole (shape_of c.survey.fields) line.sets → (alone && full) ≡ asks_kept c path line
   asked-when line over alone full alone_is full_is =
       ap (λ b. b && full) alone_is
-      ∙ ap (λ b. b && full) (only-alike (has_number (kept_set c.survey.fields c.row path)) (keeps c.survey.fields path) (number_fields line.shape) line.factors (λ f there. kept-number f (subst (λ (s : List Domain). IsIn f (number_fields s)) over.same there)))
+      ∙ ap (λ b. b && full) (only-alike (has_number (kept_set c.survey.fields c.row path)) (keeps c.survey.fields path) (number_fields line.shape) line.factors (λ f there. kept-number c is path none f (number-field c f (there-has f (number_fields (shape_of c.survey.fields)) (subst (λ (s : List Domain). IsIn f (number_fields s)) over.same there)))))
       ∙ ap (λ b. stands_only (keeps c.survey.fields path) (number_fields line.shape) line.factors && b) full_is ∙ either_way (stands_only (keeps c.survey.fields path) (number_fields line.shape) line.factors) (are_whole (shape_of c.survey.fields) line.sets)
     where
       either_way : (a b : Bool) → (a && b) ≡ (b && a)
@@ -129,9 +101,6 @@ module _ (c : Case) (path : List Bool) where
           (is ∙ ap (λ (fs : List ℕ). slice_index_or fs (length path - 1) 0) (order-shape c.survey.fields) ∙ first-of (number_fields (shape_of c.survey.fields)) (code_fields (shape_of c.survey.fields)) (length path - 1) few)
           ∙ there-has (slice_index_or (number_fields (shape_of c.survey.fields)) (length path - 1) 0) (number_fields (shape_of c.survey.fields)) (in-index (number_fields (shape_of c.survey.fields)) (length path - 1) 0 few)
 
-  pub kept-work : last_letter path ≡ false → work_of c path ≡ 1
-  kept-work kept = ap (λ b. if b then 1 + pairs_next c (before_last path) (last_field c path) else 1) kept
-
   -- where it is kept, the changed numerical fields are those of the path before
   pub kept-numbers : length path ≤ number_count c → last_letter path ≡ false → changed_numbers c path ≡ changed_numbers c (before_last path)
   kept-numbers fit kept = by path refl
@@ -140,7 +109,7 @@ module _ (c : Case) (path : List Bool) where
       by [] e = ap (λ (q : List Bool). changed_numbers c q) e ∙ sym (ap (λ (q : List Bool). changed_numbers c (before_last q)) e)
       by (x ∷ p) e =
           let some : 0 < length path = omega (arith, ap (λ (q : List Bool). length q) e) in
-          let split = split-last path some in
+          let split = split-last path false some in
           let counted = ap (λ (q : List Bool). length q) split ∙ longer (before_last path) (last_letter path) in
           ap (λ (q : List Bool). changed_numbers c q) split ∙ child-kept c (before_last path) (last_letter path) (omega (arith, counted, fit, count-kinds c)) kept
 

@@ -8,6 +8,8 @@ mod best_first;
 mod certificates;
 mod code_paths;
 mod ends;
+mod histories;
+mod known;
 mod looks;
 mod number_paths;
 mod problem;

@@ -1,5 +1,5 @@
 //! Two numerical fields, two lines over them, and a record.
-ghost use Rattle.std.specs.Prelude.{◌≡◌, [], ◌∷◌, IfOk};
+ghost use Rattle.std.specs.Prelude.{◌≡◌, ◌<◌, [], ◌∷◌, IfOk};
 ghost use Rattle.edit_line.specs.Shapes.{Numerical, domain_of, shape_of};
 ghost use Rattle.edit_model.specs.Rows.{IsRow};
 
@@ -84,14 +84,17 @@ fn row(alloc: Global, survey: &Survey, values: [i32; 2]) -> Result<Row, Fail>
     ensures { IfOk result (λ row. IsRow survey.now.fields row) }
 {
     let [a, b] = values;
-    let values = vec![in alloc;
-        Value::Number(Fraction::whole(i128::from(a))),
-        Value::Number(Fraction::whole(i128::from(b))),
-    ]?;
+    let a = Fraction::whole(i128::from(a));
+    let b = Fraction::whole(i128::from(b));
+    let values = vec![in alloc; Value::Number(a), Value::Number(b)]?;
     Ok(Row::new(survey, values))
 }
 
-fn outcome<L: Ledger>(alloc: Global, plan: &Plan, blank: Blank) -> Result<Outcome, Fail> {
+fn outcome<L: Ledger>(alloc: Global, plan: &Plan, blank: Blank) -> Result<Outcome, Fail>
+    requires name { blank.name ≡ L.name }
+    requires parts { blank.parts ≡ L.parts }
+    requires counts { 0 < blank.parts }
+{
     let (lines, values, budget) = *plan;
     let survey = survey(alloc)?;
     let edits = Arc::new(alloc, edits(alloc, &survey, lines)?)?;
@@ -106,6 +109,10 @@ fn outcome<L: Ledger>(alloc: Global, plan: &Plan, blank: Blank) -> Result<Outcom
         budget,
         &mut steps,
     )?)
+}
+
+fn found(alloc: Global, plan: &Plan) -> Result<Outcome, Fail> {
+    outcome::<Brand>(alloc, plan, Blank::new(1))
 }
 
 #[test]
@@ -124,7 +131,7 @@ fn the_outcome_is_told_with_its_certificate(rt: HostRuntime) -> Result<(), Fail>
         ),
     ];
     for (plan, told) in &cases {
-        let outcome = outcome::<Brand>(rt.alloc(), plan, Blank::new(1))?;
+        let outcome = found(rt.alloc(), plan)?;
         let text = format!(in rt.alloc(); "{outcome:?}")?;
         assert_eq!(rt; text.as_str(), *told);
     }

@@ -5,7 +5,7 @@ use Rattle.edit_model.specs.declared.value.Value.{Value}
 use Rattle.localise_tree.specs.declared.looks.Basis.TheVariants.{Boxes}
 use Rattle.localise_tree.specs.inner.Problems.{case_in}
 use Rattle.localise_tree.specs.inner.Tries.{IsKept, whole_state}
-use Rattle.localise_tree.proofs.CodePathLaws.{row-code}
+use Rattle.localise_tree.proofs.RowCodes.{row-code}
 use Rattle.localise_tree.proofs.code_paths.look_at_kept.Goals as goal
 
 pub fix-requires : goal.fix-requires

@@ -1,0 +1,141 @@
+//! The steps that prove an element of a derived list: each element once, parts before the whole.
+ghost use Rattle.std.specs.Prelude.{◌≡◌, IfOk, OnOk, map};
+ghost use Rattle.edit_paths.specs.Histories.{maker, number_in, parts_of, renumbered, steps_to, with_proof};
+ghost use Rattle.edit_paths.specs.Levels.{history_of};
+
+use crate::levels::{Level, earlier_at, making_at};
+use crate::making::Making;
+use crate::step_list::StepList;
+use derivation::Step;
+use foundation::{OutOfMemory, Sequence};
+use std::alloc::Global;
+
+/// The steps that prove the element at this place of the last list, each of which is derived from the one
+/// before it: each element has one step, those that it is made of come before it, the first of them first.
+pub fn write_steps(
+    alloc: Global,
+    levels: &[Level],
+    place: u64,
+) -> Result<Sequence<Step>, OutOfMemory>
+    ensures { IfOk result (λ steps. steps ≡ steps_to (history_of levels.now) place) }
+{
+    let mut done = StepList::new(alloc);
+    prove(alloc, levels, place, &mut done)?;
+    done.into_steps(alloc)
+}
+
+// Appends the steps that prove the element at this place of the last list, but for those that stand there.
+fn prove(
+    alloc: Global,
+    levels: &[Level],
+    place: u64,
+    done: &mut StepList,
+) -> Result<(), OutOfMemory>
+    ensures { OnOk result (done.new ≡ with_proof (history_of levels.now) place done.old) }
+{
+    let Some((level, before)) = levels.split_last() else {
+        return Ok(());
+    };
+    match making_at(alloc, level, place)? {
+        Making::Same(earlier) => {
+            prove(alloc, before, earlier, done)?;
+            Ok(())
+        }
+        Making::By(step) => {
+            let element = (before.len() as u64, place);
+            if done.has(element) {
+                return Ok(());
+            }
+            let parts = parts_of(alloc, &step)?;
+            for part in &parts {
+                prove(alloc, before, *part, done)?;
+            }
+            let step = renumbered(alloc, before, done, step)?;
+            done.push(element, step)?;
+            Ok(())
+        }
+    }
+}
+
+// The element at this place of the last list, where it was made.
+fn maker(levels: &[Level], place: u64) -> (u64, u64)
+    ensures { result ≡ maker (history_of levels.now) place }
+{
+    let Some((level, before)) = levels.split_last() else {
+        return (0, place);
+    };
+    match earlier_at(level, place) {
+        Some(earlier) => maker(before, earlier),
+        None => (before.len() as u64, place),
+    }
+}
+
+// The places that a step builds on, in order.
+fn parts_of(alloc: Global, step: &Step) -> Result<Vec<u64>, OutOfMemory>
+    ensures { IfOk result (λ parts. parts.items ≡ parts_of step.now) }
+{
+    match step {
+        Step::Given(_) => Ok(Vec::new(alloc)),
+        Step::Combine { a, b, .. } => Ok(vec![in alloc; *a, *b]?),
+        Step::Fail(place) => Ok(vec![in alloc; *place]?),
+        Step::Cover { parts, .. } => Ok(Vec::from_slice(alloc, parts.as_slice())?),
+        Step::Fix { part, .. } => Ok(vec![in alloc; *part]?),
+    }
+}
+
+// The number of the step that proves the element at this place of the last list.
+fn part_number(levels: &[Level], done: &StepList, place: u64) -> u64
+    ensures { result ≡ number_in done.now (maker (history_of levels.now) place) }
+{
+    done.number_of(maker(levels, place))
+}
+
+// The numbers of the steps that prove the elements at these places of the last list.
+fn part_numbers(
+    alloc: Global,
+    levels: &[Level],
+    done: &StepList,
+    parts: &[u64],
+) -> Result<Vec<u64>, OutOfMemory>
+    ensures { IfOk result (λ numbers. numbers.items ≡ map (λ i. number_in done.now (maker (history_of levels.now) i)) parts.now) }
+{
+    Ok(
+        parts
+            .iter()
+            .map(|part| part_number(levels, done, *part))
+            .collect(alloc)?,
+    )
+}
+
+// The step, with the numbers of the steps that prove its parts.
+fn renumbered(
+    alloc: Global,
+    levels: &[Level],
+    done: &StepList,
+    step: Step,
+) -> Result<Step, OutOfMemory>
+    ensures { IfOk result (λ with. with ≡ renumbered (λ i. number_in done.now (maker (history_of levels.now) i)) step) }
+{
+    match step {
+        Step::Given(number) => Ok(Step::Given(number)),
+        Step::Combine { a, m, b, n, g } => Ok(Step::Combine {
+            a: part_number(levels, done, a),
+            m,
+            b: part_number(levels, done, b),
+            n,
+            g,
+        }),
+        Step::Fail(place) => Ok(Step::Fail(part_number(levels, done, place))),
+        Step::Cover { field, parts } => {
+            let numbers = part_numbers(alloc, levels, done, parts.as_slice())?;
+            Ok(Step::Cover {
+                field,
+                parts: Sequence::from_vec(numbers),
+            })
+        }
+        Step::Fix { field, part } => Ok(Step::Fix {
+            field,
+            part: part_number(levels, done, part),
+        }),
+    }
+}

@@ -1,0 +1,21 @@
+use Rattle.std.specs.Prelude.{◌≡◌, Bool, List, Option, Some, None, Vec, if◌then◌else◌}
+use Rattle.std.specs.BTreeMap.{BTreeMap, get}
+use Rattle.std.specs.Cmp.Lexicographic.{slice_cmp}
+use Rattle.std.specs.Ordering.{bool_cmp}
+use Rattle.std.specs.declared.alloc.Global.{Global}
+use Rattle.edit_paths.specs.Cases.{Case}
+use Rattle.edit_paths.specs.Certificates.{has_path}
+use Rattle.edit_paths.specs.States.{state_of}
+use Rattle.edit_paths.specs.declared.state.PathState.{PathState}
+
+-- what became of paths, by their letters
+abbrev pub Known : Type 0
+Known = BTreeMap (Vec Bool Global) PathState
+
+-- what became of the path of these letters, if that is known
+abbrev pub known_at : Known → Vec Bool Global → Option PathState
+known_at known letters = get (λ x y. slice_cmp bool_cmp x.items y.items) known letters
+
+-- the states of these paths are known, and of no other
+abbrev pub Knows : Case → List (List Bool) → Known → Type 0
+Knows c paths known = (letters : Vec Bool Global) → known_at known letters ≡ (if has_path paths letters.items then Some (state_of c letters.items) else None)

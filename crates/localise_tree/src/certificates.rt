@@ -1,0 +1,137 @@
+//! The certificate of an outcome: the leaves of the tree of the paths that were taken.
+ghost use Rattle.std.specs.Prelude.{◌≡◌, ◌-◌, ◌≤◌, ◌++◌, ◌∷◌, [], ℕ, Bool, List, IfOk, OnOk, length, true};
+ghost use Rattle.std.specs.List.{AllByRecursion};
+ghost use Rattle.edit_line.specs.EditSets.{EditsParts};
+ghost use Rattle.edit_paths.specs.Certificates.{certificate_of, leaf, leaves_by, leaves_from};
+ghost use Rattle.edit_paths.specs.Paths.{field_count};
+ghost use Rattle.localise_tree.specs.inner.Knowns.{Knows};
+ghost use Rattle.localise_tree.specs.inner.Problems.{IsProblem, case_in, edits_in};
+ghost use Rattle.localise_tree.specs.inner.Takens.{IsTaken, taken_paths};
+
+use crate::best_first::Taken;
+use crate::histories::{box_history, line_history};
+use crate::known::known_states;
+use crate::problem::{Problem, field_count};
+use bound_cert::{Cert, Leaf, LeafWhy, Path};
+use edit_paths::{PathState, write_steps};
+use foundation::{OutOfMemory, Sequence, Steps};
+use linear_elim::Systems;
+use std::alloc::Global;
+use std::collections::BTreeMap;
+use std::sync::ledger::Ledger;
+
+/// The certificate, where these paths were taken before the outcome: the leaves of their tree, letter by
+/// letter, kept before changed.
+pub(crate) fn certificate<S: Systems, L: Ledger>(
+    alloc: Global,
+    source: &mut S,
+    problem: &Problem,
+    taken: &[Taken],
+    steps: &mut Steps<L>,
+) -> Result<Cert, OutOfMemory>
+    requires problem { IsProblem problem.now }
+    requires served { S.serves source.old (edits_in problem.now) }
+    requires taken { AllByRecursion (IsTaken (case_in problem.now)) taken.now }
+    ensures leaves { IfOk result (λ cert. cert.leaves ≡ certificate_of (case_in problem.now) (taken_paths taken.now)) }
+    ensures serves { (e : EditsParts) → S.serves source.old e → S.serves source.new e }
+    ensures keeps { (f : ℕ) → S.keeps source.old f ≡ true → S.keeps source.new f ≡ true }
+{
+    let known = known_states(alloc, taken)?;
+    let mut letters = Vec::new(alloc);
+    let mut leaves = Vec::new(alloc);
+    push_leaves(
+        alloc,
+        source,
+        problem,
+        &known,
+        &mut letters,
+        &mut leaves,
+        steps,
+    )?;
+    Ok(Cert {
+        leaves: Sequence::from_vec(leaves),
+    })
+}
+
+// Appends the leaves of the tree from the path of these letters on.
+fn push_leaves<S: Systems, L: Ledger>(
+    alloc: Global,
+    source: &mut S,
+    problem: &Problem,
+    known: &BTreeMap<Vec<bool>, PathState>,
+    letters: &mut Vec<bool>,
+    leaves: &mut Vec<Leaf>,
+    steps: &mut Steps<L>,
+) -> Result<(), OutOfMemory>
+    requires problem { IsProblem problem.now }
+    requires served { S.serves source.old (edits_in problem.now) }
+    requires fit { length letters.old.items ≤ field_count (case_in problem.now) }
+    ensures letters { OnOk result (letters.new.items ≡ letters.old.items) }
+    ensures leaves { OnOk result ((paths : List (List Bool)) → Knows (case_in problem.now) paths known.now
+        → leaves.new.items ≡ leaves.old.items ++ leaves_from (case_in problem.now) paths (field_count (case_in problem.now) - length letters.old.items) letters.old.items) }
+    ensures serves { (e : EditsParts) → S.serves source.old e → S.serves source.new e }
+    ensures keeps { (f : ℕ) → S.keeps source.old f ≡ true → S.keeps source.new f ≡ true }
+{
+    let Some(state) = known.get(&*letters).copied() else {
+        push_leaf(alloc, letters, LeafWhy::Bound, leaves)?;
+        return Ok(());
+    };
+    if state.is_open() && letters.len() < field_count(problem) {
+        letters.push(false)?;
+        push_leaves(alloc, source, problem, known, letters, leaves, steps)?;
+        letters.pop();
+        letters.push(true)?;
+        push_leaves(alloc, source, problem, known, letters, leaves, steps)?;
+        letters.pop();
+        return Ok(());
+    }
+    push_closed(alloc, source, problem, state, letters, leaves, steps)?;
+    Ok(())
+}
+
+// Appends the leaf of the path, where this is the state that closes it.
+fn push_closed<S: Systems, L: Ledger>(
+    alloc: Global,
+    source: &mut S,
+    problem: &Problem,
+    state: PathState,
+    letters: &[bool],
+    leaves: &mut Vec<Leaf>,
+    steps: &mut Steps<L>,
+) -> Result<(), OutOfMemory>
+    requires problem { IsProblem problem.now }
+    requires served { S.serves source.old (edits_in problem.now) }
+    requires fit { length letters.now ≤ field_count (case_in problem.now) }
+    ensures leaves { OnOk result (leaves.new.items ≡ leaves.old.items ++ leaves_by (case_in problem.now) letters.now [] state) }
+    ensures serves { (e : EditsParts) → S.serves source.old e → S.serves source.new e }
+    ensures keeps { (f : ℕ) → S.keeps source.old f ≡ true → S.keeps source.new f ≡ true }
+{
+    match state {
+        PathState::Open | PathState::Overflows(_) => Ok(()),
+        PathState::ClosedBad => push_leaf(alloc, letters, LeafWhy::BadKept, leaves),
+        PathState::ClosedLine(place) => {
+            let levels = line_history(alloc, source, problem, letters, steps)?;
+            let proof = write_steps(alloc, &levels, place)?;
+            push_leaf(alloc, letters, LeafWhy::Line(proof), leaves)
+        }
+        PathState::ClosedBox(place) => {
+            let levels = box_history(alloc, source, problem, letters, steps)?;
+            let proof = write_steps(alloc, &levels, place)?;
+            push_leaf(alloc, letters, LeafWhy::Box(proof), leaves)
+        }
+    }
+}
+
+// Appends a leaf.
+fn push_leaf(
+    alloc: Global,
+    letters: &[bool],
+    why: LeafWhy,
+    leaves: &mut Vec<Leaf>,
+) -> Result<(), OutOfMemory>
+    ensures { OnOk result (leaves.new.items ≡ leaves.old.items ++ leaf letters.now why) }
+{
+    let path = Path::new(Vec::from_slice(alloc, letters)?);
+    leaves.push(Leaf { path, why })?;
+    Ok(())
+}
