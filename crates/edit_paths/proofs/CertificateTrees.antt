@@ -41,7 +41,7 @@ use Rattle.edit_paths.specs.declared.state.PathState.TheVariants.{ClosedBad, Clo
 use Rattle.edit_paths.proofs.BadFields.{is-bad, not-bad}
 use Rattle.edit_paths.proofs.ChoiceLaws.{EndsNot, FoundAt, found-from, none-cert, none-from, sorted-after}
 use Rattle.edit_paths.proofs.ClosingSteps.{closing-box, closing-line, only-kept}
-use Rattle.edit_paths.proofs.KeptLines.{asks-whole, kept-held}
+use Rattle.edit_paths.proofs.KeptLines.{asks-whole, kept-number}
 use Rattle.edit_paths.proofs.LetterLaws.{longer}
 use Rattle.edit_paths.proofs.LineHistories.{AreUsable}
 use Rattle.edit_paths.proofs.OrderLaws.{IsSorted}
@@ -66,11 +66,6 @@ both-all : {X : Type 0} (P : X → Type 0) (xs ys : List X) → AllByRecursion P
 both-all P [] ys first second = second
 both-all P (x ∷ xs) ys first second = (first.0, both-all P xs ys first.1 second)
 
-held : (v : Value) → v ≢ Bad → not (is_bad v) ≡ true
-held Bad is = absurd (is refl)
-held (Code k) is = refl
-held (Number x) is = refl
-
 -- ---- the leaves of a case's trees
 
 module _ (c : Case) (is : IsCase c) (given : List LineParts) (usable : List Bool) (are : AreGiven given usable c.edits) where
@@ -79,15 +74,6 @@ module _ (c : Case) (is : IsCase c) (given : List LineParts) (usable : List Bool
   IsValid weight path why = IsValidLeaf (tree_case c.survey given usable c.row weight) path why
 
   module _ (path : List Bool) (none : keeps_bad c.survey.fields c.row path ≡ false) where
-    kept_is : (f : ℕ) → has_field (path_order c.survey.fields) f ≡ true → has_number (kept_set c.survey.fields c.row path) f ≡ keeps c.survey.fields path f
-    kept_is f there =
-        has-set_of (filter (λ f. keeps c.survey.fields path f && not (is_bad (value_of c.row f))) (path_order c.survey.fields)) f
-        ∙ has-filter (λ f. keeps c.survey.fields path f && not (is_bad (value_of c.row f))) f (path_order c.survey.fields) there ∙ by (keeps c.survey.fields path f) refl
-      where
-        by : (b : Bool) → keeps c.survey.fields path f ≡ b → (b && not (is_bad (value_of c.row f))) ≡ b
-        by true kept = held (value_of c.row f) (kept-held c is path none f there kept)
-        by false kept = refl
-
     usable_is : AreUsable (premises_at (tree_case c.survey given usable c.row None) path) c.edits
     usable_is e there =
         let (at, may) = are e there in
@@ -95,13 +81,13 @@ module _ (c : Case) (is : IsCase c) (given : List LineParts) (usable : List Bool
 
     line-leaf : (weight : Option ℕ) (i : ℕ) → state_of c path ≡ ClosedLine i → IsValid weight path (why.Line (steps_to (line_history c path) i))
     line-leaf weight i e =
-        let (line, closing) = closing-line c is path none given usable (kept_set c.survey.fields c.row path) kept_is usable_is i e in
+        let (line, closing) = closing-line c is path none given usable (kept_set c.survey.fields c.row path) (kept-number c is path none) usable_is i e in
         let (whole, alone) = asks-whole c is path line closing.asks in
-        (line, closing.valid, (whole, true-both _ _ (only-kept c is path none given usable (kept_set c.survey.fields c.row path) kept_is usable_is line closing.over alone) (ap (λ r. is_true r) closing.fails)))
+        (line, closing.valid, (whole, true-both _ _ (only-kept c is path none given usable (kept_set c.survey.fields c.row path) (kept-number c is path none) usable_is line closing.over alone) (ap (λ r. is_true r) closing.fails)))
 
     box-leaf : (weight : Option ℕ) (i : ℕ) → state_of c path ≡ ClosedBox i → IsValid weight path (why.Box (steps_to (box_history c path) i))
     box-leaf weight i e =
-        let (b, closing) = closing-box c is path none given usable (kept_set c.survey.fields c.row path) kept_is usable_is i e in
+        let (b, closing) = closing-box c is path none given usable (kept_set c.survey.fields c.row path) (kept-number c is path none) usable_is i e in
         (b.code_box, closing.valid, same_text b.code_box.sets (whole_sets (shape_of c.survey.fields)) (sym closing.whole))
 
   -- ---- trees from a path on

@@ -1,11 +1,14 @@
 use Rattle.std.proofs.Common.{◌≡◌, ◌≢◌, ◌&&◌, ℕ, ◌≤◌, Bool, true, false, not, List, All, Ok, length, pos, refl, sym, ap, ◌∙◌, subst}
 use Rattle.std.specs.Cmp.Lexicographic.{same_text}
+use Rattle.std.specs.List.{filter}
 use Rattle.edit_model.specs.Corrections.{differs_from, path_order}
+use Rattle.edit_model.specs.FieldSets.{has_number}
 use Rattle.edit_model.specs.Points.{Point}
 use Rattle.edit_model.specs.RowPoints.{Agrees}
 use Rattle.edit_model.specs.Rows.{is_bad, value_of}
 use Rattle.edit_model.specs.declared.value.Value.{Value}
-use Rattle.edit_model.specs.declared.value.Value.TheVariants.{Bad}
+use Rattle.edit_model.specs.declared.value.Value.TheVariants.{Bad, Code, Number}
+use Rattle.edit_model.proofs.FieldSetLaws.{has-set_of}
 use Rattle.edit_model.proofs.RowLaws.{was-bad}
 use Rattle.edit_line.specs.Boxes.{are_whole}
 use Rattle.edit_line.specs.Lines.{HasShape, LineHolds, LineParts, amount, factor}
@@ -17,14 +20,14 @@ use Rattle.edit_line.specs.declared.derived.Derived.{Derived}
 use Rattle.edit_line.proofs.BoolLaws.{and_true}
 use Rattle.edit_line.proofs.Enough.{is_enough-Decides}
 use Rattle.edit_line.proofs.FactorLaws.{at-factors, factor-numerical, only-AtFactors, only-passes}
-use Rattle.edit_line.proofs.FieldLists.{has-there, there-has}
+use Rattle.edit_line.proofs.FieldLists.{has-filter, has-there, there-has}
 use Rattle.edit_line.proofs.Members.{all-in, any-in, in-all, in-any, in-filter, in-filter-out, in-map}
 use Rattle.edit_line.proofs.PointCodes.{wholes-inside}
 use Rattle.edit_line.proofs.SetLaws.{both_true, is_inside-Decides}
 use Rattle.edit_line.proofs.SumCallers.{numbers-held}
 use Rattle.edit_line.proofs.SumLaws.{fails_at-truth}
 use Rattle.linear_elim.specs.Systems.{system_of}
-use Rattle.bound_cert.specs.Paths.{changes, keeps, keeps_bad}
+use Rattle.bound_cert.specs.Paths.{changes, keeps, keeps_bad, kept_set}
 use Rattle.edit_paths.specs.Cases.{Case, IsCase, Meets}
 use Rattle.edit_paths.specs.Paths.{AgreesAlong, changed_numbers, number_count}
 use Rattle.edit_paths.specs.States.{asks_kept}
@@ -32,6 +35,11 @@ use Rattle.edit_paths.proofs.CaseSystems.{system-flat, system-follows, system-ov
 use Rattle.edit_paths.proofs.LetterLaws.{number-field, numbers-treated}
 
 -- The fields that a path keeps, and the lines of its system that ask something of them alone.
+
+held : (v : Value) → v ≢ Bad → not (is_bad v) ≡ true
+held Bad is = absurd (is refl)
+held (Code k) is = refl
+held (Number x) is = refl
 
 module _ (c : Case) (is : IsCase c) (path : List Bool) where
   abbrev shape : List Domain
@@ -45,6 +53,16 @@ module _ (c : Case) (is : IsCase c) (path : List Bool) where
       cc
       (sym none
       ∙ any-in (λ f. keeps c.survey.fields path f && is_bad (value_of c.row f)) f (path_order c.survey.fields) (has-there f (path_order c.survey.fields) there) (ap (λ b. b && is_bad (value_of c.row f)) kept ∙ ap (λ (v : Value). is_bad v) bad))
+
+  -- the set of the kept fields with values has just those that the path keeps
+  pub kept-number : keeps_bad c.survey.fields c.row path ≡ false → (f : ℕ) → has_field (path_order c.survey.fields) f ≡ true → has_number (kept_set c.survey.fields c.row path) f ≡ keeps c.survey.fields path f
+  kept-number none f there =
+      has-set_of (filter (λ f. keeps c.survey.fields path f && not (is_bad (value_of c.row f))) (path_order c.survey.fields)) f
+      ∙ has-filter (λ f. keeps c.survey.fields path f && not (is_bad (value_of c.row f))) f (path_order c.survey.fields) there ∙ by (keeps c.survey.fields path f) refl
+    where
+      by : (b : Bool) → keeps c.survey.fields path f ≡ b → (b && not (is_bad (value_of c.row f))) ≡ b
+      by true kept = held (value_of c.row f) (kept-held none f there kept)
+      by false kept = refl
 
   -- no point agrees with a field that has none
   pub bad-differs : keeps_bad c.survey.fields c.row path ≡ true → (q : Point) → AgreesAlong c path q → ⊥

@@ -1,7 +1,13 @@
 pub mod BoxTurns
+pub mod CodePathLaws
+pub mod EndLaws
 pub mod HistoryLaws
 pub mod KnownLaws
 pub mod LastLetters
 pub mod LeafLaws
+pub mod ModelLaws
+pub mod NumberPathLaws
 pub mod ProblemLaws
 pub mod RowCodes
+pub mod SearchLaws
+pub mod SearchLoop

@@ -1,4 +1,7 @@
+pub mod Bases
 pub mod Histories
 pub mod Knowns
+pub mod Nodes
 pub mod Problems
 pub mod Takens
+pub mod Tries

@@ -6,7 +6,14 @@
 
 mod best_first;
 mod certificates;
+mod code_paths;
+mod ends;
 mod histories;
 mod known;
+mod looks;
 mod number_paths;
 mod problem;
+#[cfg(test)]
+mod tests;
+
+pub use best_first::localise;

@@ -1,0 +1,64 @@
+use Rattle.std.proofs.Common.{◌≡◌, Bool, ℕ, List, Result, Ok, Err, IfOk, refl, sym, ap, ◌∙◌, subst}
+use Rattle.edit_model.specs.Corrections.{IsLeastWeight}
+use Rattle.edit_model.specs.Parts.{SurveyParts}
+use Rattle.edit_model.specs.Rows.{IsRow}
+use Rattle.edit_model.specs.Surveys.{IsWellFormed}
+use Rattle.edit_model.specs.declared.value.Value.{Value}
+use Rattle.edit_line.specs.EditSets.{EditsParts, IsReducedOf, base_lines}
+use Rattle.edit_line.specs.Reductions.{reduce_derived}
+use Rattle.edit_line.specs.Shapes.{Domain, shape_of}
+use Rattle.edit_line.specs.declared.derived.Derived.{Derived}
+use Rattle.bound_cert.specs.declared.outcome.Outcome.{Outcome}
+use Rattle.edit_paths.specs.Cases.{Case, IsCase, case_of}
+use Rattle.edit_paths.specs.Outcomes.{outcome_of}
+use Rattle.edit_paths.proofs.BudgetLaws.{always-change, enough-budget}
+use Rattle.edit_paths.proofs.CertificateTrees.{change-tree, contradiction-tree}
+use Rattle.edit_paths.proofs.ChoiceLaws.{change-choice, contradictory}
+use Rattle.edit_paths.proofs.LeastLaws.{choice-first, choice-least}
+use Rattle.localise_tree.specs.Answers.{Certifies, ChoosesFirst, ChoosesLeast, Finds, IsEnough, NoneMeets, Refutes}
+
+-- What an exact outcome says in the words of the model.
+
+-- a survey, its edits and one of its records are a case
+pub is-case : (survey : SurveyParts) (edits read : EditsParts) (row : List Value) (reduced : List Derived) → IsWellFormed survey → IsRow survey.fields row → edits.shape ≡ shape_of survey.fields → read ≡ edits → IsReducedOf read.shape read.lines reduced
+    → IsCase (case_of survey edits row)
+is-case survey edits read row reduced formed is shape same kept = record {
+  fields = formed.fields;
+  row = is;
+  edits = subst (λ (s : List Domain). IsReducedOf s edits.lines (reduce_derived (base_lines edits.lines))) shape (subst (λ (e : EditsParts). IsReducedOf e.shape e.lines (reduce_derived (base_lines e.lines))) same (subst (λ (ds : List Derived). IsReducedOf read.shape read.lines ds) kept.lines_are kept));
+}
+
+module _ (survey : SurveyParts) (edits : EditsParts) (row : List Value) (budget : ℕ) (is : IsCase (case_of survey edits row)) where
+  abbrev c : Case
+  c = case_of survey edits row
+
+  pub told-choice : {E : Type 0} (r : Result Outcome E) → IfOk r (λ o. o ≡ outcome_of (case_of survey edits row) budget) → IfOk r (ChoosesFirst (case_of survey edits row))
+  told-choice (Ok o) exact = λ path weight cert e. change-choice c is budget path weight cert (sym exact ∙ e)
+  told-choice (Err x) exact = tt
+
+  pub told-least : {E : Type 0} (r : Result Outcome E) → IfOk r (λ o. o ≡ outcome_of (case_of survey edits row) budget) → IfOk r (ChoosesLeast survey edits row)
+  told-least (Ok o) exact = λ path weight cert e same.
+      let told = change-choice c is budget path weight cert (sym exact ∙ e) in
+      (subst (λ (n : ℕ). IsLeastWeight survey row n) (sym told.1) (choice-least survey edits row is same path told.0), choice-first survey edits row is same path told.0)
+  told-least (Err x) exact = tt
+
+  pub told-tree : {E : Type 0} (r : Result Outcome E) → IfOk r (λ o. o ≡ outcome_of (case_of survey edits row) budget) → IfOk r (Certifies (case_of survey edits row))
+  told-tree (Ok o) exact = λ path weight cert e given usable are. change-tree c is given usable are budget path weight cert (sym exact ∙ e)
+  told-tree (Err x) exact = tt
+
+  pub told-contradictory : {E : Type 0} (r : Result Outcome E) → IfOk r (λ o. o ≡ outcome_of (case_of survey edits row) budget) → IfOk r (NoneMeets (case_of survey edits row))
+  told-contradictory (Ok o) exact = λ cert e p meets. contradictory c is budget cert (sym exact ∙ e) p meets
+  told-contradictory (Err x) exact = tt
+
+  pub told-refuted : {E : Type 0} (r : Result Outcome E) → IfOk r (λ o. o ≡ outcome_of (case_of survey edits row) budget) → IfOk r (Refutes (case_of survey edits row))
+  told-refuted (Ok o) exact = λ cert e given usable are. contradiction-tree c is given usable are budget cert (sym exact ∙ e)
+  told-refuted (Err x) exact = tt
+
+  pub told-enough : {E : Type 0} (r : Result Outcome E) → IfOk r (λ o. o ≡ outcome_of (case_of survey edits row) budget) → IfOk r (IsEnough (case_of survey edits row) budget)
+  told-enough (Ok o) exact = λ fits path work e. enough-budget c budget fits path work (sym exact ∙ e)
+  told-enough (Err x) exact = tt
+
+  pub told-found : {E : Type 0} (r : Result Outcome E) → IfOk r (λ o. o ≡ outcome_of (case_of survey edits row) budget) → IfOk r (Finds (case_of survey edits row) budget)
+  told-found (Ok o) exact = λ p meets fits none.
+      let (path, weight, cert, e) = always-change c is budget p meets fits (λ path event e. none path event (exact ∙ e)) in (path, weight, cert, exact ∙ e)
+  told-found (Err x) exact = tt

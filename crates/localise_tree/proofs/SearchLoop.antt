@@ -1,0 +1,87 @@
+use Rattle.std.proofs.Common.{◌≡◌, inl, inr, ℕ, ◌<◌, ◌≤◌, Bool, List, [], ◌∷◌, ◌++◌, Some, None, Result, Ok, Err, IfOk, length, refl, sym, ap, ◌∙◌, subst, arith}
+use Rattle.std.specs.List.{fold}
+use Rattle.std.proofs.lemmas.List.Sorted.{IsPermutation-refl, IsPermutation-sym}
+use Rattle.edit_line.specs.Reductions.{IsIn}
+use Rattle.bound_cert.specs.declared.outcome.Outcome.{Outcome}
+use Rattle.bound_cert.specs.declared.outcome.Outcome.TheVariants as outcome
+use Rattle.edit_paths.specs.Cases.{Case}
+use Rattle.edit_paths.specs.Certificates.{certificate_of}
+use Rattle.edit_paths.specs.Outcomes.{end_at, or_later, outcome_from, outcome_of}
+use Rattle.edit_paths.specs.Paths.{field_count}
+use Rattle.edit_paths.specs.ReachedPaths.{in_order, is_before, placed}
+use Rattle.edit_paths.specs.Walks.{next_paths}
+use Rattle.edit_paths.proofs.OrderLaws.{IsSorted, folded-sorted, in-folded, permuted-folded}
+use Rattle.edit_paths.proofs.PathOrder.{before-chain, before-equal, before-total}
+use Rattle.edit_paths.proofs.ReachedLaws.{first-end, next-fits, reached_beyond, same_ends, search-start, search-turn}
+
+-- The loop of a search over a sorted list of ends.
+
+-- how many paths are left
+abbrev pub left : Case → List (List Bool) → ℕ
+left c ends = length (in_order (is_before c.survey.fields) (reached_beyond c ends))
+
+-- the ends are sorted, no longer than the fields, and the outcome is that of the paths beyond them
+pub record IsSearching (c : Case) (budget : ℕ) (taken ends : List (List Bool)) : Type 0 where
+  pub fit : (x : List Bool) → IsIn x ends → length x ≤ field_count c
+  pub sorted : IsSorted (is_before c.survey.fields) (before-total c) (before-chain c) (before-equal c) ends
+  pub rest : outcome_from c budget taken (in_order (is_before c.survey.fields) (reached_beyond c ends)) ≡ outcome_of c budget
+
+module _ (c : Case) (budget : ℕ) where
+  pub searching-start : (taken ends : List (List Bool)) → taken ≡ [] → ends ≡ [] ∷ [] → IsSearching c budget taken ends
+  searching-start taken ends none one =
+      subst (λ (ps : List (List Bool)). IsSearching c budget ps ends) (sym none) (subst (λ (ps : List (List Bool)). IsSearching c budget [] ps) (sym one) (record {
+        fit = fit;
+        sorted = (λ y no_more. absurd no_more, tt);
+        rest = sym (search-start c budget);
+      }))
+    where
+      fit : (x : List Bool) → IsIn x ([] ∷ []) → length x ≤ field_count c
+      fit x (inl same) = omega (arith, ap (λ (p : List Bool). length p) same)
+      fit x (inr no_more) = absurd no_more
+
+  module _ (taken ends rest : List (List Bool)) (path : List Bool) (before : IsSearching c budget taken ends) (is : ends ≡ path ∷ rest) where
+    searching : IsSearching c budget taken (path ∷ rest)
+    searching = subst (λ (ps : List (List Bool)). IsSearching c budget taken ps) is before
+
+    turn : or_later (end_at c budget taken path) (outcome_from c budget (taken ++ path ∷ []) (in_order (is_before c.survey.fields) (reached_beyond c (next_paths c path ++ rest)))) ≡ outcome_of c budget
+    turn = sym (search-turn c budget taken path (path ∷ rest) rest (searching.fit path (inl refl)) (IsPermutation-refl (path ∷ rest)) searching.sorted.0) ∙ searching.rest
+
+    pub searching-ends : (o : Outcome) → end_at c budget taken path ≡ Some o → o ≡ outcome_of c budget
+    searching-ends o e = ap (λ end. or_later end (outcome_from c budget (taken ++ path ∷ []) (in_order (is_before c.survey.fields) (reached_beyond c (next_paths c path ++ rest))))) (sym e) ∙ turn
+
+    module _ (new : List (List Bool)) (made : new ≡ fold (placed (is_before c.survey.fields)) rest (next_paths c path)) where
+      same : in_order (is_before c.survey.fields) (reached_beyond c new) ≡ in_order (is_before c.survey.fields) (reached_beyond c (next_paths c path ++ rest))
+      same =
+          ap (λ (ps : List (List Bool)). in_order (is_before c.survey.fields) (reached_beyond c ps)) made
+          ∙ same_ends c _ _ (IsPermutation-sym _ _ (permuted-folded (is_before c.survey.fields) (before-total c) (before-chain c) (before-equal c) rest (next_paths c path)))
+
+      pub searching-turn : (after : List (List Bool)) → end_at c budget taken path ≡ None → after ≡ taken ++ path ∷ [] → IsSearching c budget after new
+      searching-turn after none more = record {
+        fit = λ x there. new-fit x (subst (λ (ps : List (List Bool)). IsIn x ps) made there);
+        sorted =
+            subst (λ (ps : List (List Bool)). IsSorted (is_before c.survey.fields) (before-total c) (before-chain c) (before-equal c) ps) (sym made)
+            (folded-sorted (is_before c.survey.fields) (before-total c) (before-chain c) (before-equal c) rest (next_paths c path) searching.sorted.1);
+        rest =
+            ap (λ (ps : List (List Bool)). outcome_from c budget ps (in_order (is_before c.survey.fields) (reached_beyond c new))) more
+            ∙ ap (λ (ps : List (List Bool)). outcome_from c budget (taken ++ path ∷ []) ps) same
+            ∙ ap (λ end. or_later end (outcome_from c budget (taken ++ path ∷ []) (in_order (is_before c.survey.fields) (reached_beyond c (next_paths c path ++ rest))))) (sym none) ∙ turn;
+      }
+        where
+          new-fit : (x : List Bool) → IsIn x (fold (placed (is_before c.survey.fields)) rest (next_paths c path)) → length x ≤ field_count c
+          new-fit x there = elim (in-folded (is_before c.survey.fields) (before-total c) (before-chain c) (before-equal c) x rest (next_paths c path) there) [
+            | inl at ↦ searching.fit x (inr at)
+            | inr at ↦ next-fits c path x (searching.fit path (inl refl)) at
+          ]
+
+      pub searching-less : left c new < left c ends
+      searching-less =
+          let first = first-end c path (path ∷ rest) rest (searching.fit path (inl refl)) (IsPermutation-refl (path ∷ rest)) searching.sorted.0 in
+          omega (arith, ap (λ (ps : List (List Bool)). length ps) same, ap (λ (ps : List (List Bool)). length ps) first, ap (λ (ps : List (List Bool)). left c ps) is)
+
+  pub searching-none : (taken ends : List (List Bool)) (o : Outcome) → IsSearching c budget taken ends → ends ≡ [] → o ≡ outcome.Contradictory (record { leaves = certificate_of c taken }) → o ≡ outcome_of c budget
+  searching-none taken ends o before none is = is ∙ ap (λ (ps : List (List Bool)). outcome_from c budget taken (in_order (is_before c.survey.fields) (reached_beyond c ps))) (sym none) ∙ before.rest
+
+  -- the outcome where no end is left
+  pub searching-over : {E : Type 0} (taken known ends : List (List Bool)) (r : Result Outcome E) → IsSearching c budget taken ends → ends ≡ [] → known ≡ taken → IfOk r (λ o. o ≡ outcome.Contradictory (record { leaves = certificate_of c known })) → IfOk r (λ o. o ≡ outcome_of c budget)
+  searching-over taken known ends (Ok o) before none alike is = searching-none taken ends o before none (is ∙ ap (λ (ps : List (List Bool)). outcome.Contradictory (record { leaves = certificate_of c ps })) alike)
+  searching-over taken known ends (Err e) before none alike is = tt

@@ -1,0 +1,60 @@
+use Rattle.std.specs.Prelude.{◌≡◌, ◌↔◌, ◌≤◌, ℕ, Bool, List, Some, None}
+use Rattle.edit_model.specs.Corrections.{IsCorrection, IsFirstLeast, IsLeastWeight}
+use Rattle.edit_model.specs.Parts.{SurveyParts}
+use Rattle.edit_model.specs.Points.{Point}
+use Rattle.edit_model.specs.declared.value.Value.{Value}
+use Rattle.edit_line.specs.EditSets.{EditsParts}
+use Rattle.edit_line.specs.Lines.{LineParts}
+use Rattle.bound_cert.specs.Paths.{path_weight}
+use Rattle.bound_cert.specs.ValidTrees.{IsValidTree, tree_case}
+use Rattle.bound_cert.specs.declared.cert.Cert.{Cert}
+use Rattle.bound_cert.specs.declared.outcome.Event.{Event}
+use Rattle.bound_cert.specs.declared.outcome.Outcome.{Outcome}
+use Rattle.bound_cert.specs.declared.outcome.Outcome.TheVariants as outcome
+use Rattle.edit_paths.specs.Cases.{AreGiven, Case, Meets, case_of}
+use Rattle.edit_paths.specs.Choices.{IsChoice}
+use Rattle.edit_paths.specs.Outcomes.{total_work}
+use Rattle.localise_tree.specs.KeptFields.{KeepsChanged}
+
+-- What an outcome says of the record.
+
+-- the path of a change is the choice among the points at which the edits hold, and the weight is the path's
+abbrev pub ChoosesFirst : Case → Outcome → Type 0
+ChoosesFirst c o = (path : List Bool) (weight : ℕ) (cert : Cert) → o ≡ outcome.Change path weight cert
+    → IsChoice c path × (weight ≡ path_weight c.survey.fields path)
+
+-- where the edits hold exactly at the consistent points, the weight of a change is the least of all corrections, and its path the first that has it
+abbrev pub ChoosesLeast : SurveyParts → EditsParts → List Value → Outcome → Type 0
+ChoosesLeast survey edits row o = (path : List Bool) (weight : ℕ) (cert : Cert) → o ≡ outcome.Change path weight cert
+    → ((p : Point) → Meets (case_of survey edits row) p ↔ IsCorrection survey p)
+    → IsLeastWeight survey row weight × IsFirstLeast survey row path
+
+-- the certificate of a change is a valid tree with its weight, whatever the given lines are among which the edits stand
+abbrev pub Certifies : Case → Outcome → Type 0
+Certifies c o = (path : List Bool) (weight : ℕ) (cert : Cert) → o ≡ outcome.Change path weight cert
+    → (given : List LineParts) (usable : List Bool) → AreGiven given usable c.edits
+    → IsValidTree (tree_case c.survey given usable c.row (Some weight)) cert.leaves
+
+-- at no point do the edits of a contradictory record hold
+abbrev pub NoneMeets : Case → Outcome → Type 0
+NoneMeets c o = (cert : Cert) → o ≡ outcome.Contradictory cert → (p : Point) → ¬ Meets c p
+
+-- the certificate of a contradiction is a valid tree without a weight
+abbrev pub Refutes : Case → Outcome → Type 0
+Refutes c o = (cert : Cert) → o ≡ outcome.Contradictory cert
+    → (given : List LineParts) (usable : List Bool) → AreGiven given usable c.edits
+    → IsValidTree (tree_case c.survey given usable c.row None) cert.leaves
+
+-- a budget of at least the total work is not passed
+abbrev pub IsEnough : Case → ℕ → Outcome → Type 0
+IsEnough c budget o = total_work c ≤ budget → (path : List Bool) (work : ℕ) → ¬ (o ≡ outcome.Budget path work)
+
+-- with such a budget, where the edits hold somewhere and no number leaves the range, the outcome is a change
+abbrev pub Finds : Case → ℕ → Outcome → Type 0
+Finds c budget o = (p : Point) → Meets c p → total_work c ≤ budget
+    → ((path : List Bool) (event : Event) → ¬ (o ≡ outcome.Overflow path event))
+    → (path : List Bool) × (weight : ℕ) × (cert : Cert) × (o ≡ outcome.Change path weight cert)
+
+-- at a change, the source keeps the system of the numerical fields that are changed
+abbrev pub KeepsChange : (ℕ → Bool) → Case → Outcome → Type 0
+KeepsChange keeps c o = (path : List Bool) (weight : ℕ) (cert : Cert) → o ≡ outcome.Change path weight cert → KeepsChanged keeps c path

@@ -1,0 +1,60 @@
+use Rattle.std.specs.Prelude.{◌≡◌, ◌*◌, ◌<◌, ◌≤◌, ◌==◌, ◌&&◌, ◌||◌, ℕ, Bool, List, [], ◌∷◌, Option, IfSome, length, map, nat_lt}
+use Rattle.std.specs.Arc.{arc_value}
+use Rattle.std.specs.List.{AllByRecursion}
+use Rattle.edit_model.specs.Corrections.{is_first}
+use Rattle.linear_elim.specs.declared.held.Held.{Held}
+use Rattle.bound_cert.specs.Paths.{path_weight}
+use Rattle.edit_paths.specs.Cases.{Case}
+use Rattle.edit_paths.specs.Paths.{before_last, field_count}
+use Rattle.edit_paths.specs.States.{IsOpen, state_of}
+use Rattle.edit_paths.specs.Works.{work_of}
+use Rattle.edit_paths.specs.declared.state.PathState.TheVariants.{Open}
+use Rattle.localise_tree.specs.KeptFields.{KeepsChanged}
+use Rattle.localise_tree.specs.declared.ends.Node.{Node}
+use Rattle.localise_tree.specs.declared.looks.Basis.{Basis}
+use Rattle.localise_tree.specs.declared.looks.Basis.TheVariants.{Boxes, Lines}
+use Rattle.localise_tree.specs.declared.looks.Look.{Look}
+use Rattle.localise_tree.specs.inner.Bases.{IsBasis, IsBasisBefore}
+
+-- ---- ends
+
+-- a reached path with its weight, and the basis of the path before
+pub record IsNode (c : Case) (node : Node) : Type 0 where
+  pub fit : length node.path ≤ field_count c
+  pub weight : node.weight ≡ path_weight c.survey.fields node.path
+  pub few : node.weight ≤ 1000 * length node.path
+  pub reached : 0 < length node.path → IsOpen c (before_last node.path)
+  pub basis : IsBasisBefore c node.path node.before
+
+-- their paths
+abbrev pub paths_of : List Node → List (List Bool)
+paths_of nodes = map (λ (node : Node). node.path) nodes
+
+-- the first comes before the second, by their weights and then letter by letter, or has the same path
+abbrev pub before : Node → Node → Bool
+before first second = nat_lt first.weight second.weight || ((first.weight == second.weight) && is_first first.path second.path)
+
+-- the source keeps the system of the path before each
+abbrev pub AreKept : (ℕ → Bool) → Case → List Node → Type 0
+AreKept keeps c ends = AllByRecursion (λ (node : Node). KeepsChanged keeps c (before_last node.path)) ends
+
+-- the basis is this system
+abbrev pub IsOfSystem : Held → Basis → Type 0
+IsOfSystem held (Lines system) = arc_value system ≡ held
+IsOfSystem held (Boxes boxes) = ⊥
+
+-- the empty path alone, with this system
+abbrev pub IsFirstEnd : Held → List Node → Type 0
+IsFirstEnd held ends = (before : Basis) × (ends ≡ record { path = []; weight = 0; before = before } ∷ []) × IsOfSystem held before
+
+-- ---- looks
+
+-- the work and the state of the path, and its basis where it is open
+pub record IsLook (c : Case) (path : List Bool) (look : Look) : Type 0 where
+  pub work : look.work ≡ work_of c path
+  pub state : look.state ≡ state_of c path
+  pub basis : look.state ≡ Open → IsBasis c path look.basis
+
+-- the look, if there is one, is right, and its work no more than may be done
+abbrev pub TellsLook : Case → List Bool → ℕ → Option Look → Type 0
+TellsLook c path most told = IfSome told (λ (look : Look). IsLook c path look × (look.work ≤ most))

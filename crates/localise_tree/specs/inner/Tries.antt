@@ -1,0 +1,49 @@
+use Rattle.std.specs.Prelude.{◌≡◌, ℕ, ◌+◌, List, Option, Some, None}
+use Rattle.std.specs.Arc.{arc_value}
+use Rattle.std.specs.List.{position}
+use Rattle.edit_model.specs.declared.value.Value.{Value}
+use Rattle.edit_model.specs.declared.value.Value.TheVariants.{Bad, Code, Number}
+use Rattle.edit_line.specs.Boxes.{are_whole}
+use Rattle.edit_line.specs.Shapes.{shape_of}
+use Rattle.categ_combine.specs.BoxLists.{sets_of}
+use Rattle.categ_combine.specs.Covers.{cover_count, covered_from}
+use Rattle.categ_combine.specs.Fixing.{fixed_from}
+use Rattle.categ_combine.specs.declared.box_from.BoxFrom.{BoxFrom}
+use Rattle.edit_paths.specs.Cases.{Case}
+use Rattle.edit_paths.specs.States.{first_whole}
+use Rattle.edit_paths.specs.declared.state.PathState.{PathState}
+use Rattle.edit_paths.specs.declared.state.PathState.TheVariants.{ClosedBad}
+use Rattle.localise_tree.specs.declared.looks.Basis.{Basis}
+use Rattle.localise_tree.specs.declared.looks.Basis.TheVariants.{Boxes, Lines}
+use Rattle.localise_tree.specs.declared.looks.Look.{Look}
+
+-- ---- a line that is tried
+
+-- what decides, or else the next
+abbrev pub or_next : Option PathState → PathState → PathState
+or_next (Some state) next = state
+or_next None next = next
+
+-- ---- a categorical field that is treated
+
+-- what the first box of all codes makes of the path
+abbrev pub whole_state : Case → List BoxFrom → PathState
+whole_state c boxes = first_whole (position (λ (b : BoxFrom). are_whole (shape_of c.survey.fields) b.code_box.sets) boxes)
+
+-- the boxes are these
+abbrev pub AreBoxes : List BoxFrom → Basis → Type 0
+AreBoxes boxes (Lines system) = ⊥
+AreBoxes boxes (Boxes own) = arc_value own ≡ boxes
+
+-- the field was changed: the boxes are combined there
+pub record IsChanged (c : Case) (before : List BoxFrom) (f : ℕ) (look : Look) : Type 0 where
+  pub work : look.work ≡ 1 + cover_count (shape_of c.survey.fields) (sets_of before) f
+  pub basis : AreBoxes (covered_from (shape_of c.survey.fields) before f) look.basis
+  pub state : look.state ≡ whole_state c (covered_from (shape_of c.survey.fields) before f)
+
+-- the field was kept: the boxes are fixed at its code, and a field without one closes the path
+abbrev pub IsKept : Case → List BoxFrom → ℕ → Value → Look → Type 0
+IsKept c before f (Code code) look =
+    AreBoxes (fixed_from (shape_of c.survey.fields) before f code) look.basis × (look.state ≡ whole_state c (fixed_from (shape_of c.survey.fields) before f code))
+IsKept c before f (Number x) look = look.state ≡ ClosedBad
+IsKept c before f Bad look = look.state ≡ ClosedBad

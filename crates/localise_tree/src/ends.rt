@@ -1,0 +1,221 @@
+ghost use Rattle.std.specs.Prelude.{◌≡◌, ℕ, ◌&&◌, ◌≤◌, ◌<◌, ◌++◌, [], ◌∷◌, Bool, IfNone, IfOk, IfSome, OnOk, if◌then◌else◌, length, not, slice_index_or, true};
+ghost use Rattle.std.specs.List.{AllByRecursion, fold, insert};
+ghost use Rattle.edit_line.specs.EditSets.{EditsParts};
+ghost use Rattle.edit_model.specs.Corrections.{is_first, path_order};
+ghost use Rattle.edit_model.specs.Words.{weight_at};
+ghost use Rattle.edit_paths.specs.PathStates.{is_open};
+ghost use Rattle.edit_paths.specs.Paths.{field_count, is_complete};
+ghost use Rattle.edit_paths.specs.ReachedPaths.{is_before, placed};
+ghost use Rattle.edit_paths.specs.States.{state_of};
+ghost use Rattle.edit_paths.specs.Walks.{next_paths};
+ghost use Rattle.edit_paths.specs.declared.state.PathState.TheVariants.{Open};
+ghost use Rattle.localise_tree.specs.KeptFields.{KeepsChanged};
+ghost use Rattle.localise_tree.specs.inner.Bases.{IsBasis};
+ghost use Rattle.localise_tree.specs.inner.Nodes.{AreKept, IsFirstEnd, IsLook, IsNode, before, paths_of};
+ghost use Rattle.localise_tree.specs.inner.Problems.{IsProblem, case_in, edits_in};
+
+use crate::looks::{Basis, Look};
+use crate::number_paths::system_along;
+use crate::problem::{Problem, field_count};
+use bound_cert::Path;
+use edit_paths::PathState;
+use foundation::{OutOfMemory, Steps};
+use linear_elim::{Held, SystemFault, Systems};
+use std::alloc::Global;
+use std::sync::Arc;
+use std::sync::ledger::Ledger;
+
+/// A reached path that is not yet taken, its weight, and the basis of the path before its last letter.
+#[derive(Drop)]
+pub(crate) struct Node {
+    pub(crate) path: Path,
+    pub(crate) weight: u64,
+    pub(crate) before: Basis,
+}
+
+impl Node {
+    /// Its path. No memory.
+    pub(crate) fn into_path(self) -> Path
+        ensures { result ≡ self.path }
+    {
+        self.path
+    }
+}
+
+/// The empty path alone.
+pub(crate) fn first_end<S: Systems, L: Ledger>(
+    alloc: Global,
+    source: &mut S,
+    problem: &Problem,
+    steps: &mut Steps<L>,
+) -> Result<Vec<Node>, OutOfMemory>
+    requires problem { IsProblem problem.now }
+    requires served { S.serves source.old (edits_in problem.now) }
+    ensures paths { IfOk result (λ ends. paths_of ends.items ≡ [] ∷ []) }
+    ensures nodes { IfOk result (λ ends. AllByRecursion (IsNode (case_in problem.now)) ends.items) }
+    ensures kept { IfOk result (λ ends. AreKept (S.keeps source.new) (case_in problem.now) ends.items) }
+    ensures serves { (e : EditsParts) → S.serves source.old e → S.serves source.new e }
+    ensures keeps { (f : ℕ) → S.keeps source.old f ≡ true → S.keeps source.new f ≡ true }
+{
+    match system_along(alloc, source, problem, &[], steps) {
+        Ok(held) => Ok(one_end(alloc, held)?),
+        // no field is eliminated, so no number leaves the range
+        Err(SystemFault::Overflow { .. } | SystemFault::OutOfMemory) => Err(OutOfMemory),
+    }
+}
+
+// The empty path alone, with the system of no field.
+fn one_end(alloc: Global, held: Held) -> Result<Vec<Node>, OutOfMemory>
+    ensures { IfOk result (λ ends. IsFirstEnd held ends.items) }
+{
+    let before = Basis::Lines(Arc::new(alloc, held)?);
+    let mut ends = Vec::new(alloc);
+    ends.push(Node {
+        path: Path::new(Vec::new(alloc)),
+        weight: 0,
+        before,
+    })?;
+    Ok(ends)
+}
+
+/// Takes the first end out of the list. No memory.
+pub(crate) fn take_first(ends: &mut Vec<Node>) -> Option<Node>
+    ensures some { IfSome result (λ node. ends.old.items ≡ node ∷ ends.new.items) }
+    ensures none { IfNone result (ends.old.items ≡ []) }
+{
+    if ends.is_empty() {
+        return None;
+    }
+    Some(ends.remove(0))
+}
+
+/// Puts the paths that the path leads on to among the ends, in order.
+pub(crate) fn lead_on(
+    alloc: Global,
+    problem: &Problem,
+    ends: &mut Vec<Node>,
+    node: &Node,
+    look: Look,
+) -> Result<(), OutOfMemory>
+    requires problem { IsProblem problem.now }
+    requires node { IsNode (case_in problem.now) node.now }
+    requires look { IsLook (case_in problem.now) node.now.path look }
+    requires ends { AllByRecursion (IsNode (case_in problem.now)) ends.old.items }
+    ensures paths { OnOk result (paths_of ends.new.items ≡ fold (placed (is_before problem.now.survey.now.fields)) (paths_of ends.old.items) (next_paths (case_in problem.now) node.now.path)) }
+    ensures nodes { OnOk result (AllByRecursion (IsNode (case_in problem.now)) ends.new.items) }
+    ensures kept { OnOk result ((keeps : ℕ → Bool)
+        → (look.state ≡ Open → KeepsChanged keeps (case_in problem.now) node.now.path)
+        → AreKept keeps (case_in problem.now) ends.old.items
+        → AreKept keeps (case_in problem.now) ends.new.items) }
+{
+    if !leads_on(problem, node, look.state) {
+        return Ok(());
+    }
+    let kept = child(alloc, problem, node, false, look.basis.share()?)?;
+    let changed = child(alloc, problem, node, true, look.basis)?;
+    place_end(ends, kept)?;
+    place_end(ends, changed)?;
+    Ok(())
+}
+
+// Whether the path of this state leads on: it is open, and does not say something of all fields.
+fn leads_on(problem: &Problem, node: &Node, state: PathState) -> bool
+    requires problem { IsProblem problem.now }
+    ensures { result ≡ (is_open state && not (is_complete (case_in problem.now) node.now.path)) }
+{
+    state.is_open() && node.path.letters().len() != field_count(problem)
+}
+
+// The path with one field more, kept or changed.
+fn child(
+    alloc: Global,
+    problem: &Problem,
+    node: &Node,
+    changed: bool,
+    before: Basis,
+) -> Result<Node, OutOfMemory>
+    requires problem { IsProblem problem.now }
+    requires node { IsNode (case_in problem.now) node.now }
+    requires short { length node.now.path < field_count (case_in problem.now) }
+    requires state { state_of (case_in problem.now) node.now.path ≡ Open }
+    requires basis { IsBasis (case_in problem.now) node.now.path before }
+    ensures path { IfOk result (λ more. more.path ≡ node.now.path ++ changed ∷ []) }
+    ensures node { IfOk result (λ more. IsNode (case_in problem.now) more) }
+{
+    let letters = node.path.letters();
+    let weight = node.weight + changed_weight(problem, letters.len(), changed);
+    Ok(Node {
+        path: Path::new(with_letter(alloc, letters, changed)?),
+        weight,
+        before,
+    })
+}
+
+// What the field at this place of the path order adds to the weight of a path.
+fn changed_weight(problem: &Problem, place: usize, changed: bool) -> u64
+    requires problem { IsProblem problem.now }
+    requires place { place < field_count (case_in problem.now) }
+    ensures weight { result ≡ (if changed then weight_at problem.now.survey.now.fields (slice_index_or (path_order problem.now.survey.now.fields) place 0) else 0) }
+    ensures few { result ≤ 1000 }
+{
+    if !changed {
+        return 0;
+    }
+    let fields = problem.survey.fields();
+    u64::from(fields[problem.survey.path_field(place as u32) as usize].weight)
+}
+
+// The letters and one more.
+fn with_letter(alloc: Global, letters: &[bool], letter: bool) -> Result<Vec<bool>, OutOfMemory>
+    ensures { IfOk result (λ more. more.items ≡ letters.now ++ letter ∷ []) }
+{
+    let mut more = Vec::with_capacity(alloc, letters.len() + 1)?;
+    more.extend_from_slice(letters)?;
+    more.push(letter)?;
+    Ok(more)
+}
+
+// Puts the end behind those that come before it.
+fn place_end(ends: &mut Vec<Node>, node: Node) -> Result<(), OutOfMemory>
+    ensures { OnOk result (ends.new.items ≡ placed before ends.old.items node) }
+{
+    let place = before_count(ends, &node);
+    ends.insert(place, node)?;
+    Ok(())
+}
+
+// How many of the first ends come before the node.
+fn before_count(ends: &[Node], node: &Node) -> usize
+    ensures place { insert ends.now result node.now ≡ placed before ends.now node.now }
+    ensures fits { result ≤ length ends.now }
+{
+    for (place, end) in ends.iter().enumerate() {
+        if !comes_before(end, node) {
+            return place;
+        }
+    }
+    ends.len()
+}
+
+// Whether the first path comes before the second, or is the same.
+fn comes_before(first: &Node, second: &Node) -> bool
+    ensures { result ≡ before first.now second.now }
+{
+    first.weight < second.weight
+        || first.weight == second.weight && is_first(first.path.letters(), second.path.letters())
+}
+
+// Whether the first word comes before the second letter by letter, or is the same.
+fn is_first(first: &[bool], second: &[bool]) -> bool
+    ensures { result ≡ is_first first.now second.now }
+{
+    for (place, letter) in first.iter().enumerate() {
+        if second.len() <= place {
+            return false;
+        }
+        if *letter != second[place] {
+            return !*letter;
+        }
+    }
+    true
+}

@@ -1,0 +1,82 @@
+ghost use Rattle.std.specs.Prelude.{◌≡◌, ℕ, ◌≤◌, ◌<◌, IfOk, IfSome, IfNone, true};
+ghost use Rattle.edit_line.specs.EditSets.{EditsParts};
+ghost use Rattle.edit_paths.specs.Paths.{before_last};
+ghost use Rattle.edit_paths.specs.States.{IsOpen};
+ghost use Rattle.edit_paths.specs.Works.{work_of};
+ghost use Rattle.edit_paths.specs.declared.state.PathState.TheVariants.{Open};
+ghost use Rattle.localise_tree.specs.KeptFields.{KeepsChanged};
+ghost use Rattle.localise_tree.specs.inner.Bases.{IsSame};
+ghost use Rattle.localise_tree.specs.inner.Nodes.{IsLook, IsNode, TellsLook};
+ghost use Rattle.localise_tree.specs.inner.Problems.{IsProblem, case_in, edits_in};
+
+use crate::code_paths::look_at_codes;
+use crate::ends::Node;
+use crate::number_paths::look_at_numbers;
+use crate::problem::Problem;
+use categ_combine::BoxFrom;
+use edit_paths::PathState;
+use foundation::{OutOfMemory, Sequence, Steps};
+use linear_elim::{Held, Systems};
+use std::alloc::Global;
+use std::sync::Arc;
+use std::sync::ledger::Ledger;
+
+/// What the paths with one letter more are looked into from: the lines of an open path's system, or, where it
+/// says something of all numerical fields, its boxes.
+#[derive(Drop)]
+pub(crate) enum Basis {
+    Lines(Arc<Held>),
+    Boxes(Arc<Sequence<BoxFrom>>),
+}
+
+impl Basis {
+    /// The same, owned once more.
+    pub(crate) fn share(&self) -> Result<Basis, OutOfMemory>
+        ensures { IfOk result (λ other. IsSame self.now other) }
+    {
+        match self {
+            Basis::Lines(system) => Ok(Basis::Lines(Arc::try_clone(system)?)),
+            Basis::Boxes(boxes) => Ok(Basis::Boxes(Arc::try_clone(boxes)?)),
+        }
+    }
+}
+
+/// What a look into a path tells: its work, what becomes of it, and its basis, which counts where it is open.
+#[derive(Drop)]
+pub(crate) struct Look {
+    pub(crate) work: u64,
+    pub(crate) state: PathState,
+    pub(crate) basis: Basis,
+}
+
+/// Looks into the path, unless its work is more than `most`.
+pub(crate) fn look_into<S: Systems, L: Ledger>(
+    alloc: Global,
+    source: &mut S,
+    problem: &Problem,
+    node: &Node,
+    most: u64,
+    steps: &mut Steps<L>,
+) -> Result<Option<Look>, OutOfMemory>
+    requires problem { IsProblem problem.now }
+    requires served { S.serves source.old (edits_in problem.now) }
+    requires node { IsNode (case_in problem.now) node.now }
+    requires before { KeepsChanged (S.keeps source.old) (case_in problem.now) (before_last node.now.path) }
+    ensures passed { IfOk result (λ told. IfNone told (most < work_of (case_in problem.now) node.now.path)) }
+    ensures look { IfOk result (TellsLook (case_in problem.now) node.now.path most) }
+    ensures kept { IfOk result (λ told. IfSome told (λ look. look.state ≡ Open → KeepsChanged (S.keeps source.new) (case_in problem.now) node.now.path)) }
+    ensures serves { (e : EditsParts) → S.serves source.old e → S.serves source.new e }
+    ensures keeps { (f : ℕ) → S.keeps source.old f ≡ true → S.keeps source.new f ≡ true }
+{
+    if most == 0 {
+        return Ok(None);
+    }
+    match &node.before {
+        Basis::Lines(system) => {
+            look_at_numbers(alloc, source, problem, &node.path, system, most, steps)
+        }
+        Basis::Boxes(boxes) => {
+            look_at_codes(alloc, problem, node.path.letters(), boxes.as_slice(), most)
+        }
+    }
+}
