@@ -19,7 +19,9 @@ use Rattle.linear_elim.proofs.PointLaws.{LineHolds-others, LineHolds-same, amoun
 use Rattle.linear_elim.proofs.SystemLaws.{HaveShape-system, system-follows, system-holds, system-lifts}
 use Rattle.back_subst.specs.Allowed.{AllowsNumber, Completes}
 use Rattle.back_subst.specs.inner.Bounds.{DecideFor}
-use Rattle.back_subst.proofs.FieldPoints.{Agrees-carried, HasCodesFrom-same, SameNumber, SameNumber-sym, SameNumber-trans, apart-absent, both-code, both-number, code-at, absent-apart, factor-numerical, number-at, number-listed, number-no_code}
+use Rattle.edit_line.proofs.FactorLaws.{factor-numerical}
+use Rattle.linear_elim.proofs.PointLaws.{number-no_code}
+use Rattle.back_subst.proofs.FieldPoints.{Agrees-carried, HasCodesFrom-same, SameNumber, SameNumber-sym, SameNumber-trans, apart-absent, both-code, both-number, code-at, absent-apart, number-at, number-listed}
 
 -- The numbers that a field may be given are those within the bounds of the lines of the system of the numerical fields that are left after it.
 
@@ -86,9 +88,6 @@ module _ (survey : SurveyParts) (edits : List LineParts) (row : List Value) (f :
 
     at_x-number : (i : ℕ) → i ≢ f → SameNumber p at_x i
     at_x-number i apart = (put-differs p f (p.code f) (x.numerator *ℤ p.denominator) x.denominator above).numbers i apart
-
-    own_number : (x_n x_d d : ℤ) → x_n *ℤ d *ℤ x_d ≡ x_n *ℤ (d *ℤ x_d)
-    own_number x_n x_d d = assoc x_n d x_d
 
     -- a point with the number at f has that of at_x
     same-at_f : (q : Point) → q.numerator f *ℤ x.denominator ≡ x.numerator *ℤ q.denominator → SameNumber at_x q f

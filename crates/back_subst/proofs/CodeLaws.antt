@@ -31,9 +31,12 @@ use Rattle.back_subst.specs.inner.Bounds.{DecideFor}
 use Rattle.back_subst.specs.inner.Codes.{boxes_for}
 use Rattle.back_subst.specs.inner.UnderWay.{AreDistinct}
 use Rattle.back_subst.proofs.CodeDomains.{HasCodes-same, HasCodes-with, code-other, code-own}
-use Rattle.back_subst.proofs.FieldPoints.{Agrees-carried, SameNumber, SameNumber-trans, absent-apart, agrees-held, code-at, factor-numerical, no_code-before, number-at, number-listed, number-no_code}
+use Rattle.edit_line.proofs.FactorLaws.{factor-numerical}
+use Rattle.linear_elim.proofs.PointLaws.{no_code-before}
+use Rattle.linear_elim.proofs.PointLaws.{number-no_code}
+use Rattle.back_subst.proofs.FieldPoints.{Agrees-carried, SameNumber, SameNumber-trans, absent-apart, agrees-held, code-at, number-at, number-listed}
 use Rattle.back_subst.proofs.NumberLaws.{code-agreed}
-use Rattle.back_subst.proofs.Rests.{at-factors}
+use Rattle.edit_line.proofs.FactorLaws.{at-factors}
 use Rattle.back_subst.proofs.SettledBoxes.{HasCodesOf, IsLifted, settled-holds, settled-lifts}
 use Rattle.linear_elim.proofs.FlatLaws.{system-flat}
 
@@ -140,7 +143,7 @@ module _ (survey : SurveyParts) (edits : List LineParts) (row : List Value) (g :
       in-lines d (e ∷ ds) (inr there) = inr (in-lines d ds there)
 
   have_numbers : All (λ (d : Derived). HasNumbers row d.line) derived
-  have_numbers = at_lines (λ l. HasNumbers row l) (λ l there. at-factors (λ f. IsNumberValue (value_of row f)) 0 l.shape l.factors (λ i some.
+  have_numbers = at_lines (λ l. HasNumbers row l) (λ l there. at-factors (λ f. IsNumberValue (value_of row f)) l (λ i some.
       let (number, outside) = stands l there i some in
       let (of_number, within) = number-at survey.fields row i is_row number in
       of_number (agrees-held row p i (completes.agrees i within (apart-number i number outside)))))
@@ -149,7 +152,7 @@ module _ (survey : SurveyParts) (edits : List LineParts) (row : List Value) (g :
   avoids-holds : (q : Point) → ((i : ℕ) → has_field (number_fields shape) i ≡ true → has_field numbers i ≡ false → Agrees row q i) → AllHold (system edits numbers) q ↔ Avoids shape boxes q
   avoids-holds q agrees =
       let law = failing-avoids shape row q derived boxes (at_lines (λ l. l.shape ≡ shape) shapes) have_numbers
-      (at_lines (λ l. AgreesWith row q l) (λ l there. at-factors (λ f. Agrees row q f) 0 l.shape l.factors (λ i some. let (number, outside) = stands l there i some in agrees i number outside))) made in
+      (at_lines (λ l. AgreesWith row q l) (λ l there. at-factors (λ f. Agrees row q f) l (λ i some. let (number, outside) = stands l there i some in agrees i number outside))) made in
       (λ hold. law.0 (subst (λ ls. AllHold ls q) (sym derived_are) hold), λ avoids. subst (λ ls. AllHold ls q) derived_are (law.1 avoids))
 
   -- ---- the record's codes at the fields that are kept

@@ -11,6 +11,7 @@ use Rattle.edit_model.specs.declared.field.Kind.{Kind}
 use Rattle.edit_model.specs.declared.field.Kind.TheVariants as kind
 use Rattle.edit_model.specs.declared.value.Value.{Value}
 use Rattle.edit_model.specs.declared.value.Value.TheVariants.{Bad, Code, Number}
+use Rattle.edit_line.proofs.BoolLaws.{or_true}
 use Rattle.edit_line.specs.CodeFields.{place_of, size_from, size_of}
 use Rattle.edit_line.specs.Shapes.{Domain, code_fields, codes_from, domain_of, has_field, shape_of, whole_sets}
 use Rattle.edit_line.specs.Sets.{AreSets}
@@ -34,35 +35,6 @@ box-place shape boxes i b place sets over below b_is within are fit =
     let same : b.code_box.shape ≡ shape = ap (λ (x : BoxFrom). x.code_box.shape) b_is ∙ over i b below in
     let many = ap length are ∙ AreSets-length b.code_box.sets (whole_sets b.code_box.shape) fit ∙ ap (λ s. length (whole_sets s)) same ∙ length-wholes 0 shape in
     omega (arith, many, within)
-
-module _ (boxes : List BoxFrom) (place code i : ℕ) (b : BoxFrom) (has whole : Bool) (below : i < length boxes) (b_is : b ≡ get_or boxes i b) (has_is : has ≡ has_code (slice_index_or b.code_box.sets place 0) code)
-    (before : is_free_at (sets_of (drop i boxes)) place code ≡ whole) where
-  at-box : not (has || list_any (λ c. has_code (slice_index_or c place 0) code) (sets_of (drop (suc i) boxes))) ≡ whole
-  at-box =
-      ap (λ h. not (h || list_any (λ c. has_code (slice_index_or c place 0) code) (sets_of (drop (suc i) boxes)))) has_is
-      ∙ ap (λ (x : BoxFrom). is_free_at (sets_of (x ∷ drop (suc i) boxes)) place code) b_is ∙ ap (λ bs. is_free_at (sets_of bs) place code) (sym (drop-cons boxes i b below)) ∙ before
-
-  pub free-stops : has ≡ true → false ≡ whole
-  free-stops is = ap (λ h. not (h || list_any (λ c. has_code (slice_index_or c place 0) code) (sets_of (drop (suc i) boxes)))) (sym is) ∙ at-box
-
-  pub free-goes : has ≡ false → is_free_at (sets_of (drop (i + 1) boxes)) place code ≡ whole
-  free-goes is =
-      ap (λ n. is_free_at (sets_of (drop n boxes)) place code) next_place
-      ∙ ap (λ h. not (h || list_any (λ c. has_code (slice_index_or c place 0) code) (sets_of (drop (suc i) boxes)))) (sym is) ∙ at-box
-    where
-      next_place : i + 1 ≡ suc i
-      next_place = omega arith
-
-pub free-end : (boxes : List BoxFrom) (place code i : ℕ) (whole : Bool) → length boxes ≤ i → is_free_at (sets_of (drop i boxes)) place code ≡ whole → true ≡ whole
-free-end boxes place code i whole past before = ap (λ bs. is_free_at (sets_of bs) place code) (sym (drop_all i boxes past)) ∙ before
-
--- one code more is tried
-pub none-below : (P : ℕ → Bool) (code : ℕ) → ((c : ℕ) → c < code → P c ≡ false) → P code ≡ false → (c : ℕ) → c < code + 1 → P c ≡ false
-none-below P code before here c below = by (nat_lt c code) refl
-  where
-    by : (b : Bool) → nat_lt c code ≡ b → P c ≡ false
-    by true e = before c (grind (arith, nat_tests))
-    by false e = let same : code ≡ c = grind (arith, nat_tests) in subst (λ n. P n ≡ false) same here
 
 -- ---- the code that is given
 module _ (shape : List Domain) (boxes : List (List ℕ)) (g target size place : ℕ) (size_is : size ≡ size_of shape g) (place_is : place ≡ place_of shape g) where
@@ -157,9 +129,6 @@ module _ (fields : List Field) (row : List Value) (left : List ℕ) (g i : ℕ) 
       ∙ ap (λ bs. settled_but (shape_of fields) row left g (drop (suc i) order) bs) (next_is ∙ settled-value fields row left g f boxes is_row blank there e)
       ∙ ap (λ b. settled_but (shape_of fields) row left g (drop (suc i) order) (if b then boxes else settled_at (shape_of fields) row left f boxes)) (sym e) ∙ at-field
 
-pub settled-end : (shape : List Domain) (row : List Value) (left : List ℕ) (g i : ℕ) (order : List ℕ) (boxes whole : List (List ℕ)) → length order ≤ i → settled_but shape row left g (drop i order) boxes ≡ whole → boxes ≡ whole
-settled-end shape row left g i order boxes whole past before = ap (λ fs. settled_but shape row left g fs boxes) (sym (drop_all i order past)) ∙ before
-
 -- ---- what fixing gives, for the boxes of a survey
 
 pub fixed-over : {E : Type 0} (shape : List Domain) (boxes : List BoxFrom) (f code : ℕ) (r : Result (Vec BoxFrom Global) E) → AreBoxesOver shape boxes → code < size_of shape f
@@ -178,11 +147,6 @@ pub listed-at : (fields : List ℕ) (i e : ℕ) → i < length fields → has_fi
 listed-at [] i e below = absurd (omega arith)
 listed-at (g ∷ fields) zero e below = ap (λ b. b || has_field fields g) ((Decides-eqb g g).1 refl)
 listed-at (g ∷ fields) (suc i) e below = ap (λ b. (g == get_or fields i e) || b) (listed-at fields i e (omega arith)) ∙ or_true (g == get_or fields i e)
-  where
-    or_true : (b : Bool) → (b || true) ≡ true
-    or_true true = refl
-    or_true false = refl
-
 pub unequal : (f g : ℕ) → (f ≡ g → ⊥) → (f == g) ≡ false
 unequal f g apart = by (f == g) refl
   where

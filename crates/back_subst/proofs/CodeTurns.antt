@@ -2,6 +2,7 @@ use Rattle.std.proofs.Common.{◌≡◌, ◌≢◌, ℕ, zero, suc, ◌+◌, ◌
 use Rattle.std.proofs.Math.Seq.{drop-cons}
 use Rattle.std.proofs.lemmas.Bool.Decides.{Decides-eqb}
 use Rattle.std.proofs.lemmas.List.{append_assoc, take-append-drop, take_more}
+use Rattle.edit_model.proofs.NameLemmas.{false_unless}
 use Rattle.edit_model.specs.Parts.{SurveyParts}
 use Rattle.edit_model.specs.Rows.{IsOfKind, value_of}
 use Rattle.edit_model.specs.declared.field.Field.{Field}
@@ -33,7 +34,8 @@ use Rattle.back_subst.specs.inner.Codes.{IsFree, boxes_for}
 use Rattle.back_subst.specs.inner.UnderWay.{AreBlankBut, AreCodesToGive, IsUnderWay}
 use Rattle.edit_model.specs.RowPoints.{code_in}
 use Rattle.back_subst.proofs.CodeLaws.{absent-joined}
-use Rattle.back_subst.proofs.FieldPoints.{agrees-held, code-at, number-no_code}
+use Rattle.linear_elim.proofs.PointLaws.{number-no_code}
+use Rattle.back_subst.proofs.FieldPoints.{agrees-held, code-at}
 use Rattle.back_subst.proofs.FreeCodes.{allowed-free}
 use Rattle.back_subst.proofs.OrderLaws.{order-categorical, order-numerical, parted}
 use Rattle.back_subst.proofs.RowSums.{boxes-same}
@@ -43,15 +45,11 @@ use Rattle.back_subst.proofs.WalkLaws.{AllowsCode-rows, IsGivenCode-same, code-g
 
 -- One code more is given.
 
-false-only : (b : Bool) → (b ≡ true → ⊥) → b ≡ false
-false-only true h = absurd (h refl)
-false-only false h = refl
-
 no-size : (f i : ℕ) (shape : List Domain) → f < i → size_from i shape f ≡ 0
 no-size f i [] below = refl
 no-size f i (Numerical ∷ shape) below = no-size f (suc i) shape (omega arith)
 no-size f i (Categorical k ∷ shape) below =
-    ap (λ b. if b then k else size_from (suc i) shape f) (false-only (i == f) (λ e. let same : i ≡ f = (Decides-eqb i f).0 e in absurd (omega arith))) ∙ no-size f (suc i) shape (omega arith)
+    ap (λ b. if b then k else size_from (suc i) shape f) (false_unless (i == f) (λ e. let same : i ≡ f = (Decides-eqb i f).0 e in absurd (omega arith))) ∙ no-size f (suc i) shape (omega arith)
 
 -- a categorical field may be given any of its codes
 code-kind-from : (code i f : ℕ) (fields : List Field) → code < size_from i (shape_of fields) (i + f) → IsSomeAnd (slice_get fields f) (λ (field : Field). IsOfKind field.kind (Code code))
@@ -73,7 +71,7 @@ code-kind-from code i (suc f) (field ∷ fields) there = code-kind-from code (su
     next = omega arith
 
     apart : (i == (i + suc f)) ≡ false
-    apart = false-only (i == (i + suc f)) (λ e. let same : i ≡ i + suc f = (Decides-eqb i (i + suc f)).0 e in absurd (omega arith))
+    apart = false_unless (i == (i + suc f)) (λ e. let same : i ≡ i + suc f = (Decides-eqb i (i + suc f)).0 e in absurd (omega arith))
 
     by : (k : Kind) → code < size_from i (domain_of k ∷ shape_of fields) (i + suc f) → code < size_from (suc i) (shape_of fields) (i + suc f)
     by (kind.Number scale) h = h
@@ -138,12 +136,12 @@ module _ (survey : SurveyParts) (target : ℕ → Value) (lines : List Derived) 
       let at = subst (λ ls. IsIn line ls) t.lines_are there in
       let is : line.shape ≡ shape = in-all (λ l. l.shape ≡ shape) line (system t.edits numbers) (λ j e j_below. (HaveShape-system shape t.edits numbers t.over j e j_below).same) at in
       let number = subst (λ (s : List Domain). has_field (number_fields s) k ≡ true) is (factor-numerical line k some) in
-      way.keeps k (absent number (false-only (has_field t.numbers k) (λ e. some (in-all (λ l. factor l k ≡ pos 0) line (system t.edits numbers) (system-flat shape t.edits numbers k t.over (has-reverse k t.numbers ∙ e)) at))))
+      way.keeps k (absent number (false_unless (has_field t.numbers k) (λ e. some (in-all (λ l. factor l k ≡ pos 0) line (system t.edits numbers) (system-flat shape t.edits numbers k t.over (has-reverse k t.numbers ∙ e)) at))))
     where
       absent : has_field (number_fields shape) k ≡ true → has_field t.numbers k ≡ false → has_field (take i order ++ (drop i order ++ t.numbers)) k ≡ false
       absent number outside =
           ap (λ fs. has_field fs k) (sym (append_assoc (take i order) (drop i order) t.numbers) ∙ ap (λ fs. fs ++ t.numbers) (take-append-drop i order)) ∙ has-append k order t.numbers
-          ∙ ap (λ b. b || has_field t.numbers k) (false-only (has_field order k) (λ e. absurd (cc (sym (order-categorical survey.fields order t.numbers t.orders k e) ∙ number-no_code k 0 shape number)))) ∙ outside
+          ∙ ap (λ b. b || has_field t.numbers k) (false_unless (has_field order k) (λ e. absurd (cc (sym (order-categorical survey.fields order t.numbers t.orders k e) ∙ number-no_code k 0 shape number)))) ∙ outside
 
   -- so its boxes are those of the record before values were given
   boxes-here : failing_boxes (lines_of lines) so_far ≡ Ok t.boxes
@@ -157,10 +155,10 @@ module _ (survey : SurveyParts) (target : ℕ → Value) (lines : List Derived) 
   )
     where
       other : (g == k) ≡ false
-      other = false-only (g == k) (λ e. absurd (cc (sym apart ∙ (Decides-eqb k g).1 (sym ((Decides-eqb g k).0 e)))))
+      other = false_unless (g == k) (λ e. absurd (cc (sym apart ∙ (Decides-eqb k g).1 (sym ((Decides-eqb g k).0 e)))))
 
       no_number : has_field t.numbers k ≡ false
-      no_number = false-only (has_field t.numbers k) (λ e. absurd (cc (sym there ∙ number-no_code k 0 shape (numerical k e))))
+      no_number = false_unless (has_field t.numbers k) (λ e. absurd (cc (sym there ∙ number-no_code k 0 shape (numerical k e))))
 
       by : (b : Bool) → has_field before k ≡ b → value_of so_far k ≡ Bad → b ≡ true
       by true e bad = refl

@@ -25,9 +25,6 @@ middle-first s x_n x_d y_n y_d = rw (parts s, parts x_n, parts x_d, parts y_n, p
 middle-second : (s x_n x_d y_n y_d : ℤ) → s *ℤ (y_n *ℤ (pos 2 *ℤ (x_d *ℤ y_d)) -ℤ (x_n *ℤ y_d +ℤ y_n *ℤ x_d) *ℤ y_d) ≡ s *ℤ (y_n *ℤ x_d -ℤ x_n *ℤ y_d) *ℤ y_d
 middle-second s x_n x_d y_n y_d = rw (parts s, parts x_n, parts x_d, parts y_n, parts y_d) (simp ring (same_dif _ _ _ _ (omega arith)))
 
-both_above : (z t : ℤ) → pos 0 ≤ℤ z → pos 0 <ℤ t → pos 0 <ℤ (z +ℤ t)
-both_above z t h g = omega (arith, ints)
-
 least-or : (z : ℤ) → (pos 0 <ℤ neg_ℤ z → ⊥) → pos 0 ≤ℤ z
 least-or z none = by (by_sign z)
   where

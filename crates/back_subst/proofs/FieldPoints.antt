@@ -13,6 +13,10 @@ use Rattle.edit_model.specs.declared.field.Kind.{Kind}
 use Rattle.edit_model.specs.declared.field.Kind.TheVariants as kind
 use Rattle.edit_model.specs.declared.value.Value.{Value}
 use Rattle.edit_model.specs.declared.value.Value.TheVariants.{Bad, Code, Number}
+use Rattle.edit_model.proofs.OrderLaws.{number-there}
+use Rattle.edit_model.proofs.RowLaws as rows
+use Rattle.edit_line.proofs.FieldLists.{there-has}
+use Rattle.edit_line.proofs.ShapeLaws.{code_fields-same, number_fields-same}
 use Rattle.edit_line.specs.Lines.{LineParts, factor}
 use Rattle.edit_line.specs.Reductions.{IsIn}
 use Rattle.edit_line.proofs.Members.{all-in}
@@ -32,22 +36,7 @@ SameNumber-trans p q r i first second =
 pub SameNumber-sym : (p q : Point) (i : ℕ) → SameNumber p q i → SameNumber q p i
 SameNumber-sym p q i same = sym same
 
--- ---- a field that is not in a list has no factor beside it
-pub beside-absent : (fields : List ℕ) (factors : List ℤ) (f : ℕ) → has_field fields f ≡ false → beside (pos 0) fields factors f ≡ pos 0
-beside-absent [] factors f none = refl
-beside-absent (i ∷ fields) [] f none = refl
-beside-absent (i ∷ fields) (a ∷ factors) f none = by (i == f) none (beside-absent fields factors f)
-  where
-    by : (b : Bool) → (b || has_field fields f) ≡ false → (has_field fields f ≡ false → beside (pos 0) fields factors f ≡ pos 0) → (if b then a else beside (pos 0) fields factors f) ≡ pos 0
-    by true h rest = absurd (cc)
-    by false h rest = rest h
-
-pub factor-numerical : (line : LineParts) (f : ℕ) → factor line f ≢ pos 0 → has_field (number_fields line.shape) f ≡ true
-factor-numerical line f some = by (has_field (number_fields line.shape) f) refl
-  where
-    by : (b : Bool) → has_field (number_fields line.shape) f ≡ b → b ≡ true
-    by true e = refl
-    by false e = absurd (some (beside-absent (number_fields line.shape) line.factors f e))
+-- ---- lists of fields
 
 -- a field that is none of a list is not there
 pub apart-absent : (f : ℕ) (fields : List ℕ) → All (λ g. f ≢ g) fields → has_field fields f ≡ false
@@ -59,71 +48,14 @@ apart-absent f (i ∷ fields) all = by (i == f) refl (apart-absent f fields (λ 
     by false e rest = rest
 
 -- ---- the values of a record
-number-value : (scale : ℕ) (v : Value) → IsOfKind (kind.Number scale) v → v ≢ Bad → IsNumberValue v
-number-value scale (Number x) is held = tt
-number-value scale (Code c) is held = absurd is
-number-value scale Bad is held = absurd (held refl)
-
-code-value : (codes : List (List ℕ)) (v : Value) → IsOfKind (kind.Code codes) v → v ≢ Bad → IsCodeValue v
-code-value codes (Code c) is held = tt
-code-value codes (Number x) is held = absurd is
-code-value codes Bad is held = absurd (held refl)
-
--- the value at a field of a kind
-module _ (row : List Value) where
-  next : (values : List Value) (v : Value) (i : ℕ) → ((j : ℕ) → value_of row (i + j) ≡ value_of (v ∷ values) j) → (j : ℕ) → value_of row (suc i + j) ≡ value_of values j
-  next values v i same j = ap (λ (n : ℕ). value_of row n) (omega arith) ∙ same (suc j)
-
-  here : (values : List Value) (v : Value) (i : ℕ) → ((j : ℕ) → value_of row (i + j) ≡ value_of (v ∷ values) j) → value_of row i ≡ v
-  here values v i same = ap (λ (n : ℕ). value_of row n) (omega arith) ∙ same 0
-
-  number-from : (i f : ℕ) (fields : List Field) (values : List Value) → IsRow fields values → ((j : ℕ) → value_of row (i + j) ≡ value_of values j)
-      → has_field (numbers_from i (shape_of fields)) f ≡ true → (value_of row f ≢ Bad → IsNumberValue (value_of row f)) × (f < i + length values)
-  number-from i f [] values is same there = absurd (cc)
-  number-from i f (field ∷ fields) [] is same there = absurd is
-  number-from i f (field ∷ fields) (v ∷ values) is same there = by field.kind is.0 (λ h. number-from (suc i) f fields values is.1 (next values v i same) h) there
-    where
-      by : (k : Kind) → IsOfKind k v → (has_field (numbers_from (suc i) (shape_of fields)) f ≡ true → (value_of row f ≢ Bad → IsNumberValue (value_of row f)) × (f < suc i + length values))
-          → has_field (numbers_from i (domain_of k ∷ shape_of fields)) f ≡ true → (value_of row f ≢ Bad → IsNumberValue (value_of row f)) × (f < i + suc (length values))
-      by (kind.Code codes) of_kind rest h = let found = rest h in (found.0, omega (arith, found.1))
-      by (kind.Number scale) of_kind rest h = at (i == f) refl h
-        where
-          at : (b : Bool) → (i == f) ≡ b → (b || has_field (numbers_from (suc i) (shape_of fields)) f) ≡ true → (value_of row f ≢ Bad → IsNumberValue (value_of row f)) × (f < i + suc (length values))
-          at true e _ =
-              let same_field : i ≡ f = (Decides-eqb i f).0 e in (
-                subst (λ (g : ℕ). value_of row g ≢ Bad → IsNumberValue (value_of row g)) same_field
-                    (λ held. subst (λ (w : Value). IsNumberValue w) (sym (here values v i same)) (number-value scale v of_kind (λ bad. held (here values v i same ∙ bad)))),
-                omega arith,
-              )
-          at false e g = let found = rest g in (found.0, omega (arith, found.1))
-
-  code-from : (i f : ℕ) (fields : List Field) (values : List Value) → IsRow fields values → ((j : ℕ) → value_of row (i + j) ≡ value_of values j)
-      → has_field (codes_from i (shape_of fields)) f ≡ true → (value_of row f ≢ Bad → IsCodeValue (value_of row f)) × (f < i + length values)
-  code-from i f [] values is same there = absurd (cc)
-  code-from i f (field ∷ fields) [] is same there = absurd is
-  code-from i f (field ∷ fields) (v ∷ values) is same there = by field.kind is.0 (λ h. code-from (suc i) f fields values is.1 (next values v i same) h) there
-    where
-      by : (k : Kind) → IsOfKind k v → (has_field (codes_from (suc i) (shape_of fields)) f ≡ true → (value_of row f ≢ Bad → IsCodeValue (value_of row f)) × (f < suc i + length values))
-          → has_field (codes_from i (domain_of k ∷ shape_of fields)) f ≡ true → (value_of row f ≢ Bad → IsCodeValue (value_of row f)) × (f < i + suc (length values))
-      by (kind.Number scale) of_kind rest h = let found = rest h in (found.0, omega (arith, found.1))
-      by (kind.Code codes) of_kind rest h = at (i == f) refl h
-        where
-          at : (b : Bool) → (i == f) ≡ b → (b || has_field (codes_from (suc i) (shape_of fields)) f) ≡ true → (value_of row f ≢ Bad → IsCodeValue (value_of row f)) × (f < i + suc (length values))
-          at true e _ =
-              let same_field : i ≡ f = (Decides-eqb i f).0 e in (
-                subst (λ (g : ℕ). value_of row g ≢ Bad → IsCodeValue (value_of row g)) same_field
-                    (λ held. subst (λ (w : Value). IsCodeValue w) (sym (here values v i same)) (code-value codes v of_kind (λ bad. held (here values v i same ∙ bad)))),
-                omega arith,
-              )
-          at false e g = let found = rest g in (found.0, omega (arith, found.1))
 
 -- a numerical field of a record has a number, or is Bad; it is within the record
 pub number-at : (fields : List Field) (row : List Value) (f : ℕ) → IsRow fields row → has_field (number_fields (shape_of fields)) f ≡ true → (value_of row f ≢ Bad → IsNumberValue (value_of row f)) × (f < length row)
-number-at fields row f is there = let found = number-from row 0 f fields row is (λ j. ap (λ (n : ℕ). value_of row n) (omega arith)) there in (found.0, omega (arith, found.1))
+number-at fields row f is there = rows.number-at fields row f is (ap (λ fs. has_field fs f) (sym (number_fields-same fields)) ∙ there)
 
 -- and a categorical one a code
 pub code-at : (fields : List Field) (row : List Value) (f : ℕ) → IsRow fields row → has_field (code_fields (shape_of fields)) f ≡ true → (value_of row f ≢ Bad → IsCodeValue (value_of row f)) × (f < length row)
-code-at fields row f is there = let found = code-from row 0 f fields row is (λ j. ap (λ (n : ℕ). value_of row n) (omega arith)) there in (found.0, omega (arith, found.1))
+code-at fields row f is there = rows.code-at fields row f is (ap (λ fs. has_field fs f) (sym (code_fields-same fields)) ∙ there)
 
 -- ---- two points that agree with a record at a field
 
@@ -175,8 +107,7 @@ pub HasCodesFrom-same : (i : ℕ) (fields : List Field) (p q : Point) → ((j : 
 HasCodesFrom-same i [] p q same held = tt
 HasCodesFrom-same i (field ∷ fields) p q same held = (subst (λ c. IsInDomain field.kind c) (sym (same i)) held.0, HasCodesFrom-same (suc i) fields p q same held.1)
 
--- ---- a numerical field is not categorical
-
+-- a field before the first is not numerical
 pub no_number-before : (f i : ℕ) (shape : List Domain) → f < i → has_field (numbers_from i shape) f ≡ false
 no_number-before f i [] below = refl
 no_number-before f i (Numerical ∷ shape) below = by (i == f) refl (no_number-before f (suc i) shape (omega arith))
@@ -186,38 +117,9 @@ no_number-before f i (Numerical ∷ shape) below = by (i == f) refl (no_number-b
     by false e rest = rest
 no_number-before f i (Categorical k ∷ shape) below = no_number-before f (suc i) shape (omega arith)
 
-pub no_code-before : (f i : ℕ) (shape : List Domain) → f < i → has_field (codes_from i shape) f ≡ false
-no_code-before f i [] below = refl
-no_code-before f i (Numerical ∷ shape) below = no_code-before f (suc i) shape (omega arith)
-no_code-before f i (Categorical k ∷ shape) below = by (i == f) refl (no_code-before f (suc i) shape (omega arith))
-  where
-    by : (b : Bool) → (i == f) ≡ b → has_field (codes_from (suc i) shape) f ≡ false → (b || has_field (codes_from (suc i) shape) f) ≡ false
-    by true e rest = let same : i ≡ f = (Decides-eqb i f).0 e in absurd (omega arith)
-    by false e rest = rest
-
--- a numerical field is not categorical
-pub number-no_code : (f i : ℕ) (shape : List Domain) → has_field (numbers_from i shape) f ≡ true → has_field (codes_from i shape) f ≡ false
-number-no_code f i [] h = refl
-number-no_code f i (Numerical ∷ shape) h = by (i == f) refl (number-no_code f (suc i) shape) h
-  where
-    by : (b : Bool) → (i == f) ≡ b → (has_field (numbers_from (suc i) shape) f ≡ true → has_field (codes_from (suc i) shape) f ≡ false)
-        → (b || has_field (numbers_from (suc i) shape) f) ≡ true → has_field (codes_from (suc i) shape) f ≡ false
-    by true e rest h = let same : i ≡ f = (Decides-eqb i f).0 e in no_code-before f (suc i) shape (omega arith)
-    by false e rest h = rest h
-number-no_code f i (Categorical k ∷ shape) h = by (i == f) refl (number-no_code f (suc i) shape h)
-  where
-    by : (b : Bool) → (i == f) ≡ b → has_field (codes_from (suc i) shape) f ≡ false → (b || has_field (codes_from (suc i) shape) f) ≡ false
-    by true e rest = let same : i ≡ f = (Decides-eqb i f).0 e in absurd (cc (sym h ∙ no_number-before f (suc i) shape (omega arith)))
-    by false e rest = rest
-
 -- a field that is in a list of numerical fields is numerical
 pub number-listed : (shape : List Domain) (fields : List ℕ) (i : ℕ) → All (λ g. has_field (number_fields shape) g ≡ true) fields → has_field fields i ≡ true → has_field (number_fields shape) i ≡ true
-number-listed shape [] i all h = absurd (cc)
-number-listed shape (g ∷ fields) i all h = by (g == i) refl h (number-listed shape fields i (λ k d below. all (suc k) d (omega arith)))
-  where
-    by : (b : Bool) → (g == i) ≡ b → (b || has_field fields i) ≡ true → (has_field fields i ≡ true → has_field (number_fields shape) i ≡ true) → has_field (number_fields shape) i ≡ true
-    by true e _ rest = subst (λ (j : ℕ). has_field (number_fields shape) j ≡ true) ((Decides-eqb g i).0 e) (all 0 g (omega arith))
-    by false e h rest = rest h
+number-listed shape fields i all there = number-there (λ g. has_field (number_fields shape) g ≡ true) fields i there all
 
 -- a field that is not in a list is none of it
 pub absent-apart : (i : ℕ) (fields : List ℕ) → has_field fields i ≡ false → All (λ g. i ≢ g) fields
@@ -230,13 +132,4 @@ absent-apart i (g ∷ fields) none = by (g == i) refl none (absent-apart i field
 
 -- the categorical fields of a survey are within a record
 pub codes-within : (fields : List Field) (row : List Value) → IsRow fields row → All (λ f. f < length row) (code_fields (shape_of fields))
-codes-within fields row is = all-in (λ f. f < length row) (code_fields (shape_of fields)) (λ f there. (code-at fields row f is (there-listed f (code_fields (shape_of fields)) there)).1)
-  where
-    there-listed : (i : ℕ) (fields : List ℕ) → IsIn i fields → has_field fields i ≡ true
-    there-listed i [] none = absurd none
-    there-listed i (j ∷ fields) (inl same) = ap (λ b. b || has_field fields i) ((Decides-eqb j i).1 (sym same))
-    there-listed i (j ∷ fields) (inr there) = ap (λ b. (j == i) || b) (there-listed i fields there) ∙ or_true (j == i)
-      where
-        or_true : (b : Bool) → (b || true) ≡ true
-        or_true true = refl
-        or_true false = refl
+codes-within fields row is = all-in (λ f. f < length row) (code_fields (shape_of fields)) (λ f there. (code-at fields row f is (there-has f (code_fields (shape_of fields)) there)).1)

@@ -1,6 +1,7 @@
 use Rattle.std.proofs.Common.{◌≡◌, ◌<◌, ◌≤◌, ◌++◌, [], ◌∷◌, ℕ, Bool, true, false, List, All, Option, Ok, length, reverse, refl, sym, ap, ◌∙◌, subst}
 use Rattle.std.specs.List.{filter}
 use Rattle.std.proofs.lemmas.List.{append-nil, append_assoc, reverse-append}
+use Rattle.edit_model.proofs.NameLemmas.{false_unless}
 use Rattle.edit_model.specs.Corrections as corrections
 use Rattle.edit_model.specs.FieldSets.{has_number}
 use Rattle.edit_model.specs.Parts.{SurveyParts}
@@ -26,10 +27,6 @@ use Rattle.back_subst.proofs.UnderWayLaws.{all-given}
 use Rattle.back_subst.proofs.WalkLaws.{has-reverse}
 
 -- What is known when all values are given, or the giving stops.
-
-false-only : (b : Bool) → (b ≡ true → ⊥) → b ≡ false
-false-only true h = absurd (h refl)
-false-only false h = refl
 
 -- what holds of the fields of a list holds of those that are chosen
 all-chosen : (P : ℕ → Type 0) (set : ℕ) (fields : List ℕ) → All P fields → All P (reverse (filter (has_number set) fields))
@@ -65,7 +62,7 @@ module _ (survey : SurveyParts) (row : List Value) (changed : ℕ) (donor : Opti
   order = giving_order survey.fields changed
 
   not-there : (f : ℕ) → has_number changed f ≡ false → has_field order f ≡ false
-  not-there f unchanged = false-only (has_field order f) (λ e. absurd (cc (sym unchanged ∙ order-changed survey changed f e)))
+  not-there f unchanged = false_unless (has_field order f) (λ e. absurd (cc (sym unchanged ∙ order-changed survey changed f e)))
 
   -- after the last value
   pub imputed-from : (edits : List LineParts) (new : List Value) → IsUnderWay survey edits (target_of donor) row (giving_order survey.fields changed) [] new → IsImputed survey row changed donor new

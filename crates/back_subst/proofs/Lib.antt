@@ -1,7 +1,6 @@
 pub mod FieldPoints
 pub mod AllowedNumbers
 pub mod Rests
-pub mod Tightest
 pub mod NumberLaws
 pub mod CodeDomains
 pub mod SettledBoxes

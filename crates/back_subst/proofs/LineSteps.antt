@@ -21,6 +21,7 @@ use Rattle.edit_line.specs.Sets.{is_inside}
 use Rattle.edit_line.specs.Shapes.{Domain, beside, has_field, number_fields, place_in}
 use Rattle.edit_line.specs.Sums.{sum_at}
 use Rattle.edit_line.specs.declared.derived.Derived.{Derived}
+use Rattle.linear_elim.proofs.ColumnLaws.{beside-place}
 use Rattle.derivation.proofs.CodePlaces.{place-found, there-has}
 use Rattle.back_subst.specs.NumberWalk.{FoundEnds, bound_at, ends_from, found_at, is_bounding, or_place, value_in, with_found, with_line}
 
@@ -45,16 +46,6 @@ place-none fields f none = past fields (absent (has_field fields f) refl)
         by : (b : Bool) → (b || has_field fields f) ≡ false → (has_field fields f ≡ false → length fields ≡ place_in fields f) → suc (length fields) ≡ (if b then 0 else suc (place_in fields f))
         by true e rest = absurd (cc)
         by false e rest = ap suc (rest e)
-
-beside-place : (xs : List ℤ) (fields : List ℕ) (f : ℕ) → length xs ≡ length fields → get_or xs (place_in fields f) (pos 0) ≡ beside (pos 0) fields xs f
-beside-place [] [] f same = refl
-beside-place [] (i ∷ fields) f same = absurd (omega arith)
-beside-place (x ∷ xs) [] f same = absurd (omega arith)
-beside-place (x ∷ xs) (i ∷ fields) f same = by (i == f) (beside-place xs fields f (omega arith))
-  where
-    by : (b : Bool) → get_or xs (place_in fields f) (pos 0) ≡ beside (pos 0) fields xs f → get_or (x ∷ xs) (if b then 0 else suc (place_in fields f)) (pos 0) ≡ (if b then x else beside (pos 0) fields xs f)
-    by true rest = refl
-    by false rest = rest
 
 -- the factor that stands at the field's place
 pub factor-at : (shape : List Domain) (line : LineParts) (f place : ℕ) → line.shape ≡ shape → length line.factors ≡ length (number_fields line.shape) → place ≡ place_in (number_fields shape) f → get_or line.factors place (pos 0) ≡ factor line f
@@ -140,9 +131,6 @@ module _ (i f : ℕ) (line : LineParts) (row : List Value) (ends : FoundEnds) wh
     ends-ok : (ends' : FoundEnds) → Ok ends' ≡ with_line i line row f ends → ends_from (suc i) rest row f ends' ≡ ends_from i (line ∷ rest) row f ends
     ends-ok ends' e = ap next e ∙ ends-step
 
-    ends-err : (p : ℕ) → Err p ≡ with_line i line row f ends → Err p ≡ ends_from i (line ∷ rest) row f ends
-    ends-err p e = ap next e ∙ ends-step
-
 module _ (lines : List Derived) (row : List Value) (i f : ℕ) (d : Derived) (ends : FoundEnds) (whole : Result FoundEnds ℕ) (below : i < length lines) (d_is : d ≡ get_or lines i d)
     (before : ends_from i (lines_of (drop i lines)) row f ends ≡ whole) where
   here : ends_from i (d.line ∷ lines_of (drop (suc i) lines)) row f ends ≡ whole
@@ -155,9 +143,6 @@ module _ (lines : List Derived) (row : List Value) (i f : ℕ) (d : Derived) (en
     where
       next_place : i + 1 ≡ suc i
       next_place = omega arith
-
-  pub ends-out : (p : ℕ) → Err p ≡ with_line i d.line row f ends → Err p ≡ whole
-  ends-out p e = ends-err i f d.line row ends (lines_of (drop (suc i) lines)) p e ∙ here
 
 pub ends-end : (lines : List Derived) (row : List Value) (i f : ℕ) (ends : FoundEnds) (whole : Result FoundEnds ℕ) → length lines ≤ i → ends_from i (lines_of (drop i lines)) row f ends ≡ whole → Ok ends ≡ whole
 ends-end lines row i f ends whole past before = ap (λ ds. ends_from i (lines_of ds) row f ends) (sym (drop_all i lines past)) ∙ before

@@ -24,7 +24,7 @@ use Rattle.edit_line.proofs.Members.{in-all, in-filter, in-filter-out}
 use Rattle.edit_line.proofs.SetLaws.{both_true, is_inside-Decides}
 use Rattle.linear_elim.specs.Combinations.{is_lower, is_upper}
 use Rattle.linear_elim.specs.Systems.{system}
-use Rattle.linear_elim.proofs.BetweenLaws.{IsTightest, above_neg, by_sign, lower_implies, upper_implies}
+use Rattle.linear_elim.proofs.BetweenLaws.{IsTightest, above_neg, by_sign, lower_implies, tightest, upper_implies}
 use Rattle.linear_elim.proofs.PointLaws.{map-agree, put-code, put-differs, rest_at}
 use Rattle.linear_elim.proofs.StepLaws.{above_tells, below_tells}
 use Rattle.linear_elim.proofs.SystemLaws.{HaveShape-system}
@@ -32,9 +32,10 @@ use Rattle.back_subst.specs.Allowed.{AllowsNumber, Completes}
 use Rattle.back_subst.specs.Intervals.{End, Interval, is_past_any, is_within}
 use Rattle.back_subst.specs.inner.Bounds.{AreWithinBounds, BoundsField, DecideFor, IsWithinBound, RestsFit}
 use Rattle.back_subst.proofs.AllowedNumbers.{IsBoundedAt, allowed-bounded}
-use Rattle.back_subst.proofs.FieldPoints.{Agrees-carried, agrees-held, code-at, factor-numerical, number-at, number-listed, number-no_code}
+use Rattle.edit_line.proofs.FactorLaws.{factor-numerical}
+use Rattle.linear_elim.proofs.PointLaws.{number-no_code}
+use Rattle.back_subst.proofs.FieldPoints.{Agrees-carried, agrees-held, code-at, number-at, number-listed}
 use Rattle.back_subst.proofs.Rests.{Adds, rest-over, value-other, value-set, without_number}
-use Rattle.back_subst.proofs.Tightest.{tightest}
 use Rattle.linear_elim.proofs.FlatLaws.{system-flat}
 
 -- The numbers that a field may be given, by the record's rests; and that they are an interval.

@@ -31,10 +31,6 @@ use Rattle.back_subst.proofs.BoundLaws.{bound-depth, further, further-in, multip
 
 -- What the walk's number is.
 
-some_if : (b : Bool) (v s : Ratio) → (if b then Some v else None) ≡ Some s → v ≡ s
-some_if true v s e = cc
-some_if false v s e = absurd (cc)
-
 led_on : {A B : Type 0} (o : Option A) (next : A → Option B) (b : B) → then_some o next ≡ Some b → (a : A) × (o ≡ Some a) × (next a ≡ Some b)
 led_on None next b e = absurd (cc)
 led_on (Some a) next b e = (a, refl, e)

@@ -3,9 +3,11 @@ use Rattle.std.specs.List.{filter}
 use Rattle.std.proofs.Math.Seq.{drop-cons}
 use Rattle.std.proofs.lemmas.Bool.Decides.{Decides-eqb}
 use Rattle.std.proofs.lemmas.List.{append-nil, reverse-append, reverse-reverse, take-append-drop, take_more}
+use Rattle.edit_model.proofs.NameLemmas.{false_unless}
 use Rattle.edit_model.specs.Corrections as corrections
 use Rattle.edit_model.specs.FieldSets.{has_number}
 use Rattle.edit_model.specs.declared.field.Field.{Field}
+use Rattle.edit_line.proofs.BoolLaws.{or_true}
 use Rattle.edit_line.specs.Shapes.{Categorical, Domain, Numerical, code_fields, has_field, number_fields, numbers_from, shape_of}
 use Rattle.edit_line.proofs.ShapeLaws.{same_codes, same_fields}
 use Rattle.linear_elim.specs.Systems.{AreNumerical, chosen_fields}
@@ -18,14 +20,6 @@ use Rattle.back_subst.proofs.WalkLaws.{has-reverse}
 -- The changed fields in the order in which they are given values.
 
 -- ---- lists of fields
-
-or_true : (b : Bool) → (b || true) ≡ true
-or_true true = refl
-or_true false = refl
-
-false-only : (b : Bool) → (b ≡ true → ⊥) → b ≡ false
-false-only true h = absurd (h refl)
-false-only false h = refl
 
 -- the set of the first fields, and one more
 pub set-more : (fields : List ℕ) (i set next : ℕ) → i < length fields → ((f : ℕ) → has_number set f ≡ has_field (take i fields) f) → has_number next (get_or fields i 0) ≡ true
@@ -84,11 +78,11 @@ first-chosen t (i ∷ fields) (y ∷ ys) zs distinct are = by (t i) refl are (fi
         ∙ ap (λ fs. i ∷ fs) (same-filter (has_field (y ∷ ys)) (has_field ys) fields (λ f there. ap (λ b. b || has_field ys f) (apart f there same)) ∙ first tail) ∙ ap (λ n. n ∷ ys) same
       where
         apart : (f : ℕ) → has_field fields f ≡ true → i ≡ y → (y == f) ≡ false
-        apart f there same = false-only (y == f) (λ own. absurd (cc (sym distinct.0 ∙ ap (λ n. has_field fields n) (same ∙ (Decides-eqb y f).0 own) ∙ there)))
+        apart f there same = false_unless (y == f) (λ own. absurd (cc (sym distinct.0 ∙ ap (λ n. has_field fields n) (same ∙ (Decides-eqb y f).0 own) ∙ there)))
     by false e h first later = ap (λ b. if b then i ∷ filter (has_field (y ∷ ys)) fields else filter (has_field (y ∷ ys)) fields) out ∙ later h
       where
         out : has_field (y ∷ ys) i ≡ false
-        out = false-only (has_field (y ∷ ys) i) (λ there. absurd (cc (sym e ∙ (has-filtered t fields i (ap (λ fs. has_field fs i) h ∙ has-append i (y ∷ ys) zs ∙ ap (λ b. b || has_field zs i) there)).1)))
+        out = false_unless (has_field (y ∷ ys) i) (λ there. absurd (cc (sym e ∙ (has-filtered t fields i (ap (λ fs. has_field fs i) h ∙ has-append i (y ∷ ys) zs ∙ ap (λ b. b || has_field zs i) there)).1)))
 
 pub distinct-numbers : (i : ℕ) (shape : List Domain) → AreDistinct (numbers_from i shape)
 distinct-numbers i [] = tt

@@ -1,6 +1,7 @@
 use Rattle.std.proofs.Common.{◌≡◌, ◌<◌, ◌≤◌, ◌+◌, ◌||◌, ◌++◌, [], ℕ, not, nat_lt, Bool, true, false, if◌then◌else◌, List, Result, Ok, Err, length, map, reverse, refl, sym, ap, ◌∙◌, subst, arith}
 use Rattle.std.specs.List.{filter}
 use Rattle.std.proofs.lemmas.List.{length-map, reverse-reverse}
+use Rattle.edit_model.proofs.NameLemmas.{false_unless}
 use Rattle.edit_model.specs.Corrections as corrections
 use Rattle.edit_model.specs.Corrections.{IsCorrection, path_order}
 use Rattle.edit_model.specs.FieldSets.{has_number}
@@ -45,10 +46,6 @@ use Rattle.back_subst.proofs.StartLaws.{field-either, order-changed, order-there
 use Rattle.back_subst.proofs.SystemLines.{system-is}
 
 -- What an open path tells before values are given.
-
-false-only : (b : Bool) → (b ≡ true → ⊥) → b ≡ false
-false-only true h = absurd (h refl)
-false-only false h = refl
 
 module _ (survey : SurveyParts) (edits : EditsParts) (row : List Value) (changed : ℕ) (is : IsCase (case_of survey edits row)) (can : CanGive survey edits row changed) where
   abbrev c : Case
@@ -95,7 +92,7 @@ module _ (survey : SurveyParts) (edits : EditsParts) (row : List Value) (changed
       there = in-order f (omega (arith, within, row-length survey.fields row can.is_row))
 
       unchanged : has_number changed f ≡ false
-      unchanged = false-only (has_number changed f) (λ e. absurd (cc (sym absent ∙ order-there survey changed f (omega (arith, within, row-length survey.fields row can.is_row, shape-length)) e)))
+      unchanged = false_unless (has_number changed f) (λ e. absurd (cc (sym absent ∙ order-there survey changed f (omega (arith, within, row-length survey.fields row can.is_row, shape-length)) e)))
 
   -- some correction has the record's values at all other fields
   pub possible : (p : Point) × Completes survey row (giving_order survey.fields changed) p
@@ -109,7 +106,7 @@ module _ (survey : SurveyParts) (edits : EditsParts) (row : List Value) (changed
   decide = record {
     sound = λ p codes holds. can.sound p (record { codes = codes; edits = (start-hold p).0 holds });
     complete = λ p correction agrees.
-        (start-hold p).1 (can.complete p correction (λ f within unchanged. agrees f within (false-only (has_field order f) (λ e. absurd (cc (sym unchanged ∙ order-changed survey changed f e))))));
+        (start-hold p).1 (can.complete p correction (λ f within unchanged. agrees f within (false_unless (has_field order f) (λ e. absurd (cc (sym unchanged ∙ order-changed survey changed f e))))));
   }
 
   pub over : HaveShape (shape_of survey.fields) (start_lines edits)

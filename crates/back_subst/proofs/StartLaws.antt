@@ -2,6 +2,7 @@ use Rattle.std.proofs.Common.{◌≡◌, ℕ, zero, suc, ◌+◌, ◌<◌, ◌==
 use Rattle.std.specs.List.{filter}
 use Rattle.std.proofs.lemmas.Bool.Decides.{Decides-eqb}
 use Rattle.std.proofs.lemmas.List.{reverse-append}
+use Rattle.edit_model.proofs.NameLemmas.{false_unless}
 use Rattle.edit_model.specs.Corrections as corrections
 use Rattle.edit_model.specs.FieldSets.{has_number}
 use Rattle.edit_model.specs.Parts.{SurveyParts}
@@ -10,6 +11,7 @@ use Rattle.edit_model.specs.Rows.{IsRow, value_of}
 use Rattle.edit_model.specs.declared.field.Field.{Field}
 use Rattle.edit_model.specs.declared.value.Value.{Value}
 use Rattle.edit_model.specs.declared.value.Value.TheVariants.{Bad}
+use Rattle.edit_line.proofs.BoolLaws.{or_true}
 use Rattle.edit_line.specs.Lines.{LineParts}
 use Rattle.edit_line.specs.Shapes.{Categorical, Domain, Numerical, code_fields, codes_from, has_field, number_fields, numbers_from, shape_of}
 use Rattle.edit_line.proofs.ShapeLaws.{same_codes, same_fields}
@@ -19,20 +21,12 @@ use Rattle.back_subst.specs.Given.{giving_order}
 use Rattle.back_subst.specs.inner.Bounds.{DecideFor}
 use Rattle.back_subst.specs.inner.UnderWay.{AreDistinct, IsUnderWay}
 use Rattle.back_subst.proofs.CodeLaws.{distinct-from}
-use Rattle.back_subst.proofs.FieldPoints.{number-no_code}
+use Rattle.linear_elim.proofs.PointLaws.{number-no_code}
 use Rattle.back_subst.proofs.OrderLaws.{distinct-numbers, has-filtered}
 use Rattle.back_subst.proofs.UnderWayLaws.{own-there}
 use Rattle.back_subst.proofs.WalkLaws.{SameBut, completes-rows, decide-turn, has-reverse}
 
 -- The start of the giving: the record is Bad at each changed field.
-
-or_true : (b : Bool) → (b || true) ≡ true
-or_true true = refl
-or_true false = refl
-
-false-only : (b : Bool) → (b ≡ true → ⊥) → b ≡ false
-false-only true h = absurd (h refl)
-false-only false h = refl
 
 -- ---- distinct fields
 
@@ -41,7 +35,7 @@ distinct-filtered t [] distinct = tt
 distinct-filtered t (i ∷ fields) distinct = by (t i) (distinct-filtered t fields distinct.1)
   where
     by : (b : Bool) → AreDistinct (filter t fields) → AreDistinct (if b then i ∷ filter t fields else filter t fields)
-    by true rest = (false-only (has_field (filter t fields) i) (λ there. absurd (cc (sym distinct.0 ∙ (has-filtered t fields i there).0))), rest)
+    by true rest = (false_unless (has_field (filter t fields) i) (λ there. absurd (cc (sym distinct.0 ∙ (has-filtered t fields i there).0))), rest)
     by false rest = rest
 
 distinct-joined : (xs ys : List ℕ) → AreDistinct xs → AreDistinct ys → ((f : ℕ) → has_field xs f ≡ true → has_field ys f ≡ false) → AreDistinct (xs ++ ys)
@@ -57,7 +51,7 @@ distinct-reversed (x ∷ xs) distinct =
     subst (λ fs. AreDistinct fs) (sym (reverse-append (x ∷ []) xs)) (distinct-joined (reverse xs) (x ∷ []) (distinct-reversed xs distinct.1) (refl, tt) (λ f there. ap (λ b. b || false) (other f (sym (has-reverse f xs) ∙ there))))
   where
     other : (f : ℕ) → has_field xs f ≡ true → (x == f) ≡ false
-    other f there = false-only (x == f) (λ e. absurd (cc (sym distinct.0 ∙ ap (λ n. has_field xs n) ((Decides-eqb x f).0 e) ∙ there)))
+    other f there = false_unless (x == f) (λ e. absurd (cc (sym distinct.0 ∙ ap (λ n. has_field xs n) ((Decides-eqb x f).0 e) ∙ there)))
 
 -- ---- each field is numerical or categorical
 
@@ -122,7 +116,7 @@ module _ (survey : SurveyParts) (changed : ℕ) where
       distinct-joined (reverse (filter (has_number changed) (corrections.code_fields survey.fields))) (reverse (filter (has_number changed) (corrections.number_fields survey.fields)))
       (distinct-reversed _ (subst (λ fs. AreDistinct (filter (has_number changed) fs)) (sym (same_codes (corrections.code_fields survey.fields) survey.fields (shape_of survey.fields) refl refl)) (distinct-filtered (has_number changed) (code_fields (shape_of survey.fields)) (distinct-from 0 (shape_of survey.fields)))))
       (distinct-reversed _ (subst (λ fs. AreDistinct (filter (has_number changed) fs)) (sym (same_fields (corrections.number_fields survey.fields) survey.fields (shape_of survey.fields) refl refl)) (distinct-filtered (has_number changed) (number_fields (shape_of survey.fields)) (distinct-numbers 0 (shape_of survey.fields)))))
-      (λ f there. false-only _ (λ number.
+      (λ f there. false_unless _ (λ number.
       let code = (has-filtered (has_number changed) (code_fields (shape_of survey.fields)) f (ap (λ fs. has_field (filter (has_number changed) fs) f) (sym (same_codes (corrections.code_fields survey.fields) survey.fields (shape_of survey.fields) refl refl)) ∙ sym (has-reverse f _) ∙ there)).0 in
       let num = (has-filtered (has_number changed) (number_fields (shape_of survey.fields)) f (ap (λ fs. has_field (filter (has_number changed) fs) f) (sym (same_fields (corrections.number_fields survey.fields) survey.fields (shape_of survey.fields) refl refl)) ∙ sym (has-reverse f _) ∙ number)).0 in
       absurd (cc (sym code ∙ number-no_code f 0 (shape_of survey.fields) num))))

@@ -4,6 +4,7 @@ use Rattle.std.proofs.lemmas.List.{append_assoc}
 use Rattle.edit_model.specs.Parts.{SurveyParts}
 use Rattle.edit_model.specs.Rows.{IsRow, value_of}
 use Rattle.edit_model.specs.declared.value.Value.{Value}
+use Rattle.edit_line.proofs.BoolLaws.{or_true}
 use Rattle.edit_line.specs.Lines.{LineParts}
 use Rattle.edit_line.specs.Shapes.{code_fields, has_field, number_fields, shape_of}
 use Rattle.edit_line.proofs.ShapeLaws.{same_codes, same_fields}
@@ -60,10 +61,6 @@ distinct-apart (g ∷ given) left f distinct =
   where
     there : has_field (given ++ f ∷ left) f ≡ true
     there = has-append f given (f ∷ left) ∙ ap (λ b. has_field given f || b) (own-there f left) ∙ or_true (has_field given f)
-      where
-        or_true : (b : Bool) → (b || true) ≡ true
-        or_true true = refl
-        or_true false = refl
 
     apart : (b : Bool) → (g == f) ≡ b → b ≡ false
     apart false e = refl
@@ -92,10 +89,6 @@ module _ (survey : SurveyParts) (edits : List LineParts) (target : ℕ → Value
         first-turn done rest first.1 given,
       )
     where
-      or_true : (b : Bool) → (b || true) ≡ true
-      or_true true = refl
-      or_true false = refl
-
       there : (done : List ℕ) (g : ℕ) → has_field (g ∷ (done ++ f ∷ left)) f ≡ true
       there done g = ap (λ b. (g == f) || b) (has-append f done (f ∷ left) ∙ ap (λ b. has_field done f || b) (own-there f left) ∙ or_true (has_field done f)) ∙ or_true (g == f)
 
@@ -119,10 +112,6 @@ module _ (survey : SurveyParts) (edits : List LineParts) (target : ℕ → Value
         completes = done;
       }
     where
-      or_true : (b : Bool) → (b || true) ≡ true
-      or_true true = refl
-      or_true false = refl
-
       there : (given : List ℕ) → has_field (given ++ f ∷ left) f ≡ true
       there given = has-append f given (f ∷ left) ∙ ap (λ b. has_field given f || b) (own-there f left) ∙ or_true (has_field given f)
 

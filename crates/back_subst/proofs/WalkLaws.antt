@@ -48,9 +48,6 @@ agrees-rows left right row new p fields same agrees i within absent =
     let outside : has_field left i ≡ false = sym (fields i) ∙ absent in
     subst (λ (v : Value). differs_from v p i ≡ false) (sym (same.1 i outside)) (agrees i (omega (arith, same.0)) outside)
 
-same-back : (left : List ℕ) (row new : List Value) → SameBut left row new → SameBut left new row
-same-back left row new same = (sym same.0, λ i outside. sym (same.1 i outside))
-
 module _ (survey : SurveyParts) (left right : List ℕ) (row new : List Value) (fields : (i : ℕ) → has_field right i ≡ has_field left i) (same : SameBut left row new) where
   pub completes-rows : (p : Point) → Completes survey row left p → Completes survey new right p
   completes-rows p done = record { correction = done.correction; agrees = agrees-rows left right row new p fields same done.agrees }

@@ -11,7 +11,7 @@ ghost use Rattle.linear_elim.specs.Systems.{system_of};
 ghost use Rattle.back_subst.specs.Gifts.{IsDonor};
 ghost use Rattle.back_subst.specs.Given.{target_of};
 ghost use Rattle.back_subst.specs.inner.Systems.{start_lines};
-ghost use Rattle.back_subst.specs.inner.UnderWay.{AreCodesToGive, AreOrders, IsUnderWay, StopsAmong};
+ghost use Rattle.back_subst.specs.inner.UnderWay.{AreCodesToGive, AreOrders, IsGiving, IsUnderWay, StopsAmong};
 ghost use Rattle.back_subst.specs.declared.gift.GiveFault.TheVariants as fault;
 
 use crate::code::code_for;
@@ -44,12 +44,13 @@ pub(crate) fn give_numbers<S: Systems, L: Ledger>(
     requires donor { IsDonor survey.now (option_copied donor) }
     requires in_range { (lines : List derived.Derived) × (system_of (arc_value edits.now).lines (reverse order.now) ≡ Ok lines) }
     requires order { (codes : List ℕ) × AreOrders survey.now.fields codes order.now }
-    requires way { (row : List value.Value) × (given : List ℕ) × IsUnderWay survey.now (start_lines (arc_value edits.now)) (target_of (option_copied donor)) row given order.now new.old }
+    requires way { (row : List value.Value) × (given : List ℕ)
+        × IsGiving survey.now (arc_value edits.now) (option_copied donor) row given order.now new.old }
     ensures given { OnOk result ((row : List value.Value) (given : List ℕ)
-        → IsUnderWay survey.now (start_lines (arc_value edits.now)) (target_of (option_copied donor.entry)) row given order.now new.old
-        → IsUnderWay survey.now (start_lines (arc_value edits.now)) (target_of (option_copied donor.entry)) row (given ++ order.now) [] new.new) }
+        → IsGiving survey.now (arc_value edits.now) (option_copied donor.entry) row given order.now new.old
+        → IsGiving survey.now (arc_value edits.now) (option_copied donor.entry) row (given ++ order.now) [] new.new) }
     ensures bound { (f line : ℕ) (row : List value.Value) (given : List ℕ) → result ≡ Err (fault.Bound f line)
-        → IsUnderWay survey.now (start_lines (arc_value edits.now)) (target_of (option_copied donor.entry)) row given order.now new.old
+        → IsGiving survey.now (arc_value edits.now) (option_copied donor.entry) row given order.now new.old
         → StopsAmong survey.now (start_lines (arc_value edits.now)) (target_of (option_copied donor.entry)) row given order.now f line }
     ensures test { (rule : ℕ) → result ≢ Err (fault.Test rule) }
     ensures serves { (e : EditsParts) → S.serves source.old e → S.serves source.new e }

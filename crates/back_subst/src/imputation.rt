@@ -11,9 +11,8 @@ ghost use Rattle.edit_paths.specs.Cases.{IsCase, case_of};
 ghost use Rattle.back_subst.specs.Allowed.{Completes};
 ghost use Rattle.back_subst.specs.Gifts.{CanGive, IsDonor, IsNeeded, hows_of};
 ghost use Rattle.back_subst.specs.GiveFaults.{StopsAtLine, StopsAtRule};
-ghost use Rattle.back_subst.specs.Given.{IsImputed, giving_order, target_of};
-ghost use Rattle.back_subst.specs.inner.Systems.{start_lines};
-ghost use Rattle.back_subst.specs.inner.UnderWay.{AreOrders, IsUnderWay};
+ghost use Rattle.back_subst.specs.Given.{IsImputed, giving_order};
+ghost use Rattle.back_subst.specs.inner.UnderWay.{AreOrders, IsGiving};
 ghost use Rattle.back_subst.specs.declared.gift.GiveFault.TheVariants as fault;
 
 use crate::blank::blanked;
@@ -100,7 +99,7 @@ fn imputed<S: Systems, L: Ledger>(
     requires path { CanGive survey.now (arc_value edits.now) row.now changed }
     requires donor { IsDonor survey.now (option_copied donor) }
     requires served { S.serves source.old (arc_value edits.now) }
-    ensures given { IfOk result (λ new. IsUnderWay survey.now (start_lines (arc_value edits.now)) (target_of (option_copied donor.entry)) row.now (giving_order survey.now.fields changed) [] new) }
+    ensures given { IfOk result (λ new. IsGiving survey.now (arc_value edits.now) (option_copied donor.entry) row.now (giving_order survey.now.fields changed) [] new) }
     ensures bound { (field line : ℕ) → result ≡ Err (fault.Bound field line)
         → StopsAtLine survey.now (arc_value edits.now) row.now changed (option_copied donor.entry) field line }
     ensures test { (rule : ℕ) → result ≡ Err (fault.Test rule) → StopsAtRule survey.now row.now changed (option_copied donor.entry) rule }
@@ -142,7 +141,7 @@ fn with_codes<S: Systems, L: Ledger>(
     requires donor { IsDonor survey.now (option_copied donor) }
     requires served { S.serves source.old (arc_value edits.now) }
     requires order { (orders : AreOrders survey.now.fields codes.now numbers.now) × (orders.changed ≡ changed) }
-    ensures given { IfOk result (λ new. IsUnderWay survey.now (start_lines (arc_value edits.now)) (target_of (option_copied donor.entry)) row.now codes.now numbers.now new) }
+    ensures given { IfOk result (λ new. IsGiving survey.now (arc_value edits.now) (option_copied donor.entry) row.now codes.now numbers.now new) }
     ensures serves { (e : EditsParts) → S.serves source.old e → S.serves source.new e }
     ensures keeps { (f : ℕ) → S.keeps source.old f ≡ true → S.keeps source.new f ≡ true }
 {

@@ -8,15 +8,17 @@ use Rattle.edit_model.specs.Points.{Point}
 use Rattle.edit_model.specs.Rows.{IsRow, value_of}
 use Rattle.edit_model.specs.declared.value.Value.{Value}
 use Rattle.edit_model.specs.declared.value.Value.TheVariants.{Bad}
+use Rattle.edit_line.specs.EditSets.{EditsParts}
 use Rattle.edit_line.specs.Lines.{HaveShape, LineParts}
 use Rattle.edit_line.specs.Shapes.{Domain, code_fields, has_field, shape_of}
 use Rattle.linear_elim.specs.Systems.{system}
 use Rattle.categ_combine.specs.FailingBoxes.{failing_boxes}
 use Rattle.back_subst.specs.Allowed.{Completes}
 use Rattle.back_subst.specs.GiveFaults.{AreGivenFirst}
-use Rattle.back_subst.specs.Given.{number_in}
+use Rattle.back_subst.specs.Given.{number_in, target_of}
 use Rattle.back_subst.specs.NumberWalk.{number_result}
 use Rattle.back_subst.specs.inner.Bounds.{DecideFor}
+use Rattle.back_subst.specs.inner.Systems.{start_lines}
 
 -- the record is Bad exactly at those categorical fields, other than g, that are left
 abbrev pub AreBlankBut : List Domain → List Value → List ℕ → ℕ → Type 0
@@ -45,6 +47,10 @@ pub record IsUnderWay (survey : SurveyParts) (edits : List LineParts) (target : 
   pub decide : DecideFor survey edits so_far left
   pub point : Point
   pub completes : Completes survey so_far left point
+
+-- the same of the reduced edits and a donor's values
+abbrev pub IsGiving : SurveyParts → EditsParts → Option (List Value) → List Value → List ℕ → List ℕ → List Value → Type 0
+IsGiving survey edits donor row given left so_far = IsUnderWay survey (start_lines edits) (target_of donor) row given left so_far
 
 -- the giving stopped in an order of numerical fields: at a field, at a line of the system of those after it
 pub record StopsAmong (survey : SurveyParts) (edits : List LineParts) (target : ℕ → Value) (row : List Value) (given order : List ℕ) (field line : ℕ) : Type 0 where
