@@ -1,0 +1,4 @@
+//! The worked surveys and records, from the texts to the certificate.
+mod edges;
+mod rows;
+mod told;
