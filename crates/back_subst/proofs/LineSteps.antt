@@ -18,7 +18,7 @@ use Rattle.edit_line.specs.CodeFields.{codes_in}
 use Rattle.edit_line.specs.Lines.{LineParts, factor}
 use Rattle.edit_line.specs.Reductions.{lines_of}
 use Rattle.edit_line.specs.Sets.{is_inside}
-use Rattle.edit_line.specs.Shapes.{Domain, beside, has_field, number_fields, place_in}
+use Rattle.edit_line.specs.Shapes.{Domain, has_field, number_fields, place_in}
 use Rattle.edit_line.specs.Sums.{sum_at}
 use Rattle.edit_line.specs.declared.derived.Derived.{Derived}
 use Rattle.linear_elim.proofs.ColumnLaws.{beside-place}
