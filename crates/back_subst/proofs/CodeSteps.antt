@@ -1,9 +1,6 @@
-use Rattle.std.proofs.Common.{◌≡◌, inl, inr, ℕ, zero, suc, Vec, Global, ◌+◌, ◌<◌, ◌≤◌, ◌==◌, ◌||◌, not, nat_lt, Bool, true, false, if◌then◌else◌, List, [], ◌∷◌, Option, Some, None, IfSome, IfNone, Result, Ok, Err, IfOk, drop, get_or, length, slice_index_or, refl, sym, ap, ◌∙◌, subst, arith}
-use Rattle.std.specs.List.{list_any}
+use Rattle.std.proofs.Common.{◌≡◌, inl, inr, ℕ, zero, suc, Vec, Global, ◌+◌, ◌<◌, ◌==◌, ◌||◌, Bool, true, false, if◌then◌else◌, List, [], ◌∷◌, Option, Some, None, IfSome, IfNone, Result, Ok, Err, IfOk, drop, get_or, length, refl, sym, ap, ◌∙◌, subst, arith}
 use Rattle.std.proofs.Math.Seq.{drop-cons}
-use Rattle.std.proofs.lemmas.Bool.Decides.{Decides-eqb, nat_tests}
-use Rattle.std.proofs.lemmas.List.{drop_all}
-use Rattle.edit_model.specs.Points.{has_code}
+use Rattle.std.proofs.lemmas.Bool.Decides.{Decides-eqb}
 use Rattle.edit_model.specs.Rows.{IsOfKind, IsRow, value_of}
 use Rattle.edit_model.specs.Trials.{IsCodeValue}
 use Rattle.edit_model.specs.declared.field.Field.{Field}
@@ -147,6 +144,7 @@ pub listed-at : (fields : List ℕ) (i e : ℕ) → i < length fields → has_fi
 listed-at [] i e below = absurd (omega arith)
 listed-at (g ∷ fields) zero e below = ap (λ b. b || has_field fields g) ((Decides-eqb g g).1 refl)
 listed-at (g ∷ fields) (suc i) e below = ap (λ b. (g == get_or fields i e) || b) (listed-at fields i e (omega arith)) ∙ or_true (g == get_or fields i e)
+
 pub unequal : (f g : ℕ) → (f ≡ g → ⊥) → (f == g) ≡ false
 unequal f g apart = by (f == g) refl
   where

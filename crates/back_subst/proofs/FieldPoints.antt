@@ -1,4 +1,4 @@
-use Rattle.std.proofs.Common.{◌≡◌, ◌≢◌, inl, inr, ℕ, suc, ◌+◌, ◌<◌, ◌==◌, ◌||◌, not, Bool, true, false, if◌then◌else◌, List, [], ◌∷◌, All, length, ℤ, pos, ◌<ℤ◌, ◌*ℤ◌, refl, sym, ap, ◌∙◌, subst, arith}
+use Rattle.std.proofs.Common.{◌≡◌, ◌≢◌, ℕ, suc, ◌<◌, ◌==◌, ◌||◌, not, Bool, true, false, List, [], ◌∷◌, All, length, ℤ, pos, ◌<ℤ◌, ◌*ℤ◌, refl, sym, ap, ◌∙◌, subst, arith}
 use Rattle.std.proofs.lemmas.Bool.Decides.{Decides-eqb, Decides-int_eq}
 use Rattle.std.proofs.lemmas.List.Elements.{All-cons}
 use Rattle.fraction128.proofs.Signs.{same_cancel}
@@ -6,21 +6,17 @@ use Rattle.fraction128.proofs.Whole.{swap_last}
 use Rattle.edit_model.specs.Corrections.{differs_from}
 use Rattle.edit_model.specs.Points.{HasCodesFrom, IsInDomain, Point}
 use Rattle.edit_model.specs.RowPoints.{Agrees}
-use Rattle.edit_model.specs.Rows.{IsOfKind, IsRow, value_of}
+use Rattle.edit_model.specs.Rows.{IsRow, value_of}
 use Rattle.edit_model.specs.Trials.{IsCodeValue, IsNumberValue}
 use Rattle.edit_model.specs.declared.field.Field.{Field}
-use Rattle.edit_model.specs.declared.field.Kind.{Kind}
-use Rattle.edit_model.specs.declared.field.Kind.TheVariants as kind
 use Rattle.edit_model.specs.declared.value.Value.{Value}
 use Rattle.edit_model.specs.declared.value.Value.TheVariants.{Bad, Code, Number}
 use Rattle.edit_model.proofs.OrderLaws.{number-there}
 use Rattle.edit_model.proofs.RowLaws as rows
 use Rattle.edit_line.proofs.FieldLists.{there-has}
 use Rattle.edit_line.proofs.ShapeLaws.{code_fields-same, number_fields-same}
-use Rattle.edit_line.specs.Lines.{LineParts, factor}
-use Rattle.edit_line.specs.Reductions.{IsIn}
 use Rattle.edit_line.proofs.Members.{all-in}
-use Rattle.edit_line.specs.Shapes.{Categorical, Domain, Numerical, beside, code_fields, codes_from, domain_of, has_field, number_fields, numbers_from, shape_of}
+use Rattle.edit_line.specs.Shapes.{Categorical, Domain, Numerical, code_fields, has_field, number_fields, numbers_from, shape_of}
 
 -- Points that agree with a record at its fields.
 

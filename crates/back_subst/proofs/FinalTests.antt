@@ -45,6 +45,12 @@ module _ (survey : SurveyParts) (row : List Value) (is_row : IsRow survey.fields
       let agrees : AgreesWith row p rule = record { conditions = λ k d below. agrees-on _ (can.conditions k d below); conclusion = agrees-on _ can.conclusion } in
       e ∙ ap Some (rule_at-holds rule row p b can agrees e ∙ one-of (λ r. Holds r p) survey.rules i rule completes.correction.rules there)
 
+-- a rule that is there stands before the end
+pub rule-below : (rules : List Rule) (k : ℕ) (rule : Rule) → slice_get rules k ≡ Some rule → k < length rules
+rule-below [] k rule there = absurd (cc)
+rule-below (r ∷ rules) zero rule there = omega arith
+rule-below (r ∷ rules) (suc k) rule there = let rest = rule-below rules k rule there in omega arith
+
 -- one rule more holds
 pub rules-more : (rules : List Rule) (row : List Value) (i : ℕ) (rule : Rule) → slice_get rules i ≡ Some rule → rule_at rule row ≡ Some true → ((k : ℕ) (earlier : Rule) → k < i → slice_get rules k ≡ Some earlier → rule_at earlier row ≡ Some true)
     → (k : ℕ) (earlier : Rule) → k < i + 1 → slice_get rules k ≡ Some earlier → rule_at earlier row ≡ Some true

@@ -18,12 +18,13 @@ use Rattle.edit_line.specs.CodeFields.{codes_in}
 use Rattle.edit_line.specs.Lines.{LineParts, factor}
 use Rattle.edit_line.specs.Reductions.{lines_of}
 use Rattle.edit_line.specs.Sets.{is_inside}
-use Rattle.edit_line.specs.Shapes.{Domain, beside, has_field, number_fields, place_in}
+use Rattle.edit_line.specs.Shapes.{Domain, has_field, number_fields, place_in}
 use Rattle.edit_line.specs.Sums.{sum_at}
 use Rattle.edit_line.specs.declared.derived.Derived.{Derived}
 use Rattle.linear_elim.proofs.ColumnLaws.{beside-place}
 use Rattle.derivation.proofs.CodePlaces.{place-found, there-has}
-use Rattle.back_subst.specs.NumberWalk.{FoundEnds, bound_at, ends_from, found_at, is_bounding, or_place, value_in, with_found, with_line}
+use Rattle.back_subst.specs.NumberWalk.{FoundEnds, bound_at, ends_from, found_at, is_bounding, or_place, value_in, with_found}
+use Rattle.back_subst.specs.inner.Sides.{with_line}
 
 -- The bounds of lines, as the code gathers them.
 

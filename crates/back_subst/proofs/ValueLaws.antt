@@ -1,10 +1,9 @@
-use Rattle.std.proofs.Common.{◌≡◌, ◌↔◌, ◌<ℤ◌, ℕ, pos, negsuc, List, ◌∷◌, Some, None, IsTrue, map, refl, sym}
+use Rattle.std.proofs.Common.{◌↔◌, ◌<ℤ◌, ℕ, pos, negsuc, List, ◌∷◌, IsTrue, refl, sym}
 use Rattle.fraction128.specs.Formulas.{Ratio}
 use Rattle.edit_model.specs.Parts.{SurveyParts}
 use Rattle.edit_model.specs.Points.{Point}
 use Rattle.edit_model.specs.declared.value.Value.{Value}
 use Rattle.edit_line.specs.EditSets.{EditsParts, base_lines}
-use Rattle.edit_line.specs.Lines.{AllHold, LineParts}
 use Rattle.edit_line.specs.Reductions.{reduce_derived}
 use Rattle.edit_line.specs.Shapes.{shape_of}
 use Rattle.linear_elim.proofs.FoldLaws.{start-same}
@@ -12,7 +11,7 @@ use Rattle.edit_paths.specs.Cases.{case_of}
 use Rattle.edit_paths.proofs.CaseSystems.{start_over}
 use Rattle.back_subst.specs.Allowed.{AllowsNumber}
 use Rattle.back_subst.specs.Given.{IsAllOf, IsGivenNumber, IsSame}
-use Rattle.back_subst.specs.Intervals.{End, Interval, IsEndOf, is_within}
+use Rattle.back_subst.specs.Intervals.{Interval, is_within}
 use Rattle.back_subst.specs.Laws.{IsEndAt, IsOpenNumber}
 use Rattle.back_subst.specs.inner.Bounds.{DecideFor}
 use Rattle.back_subst.specs.inner.Systems.{start_lines}

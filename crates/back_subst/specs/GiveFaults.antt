@@ -36,6 +36,10 @@ pub record IsFirstOut (survey : SurveyParts) (row : List Value) (rule : ℕ) : T
   pub out : rule_at tested row ≡ None
   pub before : (k : ℕ) (earlier : Rule) → k < rule → slice_get survey.rules k ≡ Some earlier → rule_at earlier row ≡ Some true
 
+-- each rule holds at the record, and no number of its sums leaves the range
+abbrev pub AllHoldAt : SurveyParts → List Value → Type 0
+AllHoldAt survey row = (k : ℕ) (rule : Rule) → slice_get survey.rules k ≡ Some rule → rule_at rule row ≡ Some true
+
 -- all values were given, and the final test leaves the range at the rule
 pub record StopsAtRule (survey : SurveyParts) (row : List Value) (changed : ℕ) (donor : Option (List Value)) (rule : ℕ) : Type 0 where
   pub new : List Value

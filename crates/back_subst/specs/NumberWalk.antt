@@ -71,13 +71,6 @@ abbrev pub or_place : {A B : Type 0} → ℕ → Option A → (A → Result B �
 or_place place None next = Err place
 or_place place (Some a) next = next a
 
--- the bounds with that of the line at place i, if it gives one
-abbrev pub with_line : ℕ → LineParts → List Value → ℕ → FoundEnds → Result FoundEnds ℕ
-with_line i line row f ends =
-    if is_bounding line row f
-    then or_place i (bound_at line row f) (λ at. Ok (with_found ends (int_lt (pos 0) (factor line f)) (found_at at line.strict i)))
-    else Ok ends
-
 -- the bounds of the lines, from place i on
 abbrev pub ends_from : ℕ → List LineParts → List Value → ℕ → FoundEnds → Result FoundEnds ℕ
 ends_from i [] row f ends = Ok ends

@@ -10,7 +10,7 @@ ghost use Rattle.edit_line.specs.Shapes.{shape_of};
 ghost use Rattle.edit_paths.specs.Cases.{IsCase, case_of};
 ghost use Rattle.back_subst.specs.Allowed.{Completes};
 ghost use Rattle.back_subst.specs.Gifts.{CanGive, IsDonor, IsNeeded, hows_of};
-ghost use Rattle.back_subst.specs.GiveFaults.{StopsAtLine, StopsAtRule};
+ghost use Rattle.back_subst.specs.GiveFaults.{AllHoldAt, StopsAtLine, StopsAtRule};
 ghost use Rattle.back_subst.specs.Given.{IsImputed, giving_order};
 ghost use Rattle.back_subst.specs.inner.UnderWay.{AreOrders, IsGiving};
 ghost use Rattle.back_subst.specs.declared.gift.GiveFault.TheVariants as fault;
@@ -50,6 +50,7 @@ pub fn give<S: Systems, L: Ledger>(
     ensures imputed { IfOk result (λ gift. IsImputed survey.now row.now changed (option_copied donor.entry) gift.row) }
     ensures how { IfOk result (λ gift. gift.how ≡ hows_of survey.now changed (option_copied donor.entry) gift.row) }
     ensures consistent { IfOk result (λ gift. (p : Point) × Completes survey.now gift.row [] p) }
+    ensures tested { IfOk result (λ gift. AllHoldAt survey.now gift.row) }
     ensures differs { IfOk result (λ gift. IsNeeded survey.now row.now changed
         → (p : Point) (f : ℕ) → Completes survey.now gift.row [] p → has_number changed f ≡ true → Differs row.now p f) }
     ensures bound { (field line : ℕ) → result ≡ Err (fault.Bound field line)
@@ -100,6 +101,7 @@ fn imputed<S: Systems, L: Ledger>(
     requires donor { IsDonor survey.now (option_copied donor) }
     requires served { S.serves source.old (arc_value edits.now) }
     ensures given { IfOk result (λ new. IsGiving survey.now (arc_value edits.now) (option_copied donor.entry) row.now (giving_order survey.now.fields changed) [] new) }
+    ensures tested { IfOk result (λ new. AllHoldAt survey.now new) }
     ensures bound { (field line : ℕ) → result ≡ Err (fault.Bound field line)
         → StopsAtLine survey.now (arc_value edits.now) row.now changed (option_copied donor.entry) field line }
     ensures test { (rule : ℕ) → result ≡ Err (fault.Test rule) → StopsAtRule survey.now row.now changed (option_copied donor.entry) rule }

@@ -12,8 +12,8 @@ ghost use Rattle.edit_line.specs.Reductions.{lines_of};
 ghost use Rattle.edit_line.specs.Sets.{is_inside};
 ghost use Rattle.edit_line.specs.Shapes.{IsNumerical, number_fields, place_in, shape_of};
 ghost use Rattle.edit_line.specs.Sums.{sum_at};
-ghost use Rattle.back_subst.specs.NumberWalk.{ends_from, no_ends, value_in, with_line};
-ghost use Rattle.back_subst.specs.inner.Sides.{bounds_told, ends_of};
+ghost use Rattle.back_subst.specs.NumberWalk.{ends_from, no_ends, value_in};
+ghost use Rattle.back_subst.specs.inner.Sides.{bounds_told, ends_of, with_line};
 
 use crate::bound::{Bound, Bounds};
 use crate::value::code_of;

@@ -1,9 +1,7 @@
-use Rattle.std.specs.Prelude.{◌≡◌, ℕ, List, Ok}
-use Rattle.fraction128.specs.Formulas.{Ratio}
-use Rattle.edit_model.specs.declared.value.Value.{Value}
+use Rattle.std.specs.Prelude.{ℕ, List}
 use Rattle.edit_line.specs.EditSets.{EditsParts, base_lines}
 use Rattle.edit_line.specs.Lines.{LineParts}
-use Rattle.edit_line.specs.Reductions.{IsIn, lines_of, reduce_derived}
+use Rattle.edit_line.specs.Reductions.{lines_of, reduce_derived}
 use Rattle.linear_elim.specs.Systems.{chosen_fields, system}
 
 -- the lines that elimination begins with: those of the edits, reduced

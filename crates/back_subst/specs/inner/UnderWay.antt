@@ -1,4 +1,4 @@
-use Rattle.std.specs.Prelude.{◌≡◌, ◌≢◌, ◌<◌, All, ◌↔◌, ◌==◌, ◌++◌, ℕ, true, false, List, [], ◌∷◌, Option, Ok, Err, IfSome, length, reverse}
+use Rattle.std.specs.Prelude.{◌≡◌, ◌<◌, All, ◌↔◌, ◌==◌, ◌++◌, ℕ, true, false, List, [], ◌∷◌, Option, Ok, Err, reverse}
 use Rattle.std.specs.List.{filter}
 use Rattle.edit_model.specs.Corrections as corrections
 use Rattle.edit_model.specs.FieldSets.{has_number}

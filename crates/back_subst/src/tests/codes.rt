@@ -15,15 +15,27 @@ type CodePlan = (&'static [LinePlan], Option<u8>, [bool; 3]);
 const CODES: [CodePlan; 4] = [
     (&[], Some(0), [true, true, true]),
     (&[(0b011, 0, 0, -1, false)], Some(2), [false, false, true]),
-    (&[(0b001, 0, 0, -1, false), (0b100, 0, 0, -1, false)], Some(1), [false, true, false]),
-    (&[(0b101, 0, 0, -1, false), (0b010, 0, 0, -1, false)], None, [false, false, false]),
+    (
+        &[(0b001, 0, 0, -1, false), (0b100, 0, 0, -1, false)],
+        Some(1),
+        [false, true, false],
+    ),
+    (
+        &[(0b101, 0, 0, -1, false), (0b010, 0, 0, -1, false)],
+        None,
+        [false, false, false],
+    ),
 ];
 
 /// The first code that the boxes leave, and which they leave.
 fn left_by(boxes: &[BoxFrom]) -> (Option<u8>, [bool; 3])
     requires { AreBoxesOver three_fields boxes.now }
 {
-    let free = [is_free(boxes, 0, 0), is_free(boxes, 0, 1), is_free(boxes, 0, 2)];
+    let free = [
+        is_free(boxes, 0, 0),
+        is_free(boxes, 0, 1),
+        is_free(boxes, 0, 2),
+    ];
     (first_among(boxes, 0, 3), free)
 }
 

@@ -89,7 +89,13 @@ fn given<L: Ledger>(
 }
 
 /// Whether the gift is this number, found so, and 3 would be the nearest.
-fn is_given(alloc: Global, survey: &Survey, donor: Option<&Row>, number: Fraction, how: How) -> Result<bool, Fail>
+fn is_given(
+    alloc: Global,
+    survey: &Survey,
+    donor: Option<&Row>,
+    number: Fraction,
+    how: How,
+) -> Result<bool, Fail>
     requires survey { IsFree survey.now }
     requires donor { IsDonor survey.now (option_copied donor) }
 {

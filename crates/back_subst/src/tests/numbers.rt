@@ -35,8 +35,24 @@ const NUMBERS: [NumberPlan; 22] = [
     (&[(7, 0, 2, -4, true), (7, 0, 1, -2, false)], 0, b"3"),
     (&[(7, 0, -1, 5, false), (7, 0, -3, 15, true)], 9, b"4"),
     // the greatest lower and the least upper one
-    (&[(7, 0, 1, -2, false), (7, 0, 1, -3, false), (7, 0, 1, -1, false)], 0, b"3"),
-    (&[(7, 0, -1, 5, false), (7, 0, -1, 3, false), (7, 0, -1, 4, false)], 9, b"3"),
+    (
+        &[
+            (7, 0, 1, -2, false),
+            (7, 0, 1, -3, false),
+            (7, 0, 1, -1, false),
+        ],
+        0,
+        b"3",
+    ),
+    (
+        &[
+            (7, 0, -1, 5, false),
+            (7, 0, -1, 3, false),
+            (7, 0, -1, 4, false),
+        ],
+        9,
+        b"3",
+    ),
     // fractions are not rounded, and A, which is 7, is in the rest
     (&[(7, 0, 3, -1, false)], 0, b"1/3"),
     (&[(7, -1, 3, 0, false), (7, 1, -3, 0, false)], 0, b"7/3"),
@@ -73,15 +89,35 @@ type OverflowPlan = (&'static [u8], &'static [LinePlan], i128, u64);
 
 const OVERFLOWS: [OverflowPlan; 6] = [
     // the rest, 2 A
-    (b"170141183460469231731687303715884105727", &[(7, 0, 1, 0, false), (7, 2, 1, 0, false)], 0, 1),
+    (
+        b"170141183460469231731687303715884105727",
+        &[(7, 0, 1, 0, false), (7, 2, 1, 0, false)],
+        0,
+        1,
+    ),
     // the bound, A / 2
-    (b"1/170141183460469231731687303715884105727", &[(7, 1, -2, 0, false)], 0, 0),
+    (
+        b"1/170141183460469231731687303715884105727",
+        &[(7, 1, -2, 0, false)],
+        0,
+        0,
+    ),
     // one more and one less than an open end
     (b"0", &[(7, 0, 1, 0, false), (7, 0, 1, -MOST, true)], 0, 1),
     (b"0", &[(7, 0, -1, -MOST, true)], 0, 0),
     // the sum of which an open end's middle is the half, below it and above it
-    (b"0", &[(7, 0, -1, MOST, false), (7, 0, 1, 2 - MOST, true)], 0, 1),
-    (b"0", &[(7, 0, -1, 2 - MOST, true), (7, 0, 1, MOST, false)], 0, 0),
+    (
+        b"0",
+        &[(7, 0, -1, MOST, false), (7, 0, 1, 2 - MOST, true)],
+        0,
+        1,
+    ),
+    (
+        b"0",
+        &[(7, 0, -1, 2 - MOST, true), (7, 0, 1, MOST, false)],
+        0,
+        0,
+    ),
 ];
 
 #[test]

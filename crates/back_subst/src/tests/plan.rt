@@ -52,7 +52,11 @@ fn code_field(alloc: Global) -> Result<Field, Fail>
 pub(crate) fn survey_of(alloc: Global) -> Result<Survey, Fail>
     ensures { IfOk result (λ survey. shape_of survey.fields ≡ three_fields) }
 {
-    let fields = vec![in alloc; code_field(alloc)?, number_field(b"A")?, number_field(b"B")?]?;
+    let fields = vec![in alloc;
+        code_field(alloc)?,
+        number_field(b"A")?,
+        number_field(b"B")?,
+    ]?;
     Ok(
         Survey::new(alloc, fields, Vec::new(alloc))
             .ok()
@@ -77,7 +81,11 @@ fn line_of(alloc: Global, survey: &Survey, plan: LinePlan) -> Result<Derived, Fa
 }
 
 /// The lines of these plans.
-pub(crate) fn lines_of(alloc: Global, survey: &Survey, plans: &[LinePlan]) -> Result<Vec<Derived>, Fail>
+pub(crate) fn lines_of(
+    alloc: Global,
+    survey: &Survey,
+    plans: &[LinePlan],
+) -> Result<Vec<Derived>, Fail>
     requires { shape_of survey.now.fields ≡ three_fields }
     ensures { IfOk result (λ lines. All (λ derived. derived.line.shape ≡ shape_of survey.now.fields) lines.items) }
 {

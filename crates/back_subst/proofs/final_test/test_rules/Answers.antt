@@ -1,9 +1,9 @@
-use Rattle.std.proofs.Common.{◌≡◌, Some, slice_get, subst}
+use Rattle.std.proofs.Common.{◌≡◌, Some, List, ap, arith, length, slice_get, subst}
 use Rattle.edit_model.specs.Surveys.{IsRule}
 use Rattle.edit_model.specs.declared.rule.Rule.{Rule}
 use Rattle.edit_line.proofs.Members.{in-all, in-get}
 use Rattle.back_subst.specs.GiveFaults.{IsFirstOut}
-use Rattle.back_subst.proofs.FinalTests.{can-try, get-there, rules-more, tried}
+use Rattle.back_subst.proofs.FinalTests.{can-try, get-there, rule-below, rules-more, tried}
 use Rattle.back_subst.proofs.final_test.test_rules.Goals as goal
 use Rattle.back_subst.proofs.final_test.test_rules.Goals.{After-rule-item}
 
@@ -29,3 +29,7 @@ loop-i-preserved c =
     rules-more c.args.survey.now.rules c.args.row.now c.loop-i.i c.rule-item.result (there at)
     (tried c.args.survey.now c.args.row.now c.requires.row c.requires.consistent.0 c.requires.consistent.1 c.rule-item.result c.loop-i.i c.in-Ok.field-0 (there at)
     (can-try c.args.survey.now c.args.row.now c.requires.row c.requires.consistent.0 c.requires.consistent.1 c.rule-item.result (fits at)) c.in-Ok.ensures.in_range) c.loop-i.invariant
+
+pub returns-clause-held : goal.returns-clause-held
+returns-clause-held c = λ k rule there.
+    c.loop-i.invariant k rule (omega (arith, rule-below c.args.survey.now.rules k rule there, c.loop-i-test.false, ap (λ (rs : List Rule). length rs) c.rules-rule-items.ensures.rules)) there
