@@ -1,22 +1,17 @@
-use Rattle.std.proofs.Common.{◌≡◌, ◌&&◌, ◌||◌, ◌==◌, ℕ, zero, suc, ◌+◌, ◌-◌, ◌<◌, ◌≤◌, Bool, true, false, not, if◌then◌else◌, nat_lt, List, [], ◌∷◌, ◌++◌, Option, Some, None, Result, Ok, Err, IfOk, IfNone, IfSome, All, length, slice_index_or, refl, sym, ap, ◌∙◌, subst, arith}
-use Rattle.std.specs.Arc.{arc_value}
-use Rattle.std.specs.List.{fold, list_any, position}
+use Rattle.std.proofs.Common.{◌≡◌, ◌&&◌, ◌||◌, ◌==◌, ℕ, zero, suc, ◌+◌, ◌-◌, ◌<◌, ◌≤◌, Bool, true, false, not, if◌then◌else◌, nat_lt, List, [], ◌∷◌, ◌++◌, Option, Some, None, Result, Ok, Err, IfOk, IfNone, IfSome, length, slice_index_or, refl, sym, ap, ◌∙◌, subst, arith}
+use Rattle.std.specs.List.{fold, list_any}
 use Rattle.std.proofs.lemmas.Bool.Decides.{Decides-eqb}
 use Rattle.fraction128.specs.declared.fraction.Fraction.{Fraction}
 use Rattle.edit_model.specs.Corrections.{path_order}
 use Rattle.edit_model.specs.RowPoints.{code_in}
-use Rattle.edit_model.specs.Rows.{IsOfKind, IsRow, is_bad, value_of}
+use Rattle.edit_model.specs.Rows.{is_bad, value_of}
 use Rattle.edit_model.specs.Trials.{IsCodeValue}
-use Rattle.edit_model.specs.declared.field.Field.{Field}
-use Rattle.edit_model.specs.declared.field.Kind.{Kind}
-use Rattle.edit_model.specs.declared.field.Kind.TheVariants as kind
 use Rattle.edit_model.specs.declared.value.Value.{Value}
 use Rattle.edit_model.specs.declared.value.Value.TheVariants.{Bad, Code, Number}
 use Rattle.edit_model.proofs.OrderLaws.{order-length}
 use Rattle.edit_model.proofs.RowLaws.{code-at}
-use Rattle.edit_line.specs.Boxes.{are_whole}
-use Rattle.edit_line.specs.CodeFields.{TakesCodes, size_from, size_of}
-use Rattle.edit_line.specs.Shapes.{Categorical, Domain, Numerical, code_fields, domain_of, has_field, number_fields, shape_of}
+use Rattle.edit_line.specs.CodeFields.{TakesCodes}
+use Rattle.edit_line.specs.Shapes.{code_fields, has_field, number_fields, shape_of}
 use Rattle.edit_line.specs.declared.derived.Derived.{Derived}
 use Rattle.edit_line.proofs.FieldLists.{there-has}
 use Rattle.edit_line.proofs.PointCodes.{takes-codes}
@@ -34,9 +29,8 @@ use Rattle.bound_cert.specs.Paths.{changes, keeps_bad}
 use Rattle.bound_cert.proofs.Letters.{kept-any, kept_in}
 use Rattle.edit_paths.specs.Cases.{Case, IsCase}
 use Rattle.edit_paths.specs.Paths.{before_last, changed_numbers, field_count, last_letter, number_count, treated_codes}
-use Rattle.edit_paths.specs.States.{IsOpen, boxes_after, boxes_along, first_boxes, first_failing, first_whole, lines_along, or_empty, state_of, state_with_boxes, state_with_system}
+use Rattle.edit_paths.specs.States.{IsOpen, boxes_after, boxes_along, first_boxes, first_failing, lines_along, or_empty, state_of, state_with_boxes, state_with_system}
 use Rattle.edit_paths.specs.Works.{pairs_next, work_of}
-use Rattle.edit_paths.specs.declared.state.PathState.{PathState}
 use Rattle.edit_paths.specs.declared.state.PathState.TheVariants.{ClosedBad, Open}
 use Rattle.edit_paths.proofs.ChildLaws.{changes-next, child-boxes, child-numbers-same, child-work}
 use Rattle.edit_paths.proofs.FieldPlaces.{fields-placed}

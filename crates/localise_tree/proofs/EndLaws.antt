@@ -1,5 +1,4 @@
-use Rattle.std.proofs.Common.{◌≡◌, ◌≢◌, ◌&&◌, ◌||◌, ◌==◌, ℕ, zero, suc, ◌+◌, ◌*◌, ◌<◌, ◌≤◌, Bool, true, false, not, if◌then◌else◌, nat_lt, List, [], ◌∷◌, ◌++◌, Ok, length, drop, slice_index_or, refl, sym, ap, ◌∙◌, subst, arith}
-use Rattle.std.specs.Arc.{arc_value}
+use Rattle.std.proofs.Common.{◌≡◌, ◌≢◌, ◌&&◌, ◌||◌, ◌==◌, ℕ, suc, ◌+◌, ◌<◌, ◌≤◌, Bool, true, false, not, if◌then◌else◌, nat_lt, List, [], ◌∷◌, ◌++◌, Ok, length, drop, slice_index_or, refl, sym, ap, ◌∙◌, subst, arith}
 use Rattle.std.specs.List.{AllByRecursion, filter, fold, sum_by}
 use Rattle.std.proofs.lemmas.Bool.Decides.{Decides-eqb}
 use Rattle.std.proofs.lemmas.List.{at_drop_all, at_drop_more}
@@ -11,7 +10,7 @@ use Rattle.linear_elim.specs.declared.held.Held.{Held}
 use Rattle.bound_cert.specs.Paths.{changes, path_weight}
 use Rattle.edit_paths.specs.Cases.{Case}
 use Rattle.edit_paths.specs.PathStates.{is_open}
-use Rattle.edit_paths.specs.Paths.{before_last, changed_numbers, field_count, is_complete, number_count}
+use Rattle.edit_paths.specs.Paths.{before_last, changed_numbers, field_count, is_complete}
 use Rattle.edit_paths.specs.ReachedPaths.{changed_next, is_before, kept_next, placed}
 use Rattle.edit_paths.specs.States.{IsOpen, boxes_along, state_of}
 use Rattle.edit_paths.specs.Walks.{next_paths}
@@ -23,7 +22,7 @@ use Rattle.localise_tree.specs.KeptFields.{KeepsChanged}
 use Rattle.localise_tree.specs.declared.ends.Node.{Node}
 use Rattle.localise_tree.specs.declared.looks.Basis.{Basis}
 use Rattle.localise_tree.specs.declared.looks.Basis.TheVariants.{Boxes, Lines}
-use Rattle.localise_tree.specs.inner.Bases.{IsBasis, IsBasisBefore, IsSame}
+use Rattle.localise_tree.specs.inner.Bases.{IsBasis, IsBasisBefore}
 use Rattle.localise_tree.specs.inner.Nodes.{AreKept, IsFirstEnd, IsNode, IsOfSystem, before, paths_of}
 
 -- The ends of a search: nodes whose paths are reached.
@@ -35,12 +34,6 @@ first-long a b i below past so_far =
     sym (at_drop_more (λ (l : List Bool). is_first l (drop i b)) a i false below ∙ at_drop_all (λ (l : List Bool). is_first (slice_index_or a i false ∷ drop (i + 1) a) l) b i past) ∙ so_far
 
 -- ---- bases
-
-pub same-basis : (c : Case) (path : List Bool) (first second : Basis) → IsSame first second → IsBasis c path first → IsBasis c path second
-same-basis c path (Lines a) (Lines b) same is = (is.0, is.1 ∙ ap (λ (h : Held). Ok (system_held h).lines) (sym same))
-same-basis c path (Boxes a) (Boxes b) same is = (is.0, same ∙ is.1)
-same-basis c path (Lines a) (Boxes b) same is = absurd same
-same-basis c path (Boxes a) (Lines b) same is = absurd same
 
 basis-before : (c : Case) (path more : List Bool) (k : Basis) → length more ≡ suc (length path) → before_last more ≡ path → IsBasis c path k → IsBasisBefore c more k
 basis-before c path more (Lines system) longer parent is = (omega (arith, longer, is.0), ap (λ (p : List Bool). system_of c.edits (changed_numbers c p)) parent ∙ is.1)
@@ -65,12 +58,6 @@ first-node c held (Lines system) is made = record {
 
 pub first-nodes : (c : Case) (held : Held) (ends : List Node) → IsFirstEnd held ends → system_of c.edits (changed_numbers c []) ≡ Ok (system_held held).lines → AllByRecursion (IsNode c) ends
 first-nodes c held ends (before, are, is) made = subst (λ (ns : List Node). AllByRecursion (IsNode c) ns) (sym are) (first-node c held before is made, tt)
-
-pub first-paths : (held : Held) (ends : List Node) → IsFirstEnd held ends → paths_of ends ≡ [] ∷ []
-first-paths held ends (before, are, is) = ap (λ (ns : List Node). paths_of ns) are
-
-pub first-kept : (c : Case) (keeps : ℕ → Bool) (held : Held) (ends : List Node) → IsFirstEnd held ends → KeepsChanged keeps c [] → AreKept keeps c ends
-first-kept c keeps held ends (before, are, is) kept = subst (λ (ns : List Node). AreKept keeps c ns) (sym are) (kept, tt)
 
 module _ (c : Case) (node more : Node) (b : Bool) (is_node : IsNode c node) (short : length node.path < field_count c) (path_is : more.path ≡ node.path ++ b ∷ []) where
   counted : length more.path ≡ suc (length node.path)
@@ -138,9 +125,6 @@ leads-short c path state leads fit told both = by (is_complete c path) refl (is_
     by true apart false h = absurd (cc)
 
 module _ (c : Case) (path : List Bool) where
-  pub leads-none : (leads : Bool) → leads ≡ (is_open (state_of c path) && not (is_complete c path)) → leads ≡ false → next_paths c path ≡ []
-  leads-none leads told none = ap (λ (t : Bool). if t then kept_next path ∷ changed_next path ∷ [] else []) (sym told ∙ none)
-
   pub leads-both : (leads : Bool) → leads ≡ (is_open (state_of c path) && not (is_complete c path)) → leads ≡ true → next_paths c path ≡ kept_next path ∷ changed_next path ∷ []
   leads-both leads told both = ap (λ (t : Bool). if t then kept_next path ∷ changed_next path ∷ [] else []) (sym told ∙ both)
 

@@ -1,38 +1,30 @@
-use Rattle.std.proofs.Common.{◌≡◌, ◌≢◌, ◌&&◌, ◌||◌, inl, inr, ℕ, zero, suc, ◌+◌, ◌-◌, ◌<◌, ◌≤◌, ◌==◌, Bool, true, false, not, if◌then◌else◌, nat_lt, List, [], ◌∷◌, ◌++◌, ℤ, pos, length, take, slice_index_or, Ok, Err, refl, sym, ap, ◌∙◌, subst, arith}
-use Rattle.std.specs.List.{filter, fold, position}
+use Rattle.std.proofs.Common.{◌≡◌, ◌&&◌, ◌||◌, inl, inr, ℕ, zero, suc, ◌+◌, ◌-◌, ◌<◌, ◌≤◌, Bool, true, false, not, if◌then◌else◌, List, [], ◌∷◌, ◌++◌, ℤ, pos, length, slice_index_or, Ok, refl, sym, ap, ◌∙◌, subst, arith}
+use Rattle.std.specs.List.{filter, fold}
 use Rattle.std.proofs.lemmas.List.{get_or_past}
 use Rattle.std.specs.Ordering.{int_eq}
 use Rattle.edit_model.specs.Corrections.{path_order}
 use Rattle.edit_model.specs.FieldSets.{has_number}
-use Rattle.edit_model.specs.Rows.{is_bad, value_of}
-use Rattle.edit_model.specs.declared.value.Value.{Value}
-use Rattle.edit_model.specs.declared.value.Value.TheVariants.{Bad}
-use Rattle.edit_model.proofs.FieldSetLaws.{has-set_of}
-use Rattle.edit_model.proofs.RowLaws.{was-bad}
 use Rattle.edit_line.specs.Boxes.{are_whole}
 use Rattle.edit_line.specs.Lines.{HasShape, LineParts}
 use Rattle.edit_line.specs.Reductions.{IsIn}
 use Rattle.edit_line.specs.Shapes.{Domain, code_fields, has_field, number_fields, shape_of}
 use Rattle.edit_line.specs.Sums.{stands_only}
 use Rattle.edit_line.specs.declared.derived.Derived.{Derived}
-use Rattle.edit_line.proofs.FieldLists.{has-filter, there-has}
+use Rattle.edit_line.proofs.FieldLists.{there-has}
 use Rattle.linear_elim.specs.Helds.{system_held}
 use Rattle.linear_elim.specs.Steps.{pairs_count}
 use Rattle.linear_elim.specs.Systems.{SystemParts, system_of}
 use Rattle.linear_elim.specs.declared.held.Held.{Held}
 use Rattle.categ_combine.specs.BoxLists.{sets_of}
 use Rattle.categ_combine.specs.Covers.{cover_count}
-use Rattle.categ_combine.specs.FailingBoxes.{LineFault, failing_from}
+use Rattle.categ_combine.specs.FailingBoxes.{failing_from}
 use Rattle.categ_combine.specs.declared.box_from.BoxFrom.{BoxFrom}
 use Rattle.bound_cert.specs.Paths.{keeps, keeps_bad, kept_set, path_place}
-use Rattle.bound_cert.specs.declared.outcome.Event.TheVariants as event
 use Rattle.edit_paths.specs.Cases.{Case, IsCase}
-use Rattle.edit_paths.specs.Paths.{before_last, changed_numbers, field_count, last_field, last_letter, number_count, treated_codes, treats}
-use Rattle.edit_paths.specs.States.{asks_kept, boxes_after, boxes_along, first_boxes, first_failing, first_whole, or_empty, state_of, state_with_boxes, state_with_system}
+use Rattle.edit_paths.specs.Paths.{before_last, changed_numbers, last_field, last_letter, number_count, treats}
+use Rattle.edit_paths.specs.States.{asks_kept, boxes_after, boxes_along, first_boxes, or_empty}
 use Rattle.edit_paths.specs.Works.{pairs_next, work_of}
-use Rattle.edit_paths.specs.declared.state.PathState.{PathState}
-use Rattle.edit_paths.specs.declared.state.PathState.TheVariants.{ClosedBad, Overflows}
-use Rattle.edit_paths.proofs.ChildLaws.{child-kept, not-changed}
+use Rattle.edit_paths.proofs.ChildLaws.{child-kept}
 use Rattle.edit_paths.proofs.FieldPlaces.{Placed, codes-placed}
 use Rattle.edit_paths.proofs.KeptLines.{derived-over, kept-number}
 use Rattle.edit_paths.proofs.LetterLaws.{count-kinds, longer, number-field, order-shape}

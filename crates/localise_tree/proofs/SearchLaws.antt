@@ -1,5 +1,5 @@
-use Rattle.std.proofs.Common.{◌≡◌, ℕ, ◌+◌, ◌-◌, ◌<◌, ◌≤◌, ◌++◌, Bool, true, false, if◌then◌else◌, nat_lt, List, [], ◌∷◌, Option, Some, None, IfNone, map, refl, sym, ap, ◌∙◌, subst, arith}
-use Rattle.std.specs.List.{AllByRecursion, fold, sum_by}
+use Rattle.std.proofs.Common.{◌≡◌, ℕ, ◌+◌, ◌-◌, ◌<◌, ◌≤◌, ◌++◌, Bool, true, false, if◌then◌else◌, nat_lt, List, [], ◌∷◌, Option, Some, None, IfNone, refl, sym, ap, ◌∙◌, subst, arith}
+use Rattle.std.specs.List.{AllByRecursion, fold}
 use Rattle.std.proofs.lemmas.List.Sums.{sum_by-append, sum_by-cons}
 use Rattle.bound_cert.specs.Paths.{path_weight}
 use Rattle.bound_cert.specs.declared.cert.Cert.{Cert}
@@ -21,7 +21,7 @@ use Rattle.localise_tree.specs.inner.Nodes.{AreKept, IsNode, paths_of}
 use Rattle.localise_tree.specs.inner.Takens.{IsTaken, taken_paths}
 use Rattle.localise_tree.specs.declared.best_first.Taken.{Taken}
 use Rattle.localise_tree.specs.declared.ends.Node.{Node}
-use Rattle.localise_tree.proofs.SearchLoop.{IsSearching, left, searching-ends, searching-less, searching-start, searching-turn}
+use Rattle.localise_tree.proofs.SearchLoop.{IsSearching, left, searching-ends, searching-less, searching-turn}
 
 -- The loop of the search, over nodes and taken paths with their states.
 
@@ -50,15 +50,6 @@ module _ (c : Case) (budget spent : ℕ) (taken : List (List Bool)) (path : List
 
 -- ---- one turn
 
-pub run-start : (c : Case) (budget : ℕ) (taken : List Taken) (ends : List Node) → taken ≡ [] → paths_of ends ≡ [] ∷ [] → AllByRecursion (IsNode c) ends → IsRunning c budget 0 taken ends
-run-start c budget taken ends none one nodes = record {
-  searching = searching-start c budget (taken_paths taken) (paths_of ends) (ap (λ (ts : List Taken). taken_paths ts) none) one;
-  nodes = nodes;
-  taken_are = subst (λ (ts : List Taken). AllByRecursion (IsTaken c) ts) (sym none) tt;
-  spent_is = sym (ap (λ (ts : List Taken). work_of_all c (taken_paths ts)) none);
-  within = omega arith;
-}
-
 taken-more : (taken : List Taken) (t : Taken) → taken_paths (taken ++ t ∷ []) ≡ taken_paths taken ++ t.path ∷ []
 taken-more [] t = refl
 taken-more (x ∷ taken) t = ap (λ (ps : List (List Bool)). x.path ∷ ps) (taken-more taken t)
@@ -82,9 +73,6 @@ none-is None other = refl
 none-is (Some x) other = absurd (other x refl)
 
 module _ (c : Case) (budget spent : ℕ) (taken : List Taken) (ends rest : List Node) (node : Node) (running : IsRunning c budget spent taken ends) (is : ends ≡ node ∷ rest) where
-  pub run-node : IsNode c node × AllByRecursion (IsNode c) rest
-  run-node = subst (λ (ns : List Node). AllByRecursion (IsNode c) ns) is running.nodes
-
   pub run-budget : budget - spent < work_of c node.path → outcome.Budget node.path spent ≡ outcome_of c budget
   run-budget passed =
       searching-ends c budget (taken_paths taken) (paths_of ends) (paths_of rest) node.path running.searching (ap (λ (ns : List Node). paths_of ns) is) (outcome.Budget node.path spent)

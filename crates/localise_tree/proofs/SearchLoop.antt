@@ -1,18 +1,16 @@
-use Rattle.std.proofs.Common.{◌≡◌, inl, inr, ℕ, ◌<◌, ◌≤◌, Bool, List, [], ◌∷◌, ◌++◌, Some, None, Result, Ok, Err, IfOk, length, refl, sym, ap, ◌∙◌, subst, arith}
+use Rattle.std.proofs.Common.{◌≡◌, inl, inr, ℕ, ◌<◌, ◌≤◌, Bool, List, [], ◌∷◌, ◌++◌, Some, None, length, refl, sym, ap, ◌∙◌, subst, arith}
 use Rattle.std.specs.List.{fold}
 use Rattle.std.proofs.lemmas.List.Sorted.{IsPermutation-refl, IsPermutation-sym}
 use Rattle.edit_line.specs.Reductions.{IsIn}
 use Rattle.bound_cert.specs.declared.outcome.Outcome.{Outcome}
-use Rattle.bound_cert.specs.declared.outcome.Outcome.TheVariants as outcome
 use Rattle.edit_paths.specs.Cases.{Case}
-use Rattle.edit_paths.specs.Certificates.{certificate_of}
 use Rattle.edit_paths.specs.Outcomes.{end_at, or_later, outcome_from, outcome_of}
 use Rattle.edit_paths.specs.Paths.{field_count}
 use Rattle.edit_paths.specs.ReachedPaths.{in_order, is_before, placed}
 use Rattle.edit_paths.specs.Walks.{next_paths}
 use Rattle.edit_paths.proofs.OrderLaws.{IsSorted, folded-sorted, in-folded, permuted-folded}
 use Rattle.edit_paths.proofs.PathOrder.{before-chain, before-equal, before-total}
-use Rattle.edit_paths.proofs.ReachedLaws.{first-end, next-fits, reached_beyond, same_ends, search-start, search-turn}
+use Rattle.edit_paths.proofs.ReachedLaws.{first-end, next-fits, reached_beyond, same_ends, search-turn}
 
 -- The loop of a search over a sorted list of ends.
 
@@ -27,18 +25,6 @@ pub record IsSearching (c : Case) (budget : ℕ) (taken ends : List (List Bool))
   pub rest : outcome_from c budget taken (in_order (is_before c.survey.fields) (reached_beyond c ends)) ≡ outcome_of c budget
 
 module _ (c : Case) (budget : ℕ) where
-  pub searching-start : (taken ends : List (List Bool)) → taken ≡ [] → ends ≡ [] ∷ [] → IsSearching c budget taken ends
-  searching-start taken ends none one =
-      subst (λ (ps : List (List Bool)). IsSearching c budget ps ends) (sym none) (subst (λ (ps : List (List Bool)). IsSearching c budget [] ps) (sym one) (record {
-        fit = fit;
-        sorted = (λ y no_more. absurd no_more, tt);
-        rest = sym (search-start c budget);
-      }))
-    where
-      fit : (x : List Bool) → IsIn x ([] ∷ []) → length x ≤ field_count c
-      fit x (inl same) = omega (arith, ap (λ (p : List Bool). length p) same)
-      fit x (inr no_more) = absurd no_more
-
   module _ (taken ends rest : List (List Bool)) (path : List Bool) (before : IsSearching c budget taken ends) (is : ends ≡ path ∷ rest) where
     searching : IsSearching c budget taken (path ∷ rest)
     searching = subst (λ (ps : List (List Bool)). IsSearching c budget taken ps) is before
@@ -77,11 +63,3 @@ module _ (c : Case) (budget : ℕ) where
       searching-less =
           let first = first-end c path (path ∷ rest) rest (searching.fit path (inl refl)) (IsPermutation-refl (path ∷ rest)) searching.sorted.0 in
           omega (arith, ap (λ (ps : List (List Bool)). length ps) same, ap (λ (ps : List (List Bool)). length ps) first, ap (λ (ps : List (List Bool)). left c ps) is)
-
-  pub searching-none : (taken ends : List (List Bool)) (o : Outcome) → IsSearching c budget taken ends → ends ≡ [] → o ≡ outcome.Contradictory (record { leaves = certificate_of c taken }) → o ≡ outcome_of c budget
-  searching-none taken ends o before none is = is ∙ ap (λ (ps : List (List Bool)). outcome_from c budget taken (in_order (is_before c.survey.fields) (reached_beyond c ps))) (sym none) ∙ before.rest
-
-  -- the outcome where no end is left
-  pub searching-over : {E : Type 0} (taken known ends : List (List Bool)) (r : Result Outcome E) → IsSearching c budget taken ends → ends ≡ [] → known ≡ taken → IfOk r (λ o. o ≡ outcome.Contradictory (record { leaves = certificate_of c known })) → IfOk r (λ o. o ≡ outcome_of c budget)
-  searching-over taken known ends (Ok o) before none alike is = searching-none taken ends o before none (is ∙ ap (λ (ps : List (List Bool)). outcome.Contradictory (record { leaves = certificate_of c ps })) alike)
-  searching-over taken known ends (Err e) before none alike is = tt

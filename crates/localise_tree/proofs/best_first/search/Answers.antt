@@ -5,7 +5,6 @@ use Rattle.localise_tree.specs.KeptFields.{KeepsChanged}
 use Rattle.localise_tree.specs.inner.Nodes.{AreKept, IsLook}
 use Rattle.localise_tree.specs.inner.Problems.{case_in}
 use Rattle.localise_tree.specs.inner.Takens.{taken_paths}
-use Rattle.localise_tree.specs.declared.best_first.Taken.{Taken}
 use Rattle.localise_tree.specs.declared.ends.Node.{Node}
 use Rattle.localise_tree.specs.declared.looks.Look.{Look}
 use Rattle.localise_tree.proofs.SearchLaws.{change-kept, kept-later, none-is, none-of, path-later, run-budget, run-ends, run-less, run-turn}

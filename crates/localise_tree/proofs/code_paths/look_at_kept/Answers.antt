@@ -1,5 +1,4 @@
-use Rattle.std.proofs.Common.{◌≡◌, sym, ap, ◌∙◌, subst}
-use Rattle.std.specs.Arc.{arc_value}
+use Rattle.std.proofs.Common.{sym, ap, ◌∙◌, subst}
 use Rattle.edit_line.specs.Shapes.{shape_of}
 use Rattle.edit_model.specs.declared.value.Value.{Value}
 use Rattle.localise_tree.specs.declared.looks.Basis.TheVariants.{Boxes}

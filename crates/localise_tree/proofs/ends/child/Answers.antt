@@ -1,4 +1,4 @@
-use Rattle.std.proofs.Common.{◌≡◌, ◌+◌, ◌++◌, ◌∷◌, [], ℕ, Bool, if◌then◌else◌, List, length, slice_index_or, refl, ap, ◌∙◌}
+use Rattle.std.proofs.Common.{◌+◌, ◌++◌, ◌∷◌, [], Bool, if◌then◌else◌, List, length, slice_index_or, refl, ap, ◌∙◌}
 use Rattle.edit_model.specs.Corrections.{path_order}
 use Rattle.edit_model.specs.Words.{weight_at}
 use Rattle.localise_tree.specs.inner.Problems.{case_in}

@@ -1,4 +1,4 @@
-use Rattle.std.proofs.Common.{◌≡◌, ◌&&◌, [], ◌∷◌, false, true, not, sym, ap, ◌∙◌}
+use Rattle.std.proofs.Common.{◌≡◌, ◌&&◌, [], ◌∷◌, false, true, not, ap, ◌∙◌}
 use Rattle.edit_paths.specs.PathStates.{is_open}
 use Rattle.edit_paths.specs.Paths.{is_complete}
 use Rattle.edit_paths.specs.ReachedPaths.{changed_next, kept_next}

@@ -1,4 +1,4 @@
-use Rattle.std.proofs.Common.{◌≡◌, ℕ, List, nat_eq, false, true, refl, sym, ap, ◌∙◌}
+use Rattle.std.proofs.Common.{ℕ, List, nat_eq, false, true, refl, sym, ap, ◌∙◌}
 use Rattle.std.specs.Cmp.Lexicographic.{pointwise}
 use Rattle.edit_line.specs.Boxes.{are_whole}
 use Rattle.edit_line.specs.Shapes.{shape_of, number_fields}

@@ -1,4 +1,4 @@
-use Rattle.std.proofs.Common.{◌≡◌, ◌+◌, ℕ, ap, sym, ◌∙◌, arith}
+use Rattle.std.proofs.Common.{◌+◌, ℕ, ap, sym, ◌∙◌, arith}
 use Rattle.edit_paths.proofs.LetterLaws.{count-kinds}
 use Rattle.localise_tree.specs.inner.Problems.{case_in}
 use Rattle.localise_tree.proofs.NumberPathLaws.{changed-work}

@@ -1,4 +1,4 @@
-use Rattle.std.proofs.Common.{◌≡◌, ◌≤◌, Bool, ℕ, List, length, ◌∙◌, subst}
+use Rattle.std.proofs.Common.{◌≤◌, Bool, ℕ, List, length, ◌∙◌, subst}
 use Rattle.edit_paths.proofs.KeptLines.{all-over}
 use Rattle.localise_tree.specs.inner.Problems.{case_in}
 use Rattle.localise_tree.proofs.NumberPathLaws.{lines-made, numbers-boxes}

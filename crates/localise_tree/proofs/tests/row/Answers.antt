@@ -1,4 +1,4 @@
-use Rattle.std.proofs.Common.{◌≡◌, List, [], ◌∷◌, ap, sym, ◌∙◌, subst}
+use Rattle.std.proofs.Common.{◌≡◌, List, [], ◌∷◌, sym, ◌∙◌, subst}
 use Rattle.fraction128.specs.declared.fraction.Fraction.{Fraction}
 use Rattle.edit_model.specs.Rows.{IsOfKind, IsRow}
 use Rattle.edit_model.specs.declared.field.Field.{Field}
@@ -6,7 +6,7 @@ use Rattle.edit_model.specs.declared.field.Kind.{Kind}
 use Rattle.edit_model.specs.declared.field.Kind.TheVariants as kind
 use Rattle.edit_model.specs.declared.value.Value.{Value}
 use Rattle.edit_model.specs.declared.value.Value.TheVariants.{Number}
-use Rattle.edit_line.specs.Shapes.{Domain, Numerical, domain_of, shape_of}
+use Rattle.edit_line.specs.Shapes.{Numerical, domain_of, shape_of}
 use Rattle.localise_tree.proofs.tests.row.Goals as goal
 
 number-held : (k : Kind) (x : Fraction) → domain_of k ≡ Numerical → IsOfKind k (Number x)
