@@ -1,8 +1,12 @@
 //! Worked records of the trade survey, the household survey and small ones, each with all that is found of it.
 
+ghost use Rattle.std.specs.Prelude.{IfOk};
+ghost use Rattle.edit_model.specs.Rows.{IsRow};
+
 use super::told::outcome_text;
 use crate::search::outcome_of;
 use edit_language::read_rules;
+use edit_model::{Row, Survey};
 use edit_normal::rule_edits;
 use record_text::read_records;
 use std::alloc::Global;
@@ -43,20 +47,36 @@ number x6
 999999999 x5 >= 1000000000 x6
 ";
 
+/// The first record of the text.
+fn first_row(alloc: Global, survey: &Survey, records: &str) -> Result<Row, Fail>
+    ensures { IfOk result (λ row. IsRow survey.now.fields row) }
+{
+    match read_records(alloc, survey, records.as_bytes()) {
+        Ok(sheet) if !sheet.is_empty() => row_copy(alloc, survey, sheet.row(0)),
+        _ => Err("a record")?,
+    }
+}
+
+/// An equal record.
+fn row_copy(alloc: Global, survey: &Survey, row: &Row) -> Result<Row, Fail>
+    requires { IsRow survey.now.fields row.now }
+    ensures { IfOk result (λ copy. IsRow survey.now.fields copy) }
+{
+    match row.copy(alloc) {
+        Ok(copy) => Ok(copy),
+        Err(_) => Err("memory")?,
+    }
+}
+
 /// What is found of the record.
 pub(crate) fn told(alloc: Global, rules: &str, records: &str, budget: u64) -> Result<String, Fail> {
     if rules.len() >= 1 << 32 {
         return Err("a short text")?;
     }
     let survey = read_rules(alloc, rules.as_bytes()).ok().ok_or("a survey")?;
-    let sheet = read_records(alloc, &survey, records.as_bytes())
-        .ok()
-        .ok_or("a sheet")?;
-    if sheet.is_empty() {
-        return Err("a record")?;
-    }
+    let row = first_row(alloc, &survey, records)?;
     let edits = Arc::new(alloc, rule_edits(alloc, &survey).ok().ok_or("memory")?)?;
-    let outcome = outcome_of(alloc, &survey, &edits, sheet.row(0), budget)
+    let outcome = outcome_of(alloc, &survey, &edits, &row, budget)
         .ok()
         .ok_or("memory")?;
     outcome_text(alloc, &outcome)
