@@ -30,4 +30,5 @@ pub mod GiftLaws
 pub mod BlankLaws
 pub mod HowLaws
 pub mod ValueLaws
+mod TestRecords
 mod WorkedValues

@@ -5,7 +5,7 @@ use Rattle.edit_model.specs.declared.field.Field.{Field}
 use Rattle.edit_model.specs.declared.value.Value.{Value}
 use Rattle.edit_model.specs.declared.value.Value.TheVariants.{Bad, Code, Number}
 use Rattle.edit_line.specs.Shapes.{shape_of}
-use Rattle.edit_line.proofs.TestPlans.{row-taken}
+use Rattle.back_subst.proofs.TestRecords.{row-taken}
 use Rattle.back_subst.specs.inner.TestSurveys.{three_fields}
 use Rattle.back_subst.proofs.tests.plan.row_of.Goals as goal
 
