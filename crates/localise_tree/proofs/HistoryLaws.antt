@@ -16,7 +16,7 @@ use Rattle.edit_paths.specs.Histories.{History, with_boxes, with_lines}
 use Rattle.edit_paths.specs.PathHistories.{and_next, box_history, boxes_from, line_history, lines_from}
 use Rattle.edit_paths.specs.Paths.{changed_numbers, field_count, number_count, treated_codes, treats}
 use Rattle.edit_paths.specs.States.{boxes_after, boxes_along, first_boxes}
-use Rattle.edit_paths.proofs.ChildLaws.{after-same, child-boxes, child-codes, child-kept, child-numbers, child-numbers-same, first-same, treated-within}
+use Rattle.edit_paths.proofs.ChildLaws.{after-same, child-boxes, child-codes, child-numbers, child-numbers-same, first-same, treated-within}
 use Rattle.edit_paths.proofs.FieldPlaces.{Placed, codes-placed}
 use Rattle.localise_tree.specs.inner.Histories.{with_system}
 
@@ -70,9 +70,6 @@ module _ (c : Case) (path : List Bool) (b : Bool) (short : length path < field_c
       numbers = child-numbers c path b short few ∙ ap (λ x. changed_numbers c path ++ (if x then slice_index_or (number_fields (shape_of c.survey.fields)) (length path) 0 ∷ [] else [])) changed
 
   -- another letter
-  pub history-kept : b ≡ false → line_history c (path ++ b ∷ []) ≡ line_history c path
-  history-kept kept = ap (λ (fs : List ℕ). lines_from [] (reduce_derived (base_lines c.edits)) fs) (child-kept c path b short kept)
-
   pub history-same : number_count c ≤ length path → line_history c (path ++ b ∷ []) ≡ line_history c path
   history-same enough = ap (λ (fs : List ℕ). lines_from [] (reduce_derived (base_lines c.edits)) fs) (child-numbers-same c path b short enough)
 

@@ -2,18 +2,20 @@
 ghost use Rattle.std.specs.Prelude.{◌≡◌, ◌-◌, ◌≤◌, ◌++◌, ◌∷◌, [], ℕ, Bool, List, IfOk, OnOk, length, true};
 ghost use Rattle.std.specs.List.{AllByRecursion};
 ghost use Rattle.edit_line.specs.EditSets.{EditsParts};
+ghost use Rattle.edit_paths.specs.Cases.{Case};
 ghost use Rattle.edit_paths.specs.Certificates.{certificate_of, leaf, leaves_by, leaves_from};
 ghost use Rattle.edit_paths.specs.Paths.{field_count};
+ghost use Rattle.localise_tree.specs.inner.Histories.{HasListsBefore, LeadTo};
 ghost use Rattle.localise_tree.specs.inner.Knowns.{Knows};
 ghost use Rattle.localise_tree.specs.inner.Problems.{IsProblem, case_in, edits_in};
 ghost use Rattle.localise_tree.specs.inner.Takens.{IsTaken, taken_paths};
 
 use crate::best_first::Taken;
-use crate::histories::{box_history, line_history};
+use crate::histories::push_lists;
 use crate::known::known_states;
 use crate::problem::{Problem, field_count};
 use bound_cert::{Cert, Leaf, LeafWhy, Path};
-use edit_paths::{PathState, write_steps};
+use edit_paths::{Level, PathState, write_steps};
 use foundation::{OutOfMemory, Sequence, Steps};
 use linear_elim::Systems;
 use std::alloc::Global;
@@ -38,6 +40,7 @@ pub(crate) fn certificate<S: Systems, L: Ledger>(
 {
     let known = known_states(alloc, taken)?;
     let mut letters = Vec::new(alloc);
+    let mut levels = Vec::new(alloc);
     let mut leaves = Vec::new(alloc);
     push_leaves(
         alloc,
@@ -45,6 +48,7 @@ pub(crate) fn certificate<S: Systems, L: Ledger>(
         problem,
         &known,
         &mut letters,
+        &mut levels,
         &mut leaves,
         steps,
     )?;
@@ -53,23 +57,26 @@ pub(crate) fn certificate<S: Systems, L: Ledger>(
     })
 }
 
-// Appends the leaves of the tree from the path of these letters on.
+// Appends the leaves of the tree from the path of these letters on. The levels are the lists that lead to
+// the path before its last letter.
 fn push_leaves<S: Systems, L: Ledger>(
     alloc: Global,
     source: &mut S,
     problem: &Problem,
     known: &BTreeMap<Vec<bool>, PathState>,
     letters: &mut Vec<bool>,
+    levels: &mut Vec<Level>,
     leaves: &mut Vec<Leaf>,
     steps: &mut Steps<L>,
 ) -> Result<(), OutOfMemory>
     requires problem { IsProblem problem.now }
     requires served { S.serves source.old (edits_in problem.now) }
     requires fit { length letters.old.items ≤ field_count (case_in problem.now) }
+    requires before { HasListsBefore (case_in problem.now) letters.old.items levels.old.items }
     ensures letters { OnOk result (letters.new.items ≡ letters.old.items) }
+    ensures levels { OnOk result (levels.new.items ≡ levels.old.items) }
     ensures leaves { OnOk result ((paths : List (List Bool)) → Knows (case_in problem.now) paths known.now
-        → leaves.new.items ≡ leaves.old.items
-        ++ leaves_from (case_in problem.now) paths (field_count (case_in problem.now) - length letters.old.items) letters.old.items) }
+        → leaves.new.items ≡ leaves.old.items ++ leaves_from (case_in problem.now) paths (field_count (case_in problem.now) - length letters.old.items) letters.old.items) }
     ensures serves { (e : EditsParts) → S.serves source.old e → S.serves source.new e }
     ensures keeps { (f : ℕ) → S.keeps source.old f ≡ true → S.keeps source.new f ≡ true }
 {
@@ -77,47 +84,47 @@ fn push_leaves<S: Systems, L: Ledger>(
         push_leaf(alloc, letters, LeafWhy::Bound, leaves)?;
         return Ok(());
     };
+    let before = levels.len();
+    push_lists(alloc, source, problem, letters, levels, steps)?;
     if state.is_open() && letters.len() < field_count(problem) {
         letters.push(false)?;
-        push_leaves(alloc, source, problem, known, letters, leaves, steps)?;
+        push_leaves(
+            alloc, source, problem, known, letters, levels, leaves, steps,
+        )?;
         letters.pop();
         letters.push(true)?;
-        push_leaves(alloc, source, problem, known, letters, leaves, steps)?;
+        push_leaves(
+            alloc, source, problem, known, letters, levels, leaves, steps,
+        )?;
         letters.pop();
+        levels.truncate(before);
         return Ok(());
     }
-    push_closed(alloc, source, problem, state, letters, leaves, steps)?;
+    push_closed(alloc, state, letters, levels, leaves)?;
+    levels.truncate(before);
     Ok(())
 }
 
-// Appends the leaf of the path, where this is the state that closes it.
-fn push_closed<S: Systems, L: Ledger>(
+// Appends the leaf of the path, where this is the state that closes it, by the lists that lead to it.
+fn push_closed(
     alloc: Global,
-    source: &mut S,
-    problem: &Problem,
     state: PathState,
     letters: &[bool],
+    levels: &[Level],
     leaves: &mut Vec<Leaf>,
-    steps: &mut Steps<L>,
 ) -> Result<(), OutOfMemory>
-    requires problem { IsProblem problem.now }
-    requires served { S.serves source.old (edits_in problem.now) }
-    requires fit { length letters.now ≤ field_count (case_in problem.now) }
-    ensures leaves { OnOk result (leaves.new.items ≡ leaves.old.items ++ leaves_by (case_in problem.now) letters.now [] state) }
-    ensures serves { (e : EditsParts) → S.serves source.old e → S.serves source.new e }
-    ensures keeps { (f : ℕ) → S.keeps source.old f ≡ true → S.keeps source.new f ≡ true }
+    ensures { OnOk result ((c : Case) → LeadTo c letters.now state levels.now
+        → leaves.new.items ≡ leaves.old.items ++ leaves_by c letters.now [] state) }
 {
     match state {
         PathState::Open | PathState::Overflows(_) => Ok(()),
         PathState::ClosedBad => push_leaf(alloc, letters, LeafWhy::BadKept, leaves),
         PathState::ClosedLine(place) => {
-            let levels = line_history(alloc, source, problem, letters, steps)?;
-            let proof = write_steps(alloc, &levels, place)?;
+            let proof = write_steps(alloc, levels, place)?;
             push_leaf(alloc, letters, LeafWhy::Line(proof), leaves)
         }
         PathState::ClosedBox(place) => {
-            let levels = box_history(alloc, source, problem, letters, steps)?;
-            let proof = write_steps(alloc, &levels, place)?;
+            let proof = write_steps(alloc, levels, place)?;
             push_leaf(alloc, letters, LeafWhy::Box(proof), leaves)
         }
     }

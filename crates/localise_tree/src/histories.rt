@@ -1,17 +1,18 @@
-//! The lists from which the system and the boxes of a path are derived.
-ghost use Rattle.std.specs.Prelude.{◌≡◌, ◌≤◌, ◌<◌, [], ℕ, All, IfOk, OnOk, length, true};
+//! The lists from which the system and the boxes of a path are derived, letter by letter.
+ghost use Rattle.std.specs.Prelude.{◌≡◌, ◌+◌, ◌≤◌, ◌<◌, [], ℕ, All, IfOk, OnOk, length, true};
 ghost use Rattle.edit_model.specs.RowPoints.{code_in};
 ghost use Rattle.edit_model.specs.Rows.{value_of};
 ghost use Rattle.edit_line.specs.CodeFields.{TakesCodes, size_of};
 ghost use Rattle.edit_line.specs.EditSets.{EditsParts};
 ghost use Rattle.edit_line.specs.Shapes.{shape_of};
+ghost use Rattle.linear_elim.specs.Systems.{system_of};
 ghost use Rattle.categ_combine.specs.BoxLists.{AreBoxesOver};
 ghost use Rattle.categ_combine.specs.FailingBoxes.{failing_from};
 ghost use Rattle.edit_paths.specs.Levels.{history_of};
-ghost use Rattle.edit_paths.specs.PathHistories.{box_history, line_history};
-ghost use Rattle.edit_paths.specs.Paths.{before_last, field_count};
+ghost use Rattle.edit_paths.specs.PathHistories.{line_history};
+ghost use Rattle.edit_paths.specs.Paths.{before_last, changed_numbers, field_count, number_count};
 ghost use Rattle.edit_paths.specs.States.{first_boxes, or_empty};
-ghost use Rattle.localise_tree.specs.inner.Histories.{boxes_by, with_lines_along};
+ghost use Rattle.localise_tree.specs.inner.Histories.{HasBoxLists, HasLists, HasListsBefore, HasMore, boxes_by, boxes_in, with_system};
 ghost use Rattle.localise_tree.specs.inner.Problems.{IsProblem, case_in, edits_in};
 
 use crate::number_paths::system_along;
@@ -25,39 +26,10 @@ use linear_elim::{SystemFault, Systems};
 use std::alloc::Global;
 use std::sync::ledger::Ledger;
 
-/// The lists of lines that lead to the path's system, the last one last.
-pub(crate) fn line_history<S: Systems, L: Ledger>(
-    alloc: Global,
-    source: &mut S,
-    problem: &Problem,
-    letters: &[bool],
-    steps: &mut Steps<L>,
-) -> Result<Vec<Level>, OutOfMemory>
-    requires problem { IsProblem problem.now }
-    requires served { S.serves source.old (edits_in problem.now) }
-    requires fit { length letters.now ≤ field_count (case_in problem.now) }
-    ensures history { IfOk result (λ levels. history_of levels.items ≡ line_history (case_in problem.now) letters.now) }
-    ensures serves { (e : EditsParts) → S.serves source.old e → S.serves source.new e }
-    ensures keeps { (f : ℕ) → S.keeps source.old f ≡ true → S.keeps source.new f ≡ true }
-{
-    let mut levels = Vec::new(alloc);
-    push_system(alloc, source, problem, &[], &mut levels, steps)?;
-    for place in 0..letters.len() {
-        push_next(
-            alloc,
-            source,
-            problem,
-            &letters[..place + 1],
-            &mut levels,
-            steps,
-        )?;
-    }
-    Ok(levels)
-}
-
-// Appends the lines of the path's system to those of the path before, if its last letter changes a
-// numerical field.
-fn push_next<S: Systems, L: Ledger>(
+/// Appends the lists that the last letter of the path leads to, to those of the path before: the lines of its
+/// system where it changes a numerical field; the boxes after its categorical field, and before the first of
+/// these the record's boxes; of the empty path the lines of the edits.
+pub(crate) fn push_lists<S: Systems, L: Ledger>(
     alloc: Global,
     source: &mut S,
     problem: &Problem,
@@ -67,17 +39,46 @@ fn push_next<S: Systems, L: Ledger>(
 ) -> Result<(), OutOfMemory>
     requires problem { IsProblem problem.now }
     requires served { S.serves source.old (edits_in problem.now) }
-    requires some { 0 < length letters.now }
     requires fit { length letters.now ≤ field_count (case_in problem.now) }
-    requires before { history_of levels.old.items ≡ line_history (case_in problem.now) (before_last letters.now) }
-    ensures history { OnOk result (history_of levels.new.items ≡ line_history (case_in problem.now) letters.now) }
+    requires before { HasListsBefore (case_in problem.now) letters.now levels.old.items }
+    ensures lists { OnOk result (HasLists (case_in problem.now) letters.now levels.new.items) }
+    ensures grown { OnOk result (HasMore levels.old.items levels.new.items) }
     ensures serves { (e : EditsParts) → S.serves source.old e → S.serves source.new e }
     ensures keeps { (f : ℕ) → S.keeps source.old f ≡ true → S.keeps source.new f ≡ true }
 {
-    let last = letters.len() - 1;
-    if last < number_count(problem) && letters[last] {
-        push_system(alloc, source, problem, letters, levels, steps)?;
+    if letters.len() <= number_count(problem) {
+        push_lines(alloc, source, problem, letters, levels, steps)?;
+        return Ok(());
     }
+    if letters.len() - 1 == number_count(problem) {
+        push_first_boxes(alloc, source, problem, letters, levels, steps)?;
+    }
+    push_boxes(alloc, problem, letters, levels)?;
+    Ok(())
+}
+
+// Appends the lines of the path's system, unless it keeps its last field.
+fn push_lines<S: Systems, L: Ledger>(
+    alloc: Global,
+    source: &mut S,
+    problem: &Problem,
+    letters: &[bool],
+    levels: &mut Vec<Level>,
+    steps: &mut Steps<L>,
+) -> Result<(), OutOfMemory>
+    requires problem { IsProblem problem.now }
+    requires served { S.serves source.old (edits_in problem.now) }
+    requires few { length letters.now ≤ number_count (case_in problem.now) }
+    requires before { HasListsBefore (case_in problem.now) letters.now levels.old.items }
+    ensures history { OnOk result (history_of levels.new.items ≡ line_history (case_in problem.now) letters.now) }
+    ensures grown { OnOk result (HasMore levels.old.items levels.new.items) }
+    ensures serves { (e : EditsParts) → S.serves source.old e → S.serves source.new e }
+    ensures keeps { (f : ℕ) → S.keeps source.old f ≡ true → S.keeps source.new f ≡ true }
+{
+    if !letters.is_empty() && !letters[letters.len() - 1] {
+        return Ok(());
+    }
+    push_system(alloc, source, problem, letters, levels, steps)?;
     Ok(())
 }
 
@@ -92,8 +93,8 @@ fn push_system<S: Systems, L: Ledger>(
 ) -> Result<(), OutOfMemory>
     requires problem { IsProblem problem.now }
     requires served { S.serves source.old (edits_in problem.now) }
-    ensures history { OnOk result (history_of levels.new.items
-        ≡ with_lines_along (case_in problem.now) (history_of levels.old.items) letters.now) }
+    ensures history { OnOk result (history_of levels.new.items ≡ with_system (history_of levels.old.items) (system_of (case_in problem.now).edits (changed_numbers (case_in problem.now) letters.now))) }
+    ensures grown { OnOk result (HasMore levels.old.items levels.new.items) }
     ensures serves { (e : EditsParts) → S.serves source.old e → S.serves source.new e }
     ensures keeps { (f : ℕ) → S.keeps source.old f ≡ true → S.keeps source.new f ≡ true }
 {
@@ -107,34 +108,59 @@ fn push_system<S: Systems, L: Ledger>(
     }
 }
 
-/// The lists of lines and of boxes that lead to the path's boxes, the last one last.
-pub(crate) fn box_history<S: Systems, L: Ledger>(
+// Appends the record's boxes, where the path says something of one categorical field.
+fn push_first_boxes<S: Systems, L: Ledger>(
     alloc: Global,
     source: &mut S,
     problem: &Problem,
     letters: &[bool],
+    levels: &mut Vec<Level>,
     steps: &mut Steps<L>,
-) -> Result<Vec<Level>, OutOfMemory>
+) -> Result<(), OutOfMemory>
     requires problem { IsProblem problem.now }
     requires served { S.serves source.old (edits_in problem.now) }
-    requires fit { length letters.now ≤ field_count (case_in problem.now) }
-    ensures history { IfOk result (λ levels. history_of levels.items ≡ box_history (case_in problem.now) letters.now) }
+    requires first { length letters.now ≡ 1 + number_count (case_in problem.now) }
+    requires before { history_of levels.old.items ≡ line_history (case_in problem.now) (before_last letters.now) }
+    ensures boxes { OnOk result (HasBoxLists (case_in problem.now) (before_last letters.now) levels.new.items) }
+    ensures grown { OnOk result (HasMore levels.old.items levels.new.items) }
     ensures serves { (e : EditsParts) → S.serves source.old e → S.serves source.new e }
     ensures keeps { (f : ℕ) → S.keeps source.old f ≡ true → S.keeps source.new f ≡ true }
 {
-    let numbers = number_count(problem).min(letters.len());
-    let mut levels = line_history(alloc, source, problem, &letters[..numbers], steps)?;
-    let mut field = 0;
-    let mut boxes = first_boxes(alloc, source, problem, &letters[..numbers], steps)?;
-    for place in numbers..letters.len() {
-        let next = problem.survey.path_field(place as u32);
-        let after = boxes_after(alloc, problem, boxes.as_slice(), next, letters[place])?;
-        levels.push(Level::Boxes { field, boxes })?;
-        field = next;
-        boxes = after;
-    }
+    let before = &letters[..letters.len() - 1];
+    let boxes = first_boxes(alloc, source, problem, before, steps)?;
+    levels.push(Level::Boxes { field: 0, boxes })?;
+    Ok(())
+}
+
+// Appends the boxes after the path's last field, which is categorical.
+fn push_boxes(
+    alloc: Global,
+    problem: &Problem,
+    letters: &[bool],
+    levels: &mut Vec<Level>,
+) -> Result<(), OutOfMemory>
+    requires problem { IsProblem problem.now }
+    requires many { number_count (case_in problem.now) < length letters.now }
+    requires fit { length letters.now ≤ field_count (case_in problem.now) }
+    requires before { HasBoxLists (case_in problem.now) (before_last letters.now) levels.old.items }
+    ensures boxes { OnOk result (HasBoxLists (case_in problem.now) letters.now levels.new.items) }
+    ensures grown { OnOk result (HasMore levels.old.items levels.new.items) }
+{
+    let last = letters.len() - 1;
+    let field = problem.survey.path_field(last as u32);
+    let boxes = boxes_after(alloc, problem, last_boxes(levels), field, letters[last])?;
     levels.push(Level::Boxes { field, boxes })?;
-    Ok(levels)
+    Ok(())
+}
+
+// The boxes of the last list, none where it has lines.
+fn last_boxes(levels: &[Level]) -> &[BoxFrom]
+    ensures { result.now ≡ boxes_in levels.now }
+{
+    match levels.split_last() {
+        Some((Level::Boxes { boxes, .. }, _)) => boxes.as_slice(),
+        Some((Level::Lines(_), _)) | None => &[],
+    }
 }
 
 // The record's boxes, none where a number leaves the range.

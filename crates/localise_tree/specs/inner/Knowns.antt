@@ -16,10 +16,6 @@ Known = BTreeMap (Vec Bool Global) PathState
 abbrev pub known_at : Known → Vec Bool Global → Option PathState
 known_at known letters = get (λ x y. slice_cmp bool_cmp x.items y.items) known letters
 
--- the path's state, if it is one of these paths
-abbrev pub state_among : Case → List (List Bool) → List Bool → Option PathState
-state_among c paths path = if has_path paths path then Some (state_of c path) else None
-
 -- the states of these paths are known, and of no other
 abbrev pub Knows : Case → List (List Bool) → Known → Type 0
-Knows c paths known = (letters : Vec Bool Global) → known_at known letters ≡ state_among c paths letters.items
+Knows c paths known = (letters : Vec Bool Global) → known_at known letters ≡ (if has_path paths letters.items then Some (state_of c letters.items) else None)

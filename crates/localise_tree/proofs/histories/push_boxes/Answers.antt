@@ -1,0 +1,16 @@
+use Rattle.std.proofs.Common.{sym, ap, ◌∙◌, subst}
+use Rattle.edit_line.specs.CodeFields.{TakesCodes}
+use Rattle.edit_line.specs.Shapes.{shape_of}
+use Rattle.localise_tree.specs.inner.Histories.{boxes_in}
+use Rattle.localise_tree.specs.inner.Problems.{case_in}
+use Rattle.localise_tree.proofs.BoxTurns.{last-lists, last-takes}
+use Rattle.localise_tree.proofs.histories.push_boxes.Goals as goal
+
+pub boxes_after-requires-clause-takes : goal.boxes_after-requires-clause-takes
+boxes_after-requires-clause-takes c =
+    subst (λ f. TakesCodes (shape_of c.args.problem.now.survey.now.fields) f) (sym c.path_field-field.ensures.field) (last-takes (case_in c.args.problem.now) c.args.letters.now c.requires.many c.requires.fit c.requires.problem.case)
+
+pub returns-clause-boxes : goal.returns-clause-boxes
+returns-clause-boxes c =
+    last-lists (case_in c.args.problem.now) c.args.letters.now c.requires.many c.requires.fit c.args.levels.now.items c.push.new.self.items c.path_field-field.result c.in_ok-boxes.boxes c.last_boxes.result.now c.requires.before
+    (c.last_boxes.ensures ∙ ap (λ levels. boxes_in levels) c.deref.ensures.value) c.path_field-field.ensures.field c.in_ok-boxes.ensures.boxes c.in_ok-push.ensures.items c.in_ok-boxes.ensures.over
