@@ -1,4 +1,4 @@
-ghost use Rattle.std.specs.Prelude.{◌≡◌, ◌≤◌, ℕ, IfOk, List, true};
+ghost use Rattle.std.specs.Prelude.{◌≡◌, ℕ, IfOk, true};
 ghost use Rattle.std.specs.Arc.{arc_value};
 ghost use Rattle.std.specs.List.{AllByRecursion};
 ghost use Rattle.edit_line.specs.EditSets.{EditsParts};
@@ -7,7 +7,6 @@ ghost use Rattle.edit_model.specs.Rows.{IsRow};
 ghost use Rattle.edit_paths.specs.Cases.{case_of};
 ghost use Rattle.edit_paths.specs.Certificates.{certificate_of};
 ghost use Rattle.edit_paths.specs.Outcomes.{end_by, outcome_of};
-ghost use Rattle.edit_paths.specs.States.{state_of};
 ghost use Rattle.localise_tree.specs.Answers.{Certifies, ChoosesFirst, ChoosesLeast, Finds, IsEnough, KeepsChange, NoneMeets, Refutes};
 ghost use Rattle.localise_tree.specs.inner.Nodes.{IsNode};
 ghost use Rattle.localise_tree.specs.inner.Problems.{IsProblem, case_in, edits_in};

@@ -62,7 +62,8 @@ fn look_at_changed(
     requires over { AreBoxesOver (shape_of problem.now.survey.now.fields) before.now }
     requires takes { TakesCodes (shape_of problem.now.survey.now.fields) field }
     requires some { 0 < most }
-    ensures passed { IfOk result (λ told. IfNone told (most < 1 + cover_count (shape_of problem.now.survey.now.fields) (sets_of before.now) field)) }
+    ensures passed { IfOk result (λ told. IfNone told
+        (most < 1 + cover_count (shape_of problem.now.survey.now.fields) (sets_of before.now) field)) }
     ensures look { IfOk result (λ told. IfSome told (λ look. IsChanged (case_in problem.now) before.now field look × (look.work ≤ most))) }
 {
     match cat_step(alloc, before, field, most - 1)? {

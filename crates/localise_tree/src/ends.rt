@@ -101,7 +101,8 @@ pub(crate) fn lead_on(
     requires node { IsNode (case_in problem.now) node.now }
     requires look { IsLook (case_in problem.now) node.now.path look }
     requires ends { AllByRecursion (IsNode (case_in problem.now)) ends.old.items }
-    ensures paths { OnOk result (paths_of ends.new.items ≡ fold (placed (is_before problem.now.survey.now.fields)) (paths_of ends.old.items) (next_paths (case_in problem.now) node.now.path)) }
+    ensures paths { OnOk result (paths_of ends.new.items
+        ≡ fold (placed (is_before problem.now.survey.now.fields)) (paths_of ends.old.items) (next_paths (case_in problem.now) node.now.path)) }
     ensures nodes { OnOk result (AllByRecursion (IsNode (case_in problem.now)) ends.new.items) }
     ensures kept { OnOk result ((keeps : ℕ → Bool)
         → (look.state ≡ Open → KeepsChanged keeps (case_in problem.now) node.now.path)
@@ -155,7 +156,9 @@ fn child(
 fn changed_weight(problem: &Problem, place: usize, changed: bool) -> u64
     requires problem { IsProblem problem.now }
     requires place { place < field_count (case_in problem.now) }
-    ensures weight { result ≡ (if changed then weight_at problem.now.survey.now.fields (slice_index_or (path_order problem.now.survey.now.fields) place 0) else 0) }
+    ensures weight { result ≡ (if changed
+        then weight_at problem.now.survey.now.fields (slice_index_or (path_order problem.now.survey.now.fields) place 0)
+        else 0) }
     ensures few { result ≤ 1000 }
 {
     if !changed {

@@ -1,12 +1,10 @@
-ghost use Rattle.std.specs.Prelude.{◌≡◌, ℕ, ◌≤◌, ◌<◌, IfOk, IfSome, IfNone, true};
+ghost use Rattle.std.specs.Prelude.{◌≡◌, ℕ, ◌<◌, IfOk, IfNone, true};
 ghost use Rattle.edit_line.specs.EditSets.{EditsParts};
 ghost use Rattle.edit_paths.specs.Paths.{before_last};
-ghost use Rattle.edit_paths.specs.States.{IsOpen};
 ghost use Rattle.edit_paths.specs.Works.{work_of};
-ghost use Rattle.edit_paths.specs.declared.state.PathState.TheVariants.{Open};
 ghost use Rattle.localise_tree.specs.KeptFields.{KeepsChanged};
 ghost use Rattle.localise_tree.specs.inner.Bases.{IsSame};
-ghost use Rattle.localise_tree.specs.inner.Nodes.{IsLook, IsNode, TellsLook};
+ghost use Rattle.localise_tree.specs.inner.Nodes.{IsNode, KeepsOpen, TellsLook};
 ghost use Rattle.localise_tree.specs.inner.Problems.{IsProblem, case_in, edits_in};
 
 use crate::code_paths::look_at_codes;
@@ -64,7 +62,7 @@ pub(crate) fn look_into<S: Systems, L: Ledger>(
     requires before { KeepsChanged (S.keeps source.old) (case_in problem.now) (before_last node.now.path) }
     ensures passed { IfOk result (λ told. IfNone told (most < work_of (case_in problem.now) node.now.path)) }
     ensures look { IfOk result (TellsLook (case_in problem.now) node.now.path most) }
-    ensures kept { IfOk result (λ told. IfSome told (λ look. look.state ≡ Open → KeepsChanged (S.keeps source.new) (case_in problem.now) node.now.path)) }
+    ensures kept { IfOk result (KeepsOpen (S.keeps source.new) (case_in problem.now) node.now.path) }
     ensures serves { (e : EditsParts) → S.serves source.old e → S.serves source.new e }
     ensures keeps { (f : ℕ) → S.keeps source.old f ≡ true → S.keeps source.new f ≡ true }
 {

@@ -1,5 +1,5 @@
 //! Paths that say something of numerical fields alone.
-ghost use Rattle.std.specs.Prelude.{◌≡◌, ℕ, ◌+◌, ◌≤◌, ◌<◌, IfOk, IfNone, IfSome, OnOk, Ok, if◌then◌else◌, false, length, true};
+ghost use Rattle.std.specs.Prelude.{◌≡◌, ℕ, ◌+◌, ◌≤◌, ◌<◌, IfOk, IfNone, OnOk, Ok, if◌then◌else◌, false, length, true};
 ghost use Rattle.std.specs.Arc.{arc_value};
 ghost use Rattle.edit_line.specs.EditSets.{EditsParts};
 ghost use Rattle.edit_line.specs.Lines.{HasShape};
@@ -8,17 +8,16 @@ ghost use Rattle.edit_line.specs.Sums.{fails_at};
 ghost use Rattle.linear_elim.specs.Answers.{Answers};
 ghost use Rattle.linear_elim.specs.Helds.{system_held};
 ghost use Rattle.linear_elim.specs.Steps.{OneShape};
-ghost use Rattle.linear_elim.specs.Systems.{system_of};
 ghost use Rattle.linear_elim.specs.Told.{told_system};
 ghost use Rattle.bound_cert.specs.Paths.{keeps_bad, kept_set};
 ghost use Rattle.edit_paths.specs.Paths.{before_last, changed_numbers, field_count, last_letter, number_count};
-ghost use Rattle.edit_paths.specs.States.{asks_kept, closed_by, first_failing, state_of, state_with_system};
+ghost use Rattle.edit_paths.specs.States.{asks_kept, closed_by, first_failing, state_of};
 ghost use Rattle.edit_paths.specs.Works.{work_of};
 ghost use Rattle.edit_paths.specs.declared.state.PathState.{PathState as State};
 ghost use Rattle.edit_paths.specs.declared.state.PathState.TheVariants.{Open};
 ghost use Rattle.localise_tree.specs.KeptFields.{KeepsChanged};
-ghost use Rattle.localise_tree.specs.inner.Bases.{HasLines, IsBasis};
-ghost use Rattle.localise_tree.specs.inner.Nodes.{IsLook, TellsLook};
+ghost use Rattle.localise_tree.specs.inner.Bases.{HasLines, IsBasis, path_system};
+ghost use Rattle.localise_tree.specs.inner.Nodes.{KeepsOpen, TellsLook};
 ghost use Rattle.localise_tree.specs.inner.Problems.{IsProblem, case_in, edits_in};
 ghost use Rattle.localise_tree.specs.inner.Tries.{or_next};
 
@@ -54,7 +53,7 @@ pub(crate) fn look_at_numbers<S: Systems, L: Ledger>(
     requires some { 0 < most }
     ensures passed { IfOk result (λ told. IfNone told (most < work_of (case_in problem.now) path.now)) }
     ensures look { IfOk result (TellsLook (case_in problem.now) path.now most) }
-    ensures kept { IfOk result (λ told. IfSome told (λ look. look.state ≡ Open → KeepsChanged (S.keeps source.new) (case_in problem.now) path.now)) }
+    ensures kept { IfOk result (KeepsOpen (S.keeps source.new) (case_in problem.now) path.now) }
     ensures serves { (e : EditsParts) → S.serves source.old e → S.serves source.new e }
     ensures keeps { (f : ℕ) → S.keeps source.old f ≡ true → S.keeps source.new f ≡ true }
 {
@@ -76,7 +75,7 @@ pub(crate) fn system_along<S: Systems, L: Ledger>(
 ) -> Result<Held, SystemFault>
     requires problem { IsProblem problem.now }
     requires served { S.serves source.old (edits_in problem.now) }
-    ensures exact { Answers (λ held. (system_held held).lines) told_system result (system_of (case_in problem.now).edits (changed_numbers (case_in problem.now) letters.now)) }
+    ensures exact { Answers (λ held. (system_held held).lines) told_system result (path_system (case_in problem.now) letters.now) }
     ensures kept { OnOk result (KeepsChanged (S.keeps source.new) (case_in problem.now) letters.now) }
     ensures serves { (e : EditsParts) → S.serves source.old e → S.serves source.new e }
     ensures keeps { (f : ℕ) → S.keeps source.old f ≡ true → S.keeps source.new f ≡ true }
@@ -90,7 +89,7 @@ fn last_pairs(problem: &Problem, letters: &[bool], before: &[Derived]) -> u128
     requires problem { IsProblem problem.now }
     requires fit { length letters.now ≤ number_count (case_in problem.now) }
     requires shape { OneShape before.now }
-    requires made { system_of (case_in problem.now).edits (changed_numbers (case_in problem.now) (before_last letters.now)) ≡ Ok before.now }
+    requires made { path_system (case_in problem.now) (before_last letters.now) ≡ Ok before.now }
     ensures work { work_of (case_in problem.now) letters.now ≡ 1 + result }
 {
     if !ends_changed(letters) {
@@ -181,7 +180,8 @@ fn next_system<S: Systems, L: Ledger>(
     requires fit { length letters.now ≤ number_count (case_in problem.now) }
     requires system { HasLines (case_in problem.now) (before_last letters.now) (arc_value before.now) }
     requires before { KeepsChanged (S.keeps source.old) (case_in problem.now) (before_last letters.now) }
-    ensures exact { Answers (λ next. (system_held (arc_value next)).lines) told_system result (system_of (case_in problem.now).edits (changed_numbers (case_in problem.now) letters.now)) }
+    ensures exact { Answers (λ next. (system_held (arc_value next)).lines) told_system result
+        (path_system (case_in problem.now) letters.now) }
     ensures kept { OnOk result (KeepsChanged (S.keeps source.new) (case_in problem.now) letters.now) }
     ensures serves { (e : EditsParts) → S.serves source.old e → S.serves source.new e }
     ensures keeps { (f : ℕ) → S.keeps source.old f ≡ true → S.keeps source.new f ≡ true }
@@ -255,7 +255,7 @@ fn first_failing(problem: &Problem, path: &Path, lines: &[Derived]) -> PathState
     requires problem { IsProblem problem.now }
     requires short { length path.now ≤ field_count (case_in problem.now) }
     requires held { keeps_bad problem.now.survey.now.fields problem.now.row.now path.now ≡ false }
-    requires made { system_of (case_in problem.now).edits (changed_numbers (case_in problem.now) path.now) ≡ Ok lines.now }
+    requires made { path_system (case_in problem.now) path.now ≡ Ok lines.now }
     ensures { result ≡ first_failing (case_in problem.now) path.now 0 lines.now }
 {
     let kept = path.kept_set(problem.survey, problem.row);
@@ -279,7 +279,8 @@ fn tried_line(
     requires held { keeps_bad problem.now.survey.now.fields problem.now.row.now path.now ≡ false }
     requires kept { kept ≡ kept_set problem.now.survey.now.fields problem.now.row.now path.now }
     requires over { HasShape (shape_of problem.now.survey.now.fields) line.now }
-    ensures { (next : State) → or_next result next ≡ (if asks_kept (case_in problem.now) path.now line.now then closed_by place (fails_at line.now problem.now.row.now) next else next) }
+    ensures { (next : State) → or_next result next
+        ≡ (if asks_kept (case_in problem.now) path.now line.now then closed_by place (fails_at line.now problem.now.row.now) next else next) }
 {
     if !asks_kept(problem, path, kept, line) {
         return None;

@@ -1,7 +1,8 @@
-use Rattle.std.specs.Prelude.{◌≡◌, ◌<◌, ◌≤◌, Bool, List, Ok, length}
+use Rattle.std.specs.Prelude.{◌≡◌, ◌<◌, ◌≤◌, Bool, List, Ok, Result, length}
 use Rattle.std.specs.Arc.{arc_value}
+use Rattle.edit_line.specs.declared.derived.Derived.{Derived}
 use Rattle.linear_elim.specs.Helds.{system_held}
-use Rattle.linear_elim.specs.Systems.{system_of}
+use Rattle.linear_elim.specs.Systems.{SystemOverflow, system_of}
 use Rattle.linear_elim.specs.declared.held.Held.{Held}
 use Rattle.edit_paths.specs.Cases.{Case}
 use Rattle.edit_paths.specs.Paths.{before_last, changed_numbers, number_count}
@@ -9,9 +10,13 @@ use Rattle.edit_paths.specs.States.{boxes_along}
 use Rattle.localise_tree.specs.declared.looks.Basis.{Basis}
 use Rattle.localise_tree.specs.declared.looks.Basis.TheVariants.{Boxes, Lines}
 
--- the system is the path's
+-- the system of the numerical fields that the path changes
+abbrev pub path_system : Case → List Bool → Result (List Derived) SystemOverflow
+path_system c path = system_of c.edits (changed_numbers c path)
+
+-- this is the path's system
 abbrev pub HasLines : Case → List Bool → Held → Type 0
-HasLines c path system = system_of c.edits (changed_numbers c path) ≡ Ok (system_held system).lines
+HasLines c path system = path_system c path ≡ Ok (system_held system).lines
 
 -- the basis is right for the path: the lines of its system, or, where it says something of all numerical fields, its boxes
 abbrev pub IsBasis : Case → List Bool → Basis → Type 0

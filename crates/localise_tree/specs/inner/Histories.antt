@@ -28,7 +28,9 @@ with_system before (Err overflow) = before
 -- the boxes after one more categorical field, combined where it is changed and else fixed at the record's code
 abbrev pub boxes_by : Case → Bool → List BoxFrom → ℕ → List BoxFrom
 boxes_by c changed boxes f =
-    if changed then covered_from (shape_of c.survey.fields) boxes f else fixed_from (shape_of c.survey.fields) boxes f (code_in (value_of c.row f))
+    if changed
+    then covered_from (shape_of c.survey.fields) boxes f
+    else fixed_from (shape_of c.survey.fields) boxes f (code_in (value_of c.row f))
 
 -- the boxes of a list, none of a list of lines
 abbrev pub own_boxes : Level → List BoxFrom

@@ -18,4 +18,5 @@ known_at known letters = get (λ x y. slice_cmp bool_cmp x.items y.items) known 
 
 -- the states of these paths are known, and of no other
 abbrev pub Knows : Case → List (List Bool) → Known → Type 0
-Knows c paths known = (letters : Vec Bool Global) → known_at known letters ≡ (if has_path paths letters.items then Some (state_of c letters.items) else None)
+Knows c paths known = (letters : Vec Bool Global)
+    → known_at known letters ≡ (if has_path paths letters.items then Some (state_of c letters.items) else None)

@@ -58,3 +58,7 @@ pub record IsLook (c : Case) (path : List Bool) (look : Look) : Type 0 where
 -- the look, if there is one, is right, and its work no more than may be done
 abbrev pub TellsLook : Case → List Bool → ℕ → Option Look → Type 0
 TellsLook c path most told = IfSome told (λ (look : Look). IsLook c path look × (look.work ≤ most))
+
+-- where the path is open, the source keeps the system of the numerical fields that it changes
+abbrev pub KeepsOpen : (ℕ → Bool) → Case → List Bool → Option Look → Type 0
+KeepsOpen keeps c path told = IfSome told (λ (look : Look). look.state ≡ Open → KeepsChanged keeps c path)

@@ -1,5 +1,8 @@
-use Rattle.std.specs.Prelude.{◌≡◌, ℕ, Bool, List, [], if◌then◌else◌, map, nat_lt}
+use Rattle.std.specs.Prelude.{◌≡◌, ◌-◌, ℕ, Bool, List, [], if◌then◌else◌, length, map, nat_lt}
+use Rattle.bound_cert.specs.declared.cert.Leaf.{Leaf}
 use Rattle.edit_paths.specs.Cases.{Case}
+use Rattle.edit_paths.specs.Certificates.{leaves_from}
+use Rattle.edit_paths.specs.Paths.{field_count}
 use Rattle.edit_paths.specs.States.{state_of}
 use Rattle.localise_tree.specs.declared.best_first.Taken.{Taken}
 
@@ -14,3 +17,7 @@ taken_paths taken = map (λ (t : Taken). t.path) taken
 -- the taken paths that a certificate of a change of this weight needs: none where nothing is changed
 abbrev pub taken_for : ℕ → List (List Bool) → List (List Bool)
 taken_for weight taken = if nat_lt 0 weight then taken else []
+
+-- the leaves of the tree of the taken paths, from this path on
+abbrev pub leaves_below : Case → List (List Bool) → List Bool → List Leaf
+leaves_below c taken path = leaves_from c taken (field_count c - length path) path

@@ -44,6 +44,7 @@ pub record IsChanged (c : Case) (before : List BoxFrom) (f : ℕ) (look : Look) 
 -- the field was kept: the boxes are fixed at its code, and a field without one closes the path
 abbrev pub IsKept : Case → List BoxFrom → ℕ → Value → Look → Type 0
 IsKept c before f (Code code) look =
-    AreBoxes (fixed_from (shape_of c.survey.fields) before f code) look.basis × (look.state ≡ whole_state c (fixed_from (shape_of c.survey.fields) before f code))
+    AreBoxes (fixed_from (shape_of c.survey.fields) before f code) look.basis
+    × (look.state ≡ whole_state c (fixed_from (shape_of c.survey.fields) before f code))
 IsKept c before f (Number x) look = look.state ≡ ClosedBad
 IsKept c before f Bad look = look.state ≡ ClosedBad
