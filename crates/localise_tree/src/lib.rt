@@ -13,7 +13,5 @@ mod known;
 mod looks;
 mod number_paths;
 mod problem;
-#[cfg(test)]
-mod tests;
 
 pub use best_first::localise;

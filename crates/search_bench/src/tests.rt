@@ -2,4 +2,3 @@
 mod edges;
 mod rows;
 mod told;
-mod values;
