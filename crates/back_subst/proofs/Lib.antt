@@ -28,6 +28,8 @@ pub mod ReadyLaws
 pub mod NeedLaws
 pub mod GiftLaws
 pub mod BlankLaws
+pub mod ChangeLaws
+pub mod PathSetLaws
 pub mod HowLaws
 pub mod ValueLaws
 mod TestRecords

@@ -1,4 +1,4 @@
-use Rattle.std.specs.Prelude.{◌≡◌, ◌≢◌, ◌⊎◌, ◌<◌, ℕ, ◌*ℤ◌, ◌==◌, Bool, true, false, List, Option, Some, None, IfSome, if◌then◌else◌, length, map}
+use Rattle.std.specs.Prelude.{◌≡◌, ◌≢◌, ◌⊎◌, ◌<◌, ◌≤◌, ℕ, ◌^◌, ◌*ℤ◌, ◌==◌, Bool, true, false, List, Option, Some, None, IfSome, if◌then◌else◌, length, map, take}
 use Rattle.std.specs.List.{filter}
 use Rattle.std.specs.Ordering.{int_eq}
 use Rattle.edit_model.specs.Corrections.{IsCorrection, IsLeastWeight, path_order}
@@ -14,8 +14,9 @@ use Rattle.edit_line.specs.EditSets.{EditsParts}
 use Rattle.edit_line.specs.Lines.{AllHold}
 use Rattle.edit_line.specs.Shapes.{shape_of}
 use Rattle.bound_cert.specs.Paths.{path_weight}
-use Rattle.edit_paths.specs.Cases.{Meets, case_of, edit_lines}
+use Rattle.edit_paths.specs.Cases.{Case, Meets, case_of, edit_lines}
 use Rattle.edit_paths.specs.States.{IsOpen}
+use Rattle.edit_paths.specs.Works.{work_of}
 use Rattle.back_subst.specs.Given.{number_in, target_of}
 use Rattle.back_subst.specs.declared.gift.How.{How}
 use Rattle.back_subst.specs.declared.gift.How.TheVariants.{Default, Donor, Nearest}
@@ -60,10 +61,15 @@ IsNeeded survey row changed =
 abbrev pub AgreesOutside : List Value → ℕ → Point → Type 0
 AgreesOutside row changed p = (f : ℕ) → f < length row → has_number changed f ≡ false → Agrees row p f
 
--- what is asked of a record and of its changed fields before values are given: the path that changes just these is open, every rule follows from the edits, and each edit holds at each correction that has the record's values at the other fields
+-- the work of each path that this path extends, and its own, is less than 2^64
+abbrev pub IsCheap : Case → List Bool → Type 0
+IsCheap c path = (k : ℕ) → k ≤ length path → work_of c (take k path) < 2 ^ 64
+
+-- what is asked of a record and of its changed fields before values are given: the path that changes just these is open, and its work can be counted; every rule follows from the edits, and each edit holds at each correction that has the record's values at the other fields
 pub record CanGive (survey : SurveyParts) (edits : EditsParts) (row : List Value) (changed : ℕ) : Type 0 where
   pub is_row : IsRow survey.fields row
   pub shape : edits.shape ≡ shape_of survey.fields
   pub path : IsOpen (case_of survey edits row) (path_of survey.fields changed)
   pub sound : (p : Point) → Meets (case_of survey edits row) p → IsCorrection survey p
   pub complete : (p : Point) → IsCorrection survey p → AgreesOutside row changed p → AllHold (edit_lines (case_of survey edits row)) p
+  pub few : IsCheap (case_of survey edits row) (path_of survey.fields changed)

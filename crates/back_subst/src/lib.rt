@@ -14,6 +14,7 @@ mod laws;
 mod line_bounds;
 mod number;
 mod order;
+mod path_set;
 #[cfg(test)]
 mod tests;
 mod value;
@@ -21,3 +22,4 @@ mod value;
 pub use gift::{Gift, GiveFault, How};
 pub use imputation::give;
 pub use laws::value_laws;
+pub use path_set::changed_set;
