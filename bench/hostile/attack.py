@@ -10,15 +10,16 @@ import tempfile
 import time
 
 MOST_BYTES = 67108864
-STATUSES = {0, 1, 2, 3, 4, 5, 6, 7, 8, 10}
+STATUSES = {0, 1, 2, 3, 4, 5, 6, 7, 8}
 RELEASED = {0, 1}
 
 # Two seconds, and one more for each 4 MiB of input.
 SECONDS = 2.0
 SECONDS_A_BYTE = 1 / (4 << 20)
 
-# What stands in the released file before a run.
+# What stands in the files that are written, before a run.
 BEFORE = b"what stood here before\n"
+WRITTEN = ("reasons", "released")
 
 
 class Failed(Exception):
@@ -65,18 +66,20 @@ class Attack:
         """Runs `edit` on these two files."""
         (self.folder / "rules").write_bytes(rules)
         (self.folder / "records").write_bytes(records)
-        (self.folder / "released").write_bytes(BEFORE)
-        words = ["edit", "--rules", "rules", "--records", "records", "--released", "released"]
+        for name in WRITTEN:
+            (self.folder / name).write_bytes(BEFORE)
+        words = ["edit", "--rules", "rules", "--records", "records", "--reasons", "reasons", "--released", "released"]
         status = self.words(words, expected, len(rules) + len(records))
-        left = (self.folder / "released").read_bytes()
-        if (left == BEFORE) == (status in RELEASED):
-            raise Failed(f"{self.group}: status {status}, and the released file has {len(left)} bytes")
+        for name in WRITTEN:
+            left = (self.folder / name).read_bytes()
+            if (left == BEFORE) == (status in RELEASED):
+                raise Failed(f"{self.group}: status {status}, and the {name} file has {len(left)} bytes")
         for name, bytes_before in (("rules", rules), ("records", records)):
             if (self.folder / name).read_bytes() != bytes_before:
                 raise Failed(f"{self.group}: the file {name} was changed")
 
 
-ANY = {0, 1, 3, 4, 10}
+ANY = {0, 1, 3, 4}
 
 
 def pairs(examples):
@@ -149,12 +152,12 @@ def limits(attack, examples, dice):
     both(lambda n: survey(names_of(n)), lambda n: sheet(names_of(n), b"1" + b",1" * (n - 1) + b"\n"), 64, 0, 3)
     both(lambda n: plain + b"A >= 0\n" * (n - 1), lambda n: one, 500, 0, 3)
     both(lambda n: survey([b"N" * n]), lambda n: b"N" * n + b"\n1\n", 32, 0, 3)
-    both(lambda n: b"code C in {" + b", ".join(b"c%d" % c for c in range(n)) + b"}\n", lambda n: b"C\nc0\n", 64, 10, 3)
-    both(lambda n: b"code C in {" + b"c" * n + b"}\n", lambda n: b"C\n" + b"c" * n + b"\n", 32, 10, 3)
+    both(lambda n: b"code C in {" + b", ".join(b"c%d" % c for c in range(n)) + b"}\n", lambda n: b"C\nc0\n", 64, 0, 3)
+    both(lambda n: b"code C in {" + b"c" * n + b"}\n", lambda n: b"C\n" + b"c" * n + b"\n", 32, 0, 3)
     both(lambda n: b"number A weight %d\n" % n, lambda n: one, 1000, 0, 3)
     both(lambda n: b"number A scale %d\n" % n, lambda n: one, 10 ** 12, 0, 3)
     both(lambda n: b"number A\nA <= %d\n" % n, lambda n: one, 10 ** 15, 0, 3)
-    both(lambda n: b"number A\n%d A >= 0\n" % n, lambda n: one, 10 ** 9, 10, 3)
+    both(lambda n: b"number A\n%d A >= 0\n" % n, lambda n: one, 10 ** 9, 0, 3)
     attack.end()
 
 
@@ -165,7 +168,7 @@ def hard_files(attack, examples, dice):
     fields = survey(names_of(64))
     for size in (MOST_BYTES // 4, MOST_BYTES - 4096):
         sum_text = b"1" + b"+1" * (size // 2)
-        attack.files(plain + sum_text + b" >= 0\n", one, {3, 7, 10})
+        attack.files(plain + sum_text + b" >= 0\n", one, {0, 3, 7})
         attack.files(plain + b"A >= " + b"9" * size + b"\n", one, {3, 7})
         attack.files(plain + b"if A >= 0" + b" and A >= 0" * (size // 11) + b" then A >= 0\n", one, {3, 7})
         attack.files(b"code C in {c" + b",c" * (size // 2) + b"}\n", one, {3, 7})
@@ -185,7 +188,7 @@ def words(attack, examples, dice):
     (attack.folder / "rules").write_bytes(b"number A\n")
     (attack.folder / "records").write_bytes(b"A\n1\n")
     (attack.folder / "folder").mkdir()
-    good = ["edit", "--rules", "rules", "--records", "records", "--released", "other"]
+    good = ["edit", "--rules", "rules", "--records", "records", "--reasons", "why", "--released", "other"]
     attack.words(good, {0})
     for length in range(len(good)):
         attack.words(good[:length], {2})
@@ -193,9 +196,11 @@ def words(attack, examples, dice):
         for word in ("", "-", "--", "--rules", "edit", "rules", "\u00e9", "x" * 100000):
             attack.words(good[:place] + [word] + good[place + 1:], STATUSES - {1})
         attack.words(good[:place] + [good[place]] + good[place:], {2})
-    for place, status in ((2, 5), (4, 5), (6, 6)):
+    for place, status in ((2, 5), (4, 5), (6, 6), (8, 6)):
         for name in ("missing/file", "folder", "rules/file"):
             attack.words(good[:place] + [name] + good[place + 1:], {status})
+    for budget, status in (("1", 1), ("2", 0), ("007", 0), ("1000000000", 0), ("0", 2), ("1000000001", 2), ("99999999999", 2), ("+5", 2), ("", 2), ("1e3", 2)):
+        attack.words(good + ["--budget", budget], {status})
     attack.words(good + ["--help"], {2})
     attack.words([b"edit", b"--rules", b"\xff"], {2})
     attack.end()

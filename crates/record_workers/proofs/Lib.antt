@@ -1,0 +1,3 @@
+pub mod CorrectedLaws
+pub mod EndLaws
+pub mod OverflowLaws

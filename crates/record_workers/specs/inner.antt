@@ -1,0 +1,2 @@
+pub mod Editings
+pub mod Known

@@ -1,0 +1,83 @@
+ghost use Rattle.std.specs.Prelude.{◌≡◌, ◌<◌, IfOk};
+ghost use Rattle.std.specs.Arc.{arc_value};
+ghost use Rattle.std.specs.List.{AllByRecursion};
+ghost use Rattle.edit_model.specs.Rows.{IsRow};
+ghost use Rattle.edit_normal.specs.RuleEdits.{rule_edits};
+ghost use Rattle.record_workers.specs.Ends.{AreEndsOf};
+ghost use Rattle.record_workers.specs.Said.{AllSay};
+ghost use Rattle.record_workers.specs.inner.Editings.{IsEditing, edits_in};
+
+use crate::known_systems::KnownSystems;
+use crate::row_ends::{Editing, edit_record};
+use edit_model::Survey;
+use edit_normal::rule_edits;
+use edit_report::RowEnd;
+use foundation::{OutOfMemory, Steps};
+use linear_elim::Systems;
+use record_text::Sheet;
+use std::alloc::Global;
+use std::marker::Brand;
+use std::sync::Arc;
+use std::sync::ledger::{Blank, Ledger};
+
+/// What becomes of each record of a sheet, in order, without donors: the outcome of its search within the
+/// budget (the most paths and pairs that may be looked at), and the values of its changed fields.
+pub fn edit_records(
+    alloc: Global,
+    survey: &Survey,
+    sheet: &Sheet,
+    budget: u64,
+) -> Result<Vec<RowEnd>, OutOfMemory>
+    requires { AllByRecursion (IsRow survey.now.fields) sheet.now.rows }
+    ensures ends { IfOk result (λ ends. AreEndsOf survey.now (rule_edits survey.now) budget sheet.now.rows ends.items) }
+    ensures say { IfOk result (λ ends. AllSay survey.now (rule_edits survey.now) budget sheet.now.rows ends.items) }
+{
+    ends_of::<Brand>(alloc, survey, sheet, budget, Blank::new(1))
+}
+
+// The same, with a counter of its own.
+fn ends_of<L: Ledger>(
+    alloc: Global,
+    survey: &Survey,
+    sheet: &Sheet,
+    budget: u64,
+    blank: Blank,
+) -> Result<Vec<RowEnd>, OutOfMemory>
+    requires name { blank.name ≡ L.name }
+    requires parts { blank.parts ≡ L.parts }
+    requires counts { 0 < blank.parts }
+    requires rows { AllByRecursion (IsRow survey.now.fields) sheet.now.rows }
+    ensures ends { IfOk result (λ ends. AreEndsOf survey.now (rule_edits survey.now) budget sheet.now.rows ends.items) }
+    ensures say { IfOk result (λ ends. AllSay survey.now (rule_edits survey.now) budget sheet.now.rows ends.items) }
+{
+    let edits = Arc::new(alloc, rule_edits(alloc, survey)?)?;
+    let mut steps = Steps::<L>::start(blank);
+    let editing = Editing {
+        survey,
+        edits: &edits,
+        budget,
+    };
+    let mut source = KnownSystems::new(alloc, Arc::try_clone(&edits)?);
+    edit_all(alloc, &mut source, &editing, sheet, &mut steps)
+}
+
+// What becomes of each record, by any source of systems.
+fn edit_all<S: Systems, L: Ledger>(
+    alloc: Global,
+    source: &mut S,
+    editing: &Editing,
+    sheet: &Sheet,
+    steps: &mut Steps<L>,
+) -> Result<Vec<RowEnd>, OutOfMemory>
+    requires editing { IsEditing editing.now }
+    requires served { S.serves source.old (edits_in editing.now) }
+    requires rows { AllByRecursion (IsRow editing.now.survey.now.fields) sheet.now.rows }
+    ensures ends { IfOk result (λ ends. AreEndsOf editing.now.survey.now (edits_in editing.now) editing.now.budget sheet.now.rows ends.items) }
+    ensures say { IfOk result (λ ends. AllSay editing.now.survey.now (edits_in editing.now) editing.now.budget sheet.now.rows ends.items) }
+{
+    let mut ends = Vec::with_capacity(alloc, sheet.len() as usize)?;
+    for row_no in 0..sheet.len() {
+        ends.push(edit_record(alloc, source, editing, sheet.row(row_no), steps)?)?;
+    }
+    Ok(ends)
+}
