@@ -13,4 +13,5 @@ pub mod StreamLaws
 pub mod TrimLaws
 pub mod ValueLaws
 pub mod ValueOnce
+pub mod WriterLaws
 pub mod WritingLaws
