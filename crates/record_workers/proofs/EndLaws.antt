@@ -1,5 +1,7 @@
-use Rattle.std.proofs.Common.{◌≡◌, ◌↔◌, ◌<◌, ◌≤◌, ◌^◌, ℕ, Bool, true, false, nat_lt, List, Option, None, Some, refl, sym, ap, ◌∙◌, subst, arith, absurd}
-use Rattle.std.proofs.lemmas.Bool.Decides.{Decides-ltb}
+use Rattle.std.proofs.Common.{[], ◌∷◌, ◌++◌, ◌+◌, length, suc, take, get_or, ◌≡◌, ◌↔◌, ◌<◌, ◌≤◌, ◌^◌, ℕ, Bool, true, false, nat_lt, List, Option, None, Some, refl, sym, ap, ◌∙◌, subst, arith}
+use Rattle.std.specs.List.{AllZip}
+use Rattle.std.proofs.Math.Seq.{take-suc}
+use Rattle.std.proofs.lemmas.Bool.Decides.{Decides-ltb, nat_tests}
 use Rattle.edit_model.specs.Corrections.{IsCorrection}
 use Rattle.edit_model.specs.Parts.{SurveyParts}
 use Rattle.edit_model.specs.Points.{Point}
@@ -14,7 +16,8 @@ use Rattle.edit_paths.specs.Cases.{IsCase, Meets, case_of}
 use Rattle.edit_paths.specs.Outcomes.{outcome_of, total_work}
 use Rattle.edit_paths.proofs.BudgetLaws.{enough-budget}
 use Rattle.edit_paths.proofs.ChoiceLaws.{contradictory}
-use Rattle.record_workers.specs.Said.{Says}
+use Rattle.record_workers.specs.Ends.{Follows}
+use Rattle.record_workers.specs.Said.{OutcomeSays}
 use Rattle.record_workers.proofs.OverflowLaws.{step-shown, test-shown}
 
 -- What an outcome other than a change says.
@@ -33,9 +36,31 @@ module _ (survey : SurveyParts) (edits : EditsParts) (row : List Value) (budget 
       by false more =
           absurd (enough-budget (case_of survey edits row) budget (grind (arith, nat_tests, more)) path work e)
 
-  pub no-change-says : (o : Outcome) → o ≡ outcome_of (case_of survey edits row) budget → IsNoChange o → Says survey edits budget row o None
+  pub no-change-says : (o : Outcome) → o ≡ outcome_of (case_of survey edits row) budget → IsNoChange o → OutcomeSays survey edits budget row o None
   no-change-says (outcome.Change path weight cert) e none = absurd (none path weight cert refl)
   no-change-says (outcome.Budget path work) e none = passed path work (sym e)
   no-change-says (outcome.Overflow path (event.Step first second place)) e none = step-shown (case_of survey edits row) budget path first second place (sym e)
   no-change-says (outcome.Overflow path (event.Test line field)) e none = test-shown (case_of survey edits row) budget path line field (sym e)
   no-change-says (outcome.Contradictory cert) e none = λ p correction. contradictory (case_of survey edits row) is budget cert (sym e) p ((same p).1 correction)
+
+  -- nothing follows on it
+  pub no-change-follows : (o : Outcome) → IsNoChange o → Follows survey edits row o None None
+  no-change-follows (outcome.Change path weight cert) none = absurd (none path weight cert refl)
+  no-change-follows (outcome.Budget path work) none = tt
+  no-change-follows (outcome.Overflow path e) none = tt
+  no-change-follows (outcome.Contradictory cert) none = tt
+
+-- ---- the ends of all records
+
+-- one more of each
+pub zip-push : {A B : Type 0} (R : A → B → Type 0) (xs : List A) (ys : List B) (x : A) (y : B) → AllZip R xs ys → R x y → AllZip R (xs ++ x ∷ []) (ys ++ y ∷ [])
+zip-push R [] [] x y each new = (new, tt)
+zip-push R [] (b ∷ ys) x y each new = absurd each
+zip-push R (a ∷ xs) [] x y each new = absurd each
+zip-push R (a ∷ xs) (b ∷ ys) x y each new = (each.0, zip-push R xs ys x y each.1 new)
+
+-- the same of the first elements of a list
+pub zip-more : {A B : Type 0} (R : A → B → Type 0) (xs : List A) (d : A) (k : ℕ) (ys : List B) (y : B) → k < length xs → AllZip R (take k xs) ys → R (get_or xs k d) y → AllZip R (take (k + 1) xs) (ys ++ y ∷ [])
+zip-more R xs d k ys y below each new =
+    let next : k + 1 ≡ suc k = omega arith in
+    rw next (rw (take-suc xs k d below) (zip-push R (take k xs) ys (get_or xs k d) y each new))

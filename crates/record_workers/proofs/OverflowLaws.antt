@@ -1,4 +1,4 @@
-use Rattle.std.proofs.Common.{ap, Bool, List, None, Some, [], absurd, false, if◌then◌else◌, inl, inr, nat_lt, refl, sym, true, ℕ, ◌++◌, ◌+◌, ◌∙◌, ◌∷◌, ◌≡◌}
+use Rattle.std.proofs.Common.{ap, Bool, List, None, Some, [], false, if◌then◌else◌, inl, inr, nat_lt, refl, sym, true, ℕ, ◌++◌, ◌+◌, ◌∙◌, ◌∷◌, ◌≡◌}
 use Rattle.edit_line.specs.Reductions.{IsIn}
 use Rattle.bound_cert.specs.Paths.{path_weight}
 use Rattle.edit_paths.specs.Certificates.{certificate_of}

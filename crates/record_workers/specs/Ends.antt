@@ -1,5 +1,5 @@
 -- What becomes of each record.
-use Rattle.std.specs.Prelude.{◌≡◌, ⊤, ℕ, Bool, List, [], ◌∷◌, Option, Some, None}
+use Rattle.std.specs.Prelude.{◌≡◌, ⊤, ℕ, Bool, List, Option, Some, None}
 use Rattle.edit_model.specs.Parts.{SurveyParts}
 use Rattle.edit_model.specs.declared.value.Value.{Value}
 use Rattle.edit_line.specs.EditSets.{EditsParts}
@@ -48,9 +48,3 @@ pub record IsEndOf (survey : SurveyParts) (edits : EditsParts) (budget : ℕ) (r
   pub outcome : end.proof.outcome ≡ outcome_of (case_of survey edits row) budget
   pub alone : end.donor ≡ None
   pub follows : Follows survey edits row end.proof.outcome end.proof.gift end.gift
-
--- the same of each record, in order
-abbrev pub AreEndsOf : SurveyParts → EditsParts → ℕ → List (List Value) → List RowEnd → Type 0
-AreEndsOf survey edits budget [] [] = ⊤
-AreEndsOf survey edits budget (row ∷ rows) (end ∷ ends) = IsEndOf survey edits budget row end × AreEndsOf survey edits budget rows ends
-AreEndsOf survey edits budget _ _ = ⊥

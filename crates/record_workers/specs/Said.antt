@@ -1,5 +1,5 @@
 -- What the end of a record says of it, in terms of corrections.
-use Rattle.std.specs.Prelude.{◌≡◌, ⊤, ℕ, ◌<◌, Bool, List, [], ◌∷◌, Option, Some, None}
+use Rattle.std.specs.Prelude.{◌≡◌, ⊤, ℕ, ◌<◌, Bool, List, [], Option, Some, None}
 use Rattle.edit_model.specs.Corrections.{IsCorrection, IsFirstLeast, IsLeastWeight, change_weight, word_of}
 use Rattle.edit_model.specs.Parts.{SurveyParts}
 use Rattle.edit_model.specs.Points.{Point}
@@ -25,16 +25,14 @@ pub record IsCorrected (survey : SurveyParts) (row new : List Value) (path : Lis
   pub first : IsFirstLeast survey row path
 
 -- what an outcome says, with the values that were given: they make a correction of least weight; or the budget is less than the search needs; or a number that is named leaves the range; or no point at all is consistent
-abbrev pub Says : SurveyParts → EditsParts → ℕ → List Value → Outcome → Option Gift → Type 0
-Says survey edits budget row (Change path weight cert) (Some gift) = IsCorrected survey row gift.row path weight
-Says survey edits budget row (Change path weight cert) None = ⊤
-Says survey edits budget row (Budget path work) gift = budget < total_work (case_of survey edits row)
-Says survey edits budget row (Overflow path (event.Step first second place)) gift = IsStepOverflow (case_of survey edits row) path first second place
-Says survey edits budget row (Overflow path (event.Test line field)) gift = IsTestOverflow (case_of survey edits row) path line field
-Says survey edits budget row (Contradictory cert) gift = (p : Point) → ¬ IsCorrection survey p
+abbrev pub OutcomeSays : SurveyParts → EditsParts → ℕ → List Value → Outcome → Option Gift → Type 0
+OutcomeSays survey edits budget row (Change path weight cert) (Some gift) = IsCorrected survey row gift.row path weight
+OutcomeSays survey edits budget row (Change path weight cert) None = ⊤
+OutcomeSays survey edits budget row (Budget path work) gift = budget < total_work (case_of survey edits row)
+OutcomeSays survey edits budget row (Overflow path (event.Step first second place)) gift = IsStepOverflow (case_of survey edits row) path first second place
+OutcomeSays survey edits budget row (Overflow path (event.Test line field)) gift = IsTestOverflow (case_of survey edits row) path line field
+OutcomeSays survey edits budget row (Contradictory cert) gift = (p : Point) → ¬ IsCorrection survey p
 
--- the same of each record, in order
-abbrev pub AllSay : SurveyParts → EditsParts → ℕ → List (List Value) → List RowEnd → Type 0
-AllSay survey edits budget [] [] = ⊤
-AllSay survey edits budget (row ∷ rows) (end ∷ ends) = Says survey edits budget row end.proof.outcome end.gift × AllSay survey edits budget rows ends
-AllSay survey edits budget _ _ = ⊥
+-- what the end of a record says of it
+abbrev pub Says : SurveyParts → EditsParts → ℕ → List Value → RowEnd → Type 0
+Says survey edits budget row end = OutcomeSays survey edits budget row end.proof.outcome end.gift

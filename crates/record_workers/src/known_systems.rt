@@ -102,6 +102,7 @@ impl Systems for KnownSystems {
         steps: &mut Steps<L>,
     ) -> Result<Held, SystemFault> {
         if let Some(known) = self.find(fields) {
+            let _lines = known.system.lines(); // read for what it says: they are the system's
             return Ok(Held::Shared(share(&known.system)?));
         }
         match fold_system(alloc, edits, fields, steps) {

@@ -1,14 +1,17 @@
-ghost use Rattle.std.specs.Prelude.{◌≡◌, ◌<◌, IfOk};
+ghost use Rattle.std.specs.Prelude.{◌≡◌, ◌↔◌, ◌<◌, IfOk, map};
 ghost use Rattle.std.specs.Arc.{arc_value};
-ghost use Rattle.std.specs.List.{AllByRecursion};
+ghost use Rattle.std.specs.List.{AllByRecursion, AllZip};
+ghost use Rattle.edit_line.specs.Lines.{AllHold};
+ghost use Rattle.edit_model.specs.Points.{HasCodesFrom, IsConsistent, Point};
 ghost use Rattle.edit_model.specs.Rows.{IsRow};
 ghost use Rattle.edit_normal.specs.RuleEdits.{rule_edits};
-ghost use Rattle.record_workers.specs.Ends.{AreEndsOf};
-ghost use Rattle.record_workers.specs.Said.{AllSay};
+ghost use Rattle.record_workers.specs.Ends.{IsEndOf};
+ghost use Rattle.record_workers.specs.Said.{Says};
 ghost use Rattle.record_workers.specs.inner.Editings.{IsEditing, edits_in};
 
 use crate::known_systems::KnownSystems;
 use crate::row_ends::{Editing, edit_record};
+use edit_line::Edits;
 use edit_model::Survey;
 use edit_normal::rule_edits;
 use edit_report::RowEnd;
@@ -29,8 +32,8 @@ pub fn edit_records(
     budget: u64,
 ) -> Result<Vec<RowEnd>, OutOfMemory>
     requires { AllByRecursion (IsRow survey.now.fields) sheet.now.rows }
-    ensures ends { IfOk result (λ ends. AreEndsOf survey.now (rule_edits survey.now) budget sheet.now.rows ends.items) }
-    ensures say { IfOk result (λ ends. AllSay survey.now (rule_edits survey.now) budget sheet.now.rows ends.items) }
+    ensures ends { IfOk result (λ ends. AllZip (IsEndOf survey.now (rule_edits survey.now) budget) sheet.now.rows ends.items) }
+    ensures say { IfOk result (λ ends. AllZip (Says survey.now (rule_edits survey.now) budget) sheet.now.rows ends.items) }
 {
     ends_of::<Brand>(alloc, survey, sheet, budget, Blank::new(1))
 }
@@ -47,18 +50,30 @@ fn ends_of<L: Ledger>(
     requires parts { blank.parts ≡ L.parts }
     requires counts { 0 < blank.parts }
     requires rows { AllByRecursion (IsRow survey.now.fields) sheet.now.rows }
-    ensures ends { IfOk result (λ ends. AreEndsOf survey.now (rule_edits survey.now) budget sheet.now.rows ends.items) }
-    ensures say { IfOk result (λ ends. AllSay survey.now (rule_edits survey.now) budget sheet.now.rows ends.items) }
+    ensures ends { IfOk result (λ ends. AllZip (IsEndOf survey.now (rule_edits survey.now) budget) sheet.now.rows ends.items) }
+    ensures say { IfOk result (λ ends. AllZip (Says survey.now (rule_edits survey.now) budget) sheet.now.rows ends.items) }
 {
     let edits = Arc::new(alloc, rule_edits(alloc, survey)?)?;
     let mut steps = Steps::<L>::start(blank);
-    let editing = Editing {
-        survey,
-        edits: &edits,
-        budget,
-    };
+    let editing = editing_of(survey, &edits, budget);
     let mut source = KnownSystems::new(alloc, Arc::try_clone(&edits)?);
     edit_all(alloc, &mut source, &editing, sheet, &mut steps)
+}
+
+// By what the survey's records are edited: its edits.
+fn editing_of<'a>(survey: &'a Survey, edits: &'a Arc<Edits>, budget: u64) -> Editing<'a>
+    requires edits { arc_value edits.now ≡ rule_edits survey.now }
+    requires same { (p : Point) → (HasCodesFrom 0 survey.now.fields p × AllHold (map (λ e. e.1) (arc_value edits.now).lines) p) ↔ IsConsistent survey.now p }
+    ensures editing { IsEditing result }
+    ensures survey { result.survey.now ≡ survey.now }
+    ensures edits { edits_in result ≡ rule_edits survey.now }
+    ensures budget { result.budget ≡ budget }
+{
+    Editing {
+        survey,
+        edits,
+        budget,
+    }
 }
 
 // What becomes of each record, by any source of systems.
@@ -72,8 +87,8 @@ fn edit_all<S: Systems, L: Ledger>(
     requires editing { IsEditing editing.now }
     requires served { S.serves source.old (edits_in editing.now) }
     requires rows { AllByRecursion (IsRow editing.now.survey.now.fields) sheet.now.rows }
-    ensures ends { IfOk result (λ ends. AreEndsOf editing.now.survey.now (edits_in editing.now) editing.now.budget sheet.now.rows ends.items) }
-    ensures say { IfOk result (λ ends. AllSay editing.now.survey.now (edits_in editing.now) editing.now.budget sheet.now.rows ends.items) }
+    ensures ends { IfOk result (λ ends. AllZip (IsEndOf editing.now.survey.now (edits_in editing.now) editing.now.budget) sheet.now.rows ends.items) }
+    ensures say { IfOk result (λ ends. AllZip (Says editing.now.survey.now (edits_in editing.now) editing.now.budget) sheet.now.rows ends.items) }
 {
     let mut ends = Vec::with_capacity(alloc, sheet.len() as usize)?;
     for row_no in 0..sheet.len() {

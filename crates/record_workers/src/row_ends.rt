@@ -2,6 +2,7 @@
 ghost use Rattle.std.specs.Prelude.{◌≡◌, IfOk, None, Some};
 ghost use Rattle.edit_line.specs.EditSets.{EditsParts};
 ghost use Rattle.edit_model.specs.Rows.{IsRow};
+ghost use Rattle.edit_paths.specs.Cases.{IsCase};
 ghost use Rattle.edit_paths.specs.Outcomes.{outcome_of};
 ghost use Rattle.bound_cert.specs.declared.outcome.Outcome.TheVariants as outcome;
 ghost use Rattle.record_workers.specs.Ends.{IsEndOf};
@@ -40,9 +41,10 @@ pub(crate) fn edit_record<S: Systems, L: Ledger>(
     requires row { IsRow editing.now.survey.now.fields row.now }
     requires served { S.serves source.old (edits_in editing.now) }
     ensures end { IfOk result (IsEndOf editing.now.survey.now (edits_in editing.now) editing.now.budget row.now) }
-    ensures says { IfOk result (λ end. Says editing.now.survey.now (edits_in editing.now) editing.now.budget row.now end.proof.outcome end.gift) }
+    ensures says { IfOk result (Says editing.now.survey.now (edits_in editing.now) editing.now.budget row.now) }
     ensures serves { (e : EditsParts) → S.serves source.old e → S.serves source.new e }
 {
+    case_known(editing, row);
     match localise(
         alloc,
         source,
@@ -62,6 +64,16 @@ pub(crate) fn edit_record<S: Systems, L: Ledger>(
         ),
         outcome => Ok(left_out(outcome)),
     }
+}
+
+// The survey, its edits and the record are a case. Nothing is computed.
+fn case_known(editing: &Editing, row: &Row)
+    requires editing { IsEditing editing.now }
+    requires row { IsRow editing.now.survey.now.fields row.now }
+    ensures { IsCase (case_in editing.now row.now) }
+{
+    let _fields = editing.survey.fields();
+    let _lines = editing.edits.reduced();
 }
 
 /// A change that was found: its path, its weight, and the tree that shows that none is lighter.
@@ -86,11 +98,10 @@ fn with_values<S: Systems, L: Ledger>(
     requires served { S.serves source.old (edits_in editing.now) }
     requires found { outcome_of (case_in editing.now row.now) editing.now.budget ≡ outcome.Change change.path change.weight change.cert }
     ensures end { IfOk result (IsEndOf editing.now.survey.now (edits_in editing.now) editing.now.budget row.now) }
-    ensures says { IfOk result (λ end. Says editing.now.survey.now (edits_in editing.now) editing.now.budget row.now end.proof.outcome end.gift) }
+    ensures says { IfOk result (Says editing.now.survey.now (edits_in editing.now) editing.now.budget row.now) }
     ensures serves { (e : EditsParts) → S.serves source.old e → S.serves source.new e }
 {
-    let _fields = editing.survey.fields(); // read for what they say: they are in form, and at most 64
-    let _lines = editing.edits.reduced();
+    case_known(editing, row);
     let changed = changed_set(editing.survey, change.path.letters());
     match give(
         alloc,
