@@ -1,9 +1,9 @@
 ghost use Rattle.std.specs.Prelude.{◌≡◌, ◌≤◌, ◌<◌, ℕ, None, IfErr, IfOk, IfSome, OnOk, length, take, vec_len};
-ghost use Rattle.edit_program.specs.Desk.{TakesOneMore, raised};
-ghost use Rattle.edit_program.specs.inner.Reads.{ReadsWhole};
+ghost use Rattle.edit_desk.specs.Desk.{TakesOneMore, raised};
+ghost use Rattle.edit_desk.specs.inner.Reads.{ReadsWhole};
 ghost use Rattle.std.specs.Io.KnownBytes.{Appends};
 
-use crate::desk::calls::{Desk, FetchError, StoreError};
+use crate::calls::{Desk, FetchError, StoreError};
 use std::alloc::{AllocError, Global};
 use std::fs;
 use std::io::{ErrorKind, Read, Write};

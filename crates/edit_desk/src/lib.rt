@@ -1,0 +1,11 @@
+//! Where files come from and go to, and where lines are printed: a trait for each, one of each in memory,
+//! and those of the system. Begin with [`Desk`] and [`Printer`].
+#![tactic(auto)]
+
+mod calls;
+mod file;
+mod memory;
+
+pub use calls::{Desk, FetchError, StoreError};
+pub use file::FileDesk;
+pub use memory::{Failure, MemoryDesk};
