@@ -3,9 +3,19 @@
 #![tactic(auto)]
 
 mod calls;
+mod count;
 mod file;
 mod memory;
+mod out;
+mod page;
+mod printer;
+#[cfg(test)]
+mod tests;
+mod writing;
 
 pub use calls::{Desk, FetchError, StoreError};
 pub use file::FileDesk;
 pub use memory::{Failure, MemoryDesk};
+pub use out::OutPrinter;
+pub use page::MemoryPrinter;
+pub use printer::{PrintFailed, Printer};

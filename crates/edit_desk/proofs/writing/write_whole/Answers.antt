@@ -3,8 +3,8 @@ use Rattle.std.proofs.Common.{rules, ◌≡◌, ℕ, ◌+◌, List, drop, ap, �
 use Rattle.std.proofs.lemmas.List.{drop-drop, take_rest}
 use Rattle.std.proofs.KnownBytes.{Appends-kept}
 use Rattle.edit_desk.proofs.FileLaws.{write_more}
-use Rattle.edit_desk.proofs.file.write_whole.Goals as goal
-use Rattle.edit_desk.proofs.file.write_whole.Goals.{in-Ok, in-Err}
+use Rattle.edit_desk.proofs.writing.write_whole.Goals as goal
+use Rattle.edit_desk.proofs.writing.write_whole.Goals.{in-Ok, in-Err}
 
 pub loop-preserved : goal.loop-preserved
 loop-preserved g c =
