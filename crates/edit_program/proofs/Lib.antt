@@ -1,4 +1,2 @@
-mod FileLaws
-mod MemoryLaws
 mod ReleasedLaws
 mod RunLaws

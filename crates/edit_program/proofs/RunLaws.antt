@@ -7,15 +7,15 @@ use Rattle.edit_model.specs.declared.field.Field.{Field}
 use Rattle.record_text.specs.Sheets.{SheetParts, IsSheet}
 use Rattle.record_text.specs.declared.fault.SheetFault.{SheetFault}
 use Rattle.record_text.specs.declared.fault.SheetFault.TheVariants as sheet
-use Rattle.edit_program.specs.Desk.{Asked, Told, Files, HoldsPrefix, IsLonger, PutsOnRecord, SameElsewhere, Stores, fetched, store_record, stored, failing, after_store, raised}
+use Rattle.edit_desk.specs.Desk.{Asked, Told, Files, HoldsPrefix, IsLonger, PutsOnRecord, SameElsewhere, Stores, fetched, store_record, stored, failing, after_store, raised}
 use Rattle.edit_program.specs.Refusals.{cause_status, refusal_status, sheet_refusal, store_refusal}
 use Rattle.edit_program.specs.Released.{HasReleased, IsRelease}
 use Rattle.edit_program.specs.Run.{AreCallsOf, most_bytes, HoldsText, HoldsRules, HoldsServed, IsCut, IsEdited, Refuses, ShowsCause}
 use Rattle.edit_program.specs.Words.{Names}
 use Rattle.edit_program.specs.inner.Holds.{HoldsNoRecords, HoldsNoRules, HoldsRecords}
 use Rattle.edit_program.specs.inner.Ends.{IsFetchOf, IsOfReading, end_of, faults_after}
-use Rattle.edit_program.specs.declared.desk.calls.StoreError.{StoreError}
-use Rattle.edit_program.specs.declared.desk.calls.StoreError.TheVariants as store
+use Rattle.edit_desk.specs.declared.calls.StoreError.{StoreError}
+use Rattle.edit_desk.specs.declared.calls.StoreError.TheVariants as store
 use Rattle.edit_program.specs.declared.refusal.Cause.{Cause}
 use Rattle.edit_program.specs.declared.refusal.Cause.TheVariants.{TooLong, Rules, Unbuilt, Records}
 use Rattle.edit_program.specs.declared.refusal.Refusal.{Refusal}

@@ -1,6 +1,4 @@
-pub mod Desk
 pub mod Layouts
-pub mod Memory
 pub mod Refusals
 pub mod Released
 pub mod Run

@@ -3,10 +3,10 @@ use Rattle.edit_language.specs.declared.fault.RulesFault.{RulesFault}
 use Rattle.edit_language.specs.declared.fault.RulesFault.TheVariants as rules
 use Rattle.record_text.specs.declared.fault.SheetFault.{SheetFault}
 use Rattle.record_text.specs.declared.fault.SheetFault.TheVariants as sheet
-use Rattle.edit_program.specs.declared.desk.calls.FetchError.{FetchError}
-use Rattle.edit_program.specs.declared.desk.calls.FetchError.TheVariants as fetch
-use Rattle.edit_program.specs.declared.desk.calls.StoreError.{StoreError}
-use Rattle.edit_program.specs.declared.desk.calls.StoreError.TheVariants as store
+use Rattle.edit_desk.specs.declared.calls.FetchError.{FetchError}
+use Rattle.edit_desk.specs.declared.calls.FetchError.TheVariants as fetch
+use Rattle.edit_desk.specs.declared.calls.StoreError.{StoreError}
+use Rattle.edit_desk.specs.declared.calls.StoreError.TheVariants as store
 use Rattle.edit_program.specs.declared.refusal.Cause.{Cause}
 use Rattle.edit_program.specs.declared.refusal.Cause.TheVariants as cause
 use Rattle.edit_program.specs.declared.refusal.Refusal.{Refusal}

@@ -4,7 +4,7 @@ use Rattle.edit_language.specs.Grammar.{IsRuleText}
 use Rattle.edit_model.specs.Bounds.{IsBounded}
 use Rattle.edit_model.specs.Parts.{SurveyParts}
 use Rattle.record_text.specs.Sheets.{SheetParts, IsSheet}
-use Rattle.edit_program.specs.Desk.{Asked, Files, HoldsPrefix, IsLonger, SameElsewhere, failing, fetched, stored}
+use Rattle.edit_desk.specs.Desk.{Asked, Files, HoldsPrefix, IsLonger, SameElsewhere, failing, fetched, stored}
 use Rattle.edit_program.specs.Refusals.{cause_status}
 use Rattle.edit_program.specs.Released.{IsRelease}
 use Rattle.edit_program.specs.Words.{Names}

@@ -1,7 +1,7 @@
 ghost use Rattle.std.specs.Prelude.{◌≡◌, ◌≢◌, ◌↔◌, ℕ, IfErr, IfOk, IfSome, IsErrOf, Err, List};
 ghost use Rattle.edit_model.specs.Bounds.{IsBounded};
 ghost use Rattle.edit_model.specs.Surveys.{IsWellFormed};
-ghost use Rattle.edit_program.specs.Desk.{PutsOnRecord, Told, raised};
+ghost use Rattle.edit_desk.specs.Desk.{PutsOnRecord, Told, raised};
 ghost use Rattle.edit_program.specs.Refusals.{refusal_status};
 ghost use Rattle.edit_program.specs.Released.{HasReleased};
 ghost use Rattle.edit_program.specs.Run.{AreCallsOf, HoldsServed, IsCut, IsEdited, ShowsCause};
@@ -10,7 +10,7 @@ ghost use Rattle.edit_program.specs.inner.Holds.{HoldsRecords};
 ghost use Rattle.edit_program.specs.inner.Ends.{IsFetchOf, IsOfReading, end_of, faults_after};
 ghost use Rattle.record_text.specs.Sheets.{IsSheet};
 
-use crate::desk::Desk;
+use edit_desk::Desk;
 use crate::refusal::{Cause, Refusal};
 use crate::release::release_sheet;
 use crate::status::Status;

@@ -2,7 +2,6 @@
 //! records and stores the result. Begin with [`edit::fh_main`].
 #![tactic(auto)]
 
-pub mod desk;
 pub mod edit;
 mod layout;
 pub mod refusal;
@@ -13,7 +12,7 @@ pub mod status;
 mod tests;
 pub mod words;
 
-use desk::FileDesk;
+use edit_desk::FileDesk;
 use status::Status;
 use std::process::ExitCode;
 

@@ -1,6 +1,6 @@
 ghost use Rattle.std.specs.Prelude.{◌≡◌};
 
-use crate::desk::{FetchError, StoreError};
+use edit_desk::{FetchError, StoreError};
 use crate::status::Status;
 use edit_language::RulesFault;
 use foundation::OutOfMemory;

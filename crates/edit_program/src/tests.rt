@@ -1,6 +1,6 @@
 //! Whole runs of `edit`, over files in memory. What is expected was worked out by hand.
 
-use crate::desk::{Failure, MemoryDesk};
+use edit_desk::{Failure, MemoryDesk};
 use crate::edit::fh_main;
 use crate::status::Status;
 use std::alloc::Global;

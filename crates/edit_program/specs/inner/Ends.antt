@@ -1,6 +1,6 @@
 -- How the parts of an edit end.
 use Rattle.std.specs.Prelude.{◌≡◌, ◌≢◌, ◌⊎◌, ℕ, List, [], ◌∷◌, Result, Ok, Err}
-use Rattle.edit_program.specs.Desk.{Asked, failing, fetched, raised}
+use Rattle.edit_desk.specs.Desk.{Asked, failing, fetched, raised}
 use Rattle.edit_program.specs.Refusals.{refusal_status}
 use Rattle.edit_program.specs.declared.refusal.Refusal.{Refusal}
 use Rattle.edit_program.specs.declared.refusal.Refusal.TheVariants.{Usage, ReadFault, WriteFault}

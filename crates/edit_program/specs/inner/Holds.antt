@@ -4,7 +4,7 @@ use Rattle.edit_language.specs.Grammar.{IsRuleText}
 use Rattle.edit_model.specs.Parts.{SurveyParts}
 use Rattle.edit_model.specs.declared.field.Field.{Field}
 use Rattle.record_text.specs.Sheets.{IsSheet, SheetParts}
-use Rattle.edit_program.specs.Desk.{Files}
+use Rattle.edit_desk.specs.Desk.{Files}
 use Rattle.edit_program.specs.Run.{HoldsText}
 
 -- the file reads as no survey

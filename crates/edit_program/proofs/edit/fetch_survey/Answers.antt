@@ -1,5 +1,5 @@
 use Rattle.std.proofs.Common.{[], ◌∷◌, inr, refl}
-use Rattle.edit_program.specs.Desk.{fetched}
+use Rattle.edit_desk.specs.Desk.{fetched}
 use Rattle.edit_program.proofs.RunLaws.{one_call, rules_served, rules_unserved}
 use Rattle.edit_program.proofs.edit.fetch_survey.Goals as goal
 

@@ -2,9 +2,9 @@
 use Rattle.std.proofs.Common.{rules, ◌≡◌, ℕ, ◌+◌, List, drop, ap, ◌∙◌, Bor}
 use Rattle.std.proofs.lemmas.List.{drop-drop, take_rest}
 use Rattle.std.proofs.KnownBytes.{Appends-kept}
-use Rattle.edit_program.proofs.FileLaws.{write_more}
-use Rattle.edit_program.proofs.desk.file.write_whole.Goals as goal
-use Rattle.edit_program.proofs.desk.file.write_whole.Goals.{in-Ok, in-Err}
+use Rattle.edit_desk.proofs.FileLaws.{write_more}
+use Rattle.edit_desk.proofs.writing.write_whole.Goals as goal
+use Rattle.edit_desk.proofs.writing.write_whole.Goals.{in-Ok, in-Err}
 
 pub loop-preserved : goal.loop-preserved
 loop-preserved g c =

@@ -1,12 +1,13 @@
-ghost use Rattle.std.specs.Prelude.{◌≡◌, ◌≤◌, ◌<◌, ℕ, None, IfErr, IfOk, IfSome, OnOk, length, take, vec_len};
-ghost use Rattle.edit_program.specs.Desk.{TakesOneMore, raised};
-ghost use Rattle.edit_program.specs.inner.Reads.{ReadsWhole};
-ghost use Rattle.std.specs.Io.KnownBytes.{Appends};
+ghost use Rattle.std.specs.Prelude.{◌≡◌, ◌≤◌, ◌<◌, None, IfErr, IfOk, IfSome, length, vec_len};
+ghost use Rattle.edit_desk.specs.Desk.{TakesOneMore};
+ghost use Rattle.edit_desk.specs.inner.Reads.{ReadsWhole};
 
-use crate::desk::calls::{Desk, FetchError, StoreError};
+use crate::calls::{Desk, FetchError, StoreError};
+use crate::count::raise;
+use crate::writing::write_whole;
 use std::alloc::{AllocError, Global};
 use std::fs;
-use std::io::{ErrorKind, Read, Write};
+use std::io::{ErrorKind, Read};
 use std::marker::Model;
 use std::rt::Files;
 
@@ -62,13 +63,6 @@ impl<R: Files + Drop> Desk for FileDesk<R> {
     }
 }
 
-// Counts one more fault, as far as 64 bits go.
-fn raise(faults: &mut u64)
-    ensures { faults.new ≡ raised faults.old }
-{
-    *faults = faults.saturating_add(1);
-}
-
 // The bytes of a file, at most `limit` of them.
 fn read_file<R: Files>(rt: &R, alloc: Global, name: &str, limit: u64) -> Result<Vec<u8>, FetchError>
     ensures within { IfOk result (λ bytes. length bytes.items ≤ limit) }
@@ -86,7 +80,7 @@ fn read_file<R: Files>(rt: &R, alloc: Global, name: &str, limit: u64) -> Result<
 // Puts the bytes into the file, in the place of what it held.
 fn write_file<R: Files>(rt: &R, name: &str, bytes: &[u8]) -> Result<(), StoreError> {
     match fs::create(rt, name) {
-        Ok(mut file) => write_whole(&mut file, bytes),
+        Ok(mut file) => Ok(write_whole(&mut file, bytes)?),
         Err(_) => Err(StoreError::Failed),
     }
 }
@@ -130,26 +124,6 @@ fn read_within<F: Read>(
     Err(FetchError::Failed)
 }
 
-// Writes all the bytes. An interrupted write is tried again, and a file that takes nothing is a fault.
-fn write_whole<F: Write>(file: &mut F, bytes: &[u8]) -> Result<(), StoreError>
-    ensures whole { OnOk result (Appends (F.contents file.old) (F.contents file.new) bytes.now) }
-    ensures part { (kept : ℕ) × Appends (F.contents file.old) (F.contents file.new) (take kept bytes.now) }
-{
-    let mut rest = bytes;
-    for _ in 0..u64::MAX {
-        if rest.is_empty() {
-            return Ok(());
-        }
-        match file.write(rest) {
-            Ok(0) => break,
-            Ok(count) => rest = &rest[count..],
-            Err(error) if error.kind() == ErrorKind::Interrupted => {}
-            Err(_) => break,
-        }
-    }
-    Err(StoreError::Failed)
-}
-
 #[cfg(test)]
 mod tests {
     use super::*;
@@ -159,7 +133,7 @@ mod tests {
     #[test]
     fn five_bytes_come_back(rt: HostRuntime) -> Result<(), Fail> {
         let alloc = rt.alloc();
-        let name = format!(in alloc; "edit-program-desk-{}", process::id(rt.process()))?;
+        let name = format!(in alloc; "edit-desk-{}", process::id(rt.process()))?;
         let folder = env::temp_dir(&rt)?.join(alloc, name.as_str())?;
         let file = folder.join(alloc, "five")?;
         fs::create_dir(&rt, folder.as_path())?;

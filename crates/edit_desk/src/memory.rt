@@ -1,8 +1,8 @@
 ghost use Rattle.std.specs.Prelude.{◌≡◌, ◌⊎◌, ◌+◌, ◌==◌, ◌≤◌, ◌++◌, [], Some, None, IfErr, IfOk, IfSome, IfNone, IsSome, IsErr, IsErrOf, OnOk, OnErr, length, take, find, option_copied};
-ghost use Rattle.edit_program.specs.Desk.{Fetches, Stores, SameElsewhere, TakesOneMore, after_fetch, after_store, fetch_record, store_record};
-ghost use Rattle.edit_program.specs.Memory.{under, named_files, next_failure, faults_of};
+ghost use Rattle.edit_desk.specs.Desk.{Fetches, Stores, SameElsewhere, TakesOneMore, after_fetch, after_store, fetch_record, store_record};
+ghost use Rattle.edit_desk.specs.Memory.{under, named_files, next_failure, faults_of};
 
-use crate::desk::calls::{Desk, FetchError, StoreError};
+use crate::calls::{Desk, FetchError, StoreError};
 use foundation::OutOfMemory;
 use std::alloc::Global;
 use std::collections::BTreeMap;
@@ -34,7 +34,7 @@ pub struct MemoryDesk {
 
 impl Model for MemoryDesk {
     ghost use Rattle.std.specs.Prelude.{map};
-    ghost use Rattle.edit_program.specs.Memory.{Memory, named_files, asked};
+    ghost use Rattle.edit_desk.specs.Memory.{Memory, named_files, asked};
 
     ghost Value = { Memory };
 
@@ -73,7 +73,7 @@ impl MemoryDesk {
 }
 
 impl Desk for MemoryDesk {
-    ghost use Rattle.edit_program.specs.Memory.{under, faults_of};
+    ghost use Rattle.edit_desk.specs.Memory.{under, faults_of};
 
     ghost files = { λ d. Some (under d.files) };
 

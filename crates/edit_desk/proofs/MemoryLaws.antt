@@ -8,7 +8,7 @@ use Rattle.std.specs.Map.{lookup}
 use Rattle.std.specs.BTreeMap.{BTreeMap, get_by_text, is_at}
 use Rattle.std.specs.declared.alloc.Global.{Global}
 use Rattle.std.proofs.lemmas.Map.Text.{is_eq-slice_cmp}
-use Rattle.edit_program.specs.Memory.{named_files, under}
+use Rattle.edit_desk.specs.Memory.{named_files, under}
 
 -- the same entry is found by either test
 found : {A : Type 0} (f : A → List ℕ) (b : Bool) (x : A) (rest : Option A) (others : Option (List ℕ)) → others ≡ option_map f rest → cond b (Some (f x)) others ≡ option_map f (cond b (Some x) rest)

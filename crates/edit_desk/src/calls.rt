@@ -1,7 +1,7 @@
 ghost use Rattle.std.specs.Prelude.{◌≡◌, ◌≤◌, ◌++◌, ℕ, List, Option, IfErr, IfOk, IfSome, IsErrOf, length};
-ghost use Rattle.edit_program.specs.Desk.{Files, Asked, Fetches, Stores, Told, TakesOneMore, after_fetch, after_store, fetch_record, store_record};
-ghost use Rattle.edit_program.specs.declared.desk.calls.FetchError.TheVariants as fetch;
-ghost use Rattle.edit_program.specs.declared.desk.calls.StoreError.TheVariants as store;
+ghost use Rattle.edit_desk.specs.Desk.{Files, Asked, Fetches, Stores, Told, TakesOneMore, after_fetch, after_store, fetch_record, store_record};
+ghost use Rattle.edit_desk.specs.declared.calls.FetchError.TheVariants as fetch;
+ghost use Rattle.edit_desk.specs.declared.calls.StoreError.TheVariants as store;
 
 use foundation::OutOfMemory;
 use std::alloc::{AllocError, Global};

@@ -1,10 +1,10 @@
 -- What the calls of a desk do to its files, and what they leave on record.
 use Rattle.std.specs.Prelude.{◌≡◌, ◌≢◌, ◌⊎◌, ⊤, ℕ, ◌+◌, ◌-◌, ◌^◌, ◌<◌, ◌≤◌, min, Bool, true, false, Option, Some, None, IsSomeAnd, Result, Ok, Err, List, [], ◌∷◌, ◌++◌, length, take, Vec}
 use Rattle.std.specs.declared.alloc.Global.{Global}
-use Rattle.edit_program.specs.declared.desk.calls.FetchError.{FetchError}
-use Rattle.edit_program.specs.declared.desk.calls.FetchError.TheVariants as fetch
-use Rattle.edit_program.specs.declared.desk.calls.StoreError.{StoreError}
-use Rattle.edit_program.specs.declared.desk.calls.StoreError.TheVariants as store
+use Rattle.edit_desk.specs.declared.calls.FetchError.{FetchError}
+use Rattle.edit_desk.specs.declared.calls.FetchError.TheVariants as fetch
+use Rattle.edit_desk.specs.declared.calls.StoreError.{StoreError}
+use Rattle.edit_desk.specs.declared.calls.StoreError.TheVariants as store
 
 -- the bytes that stand under each name, or nothing where no file has that name
 abbrev pub Files : Type 0

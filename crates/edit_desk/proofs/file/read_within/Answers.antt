@@ -3,9 +3,9 @@ use Rattle.std.proofs.Common.{rules, ℕ, ◌∙◌, ap, arith, length, subst, s
 use Rattle.std.specs.declared.alloc.Global.{Global}
 use Rattle.std.specs.Io.KnownBytes.{Consumes}
 use Rattle.std.proofs.KnownBytes.{Consumes-kept}
-use Rattle.edit_program.proofs.FileLaws.{read_more, read_fits}
-use Rattle.edit_program.proofs.desk.file.read_within.Goals as goal
-use Rattle.edit_program.proofs.desk.file.read_within.Goals.{in-Ok-2+in_ok-extend_from_slice-in-Ok-2, in-Err}
+use Rattle.edit_desk.proofs.FileLaws.{read_more, read_fits}
+use Rattle.edit_desk.proofs.file.read_within.Goals as goal
+use Rattle.edit_desk.proofs.file.read_within.Goals.{in-Ok-2+in_ok-extend_from_slice-in-Ok-2, in-Err}
 
 pub loop-preserved : goal.loop-preserved
 loop-preserved g c =

@@ -3,9 +3,9 @@ use Rattle.std.specs.Prelude.{◌==◌, ℕ, ◌+◌, Option, Some, None, List, 
 use Rattle.std.specs.Str.{bytes_eq}
 use Rattle.std.specs.BTreeMap.{BTreeMap}
 use Rattle.std.specs.declared.alloc.Global.{Global}
-use Rattle.edit_program.specs.Desk.{Files, Asked}
-use Rattle.edit_program.specs.declared.desk.memory.Failure.{Failure}
-use Rattle.edit_program.specs.declared.desk.memory.Call.{Call}
+use Rattle.edit_desk.specs.Desk.{Files, Asked}
+use Rattle.edit_desk.specs.declared.memory.Failure.{Failure}
+use Rattle.edit_desk.specs.declared.memory.Call.{Call}
 
 -- the files by name, the calls on record, and the failures that were asked for
 pub record Memory : Type 0 where

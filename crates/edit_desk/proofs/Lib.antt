@@ -1,0 +1,3 @@
+mod FileLaws
+mod MemoryLaws
+mod PrinterLaws

@@ -1,0 +1,5 @@
+pub mod Desk
+pub mod Memory
+pub mod Page
+pub mod Printer
+pub mod inner

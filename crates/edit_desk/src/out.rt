@@ -1,0 +1,58 @@
+ghost use Rattle.std.specs.Prelude.{◌≡◌, ℕ, None, OnOk, take};
+ghost use Rattle.std.specs.Io.KnownBytes.{Appends};
+ghost use Rattle.edit_desk.specs.Printer.{line_of};
+
+use crate::count::raise;
+use crate::printer::{PrintFailed, Printer};
+use crate::writing::write_whole;
+use std::io::{self, Write};
+use std::marker::Model;
+
+/// Lines printed to standard output. What was printed is not told. Contracts see the count of faults alone:
+/// how many lines failed.
+#[derive(Drop)]
+pub struct OutPrinter<R: Print + Drop> {
+    rt: R,
+    faults: u64,
+}
+
+impl<R: Print + Drop> Model for OutPrinter<R> {
+    ghost use Rattle.std.specs.Prelude.{ℕ};
+
+    ghost Value = { ℕ };
+
+    ghost view = { λ p. p.faults };
+}
+
+impl<R: Print + Drop> OutPrinter<R> {
+    /// A printer over the program's standard output, which has met no fault.
+    pub fn new(rt: R) -> Self
+        ensures { result ≡ 0 }
+    {
+        OutPrinter { rt, faults: 0 }
+    }
+}
+
+impl<R: Print + Drop> Printer for OutPrinter<R> {
+    ghost printed = { λ _. None };
+
+    ghost faults = { λ p. p };
+
+    fn line(&mut self, text: &[u8]) -> Result<(), PrintFailed> {
+        let answer = write_line(&mut io::writer(&self.rt), text);
+        if answer.is_err() {
+            raise(&mut self.faults);
+        }
+        answer
+    }
+}
+
+// Writes the text and one line feed, and hands on what the writer still holds.
+fn write_line<W: Write>(to: &mut W, text: &[u8]) -> Result<(), PrintFailed>
+    ensures whole { OnOk result (Appends (W.contents to.old) (W.contents to.new) (line_of text.now)) }
+    ensures part { (kept : ℕ) × Appends (W.contents to.old) (W.contents to.new) (take kept (line_of text.now)) }
+{
+    write_whole(to, text)?;
+    write_whole(to, b"\n")?;
+    to.flush().map_err(|_| PrintFailed)
+}

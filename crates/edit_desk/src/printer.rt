@@ -1,0 +1,21 @@
+ghost use Rattle.std.specs.Prelude.{◌≡◌, ℕ, List, Option};
+ghost use Rattle.edit_desk.specs.Desk.{Told};
+ghost use Rattle.edit_desk.specs.Printer.{Prints, after_line};
+
+/// A line was not printed as a whole.
+#[derive(Clone, Copy, Debug, PartialEq, Eq)]
+pub struct PrintFailed;
+
+/// A place that lines are printed to.
+pub trait Printer {
+    /// What was printed, where the printer tells it.
+    ghost printed: { Self → Option (List ℕ) };
+
+    /// How many lines failed. At the last number of 64 bits the count stands still.
+    ghost faults: { Self → ℕ };
+
+    /// Prints the text and one line feed. Where it fails, some first bytes of them may be printed. No memory.
+    fn line(&mut self, text: &[u8]) -> Result<(), PrintFailed>
+        ensures printed { Told (printed self.old) (printed self.new) (λ old new. Prints old new text.now result) }
+        ensures faults { faults self.new ≡ after_line result (faults self.old) };
+}
