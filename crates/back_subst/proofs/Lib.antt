@@ -20,8 +20,11 @@ pub mod CodeSteps
 pub mod OrderLaws
 pub mod NumberTurns
 pub mod FinalTests
+pub mod CodeOrder
 pub mod CodeTurns
+pub mod CoverCounts
 pub mod StartLaws
+pub mod ListPlaces
 pub mod NumberWalkLaws
 pub mod RowSums
 pub mod ReadyLaws

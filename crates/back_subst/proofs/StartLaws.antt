@@ -30,7 +30,7 @@ use Rattle.back_subst.proofs.WalkLaws.{SameBut, completes-rows, decide-turn, has
 
 -- ---- distinct fields
 
-distinct-filtered : (t : ℕ → Bool) (fields : List ℕ) → AreDistinct fields → AreDistinct (filter t fields)
+pub distinct-filtered : (t : ℕ → Bool) (fields : List ℕ) → AreDistinct fields → AreDistinct (filter t fields)
 distinct-filtered t [] distinct = tt
 distinct-filtered t (i ∷ fields) distinct = by (t i) (distinct-filtered t fields distinct.1)
   where

@@ -18,6 +18,7 @@ use Rattle.back_subst.specs.GiveFaults.{AreGivenFirst}
 use Rattle.back_subst.specs.Given.{number_in, target_of}
 use Rattle.back_subst.specs.NumberWalk.{number_result}
 use Rattle.back_subst.specs.inner.Bounds.{DecideFor}
+use Rattle.back_subst.specs.inner.Codes.{AreCountable}
 use Rattle.back_subst.specs.inner.Systems.{start_lines}
 
 -- the record is Bad exactly at those categorical fields, other than g, that are left
@@ -61,7 +62,7 @@ pub record StopsAmong (survey : SurveyParts) (edits : List LineParts) (target : 
   pub way : IsUnderWay survey edits target row (given ++ first) (field ∷ rest) so_far
   pub stops : number_result (system edits (reverse rest)) so_far field (number_in (target field)) ≡ Err line
 
--- codes are to be given at the fields of an order, by the lines of the system without the changed numerical fields, none of which leaves the range at the record
+-- codes are to be given at the fields of an order, by the lines of the system without the changed numerical fields, none of which leaves the range at the record; the fields are eliminated with few enough pairs
 pub record AreCodesToGive (survey : SurveyParts) (target : ℕ → Value) (lines : List LineParts) (order : List ℕ) (so_far : List Value) : Type 0 where
   pub row : List Value
   pub numbers : List ℕ
@@ -71,4 +72,5 @@ pub record AreCodesToGive (survey : SurveyParts) (target : ℕ → Value) (lines
   pub lines_are : lines ≡ system edits (reverse numbers)
   pub boxes : List (List ℕ)
   pub made : failing_boxes lines row ≡ Ok boxes
+  pub few : AreCountable (shape_of survey.fields) row order boxes
   pub way : IsUnderWay survey edits target row [] (order ++ numbers) so_far
