@@ -125,7 +125,8 @@ fn imputed<S: Systems, L: Ledger>(
     }
 }
 
-// The record with codes at its changed categorical fields, and Bad at the changed numerical ones.
+// The record with codes at its changed categorical fields, and Bad at the changed numerical ones. Where no
+// categorical field is changed, no system is asked for.
 fn with_codes<S: Systems, L: Ledger>(
     alloc: Global,
     source: &mut S,
@@ -148,6 +149,9 @@ fn with_codes<S: Systems, L: Ledger>(
     ensures keeps { (f : ℕ) → S.keeps source.old f ≡ true → S.keeps source.new f ≡ true }
 {
     let mut new = blanked(alloc, survey, row, changed)?;
+    if codes.is_empty() {
+        return Ok(new);
+    }
     match source.system(alloc, edits, set_of(numbers), steps) {
         Ok(held) => {
             give_codes(alloc, survey, held.system().lines(), codes, &mut new, donor)?;
