@@ -84,7 +84,7 @@ past-end [] f out = refl
 past-end (v ∷ row) zero out = absurd (out (omega arith))
 past-end (v ∷ row) (suc f) out = past-end row f (λ below. out (omega arith))
 
-row-size : (fields : List Field) (row : List Value) → IsRow fields row → length row ≡ length (shape_of fields)
+pub row-size : (fields : List Field) (row : List Value) → IsRow fields row → length row ≡ length (shape_of fields)
 row-size [] [] is = refl
 row-size [] (v ∷ row) is = absurd is
 row-size (field ∷ fields) [] is = absurd is
