@@ -1,5 +1,5 @@
-use Rattle.std.proofs.Common.{◌≡◌, inl, inr, ℕ, zero, suc, Vec, Global, ◌+◌, ◌<◌, ◌==◌, ◌||◌, Bool, true, false, if◌then◌else◌, List, [], ◌∷◌, Option, Some, None, IfSome, IfNone, Result, Ok, Err, IfOk, drop, get_or, length, refl, sym, ap, ◌∙◌, subst, arith}
-use Rattle.std.proofs.Math.Seq.{drop-cons}
+use Rattle.std.proofs.Common.{◌≡◌, inl, inr, ℕ, zero, suc, Vec, Global, ◌≢◌, ◌↔◌, ◌+◌, ◌-◌, ◌<◌, ◌==◌, ◌^◌, ◌++◌, ◌||◌, Bool, true, false, if◌then◌else◌, List, [], ◌∷◌, Option, Some, None, IfSome, IfNone, Result, Ok, Err, IfOk, drop, get_or, take, length, refl, sym, ap, ◌∙◌, subst, arith}
+use Rattle.std.proofs.lemmas.List.{take_more}
 use Rattle.std.proofs.lemmas.Bool.Decides.{Decides-eqb}
 use Rattle.edit_model.specs.Rows.{IsOfKind, IsRow, value_of}
 use Rattle.edit_model.specs.Trials.{IsCodeValue}
@@ -15,12 +15,17 @@ use Rattle.edit_line.specs.Sets.{AreSets}
 use Rattle.edit_line.proofs.SetLaws.{AreSets-length}
 use Rattle.edit_line.proofs.ShapeLaws.{length-wholes}
 use Rattle.categ_combine.specs.BoxLists.{AreBoxesOver, sets_of}
+use Rattle.categ_combine.specs.Covers.{cover_count}
 use Rattle.categ_combine.specs.Fixing.{fixed}
+use Rattle.categ_combine.specs.Steps.{IsPassed}
+use Rattle.categ_combine.specs.declared.covered.Covered.{Covered}
+use Rattle.categ_combine.specs.declared.covered.Covered.TheVariants.{Passed}
 use Rattle.categ_combine.specs.declared.box_from.BoxFrom.{BoxFrom}
 use Rattle.back_subst.specs.Given.{IsGivenCode}
-use Rattle.back_subst.specs.inner.Codes.{IsFree, is_free_at, settled_at, settled_but, settled_by}
+use Rattle.back_subst.specs.inner.Codes.{AreCountableBut, IsFree, is_free_at, settled_at, settled_but, settled_by}
 use Rattle.back_subst.specs.inner.UnderWay.{AreBlankBut}
 use Rattle.back_subst.proofs.FieldPoints.{code-at}
+use Rattle.back_subst.proofs.OrderLaws.{parted}
 
 -- The code of a field, as the code finds it.
 
@@ -109,22 +114,43 @@ settled-value fields row left g i boxes is blank there apart = by (value_of row 
     by Bad e true h = rw h refl
     by Bad e false h = absurd (cc (sym h ∙ (blank i there apart).1 e))
 
-module _ (fields : List Field) (row : List Value) (left : List ℕ) (g i : ℕ) (order : List ℕ) (f : ℕ) (boxes whole : List (List ℕ)) (is_row : IsRow fields row) (blank : AreBlankBut (shape_of fields) row left g) (below : i < length order) (f_is : f ≡ get_or order i 0)
-    (there : has_field (code_fields (shape_of fields)) f ≡ true) (before : settled_but (shape_of fields) row left g (drop i order) boxes ≡ whole) where
-  at-field : settled_but (shape_of fields) row left g (drop (suc i) order) (if f == g then boxes else settled_at (shape_of fields) row left f boxes) ≡ whole
-  at-field = ap (λ n. settled_but (shape_of fields) row left g (n ∷ drop (suc i) order) boxes) f_is ∙ ap (λ fs. settled_but (shape_of fields) row left g fs boxes) (sym (drop-cons order i 0 below)) ∙ before
+settled-joined : (shape : List Domain) (row : List Value) (left : List ℕ) (g f : ℕ) (fields : List ℕ) (boxes : List (List ℕ))
+    → settled_but shape row left g (fields ++ f ∷ []) boxes ≡ (if f == g then settled_but shape row left g fields boxes else settled_at shape row left f (settled_but shape row left g fields boxes))
+settled-joined shape row left g f [] boxes = refl
+settled-joined shape row left g f (i ∷ fields) boxes = settled-joined shape row left g f fields (if i == g then boxes else settled_at shape row left i boxes)
 
-  next_place : i + 1 ≡ suc i
-  next_place = omega arith
+module _ (fields : List Field) (row : List Value) (left : List ℕ) (g i : ℕ) (order : List ℕ) (boxes kept : List (List ℕ)) (below : i < length order) (before : kept ≡ settled_but (shape_of fields) row left g (take i order) boxes) where
+  abbrev f : ℕ
+  f = get_or order i 0
 
-  pub passed-by : (f == g) ≡ true → settled_but (shape_of fields) row left g (drop (i + 1) order) boxes ≡ whole
-  passed-by e = ap (λ n. settled_but (shape_of fields) row left g (drop n order) boxes) next_place ∙ ap (λ b. settled_but (shape_of fields) row left g (drop (suc i) order) (if b then boxes else settled_at (shape_of fields) row left f boxes)) (sym e) ∙ at-field
+  -- the boxes after one field more
+  joined : (b : Bool) → (f == g) ≡ b → (if b then kept else settled_at (shape_of fields) row left f kept) ≡ settled_but (shape_of fields) row left g (take (i + 1) order) boxes
+  joined b e =
+      ap (λ bs. if b then bs else settled_at (shape_of fields) row left f bs) before
+      ∙ ap (λ t. if t then settled_but (shape_of fields) row left g (take i order) boxes else settled_at (shape_of fields) row left f (settled_but (shape_of fields) row left g (take i order) boxes)) (sym e)
+      ∙ sym (settled-joined (shape_of fields) row left g f (take i order) boxes) ∙ ap (λ fs. settled_but (shape_of fields) row left g fs boxes) (sym (take_more order i 0 below))
 
-  pub settled-more : (f == g) ≡ false → (next : List (List ℕ)) → next ≡ settled_by (shape_of fields) (value_of row f) f boxes → settled_but (shape_of fields) row left g (drop (i + 1) order) next ≡ whole
-  settled-more e next next_is =
-      ap (λ n. settled_but (shape_of fields) row left g (drop n order) next) next_place
-      ∙ ap (λ bs. settled_but (shape_of fields) row left g (drop (suc i) order) bs) (next_is ∙ settled-value fields row left g f boxes is_row blank there e)
-      ∙ ap (λ b. settled_but (shape_of fields) row left g (drop (suc i) order) (if b then boxes else settled_at (shape_of fields) row left f boxes)) (sym e) ∙ at-field
+  pub passed-by : (f == g) ≡ true → kept ≡ settled_but (shape_of fields) row left g (take (i + 1) order) boxes
+  passed-by e = joined true e
+
+  pub settled-more : IsRow fields row → AreBlankBut (shape_of fields) row left g → has_field (code_fields (shape_of fields)) f ≡ true → (f == g) ≡ false → (next : List (List ℕ)) → next ≡ settled_by (shape_of fields) (value_of row f) f kept
+      → next ≡ settled_but (shape_of fields) row left g (take (i + 1) order) boxes
+  settled-more is_row blank there e next next_is = next_is ∙ settled-value fields row left g f kept is_row blank there e ∙ joined false e
+
+  -- where it has no code, it is eliminated with few pairs
+  pub few-here : IsRow fields row → AreBlankBut (shape_of fields) row left g → has_field (code_fields (shape_of fields)) f ≡ true → (f == g) ≡ false → order ≡ code_fields (shape_of fields) → AreCountableBut (shape_of fields) row left g boxes
+      → ((c : ℕ) → value_of row f ≢ Code c) → cover_count (shape_of fields) kept f < 2 ^ 64
+  few-here is_row blank there e order_is few none =
+      subst (λ bs. cover_count (shape_of fields) bs f < 2 ^ 64) (sym before) (few (take i order) (drop (suc i) order) f (sym order_is ∙ parted order i below) e ((blank f there e).1 (by (value_of row f) refl)))
+    where
+      by : (v : Value) → value_of row f ≡ v → value_of row f ≡ Bad
+      by (Code c) h = absurd (none c h)
+      by (Number x) h = absurd (subst IsCodeValue h ((code-at fields row f is_row there).0 (λ bad. absurd (cc (sym h ∙ bad)))))
+      by Bad h = h
+
+-- an elimination with few pairs is done
+pub not-passed : (told : Covered) (count : ℕ) → told ≡ Passed → (IsPassed told ↔ (2 ^ 64 - 1 < count)) → count < 2 ^ 64 → ⊥
+not-passed told count is same few = let more = same.0 (subst (λ (t : Covered). IsPassed t) (sym is) tt) in omega (arith, more, few)
 
 -- ---- what fixing gives, for the boxes of a survey
 

@@ -1,4 +1,4 @@
-use Rattle.std.proofs.Common.{◌≡◌, ◌≢◌, ℕ, zero, suc, ◌+◌, ◌<◌, ◌==◌, ◌||◌, ◌++◌, Bool, true, false, if◌then◌else◌, List, [], ◌∷◌, All, Ok, drop, get_or, length, reverse, slice_get, slice_set, IsSomeAnd, take, pos, refl, sym, ap, ◌∙◌, subst, arith}
+use Rattle.std.proofs.Common.{◌≡◌, ◌≢◌, ℕ, zero, suc, ◌+◌, ◌<◌, ◌==◌, ◌^◌, ◌||◌, ◌++◌, Bool, true, false, if◌then◌else◌, List, [], ◌∷◌, All, Ok, drop, get_or, length, reverse, slice_get, slice_set, IsSomeAnd, take, pos, refl, sym, ap, ◌∙◌, subst, arith}
 use Rattle.std.proofs.Math.Seq.{drop-cons}
 use Rattle.std.proofs.lemmas.Bool.Decides.{Decides-eqb}
 use Rattle.std.proofs.lemmas.List.{append_assoc, take-append-drop, take_more}
@@ -25,22 +25,24 @@ use Rattle.derivation.proofs.CoverLaws.{code-below}
 use Rattle.linear_elim.specs.Systems.{system}
 use Rattle.linear_elim.proofs.SystemLaws.{HaveShape-system}
 use Rattle.linear_elim.proofs.FlatLaws.{system-flat}
+use Rattle.categ_combine.specs.Covers.{cover_count}
 use Rattle.categ_combine.specs.FailingBoxes.{failing_boxes}
-use Rattle.edit_line.proofs.FieldLists.{has-append}
+use Rattle.edit_line.proofs.FieldLists.{has-append, has-left}
 use Rattle.back_subst.specs.Allowed.{AllowsCode, Completes}
 use Rattle.back_subst.specs.Given.{IsGiven, IsGivenCode}
 use Rattle.back_subst.specs.inner.Bounds.{DecideFor}
-use Rattle.back_subst.specs.inner.Codes.{IsFree, boxes_for}
+use Rattle.back_subst.specs.inner.Codes.{AreCountableBut, IsFree, boxes_for}
 use Rattle.back_subst.specs.inner.UnderWay.{AreBlankBut, AreCodesToGive, IsUnderWay}
 use Rattle.edit_model.specs.RowPoints.{code_in}
 use Rattle.back_subst.proofs.CodeLaws.{absent-joined}
+use Rattle.back_subst.proofs.CodeOrder.{SettlesAlike, other-before, same-left, settled-alike}
 use Rattle.linear_elim.proofs.PointLaws.{number-no_code}
 use Rattle.back_subst.proofs.FieldPoints.{agrees-held, code-at}
 use Rattle.back_subst.proofs.FreeCodes.{allowed-free}
 use Rattle.back_subst.proofs.OrderLaws.{order-categorical, order-numerical, parted}
 use Rattle.back_subst.proofs.RowSums.{boxes-same}
 use Rattle.linear_elim.proofs.ShapeLaws.{derived-shape}
-use Rattle.back_subst.proofs.UnderWayLaws.{own-there, way-turn}
+use Rattle.back_subst.proofs.UnderWayLaws.{distinct-apart, own-there, way-turn}
 use Rattle.back_subst.proofs.WalkLaws.{AllowsCode-rows, IsGivenCode-same, code-given, completes-rows, decide-turn, has-reverse}
 
 -- One code more is given.
@@ -143,6 +145,12 @@ module _ (survey : SurveyParts) (target : ℕ → Value) (lines : List Derived) 
           ap (λ fs. has_field fs k) (sym (append_assoc (take i order) (drop i order) t.numbers) ∙ ap (λ fs. fs ++ t.numbers) (take-append-drop i order)) ∙ has-append k order t.numbers
           ∙ ap (λ b. b || has_field t.numbers k) (false_unless (has_field order k) (λ e. absurd (cc (sym (order-categorical survey.fields order t.numbers t.orders k e) ∙ number-no_code k 0 shape number)))) ∙ outside
 
+  -- a field that is not changed has the value that it had
+  kept-value : (k : ℕ) → has_field (code_fields shape) k ≡ true → has_field order k ≡ false → value_of so_far k ≡ value_of t.row k
+  kept-value k there absent =
+      way.keeps k (ap (λ fs. has_field fs k) (sym (append_assoc (take i order) (drop i order) t.numbers) ∙ ap (λ fs. fs ++ t.numbers) (take-append-drop i order))
+      ∙ absent-joined k order t.numbers absent (false_unless (has_field t.numbers k) (λ e. absurd (cc (sym there ∙ number-no_code k 0 shape (numerical k e))))))
+
   -- so its boxes are those of the record before values were given
   boxes-here : failing_boxes (lines_of lines) so_far ≡ Ok t.boxes
   boxes-here = boxes-same t.row so_far 0 (lines_of lines) [] reads-kept ∙ t.made
@@ -164,6 +172,21 @@ module _ (survey : SurveyParts) (target : ℕ → Value) (lines : List Derived) 
       by true e bad = refl
       by false e bad = absurd (held-here k (code-at survey.fields so_far k way.is_row there).1 (ap (λ b. b || has_field (before ++ t.numbers) k) other ∙ absent-joined k before t.numbers e no_number) bad)
 
+  -- each categorical field that is left is eliminated with few pairs
+  few-here : AreCountableBut shape so_far before g t.boxes
+  few-here first rest k are other left =
+      subst (λ bs. cover_count shape bs k < 2 ^ 64) (settled-alike shape t.row so_far order before g first t.boxes alike) (t.few first rest k are (listed k (ap (λ b. (g == k) || b) left ∙ or_true (g == k))))
+    where
+      apart : has_field before g ≡ false
+      apart = false_unless (has_field before g) (λ e. absurd (cc (sym (distinct-apart (take i order) (before ++ t.numbers) g way-here.distinct).1 ∙ has-left g before t.numbers e)))
+
+      alike : (j : ℕ) → has_field first j ≡ true → SettlesAlike shape t.row so_far order before g j
+      alike j there = record {
+        other = other-before survey.fields order t.numbers t.orders (take i order) g before (parted order i below) apart first k rest are left j there;
+        left = same-left survey.fields order t.numbers t.orders (take i order) g before (parted order i below) apart first k rest are left j there;
+        kept = λ absent. kept-value j (ap (λ fs. has_field fs j) are ∙ has-left j first (k ∷ rest) there) absent;
+      }
+
   same-fields : (k : ℕ) → has_field (g ∷ (before ++ numbers)) k ≡ has_field (g ∷ (before ++ t.numbers)) k
   same-fields k = ap (λ b. (g == k) || b) (has-append k before numbers ∙ ap (λ b. has_field before k || b) (has-reverse k t.numbers) ∙ sym (has-append k before t.numbers))
 
@@ -182,12 +205,14 @@ module _ (survey : SurveyParts) (target : ℕ → Value) (lines : List Derived) 
   all-numbers fs each = all-in (IsNumerical shape) (reverse fs) (λ k there. each k (sym (has-reverse k fs) ∙ there-has k (reverse fs) there))
 
   -- so some code is free
-  pub some-here : (left : List ℕ) × AreBlankBut shape so_far left g × (boxes : List (List ℕ)) × (failing_boxes (lines_of lines) so_far ≡ Ok boxes) × ((code : ℕ) × IsFree shape (boxes_for shape so_far left g boxes) g code)
+  pub some-here : (left : List ℕ) × AreBlankBut shape so_far left g × (boxes : List (List ℕ)) × (failing_boxes (lines_of lines) so_far ≡ Ok boxes) × AreCountableBut shape so_far left g boxes
+      × ((code : ℕ) × IsFree shape (boxes_for shape so_far left g boxes) g code)
   some-here = (
     before,
     blank-here,
     t.boxes,
     boxes-here,
+    few-here,
     (
       way-here.point.code g,
       (allowed-free survey t.edits so_far g before numbers way.is_row t.over decide-here categorical-here (all-numbers t.numbers numerical) before-categorical lines t.lines_are t.boxes boxes-here way-here.point completes-here (way-here.point.code g)).0

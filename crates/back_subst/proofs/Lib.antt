@@ -19,17 +19,23 @@ pub mod UnderWayLaws
 pub mod CodeSteps
 pub mod OrderLaws
 pub mod NumberTurns
+pub mod FaultLaws
 pub mod FinalTests
+pub mod CodeOrder
 pub mod CodeTurns
+pub mod CoverCounts
 pub mod StartLaws
+pub mod ListPlaces
 pub mod NumberWalkLaws
 pub mod RowSums
+pub mod SameNumbers
 pub mod ReadyLaws
 pub mod NeedLaws
 pub mod GiftLaws
 pub mod BlankLaws
 pub mod ChangeLaws
 pub mod PathSetLaws
+pub mod GivenAlike
 pub mod HowLaws
 pub mod ValueLaws
 mod TestRecords

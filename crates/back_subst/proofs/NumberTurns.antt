@@ -26,12 +26,13 @@ use Rattle.back_subst.specs.Allowed.{AllowsNumber}
 use Rattle.back_subst.specs.Given.{IsGiven, number_in}
 use Rattle.back_subst.specs.NumberWalk.{number_result}
 use Rattle.back_subst.specs.inner.Systems.{start_lines, system_left}
-use Rattle.back_subst.specs.inner.UnderWay.{AreOrders, IsUnderWay, StopsAmong}
+use Rattle.back_subst.specs.inner.UnderWay.{AreComputedBy, AreDistinct, AreOrders, IsUnderWay, StopsAmong}
 use Rattle.back_subst.proofs.FieldPoints.{number-at}
+use Rattle.back_subst.proofs.GivenAlike.{computed-turn}
 use Rattle.back_subst.proofs.NumberWalkLaws.{walked-number}
-use Rattle.back_subst.proofs.OrderLaws.{chosen-rest, field-numerical, parted}
+use Rattle.back_subst.proofs.OrderLaws.{chosen-rest, field-numerical, order-numerical, parted}
 use Rattle.back_subst.proofs.SystemLines.{system-first}
-use Rattle.back_subst.proofs.UnderWayLaws.{distinct-apart, own-there, way-turn}
+use Rattle.back_subst.proofs.UnderWayLaws.{distinct-apart, distinct-part, own-there, way-turn}
 use Rattle.back_subst.proofs.WalkLaws.{AllowsNumber-rows, IsGivenNumber-same, completes-rows, decide-turn, has-reverse, number-given}
 
 -- One number more is given.
@@ -115,6 +116,23 @@ module _ (survey : SurveyParts) (e : EditsParts) (codes order : List ℕ) (order
           numerical-here (subst (λ fs. All (IsNumerical (shape_of survey.fields)) fs) chosen-is (chosen-numerical (shape_of survey.fields) left)) (has-reverse f rest ∙ apart)
           way-here.point (completes-rows survey (f ∷ rest) (f ∷ reverse rest) so_far so_far same-fields (refl, λ k outside. refl) way-here.point way-here.completes) rests (number_in (target f)) (ratio_of x) nearest)
 
+      -- each number is still what its system gives, and this one too
+      pub computed-turned : AreComputedBy (start_lines e) target so_far (take i order) (drop i order) → AreComputedBy (start_lines e) target (slice_set so_far f (Number x)) (take (i + 1) order) (drop (i + 1) order)
+      computed-turned computed =
+          subst (λ n. AreComputedBy (start_lines e) target (slice_set so_far f (Number x)) (take (i + 1) order) (drop n order)) next
+          (subst (λ fs. AreComputedBy (start_lines e) target (slice_set so_far f (Number x)) fs rest) (sym (take_more order i 0 below))
+          (computed-turn survey (start_lines e) over target so_far way-here.is_row f rest x within-here (take i order) numerical-listed apart-done (subst (λ fs. AreComputedBy (start_lines e) target so_far (take i order) fs) (drop-cons order i 0 below) computed)
+          (ap (λ ls. number_result ls so_far f (number_in (target f))) (sym system-is) ∙ found)))
+        where
+          next : suc i ≡ i + 1
+          next = omega arith
+
+          apart-done : has_field (take i order) f ≡ false
+          apart-done = (distinct-apart (take i order) rest f (distinct-part given (take i order ++ f ∷ rest) (subst (λ fs. AreDistinct fs) (append_assoc given (take i order) (f ∷ rest)) way-here.distinct))).0
+
+          numerical-listed : (k : ℕ) → has_field (take i order ++ f ∷ rest) k ≡ true → has_field (number_fields (shape_of survey.fields)) k ≡ true
+          numerical-listed k there = order-numerical survey.fields codes order orders k (ap (λ fs. has_field fs k) (parted order i below) ∙ there)
+
       -- the number is given
       pub number-turned : IsUnderWay survey (start_lines e) target row (given ++ take (i + 1) order) (drop (i + 1) order) (slice_set so_far f (Number x))
       number-turned =
@@ -126,13 +144,14 @@ module _ (survey : SurveyParts) (e : EditsParts) (codes order : List ℕ) (order
           next = omega arith
 
     -- or a number of it leaves the range
-    pub number-stopped : (line : ℕ) → number_result (system_left e left) so_far f (number_in (target f)) ≡ Err line → StopsAmong survey (start_lines e) target row given order f line
-    number-stopped line out = record {
+    pub number-stopped : (line : ℕ) → AreComputedBy (start_lines e) target so_far (take i order) (drop i order) → number_result (system_left e left) so_far f (number_in (target f)) ≡ Err line → StopsAmong survey (start_lines e) target row given order f line
+    number-stopped line computed out = record {
       first = take i order;
       rest = rest;
       order_is = parted order i below;
       so_far = so_far;
       way = way-here;
+      computed = subst (λ fs. AreComputedBy (start_lines e) target so_far (take i order) fs) (drop-cons order i 0 below) computed;
       stops = ap (λ ls. number_result ls so_far f (number_in (target f))) (sym system-is) ∙ out;
     }
 

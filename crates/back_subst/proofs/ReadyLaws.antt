@@ -18,8 +18,8 @@ use Rattle.edit_line.specs.Lines.{AllHold, HaveShape, LineParts}
 use Rattle.edit_line.specs.Reductions.{reduce_derived}
 use Rattle.edit_line.specs.Shapes.{code_fields, domain_of, has_field, number_fields, shape_of}
 use Rattle.edit_line.specs.declared.derived.Derived.{Derived}
-use Rattle.edit_line.proofs.FieldLists.{has-append}
-use Rattle.edit_line.proofs.ShapeLaws.{same_fields}
+use Rattle.edit_line.proofs.FieldLists.{has-append, has-filter}
+use Rattle.edit_line.proofs.ShapeLaws.{same_codes, same_fields}
 use Rattle.linear_elim.specs.Systems.{SystemOverflow, system, system_of}
 use Rattle.linear_elim.proofs.FoldLaws.{start-same}
 use Rattle.categ_combine.specs.BoxLists.{sets_of}
@@ -34,7 +34,7 @@ use Rattle.edit_paths.specs.declared.state.PathState.TheVariants.{ClosedBad, Ope
 use Rattle.edit_paths.proofs.CaseSystems.{start_over}
 use Rattle.edit_paths.proofs.ChildLaws.{chosen-changed}
 use Rattle.edit_paths.proofs.ChoiceLaws.{word-at}
-use Rattle.edit_paths.proofs.LetterLaws.{count-kinds, number-field, order-shape}
+use Rattle.edit_paths.proofs.LetterLaws.{code-field, count-kinds, number-field, order-shape}
 use Rattle.edit_paths.proofs.OpenPaths.{open-point}
 use Rattle.back_subst.specs.Allowed.{AgreesBut, Completes}
 use Rattle.back_subst.specs.Gifts.{CanGive, path_of}
@@ -42,8 +42,10 @@ use Rattle.back_subst.specs.Given.{giving_order}
 use Rattle.back_subst.specs.inner.Bounds.{DecideFor}
 use Rattle.back_subst.specs.inner.Systems.{start_lines}
 use Rattle.back_subst.specs.inner.UnderWay.{AreCodesToGive, AreOrders, IsUnderWay}
+use Rattle.back_subst.proofs.CoverCounts.{few-pairs}
 use Rattle.back_subst.proofs.StartLaws.{field-either, order-changed, order-there, start-way}
 use Rattle.back_subst.proofs.SystemLines.{system-is}
+use Rattle.back_subst.proofs.WalkLaws.{has-reverse}
 
 -- What an open path tells before values are given.
 
@@ -114,13 +116,13 @@ module _ (survey : SurveyParts) (edits : EditsParts) (row : List Value) (changed
 
   -- ---- the system, and its boxes
 
-  record AreInRange : Type 0 where
+  pub record AreInRange : Type 0 where
     pub lines : List Derived
     pub system : system_of edits.lines (changed_numbers c path) ≡ Ok lines
     pub boxes : List BoxFrom
     pub made : failing_from 0 lines row [] ≡ Ok boxes
 
-  in-range : AreInRange
+  pub in-range : AreInRange
   in-range = by_bad (keeps_bad survey.fields row path) can.path
     where
       at_boxes : (lines : List Derived) → system_of edits.lines (changed_numbers c path) ≡ Ok lines → (r : Result (List BoxFrom) LineFault) → failing_from 0 lines row [] ≡ r → state_with_boxes c path lines r ≡ Open → AreInRange
@@ -154,14 +156,12 @@ module _ (survey : SurveyParts) (edits : EditsParts) (row : List Value) (changed
     system-made = (in-range.lines, ap (λ fs. system_of edits.lines fs) chosen ∙ in-range.system)
 
     -- and none of its sums at the record
-    pub boxes-made : (lines : List LineParts) → lines ≡ system (start_lines edits) (reverse numbers) → (boxes : List (List ℕ)) × (failing_boxes lines row ≡ Ok boxes)
-    boxes-made lines are = (
-      sets_of in-range.boxes,
-      ap (λ (ls : List LineParts). failing_boxes ls row) (are ∙ ap (λ fs. system (start_lines edits) fs) chosen ∙ sym (system-is edits (changed_numbers c path) in-range.lines in-range.system)) ∙ failing-sets in-range.lines row in-range.boxes in-range.made,
-    )
+    boxes-made : (lines : List LineParts) → lines ≡ system (start_lines edits) (reverse numbers) → failing_boxes lines row ≡ Ok (sets_of in-range.boxes)
+    boxes-made lines are =
+        ap (λ (ls : List LineParts). failing_boxes ls row) (are ∙ ap (λ fs. system (start_lines edits) fs) chosen ∙ sym (system-is edits (changed_numbers c path) in-range.lines in-range.system)) ∙ failing-sets in-range.lines row in-range.boxes in-range.made
 
     module _ (codes : List ℕ) (orders : AreOrders survey.fields codes numbers) (same : orders.changed ≡ changed) (target : ℕ → Value) (blank : List Value) (is_blank : IsRow survey.fields blank)
-        (bad : (f : ℕ) → has_number changed f ≡ true → value_of blank f ≡ Bad) (kept : (f : ℕ) → has_number changed f ≡ false → value_of blank f ≡ value_of row f) (lines : List LineParts) (are : lines ≡ system (start_lines edits) (reverse numbers)) where
+        (bad : (f : ℕ) → has_number changed f ≡ true → value_of blank f ≡ Bad) (kept : (f : ℕ) → has_number changed f ≡ false → value_of blank f ≡ value_of row f) where
       order-is : order ≡ codes ++ numbers
       order-is =
           ap (λ fs. fs ++ reverse (filter (has_number changed) (corrections.number_fields survey.fields))) (sym (orders.codes_are ∙ ap (λ n. reverse (filter (has_number n) (corrections.code_fields survey.fields))) same)) ∙ ap (λ fs. codes ++ fs) (sym numbers_are)
@@ -169,20 +169,34 @@ module _ (survey : SurveyParts) (edits : EditsParts) (row : List Value) (changed
       pub way : IsUnderWay survey (start_lines edits) target row [] (codes ++ numbers) blank
       way = subst (λ fs. IsUnderWay survey (start_lines edits) target row [] fs blank) order-is (start-way survey changed (start_lines edits) target row blank can.is_row is_blank bad kept decide possible.0 possible.1)
 
-      -- codes can be given to the record without its changed values
-      abbrev pub codes-ready : AreCodesToGive survey target lines codes blank
-      codes-ready = record {
-        row = row;
-        numbers = numbers;
-        edits = start_lines edits;
-        orders = orders;
-        over = over;
-        lines_are = are;
-        boxes = (boxes-made lines are).0;
-        made = (boxes-made lines are).1;
-        way = way;
-      }
+      -- where there are no codes to give, numbers can be given
+      pub no-codes : codes ≡ [] → IsUnderWay survey (start_lines edits) target row codes numbers blank
+      no-codes none =
+          subst (λ fs. IsUnderWay survey (start_lines edits) target row fs numbers blank) (sym none) (subst (λ fs. IsUnderWay survey (start_lines edits) target row [] (fs ++ numbers) blank) none way)
 
-      -- and when they are, numbers can be
-      pub codes-given : (new : List Value) → ((t : AreCodesToGive survey target lines codes blank) → IsUnderWay survey t.edits target t.row codes t.numbers new) → IsUnderWay survey (start_lines edits) target row codes numbers new
-      codes-given new given = given codes-ready
+      -- the codes change just where the path does
+      codes-changed : (f : ℕ) → has_field (code_fields (shape_of survey.fields)) f ≡ true → has_field codes f ≡ changes survey.fields path f
+      codes-changed f there =
+          ap (λ fs. has_field fs f) (orders.codes_are ∙ ap (λ n. reverse (filter (has_number n) (corrections.code_fields survey.fields))) same ∙ ap (λ fs. reverse (filter (has_number changed) fs)) (same_codes (corrections.code_fields survey.fields) survey.fields (shape_of survey.fields) refl refl))
+          ∙ has-reverse f (filter (has_number changed) (code_fields (shape_of survey.fields))) ∙ has-filter (has_number changed) f (code_fields (shape_of survey.fields)) there ∙ sym (changes-is f (code-field c f there))
+
+      module _ (lines : List LineParts) (are : lines ≡ system (start_lines edits) (reverse numbers)) where
+        -- codes can be given to the record without its changed values
+        pub codes-ready : AreCodesToGive survey target lines codes blank
+        codes-ready = record {
+          row = row;
+          numbers = numbers;
+          edits = start_lines edits;
+          orders = orders;
+          over = over;
+          lines_are = are;
+          boxes = sets_of in-range.boxes;
+          made = boxes-made lines are;
+          few = few-pairs c path complete codes codes-changed can.few in-range.lines in-range.boxes in-range.system in-range.made;
+          way = way;
+        }
+
+        -- and when they are, numbers can be
+        pub codes-given : (new : List Value) → ((t : AreCodesToGive survey target lines codes blank) → IsUnderWay survey t.edits target t.row codes t.numbers new) → IsUnderWay survey (start_lines edits) target row codes numbers new
+        unfolding codes-ready
+        codes-given new given = given codes-ready

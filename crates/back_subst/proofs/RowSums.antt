@@ -23,7 +23,7 @@ module _ (row new : List Value) where
       by true e = refl
       by false e = ap (λ (v : Value). sum_with sum a v) (same (λ none. absurd (cc (sym e ∙ (Decides-int_eq a (pos 0)).1 none))))
 
-  sum-same : (fields : List ℕ) (factors : List ℤ) (sum : Ratio) → AtFactors (λ f. value_of new f ≡ value_of row f) fields factors → sum_from fields factors new sum ≡ sum_from fields factors row sum
+  pub sum-same : (fields : List ℕ) (factors : List ℤ) (sum : Ratio) → AtFactors (λ f. value_of new f ≡ value_of row f) fields factors → sum_from fields factors new sum ≡ sum_from fields factors row sum
   sum-same [] factors sum same = refl
   sum-same (f ∷ fields) [] sum same = refl
   sum-same (f ∷ fields) (a ∷ factors) sum same =

@@ -30,7 +30,7 @@ use Rattle.back_subst.proofs.WalkLaws.{SameBut, completes-rows, decide-turn, has
 
 -- ---- distinct fields
 
-distinct-filtered : (t : ℕ → Bool) (fields : List ℕ) → AreDistinct fields → AreDistinct (filter t fields)
+pub distinct-filtered : (t : ℕ → Bool) (fields : List ℕ) → AreDistinct fields → AreDistinct (filter t fields)
 distinct-filtered t [] distinct = tt
 distinct-filtered t (i ∷ fields) distinct = by (t i) (distinct-filtered t fields distinct.1)
   where
@@ -84,7 +84,7 @@ past-end [] f out = refl
 past-end (v ∷ row) zero out = absurd (out (omega arith))
 past-end (v ∷ row) (suc f) out = past-end row f (λ below. out (omega arith))
 
-row-size : (fields : List Field) (row : List Value) → IsRow fields row → length row ≡ length (shape_of fields)
+pub row-size : (fields : List Field) (row : List Value) → IsRow fields row → length row ≡ length (shape_of fields)
 row-size [] [] is = refl
 row-size [] (v ∷ row) is = absurd is
 row-size (field ∷ fields) [] is = absurd is

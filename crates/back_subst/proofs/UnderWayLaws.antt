@@ -52,6 +52,11 @@ other-field f i left absent = by (f == i) refl absent
     by true e h = absurd (cc)
     by false e h = (λ same. absurd (cc (sym e ∙ (Decides-eqb f i).1 same)), h)
 
+-- the later of distinct fields
+pub distinct-part : (given left : List ℕ) → AreDistinct (given ++ left) → AreDistinct left
+distinct-part [] left distinct = distinct
+distinct-part (g ∷ given) left distinct = distinct-part given left distinct.1
+
 -- a field of distinct ones is not there again
 pub distinct-apart : (given left : List ℕ) (f : ℕ) → AreDistinct (given ++ f ∷ left) → (has_field given f ≡ false) × (has_field left f ≡ false)
 distinct-apart [] left f distinct = (refl, distinct.0)
@@ -72,7 +77,7 @@ module _ (survey : SurveyParts) (edits : List LineParts) (target : ℕ → Value
   abbrev next : List Value
   next = slice_set so_far f v
 
-  same-but : (fields : List ℕ) → has_field fields f ≡ true → SameBut fields so_far next
+  pub same-but : (fields : List ℕ) → has_field fields f ≡ true → SameBut fields so_far next
   same-but fields there = (length-set so_far f v, λ i outside. value-other so_far f i v (λ same. absurd (cc (sym outside ∙ ap (λ n. has_field fields n) (sym same) ∙ there))))
 
   first-turn : (given : List ℕ) → has_field given f ≡ false → AreGivenFirst survey target so_far given (f ∷ left) → IsGiven survey so_far (f ∷ left) f (target f) v → AreGivenFirst survey target next (given ++ f ∷ []) left

@@ -1,33 +1,49 @@
-use Rattle.std.specs.Prelude.{◌≡◌, ◌<◌, ℕ, ◌++◌, true, false, List, [], ◌∷◌, Option, Some, None, Ok, Err, reverse, slice_get}
+use Rattle.std.specs.Prelude.{◌≡◌, ◌<◌, ℕ, ◌++◌, true, false, List, [], ◌∷◌, Option, Some, None, Result, Ok, Err, reverse, slice_get}
+use Rattle.fraction128.specs.Formulas.{Ratio, ratio_of}
+use Rattle.fraction128.specs.declared.fraction.Fraction.{Fraction}
 use Rattle.edit_model.specs.FieldSets.{has_number}
 use Rattle.edit_model.specs.Parts.{SurveyParts}
-use Rattle.edit_model.specs.Rows.{value_of}
+use Rattle.edit_model.specs.Rows.{IsRow, value_of}
 use Rattle.edit_model.specs.Trials.{rule_at}
 use Rattle.edit_model.specs.declared.rule.Rule.{Rule}
 use Rattle.edit_model.specs.declared.value.Value.{Value}
+use Rattle.edit_model.specs.declared.value.Value.TheVariants.{Number}
 use Rattle.edit_line.specs.EditSets.{EditsParts}
 use Rattle.edit_line.specs.Reductions.{lines_of}
 use Rattle.edit_line.specs.declared.derived.Derived.{Derived}
 use Rattle.linear_elim.specs.Systems.{system_of}
 use Rattle.back_subst.specs.Given.{IsGiven, IsImputed, giving_order, number_in, target_of}
 use Rattle.back_subst.specs.NumberWalk.{number_result}
+use Rattle.back_subst.specs.declared.gift.GiveFault.{GiveFault}
+use Rattle.back_subst.specs.declared.gift.GiveFault.TheVariants.{Bound, OutOfMemory, Test}
 
 -- the first fields of an order are given values, where the others are left
 abbrev pub AreGivenFirst : SurveyParts → (ℕ → Value) → List Value → List ℕ → List ℕ → Type 0
 AreGivenFirst survey target row [] left = Unit {0}
 AreGivenFirst survey target row (f ∷ fields) left = IsGiven survey row (f ∷ (fields ++ left)) f (target f) (value_of row f) × AreGivenFirst survey target row fields left
 
--- the giving stopped at a numerical field, at a line of the system of the edits without those that are left after it: the values before were given, and a number of the field's leaves the range first there
+-- what the formulas give a numerical field of the record, where others are left after it, by the system of the edits without these: a number, or the place of the first line at which one leaves the range
+abbrev pub IsComputed : EditsParts → (ℕ → Value) → List Value → ℕ → List ℕ → Result Ratio ℕ → Type 0
+IsComputed edits target row f left told =
+    (lines : List Derived) × (system_of edits.lines (reverse left) ≡ Ok lines) × (number_result (lines_of lines) row f (number_in (target f)) ≡ told)
+
+-- each number at the first fields of an order, where the others are left, is what the formulas give
+abbrev pub AreComputed : EditsParts → (ℕ → Value) → List Value → List ℕ → List ℕ → Type 0
+AreComputed edits target row [] left = Unit {0}
+AreComputed edits target row (f ∷ fields) left =
+    ((x : Fraction) → value_of row f ≡ Number x → IsComputed edits target row f (fields ++ left) (Ok (ratio_of x))) × AreComputed edits target row fields left
+
+-- the giving stopped at a numerical field, at a line of the system of the edits without those that are left after it: the values before were given, by formulas in range, and a number of the field's leaves the range first there
 pub record StopsAtLine (survey : SurveyParts) (edits : EditsParts) (row : List Value) (changed : ℕ) (donor : Option (List Value)) (field line : ℕ) : Type 0 where
   pub given : List ℕ
   pub left : List ℕ
   pub order : giving_order survey.fields changed ≡ given ++ field ∷ left
   pub so_far : List Value
+  pub fits : IsRow survey.fields so_far
   pub keeps : (f : ℕ) → has_number changed f ≡ false → value_of so_far f ≡ value_of row f
   pub first : AreGivenFirst survey (target_of donor) so_far given (field ∷ left)
-  pub lines : List Derived
-  pub system : system_of edits.lines (reverse left) ≡ Ok lines
-  pub stops : number_result (lines_of lines) so_far field (number_in (target_of donor field)) ≡ Err line
+  pub computed : AreComputed edits (target_of donor) so_far given (field ∷ left)
+  pub stops : IsComputed edits (target_of donor) so_far field left (Err line)
 
 -- the rule is the first of which the final test at the record leaves the range; those before it hold
 pub record IsFirstOut (survey : SurveyParts) (row : List Value) (rule : ℕ) : Type 0 where
@@ -40,8 +56,15 @@ pub record IsFirstOut (survey : SurveyParts) (row : List Value) (rule : ℕ) : T
 abbrev pub AllHoldAt : SurveyParts → List Value → Type 0
 AllHoldAt survey row = (k : ℕ) (rule : Rule) → slice_get survey.rules k ≡ Some rule → rule_at rule row ≡ Some true
 
--- all values were given, and the final test leaves the range at the rule
-pub record StopsAtRule (survey : SurveyParts) (row : List Value) (changed : ℕ) (donor : Option (List Value)) (rule : ℕ) : Type 0 where
+-- all values were given, by formulas in range, and the final test leaves the range at the rule
+pub record StopsAtRule (survey : SurveyParts) (edits : EditsParts) (row : List Value) (changed : ℕ) (donor : Option (List Value)) (rule : ℕ) : Type 0 where
   pub new : List Value
   pub imputed : IsImputed survey row changed donor new
+  pub computed : AreComputed edits (target_of donor) new (giving_order survey.fields changed) []
   pub first : IsFirstOut survey new rule
+
+-- the formulas show the fault: the giving stops there
+abbrev pub Shows : SurveyParts → EditsParts → List Value → ℕ → Option (List Value) → GiveFault → Type 0
+Shows survey edits row changed donor (Bound field line) = StopsAtLine survey edits row changed donor field line
+Shows survey edits row changed donor (Test rule) = StopsAtRule survey edits row changed donor rule
+Shows survey edits row changed donor OutOfMemory = ⊥

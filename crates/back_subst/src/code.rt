@@ -1,5 +1,5 @@
 //! The code that is given to a categorical field.
-ghost use Rattle.std.specs.Prelude.{◌≡◌, ◌<◌, ◌==◌, ◌↔◌, Ok, false, true, All, IfNone, IfOk, IfSome, IsTrue, List, ℕ, length, slice_index_or};
+ghost use Rattle.std.specs.Prelude.{◌≡◌, ◌≢◌, ◌<◌, ◌==◌, ◌^◌, ◌↔◌, Ok, false, true, All, IfNone, IfOk, IfSome, IsTrue, List, ℕ, length, slice_index_or};
 ghost use Rattle.std.specs.List.{list_any};
 ghost use Rattle.edit_model.specs.Points.{has_code};
 ghost use Rattle.edit_model.specs.Rows.{IsRow, value_of};
@@ -7,9 +7,11 @@ ghost use Rattle.edit_line.specs.CodeFields.{TakesCodes, place_of, size_of};
 ghost use Rattle.edit_line.specs.Reductions.{lines_of};
 ghost use Rattle.edit_line.specs.Shapes.{Domain, IsCategorical, code_fields, shape_of};
 ghost use Rattle.categ_combine.specs.BoxLists.{AreBoxesOver, sets_of};
+ghost use Rattle.categ_combine.specs.Covers.{cover_count};
 ghost use Rattle.categ_combine.specs.FailingBoxes.{failing_boxes};
+ghost use Rattle.edit_model.specs.declared.value.Value.TheVariants.{Code};
 ghost use Rattle.back_subst.specs.Given.{IsGivenCode};
-ghost use Rattle.back_subst.specs.inner.Codes.{IsFree, boxes_for, is_free_at, settled_by};
+ghost use Rattle.back_subst.specs.inner.Codes.{AreCountableBut, IsFree, boxes_for, is_free_at, settled_by};
 ghost use Rattle.back_subst.specs.inner.UnderWay.{AreBlankBut};
 
 use crate::line_bounds::place_among;
@@ -37,6 +39,7 @@ pub(crate) fn code_for(
     requires codes { (f : ℕ) → IsCategorical (shape_of survey.now.fields) f → TakesCodes (shape_of survey.now.fields) f }
     requires some { (left : List ℕ) × AreBlankBut (shape_of survey.now.fields) row.now left field
         × (boxes : List (List ℕ)) × (failing_boxes (lines_of lines.now) row.now ≡ Ok boxes)
+        × AreCountableBut (shape_of survey.now.fields) row.now left field boxes
         × ((code : ℕ) × IsFree (shape_of survey.now.fields) (boxes_for (shape_of survey.now.fields) row.now left field boxes) field code) }
     ensures { IfOk result (λ code. (boxes : List (List ℕ)) × (failing_boxes (lines_of lines.now) row.now ≡ Ok boxes)
         × ((left : List ℕ) → AreBlankBut (shape_of survey.now.fields) row.now left field
@@ -62,6 +65,8 @@ fn settle_others(
     requires over { AreBoxesOver (shape_of survey.now.fields) boxes.items }
     requires row { IsRow survey.now.fields row.now }
     requires codes { (f : ℕ) → IsCategorical (shape_of survey.now.fields) f → TakesCodes (shape_of survey.now.fields) f }
+    requires few { (left : List ℕ) × AreBlankBut (shape_of survey.now.fields) row.now left but
+        × AreCountableBut (shape_of survey.now.fields) row.now left but (sets_of boxes.items) }
     ensures over { IfOk result (λ kept. AreBoxesOver (shape_of survey.now.fields) kept.items) }
     ensures sets { IfOk result (λ kept. (left : List ℕ) → AreBlankBut (shape_of survey.now.fields) row.now left but
         → sets_of kept.items ≡ boxes_for (shape_of survey.now.fields) row.now left but (sets_of boxes.items)) }
@@ -87,6 +92,7 @@ fn settled(
     requires row { IsRow survey.now.fields row.now }
     requires field { IsCategorical (shape_of survey.now.fields) field }
     requires codes { TakesCodes (shape_of survey.now.fields) field }
+    requires few { ((c : ℕ) → value_of row.now field ≢ Code c) → cover_count (shape_of survey.now.fields) (sets_of boxes.now) field < 2 ^ 64 }
     ensures over { IfOk result (λ kept. AreBoxesOver (shape_of survey.now.fields) kept.items) }
     ensures sets { IfOk result (λ kept. sets_of kept.items ≡ settled_by (shape_of survey.now.fields) (value_of row.now field) field (sets_of boxes.now)) }
 {
@@ -94,7 +100,7 @@ fn settled(
         Value::Code(code) => fix(alloc, boxes, field, *code),
         Value::Number(_) | Value::Bad => match cat_step(alloc, boxes, field, u64::MAX)? {
             Covered::Done { boxes, .. } => Ok(boxes.into_vec()),
-            Covered::Passed => Err(OutOfMemory),
+            Covered::Passed => unreachable!(),
         },
     }
 }

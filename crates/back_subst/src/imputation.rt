@@ -1,5 +1,5 @@
 //! Values for all changed fields of a record.
-ghost use Rattle.std.specs.Prelude.{◌≡◌, ◌≤◌, [], ℕ, Err, IfOk, length, true, option_copied};
+ghost use Rattle.std.specs.Prelude.{◌≡◌, ◌⊎◌, ◌≤◌, [], ℕ, Err, IfOk, length, true, option_copied};
 ghost use Rattle.std.specs.Arc.{arc_value};
 ghost use Rattle.edit_model.specs.Corrections.{Differs};
 ghost use Rattle.edit_model.specs.FieldSets.{has_number};
@@ -10,9 +10,10 @@ ghost use Rattle.edit_line.specs.Shapes.{shape_of};
 ghost use Rattle.edit_paths.specs.Cases.{IsCase, case_of};
 ghost use Rattle.back_subst.specs.Allowed.{Completes};
 ghost use Rattle.back_subst.specs.Gifts.{CanGive, IsDonor, IsNeeded, hows_of};
-ghost use Rattle.back_subst.specs.GiveFaults.{AllHoldAt, StopsAtLine, StopsAtRule};
-ghost use Rattle.back_subst.specs.Given.{IsImputed, giving_order};
+ghost use Rattle.back_subst.specs.GiveFaults.{AllHoldAt, AreComputed, Shows, StopsAtLine, StopsAtRule};
+ghost use Rattle.back_subst.specs.Given.{IsImputed, giving_order, target_of};
 ghost use Rattle.back_subst.specs.inner.UnderWay.{AreOrders, IsGiving};
+ghost use Rattle.back_subst.specs.declared.gift.GiveFault as gives;
 ghost use Rattle.back_subst.specs.declared.gift.GiveFault.TheVariants as fault;
 
 use crate::blank::blanked;
@@ -55,7 +56,9 @@ pub fn give<S: Systems, L: Ledger>(
         → (p : Point) (f : ℕ) → Completes survey.now gift.row [] p → has_number changed f ≡ true → Differs row.now p f) }
     ensures bound { (field line : ℕ) → result ≡ Err (fault.Bound field line)
         → StopsAtLine survey.now (arc_value edits.now) row.now changed (option_copied donor.entry) field line }
-    ensures test { (rule : ℕ) → result ≡ Err (fault.Test rule) → StopsAtRule survey.now row.now changed (option_copied donor.entry) rule }
+    ensures test { (rule : ℕ) → result ≡ Err (fault.Test rule) → StopsAtRule survey.now (arc_value edits.now) row.now changed (option_copied donor.entry) rule }
+    ensures due { (due : gives.GiveFault) → Shows survey.now (arc_value edits.now) row.now changed (option_copied donor.entry) due
+        → (result ≡ Err due) ⊎ (result ≡ Err fault.OutOfMemory) }
     ensures serves { (e : EditsParts) → S.serves source.old e → S.serves source.new e }
     ensures keeps { (f : ℕ) → S.keeps source.old f ≡ true → S.keeps source.new f ≡ true }
 {
@@ -101,10 +104,11 @@ fn imputed<S: Systems, L: Ledger>(
     requires donor { IsDonor survey.now (option_copied donor) }
     requires served { S.serves source.old (arc_value edits.now) }
     ensures given { IfOk result (λ new. IsGiving survey.now (arc_value edits.now) (option_copied donor.entry) row.now (giving_order survey.now.fields changed) [] new) }
+    ensures computed { IfOk result (λ new. AreComputed (arc_value edits.now) (target_of (option_copied donor.entry)) new (giving_order survey.now.fields changed) []) }
     ensures tested { IfOk result (λ new. AllHoldAt survey.now new) }
     ensures bound { (field line : ℕ) → result ≡ Err (fault.Bound field line)
         → StopsAtLine survey.now (arc_value edits.now) row.now changed (option_copied donor.entry) field line }
-    ensures test { (rule : ℕ) → result ≡ Err (fault.Test rule) → StopsAtRule survey.now row.now changed (option_copied donor.entry) rule }
+    ensures test { (rule : ℕ) → result ≡ Err (fault.Test rule) → StopsAtRule survey.now (arc_value edits.now) row.now changed (option_copied donor.entry) rule }
     ensures serves { (e : EditsParts) → S.serves source.old e → S.serves source.new e }
     ensures keeps { (f : ℕ) → S.keeps source.old f ≡ true → S.keeps source.new f ≡ true }
 {
@@ -125,7 +129,8 @@ fn imputed<S: Systems, L: Ledger>(
     }
 }
 
-// The record with codes at its changed categorical fields, and Bad at the changed numerical ones.
+// The record with codes at its changed categorical fields, and Bad at the changed numerical ones. Where no
+// categorical field is changed, no system is asked for.
 fn with_codes<S: Systems, L: Ledger>(
     alloc: Global,
     source: &mut S,
@@ -148,6 +153,9 @@ fn with_codes<S: Systems, L: Ledger>(
     ensures keeps { (f : ℕ) → S.keeps source.old f ≡ true → S.keeps source.new f ≡ true }
 {
     let mut new = blanked(alloc, survey, row, changed)?;
+    if codes.is_empty() {
+        return Ok(new);
+    }
     match source.system(alloc, edits, set_of(numbers), steps) {
         Ok(held) => {
             give_codes(alloc, survey, held.system().lines(), codes, &mut new, donor)?;

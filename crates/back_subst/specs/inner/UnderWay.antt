@@ -1,5 +1,7 @@
 use Rattle.std.specs.Prelude.{◌≡◌, ◌<◌, All, ◌↔◌, ◌==◌, ◌++◌, ℕ, true, false, List, [], ◌∷◌, Option, Ok, Err, reverse}
 use Rattle.std.specs.List.{filter}
+use Rattle.fraction128.specs.Formulas.{ratio_of}
+use Rattle.fraction128.specs.declared.fraction.Fraction.{Fraction}
 use Rattle.edit_model.specs.Corrections as corrections
 use Rattle.edit_model.specs.FieldSets.{has_number}
 use Rattle.edit_model.specs.declared.field.Field.{Field}
@@ -7,7 +9,7 @@ use Rattle.edit_model.specs.Parts.{SurveyParts}
 use Rattle.edit_model.specs.Points.{Point}
 use Rattle.edit_model.specs.Rows.{IsRow, value_of}
 use Rattle.edit_model.specs.declared.value.Value.{Value}
-use Rattle.edit_model.specs.declared.value.Value.TheVariants.{Bad}
+use Rattle.edit_model.specs.declared.value.Value.TheVariants.{Bad, Number}
 use Rattle.edit_line.specs.EditSets.{EditsParts}
 use Rattle.edit_line.specs.Lines.{HaveShape, LineParts}
 use Rattle.edit_line.specs.Shapes.{Domain, code_fields, has_field, shape_of}
@@ -18,6 +20,7 @@ use Rattle.back_subst.specs.GiveFaults.{AreGivenFirst}
 use Rattle.back_subst.specs.Given.{number_in, target_of}
 use Rattle.back_subst.specs.NumberWalk.{number_result}
 use Rattle.back_subst.specs.inner.Bounds.{DecideFor}
+use Rattle.back_subst.specs.inner.Codes.{AreCountable}
 use Rattle.back_subst.specs.inner.Systems.{start_lines}
 
 -- the record is Bad exactly at those categorical fields, other than g, that are left
@@ -52,6 +55,12 @@ pub record IsUnderWay (survey : SurveyParts) (edits : List LineParts) (target : 
 abbrev pub IsGiving : SurveyParts → EditsParts → Option (List Value) → List Value → List ℕ → List ℕ → List Value → Type 0
 IsGiving survey edits donor row given left so_far = IsUnderWay survey (start_lines edits) (target_of donor) row given left so_far
 
+-- each number at the first fields of an order, where the others are left, is what the system of these gives
+abbrev pub AreComputedBy : List LineParts → (ℕ → Value) → List Value → List ℕ → List ℕ → Type 0
+AreComputedBy edits target row [] left = Unit {0}
+AreComputedBy edits target row (f ∷ fields) left =
+    ((x : Fraction) → value_of row f ≡ Number x → number_result (system edits (reverse (fields ++ left))) row f (number_in (target f)) ≡ Ok (ratio_of x)) × AreComputedBy edits target row fields left
+
 -- the giving stopped in an order of numerical fields: at a field, at a line of the system of those after it
 pub record StopsAmong (survey : SurveyParts) (edits : List LineParts) (target : ℕ → Value) (row : List Value) (given order : List ℕ) (field line : ℕ) : Type 0 where
   pub first : List ℕ
@@ -59,9 +68,10 @@ pub record StopsAmong (survey : SurveyParts) (edits : List LineParts) (target : 
   pub order_is : order ≡ first ++ field ∷ rest
   pub so_far : List Value
   pub way : IsUnderWay survey edits target row (given ++ first) (field ∷ rest) so_far
+  pub computed : AreComputedBy edits target so_far first (field ∷ rest)
   pub stops : number_result (system edits (reverse rest)) so_far field (number_in (target field)) ≡ Err line
 
--- codes are to be given at the fields of an order, by the lines of the system without the changed numerical fields, none of which leaves the range at the record
+-- codes are to be given at the fields of an order, by the lines of the system without the changed numerical fields, none of which leaves the range at the record; the fields are eliminated with few enough pairs
 pub record AreCodesToGive (survey : SurveyParts) (target : ℕ → Value) (lines : List LineParts) (order : List ℕ) (so_far : List Value) : Type 0 where
   pub row : List Value
   pub numbers : List ℕ
@@ -71,4 +81,5 @@ pub record AreCodesToGive (survey : SurveyParts) (target : ℕ → Value) (lines
   pub lines_are : lines ≡ system edits (reverse numbers)
   pub boxes : List (List ℕ)
   pub made : failing_boxes lines row ≡ Ok boxes
+  pub few : AreCountable (shape_of survey.fields) row order boxes
   pub way : IsUnderWay survey edits target row [] (order ++ numbers) so_far

@@ -3,13 +3,18 @@ use Rattle.edit_line.specs.Shapes.{shape_of}
 use Rattle.categ_combine.specs.BoxLists.{sets_of}
 use Rattle.categ_combine.specs.declared.box_from.BoxFrom.{BoxFrom}
 use Rattle.back_subst.specs.Given.{IsGivenCode}
-use Rattle.back_subst.specs.inner.Codes.{IsFree, boxes_for}
+use Rattle.back_subst.specs.inner.Codes.{AreCountableBut, IsFree, boxes_for}
 use Rattle.back_subst.proofs.CodeSteps.{same-boxes}
 use Rattle.back_subst.proofs.code.code_for.Goals as goal
 
+pub settle_others-requires-clause-few : goal.settle_others-requires-clause-few
+settle_others-requires-clause-few c =
+    let (left, blank, boxes, made, few, free) = c.requires.some in
+    (left, blank, subst (λ (bs : List (List ℕ)). AreCountableBut (shape_of c.args.survey.now.fields) c.args.row.now left c.args.field bs) (sym (same-boxes _ _ _ c.in-Ok.ensures.sets made)) few)
+
 pub first_free-requires-clause-some : goal.first_free-requires-clause-some
 first_free-requires-clause-some c =
-    let (left, blank, boxes, made, (code, free)) = c.requires.some in
+    let (left, blank, boxes, made, few, (code, free)) = c.requires.some in
     let same : sets_of c.in-Ok.boxes.items ≡ boxes = same-boxes _ _ _ c.in-Ok.ensures.sets made in (
       code,
       subst (λ (bs : List (List ℕ)). IsFree (shape_of c.args.survey.now.fields) bs c.args.field code)

@@ -6,7 +6,7 @@ use Rattle.edit_line.specs.EditSets.{EditsParts}
 use Rattle.edit_line.specs.Shapes.{has_field}
 use Rattle.back_subst.specs.Given.{target_of}
 use Rattle.back_subst.specs.inner.Systems.{start_lines}
-use Rattle.back_subst.specs.inner.UnderWay.{IsUnderWay}
+use Rattle.back_subst.specs.inner.UnderWay.{AreComputedBy, IsUnderWay}
 use Rattle.back_subst.proofs.giving.give_numbers.Given as goal
 
 abbrev pub invariant-loop-field : goal.invariant-loop-field
@@ -15,3 +15,4 @@ invariant-loop-field g l =
     × ((f : ℕ) → has_number l.left f ≡ has_field (drop l.field-index l.order) f) × ((row : List Value) (given : List ℕ)
     → IsUnderWay l.survey (start_lines (arc_value l.edits)) (target_of (option_copied l.donor)) row given l.order l.initial.new
     → IsUnderWay l.survey (start_lines (arc_value l.edits)) (target_of (option_copied l.donor)) row (given ++ take l.field-index l.order) (drop l.field-index l.order) l.new)
+    × AreComputedBy (start_lines (arc_value l.edits)) (target_of (option_copied l.donor)) l.new (take l.field-index l.order) (drop l.field-index l.order)

@@ -1,4 +1,6 @@
 use Rattle.std.proofs.Common.{◌∙◌, List, option_copied, reverse, sym, ap, subst}
+use Rattle.std.proofs.lemmas.Bool.Decides.{Decides-eqb}
+use Rattle.std.proofs.lemmas.List.{nil_from_length}
 use Rattle.std.specs.Arc.{arc_value}
 use Rattle.std.specs.List.{filter}
 use Rattle.edit_model.specs.Corrections.{number_fields}
@@ -9,7 +11,7 @@ use Rattle.linear_elim.specs.Systems.{AreNumerical, chosen_fields, system, syste
 use Rattle.back_subst.specs.Given.{target_of}
 use Rattle.back_subst.specs.inner.Systems.{start_lines}
 use Rattle.back_subst.proofs.OrderLaws.{all-numerical, chosen-all}
-use Rattle.back_subst.proofs.ReadyLaws.{codes-given, codes-ready, system-made}
+use Rattle.back_subst.proofs.ReadyLaws.{codes-given, codes-ready, no-codes, system-made}
 use Rattle.back_subst.proofs.SystemLines.{no-overflow, system-lines}
 use Rattle.back_subst.proofs.imputation.with_codes.Goals as goal
 
@@ -48,3 +50,10 @@ returns-in_ok-give_codes-in-Ok-clause-given g c =
     c.lines.ensures.system c.lines.ensures.over in
     codes-given survey e c.args.row.now c.args.changed c.requires.case c.requires.path c.args.numbers.now (orders.numbers_are ∙ ap (λ n. reverse (filter (has_number n) (number_fields survey.fields))) c.requires.order.1) c.args.codes.now orders c.requires.order.1 (target_of (option_copied c.args.donor))
     c.in_ok-new.new c.in_ok-new.ensures.row c.in_ok-new.ensures.blank c.in_ok-new.ensures.kept (lines_of c.lines.result.now) (made.0 ∙ ap (λ fs. system (start_lines e) fs) chosen) _ c.in_ok-give_codes-in-Ok.ensures
+
+pub returns-then-is_empty-clause-given : goal.returns-then-is_empty-clause-given
+returns-then-is_empty-clause-given g c =
+    let survey = c.args.survey.now in
+    let orders = c.requires.order.0 in
+    no-codes survey (arc_value c.args.edits.now) c.args.row.now c.args.changed c.requires.case c.requires.path c.args.numbers.now (orders.numbers_are ∙ ap (λ n. reverse (filter (has_number n) (number_fields survey.fields))) c.requires.order.1) c.args.codes.now orders c.requires.order.1 (target_of (option_copied c.args.donor))
+    c.in_ok-new.new c.in_ok-new.ensures.row c.in_ok-new.ensures.blank c.in_ok-new.ensures.kept (nil_from_length c.args.codes.now ((Decides-eqb _ _).0 (sym c.if-is_empty.ensures)))
