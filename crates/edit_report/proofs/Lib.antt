@@ -1,0 +1,2 @@
+pub mod ChangedLaws
+pub mod ReleasedLaws
