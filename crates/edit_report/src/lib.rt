@@ -1,7 +1,18 @@
 //! What a run tells of its records: the released file, the reasons file, and the summary line. Begin with
-//! [`RowEnd`].
+//! [`RowEnd`]; what is asked of ends is in `specs/Ends.antt`, and what is told in `specs/Released.antt`,
+//! `specs/Reasons.antt` and `specs/Summaries.antt`.
 #![tactic(auto)]
 
+mod changed;
+mod detail;
 mod end;
+mod layout;
+mod reasons;
+mod released;
+mod summary;
+mod value_text;
 
 pub use end::RowEnd;
+pub use reasons::reasons_text;
+pub use released::released_text;
+pub use summary::summary_text;

@@ -1,10 +1,11 @@
 -- What csv's writer has written, after one record more.
-use Rattle.std.proofs.Common.{◌≡◌, ◌≢◌, ◌==◌, ℕ, Bool, true, false, if◌then◌else◌, List, [], ◌∷◌, ◌++◌, length, Option, Some, None, Vec, refl, sym, ap, ◌∙◌}
+use Rattle.std.proofs.Common.{◌≡◌, ◌≢◌, ◌==◌, ℕ, Bool, true, false, if◌then◌else◌, List, [], ◌∷◌, ◌++◌, length, Option, Some, None, Vec, refl, sym, ap, ◌∙◌, append-nil}
 use Rattle.std.specs.declared.alloc.Global.{Global}
 use Rattle.std.specs.Io.KnownBytes.{Appends}
 use Rattle.csv.specs.Writing.{default_writer, escaped, field_text, fields_text, fields_written, has_written, is_blank, needs_quotes, row_body, row_text, text_written, with_flexible, writer_setup}
 use Rattle.csv.specs.declared.writer.QuoteStyle.TheVariants as style
 use Rattle.csv.specs.declared.writer.Writer.{Writer}
+use Rattle.record_text.specs.Texts.{records_text}
 use Rattle.record_text.specs.Written.{HasWritten}
 
 -- ---- the text of a record, whether records may differ in length or not
@@ -42,12 +43,12 @@ row-same texts =
 -- one record more is written
 pub HasWritten-more : (old new : Writer (Vec ℕ Global)) (bytes : List ℕ) (texts : List (List ℕ))
     → (fields_written old ≡ 0 → has_written old ≡ false → (writer_setup old).style ≢ style.NonNumeric → Appends (text_written (λ v. Some v.items) old) (text_written (λ v. Some v.items) new) (row_text (writer_setup old) texts))
-    → fields_written new ≡ 0 → has_written new ≡ false → writer_setup new ≡ writer_setup old → HasWritten old bytes → HasWritten new (bytes ++ row_text default_writer texts)
+    → fields_written new ≡ 0 → has_written new ≡ false → writer_setup new ≡ writer_setup old → HasWritten old bytes → HasWritten new (bytes ++ records_text (texts ∷ []))
 HasWritten-more old new bytes texts appends begun shown setup before = record {
   setup = setup ∙ before.setup;
   none_begun = begun;
   none_shown = shown;
-  written = by (text_written (λ v. Some v.items) old) (text_written (λ v. Some v.items) new) before.written (appends before.none_begun before.none_shown plain) ∙ ap (λ (t : List ℕ). Some (bytes ++ t)) (ap (λ s. row_text s texts) before.setup ∙ row-same texts);
+  written = by (text_written (λ v. Some v.items) old) (text_written (λ v. Some v.items) new) before.written (appends before.none_begun before.none_shown plain) ∙ ap (λ (t : List ℕ). Some (bytes ++ t)) (ap (λ s. row_text s texts) before.setup ∙ row-same texts ∙ sym (append-nil (row_text default_writer texts)));
 }
   where
     plain : (writer_setup old).style ≢ style.NonNumeric

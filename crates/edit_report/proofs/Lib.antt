@@ -1,0 +1,6 @@
+pub mod ChangedLaws
+pub mod EndLaws
+pub mod ReleasedLaws
+pub mod SheetLaws
+pub mod SummaryLaws
+pub mod WrittenLaws

@@ -1,0 +1,6 @@
+pub mod Ends
+pub mod Layouts
+pub mod Reasons
+pub mod Released
+pub mod Summaries
+pub mod inner

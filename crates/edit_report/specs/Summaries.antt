@@ -1,0 +1,34 @@
+-- The summary line.
+use Rattle.std.specs.Prelude.{ℕ, ◌&&◌, not, Bool, List, ◌++◌, codes, decimal, is_none, is_some, length}
+use Rattle.std.specs.List.{filter, sum_by}
+use Rattle.edit_model.specs.Parts.{SurveyParts}
+use Rattle.edit_model.specs.declared.field.Field.{Field}
+use Rattle.bound_cert.specs.Paths.{path_weight}
+use Rattle.bound_cert.specs.Trees.{all_kept}
+use Rattle.edit_report.specs.Ends.{path_found}
+use Rattle.edit_report.specs.declared.end.RowEnd.{RowEnd}
+
+-- a record that was given values and keeps all its own
+abbrev pub is_clean : RowEnd → Bool
+is_clean end = is_some end.gift && all_kept (path_found end.proof.outcome)
+
+-- a record that was given other values
+abbrev pub is_changed : RowEnd → Bool
+is_changed end = is_some end.gift && not (all_kept (path_found end.proof.outcome))
+
+-- a record that was given none
+abbrev pub is_unresolved : RowEnd → Bool
+is_unresolved end = is_none end.gift
+
+-- what a record's change weighs
+abbrev pub weight_of : List Field → RowEnd → ℕ
+weight_of fields end = path_weight fields (path_found end.proof.outcome)
+
+-- how many records there are, how many of each kind, and what the changes weigh together
+abbrev pub summary_of : SurveyParts → List RowEnd → List ℕ
+summary_of survey ends =
+    codes "records " ++ (decimal (length ends)
+    ++ (codes " clean " ++ (decimal (length (filter is_clean ends))
+    ++ (codes " changed " ++ (decimal (length (filter is_changed ends))
+    ++ (codes " unresolved " ++ (decimal (length (filter is_unresolved ends))
+    ++ (codes " weight " ++ decimal (sum_by (weight_of survey.fields) (filter is_changed ends))))))))))

@@ -1,0 +1,185 @@
+//! Why a record is not released, in a few words.
+ghost use Rattle.std.specs.Prelude.{◌≡◌, ◌<◌, ◌++◌, IfOk, IfSome, None, OnOk, codes, decimal, length, map};
+ghost use Rattle.edit_report.specs.Ends.{AreOfOneEnd, IsEventWithin, IsFaultWithin, IsPlaceWithin};
+ghost use Rattle.edit_report.specs.Reasons.{cause_text, detail_text, event_text, giving_text, letter_of, name_of, number_text, path_text, place_text};
+
+use bound_cert::{Event, GiftFault, Outcome, Path, RowProof};
+use edit_line::Place;
+use edit_model::Survey;
+use foundation::OutOfMemory;
+use itoa::Buffer;
+use std::alloc::Global;
+
+/// The cause. No memory.
+pub(crate) fn cause_text(outcome: &Outcome) -> &'static [u8]
+    ensures { result.now ≡ cause_text outcome.now }
+{
+    match outcome {
+        Outcome::Change { .. } | Outcome::Overflow { .. } => b"overflow",
+        Outcome::Budget { .. } => b"budget",
+        Outcome::Contradictory { .. } => b"contradictory",
+    }
+}
+
+/// Where the search or the giving of values ended.
+pub(crate) fn detail_text(
+    alloc: Global,
+    survey: &Survey,
+    found: &RowProof,
+) -> Result<Vec<u8>, OutOfMemory>
+    requires { AreOfOneEnd survey.now.fields found.now.outcome found.now.gift None }
+    ensures { IfOk result (λ text. text.items ≡ detail_text survey.now.fields found.now.outcome found.now.gift) }
+{
+    match &found.outcome {
+        Outcome::Change { .. } => giving_text(alloc, survey, &found.gift),
+        Outcome::Budget { path, work } => budget_text(alloc, path, *work),
+        Outcome::Overflow { path, event } => overflow_text(alloc, survey, path, event),
+        Outcome::Contradictory { .. } => Ok(Vec::new(alloc)),
+    }
+}
+
+// At which path the search ended for want of work, and the work before it.
+fn budget_text(alloc: Global, path: &Path, work: u64) -> Result<Vec<u8>, OutOfMemory>
+    ensures { IfOk result (λ text. text.items ≡ codes "path " ++ (path_text path.now ++ (codes " work " ++ decimal work))) }
+{
+    let mut text = Vec::from_slice(alloc, b"path ")?;
+    push_path(&mut text, path.letters())?;
+    text.extend_from_slice(b" work ")?;
+    text.extend_from_slice(Buffer::new().format(work).as_bytes())?;
+    Ok(text)
+}
+
+// At which path a number left the range, and at which lines.
+fn overflow_text(
+    alloc: Global,
+    survey: &Survey,
+    path: &Path,
+    event: &Event,
+) -> Result<Vec<u8>, OutOfMemory>
+    requires { IsEventWithin (length survey.now.fields) event.now }
+    ensures { IfOk result (λ text. text.items ≡ codes "path " ++ (path_text path.now ++ event_text survey.now.fields event.now)) }
+{
+    let mut text = Vec::from_slice(alloc, b"path ")?;
+    push_path(&mut text, path.letters())?;
+    push_event(&mut text, survey, event)?;
+    Ok(text)
+}
+
+// At which line, or at which rule, a number left the range when values were given.
+fn giving_text(
+    alloc: Global,
+    survey: &Survey,
+    fault: &Option<GiftFault>,
+) -> Result<Vec<u8>, OutOfMemory>
+    requires { IfSome fault.now (IsFaultWithin (length survey.now.fields)) }
+    ensures { IfOk result (λ text. text.items ≡ giving_text survey.now.fields fault.now) }
+{
+    let mut text = Vec::new(alloc);
+    match fault {
+        None => {}
+        Some(GiftFault::Bound { field, line }) => {
+            text.extend_from_slice(b"giving ")?;
+            text.extend_from_slice(name_of(survey, *field))?;
+            text.extend_from_slice(b" line ")?;
+            push_number(&mut text, *line)?;
+        }
+        Some(GiftFault::Test { rule }) => {
+            text.extend_from_slice(b"giving rule ")?;
+            push_number(&mut text, u64::from(*rule))?;
+        }
+    }
+    Ok(text)
+}
+
+// Adds the lines at which a number left the range, and the field there.
+fn push_event(text: &mut Vec<u8>, survey: &Survey, event: &Event) -> Result<(), OutOfMemory>
+    requires { IsEventWithin (length survey.now.fields) event.now }
+    ensures { OnOk result (text.new.items ≡ text.old.items ++ event_text survey.now.fields event.now) }
+{
+    match event {
+        Event::Step {
+            first,
+            second,
+            place,
+        } => {
+            text.extend_from_slice(b" lines ")?;
+            push_number(text, *first)?;
+            text.extend_from_slice(b" ")?;
+            push_number(text, *second)?;
+            text.extend_from_slice(b" at ")?;
+            push_place(text, survey, place)
+        }
+        Event::Test { line, field } => {
+            text.extend_from_slice(b" line ")?;
+            push_number(text, *line)?;
+            text.extend_from_slice(b" at ")?;
+            text.extend_from_slice(name_of(survey, *field))?;
+            Ok(())
+        }
+    }
+}
+
+// Adds the name of a place among the numbers of a line.
+fn push_place(text: &mut Vec<u8>, survey: &Survey, place: &Place) -> Result<(), OutOfMemory>
+    requires { IsPlaceWithin (length survey.now.fields) place.now }
+    ensures { OnOk result (text.new.items ≡ text.old.items ++ place_text survey.now.fields place.now) }
+{
+    match place {
+        Place::Field(field) => text.extend_from_slice(name_of(survey, *field))?,
+        Place::Constant => text.extend_from_slice(b"constant")?,
+    }
+    Ok(())
+}
+
+// Adds a path's letters, or a stroke where it has none.
+fn push_path(text: &mut Vec<u8>, path: &[bool]) -> Result<(), OutOfMemory>
+    ensures { OnOk result (text.new.items ≡ text.old.items ++ path_text path.now) }
+{
+    if path.is_empty() {
+        text.push(b'-')?;
+        return Ok(());
+    }
+    push_letters(text, path)
+}
+
+// Adds the letters.
+fn push_letters(text: &mut Vec<u8>, letters: &[bool]) -> Result<(), OutOfMemory>
+    ensures { OnOk result (text.new.items ≡ text.old.items ++ map letter_of letters.now) }
+{
+    for changed in letters {
+        text.push(letter_of(*changed))?;
+    }
+    Ok(())
+}
+
+// K for kept, C for changed.
+fn letter_of(changed: bool) -> u8
+    ensures { result ≡ letter_of changed }
+{
+    if changed { b'C' } else { b'K' }
+}
+
+// Adds the number of a place that is counted from 0, as it is told: from 1.
+fn push_number(text: &mut Vec<u8>, place: u64) -> Result<(), OutOfMemory>
+    ensures { OnOk result (text.new.items ≡ text.old.items ++ number_text place) }
+{
+    text.extend_from_slice(Buffer::new().format(u128::from(place) + 1).as_bytes())?;
+    Ok(())
+}
+
+/// The number of a place that is counted from 0, as it is told: from 1.
+pub(crate) fn number_text(alloc: Global, place: u32) -> Result<Vec<u8>, OutOfMemory>
+    ensures { IfOk result (λ text. text.items ≡ number_text place) }
+{
+    let mut text = Vec::new(alloc);
+    push_number(&mut text, u64::from(place))?;
+    Ok(text)
+}
+
+/// The field's name. No memory.
+pub(crate) fn name_of(survey: &Survey, field: u32) -> &[u8]
+    requires { field < length survey.now.fields }
+    ensures { result.now ≡ name_of survey.now.fields field }
+{
+    survey.fields()[field as usize].name.as_bytes()
+}

@@ -1,0 +1,85 @@
+ghost use Rattle.std.specs.Prelude.{◌≡◌, ◌<◌, IfOk, length, slice_index_or};
+ghost use Rattle.edit_report.specs.Layouts.{field_in};
+ghost use Rattle.edit_report.specs.inner.Columns.{AreFieldsIn};
+
+use foundation::{OutOfMemory, Sequence};
+use record_text::Sheet;
+use std::alloc::Global;
+use std::marker::Model;
+
+/// Which field stands in which column of a sheet's rows, both ways.
+#[derive(Debug, Drop)]
+pub(crate) struct Layout {
+    columns: Sequence<u32>,
+    fields: Vec<Option<usize>>,
+}
+
+impl Model for Layout {
+    ghost use Rattle.std.specs.Prelude.{length};
+    ghost use Rattle.edit_report.specs.Layouts.{LayoutParts};
+    ghost use Rattle.edit_report.specs.inner.Columns.{AreFieldsIn};
+
+    ghost Value = { LayoutParts };
+
+    ghost view = { λ l. record { width = length l.fields.items; columns = l.columns } };
+
+    ghost invariant = { λ l. AreFieldsIn l.columns l.fields.items };
+}
+
+impl Layout {
+    /// The layout of the sheet's rows.
+    pub(crate) fn of_sheet(alloc: Global, sheet: &Sheet) -> Result<Layout, OutOfMemory>
+        ensures width { IfOk result (λ layout. layout.width ≡ length sheet.now.header) }
+        ensures columns { IfOk result (λ layout. layout.columns ≡ sheet.now.columns) }
+    {
+        let fields = fields_of(alloc, sheet.columns(), sheet.header().len())?;
+        let columns = Sequence::from_vec(Vec::from_slice(alloc, sheet.columns())?);
+        Ok(Layout { columns, fields })
+    }
+
+    /// The number of the field that stands in the column, if one does. No memory.
+    pub(crate) fn field_at(&self, column: usize) -> Option<usize>
+        requires { column < self.now.width }
+        ensures { result ≡ field_in self.now.columns column }
+    {
+        self.fields[column]
+    }
+
+    /// The column of a field. No memory.
+    pub(crate) fn column(&self, field: u32) -> usize
+        requires { field < length self.now.columns }
+        ensures { result ≡ slice_index_or self.now.columns field 0 }
+    {
+        self.columns.as_slice()[field as usize] as usize
+    }
+
+    /// How many columns there are. No memory.
+    pub(crate) fn width(&self) -> usize
+        ensures { result ≡ self.now.width }
+    {
+        self.fields.len()
+    }
+}
+
+// For each of so many columns the field that stands there.
+fn fields_of(
+    alloc: Global,
+    columns: &[u32],
+    width: usize,
+) -> Result<Vec<Option<usize>>, OutOfMemory>
+    ensures width { IfOk result (λ fields. length fields.items ≡ width) }
+    ensures fields { IfOk result (λ fields. AreFieldsIn columns.now fields.items) }
+{
+    let mut fields = Vec::with_capacity(alloc, width)?;
+    for column in 0..width {
+        fields.push(field_at(columns, column))?;
+    }
+    Ok(fields)
+}
+
+// The field that has the column.
+fn field_at(columns: &[u32], column: usize) -> Option<usize>
+    ensures { result ≡ field_in columns.now column }
+{
+    columns.iter().position(|c| *c as usize == column)
+}

@@ -1,0 +1,190 @@
+//! The reasons file.
+ghost use Rattle.std.specs.Prelude.{◌≡◌, ◌<◌, ◌++◌, ◌∷◌, [], ℕ, List, None, IfOk, OnOk, codes, length};
+ghost use Rattle.record_text.specs.Sheets.{IsSheet};
+ghost use Rattle.record_text.specs.Texts.{records_text};
+ghost use Rattle.record_text.specs.Written.{HasWritten};
+ghost use Rattle.edit_model.specs.Rows.{IsRow};
+ghost use Rattle.edit_report.specs.Ends.{AreEnds, AreOfOneEnd, IsEnd, IsGift, changed_fields, path_found};
+ghost use Rattle.edit_report.specs.Layouts.{IsLayout};
+ghost use Rattle.edit_report.specs.Reasons.{changed_line, changed_lines, donor_text, how_text, reasons_header, reasons_of, reasons_text_of, unresolved_line};
+
+use crate::changed::{changed_fields, path_found};
+use crate::detail::{cause_text, detail_text, name_of, number_text};
+use crate::end::RowEnd;
+use crate::layout::Layout;
+use crate::value_text::text_at;
+use back_subst::{Gift, How};
+use bound_cert::RowProof;
+use edit_model::{Row, Survey};
+use foundation::OutOfMemory;
+use record_text::{RecordWriter, Sheet, Texts};
+use std::alloc::Global;
+
+/// A record: its number, from 0, its texts, and what became of it.
+#[derive(Drop)]
+struct Record<'a> {
+    number: u32,
+    read: &'a Texts,
+    end: &'a RowEnd,
+}
+
+/// The bytes of the reasons file: its header, and then, in order, one line for each changed field of a
+/// record that was given values, in path order, and one for each record that was not.
+pub fn reasons_text(
+    alloc: Global,
+    sheet: &Sheet,
+    survey: &Survey,
+    ends: &[RowEnd],
+) -> Result<Vec<u8>, OutOfMemory>
+    requires sheet { (bytes : List ℕ) × IsSheet survey.now.fields bytes sheet.now }
+    requires ends { AreEnds survey.now sheet.now ends.now }
+    ensures { IfOk result (λ text. text.items ≡ reasons_text_of survey.now sheet.now ends.now) }
+{
+    let layout = Layout::of_sheet(alloc, sheet)?;
+    let mut writer = RecordWriter::new(alloc);
+    push_header(&mut writer)?;
+    for row_no in 0..sheet.len() {
+        let record = Record {
+            number: row_no,
+            read: sheet.raw(row_no),
+            end: &ends[row_no as usize],
+        };
+        push_reasons(alloc, &mut writer, survey, &layout, &record)?;
+    }
+    writer.into_bytes()
+}
+
+// Writes the header.
+fn push_header(writer: &mut RecordWriter) -> Result<(), OutOfMemory>
+    ensures { OnOk result ((bytes : List ℕ) → HasWritten writer.old bytes → HasWritten writer.new (bytes ++ records_text (reasons_header ∷ []))) }
+{
+    writer.push_slices(&[
+        b"record", b"cause", b"field", b"before", b"after", b"donor", b"detail",
+    ])
+}
+
+// Writes the lines of a record.
+fn push_reasons(
+    alloc: Global,
+    writer: &mut RecordWriter,
+    survey: &Survey,
+    layout: &Layout,
+    record: &Record,
+) -> Result<(), OutOfMemory>
+    requires layout { IsLayout survey.now.fields layout.now }
+    requires width { length record.now.read.now ≡ layout.now.width }
+    requires end { IsEnd survey.now.fields record.now.end.now }
+    ensures { OnOk result ((bytes : List ℕ) → HasWritten writer.old bytes → HasWritten writer.new (bytes ++ records_text (reasons_of survey.now.fields layout.now.columns record.now.number record.now.read.now record.now.end.now))) }
+{
+    match &record.end.gift {
+        None => push_unresolved(alloc, writer, survey, record.number, &record.end.proof),
+        Some(gift) => push_changes(alloc, writer, survey, layout, record, gift),
+    }
+}
+
+// Writes the line of a record that was given no values.
+fn push_unresolved(
+    alloc: Global,
+    writer: &mut RecordWriter,
+    survey: &Survey,
+    number: u32,
+    found: &RowProof,
+) -> Result<(), OutOfMemory>
+    requires { AreOfOneEnd survey.now.fields found.now.outcome found.now.gift None }
+    ensures { OnOk result ((bytes : List ℕ) → HasWritten writer.old bytes → HasWritten writer.new (bytes ++ records_text (unresolved_line survey.now.fields number found.now ∷ []))) }
+{
+    let number = number_text(alloc, number)?;
+    let detail = detail_text(alloc, survey, found)?;
+    writer.push_slices(&[
+        &number,
+        cause_text(&found.outcome),
+        b"",
+        b"",
+        b"",
+        b"",
+        &detail,
+    ])
+}
+
+// Writes the lines of the fields that a record's path changes.
+fn push_changes(
+    alloc: Global,
+    writer: &mut RecordWriter,
+    survey: &Survey,
+    layout: &Layout,
+    record: &Record,
+    gift: &Gift,
+) -> Result<(), OutOfMemory>
+    requires layout { IsLayout survey.now.fields layout.now }
+    requires width { length record.now.read.now ≡ layout.now.width }
+    requires gift { IsGift survey.now.fields (path_found record.now.end.now.proof.outcome) gift.now }
+    ensures { OnOk result ((bytes : List ℕ) → HasWritten writer.old bytes → HasWritten writer.new (bytes ++ records_text (changed_lines survey.now.fields layout.now.columns record.now.number record.now.read.now record.now.end.now.donor gift.now.row (changed_fields survey.now.fields (path_found record.now.end.now.proof.outcome)) gift.now.how))) }
+{
+    let changed = changed_fields(alloc, survey, path_found(&record.end.proof.outcome))?;
+    let hows = gift.how.as_slice();
+    for place in 0..changed.len() {
+        push_change(alloc, writer, survey, layout, record, &gift.row, changed[place], hows[place])?;
+    }
+    Ok(())
+}
+
+// Writes the line of a changed field.
+fn push_change(
+    alloc: Global,
+    writer: &mut RecordWriter,
+    survey: &Survey,
+    layout: &Layout,
+    record: &Record,
+    new: &Row,
+    field: u32,
+    how: How,
+) -> Result<(), OutOfMemory>
+    requires layout { IsLayout survey.now.fields layout.now }
+    requires width { length record.now.read.now ≡ layout.now.width }
+    requires new { IsRow survey.now.fields new.now }
+    requires field { field < length survey.now.fields }
+    ensures { OnOk result ((bytes : List ℕ) → HasWritten writer.old bytes → HasWritten writer.new (bytes ++ records_text (changed_line survey.now.fields layout.now.columns record.now.number record.now.read.now record.now.end.now.donor new.now field how ∷ []))) }
+{
+    let number = number_text(alloc, record.number)?;
+    let after = text_at(alloc, survey, new, field)?;
+    let donor = donor_text(alloc, record.end.donor)?;
+    let name = name_of(survey, field);
+    let before = record.read.get(layout.column(field));
+    push_line(writer, &number, name, before, &after, &donor, how_text(how))
+}
+
+// Writes a line of a changed field.
+fn push_line<'a>(
+    writer: &mut RecordWriter,
+    number: &'a [u8],
+    name: &'a [u8],
+    before: &'a [u8],
+    after: &'a [u8],
+    donor: &'a [u8],
+    how: &'a [u8],
+) -> Result<(), OutOfMemory>
+    ensures { OnOk result ((bytes : List ℕ) → HasWritten writer.old bytes → HasWritten writer.new (bytes ++ records_text ((number.now ∷ codes "changed" ∷ name.now ∷ before.now ∷ after.now ∷ donor.now ∷ how.now ∷ []) ∷ []))) }
+{
+    writer.push_slices(&[number, b"changed", name, before, after, donor, how])
+}
+
+// The donor's number, nothing where there is none.
+fn donor_text(alloc: Global, donor: Option<u32>) -> Result<Vec<u8>, OutOfMemory>
+    ensures { IfOk result (λ text. text.items ≡ donor_text donor) }
+{
+    match donor {
+        None => Ok(Vec::new(alloc)),
+        Some(donor) => number_text(alloc, donor),
+    }
+}
+
+// How a value was found.
+fn how_text(how: How) -> &'static [u8]
+    ensures { result.now ≡ how_text how }
+{
+    match how {
+        How::Donor => b"donor",
+        How::Default => b"default",
+        How::Nearest => b"nearest",
+    }
+}

@@ -1,0 +1,156 @@
+//! The released file.
+ghost use Rattle.std.specs.Prelude.{◌≡◌, ◌<◌, ◌≤◌, ◌++◌, ◌∷◌, [], if◌then◌else◌, ℕ, List, Some, IfOk, OnOk, length, slice_index_or};
+ghost use Rattle.edit_model.specs.FieldSets.{has_number};
+ghost use Rattle.edit_model.specs.Rows.{IsRow};
+ghost use Rattle.record_text.specs.Sheets.{IsSheet};
+ghost use Rattle.record_text.specs.Texts.{records_text};
+ghost use Rattle.record_text.specs.Written.{HasWritten};
+ghost use Rattle.edit_report.specs.Ends.{AreEnds, IsEnd};
+ghost use Rattle.edit_report.specs.Layouts.{IsLayout, field_in};
+ghost use Rattle.edit_report.specs.Released.{column_text, released_text_of, released_texts, row_of, row_with, text_at};
+
+use crate::changed::{all_kept, changed_set, path_found};
+use crate::end::RowEnd;
+use crate::layout::Layout;
+use crate::value_text::text_at;
+use edit_model::{FieldSet, Row, Survey};
+use foundation::OutOfMemory;
+use record_text::{RecordWriter, Sheet, Texts};
+use std::alloc::Global;
+
+/// The bytes of the released file: the header as it was read, and then, in order, one row for each record
+/// that was given values. A changed field has the text of its new value, every other column the bytes that
+/// were read.
+pub fn released_text(
+    alloc: Global,
+    sheet: &Sheet,
+    survey: &Survey,
+    ends: &[RowEnd],
+) -> Result<Vec<u8>, OutOfMemory>
+    requires sheet { (bytes : List ℕ) × IsSheet survey.now.fields bytes sheet.now }
+    requires ends { AreEnds survey.now sheet.now ends.now }
+    ensures { IfOk result (λ text. text.items ≡ released_text_of survey.now sheet.now ends.now) }
+{
+    let layout = Layout::of_sheet(alloc, sheet)?;
+    let mut writer = RecordWriter::new(alloc);
+    writer.push(sheet.header())?;
+    for row_no in 0..sheet.len() {
+        let end = &ends[row_no as usize];
+        push_released(alloc, &mut writer, survey, &layout, sheet.raw(row_no), end)?;
+    }
+    writer.into_bytes()
+}
+
+// Writes the row of a record that was given values, and none of another.
+fn push_released(
+    alloc: Global,
+    writer: &mut RecordWriter,
+    survey: &Survey,
+    layout: &Layout,
+    read: &Texts,
+    end: &RowEnd,
+) -> Result<(), OutOfMemory>
+    requires layout { IsLayout survey.now.fields layout.now }
+    requires width { length read.now ≡ layout.now.width }
+    requires end { IsEnd survey.now.fields end.now }
+    ensures { OnOk result ((bytes : List ℕ) → HasWritten writer.old bytes → HasWritten writer.new (bytes ++ records_text (row_of survey.now.fields layout.now.columns read.now end.now))) }
+{
+    match &end.gift {
+        None => Ok(()),
+        Some(gift) => {
+            let path = path_found(&end.proof.outcome);
+            push_row(alloc, writer, survey, layout, read, path, &gift.row)
+        }
+    }
+}
+
+// Writes the row of a record that was given values. One that keeps all its own is not copied.
+fn push_row(
+    alloc: Global,
+    writer: &mut RecordWriter,
+    survey: &Survey,
+    layout: &Layout,
+    read: &Texts,
+    path: &[bool],
+    new: &Row,
+) -> Result<(), OutOfMemory>
+    requires layout { IsLayout survey.now.fields layout.now }
+    requires width { length read.now ≡ layout.now.width }
+    requires short { length path.now ≤ length survey.now.fields }
+    requires new { IsRow survey.now.fields new.now }
+    ensures { OnOk result ((bytes : List ℕ) → HasWritten writer.old bytes → HasWritten writer.new (bytes ++ records_text (released_texts survey.now.fields layout.now.columns path.now new.now read.now ∷ []))) }
+{
+    if all_kept(path) {
+        return writer.push(read);
+    }
+    writer.push(&released_texts(alloc, survey, layout, read, path, new)?)
+}
+
+// The row's texts afterwards, column by column.
+fn released_texts(
+    alloc: Global,
+    survey: &Survey,
+    layout: &Layout,
+    read: &Texts,
+    path: &[bool],
+    new: &Row,
+) -> Result<Texts, OutOfMemory>
+    requires layout { IsLayout survey.now.fields layout.now }
+    requires width { length read.now ≡ layout.now.width }
+    requires short { length path.now ≤ length survey.now.fields }
+    requires new { IsRow survey.now.fields new.now }
+    ensures { IfOk result (λ texts. texts ≡ released_texts survey.now.fields layout.now.columns path.now new.now read.now) }
+{
+    let changed = changed_set(survey, path);
+    let mut texts = Texts::new(alloc);
+    for column in 0..layout.width() {
+        push_column(alloc, &mut texts, survey, layout, read, changed, new, column)?;
+    }
+    Ok(texts)
+}
+
+// Adds the text of one column.
+fn push_column(
+    alloc: Global,
+    texts: &mut Texts,
+    survey: &Survey,
+    layout: &Layout,
+    read: &Texts,
+    changed: FieldSet,
+    new: &Row,
+    column: usize,
+) -> Result<(), OutOfMemory>
+    requires layout { IsLayout survey.now.fields layout.now }
+    requires width { length read.now ≡ layout.now.width }
+    requires new { IsRow survey.now.fields new.now }
+    requires column { column < layout.now.width }
+    ensures { OnOk result (texts.new ≡ texts.old ++ column_text survey.now.fields (has_number changed) new.now (field_in layout.now.columns column) (slice_index_or read.now column []) ∷ []) }
+{
+    match layout.field_at(column) {
+        None => texts.push(read.get(column)),
+        Some(field) => push_text(alloc, texts, survey, changed, new, field, read.get(column)),
+    }
+}
+
+// Adds the text of the field's new value where the field is changed, and else the one that was read.
+fn push_text(
+    alloc: Global,
+    texts: &mut Texts,
+    survey: &Survey,
+    changed: FieldSet,
+    new: &Row,
+    field: usize,
+    read: &[u8],
+) -> Result<(), OutOfMemory>
+    requires new { IsRow survey.now.fields new.now }
+    requires field { field < length survey.now.fields }
+    ensures { OnOk result (texts.new ≡ texts.old ++ (if has_number changed field then text_at survey.now.fields new.now field else read.now) ∷ []) }
+{
+    let _fields = survey.fields(); // read for what it says: there are at most 64
+    let field = field as u32;
+    if changed.has(field) {
+        texts.push(&text_at(alloc, survey, new, field)?)
+    } else {
+        texts.push(read)
+    }
+}

@@ -1,0 +1,82 @@
+//! The summary line.
+ghost use Rattle.std.specs.Prelude.{◌≡◌, ◌≤◌, IfOk, if◌then◌else◌, length};
+ghost use Rattle.std.specs.List.{AllByRecursion, filter, sum_by};
+ghost use Rattle.bound_cert.specs.Paths.{path_weight};
+ghost use Rattle.edit_report.specs.Ends.{IsEnd, path_found};
+ghost use Rattle.edit_report.specs.Summaries.{is_changed, is_clean, is_unresolved, summary_of, weight_of};
+
+use crate::changed::{all_kept, path_found};
+use crate::end::RowEnd;
+use bound_cert::Outcome;
+use edit_model::Survey;
+use foundation::OutOfMemory;
+use std::alloc::Global;
+
+/// How many records there are, how many of them are clean, changed and not resolved, and the sum of the
+/// weights of the changed ones, in one line without a line feed.
+pub fn summary_text(
+    alloc: Global,
+    survey: &Survey,
+    ends: &[RowEnd],
+) -> Result<Vec<u8>, OutOfMemory>
+    requires { AllByRecursion (IsEnd survey.now.fields) ends.now }
+    ensures { IfOk result (λ text. text.items ≡ summary_of survey.now ends.now) }
+{
+    let records = ends.len();
+    let clean = ends.iter().filter(|end| is_clean(end)).count();
+    let changed = ends.iter().filter(|end| is_changed(end)).count();
+    let unresolved = ends.iter().filter(|end| end.gift.is_none()).count();
+    let weight = weight_of_changes(survey, ends);
+    Ok(format!(in alloc; "records {records} clean {clean} changed {changed} unresolved {unresolved} weight {weight}")?.into_bytes())
+}
+
+// What the changes weigh together. No memory.
+fn weight_of_changes(survey: &Survey, ends: &[RowEnd]) -> u128
+    requires { AllByRecursion (IsEnd survey.now.fields) ends.now }
+    ensures { result ≡ sum_by (weight_of survey.now.fields) (filter is_changed ends.now) }
+{
+    let mut weight = 0;
+    for end in ends {
+        weight += u128::from(changed_weight(survey, end));
+    }
+    weight
+}
+
+// What the record's change weighs, if it is changed. No memory.
+fn changed_weight(survey: &Survey, end: &RowEnd) -> u64
+    requires { length (path_found end.now.proof.outcome) ≤ length survey.now.fields }
+    ensures { result ≡ (if is_changed end.now then weight_of survey.now.fields end.now else 0) }
+{
+    if is_changed(end) {
+        path_weight(survey, &end.proof.outcome)
+    } else {
+        0
+    }
+}
+
+// What the path at which a search ended weighs. No memory.
+fn path_weight(survey: &Survey, outcome: &Outcome) -> u64
+    requires { length (path_found outcome.now) ≤ length survey.now.fields }
+    ensures { result ≡ path_weight survey.now.fields (path_found outcome.now) }
+{
+    match outcome {
+        Outcome::Change { path, .. } => path.weight(survey),
+        Outcome::Budget { path, .. } => path.weight(survey),
+        Outcome::Overflow { path, .. } => path.weight(survey),
+        Outcome::Contradictory { .. } => 0,
+    }
+}
+
+// Whether the record was given values and keeps all its own. No memory.
+fn is_clean(end: &RowEnd) -> bool
+    ensures { result ≡ is_clean end.now }
+{
+    end.gift.is_some() && all_kept(path_found(&end.proof.outcome))
+}
+
+// Whether the record was given other values. No memory.
+fn is_changed(end: &RowEnd) -> bool
+    ensures { result ≡ is_changed end.now }
+{
+    end.gift.is_some() && !all_kept(path_found(&end.proof.outcome))
+}
