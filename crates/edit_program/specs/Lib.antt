@@ -1,7 +1,8 @@
-pub mod Layouts
-pub mod Refusals
-pub mod Released
+pub mod Asked
+pub mod Edits
+pub mod Faults
+pub mod Options
+pub mod Readings
 pub mod Run
 pub mod Status
-pub mod Words
 pub mod inner

@@ -1,122 +1,124 @@
-ghost use Rattle.std.specs.Prelude.{◌≡◌, ◌≢◌, ◌↔◌, ℕ, IfErr, IfOk, IfSome, IsErrOf, Err, List};
-ghost use Rattle.edit_model.specs.Bounds.{IsBounded};
-ghost use Rattle.edit_model.specs.Surveys.{IsWellFormed};
-ghost use Rattle.edit_desk.specs.Desk.{PutsOnRecord, Told, raised};
-ghost use Rattle.edit_program.specs.Refusals.{refusal_status};
-ghost use Rattle.edit_program.specs.Released.{HasReleased};
-ghost use Rattle.edit_program.specs.Run.{AreCallsOf, HoldsServed, IsCut, IsEdited, ShowsCause};
-ghost use Rattle.edit_program.specs.Words.{ForNames, IsNoCommand};
-ghost use Rattle.edit_program.specs.inner.Holds.{HoldsRecords};
-ghost use Rattle.edit_program.specs.inner.Ends.{IsFetchOf, IsOfReading, end_of, faults_after};
-ghost use Rattle.record_text.specs.Sheets.{IsSheet};
+ghost use Rattle.std.specs.Prelude.{◌≡◌, ◌≢◌, ◌↔◌, ◌⊎◌, Err, IfErr, IfOk, IfSome};
+ghost use Rattle.edit_desk.specs.Desk.{PutsOnRecord, Told};
+ghost use Rattle.edit_program.specs.Asked.{ForAsked, IsNoCommand};
+ghost use Rattle.edit_program.specs.Edits.{HasReleased};
+ghost use Rattle.edit_program.specs.Faults.{fault_text};
+ghost use Rattle.edit_program.specs.Readings.{AnswersDue, Refuses};
+ghost use Rattle.edit_program.specs.Run.{AreBytesOf, IsEdited, IsRefused, IsUntold, IsUsage};
+ghost use Rattle.edit_program.specs.declared.fault.Fault.TheVariants as faults;
+ghost use Rattle.edit_program.specs.inner.Parts.{AreCallsOf, Ends, IsTelling, end_of, faults_after};
 
-use edit_desk::Desk;
-use crate::refusal::{Cause, Refusal};
-use crate::release::release_sheet;
+use crate::asked::{EditWords, edit_asked};
+use crate::fault::{OUT_OF_MEMORY, USAGE};
+use crate::reading::{fetch_sheet, fetch_survey};
+use crate::refusal::Refusal;
 use crate::status::Status;
-use crate::words::{EditWords, edit_words};
-use bound_correction::is_bounded;
-use edit_language::read_rules;
-use edit_model::Survey;
-use record_text::{Sheet, read_records};
+use crate::storing::store_texts;
+use crate::texts::{Texts, edit_sheet};
+use edit_desk::{Desk, PrintFailed, Printer};
+use foundation::OutOfMemory;
 use std::alloc::Global;
 
-/// The most bytes of a rule file, and of a record file: 64 MiB.
-const MOST_BYTES: u64 = 67_108_864;
-
-/// Serves the words after the program's name, over a desk. `edit` fetches and reads the rules, then the
-/// records, corrects each record at the least weight, and stores the released file. The first refusal in
-/// this order ends the call.
-pub fn fh_main<D: Desk>(alloc: Global, words: &[String], desk: &mut D) -> Status
+/// Serves the words after the program's name, over a desk and a printer. `edit` fetches and reads the rules, then
+/// the records, corrects each record at the least weight, stores the reasons and the released file, and prints a
+/// summary. The first refusal in this order ends the call, and is printed.
+pub fn fh_main<D: Desk, P: Printer>(
+    alloc: Global,
+    words: &[String],
+    desk: &mut D,
+    printer: &mut P,
+) -> Status
     // The words are no command.
     ensures usage { (result ≡ Status.Usage) ↔ IsNoCommand words.now }
+    ensures unasked { result ≡ Status.Usage → IsUsage
+        (record { files = D.files desk.old; calls = D.calls desk.old; faults = D.faults desk.old; printed = P.printed printer.old; unprinted = P.faults printer.old })
+        (record { files = D.files desk.new; calls = D.calls desk.new; faults = D.faults desk.new; printed = P.printed printer.new; unprinted = P.faults printer.new }) }
 
-    // The release guarantee: what stands in the released file after statuses 0 and 1.
-    ensures edited { HasReleased result → ForNames words.now (λ names. Told (D.files desk.old) (D.files desk.new) (IsEdited names result)) }
+    // The release guarantee: what stands in both files, and what was printed, after statuses 0 and 1.
+    ensures edited { HasReleased result → ForAsked words.now (λ asked. IsEdited asked result
+        (record { files = D.files desk.old; calls = D.calls desk.old; faults = D.faults desk.old; printed = P.printed printer.old; unprinted = P.faults printer.old })
+        (record { files = D.files desk.new; calls = D.calls desk.new; faults = D.faults desk.new; printed = P.printed printer.new; unprinted = P.faults printer.new })) }
 
-    // A file that is too long or has no reading, and rules that are not served, exactly where they are.
-    ensures cause { ForNames words.now (λ names. IfSome (D.files desk.old) (λ files. ShowsCause files names result)) }
+    // After every other status: the fault that ended the run, where it ended, what is left and what was printed.
+    ensures refused { ¬ HasReleased result → ForAsked words.now (λ asked. IsRefused asked result
+        (record { files = D.files desk.old; calls = D.calls desk.old; faults = D.faults desk.old; printed = P.printed printer.old; unprinted = P.faults printer.old })
+        (record { files = D.files desk.new; calls = D.calls desk.new; faults = D.faults desk.new; printed = P.printed printer.new; unprinted = P.faults printer.new })
+        ⊎ ((result ≡ Status.WriteFault) × IsUntold asked
+        (record { files = D.files desk.old; calls = D.calls desk.old; faults = D.faults desk.old; printed = P.printed printer.old; unprinted = P.faults printer.old })
+        (record { files = D.files desk.new; calls = D.calls desk.new; faults = D.faults desk.new; printed = P.printed printer.new; unprinted = P.faults printer.new }))) }
 
-    // A fault of the desk in this very call, and no other.
-    ensures read_fault { result ≡ Status.ReadFault → D.faults desk.new ≡ raised (D.faults desk.old) }
-    ensures write_fault { result ≡ Status.WriteFault → D.faults desk.new ≡ raised (D.faults desk.old) }
-    ensures faultless { result ≢ Status.ReadFault → result ≢ Status.WriteFault → D.faults desk.new ≡ D.faults desk.old }
-
-    // What was asked of the desk, where it tells that.
-    ensures asked { ForNames words.now (λ names. PutsOnRecord (D.calls desk.old) (D.calls desk.new) (AreCallsOf names result)) }
-    ensures unasked { result ≡ Status.Usage → D.calls desk.new ≡ D.calls desk.old }
-
-    // What is left on the desk after each other status.
-    ensures unchanged { ¬ HasReleased result → result ≢ Status.WriteFault → D.files desk.new ≡ D.files desk.old }
-    ensures cut_off { result ≡ Status.WriteFault → ForNames words.now (λ names. Told (D.files desk.old) (D.files desk.new) (IsCut names)) }
+    // A file that is too long or has no reading is told exactly where it is so.
+    ensures due { ForAsked words.now (λ asked. IfSome (D.files desk.old) (λ files. AnswersDue asked files result)) }
 {
-    let Some(names) = edit_words(words) else {
-        return Status::Usage;
+    let Some(asked) = edit_asked(words) else {
+        return refuse(printer, USAGE, Status::Usage);
     };
-    match edit(alloc, &names, desk) {
-        Ok(status) => status,
-        Err(refusal) => Status::from(refusal),
+    match edit(alloc, &asked, desk) {
+        Ok(texts) => tell(printer, &texts),
+        Err(refusal) => refuse(printer, refusal.line(), refusal.status()),
     }
 }
 
-/// Edits the records of one file by the rules of another, and stores the released file.
-fn edit<D: Desk>(alloc: Global, names: &EditWords<'_>, desk: &mut D) -> Result<Status, Refusal>
-    ensures command { result ≢ Err Refusal.Usage }
-    ensures released { IfOk result HasReleased }
-    ensures edited { IfOk result (λ status. Told (D.files desk.old) (D.files desk.new) (IsEdited names.now status)) }
-    ensures cause { IfSome (D.files desk.old) (λ files. ShowsCause files names.now (end_of result)) }
-    ensures faults { D.faults desk.new ≡ faults_after result (D.faults desk.old) }
-    ensures asked { PutsOnRecord (D.calls desk.old) (D.calls desk.new) (AreCallsOf names.now (end_of result)) }
-    ensures unchanged { IfErr result (λ refusal. refusal ≢ Refusal.WriteFault → D.files desk.new ≡ D.files desk.old) }
-    ensures cut_off { IsErrOf result Refusal.WriteFault → Told (D.files desk.old) (D.files desk.new) (IsCut names.now) }
+/// Ends a run whose words could not be had, with this status: they are no text, or memory was refused.
+pub fn refuse_words<P: Printer>(printer: &mut P, status: Status) -> Status
+    ensures status { result ≡ status }
+    ensures usage { status ≡ Status.Usage → AreBytesOf (fault_text faults.Usage) (P.printed printer.old) (P.printed printer.new) (P.faults printer.old) (P.faults printer.new) }
+    ensures memory { status ≢ Status.Usage → AreBytesOf (fault_text faults.OutOfMemory) (P.printed printer.old) (P.printed printer.new) (P.faults printer.old) (P.faults printer.new) }
 {
-    let survey = fetch_survey(alloc, names, desk)?;
-    let sheet = fetch_sheet(alloc, names, &survey, desk)?;
-    let made = release_sheet(alloc, &survey, sheet)?;
-    desk.store(alloc, names.released, &made.bytes)?;
-    Ok(made.status)
-}
-
-/// The survey that the rule file reads as, where it is served.
-fn fetch_survey<D: Desk>(
-    alloc: Global,
-    names: &EditWords<'_>,
-    desk: &mut D,
-) -> Result<Survey, Refusal>
-    ensures read { IfOk result (λ survey. IfSome (D.files desk.old) (λ files. HoldsServed files names.now.rules survey)) }
-    ensures well_formed { IfOk result (λ survey. IsWellFormed survey) }
-    ensures bounded { IfOk result (λ survey. IsBounded survey) }
-    ensures refused { IfErr result (λ refusal. IfSome (D.files desk.old) (λ files. ShowsCause files names.now (refusal_status refusal))) }
-    ensures end { IfErr result IsOfReading }
-    ensures asked { PutsOnRecord (D.calls desk.old) (D.calls desk.new) (IsFetchOf names.now.rules result) }
-    ensures faults { D.faults desk.new ≡ faults_after result (D.faults desk.old) }
-    ensures unchanged { D.files desk.new ≡ D.files desk.old }
-{
-    let bytes = desk.fetch(alloc, names.rules, MOST_BYTES)?;
-    let survey = read_rules(alloc, &bytes)?;
-    if is_bounded(&survey) {
-        Ok(survey)
-    } else {
-        Err(Refusal::Files(Cause::Unbuilt))
+    match status {
+        Status::Usage => refuse(printer, USAGE, status),
+        _ => refuse(printer, OUT_OF_MEMORY, status),
     }
 }
 
-/// The sheet of the survey's records that the record file reads as.
-fn fetch_sheet<D: Desk>(
+/// Does on the desk all that an edit does there, up to the first fault.
+fn edit<'a, D: Desk>(
     alloc: Global,
-    names: &EditWords<'_>,
-    survey: &Survey,
+    asked: &EditWords<'a>,
     desk: &mut D,
-) -> Result<Sheet, Refusal>
-    ensures read { IfOk result (λ sheet. IfSome (D.files desk.old) (λ files. HoldsRecords files names.now.records survey.now.fields sheet)) }
-    ensures sheet { IfOk result (λ sheet. (bytes : List ℕ) × IsSheet survey.now.fields bytes sheet) }
-    ensures refused { IfErr result (λ refusal. IfSome (D.files desk.old) (λ files. HoldsServed files names.now.rules survey.now → ShowsCause files names.now (refusal_status refusal))) }
-    ensures end { IfErr result IsOfReading }
-    ensures asked { PutsOnRecord (D.calls desk.old) (D.calls desk.new) (IsFetchOf names.now.records result) }
+) -> Result<Texts, Refusal<'a>>
+    requires apart { asked.now.names.reasons ≢ asked.now.names.released }
+    ensures released { IfOk result (λ texts. HasReleased texts.status) }
+    ensures command { result ≢ Err faults.Usage }
+    ensures cause { IfErr result (λ fault. IfSome (D.files desk.old) (λ files. Refuses asked.now files fault)) }
+    ensures due { IfSome (D.files desk.old) (λ files. AnswersDue asked.now files (end_of result)) }
+    ensures files { Told (D.files desk.old) (D.files desk.new) (Ends asked.now result) }
+    ensures asked { PutsOnRecord (D.calls desk.old) (D.calls desk.new) (AreCallsOf asked.now result) }
     ensures faults { D.faults desk.new ≡ faults_after result (D.faults desk.old) }
-    ensures unchanged { D.files desk.new ≡ D.files desk.old }
 {
-    let bytes = desk.fetch(alloc, names.records, MOST_BYTES)?;
-    let sheet = read_records(alloc, survey, &bytes)?;
-    Ok(sheet)
+    let survey = match fetch_survey(alloc, asked.rules, desk) {
+        Ok(survey) => survey,
+        Err(refusal) => return Err(refusal),
+    };
+    let sheet = match fetch_sheet(alloc, asked.records, &survey, desk) {
+        Ok(sheet) => sheet,
+        Err(refusal) => return Err(refusal),
+    };
+    let texts = match edit_sheet(alloc, &survey, &sheet, asked.budget) {
+        Ok(texts) => texts,
+        Err(OutOfMemory) => return Err(Refusal::out_of_memory()),
+    };
+    match store_texts(alloc, asked, &texts, desk) {
+        Ok(()) => Ok(texts),
+        Err(refusal) => Err(refusal),
+    }
+}
+
+// Prints the summary of an edit: where that fails, the edit ends as if a file could not be written.
+fn tell<P: Printer>(printer: &mut P, texts: &Texts) -> Status
+    ensures { IsTelling texts.now.status texts.now.summary.items result (P.printed printer.old) (P.printed printer.new) (P.faults printer.old) (P.faults printer.new) }
+{
+    match printer.line(&texts.summary) {
+        Ok(()) => texts.status,
+        Err(PrintFailed) => Status::WriteFault,
+    }
+}
+
+// Prints why a run is refused. Where that fails, the run still ends with the refusal's status.
+fn refuse<P: Printer>(printer: &mut P, line: &[u8], status: Status) -> Status
+    ensures status { result ≡ status }
+    ensures printed { AreBytesOf line.now (P.printed printer.old) (P.printed printer.new) (P.faults printer.old) (P.faults printer.new) }
+{
+    let _told = printer.line(line);
+    status
 }

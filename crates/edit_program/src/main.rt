@@ -1,26 +1,33 @@
 //! The program: it reads the words of the command line, fetches the files that they name, edits the
-//! records and stores the result. Begin with [`edit::fh_main`].
+//! records, stores the results and prints a line. Begin with [`edit::fh_main`].
 #![tactic(auto)]
 
+mod asked;
 pub mod edit;
-mod layout;
-pub mod refusal;
-mod release;
-mod released_row;
+mod fault;
+mod options;
+mod reading;
+mod refusal;
 pub mod status;
+mod storing;
 #[cfg(test)]
 mod tests;
-pub mod words;
+mod texts;
+mod words;
 
-use edit_desk::FileDesk;
+use edit_desk::{FileDesk, OutPrinter};
 use status::Status;
 use std::process::ExitCode;
 
 fn main(rt: HostRuntime) -> ExitCode {
     let alloc = rt.alloc();
+    let Ok(out) = rt.clone() else {
+        return ExitCode::from(Status::OutOfMemory.number());
+    };
+    let mut printer = OutPrinter::new(out);
     let status = match words::after_program_name(&rt) {
-        Ok(words) => edit::fh_main(alloc, &words, &mut FileDesk::new(rt)),
-        Err(refusal) => Status::from(refusal),
+        Ok(words) => edit::fh_main(alloc, &words, &mut FileDesk::new(rt), &mut printer),
+        Err(status) => edit::refuse_words(&mut printer, status),
     };
     ExitCode::from(status.number())
 }

@@ -1,127 +1,80 @@
-ghost use Rattle.std.specs.Prelude.{◌≡◌};
+ghost use Rattle.std.specs.Prelude.{◌≡◌, ◌⊎◌, IfOk};
+ghost use Rattle.edit_program.specs.Faults.{fault_status, fault_text};
+ghost use Rattle.edit_program.specs.declared.fault.Fault.TheVariants as faults;
 
-use edit_desk::{FetchError, StoreError};
+use crate::fault::{Fault, OUT_OF_MEMORY};
 use crate::status::Status;
-use edit_language::RulesFault;
 use foundation::OutOfMemory;
-use record_text::SheetFault;
+use std::alloc::Global;
+use std::marker::Model;
 
-/// Why the files that a run was given are refused.
-#[derive(Clone, Copy, Debug, PartialEq, Eq)]
-pub enum Cause {
-    /// A file has more bytes than its limit.
-    TooLong,
-    /// The rule file has no reading.
-    Rules,
-    /// The rules have a form that the program does not serve yet.
-    Unbuilt,
-    /// The record file has no reading.
-    Records,
+/// A fault that ends a run, with the line that is printed of it. The line is made before the call that may meet
+/// the fault, so that a file that could not be read or written is told without memory.
+#[derive(Debug, Drop)]
+pub(crate) struct Refusal<'a> {
+    fault: Fault<'a>,
+    line: Option<Vec<u8>>,
 }
 
-/// Why a run ended before its release was stored as a whole.
-#[derive(Clone, Copy, Debug, PartialEq, Eq)]
-pub enum Refusal {
-    /// The words are no command.
-    Usage,
-    /// The files are refused.
-    Files(Cause),
-    /// A file could not be read.
-    ReadFault,
-    /// A file could not be written.
-    WriteFault,
-    /// Memory was refused.
-    OutOfMemory,
+impl<'a> Model for Refusal<'a> {
+    ghost use Rattle.std.specs.Prelude.{◌≡◌, IfNone, IfSome};
+    ghost use Rattle.edit_program.specs.Faults.{fault_text};
+    ghost use Rattle.edit_program.specs.declared.fault.Fault.{Fault as Told};
+    ghost use Rattle.edit_program.specs.declared.fault.Fault.TheVariants as faults;
+
+    ghost Value = { Told };
+
+    ghost view = { λ r. r.fault };
+
+    ghost invariant = { λ r. IfSome r.line (λ line. line.items ≡ fault_text r.fault) × IfNone r.line (r.fault ≡ faults.OutOfMemory) };
 }
 
-impl From<Refusal> for Status {
-    ghost use Rattle.edit_program.specs.Refusals.{refusal_status};
+impl<'a> Refusal<'a> {
+    /// The refusal for a fault.
+    pub(crate) fn new(alloc: Global, fault: Fault<'a>) -> Result<Refusal<'a>, OutOfMemory>
+        ensures { IfOk result (λ refusal. refusal ≡ fault) }
+    {
+        let line = fault.line(alloc)?;
+        Ok(Refusal {
+            fault,
+            line: Some(line),
+        })
+    }
 
-    ghost from_gives = { λ refusal status. status ≡ refusal_status refusal };
-
-    fn from(refusal: Refusal) -> Self {
-        match refusal {
-            Refusal::Usage => Status::Usage,
-            Refusal::Files(Cause::TooLong) => Status::TooLong,
-            Refusal::Files(Cause::Rules) => Status::Rules,
-            Refusal::Files(Cause::Unbuilt) => Status::Unbuilt,
-            Refusal::Files(Cause::Records) => Status::Records,
-            Refusal::ReadFault => Status::ReadFault,
-            Refusal::WriteFault => Status::WriteFault,
-            Refusal::OutOfMemory => Status::OutOfMemory,
+    /// The refusal for a fault, or for want of memory.
+    pub(crate) fn of(alloc: Global, fault: Fault<'a>) -> Refusal<'a>
+        ensures { (result ≡ fault) ⊎ (result ≡ faults.OutOfMemory) }
+    {
+        match Refusal::new(alloc, fault) {
+            Ok(refusal) => refusal,
+            Err(OutOfMemory) => Refusal::out_of_memory(),
         }
     }
-}
 
-impl From<Cause> for Refusal {
-    ghost use Rattle.edit_program.specs.declared.refusal.Refusal.TheVariants.{Files};
-
-    ghost from_gives = { λ cause refusal. refusal ≡ Files cause };
-
-    fn from(cause: Cause) -> Self {
-        Refusal::Files(cause)
-    }
-}
-
-impl From<OutOfMemory> for Refusal {
-    ghost use Rattle.edit_program.specs.declared.refusal.Refusal.TheVariants as refusal;
-
-    ghost from_gives = { λ _ refused. refused ≡ refusal.OutOfMemory };
-
-    fn from(_refused: OutOfMemory) -> Self {
-        Refusal::OutOfMemory
-    }
-}
-
-impl From<FetchError> for Refusal {
-    ghost use Rattle.edit_program.specs.Refusals.{fetch_refusal};
-
-    ghost from_gives = { λ error refusal. refusal ≡ fetch_refusal error };
-
-    fn from(error: FetchError) -> Self {
-        match error {
-            FetchError::Failed => Refusal::ReadFault,
-            FetchError::TooLong { .. } => Refusal::Files(Cause::TooLong),
-            FetchError::OutOfMemory => Refusal::OutOfMemory,
+    /// The refusal for want of memory. No memory.
+    pub(crate) fn out_of_memory() -> Refusal<'a>
+        ensures { result ≡ faults.OutOfMemory }
+    {
+        Refusal {
+            fault: Fault::OutOfMemory,
+            line: None,
         }
     }
-}
 
-impl From<StoreError> for Refusal {
-    ghost use Rattle.edit_program.specs.Refusals.{store_refusal};
-
-    ghost from_gives = { λ error refusal. refusal ≡ store_refusal error };
-
-    fn from(error: StoreError) -> Self {
-        match error {
-            StoreError::Failed => Refusal::WriteFault,
-            StoreError::OutOfMemory => Refusal::OutOfMemory,
-        }
+    /// How the run ends. No memory.
+    pub(crate) fn status(&self) -> Status
+        ensures { result ≡ fault_status self.now }
+    {
+        self.fault.status()
     }
-}
 
-impl From<RulesFault> for Refusal {
-    ghost use Rattle.edit_program.specs.Refusals.{rules_refusal};
-
-    ghost from_gives = { λ fault refusal. refusal ≡ rules_refusal fault };
-
-    fn from(fault: RulesFault) -> Self {
-        match fault {
-            RulesFault::At { .. } => Refusal::Files(Cause::Rules),
-            RulesFault::OutOfMemory => Refusal::OutOfMemory,
-        }
-    }
-}
-
-impl From<SheetFault> for Refusal {
-    ghost use Rattle.edit_program.specs.Refusals.{sheet_refusal};
-
-    ghost from_gives = { λ fault refusal. refusal ≡ sheet_refusal fault };
-
-    fn from(fault: SheetFault) -> Self {
-        match fault {
-            SheetFault::OutOfMemory => Refusal::OutOfMemory,
-            _ => Refusal::Files(Cause::Records),
+    /// What is printed of it. No memory.
+    pub(crate) fn line(&self) -> &[u8]
+        ensures { result.now ≡ fault_text self.now }
+    {
+        match &self.line {
+            Some(line) => line.as_slice(),
+            None => OUT_OF_MEMORY,
         }
     }
 }

@@ -21,9 +21,6 @@ pub enum Status {
     OutOfMemory,
     /// A file has more bytes than its limit.
     TooLong,
-    /// The rules have a form that the program does not serve yet: a categorical field, or a rule that
-    /// bounds no single field.
-    Unbuilt,
 }
 
 impl Status {
@@ -43,7 +40,6 @@ impl Status {
             Status::WriteFault => 6,
             Status::OutOfMemory => 7,
             Status::TooLong => 8,
-            Status::Unbuilt => 10,
         }
     }
 }
