@@ -83,7 +83,8 @@ fn push_row(
     if all_kept(path) {
         return writer.push(read);
     }
-    writer.push(&released_texts(alloc, survey, layout, read, path, new)?)
+    let texts = released_texts(alloc, survey, layout, read, path, new)?;
+    writer.push(&texts)
 }
 
 // The row's texts afterwards, column by column.
