@@ -124,7 +124,16 @@ fn push_changes(
     let fields = changed.as_slice();
     let hows = gift.how.as_slice();
     for place in 0..fields.len() {
-        push_change(alloc, writer, survey, layout, record, &gift.row, fields[place], hows[place])?;
+        push_change(
+            alloc,
+            writer,
+            survey,
+            layout,
+            record,
+            &gift.row,
+            fields[place],
+            hows[place],
+        )?;
     }
     Ok(())
 }

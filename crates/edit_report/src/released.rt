@@ -105,7 +105,9 @@ fn released_texts(
     let changed = changed_set(survey, path);
     let mut texts = Texts::new(alloc);
     for column in 0..layout.width() {
-        push_column(alloc, &mut texts, survey, layout, read, changed, new, column)?;
+        push_column(
+            alloc, &mut texts, survey, layout, read, changed, new, column,
+        )?;
     }
     Ok(texts)
 }

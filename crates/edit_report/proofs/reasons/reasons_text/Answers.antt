@@ -1,4 +1,4 @@
-use Rattle.std.proofs.Common.{List, [], ap, arith, length, get_or, refl, ◌++◌, ◌∙◌, ◌≡◌, ◌<◌, ◌∷◌, sym, ℕ}
+use Rattle.std.proofs.Common.{List, [], ap, arith, length, get_or, ◌++◌, ◌∙◌, ◌<◌, ◌∷◌, sym, ℕ}
 use Rattle.record_text.specs.Texts.{records_text}
 use Rattle.record_text.proofs.WritingLaws.{records_text-append}
 use Rattle.edit_report.specs.Reasons.{reasons_from, reasons_header, reasons_of}

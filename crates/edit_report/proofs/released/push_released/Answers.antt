@@ -1,10 +1,9 @@
-use Rattle.std.proofs.Common.{List, OnOk, Option, Some, ◌++◌, subst, sym, ℕ}
+use Rattle.std.proofs.Common.{List, OnOk, Option, ◌++◌, subst, sym, ℕ}
 use Rattle.back_subst.specs.declared.gift.Gift.{Gift}
 use Rattle.record_text.specs.Texts.{records_text}
 use Rattle.record_text.specs.Written.{HasWritten}
-use Rattle.edit_report.specs.Ends.{AreOfOneEnd, path_found}
+use Rattle.edit_report.specs.Ends.{path_found}
 use Rattle.edit_report.specs.Released.{row_with}
-use Rattle.edit_report.proofs.EndLaws.{given-there}
 use Rattle.edit_report.proofs.released.push_released.Goals as goal
 
 pub returns-in-Some : goal.returns-in-Some
