@@ -1,5 +1,5 @@
 -- What an end is, by whether values were given.
-use Rattle.std.proofs.Common.{◌≡◌, List, Option, Some, None, subst, sym}
+use Rattle.std.proofs.Common.{List, Option, Some, None}
 use Rattle.edit_model.specs.declared.field.Field.{Field}
 use Rattle.bound_cert.specs.declared.outcome.GiftFault.{GiftFault}
 use Rattle.bound_cert.specs.declared.outcome.Outcome.{Outcome}

@@ -1,5 +1,5 @@
 -- Released rows, column by column, and one after another.
-use Rattle.std.proofs.Common.{◌≡◌, ℕ, zero, suc, ◌+◌, ◌<◌, ◌≤◌, Bool, true, false, if◌then◌else◌, List, [], ◌∷◌, ◌++◌, Option, Some, None, drop, get_or, length, refl, sym, ap, ◌∙◌, add-one, append_assoc, arith}
+use Rattle.std.proofs.Common.{◌≡◌, ℕ, suc, ◌+◌, ◌<◌, ◌≤◌, Bool, false, if◌then◌else◌, List, [], ◌∷◌, ◌++◌, Option, Some, None, drop, get_or, length, refl, sym, ap, ◌∙◌, add-one, append_assoc}
 use Rattle.std.proofs.lemmas.List.{append-nil, drop_all}
 use Rattle.std.proofs.Math.Seq.{drop-cons}
 use Rattle.edit_model.specs.declared.field.Field.{Field}
@@ -41,4 +41,3 @@ module _ (fields : List Field) (columns : List ℕ) (new : List Value) where
   pub texts-all : (changed : ℕ → Bool) (read done whole : List (List ℕ)) (j : ℕ) → length read ≤ j → done ++ texts_from fields columns changed new j (drop j read) ≡ whole → done ≡ whole
   texts-all changed read done whole j past before =
       sym (append-nil done) ∙ ap (λ (ts : List (List ℕ)). done ++ texts_from fields columns changed new j ts) (sym (drop_all j read past)) ∙ before
-

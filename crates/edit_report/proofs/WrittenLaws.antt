@@ -1,11 +1,13 @@
 -- What is written of one record after the other.
-use Rattle.std.proofs.Common.{◌≡◌, ℕ, zero, suc, ◌+◌, ◌<◌, ◌≤◌, List, [], ◌∷◌, ◌++◌, drop, Option, get_or, length, refl, sym, ap, ◌∙◌, add-one, append_assoc, subst, arith}
+use Rattle.std.proofs.Common.{◌≡◌, ℕ, zero, suc, ◌+◌, ◌<◌, ◌≤◌, List, [], ◌∷◌, ◌++◌, drop, Option, Result, Ok, Err, get_or, length, refl, sym, ap, ◌∙◌, append_assoc, subst, arith}
+use Rattle.std.specs.Prelude.{IfOk}
 use Rattle.std.specs.List.{AllByRecursion}
 use Rattle.std.proofs.lemmas.List.{append-nil, drop_all}
 use Rattle.edit_model.specs.declared.field.Field.{Field}
 use Rattle.edit_model.specs.declared.value.Value.{Value}
 use Rattle.bound_cert.proofs.OrderLoop.{at_both}
 use Rattle.back_subst.specs.declared.gift.How.{How}
+use Rattle.back_subst.specs.declared.gift.How.TheVariants.{Donor}
 use Rattle.record_text.specs.Texts.{records_text}
 use Rattle.record_text.proofs.WritingLaws.{records_text-append}
 use Rattle.edit_report.specs.Reasons.{changed_line, changed_lines, reasons_from, reasons_of}
@@ -17,6 +19,11 @@ pub each-at : {X : Type 0} (P : X → Type 0) (xs : List X) (i : ℕ) (x : X) �
 each-at P [] i x all below is = absurd (omega arith)
 each-at P (y ∷ xs) zero x all below is = subst P (sym is) all.0
 each-at P (y ∷ xs) (suc i) x all below is = each-at P xs i x all.1 (omega arith) is
+
+-- what follows of an answer that is there
+pub ok-then : {R E : Type 0} (r : Result R E) (P Q : R → Type 0) → IfOk r P → ((x : R) → P x → Q x) → IfOk r Q
+ok-then (Ok x) P Q held then = then x held
+ok-then (Err e) P Q held then = tt
 
 -- the first records, and then the others
 then-rest : (text : List ℕ) (first rest : List (List (List ℕ))) → (text ++ records_text first) ++ records_text rest ≡ text ++ records_text (first ++ rest)
@@ -60,9 +67,12 @@ module _ (fields : List Field) (columns : List ℕ) where
   reasons-more raws ends i end text whole within below is before =
       then-rest text (reasons_of fields columns i (get_or raws i []) end) (reasons_from fields columns (i + 1) (drop (i + 1) raws) (drop (i + 1) ends))
       ∙ ap (λ (e : RowEnd). text ++ records_text (reasons_of fields columns i (get_or raws i []) e ++ reasons_from fields columns (i + 1) (drop (i + 1) raws) (drop (i + 1) ends))) is
-      ∙ ap (λ (rows : List (List (List ℕ))). text ++ records_text rows) (sym (opened ∙ ap (λ n. reasons_of fields columns i (get_or raws i []) (get_or ends i end) ++ reasons_from fields columns n (drop (i + 1) raws) (drop (i + 1) ends)) (sym add-one)))
+      ∙ ap (λ (rows : List (List (List ℕ))). text ++ records_text rows) (sym (opened ∙ ap (λ n. reasons_of fields columns i (get_or raws i []) (get_or ends i end) ++ reasons_from fields columns n (drop (i + 1) raws) (drop (i + 1) ends)) next))
       ∙ before
     where
+      next : suc i ≡ i + 1
+      next = omega arith
+
       opened : reasons_from fields columns i (drop i raws) (drop i ends) ≡ reasons_of fields columns i (get_or raws i []) (get_or ends i end) ++ reasons_from fields columns (suc i) (drop (i + 1) raws) (drop (i + 1) ends)
       opened = at_both (reasons_from fields columns i) raws ends i [] end within below
 
@@ -78,14 +88,12 @@ module _ (fields : List Field) (columns : List ℕ) where
     lines-end (how ∷ hows) = refl
 
     -- one line more
-    pub lines-more : (changed : List ℕ) (hows : List How) (i f : ℕ) (how : How) (text whole : List ℕ) → i < length changed → i < length hows → f ≡ get_or changed i f → how ≡ get_or hows i how
+    pub lines-more : (changed : List ℕ) (hows : List How) (i : ℕ) (text whole : List ℕ) → i < length changed → i < length hows
         → text ++ records_text (changed_lines fields columns number texts donor new (drop i changed) (drop i hows)) ≡ whole
-        → (text ++ records_text (changed_line fields columns number texts donor new f how ∷ [])) ++ records_text (changed_lines fields columns number texts donor new (drop (i + 1) changed) (drop (i + 1) hows)) ≡ whole
-    lines-more changed hows i f how text whole within below is says before =
-        then-rest text (changed_line fields columns number texts donor new f how ∷ []) (changed_lines fields columns number texts donor new (drop (i + 1) changed) (drop (i + 1) hows))
-        ∙ ap (λ n. text ++ records_text (changed_line fields columns number texts donor new n how ∷ changed_lines fields columns number texts donor new (drop (i + 1) changed) (drop (i + 1) hows))) is
-        ∙ ap (λ (h : How). text ++ records_text (changed_line fields columns number texts donor new (get_or changed i f) h ∷ changed_lines fields columns number texts donor new (drop (i + 1) changed) (drop (i + 1) hows))) says
-        ∙ ap (λ (rows : List (List (List ℕ))). text ++ records_text rows) (sym (at_both (changed_lines fields columns number texts donor new) changed hows i f how within below))
+        → (text ++ records_text (changed_line fields columns number texts donor new (get_or changed i 0) (get_or hows i Donor) ∷ [])) ++ records_text (changed_lines fields columns number texts donor new (drop (i + 1) changed) (drop (i + 1) hows)) ≡ whole
+    lines-more changed hows i text whole within below before =
+        then-rest text (changed_line fields columns number texts donor new (get_or changed i 0) (get_or hows i Donor) ∷ []) (changed_lines fields columns number texts donor new (drop (i + 1) changed) (drop (i + 1) hows))
+        ∙ ap (λ (rows : List (List (List ℕ))). text ++ records_text rows) (sym (at_both (changed_lines fields columns number texts donor new) changed hows i 0 Donor within below))
         ∙ before
 
     -- and all of them

@@ -1,5 +1,5 @@
 -- The reasons file.
-use Rattle.std.specs.Prelude.{ℕ, suc, ◌+◌, Bool, true, false, List, [], ◌∷◌, ◌++◌, Option, Some, None, codes, decimal, map, slice_index_or, zip}
+use Rattle.std.specs.Prelude.{ℕ, suc, ◌+◌, Bool, true, false, List, [], ◌∷◌, ◌++◌, Option, Some, None, codes, decimal, map, slice_index_or}
 use Rattle.edit_line.specs.declared.place.Place.{Place}
 use Rattle.edit_line.specs.declared.place.Place.TheVariants as place
 use Rattle.edit_model.specs.Parts.{SurveyParts}

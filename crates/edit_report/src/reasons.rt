@@ -121,9 +121,19 @@ fn push_changes(
     ensures { OnOk result ((bytes : List ℕ) → HasWritten writer.old bytes → HasWritten writer.new (bytes ++ records_text (changed_lines survey.now.fields layout.now.columns record.now.number record.now.read.now record.now.end.now.donor gift.now.row (changed_fields survey.now.fields (path_found record.now.end.now.proof.outcome)) gift.now.how))) }
 {
     let changed = changed_fields(alloc, survey, path_found(&record.end.proof.outcome))?;
+    let fields = changed.as_slice();
     let hows = gift.how.as_slice();
-    for place in 0..changed.len() {
-        push_change(alloc, writer, survey, layout, record, &gift.row, changed[place], hows[place])?;
+    for place in 0..fields.len() {
+        push_change(
+            alloc,
+            writer,
+            survey,
+            layout,
+            record,
+            &gift.row,
+            fields[place],
+            hows[place],
+        )?;
     }
     Ok(())
 }

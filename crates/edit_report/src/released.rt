@@ -83,7 +83,8 @@ fn push_row(
     if all_kept(path) {
         return writer.push(read);
     }
-    writer.push(&released_texts(alloc, survey, layout, read, path, new)?)
+    let texts = released_texts(alloc, survey, layout, read, path, new)?;
+    writer.push(&texts)
 }
 
 // The row's texts afterwards, column by column.
@@ -104,7 +105,9 @@ fn released_texts(
     let changed = changed_set(survey, path);
     let mut texts = Texts::new(alloc);
     for column in 0..layout.width() {
-        push_column(alloc, &mut texts, survey, layout, read, changed, new, column)?;
+        push_column(
+            alloc, &mut texts, survey, layout, read, changed, new, column,
+        )?;
     }
     Ok(texts)
 }

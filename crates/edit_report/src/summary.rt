@@ -14,11 +14,7 @@ use std::alloc::Global;
 
 /// How many records there are, how many of them are clean, changed and not resolved, and the sum of the
 /// weights of the changed ones, in one line without a line feed.
-pub fn summary_text(
-    alloc: Global,
-    survey: &Survey,
-    ends: &[RowEnd],
-) -> Result<Vec<u8>, OutOfMemory>
+pub fn summary_text(alloc: Global, survey: &Survey, ends: &[RowEnd]) -> Result<Vec<u8>, OutOfMemory>
     requires { AllByRecursion (IsEnd survey.now.fields) ends.now }
     ensures { IfOk result (λ text. text.items ≡ summary_of survey.now ends.now) }
 {
@@ -27,7 +23,9 @@ pub fn summary_text(
     let changed = ends.iter().filter(|end| is_changed(end)).count();
     let unresolved = ends.iter().filter(|end| end.gift.is_none()).count();
     let weight = weight_of_changes(survey, ends);
-    Ok(format!(in alloc; "records {records} clean {clean} changed {changed} unresolved {unresolved} weight {weight}")?.into_bytes())
+    Ok(format!(in alloc;
+        "records {records} clean {clean} changed {changed} unresolved {unresolved} weight {weight}"
+    )?.into_bytes())
 }
 
 // What the changes weigh together. No memory.

@@ -12,3 +12,8 @@ returns-then-all_kept c =
     let path = c.args.path.now in
     subst (λ (texts : List (List ℕ)). OnOk c.push.result ((bytes : List ℕ) → HasWritten c.args.writer.now bytes → HasWritten c.push.new.self (bytes ++ records_text (texts ∷ []))))
     (sym (texts-kept fields c.args.layout.now.columns c.args.new.now (changes fields path) 0 c.args.read.now (none-changed fields path (sym c.all_kept.ensures ∙ c.if-all_kept.true)))) c.push.ensures
+
+pub returns : goal.returns
+returns c =
+    subst (λ (texts : List (List ℕ)). OnOk c.push-2.result ((bytes : List ℕ) → HasWritten c.args.writer.now bytes → HasWritten c.push-2.new.self (bytes ++ records_text (texts ∷ []))))
+    c.in_ok-texts.ensures c.push-2.ensures

@@ -1,5 +1,4 @@
-use Rattle.std.proofs.Common.{◌∙◌, Option, Some, ap, arith, sym}
-use Rattle.std.proofs.lemmas.Option.{slice_get_read}
+use Rattle.std.proofs.Common.{arith}
 use Rattle.edit_model.proofs.RowLaws.{row-length}
 use Rattle.edit_report.proofs.value_text.text_at.Goals as goal
 

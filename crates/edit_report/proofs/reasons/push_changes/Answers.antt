@@ -1,0 +1,34 @@
+use Rattle.std.proofs.Common.{List, [], ap, arith, get_or, length, ◌++◌, ◌∙◌, ◌≡◌, ◌<◌, ◌∷◌, sym, ℕ}
+use Rattle.back_subst.specs.declared.gift.How.{How}
+use Rattle.back_subst.specs.declared.gift.How.TheVariants.{Donor}
+use Rattle.record_text.specs.Texts.{records_text}
+use Rattle.edit_report.specs.Ends.{changed_fields, path_found}
+use Rattle.edit_report.specs.Reasons.{changed_line}
+use Rattle.edit_report.proofs.WrittenLaws.{lines-all, lines-more}
+use Rattle.edit_report.proofs.reasons.push_changes.Goals as goal
+
+pub loop-place-preserved : goal.loop-place-preserved
+loop-place-preserved c bytes before =
+    let inv = c.loop-place.invariant bytes before in
+    let fields = c.args.survey.now.fields in
+    let columns = c.args.layout.now.columns in
+    let number = c.args.record.now.number in
+    let read = c.args.record.now.read.now in
+    let donor = c.args.record.now.end.now.donor in
+    let new = c.args.gift.now.row in
+    let changed : c.as_slice-fields.result.now ≡ changed_fields fields (path_found c.args.record.now.end.now.proof.outcome) = c.as_slice-fields.ensures.value ∙ c.in_ok-changed.ensures.fields ∙ ap (changed_fields fields) c.path_found.ensures in
+    let many : length c.as_slice-hows.result.now ≡ length c.as_slice-fields.result.now = ap (λ (hs : List How). length hs) c.as_slice-hows.ensures ∙ c.requires.gift.how ∙ sym (ap (λ (fs : List ℕ). length fs) changed) in
+    let below : c.loop-place.place < length c.as_slice-fields.result.now = omega (arith, c.loop-place-test.true) in
+    let rest = lines-more fields columns number read donor new c.as_slice-fields.result.now c.as_slice-hows.result.now c.loop-place.place inv.0 _ below (omega (arith, below, many)) inv.2 in (
+      inv.0 ++ records_text (changed_line fields columns number read donor new (get_or c.as_slice-fields.result.now c.loop-place.place 0) (get_or c.as_slice-hows.result.now c.loop-place.place Donor) ∷ []),
+      c.in_ok-push_change.ensures inv.0 inv.1,
+      rest,
+    )
+
+pub returns : goal.returns
+returns c bytes before =
+    let inv = c.loop-place.invariant bytes before in
+    let fields = c.args.survey.now.fields in
+    let changed : c.as_slice-fields.result.now ≡ changed_fields fields (path_found c.args.record.now.end.now.proof.outcome) = c.as_slice-fields.ensures.value ∙ c.in_ok-changed.ensures.fields ∙ ap (changed_fields fields) c.path_found.ensures in
+    let all = lines-all fields c.args.layout.now.columns c.args.record.now.number c.args.record.now.read.now c.args.record.now.end.now.donor c.args.gift.now.row c.as_slice-fields.result.now c.as_slice-hows.result.now c.loop-place.place inv.0 _ (omega (arith, c.loop-place-test.false)) inv.2 in
+    rw (← changed, ← c.as_slice-hows.ensures, ← all) inv.1
