@@ -1,5 +1,4 @@
 pub mod ChangedLaws
-pub mod EndLaws
 pub mod ReleasedLaws
 pub mod SheetLaws
 pub mod SummaryLaws

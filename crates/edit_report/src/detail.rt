@@ -1,6 +1,5 @@
 //! Why a record is not released, in a few words.
 ghost use Rattle.std.specs.Prelude.{◌≡◌, ◌<◌, ◌++◌, IfOk, IfSome, None, OnOk, codes, decimal, length, map};
-ghost use Rattle.edit_report.specs.Ends.{AreOfOneEnd, IsEventWithin, IsFaultWithin, IsPlaceWithin};
 ghost use Rattle.edit_report.specs.Reasons.{cause_text, detail_text, event_text, giving_text, letter_of, name_of, number_text, path_text, place_text};
 
 use bound_cert::{Event, GiftFault, Outcome, Path, RowProof};
@@ -27,7 +26,6 @@ pub(crate) fn detail_text(
     survey: &Survey,
     found: &RowProof,
 ) -> Result<Vec<u8>, OutOfMemory>
-    requires { AreOfOneEnd survey.now.fields found.now.outcome found.now.gift None }
     ensures { IfOk result (λ text. text.items ≡ detail_text survey.now.fields found.now.outcome found.now.gift) }
 {
     match &found.outcome {
@@ -56,7 +54,6 @@ fn overflow_text(
     path: &Path,
     event: &Event,
 ) -> Result<Vec<u8>, OutOfMemory>
-    requires { IsEventWithin (length survey.now.fields) event.now }
     ensures { IfOk result (λ text. text.items ≡ codes "path " ++ (path_text path.now ++ event_text survey.now.fields event.now)) }
 {
     let mut text = Vec::from_slice(alloc, b"path ")?;
@@ -71,7 +68,6 @@ fn giving_text(
     survey: &Survey,
     fault: &Option<GiftFault>,
 ) -> Result<Vec<u8>, OutOfMemory>
-    requires { IfSome fault.now (IsFaultWithin (length survey.now.fields)) }
     ensures { IfOk result (λ text. text.items ≡ giving_text survey.now.fields fault.now) }
 {
     let mut text = Vec::new(alloc);
@@ -93,7 +89,6 @@ fn giving_text(
 
 // Adds the lines at which a number left the range, and the field there.
 fn push_event(text: &mut Vec<u8>, survey: &Survey, event: &Event) -> Result<(), OutOfMemory>
-    requires { IsEventWithin (length survey.now.fields) event.now }
     ensures { OnOk result (text.new.items ≡ text.old.items ++ event_text survey.now.fields event.now) }
 {
     match event {
@@ -121,7 +116,6 @@ fn push_event(text: &mut Vec<u8>, survey: &Survey, event: &Event) -> Result<(), 
 
 // Adds the name of a place among the numbers of a line.
 fn push_place(text: &mut Vec<u8>, survey: &Survey, place: &Place) -> Result<(), OutOfMemory>
-    requires { IsPlaceWithin (length survey.now.fields) place.now }
     ensures { OnOk result (text.new.items ≡ text.old.items ++ place_text survey.now.fields place.now) }
 {
     match place {
@@ -176,10 +170,12 @@ pub(crate) fn number_text(alloc: Global, place: u32) -> Result<Vec<u8>, OutOfMem
     Ok(text)
 }
 
-/// The field's name. No memory.
+/// The field's name, nothing where there is no such field. No memory.
 pub(crate) fn name_of(survey: &Survey, field: u32) -> &[u8]
-    requires { field < length survey.now.fields }
     ensures { result.now ≡ name_of survey.now.fields field }
 {
-    survey.fields()[field as usize].name.as_bytes()
+    match survey.fields().get(field as usize) {
+        Some(field) => field.name.as_bytes(),
+        None => &[],
+    }
 }

@@ -4,7 +4,7 @@ ghost use Rattle.record_text.specs.Sheets.{IsSheet};
 ghost use Rattle.record_text.specs.Texts.{records_text};
 ghost use Rattle.record_text.specs.Written.{HasWritten};
 ghost use Rattle.edit_model.specs.Rows.{IsRow};
-ghost use Rattle.edit_report.specs.Ends.{AreEnds, AreOfOneEnd, IsEnd, IsGift, changed_fields, path_found};
+ghost use Rattle.edit_report.specs.Ends.{AreEnds, IsEnd, IsGift, changed_fields, path_found};
 ghost use Rattle.edit_report.specs.Layouts.{IsLayout};
 ghost use Rattle.edit_report.specs.Reasons.{changed_line, changed_lines, donor_text, how_text, reasons_header, reasons_of, reasons_text_of, unresolved_line};
 
@@ -90,7 +90,6 @@ fn push_unresolved(
     number: u32,
     found: &RowProof,
 ) -> Result<(), OutOfMemory>
-    requires { AreOfOneEnd survey.now.fields found.now.outcome found.now.gift None }
     ensures { OnOk result ((bytes : List ℕ) → HasWritten writer.old bytes → HasWritten writer.new (bytes ++ records_text (unresolved_line survey.now.fields number found.now ∷ []))) }
 {
     let number = number_text(alloc, number)?;

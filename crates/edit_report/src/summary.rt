@@ -1,7 +1,8 @@
 //! The summary line.
-ghost use Rattle.std.specs.Prelude.{◌≡◌, ◌≤◌, IfOk, if◌then◌else◌, length};
+ghost use Rattle.std.specs.Prelude.{◌≡◌, ◌≤◌, IfOk, if◌then◌else◌, length, not};
 ghost use Rattle.std.specs.List.{AllByRecursion, filter, sum_by};
 ghost use Rattle.bound_cert.specs.Paths.{path_weight};
+ghost use Rattle.bound_cert.specs.Trees.{all_kept};
 ghost use Rattle.edit_report.specs.Ends.{IsEnd, path_found};
 ghost use Rattle.edit_report.specs.Summaries.{is_changed, is_clean, is_unresolved, summary_of, weight_of};
 
@@ -42,21 +43,23 @@ fn weight_of_changes(survey: &Survey, ends: &[RowEnd]) -> u128
 
 // What the record's change weighs, if it is changed. No memory.
 fn changed_weight(survey: &Survey, end: &RowEnd) -> u64
-    requires { length (path_found end.now.proof.outcome) ≤ length survey.now.fields }
+    requires { IsEnd survey.now.fields end.now }
     ensures { result ≡ (if is_changed end.now then weight_of survey.now.fields end.now else 0) }
 {
-    if is_changed(end) {
-        path_weight(survey, &end.proof.outcome)
-    } else {
-        0
+    match &end.gift {
+        None => 0,
+        Some(_) => path_weight(survey, &end.proof.outcome),
     }
 }
 
-// What the path at which a search ended weighs. No memory.
+// What the path at which a search ended weighs, nothing where it keeps all fields. No memory.
 fn path_weight(survey: &Survey, outcome: &Outcome) -> u64
     requires { length (path_found outcome.now) ≤ length survey.now.fields }
-    ensures { result ≡ path_weight survey.now.fields (path_found outcome.now) }
+    ensures { result ≡ (if not (all_kept (path_found outcome.now)) then path_weight survey.now.fields (path_found outcome.now) else 0) }
 {
+    if all_kept(path_found(outcome)) {
+        return 0;
+    }
     match outcome {
         Outcome::Change { path, .. } => path.weight(survey),
         Outcome::Budget { path, .. } => path.weight(survey),

@@ -10,3 +10,9 @@ pub returns-in-Some : goal.returns-in-Some
 returns-in-Some c =
     subst (λ (g : Option Gift). OnOk c.push_row.result ((bytes : List ℕ) → HasWritten c.args.writer.now bytes → HasWritten c.push_row.new.writer (bytes ++ records_text (row_with c.args.survey.now.fields c.args.layout.now.columns c.args.read.now (path_found c.args.end.now.proof.outcome) g))))
     (sym c.in-Some.is) (rw c.path_found-path.ensures at c.push_row.ensures)
+
+pub push_row-requires-clause-short : goal.push_row-requires-clause-short
+push_row-requires-clause-short c = rw c.path_found-path.ensures ((rw c.in-Some.is at c.requires.end).short)
+
+pub push_row-requires-clause-new : goal.push_row-requires-clause-new
+push_row-requires-clause-new c = (rw c.in-Some.is at c.requires.end).row
