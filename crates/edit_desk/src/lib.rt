@@ -6,9 +6,9 @@ mod calls;
 mod count;
 mod file;
 mod memory;
-mod out;
 mod page;
 mod printer;
+mod standard_output;
 #[cfg(test)]
 mod tests;
 mod writing;
@@ -16,6 +16,6 @@ mod writing;
 pub use calls::{Desk, FetchError, StoreError};
 pub use file::FileDesk;
 pub use memory::{Failure, MemoryDesk};
-pub use out::OutPrinter;
 pub use page::MemoryPrinter;
 pub use printer::{PrintFailed, Printer};
+pub use standard_output::OutPrinter;

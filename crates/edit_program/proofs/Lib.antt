@@ -1,2 +1,2 @@
-mod ReleasedLaws
-mod RunLaws
+pub mod AskedLaws
+pub mod PairLaws

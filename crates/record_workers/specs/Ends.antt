@@ -26,7 +26,7 @@ pub record IsGiftOf (survey : SurveyParts) (row : List Value) (path : List Bool)
 -- the giving stops at this fault: a number of a bound, or of the final test, leaves the range there first
 abbrev pub StopsAt : SurveyParts → EditsParts → List Value → ℕ → Option (List Value) → GiftFault → Type 0
 StopsAt survey edits row changed donor (fault.Bound field line) = StopsAtLine survey edits row changed donor field line
-StopsAt survey edits row changed donor (fault.Test rule) = StopsAtRule survey row changed donor rule
+StopsAt survey edits row changed donor (fault.Test rule) = StopsAtRule survey edits row changed donor rule
 
 -- no values are given to the fields that the path changes, since the giving stops at this fault
 pub record StopsGiving (survey : SurveyParts) (edits : EditsParts) (row : List Value) (path : List Bool) (donor : Option (List Value)) (stop : GiftFault) : Type 0 where
