@@ -1,2 +1,4 @@
+mod AskedLaws
+mod PairLaws
 mod ReleasedLaws
 mod RunLaws

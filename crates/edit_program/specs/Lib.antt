@@ -1,4 +1,7 @@
+pub mod Asked
+pub mod Faults
 pub mod Layouts
+pub mod Options
 pub mod Refusals
 pub mod Released
 pub mod Run

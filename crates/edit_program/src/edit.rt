@@ -10,12 +10,12 @@ ghost use Rattle.edit_program.specs.inner.Holds.{HoldsRecords};
 ghost use Rattle.edit_program.specs.inner.Ends.{IsFetchOf, IsOfReading, end_of, faults_after};
 ghost use Rattle.record_text.specs.Sheets.{IsSheet};
 
-use edit_desk::Desk;
 use crate::refusal::{Cause, Refusal};
 use crate::release::release_sheet;
 use crate::status::Status;
 use crate::words::{EditWords, edit_words};
 use bound_correction::is_bounded;
+use edit_desk::Desk;
 use edit_language::read_rules;
 use edit_model::Survey;
 use record_text::{Sheet, read_records};

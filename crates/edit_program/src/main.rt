@@ -2,8 +2,11 @@
 //! records and stores the result. Begin with [`edit::fh_main`].
 #![tactic(auto)]
 
+pub mod asked;
 pub mod edit;
+pub mod fault;
 mod layout;
+mod options;
 pub mod refusal;
 mod release;
 mod released_row;

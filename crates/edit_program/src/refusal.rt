@@ -1,7 +1,7 @@
 ghost use Rattle.std.specs.Prelude.{◌≡◌};
 
-use edit_desk::{FetchError, StoreError};
 use crate::status::Status;
+use edit_desk::{FetchError, StoreError};
 use edit_language::RulesFault;
 use foundation::OutOfMemory;
 use record_text::SheetFault;

@@ -1,8 +1,8 @@
 //! Whole runs of `edit`, over files in memory. What is expected was worked out by hand.
 
-use edit_desk::{Failure, MemoryDesk};
 use crate::edit::fh_main;
 use crate::status::Status;
+use edit_desk::{Failure, MemoryDesk};
 use std::alloc::Global;
 use std::collections::BTreeMap;
 use std::process::Abort;

@@ -1,0 +1,84 @@
+-- Why a run is refused: what each refusal ends it with, what is printed of it, and what each error of a call below is refused as.
+use Rattle.std.specs.Prelude.{◌≡◌, ⊤, ℕ, ◌+◌, ◌++◌, ◌<◌, List, codes, length, map, slice_index_or, []}
+use Rattle.std.specs.Fmt.{decimal}
+use Rattle.edit_desk.specs.declared.calls.FetchError.{FetchError}
+use Rattle.edit_desk.specs.declared.calls.FetchError.TheVariants as fetch
+use Rattle.edit_desk.specs.declared.calls.StoreError.{StoreError}
+use Rattle.edit_desk.specs.declared.calls.StoreError.TheVariants as store
+use Rattle.edit_language.specs.Faults.{kind_name, kind_number}
+use Rattle.edit_language.specs.declared.fault.RulesFault.{RulesFault}
+use Rattle.edit_language.specs.declared.fault.RulesFault.TheVariants as rules
+use Rattle.edit_model.specs.declared.field.Field.{Field}
+use Rattle.record_text.specs.declared.fault.SheetFault.{SheetFault}
+use Rattle.record_text.specs.declared.fault.SheetFault.TheVariants as sheet
+use Rattle.edit_program.specs.declared.fault.Fault.{Fault}
+use Rattle.edit_program.specs.declared.fault.Fault.TheVariants.{Usage, Rules, Records, Read, Write, TooLong, OutOfMemory}
+use Rattle.edit_program.specs.declared.fault.RecordsFault.{RecordsFault}
+use Rattle.edit_program.specs.declared.fault.RecordsFault.TheVariants as records
+use Rattle.edit_program.specs.declared.status.Status.{Status}
+use Rattle.edit_program.specs.declared.status.Status.TheVariants as status
+
+-- the status of a run that is refused
+abbrev pub fault_status : Fault → Status
+fault_status Usage = status.Usage
+fault_status (Rules line kind) = status.Rules
+fault_status (Records fault) = status.Records
+fault_status (Read name) = status.ReadFault
+fault_status (Write name) = status.WriteFault
+fault_status (TooLong name) = status.TooLong
+fault_status OutOfMemory = status.OutOfMemory
+
+-- what is wrong with the records: the kind's number and name, and the field by its name, or the row, counted from 1
+abbrev pub records_text : RecordsFault → List ℕ
+records_text records.NoHeader = codes "kind 11 NoHeader"
+records_text (records.NoColumn field) = codes "kind 12 NoColumn field " ++ field
+records_text (records.DoubleColumn field) = codes "kind 13 DoubleColumn field " ++ field
+records_text (records.RowLength row_no) = codes "kind 14 RowLength row " ++ decimal (row_no + 1)
+records_text records.TooManyRows = codes "kind 15 TooManyRows"
+records_text records.TooManyColumns = codes "kind 16 TooManyColumns"
+
+-- the line that is printed of a run that is refused, without its line feed; lines of a file are counted from 1
+abbrev pub fault_text : Fault → List ℕ
+fault_text Usage = codes "fault: usage"
+fault_text (Rules line kind) = codes "fault: rules line " ++ decimal line ++ codes " kind " ++ decimal (kind_number kind) ++ codes " " ++ kind_name kind
+fault_text (Records fault) = codes "fault: records " ++ records_text fault
+fault_text (Read name) = codes "fault: read " ++ name
+fault_text (Write name) = codes "fault: write " ++ name
+fault_text (TooLong name) = codes "fault: too long " ++ name
+fault_text OutOfMemory = codes "fault: out of memory"
+
+-- the refusal for a fetch from this file that gave no bytes
+abbrev pub fetch_fault : List ℕ → FetchError → Fault
+fetch_fault name fetch.Failed = Read name
+fetch_fault name (fetch.TooLong taken) = TooLong name
+fetch_fault name fetch.OutOfMemory = OutOfMemory
+
+-- the refusal for a store to this file that did not put all the bytes
+abbrev pub store_fault : List ℕ → StoreError → Fault
+store_fault name store.Failed = Write name
+store_fault name store.OutOfMemory = OutOfMemory
+
+-- the refusal for rules that were not read
+abbrev pub rules_fault : RulesFault → Fault
+rules_fault (rules.At line kind) = Rules line kind
+rules_fault rules.OutOfMemory = OutOfMemory
+
+-- the name of the field of this number, from 0
+abbrev pub name_of : List Field → ℕ → List ℕ
+name_of fields number = slice_index_or (map (λ (field : Field). field.name) fields) number []
+
+-- the refusal for records of these fields that were not read
+abbrev pub sheet_fault : List Field → SheetFault → Fault
+sheet_fault fields sheet.NoHeader = Records records.NoHeader
+sheet_fault fields sheet.TooManyColumns = Records records.TooManyColumns
+sheet_fault fields (sheet.NoColumn number) = Records (records.NoColumn (name_of fields number))
+sheet_fault fields (sheet.DoubleColumn number) = Records (records.DoubleColumn (name_of fields number))
+sheet_fault fields sheet.TooManyRows = Records records.TooManyRows
+sheet_fault fields (sheet.RowLength row_no) = Records (records.RowLength row_no)
+sheet_fault fields sheet.OutOfMemory = OutOfMemory
+
+-- a fault that names a field names one of these
+abbrev pub IsOfFields : List Field → SheetFault → Type 0
+IsOfFields fields (sheet.NoColumn number) = number < length fields
+IsOfFields fields (sheet.DoubleColumn number) = number < length fields
+IsOfFields fields fault = ⊤

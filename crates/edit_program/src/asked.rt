@@ -1,0 +1,99 @@
+ghost use Rattle.std.specs.Prelude.{◌≡◌, ◌≢◌, ◌↔◌, IfSome, IfNone, IsTrue, map, string_bytes};
+ghost use Rattle.edit_program.specs.Asked.{EditAsked, GiveEdit, IsEdit, IsNoCommand, names_in};
+ghost use Rattle.edit_program.specs.Options.{AreApart};
+ghost use Rattle.edit_program.specs.inner.Pairs.{pairs_of};
+
+use crate::options::{are_given, number_given, only_value};
+use std::marker::Model;
+
+/// The options of the command `edit`.
+const EDIT_OPTIONS: [&str; 5] = [
+    "--rules",
+    "--records",
+    "--released",
+    "--reasons",
+    "--budget",
+];
+
+/// The most work on one record where no budget is given, the least that can be given, and the most.
+const BUDGET: u64 = 1_000_000;
+
+const LEAST_BUDGET: u64 = 1;
+
+const MOST_BUDGET: u64 = 1_000_000_000;
+
+/// What the command `edit` was asked for. No two names are the same.
+#[derive(Debug, Drop)]
+pub struct EditWords<'a> {
+    /// The file of the rules.
+    pub rules: &'a str,
+    /// The file of the records.
+    pub records: &'a str,
+    /// The file that the released records go to.
+    pub released: &'a str,
+    /// The file that the reasons go to.
+    pub reasons: &'a str,
+    /// The most work on one record, from 1 to 1,000,000,000.
+    pub budget: u64,
+}
+
+impl<'a> Model for EditWords<'a> {
+    ghost use Rattle.edit_program.specs.Asked.{EditAsked};
+
+    ghost Value = { EditAsked };
+
+    ghost view = { λ w. record { names = record { rules = w.rules.now; records = w.records.now; released = w.released.now; reasons = w.reasons.now }; budget = w.budget } };
+}
+
+/// Reads the words after the program's name as the command `edit` with pairs of an option and its value, in any
+/// order and each at most once: `--rules`, `--records`, `--released` and `--reasons`, each with a file's name,
+/// and `--budget` with a number, which may be left out. No value is empty or begins with `-`, and the four
+/// names differ. What is asked for is all that the words can be read as. No memory.
+pub fn edit_asked(words: &[String]) -> Option<EditWords<'_>>
+    ensures some { IfSome result (λ asked. IsEdit (map string_bytes words.now) asked) }
+    ensures only { IfSome result (λ asked. (other : EditAsked) → IsEdit (map string_bytes words.now) other → other ≡ asked) }
+    ensures none { IfNone result (IsNoCommand words.now) }
+{
+    let (command, options) = words.split_first()?;
+    if command.as_str() != "edit" || options.len() % 2 != 0 {
+        return None;
+    }
+    edit_options(options)
+}
+
+// What an edit is asked for by its options, taken two by two.
+fn edit_options(options: &[String]) -> Option<EditWords<'_>>
+    ensures some { IfSome result (λ asked. GiveEdit (pairs_of (map string_bytes options.now)) asked) }
+    ensures none { IfNone result ((asked : EditAsked) → ¬ GiveEdit (pairs_of (map string_bytes options.now)) asked) }
+{
+    if !are_given(options, &EDIT_OPTIONS) {
+        return None;
+    }
+    let rules = only_value("--rules", options)?;
+    let records = only_value("--records", options)?;
+    let released = only_value("--released", options)?;
+    let reasons = only_value("--reasons", options)?;
+    let budget = number_given("--budget", options, BUDGET, LEAST_BUDGET, MOST_BUDGET)?;
+    if !are_apart(rules, records, released, reasons) {
+        return None;
+    }
+    Some(EditWords {
+        rules,
+        records,
+        released,
+        reasons,
+        budget,
+    })
+}
+
+// Whether no two of the names are the same.
+fn are_apart(rules: &str, records: &str, released: &str, reasons: &str) -> bool
+    ensures { IsTrue result ↔ AreApart (names_in (record { rules = rules.now; records = records.now; released = released.now; reasons = reasons.now })) }
+{
+    rules != records
+        && rules != released
+        && rules != reasons
+        && records != released
+        && records != reasons
+        && released != reasons
+}
