@@ -2,7 +2,7 @@
 use Rattle.std.proofs.Common.{◌≡◌, ◌∙◌, ◌*◌, ◌/◌, ◌%◌, ℕ, List, [], ◌∷◌, String, Global, ap, arith, length, map, string_bytes, subst, sym}
 use Rattle.std.proofs.lemmas.List.{length-map}
 use Rattle.std.specs.Prelude.{codes}
-use Rattle.edit_program.specs.Asked.{EditAsked, GiveEdit, IsEdit, Names}
+use Rattle.edit_program.specs.Asked.{EditAsked, GiveEdit, IsEdit}
 use Rattle.edit_program.specs.Options.{GivesNumber, Pairs, words_of}
 use Rattle.edit_program.specs.inner.Pairs.{pairs_of}
 use Rattle.edit_program.proofs.PairLaws.{pairs_back, words_back, words_long}

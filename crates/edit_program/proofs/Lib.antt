@@ -1,4 +1,5 @@
 mod AskedLaws
+pub mod FieldFaults
 mod PairLaws
 mod ReleasedLaws
 mod RunLaws

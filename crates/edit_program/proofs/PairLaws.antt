@@ -1,5 +1,5 @@
 -- Words taken two by two, and what their pairs give an option.
-use Rattle.std.proofs.Common.{rules, ◌≡◌, ◌∙◌, ◌+◌, ◌*◌, ◌<◌, ◌≤◌, ℕ, suc, zero, Bool, true, false, List, [], ◌∷◌, ◌++◌, Bor, String, Global, map, string_bytes, ◌||◌, ◌/◌, ap, arith, get_or, length, refl, sym, subst, take, drop, length-append, take-append-drop, take_all}
+use Rattle.std.proofs.Common.{◌≡◌, ◌∙◌, ◌+◌, ◌*◌, ◌<◌, ◌≤◌, ℕ, suc, zero, Bool, true, false, List, [], ◌∷◌, ◌++◌, Bor, String, Global, map, string_bytes, ◌||◌, ◌/◌, ap, arith, get_or, length, refl, sym, subst, take, drop, length-append, take-append-drop, take_all}
 use Rattle.std.specs.Prelude.{if◌then◌else◌}
 use Rattle.std.specs.List.{list_any}
 use Rattle.std.specs.Str.{bytes_eq}

@@ -1,8 +1,7 @@
-use Rattle.std.proofs.Common.{◌≡◌, ◌∙◌, arith, Bool, true, false, not, refl, sym, map, string_bytes}
+use Rattle.std.proofs.Common.{◌≡◌, ◌∙◌, arith, Bool, true, false, not, refl, sym, string_bytes}
 use Rattle.std.specs.Prelude.{codes, IfNone, IfSome, Option, Some, None}
 use Rattle.std.proofs.lemmas.List.{length-map}
 use Rattle.std.proofs.lemmas.Slice.Eq.{bytes_eq-Decides}
-use Rattle.edit_program.specs.Asked.{EditAsked}
 use Rattle.edit_program.proofs.AskedLaws.{command_is, edit_apart, is_edit, one_given, options_even, options_given}
 use Rattle.edit_program.proofs.asked.edit_asked.Goals as goal
 use Rattle.edit_program.proofs.asked.edit_asked.Goals.{then-ne-via-then-ne, then-ne-via-else-ne+then-options-ne0}

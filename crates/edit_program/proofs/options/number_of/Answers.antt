@@ -1,4 +1,4 @@
-use Rattle.std.proofs.Common.{◌≡◌, ℕ, List, ◌<◌, ◌^◌, Result, Ok, arith}
+use Rattle.std.proofs.Common.{◌≡◌, ℕ, List, Result, Ok, arith}
 use Rattle.std.specs.Str.Parse.{AllDigits, ParsesUnsigned, digits_value}
 use Rattle.std.proofs.lemmas.Str.Parse.{IsNumeralModel, digits_value_short, numerals_by_value, parse_gives, tells_digits}
 use Rattle.edit_program.specs.Options.{IsNumberText}

@@ -1,4 +1,4 @@
-use Rattle.std.proofs.Common.{◌≡◌, ◌∙◌, ◌+◌, ◌*◌, List, ℕ, [], ap, arith, get_or, length, sym, map, string_bytes}
+use Rattle.std.proofs.Common.{◌≡◌, ◌∙◌, ◌+◌, ◌*◌, List, ℕ, arith, sym, map, string_bytes}
 use Rattle.std.proofs.lemmas.List.{length-map}
 use Rattle.edit_program.proofs.PairLaws.{pair_is, word_at}
 use Rattle.edit_program.proofs.options.pair_at.Goals as goal

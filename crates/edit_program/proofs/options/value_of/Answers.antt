@@ -1,4 +1,4 @@
-use Rattle.std.proofs.Common.{◌≡◌, ◌∙◌, ap, map, string_bytes, sym}
+use Rattle.std.proofs.Common.{◌∙◌, ap, map, string_bytes, sym}
 use Rattle.edit_program.specs.Options.{values_of}
 use Rattle.edit_program.specs.inner.Pairs.{pairs_of}
 use Rattle.edit_program.proofs.PairLaws.{all_pairs, place_fits, values_again, values_more}
