@@ -1,2 +1,4 @@
-pub mod AskedLaws
-pub mod PairLaws
+mod AskedLaws
+pub mod FieldFaults
+mod PairLaws
+pub mod RunLaws

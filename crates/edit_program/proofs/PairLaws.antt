@@ -1,10 +1,10 @@
 -- Words taken two by two, and what their pairs give an option.
-use Rattle.std.proofs.Common.{rules, ◌≡◌, ◌∙◌, ◌+◌, ◌*◌, ◌<◌, ◌≤◌, ℕ, suc, zero, Bool, true, false, List, [], ◌∷◌, ◌++◌, IsTrue, ap, arith, get_or, length, refl, sym, subst, take, drop, length-append, take-append-drop, take_all}
+use Rattle.std.proofs.Common.{◌≡◌, ◌∙◌, ◌+◌, ◌*◌, ◌<◌, ◌≤◌, ℕ, suc, zero, Bool, true, false, List, [], ◌∷◌, ◌++◌, Bor, String, Global, map, string_bytes, ◌||◌, ◌/◌, ap, arith, get_or, length, refl, sym, subst, take, drop, length-append, take-append-drop, take_all}
 use Rattle.std.specs.Prelude.{if◌then◌else◌}
 use Rattle.std.specs.List.{list_any}
 use Rattle.std.specs.Str.{bytes_eq}
-use Rattle.std.proofs.lemmas.List.{take_more}
-use Rattle.edit_program.specs.Options.{AreGiven, IsValue, Pairs, values_of, words_of}
+use Rattle.std.proofs.lemmas.List.{length-map, take_more}
+use Rattle.edit_program.specs.Options.{AreGiven, GivesNumber, Pairs, values_of, words_of}
 use Rattle.edit_program.specs.inner.Pairs.{pairs_of}
 
 -- the words of some pairs make these pairs
@@ -42,7 +42,7 @@ pair_is (word ∷ []) place h = absurd (omega arith)
 pair_is (option ∷ value ∷ words) zero h = refl
 pair_is (option ∷ value ∷ words) (suc place) h =
     let here : 2 * suc place ≡ suc (suc (2 * place)) = omega arith in
-    let next : 2 * suc place + 1 ≡ suc (suc (2 * place + 1)) = omega arith in
+    let next : suc (suc (2 * place)) + 1 ≡ suc (suc (2 * place + 1)) = omega arith in
     rw (here, next) (pair_is words place (omega arith))
 
 -- one more pair
@@ -77,11 +77,36 @@ pub given_append : (options : List (List ℕ)) (front back : Pairs) → AreGiven
 given_append options [] back f b = b
 given_append options (pair ∷ front) back f b = (f.0, f.1, given_append options front back f.2 b)
 
-pub given_at : (options : List (List ℕ)) (pairs : Pairs) (place : ℕ) (pair : List ℕ × List ℕ) → AreGiven options pairs → place < length pairs → get_or pairs place ([], []) ≡ pair → IsTrue (list_any (bytes_eq pair.0) options) × IsValue pair.1
+pub given_at : (options : List (List ℕ)) (pairs : Pairs) (place : ℕ) (pair : List ℕ × List ℕ) → AreGiven options pairs → place < length pairs → get_or pairs place ([], []) ≡ pair → AreGiven options (pair ∷ [])
 given_at options [] place pair g h e = absurd (omega arith)
-given_at options (first ∷ pairs) zero pair g h e = subst (λ (p : List ℕ × List ℕ). IsTrue (list_any (bytes_eq p.0) options) × IsValue p.1) e (g.0, g.1)
+given_at options (first ∷ pairs) zero pair g h e = subst (λ (p : List ℕ × List ℕ). AreGiven options (p ∷ [])) e (g.0, g.1, tt)
 given_at options (first ∷ pairs) (suc place) pair g h e = given_at options pairs place pair g.2 (omega arith) e
 
 -- one more pair of an option and a value
-pub given_more : (options : List (List ℕ)) (pairs : Pairs) (place : ℕ) (pair : List ℕ × List ℕ) → place < length pairs → get_or pairs place ([], []) ≡ pair → AreGiven options (take place pairs) → IsTrue (list_any (bytes_eq pair.0) options) → IsValue pair.1 → AreGiven options (take (place + 1) pairs)
-given_more options pairs place pair h e g listed value = subst (AreGiven options) (sym (pairs_more pairs place pair h e)) (given_append options (take place pairs) (pair ∷ []) g (listed, value, tt))
+pub given_more : (options : List (List ℕ)) (pairs : Pairs) (place : ℕ) (pair : List ℕ × List ℕ) → place < length pairs → get_or pairs place ([], []) ≡ pair → AreGiven options (take place pairs) → AreGiven options (pair ∷ []) → AreGiven options (take (place + 1) pairs)
+given_more options pairs place pair h e g one = subst (AreGiven options) (sym (pairs_more pairs place pair h e)) (given_append options (take place pairs) (pair ∷ []) g one)
+
+-- a word is among the options
+pub listed_among : (word : List ℕ) (options : List (Bor (List ℕ))) → list_any (λ (o : Bor (List ℕ)). bytes_eq word o.now) options ≡ list_any (bytes_eq word) (map (λ (o : Bor (List ℕ)). o.now) options)
+listed_among word [] = refl
+listed_among word (option ∷ options) = ap (λ (b : Bool). bytes_eq word option.now || b) (listed_among word options)
+
+-- the bytes of the word of a number
+pub word_at : (words : List (String Global)) (place : ℕ) (word : String Global) → place < length words → word ≡ get_or words place word → get_or (map string_bytes words) place [] ≡ string_bytes word
+word_at [] place word h e = absurd (omega arith)
+word_at (first ∷ words) zero word h e = ap string_bytes (sym e)
+word_at (first ∷ words) (suc place) word h e = word_at words place word (omega arith) e
+
+-- a number below half the number of words is of a pair
+pub place_fits : (words : List (String Global)) (place : ℕ) → place < length words / 2 → place < length (pairs_of (map string_bytes words))
+place_fits words place h = omega (arith, pairs_least (map string_bytes words), length-map words string_bytes)
+
+-- at half the number of words all pairs are taken
+pub all_pairs : (words : List (String Global)) (place : ℕ) → length words / 2 ≤ place → take place (pairs_of (map string_bytes words)) ≡ pairs_of (map string_bytes words)
+all_pairs words place h = take_all place (pairs_of (map string_bytes words)) (omega (arith, pairs_most (map string_bytes words), length-map words string_bytes))
+
+-- an option with two values gives no number
+pub many_values : (default least most : ℕ) (values : List (List ℕ)) (number : ℕ) → 1 < length values → ¬ GivesNumber default least most values number
+many_values default least most [] number h is = omega arith
+many_values default least most (text ∷ []) number h is = omega arith
+many_values default least most (text ∷ second ∷ more) number h is = is

@@ -1,7 +1,7 @@
 -- What the words of the command line ask for.
-use Rattle.std.specs.Prelude.{◌≡◌, ◌≢◌, ℕ, List, [], ◌∷◌, AllPairs, codes, map, string_bytes, String}
+use Rattle.std.specs.Prelude.{◌≡◌, ℕ, List, [], ◌∷◌, codes, map, string_bytes, String}
 use Rattle.std.specs.declared.alloc.Global.{Global}
-use Rattle.edit_program.specs.Options.{AreGiven, GivesNumber, Pairs, values_of, words_of}
+use Rattle.edit_program.specs.Options.{AreApart, AreGiven, GivesNumber, Pairs, values_of, words_of}
 
 -- the files that an edit names: its rules, its records, what is released of them, and the reasons for that
 pub record Names : Type 0 where
@@ -31,7 +31,7 @@ pub record GiveEdit (pairs : Pairs) (asked : EditAsked) : Type 0 where
   pub released : values_of (codes "--released") pairs ≡ asked.names.released ∷ []
   pub reasons : values_of (codes "--reasons") pairs ≡ asked.names.reasons ∷ []
   pub budget : GivesNumber 1000000 1 1000000000 (values_of (codes "--budget") pairs) asked.budget
-  pub apart : AllPairs (λ left right. left ≢ right) (names_in asked.names)
+  pub apart : AreApart (names_in asked.names)
 
 -- the words ask for an edit: the command, and behind it pairs that give its options, in any order
 pub record IsEdit (words : List (List ℕ)) (asked : EditAsked) : Type 0 where

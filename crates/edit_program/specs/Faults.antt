@@ -1,5 +1,5 @@
 -- Why a run is refused: what each refusal ends it with, what is printed of it, and what each error of a call below is refused as.
-use Rattle.std.specs.Prelude.{◌≡◌, ⊤, ℕ, ◌+◌, ◌++◌, ◌<◌, List, codes, length, map, slice_index_or, []}
+use Rattle.std.specs.Prelude.{⊤, ℕ, ◌+◌, ◌++◌, ◌<◌, List, codes, length, map, slice_index_or, []}
 use Rattle.std.specs.Fmt.{decimal}
 use Rattle.edit_desk.specs.declared.calls.FetchError.{FetchError}
 use Rattle.edit_desk.specs.declared.calls.FetchError.TheVariants as fetch

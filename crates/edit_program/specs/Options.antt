@@ -1,6 +1,6 @@
 -- Options of the command line: words in pairs of an option and its value.
 use Rattle.std.specs.Prelude.{◌≡◌, ◌≢◌, ⊤, ℕ, ◌≤◌, if◌then◌else◌, IsTrue, List, [], ◌∷◌, length}
-use Rattle.std.specs.List.{list_any}
+use Rattle.std.specs.List.{AllByRecursion, list_any}
 use Rattle.std.specs.Str.{bytes_eq}
 use Rattle.std.specs.Str.Parse.{IsNumeral, digits_value}
 
@@ -37,3 +37,8 @@ abbrev pub GivesNumber : ℕ → ℕ → ℕ → List (List ℕ) → ℕ → Typ
 GivesNumber default least most [] number = number ≡ default
 GivesNumber default least most (text ∷ []) number = IsNumberText text number × (least ≤ number) × (number ≤ most)
 GivesNumber default least most (text ∷ second ∷ more) number = ⊥
+
+-- no two of the texts are the same
+abbrev pub AreApart : List (List ℕ) → Type 0
+AreApart [] = ⊤
+AreApart (text ∷ texts) = AllByRecursion (λ other. text ≢ other) texts × AreApart texts

@@ -1,16 +1,25 @@
-ghost use Rattle.std.specs.Prelude.{◌≡◌, ◌≢◌, ◌↔◌, AllPairs, IfSome, IfNone, IsTrue, map, string_bytes};
+ghost use Rattle.std.specs.Prelude.{◌≡◌, ◌≢◌, ◌↔◌, IfSome, IfNone, IsTrue, map, string_bytes};
 ghost use Rattle.edit_program.specs.Asked.{EditAsked, GiveEdit, IsEdit, IsNoCommand, names_in};
+ghost use Rattle.edit_program.specs.Options.{AreApart};
 ghost use Rattle.edit_program.specs.inner.Pairs.{pairs_of};
 
 use crate::options::{are_given, number_given, only_value};
 use std::marker::Model;
 
 /// The options of the command `edit`.
-const EDIT_OPTIONS: [&str; 5] = ["--rules", "--records", "--released", "--reasons", "--budget"];
+const EDIT_OPTIONS: [&str; 5] = [
+    "--rules",
+    "--records",
+    "--released",
+    "--reasons",
+    "--budget",
+];
 
 /// The most work on one record where no budget is given, the least that can be given, and the most.
 const BUDGET: u64 = 1_000_000;
+
 const LEAST_BUDGET: u64 = 1;
+
 const MOST_BUDGET: u64 = 1_000_000_000;
 
 /// What the command `edit` was asked for. No two names are the same.
@@ -79,7 +88,7 @@ fn edit_options(options: &[String]) -> Option<EditWords<'_>>
 
 // Whether no two of the names are the same.
 fn are_apart(rules: &str, records: &str, released: &str, reasons: &str) -> bool
-    ensures { IsTrue result ↔ AllPairs (λ left right. left ≢ right) (names_in (record { rules = rules.now; records = records.now; released = released.now; reasons = reasons.now })) }
+    ensures { IsTrue result ↔ AreApart (names_in (record { rules = rules.now; records = records.now; released = released.now; reasons = reasons.now })) }
 {
     rules != records
         && rules != released

@@ -149,10 +149,7 @@ impl<'a> Fault<'a> {
     {
         match self {
             Fault::Usage => Ok(USAGE.to_vec(alloc)?),
-            Fault::Rules { line, kind } => {
-                let number = kind.number();
-                Ok(format!(in alloc; "fault: rules line {line} kind {number} {kind}")?.into_bytes())
-            }
+            Fault::Rules { line, kind } => rules_line(alloc, *line, *kind),
             Fault::Records { fault } => fault.line(alloc),
             Fault::Read { name } => joined(alloc, b"fault: read ", name.as_bytes()),
             Fault::Write { name } => joined(alloc, b"fault: write ", name.as_bytes()),
@@ -194,16 +191,34 @@ impl RecordsFault {
     {
         match self {
             RecordsFault::NoHeader => Ok(b"fault: records kind 11 NoHeader".to_vec(alloc)?),
-            RecordsFault::NoColumn { field } => joined(alloc, b"fault: records kind 12 NoColumn field ", field.as_bytes()),
-            RecordsFault::DoubleColumn { field } => joined(alloc, b"fault: records kind 13 DoubleColumn field ", field.as_bytes()),
+            RecordsFault::NoColumn { field } => joined(
+                alloc,
+                b"fault: records kind 12 NoColumn field ",
+                field.as_bytes(),
+            ),
+            RecordsFault::DoubleColumn { field } => joined(
+                alloc,
+                b"fault: records kind 13 DoubleColumn field ",
+                field.as_bytes(),
+            ),
             RecordsFault::RowLength { row_no } => {
                 let number = u64::from(*row_no) + 1;
                 Ok(format!(in alloc; "fault: records kind 14 RowLength row {number}")?.into_bytes())
             }
             RecordsFault::TooManyRows => Ok(b"fault: records kind 15 TooManyRows".to_vec(alloc)?),
-            RecordsFault::TooManyColumns => Ok(b"fault: records kind 16 TooManyColumns".to_vec(alloc)?),
+            RecordsFault::TooManyColumns => Ok(b"fault: records kind 16 TooManyColumns".to_vec(
+                alloc,
+            )?),
         }
     }
+}
+
+// The line that is printed of a rule file without a reading.
+fn rules_line(alloc: Global, line: u32, kind: RulesKind) -> Result<Vec<u8>, OutOfMemory>
+    ensures { IfOk result (λ text. text.items ≡ fault_text (faults.Rules line kind)) }
+{
+    let fault = RulesFault::At { line, kind };
+    Ok(format!(in alloc; "fault: rules {fault}")?.into_bytes())
 }
 
 // A copy of the name of the field of this number, from 0.

@@ -15,7 +15,7 @@ pub(crate) fn are_given(words: &[String], options: &[&str]) -> bool
 {
     for place in 0..words.len() / 2 {
         let (option, value) = pair_at(words, place);
-        if !is_listed(options, option) || !is_value(value) {
+        if !is_given(options, option, value) {
             return false;
         }
     }
@@ -73,8 +73,8 @@ fn found_next<'a>(
     name: &str,
     value: &'a str,
 ) -> Option<Option<&'a str>>
-    ensures once { IfSome result (λ next. option_to_list (option_copied next) ≡ option_to_list (option_copied found) ++ values_of option.now ((name.now, value.now) ∷ [])) }
-    ensures again { IfNone result (1 < length (option_to_list (option_copied found) ++ values_of option.now ((name.now, value.now) ∷ []))) }
+    ensures once { IfSome result (λ next. option_to_list (option_copied next) ≡ option_to_list (option_copied found.entry) ++ values_of option.now ((name.now, value.now) ∷ [])) }
+    ensures again { IfNone result (1 < length (option_to_list (option_copied found.entry) ++ values_of option.now ((name.now, value.now) ∷ []))) }
 {
     if name != option {
         return Some(found);
@@ -93,9 +93,17 @@ fn pair_at(words: &[String], place: usize) -> (&str, &str)
     (words[2 * place].as_str(), words[2 * place + 1].as_str())
 }
 
+// Whether the pair is one of the options and a value.
+#[tactic(auto, using(crate::proofs::PairLaws::listed_among))]
+fn is_given(options: &[&str], option: &str, value: &str) -> bool
+    ensures { IsTrue result ↔ AreGiven (map (λ o. o.now) options.now) ((option.now, value.now) ∷ []) }
+{
+    is_listed(options, option) && is_value(value)
+}
+
 // Whether the word is one of the options.
 fn is_listed(options: &[&str], word: &str) -> bool
-    ensures { result ≡ list_any (bytes_eq word.now) (map (λ o. o.now) options.now) }
+    ensures { result ≡ list_any (λ o. bytes_eq word.now o.now) options.now }
 {
     options.iter().any(|option| word == *option)
 }
@@ -118,5 +126,8 @@ fn number_of(text: &str) -> Option<u64>
     if text.len() > MOST_DIGITS || text.as_bytes().first() == Some(&b'+') {
         return None;
     }
-    text.parse::<u64>().ok()
+    match text.parse::<u64>() {
+        Ok(number) => Some(number),
+        Err(_) => None,
+    }
 }
