@@ -1,4 +1,3 @@
 mod codes;
-mod gifts;
 mod numbers;
 mod plan;

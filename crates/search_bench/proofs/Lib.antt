@@ -1,1 +1,2 @@
 mod SearchLaws
+mod ValueLaws

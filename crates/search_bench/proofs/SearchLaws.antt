@@ -1,4 +1,4 @@
-use Rattle.std.proofs.Common.{◌≡◌, ◌≢◌, ◌==◌, ◌∙◌, List, [], ◌∷◌, ap, false, length, slice_index_or, sym}
+use Rattle.std.proofs.Common.{◌≡◌, ◌≢◌, ◌<◌, ◌∙◌, ℕ, zero, suc, List, [], ◌∷◌, ap, arith, length, slice_index_or, sym}
 use Rattle.std.specs.List.{AllByRecursion}
 use Rattle.edit_model.specs.Rows.{IsRow}
 use Rattle.edit_model.specs.declared.field.Field.{Field}
@@ -12,7 +12,8 @@ use Rattle.search_bench.specs.inner.Texts.{sheet_fault_of}
 pub not-memory : (told : SheetFault) → sheet_fault_of told ≡ fault.Records → told ≢ sheet.OutOfMemory
 not-memory told is same = absurd (cc (sym is ∙ ap sheet_fault_of same))
 
--- the first of the records is one of the survey
-pub first-row : (fields : List Field) (rows : List (List Value)) → AllByRecursion (IsRow fields) rows → (length rows == 0) ≡ false → IsRow fields (slice_index_or rows 0 [])
-first-row fields [] all some = absurd (cc some)
-first-row fields (row ∷ rows) all some = all.0
+-- each of the records is one of the survey
+pub record-at : (fields : List Field) (rows : List (List Value)) (place : ℕ) → AllByRecursion (IsRow fields) rows → place < length rows → IsRow fields (slice_index_or rows place [])
+record-at fields [] place all below = absurd (omega arith)
+record-at fields (row ∷ rows) zero all below = all.0
+record-at fields (row ∷ rows) (suc place) all below = record-at fields rows place all.1 (omega arith)

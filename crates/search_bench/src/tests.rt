@@ -2,3 +2,4 @@
 mod edges;
 mod rows;
 mod told;
+mod values;

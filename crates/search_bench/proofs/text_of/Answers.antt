@@ -1,4 +1,4 @@
-use Rattle.std.proofs.Common.{rules, ◌≡◌}
+use Rattle.std.proofs.Common.{rules}
 use Rattle.record_text.proofs.SheetLaws.{rows_are_records}
 use Rattle.search_bench.proofs.SearchLaws.{not-memory}
 use Rattle.search_bench.proofs.text_of.Goals as goal

@@ -16,7 +16,7 @@ use std::test::Fail;
 /// A rule file, a record file with one record, a budget of work, and what is found.
 pub(crate) type Worked = (&'static str, &'static str, u64, &'static str);
 
-const TRADE: &str = "number Turnover weight 2
+pub(crate) const TRADE: &str = "number Turnover weight 2
 number Costs
 number Profit
 Turnover >= 0
@@ -25,9 +25,9 @@ Turnover - Costs - Profit = 0
 10 Profit <= 6 Turnover
 ";
 
-const SUM_OF_TEN: &str = "number A\nnumber B\nA + B = 10\n";
+pub(crate) const SUM_OF_TEN: &str = "number A\nnumber B\nA + B = 10\n";
 
-const HOUSEHOLD: &str = "code Age in {child, adult}
+pub(crate) const HOUSEHOLD: &str = "code Age in {child, adult}
 code Status in {single, married}
 code Rel in {spouse, other}
 if Age in {child} then Status in {single}
@@ -47,12 +47,12 @@ number x6
 999999999 x5 >= 1000000000 x6
 ";
 
-/// The first record of the text.
-fn first_row(alloc: Global, survey: &Survey, records: &str) -> Result<Row, Fail>
+/// The record at a place of the text.
+pub(crate) fn row_at(alloc: Global, survey: &Survey, records: &str, place: u32) -> Result<Row, Fail>
     ensures { IfOk result (λ row. IsRow survey.now.fields row) }
 {
     match read_records(alloc, survey, records.as_bytes()) {
-        Ok(sheet) if !sheet.is_empty() => row_copy(alloc, survey, sheet.row(0)),
+        Ok(sheet) if place < sheet.len() => row_copy(alloc, survey, sheet.row(place)),
         _ => Err("a record")?,
     }
 }
@@ -74,7 +74,7 @@ pub(crate) fn told(alloc: Global, rules: &str, records: &str, budget: u64) -> Re
         return Err("a short text")?;
     }
     let survey = read_rules(alloc, rules.as_bytes()).ok().ok_or("a survey")?;
-    let row = first_row(alloc, &survey, records)?;
+    let row = row_at(alloc, &survey, records, 0)?;
     let edits = Arc::new(alloc, rule_edits(alloc, &survey).ok().ok_or("memory")?)?;
     let outcome = outcome_of(alloc, &survey, &edits, &row, budget)
         .ok()
