@@ -1,5 +1,6 @@
 pub mod ChangedLaws
 pub mod EndLaws
+pub mod LineLaws
 pub mod ReleasedLaws
 pub mod SheetLaws
 pub mod SummaryLaws

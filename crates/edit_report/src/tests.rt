@@ -1,7 +1,8 @@
 //! The three texts of a sheet of ten records, one of each kind. The expected texts were written by hand.
-ghost use Rattle.std.specs.Prelude.{◌≡◌, IfOk, IsTrue, length};
+ghost use Rattle.std.specs.Prelude.{◌≡◌, ℕ, List, IfOk, IsTrue, length};
 ghost use Rattle.std.specs.List.{AllByRecursion};
 ghost use Rattle.edit_model.specs.Rows.{IsOfKind, IsRow};
+ghost use Rattle.record_text.specs.Sheets.{IsSheet};
 ghost use Rattle.edit_report.specs.Ends.{AreEnds, AreOfOneEnd, IsEnd, IsEventWithin, IsFaultWithin, IsGift};
 
 use crate::changed::{changed_fields, path_found};
@@ -183,6 +184,15 @@ fn survey_of(alloc: Global) -> Result<Survey, Fail> {
     )
 }
 
+fn sheet_of(alloc: Global, survey: &Survey) -> Result<Sheet, Fail>
+    ensures { IfOk result (λ sheet. (bytes : List ℕ) × IsSheet survey.now.fields bytes sheet) }
+{
+    match read_records(alloc, survey, RECORDS) {
+        Ok(sheet) => Ok(sheet),
+        Err(_) => Err(Fail::from("a sheet")),
+    }
+}
+
 fn path_of(alloc: Global, letters: &[u8]) -> Result<Path, Fail> {
     let mut path = Vec::new(alloc);
     for letter in letters {
@@ -306,7 +316,7 @@ fn push_stopped(alloc: Global, ends: &mut Vec<RowEnd>) -> Result<(), Fail> {
 fn each_kind_of_end_is_told(rt: HostRuntime) -> Result<(), Fail> {
     let alloc = rt.alloc();
     let survey = survey_of(alloc)?;
-    let sheet = read_records(alloc, &survey, RECORDS).ok().ok_or("a sheet")?;
+    let sheet = sheet_of(alloc, &survey)?;
     let mut ends = Vec::new(alloc);
     push_given(&rt, alloc, &survey, &mut ends)?;
     push_ended(alloc, &mut ends)?;
