@@ -8,5 +8,4 @@ pub fn report_laws()
     ensures clean { CleanLaw }
     ensures changed { ChangedCountLaw }
     ensures unresolved { UnresolvedLaw }
-{
-}
+{}
