@@ -1,4 +1,5 @@
 pub mod ChangedLaws
+pub mod LineLaws
 pub mod ReleasedLaws
 pub mod SheetLaws
 pub mod SummaryLaws

@@ -1,4 +1,5 @@
 pub mod Ends
+pub mod Laws
 pub mod Layouts
 pub mod Reasons
 pub mod Released
