@@ -1,0 +1,13 @@
+pub mod Cutting
+pub mod Grammar
+pub mod HeadForms
+pub mod LeafForms
+pub mod NumberLaws
+pub mod Productions
+pub mod ProofGrammar
+pub mod ProofWords
+pub mod StepForm
+pub mod StepForms
+pub mod TextFaults
+pub mod WordForms
+pub mod WordLaws
