@@ -1,12 +1,14 @@
 pub mod Cutting
 pub mod Grammar
-pub mod HeadForms
+pub mod GrammarReads
+pub mod FileForms
 pub mod LeafForms
+pub mod MoreWordForms
 pub mod NumberLaws
 pub mod Productions
 pub mod ProofGrammar
 pub mod ProofWords
-pub mod StepForm
+pub mod RowForms
 pub mod StepForms
 pub mod TextFaults
 pub mod WordForms

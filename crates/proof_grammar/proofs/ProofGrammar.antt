@@ -3,17 +3,12 @@ use Rattle.proof_grammar.specs.declared.proof.Proof.{Proof}
 use Rattle.proof_grammar.specs.Limits.{IsPlain}
 use Rattle.proof_grammar.specs.ProofLines.{Line, proof_lines}
 use Rattle.proof_grammar.proofs.Grammar.{proof}
-use Rattle.proof_grammar.proofs.HeadForms.{claim_form, count_form, fixed_form, limits_form, row_form, verdict_form}
 use Rattle.proof_grammar.proofs.Productions.{IsFirstStop, Production, one-text, whole-again, whole-found, whole-stops, whole_of}
-use Rattle.proof_grammar.proofs.LeafForms.{leaf_form}
-use Rattle.proof_grammar.proofs.StepForms.{step_form}
 
 -- Reading the lines of a proof.
 
 abbrev pub plain_proof : Production IsPlain proof_lines
-plain_proof =
-    proof step_form verdict_form leaf_form row_form claim_form limits_form (count_form (codes "lines")) (count_form (codes "records")) (count_form (codes "claims"))
-    (fixed_form (codes "fh-proof" ∷ codes "1" ∷ [])) (fixed_form (codes "end" ∷ []))
+plain_proof = proof
 
 -- the proof that lines spell, or the lines from the first that can't go on
 abbrev pub proof_in : List Line → Result Proof (List Line)

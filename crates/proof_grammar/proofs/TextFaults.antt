@@ -1,6 +1,6 @@
 use Rattle.std.proofs.Common.{◌≡◌, ◌≢◌, ℕ, zero, suc, ◌+◌, ◌<◌, ◌==◌, ◌⊎◌, inl, inr, not, Bool, true, false, if◌then◌else◌, List, [], ◌∷◌, ◌++◌, Ok, Err, length, map, refl, sym, ap, ◌∙◌, subst, append_assoc, arith}
 use Rattle.std.specs.List.{AllByRecursion}
-use Rattle.std.proofs.lemmas.List.{length-map}
+use Rattle.std.proofs.lemmas.List.{length-append, length-map}
 use Rattle.edit_line.proofs.BoolLaws.{both_true}
 use Rattle.proof_grammar.specs.FirstFaults.{GoesOn, IsFirstFault, IsInGrammar, feed_count}
 use Rattle.proof_grammar.specs.Limits.{IsPlain}
@@ -139,8 +139,8 @@ nonempty [] all = tt
 nonempty (l ∷ ls) all = (all.0.0, nonempty ls all.1)
 
 -- where reading stops is the first line that can't go on
-pub text-stops : (bytes : List ℕ) (left : List Line) → proof_of_bytes bytes ≡ Err left → (line : ℕ) × IsFirstFault bytes line
-text-stops bytes left e = (length stop.front, record { refused = refused; before = before; here = here })
+pub text-stops : (bytes : List ℕ) (left : List Line) → proof_of_bytes bytes ≡ Err left → (line : ℕ) × (line + length left ≡ suc (length (lines_in bytes))) × IsFirstFault bytes line
+text-stops bytes left e = (suc (length stop.front), number, record { refused = refused; numbered = omega arith; before = before; here = here })
   where
     stop : IsFirstStop IsPlain proof_lines plain_proof (lines_in bytes) left
     stop = proof-stops (lines_in bytes) left e
@@ -151,10 +151,14 @@ text-stops bytes left e = (length stop.front, record { refused = refused; before
     fronted : AreWordLines stop.front
     fronted = let (p, plain, more, same) = stop.before in all-front IsWordLine stop.front more (subst AreWordLines same (proof-words p plain))
 
-    before : (k : ℕ) → k < length stop.front → GoesOn bytes k
-    before k below =
+    number : suc (length stop.front) + length left ≡ suc (length (lines_in bytes))
+    number = omega (arith, ap length stop.split, length-append stop.front left)
+
+    before : (k : ℕ) → 0 < k → k < suc (length stop.front) → GoesOn bytes k
+    before zero some below = absurd (omega (arith, some))
+    before (suc k) some below =
         let (p, plain, more, same) = stop.before in
-        let (f, l, g, parts, count) = placed k stop.front below in
+        let (f, l, g, parts, count) = placed k stop.front (omega (arith, below)) in
         let (s0, ss0, there) = some-part 10 bytes in
         let (tail, whole) = cut-front stop.front left (split 10 bytes) stop.split (nonempty stop.front fronted) (λ none. absurd (cc)) in
         let text = lines_text f ++ words_text l in
@@ -169,7 +173,7 @@ text-stops bytes left e = (length stop.front, record { refused = refused; before
           (p, plain, lines_text g ++ lines_text more, ap lines_text same ∙ lines-append stop.front more ∙ ap (λ (bs : List ℕ). bs ++ lines_text more) all_text ∙ append_assoc text (10 ∷ lines_text g) (lines_text more) ∙ sym (append_assoc text (10 ∷ []) (lines_text g ++ lines_text more))),
         )
 
-    here : ¬ GoesOn bytes (length stop.front)
+    here : ¬ GoesOn bytes (suc (length stop.front))
     here = λ (fr, rest, same, count, (q, plain, rest_q, begins)).
         let xs = map (split 32) (split 10 fr) in
         let many : length xs ≡ suc (length stop.front) = omega (arith, length-map (split 10 fr) (split 32), split-count fr, count) in
@@ -180,7 +184,7 @@ text-stops bytes left e = (length stop.front, record { refused = refused; before
 
 -- there is one such line
 pub one-line : (bytes : List ℕ) (line other : ℕ) → IsFirstFault bytes line → IsFirstFault bytes other → line ≡ other
-one-line bytes line other first second = by_order line other (λ less. second.before line less) (λ less. first.before other less)
+one-line bytes line other first second = by_order line other (λ less. second.before line first.numbered less) (λ less. first.before other second.numbered less)
   where
     by_order : (m n : ℕ) → (m < n → GoesOn bytes line) → (n < m → GoesOn bytes other) → m ≡ n
     by_order m n less more = elim (compared m n) [

@@ -17,12 +17,13 @@ abbrev pub feed_count : List ℕ → ℕ
 feed_count [] = 0
 feed_count (b ∷ bytes) = if b == 10 then suc (feed_count bytes) else feed_count bytes
 
--- a line feed ends the line of this number, from 0, and some proof begins with the bytes up to it
+-- a line feed ends the line of this number, from 1, and some proof begins with the bytes up to it
 abbrev pub GoesOn : List ℕ → ℕ → Type 0
-GoesOn bytes line = (front : List ℕ) × (rest : List ℕ) × (bytes ≡ front ++ 10 ∷ rest) × (feed_count front ≡ line) × Begins (front ++ 10 ∷ [])
+GoesOn bytes line = (front : List ℕ) × (rest : List ℕ) × (bytes ≡ front ++ 10 ∷ rest) × (suc (feed_count front) ≡ line) × Begins (front ++ 10 ∷ [])
 
--- the bytes are no proof, and this is the first line that can't go on
+-- the bytes are no proof, and this is the first line, from 1, that can't go on
 pub record IsFirstFault (bytes : List ℕ) (line : ℕ) : Type 0 where
   pub refused : ¬ IsInGrammar bytes
-  pub before : (k : ℕ) → k < line → GoesOn bytes k
+  pub numbered : 0 < line
+  pub before : (k : ℕ) → 0 < k → k < line → GoesOn bytes k
   pub here : ¬ GoesOn bytes line

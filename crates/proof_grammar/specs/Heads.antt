@@ -5,8 +5,9 @@ use Rattle.proof_grammar.specs.declared.heads.LeafHead.{LeafHead}
 use Rattle.proof_grammar.specs.declared.heads.LeafHead.TheVariants.{BadAt, BoundAt, BoxAt, LineAt}
 use Rattle.proof_grammar.specs.declared.heads.RowHead.{RowHead}
 use Rattle.proof_grammar.specs.declared.heads.RowHead.TheVariants.{BudgetAt, ChangeAt, CleanAt, ContradictoryAt, EventAt, GiftAt}
+use Rattle.proof_grammar.specs.declared.heads.RunLimits.{RunLimits}
 use Rattle.proof_grammar.specs.Limits.{IsEvent, IsGift, IsLong, IsShort}
-use Rattle.proof_grammar.specs.ProofLines.{Line, event_line, gift_words, path_word}
+use Rattle.proof_grammar.specs.ProofLines.{Line, event_line, gift_words, limits_words, path_word}
 
 -- of a verdict: no steps, or so many
 abbrev pub verdict_head : Option ℕ → Line
@@ -59,13 +60,8 @@ IsRowHead (EventAt path event) = IsEvent event
 IsRowHead (ContradictoryAt n) = IsLong n
 
 -- the limits of the run
-pub record RunLimits : Type 0 where
-  pub limit : ℕ
-  pub near : ℕ
-  pub budget : ℕ
-
 abbrev pub limits_line : RunLimits → Line
-limits_line l = codes "limit" ∷ decimal l.limit ∷ codes "near" ∷ decimal l.near ∷ codes "budget" ∷ decimal l.budget ∷ []
+limits_line l = limits_words l.limit l.near l.budget
 
 abbrev pub AreLimits : RunLimits → Type 0
 AreLimits l = IsShort l.limit × IsShort l.near × IsLong l.budget

@@ -114,17 +114,30 @@ claim_line entry = codes "claim" ∷ named entry.row_no ∷ named_or_0 entry.rep
 abbrev pub count_line : {X : Type 0} → List ℕ → List X → Line
 count_line word xs = word ∷ decimal (length xs) ∷ []
 
+-- the first line: what the file is, and the version of its grammar
+abbrev pub version_line : Line
+version_line = codes "fh-proof" ∷ codes "1" ∷ []
+
+-- how often a donor may be given, how many donors a row ranks, and how much work a search may take
+abbrev pub limits_words : ℕ → ℕ → ℕ → Line
+limits_words limit near budget = codes "limit" ∷ decimal limit ∷ codes "near" ∷ decimal near ∷ codes "budget" ∷ decimal budget ∷ []
+
+-- the last line
+abbrev pub end_line : Line
+end_line = codes "end" ∷ []
+
+-- all lines of a proof
 abbrev pub proof_lines : Proof → List Line
 proof_lines p =
-    (codes "fh-proof" ∷ codes "1" ∷ [])
-    ∷ (codes "limit" ∷ decimal p.limit ∷ codes "near" ∷ decimal p.near ∷ codes "budget" ∷ decimal p.budget ∷ [])
+    version_line
+    ∷ limits_words p.limit p.near p.budget
     ∷ count_line (codes "lines") p.verdicts
     ∷ (flat_map verdict_lines p.verdicts
     ++ count_line (codes "records") p.rows
     ∷ (flat_map row_lines p.rows
     ++ count_line (codes "claims") p.claims
     ∷ (map claim_line p.claims
-    ++ (codes "end" ∷ []) ∷ [])))
+    ++ end_line ∷ [])))
 
 -- the words, parted by one space
 abbrev pub words_text : Line → List ℕ

@@ -21,13 +21,14 @@ clean_in ws = ended CleanAt ws
 abbrev pub change_in : Line → Option RowHead
 change_in ws = then_in (word_in positive_said ws) (λ w ws. then_in (word_in path_said ws) (λ path ws. then_in (word_in long_said ws) (λ n ws. ended (ChangeAt w path n) ws)))
 
+-- the line behind a field, or the rule behind 0
+abbrev pub gift_fault_behind : Option ℕ → Line → Front GiftFault
+gift_fault_behind None ws = then_in (word_in named_short ws) (λ rule ws. Some (gift.Test rule, ws))
+gift_fault_behind (Some field) ws = then_in (word_in named_long ws) (λ line ws. Some (gift.Bound field line, ws))
+
 -- the field and the line, or 0 and the rule
 abbrev pub gift_fault_in : Line → Front GiftFault
-gift_fault_in ws = then_in (word_in named_short_or_0 ws) behind
-  where
-    behind : Option ℕ → Line → Front GiftFault
-    behind None ws = then_in (word_in named_short ws) (λ rule ws. Some (gift.Test rule, ws))
-    behind (Some field) ws = then_in (word_in named_long ws) (λ line ws. Some (gift.Bound field line, ws))
+gift_fault_in ws = then_in (word_in named_short_or_0 ws) gift_fault_behind
 
 abbrev pub gift_in : Line → Option RowHead
 gift_in ws = then_in (word_in long_said ws) (λ weight ws. then_in (word_in path_said ws) (λ path ws. then_in (gift_fault_in ws) (λ fault ws. then_in (word_in long_said ws) (λ n ws. ended (GiftAt weight path fault n) ws))))

@@ -94,12 +94,16 @@ abbrev pub place_of : Option ℕ → Place
 place_of None = Constant
 place_of (Some f) = Field f
 
+abbrev pub said_place : Option (Option ℕ) → Option Place
+said_place None = None
+said_place (Some f) = Some (place_of f)
+
 abbrev pub place_said : List ℕ → Option Place
 place_said w = said_place (named_short_or_0 w)
-  where
-    said_place : Option (Option ℕ) → Option Place
-    said_place None = None
-    said_place (Some f) = Some (place_of f)
+
+-- this word and no other
+abbrev pub fixed_said : List ℕ → List ℕ → Option (Unit {0})
+fixed_said word w = if bytes_eq w word then Some tt else None
 
 -- ---- words one after another
 

@@ -19,3 +19,12 @@ pub enum RowHead {
     EventAt(Path, Event),
     ContradictoryAt(u64),
 }
+
+/// The line of the limits: how often a donor may be given, how many donors a row ranks at most, and how much
+/// work a search may take.
+#[derive(Debug, Drop)]
+pub struct RunLimits {
+    pub limit: u32,
+    pub near: u32,
+    pub budget: u64,
+}

@@ -12,7 +12,7 @@ mod text;
 mod words;
 
 pub use fault::ProofFault;
-pub use heads::{LeafHead, RowHead};
+pub use heads::{LeafHead, RowHead, RunLimits};
 pub use lines::{Lines, settle};
 pub use numbers::{named_long, named_short};
 pub use proof::Proof;

@@ -2,7 +2,7 @@
 ghost use Rattle.std.specs.Prelude.{◌≡◌, ◌==◌, ◌<◌, ◌^◌, [], ◌∷◌, IfNone, IfOk, IfSome, length, suc};
 ghost use Rattle.std.specs.List.{position};
 ghost use Rattle.proof_grammar.specs.Cuts.{split};
-ghost use Rattle.proof_grammar.specs.Words.{ReadsAs, Takes, divisor_said, ended, long_said, named_long, named_short, named_short_or_0, path_said, place_said, positive_said, short_said, whole_said, word_in};
+ghost use Rattle.proof_grammar.specs.Words.{ReadsAs, Takes, divisor_said, ended, fixed_said, long_said, named_long, named_short, named_short_or_0, path_said, place_said, positive_said, short_said, whole_said, word_in};
 
 
 
@@ -194,6 +194,22 @@ impl<'a> Words<'a> {
         };
         match place(word) {
             Some(number) => Ok(number),
+            None => Err(Stop::Form),
+        }
+    }
+
+    /// This word and no other.
+    pub fn fixed(&mut self, word: &[u8]) -> Result<(), Stop>
+        ensures { Takes result self.new (word_in (fixed_said word.now) self.old) }
+    {
+        match self.next() {
+            Some(next) => {
+                if next == word {
+                    Ok(())
+                } else {
+                    Err(Stop::Form)
+                }
+            }
             None => Err(Stop::Form),
         }
     }

@@ -14,7 +14,7 @@ returns-clause-decided c = λ bytes. by bytes (proof_of_bytes bytes) refl
   where
     by : (bytes : List ℕ) (r : Result Proof (List Line)) → proof_of_bytes bytes ≡ r → IsInGrammar bytes ⊎ ((line : ℕ) × IsFirstFault bytes line)
     by bytes (Ok p) is = inl (let (plain, same) = text-found bytes p is in (p, plain, same))
-    by bytes (Err left) is = inr (text-stops bytes left is)
+    by bytes (Err left) is = inr (let (line, number, fault) = text-stops bytes left is in (line, fault))
 
 pub returns-clause-one_line : goal.returns-clause-one_line
 returns-clause-one_line c = one-line
