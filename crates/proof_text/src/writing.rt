@@ -11,11 +11,12 @@ mod rows;
 mod steps;
 mod words;
 
-use crate::entry::Entry;
-use crate::proof::{Proof, RowProof};
+use bound_cert::RowProof;
 use claims::write_claim;
 use derivation::Step;
+use donor_book::Entry;
 use foundation::{OutOfMemory, Sequence};
+use proof_grammar::Proof;
 use rows::write_row;
 use std::alloc::Global;
 use steps::write_steps;

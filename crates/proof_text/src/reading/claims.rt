@@ -4,12 +4,9 @@ ghost use Rattle.proof_grammar.specs.FileReading.{claim_behind, claim_in};
 ghost use Rattle.proof_grammar.specs.Readings.{Reads, read_line, read_many};
 ghost use Rattle.proof_grammar.specs.Words.{ReadsAs, all_in, named_short};
 
-use super::lines::{Lines, settle};
-use super::numbers::named_short;
-use super::words::{Stop, Words};
-use crate::entry::Entry;
-use crate::fault::ProofFault;
+use donor_book::Entry;
 use foundation::Sequence;
+use proof_grammar::{Lines, ProofFault, Stop, Words, named_short, settle};
 use std::alloc::Global;
 
 /// So many claims, a line each. Memory is taken for each when its line was read.

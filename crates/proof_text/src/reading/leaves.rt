@@ -4,22 +4,11 @@ ghost use Rattle.proof_grammar.specs.LeafReading.{bad_in, behind_leaf, bound_in,
 ghost use Rattle.proof_grammar.specs.Readings.{Reads, read_line, read_many};
 ghost use Rattle.proof_grammar.specs.Words.{ReadsAs};
 
-use super::lines::{Lines, settle};
 use super::steps::steps;
-use super::words::{Stop, Words};
-use crate::fault::ProofFault;
 use bound_cert::{Leaf, LeafWhy, Path};
 use foundation::Sequence;
+use proof_grammar::{LeafHead, Lines, ProofFault, Stop, Words, settle};
 use std::alloc::Global;
-
-/// The first line of a leaf: why nothing below its path is looked at, and how many steps follow.
-#[derive(Drop)]
-pub(super) enum LeafHead {
-    BoundAt(Path),
-    BadAt(Path),
-    LineAt(Path, u64),
-    BoxAt(Path, u64),
-}
 
 /// So many leaves. Memory is taken for each when its lines were read.
 pub(super) fn leaves(

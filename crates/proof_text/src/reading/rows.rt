@@ -6,24 +6,10 @@ ghost use Rattle.proof_grammar.specs.RowReading.{WeighsLong, behind_row, budget_
 ghost use Rattle.proof_grammar.specs.Words.{ReadsAs, Takes};
 
 use super::leaves::leaves;
-use super::lines::{Lines, settle};
-use super::words::{Stop, Words};
-use crate::fault::ProofFault;
-use crate::proof::{Event, GiftFault, Outcome, RowProof};
-use bound_cert::{Cert, Leaf, LeafWhy, Path};
+use bound_cert::{Cert, Event, GiftFault, Leaf, LeafWhy, Outcome, Path, RowProof};
 use foundation::Sequence;
+use proof_grammar::{Lines, ProofFault, RowHead, Stop, Words, settle};
 use std::alloc::Global;
-
-/// The first line of a row, with how many leaves follow. A change weighs one more than the number here.
-#[derive(Drop)]
-pub(super) enum RowHead {
-    CleanAt,
-    ChangeAt(u64, Path, u64),
-    GiftAt(u64, Path, GiftFault, u64),
-    BudgetAt(Path, u64),
-    EventAt(Path, Event),
-    ContradictoryAt(u64),
-}
 
 /// So many rows. Memory is taken for each when its lines were read.
 pub(super) fn rows(

@@ -4,12 +4,9 @@ ghost use Rattle.proof_grammar.specs.StepReading.{combine_in, cover_in, fail_in,
 ghost use Rattle.proof_grammar.specs.Readings.{Reads, read_line, read_many};
 ghost use Rattle.proof_grammar.specs.Words.{ReadsAs, all_in, named_long};
 
-use super::lines::{Lines, settle};
-use super::numbers::named_long;
-use super::words::{Stop, Words};
-use crate::fault::ProofFault;
 use derivation::Step;
 use foundation::Sequence;
+use proof_grammar::{Lines, ProofFault, Stop, Words, named_long, settle};
 use std::alloc::Global;
 
 /// The step of a line.

@@ -4,12 +4,10 @@ ghost use Rattle.proof_grammar.specs.FileReading.{behind_verdict, verdict_in, ve
 ghost use Rattle.proof_grammar.specs.Readings.{Reads, read_line, read_many};
 ghost use Rattle.proof_grammar.specs.Words.{ReadsAs};
 
-use super::lines::{Lines, settle};
 use super::steps::steps;
-use super::words::{Stop, Words};
-use crate::fault::ProofFault;
 use derivation::Step;
 use foundation::Sequence;
+use proof_grammar::{Lines, ProofFault, Stop, Words, settle};
 use std::alloc::Global;
 
 /// So many verdicts. Memory is taken for each when its lines were read.

@@ -4,7 +4,7 @@ ghost use Rattle.std.specs.List.{flat_map};
 ghost use Rattle.proof_grammar.specs.ProofLines.{claim_line, line_text, named};
 
 use super::words::{write_named, write_named_or_0};
-use crate::entry::Entry;
+use donor_book::Entry;
 use foundation::OutOfMemory;
 
 /// Appends the line of a claim.

@@ -5,8 +5,7 @@ ghost use Rattle.proof_text.specs.inner.Texts.{gift_text};
 
 use super::leaves::write_leaves;
 use super::words::{write_named, write_number, write_path, write_place};
-use crate::proof::{Event, GiftFault, Outcome, RowProof};
-use bound_cert::{Cert, Path};
+use bound_cert::{Cert, Event, GiftFault, Outcome, Path, RowProof};
 use foundation::OutOfMemory;
 
 /// Appends the lines of a row.
