@@ -4,6 +4,7 @@ ghost use Rattle.proof_grammar.specs.FileReading.{claim_behind, claim_in};
 ghost use Rattle.proof_grammar.specs.Readings.{Reads, read_line, read_many};
 ghost use Rattle.proof_grammar.specs.Words.{ReadsAs, all_in, named_short};
 
+use super::fitted::fitted;
 use donor_book::Entry;
 use foundation::Sequence;
 use proof_grammar::{Lines, ProofFault, Stop, Words, named_short, settle};
@@ -27,7 +28,7 @@ pub(super) fn claims(
             return Err(ProofFault::OutOfMemory);
         };
     }
-    Ok(Sequence::from_vec(claims))
+    Ok(fitted(claims))
 }
 
 // The claim of the next line.
@@ -80,5 +81,5 @@ fn named_rows(alloc: Global, words: &mut Words) -> Result<Sequence<u32>, Stop>
             return Err(Stop::OutOfMemory);
         };
     }
-    Ok(Sequence::from_vec(rows))
+    Ok(fitted(rows))
 }

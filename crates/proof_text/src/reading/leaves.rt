@@ -4,6 +4,7 @@ ghost use Rattle.proof_grammar.specs.LeafReading.{bad_in, behind_leaf, bound_in,
 ghost use Rattle.proof_grammar.specs.Readings.{Reads, read_line, read_many};
 ghost use Rattle.proof_grammar.specs.Words.{ReadsAs};
 
+use super::fitted::fitted;
 use super::steps::steps;
 use bound_cert::{Leaf, LeafWhy, Path};
 use foundation::Sequence;
@@ -28,7 +29,7 @@ pub(super) fn leaves(
             return Err(ProofFault::OutOfMemory);
         };
     }
-    Ok(Sequence::from_vec(leaves))
+    Ok(fitted(leaves))
 }
 
 // The leaf at the front.

@@ -5,6 +5,7 @@ ghost use Rattle.proof_grammar.specs.Readings.{Reads, read_line, read_many};
 ghost use Rattle.proof_grammar.specs.RowReading.{WeighsLong, behind_row, budget_in, change_in, clean_proof, contradictory_in, gift_fault_in, gift_in, row_in, row_reading, step_event_in, test_event_in};
 ghost use Rattle.proof_grammar.specs.Words.{ReadsAs, Takes};
 
+use super::fitted::fitted;
 use super::leaves::leaves;
 use bound_cert::{Cert, Event, GiftFault, Leaf, LeafWhy, Outcome, Path, RowProof};
 use foundation::Sequence;
@@ -29,7 +30,7 @@ pub(super) fn rows(
             return Err(ProofFault::OutOfMemory);
         };
     }
-    Ok(Sequence::from_vec(rows))
+    Ok(fitted(rows))
 }
 
 // The row at the front.
@@ -237,7 +238,9 @@ fn clean_row(alloc: Global) -> Result<RowProof, ProofFault>
         path: Path::new(Vec::new(alloc)),
         why: LeafWhy::Bound,
     };
-    let mut leaves = Vec::new(alloc);
+    let Ok(mut leaves) = Vec::with_capacity(alloc, 1) else {
+        return Err(ProofFault::OutOfMemory);
+    };
     let Ok(()) = leaves.push(leaf) else {
         return Err(ProofFault::OutOfMemory);
     };

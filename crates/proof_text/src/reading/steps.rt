@@ -4,6 +4,7 @@ ghost use Rattle.proof_grammar.specs.StepReading.{combine_in, cover_in, fail_in,
 ghost use Rattle.proof_grammar.specs.Readings.{Reads, read_line, read_many};
 ghost use Rattle.proof_grammar.specs.Words.{ReadsAs, all_in, named_long};
 
+use super::fitted::fitted;
 use derivation::Step;
 use foundation::Sequence;
 use proof_grammar::{Lines, ProofFault, Stop, Words, named_long, settle};
@@ -85,7 +86,7 @@ fn named_places(alloc: Global, words: &mut Words) -> Result<Sequence<u64>, Stop>
             return Err(Stop::OutOfMemory);
         };
     }
-    Ok(Sequence::from_vec(places))
+    Ok(fitted(places))
 }
 
 // A field whose code is fixed.
@@ -124,5 +125,5 @@ pub(super) fn steps(
             return Err(ProofFault::OutOfMemory);
         };
     }
-    Ok(Sequence::from_vec(steps))
+    Ok(fitted(steps))
 }

@@ -4,6 +4,7 @@ ghost use Rattle.proof_grammar.specs.FileReading.{behind_verdict, verdict_in, ve
 ghost use Rattle.proof_grammar.specs.Readings.{Reads, read_line, read_many};
 ghost use Rattle.proof_grammar.specs.Words.{ReadsAs};
 
+use super::fitted::fitted;
 use super::steps::steps;
 use derivation::Step;
 use foundation::Sequence;
@@ -28,7 +29,7 @@ pub(super) fn verdicts(
             return Err(ProofFault::OutOfMemory);
         };
     }
-    Ok(Sequence::from_vec(verdicts))
+    Ok(fitted(verdicts))
 }
 
 // The verdict at the front.
