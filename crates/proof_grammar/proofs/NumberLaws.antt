@@ -48,4 +48,3 @@ ranged-Decides z = Decides-ltb (unsigned_abs z) (2 ^ 127)
 
 pub positive-Decides : (z : ℤ) → Decides (int_le (pos 0) z) (pos 0 ≤ℤ z)
 positive-Decides z = is_enough-Decides false z
-

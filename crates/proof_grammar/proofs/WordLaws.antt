@@ -42,8 +42,7 @@ split-cut mark bytes i e = by (nat_lt (position_or_len (λ b. b == mark) bytes) 
     by false is h = absurd (cc)
     by true is h =
         let place : position_or_len (λ b. b == mark) bytes ≡ i = cc in
-        let inside = (Decides-ltb (position_or_len (λ b. b == mark) bytes) (length bytes)).0 is in
-        (
+        let inside = (Decides-ltb (position_or_len (λ b. b == mark) bytes) (length bytes)).0 is in (
           subst (λ (k : ℕ). k < length bytes) place inside,
           split-is mark bytes ∙ slice_split_first (λ b. b == mark) bytes 0 inside ∙ ap (λ (k : ℕ). take k bytes ∷ slice_split (λ b. b == mark) (drop (k + 1) bytes)) place ∙ ap (λ ss. take i bytes ∷ ss) (sym (split-is mark (drop (i + 1) bytes))),
         )

@@ -36,7 +36,9 @@ claims_of row reply None = None
 claims_of row reply (Some ranking) = Some (record { row_no = row; ranking = ranking; reply = reply })
 
 abbrev pub claim_behind : Line → Option Entry
-claim_behind ws = then_in (word_in named_short ws) (λ row ws. then_in (word_in named_short_or_0 ws) (λ reply ws. claims_of row reply (all_in named_short ws)))
+claim_behind ws =
+    then_in (word_in named_short ws) (λ row ws.
+    then_in (word_in named_short_or_0 ws) (λ reply ws. claims_of row reply (all_in named_short ws)))
 
 abbrev pub claim_in : Line → Option Entry
 claim_in [] = None
@@ -45,23 +47,33 @@ claim_in (w ∷ ws) = if bytes_eq w (codes "claim") then claim_behind ws else No
 -- ---- the file
 
 abbrev pub version_in : Line → Option (Unit {0})
-version_in ws = then_in (word_in (fixed_said (codes "fh-proof")) ws) (λ u ws. then_in (word_in (fixed_said (codes "1")) ws) (λ v ws. ended tt ws))
+version_in ws =
+    then_in (word_in (fixed_said (codes "fh-proof")) ws) (λ u ws.
+    then_in (word_in (fixed_said (codes "1")) ws) (λ v ws. ended tt ws))
 
 abbrev pub end_in : Line → Option (Unit {0})
 end_in ws = then_in (word_in (fixed_said (codes "end")) ws) (λ u ws. ended tt ws)
 
 -- a number behind a word
 abbrev pub count_in : List ℕ → Line → Option ℕ
-count_in word ws = then_in (word_in (fixed_said word) ws) (λ u ws. then_in (word_in long_said ws) (λ n ws. ended n ws))
+count_in word ws =
+    then_in (word_in (fixed_said word) ws) (λ u ws.
+    then_in (word_in long_said ws) (λ n ws. ended n ws))
 
 abbrev pub budget_behind : ℕ → ℕ → Line → Option RunLimits
-budget_behind limit near ws = then_in (word_in (fixed_said (codes "budget")) ws) (λ u ws. then_in (word_in long_said ws) (λ budget ws. ended (record { limit = limit; near = near; budget = budget }) ws))
+budget_behind limit near ws =
+    then_in (word_in (fixed_said (codes "budget")) ws) (λ u ws.
+    then_in (word_in long_said ws) (λ budget ws. ended (record { limit = limit; near = near; budget = budget }) ws))
 
 abbrev pub near_behind : ℕ → Line → Option RunLimits
-near_behind limit ws = then_in (word_in (fixed_said (codes "near")) ws) (λ u ws. then_in (word_in short_said ws) (λ near ws. budget_behind limit near ws))
+near_behind limit ws =
+    then_in (word_in (fixed_said (codes "near")) ws) (λ u ws.
+    then_in (word_in short_said ws) (λ near ws. budget_behind limit near ws))
 
 abbrev pub limits_in : Line → Option RunLimits
-limits_in ws = then_in (word_in (fixed_said (codes "limit")) ws) (λ u ws. then_in (word_in short_said ws) near_behind)
+limits_in ws =
+    then_in (word_in (fixed_said (codes "limit")) ws) (λ u ws.
+    then_in (word_in short_said ws) near_behind)
 
 -- a count, and so many
 abbrev pub counted_reading : {X : Type 0} → (Line → Option ℕ) → (List Line → Reading Line X) → List Line → Reading Line (List X)

@@ -19,10 +19,14 @@ abbrev pub bad_in : Line → Option LeafHead
 bad_in ws = then_in (word_in path_said ws) (λ path ws. ended (BadAt path) ws)
 
 abbrev pub line_in : Line → Option LeafHead
-line_in ws = then_in (word_in path_said ws) (λ path ws. then_in (word_in long_said ws) (λ n ws. ended (LineAt path n) ws))
+line_in ws =
+    then_in (word_in path_said ws) (λ path ws.
+    then_in (word_in long_said ws) (λ n ws. ended (LineAt path n) ws))
 
 abbrev pub box_in : Line → Option LeafHead
-box_in ws = then_in (word_in path_said ws) (λ path ws. then_in (word_in long_said ws) (λ n ws. ended (BoxAt path n) ws))
+box_in ws =
+    then_in (word_in path_said ws) (λ path ws.
+    then_in (word_in long_said ws) (λ n ws. ended (BoxAt path n) ws))
 
 abbrev pub leaf_in : Line → Option LeafHead
 leaf_in [] = None

@@ -8,4 +8,5 @@ pub mod ProofLines
 pub mod Readings
 pub mod RowReading
 pub mod StepReading
+pub mod Texts
 pub mod Words

@@ -19,7 +19,10 @@ abbrev pub clean_in : Line → Option RowHead
 clean_in ws = ended CleanAt ws
 
 abbrev pub change_in : Line → Option RowHead
-change_in ws = then_in (word_in positive_said ws) (λ w ws. then_in (word_in path_said ws) (λ path ws. then_in (word_in long_said ws) (λ n ws. ended (ChangeAt w path n) ws)))
+change_in ws =
+    then_in (word_in positive_said ws) (λ w ws.
+    then_in (word_in path_said ws) (λ path ws.
+    then_in (word_in long_said ws) (λ n ws. ended (ChangeAt w path n) ws)))
 
 -- the line behind a field, or the rule behind 0
 abbrev pub gift_fault_behind : Option ℕ → Line → Front GiftFault
@@ -31,17 +34,29 @@ abbrev pub gift_fault_in : Line → Front GiftFault
 gift_fault_in ws = then_in (word_in named_short_or_0 ws) gift_fault_behind
 
 abbrev pub gift_in : Line → Option RowHead
-gift_in ws = then_in (word_in long_said ws) (λ weight ws. then_in (word_in path_said ws) (λ path ws. then_in (gift_fault_in ws) (λ fault ws. then_in (word_in long_said ws) (λ n ws. ended (GiftAt weight path fault n) ws))))
+gift_in ws =
+    then_in (word_in long_said ws) (λ weight ws.
+    then_in (word_in path_said ws) (λ path ws.
+    then_in (gift_fault_in ws) (λ fault ws.
+    then_in (word_in long_said ws) (λ n ws. ended (GiftAt weight path fault n) ws))))
 
 abbrev pub budget_in : Line → Option RowHead
-budget_in ws = then_in (word_in path_said ws) (λ path ws. then_in (word_in long_said ws) (λ work ws. ended (BudgetAt path work) ws))
+budget_in ws =
+    then_in (word_in path_said ws) (λ path ws.
+    then_in (word_in long_said ws) (λ work ws. ended (BudgetAt path work) ws))
 
 abbrev pub step_event_in : Line → Option RowHead
 step_event_in ws =
-    then_in (word_in path_said ws) (λ path ws. then_in (word_in named_long ws) (λ first ws. then_in (word_in named_long ws) (λ second ws. then_in (word_in place_said ws) (λ place ws. ended (EventAt path (event.Step first second place)) ws))))
+    then_in (word_in path_said ws) (λ path ws.
+    then_in (word_in named_long ws) (λ first ws.
+    then_in (word_in named_long ws) (λ second ws.
+    then_in (word_in place_said ws) (λ place ws. ended (EventAt path (event.Step first second place)) ws))))
 
 abbrev pub test_event_in : Line → Option RowHead
-test_event_in ws = then_in (word_in path_said ws) (λ path ws. then_in (word_in named_long ws) (λ line ws. then_in (word_in named_short ws) (λ field ws. ended (EventAt path (event.Test line field)) ws)))
+test_event_in ws =
+    then_in (word_in path_said ws) (λ path ws.
+    then_in (word_in named_long ws) (λ line ws.
+    then_in (word_in named_short ws) (λ field ws. ended (EventAt path (event.Test line field)) ws)))
 
 abbrev pub contradictory_in : Line → Option RowHead
 contradictory_in ws = then_in (word_in long_said ws) (λ n ws. ended (ContradictoryAt n) ws)

@@ -12,7 +12,11 @@ given_in ws = then_in (word_in named_long ws) (λ i ws. ended (step.Given i) ws)
 
 abbrev pub combine_in : Line → Option Step
 combine_in ws =
-    then_in (word_in named_long ws) (λ a ws. then_in (word_in whole_said ws) (λ m ws. then_in (word_in named_long ws) (λ b ws. then_in (word_in whole_said ws) (λ n ws. then_in (word_in divisor_said ws) (λ g ws. ended (step.Combine a m b n g) ws)))))
+    then_in (word_in named_long ws) (λ a ws.
+    then_in (word_in whole_said ws) (λ m ws.
+    then_in (word_in named_long ws) (λ b ws.
+    then_in (word_in whole_said ws) (λ n ws.
+    then_in (word_in divisor_said ws) (λ g ws. ended (step.Combine a m b n g) ws)))))
 
 abbrev pub fail_in : Line → Option Step
 fail_in ws = then_in (word_in named_long ws) (λ a ws. ended (step.Fail a) ws)
@@ -25,7 +29,9 @@ abbrev pub cover_in : Line → Option Step
 cover_in ws = then_in (word_in named_short ws) (λ field ws. covers field (all_in named_long ws))
 
 abbrev pub fix_in : Line → Option Step
-fix_in ws = then_in (word_in named_short ws) (λ field ws. then_in (word_in named_long ws) (λ part ws. ended (step.Fix field part) ws))
+fix_in ws =
+    then_in (word_in named_short ws) (λ field ws.
+    then_in (word_in named_long ws) (λ part ws. ended (step.Fix field part) ws))
 
 abbrev pub step_in : Line → Option Step
 step_in [] = None

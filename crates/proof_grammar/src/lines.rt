@@ -3,8 +3,8 @@ ghost use Rattle.std.specs.Prelude.{◌≡◌, ◌∷◌, IfErr, IfOk};
 ghost use Rattle.proof_grammar.specs.Cuts.{split};
 ghost use Rattle.proof_grammar.specs.Readings.{EndsAt, FaultAt, IsEnd, Settles, begun};
 
-use crate::words::{Stop, cut};
 use crate::fault::ProofFault;
+use crate::words::{Stop, cut};
 use std::marker::Model;
 
 /// The lines that are still to be read, and how many were.

@@ -4,16 +4,13 @@ ghost use Rattle.std.specs.List.{position};
 ghost use Rattle.proof_grammar.specs.Cuts.{split};
 ghost use Rattle.proof_grammar.specs.Words.{ReadsAs, Takes, divisor_said, ended, fixed_said, long_said, named_long, named_short, named_short_or_0, path_said, place_said, positive_said, short_said, whole_said, word_in};
 
-
-
-
-use crate::paths::path;
 use crate::numbers::{
     divisor, long, named_long, named_short, named_short_or_none, place, positive, short, whole,
 };
+use crate::paths::path;
 use bound_cert::Path;
 use edit_line::Place;
-use std::alloc::{AllocError, AllocFailed, Global};
+use std::alloc::Global;
 use std::marker::Model;
 
 /// Why the reading of a line stops.
@@ -23,18 +20,6 @@ pub enum Stop {
     Form,
     /// Memory was refused.
     OutOfMemory,
-}
-
-impl From<AllocError> for Stop {
-    fn from(_refused: AllocError) -> Self {
-        Stop::OutOfMemory
-    }
-}
-
-impl<T: Drop> From<AllocFailed<T>> for Stop {
-    fn from(_refused: AllocFailed<T>) -> Self {
-        Stop::OutOfMemory
-    }
 }
 
 /// The words that are still to be read. Between two words stands one space.

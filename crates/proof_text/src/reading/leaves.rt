@@ -44,11 +44,7 @@ fn leaf(alloc: Global, lines: &mut Lines) -> Result<Leaf, ProofFault>
 }
 
 // The leaf of a head, whose steps are at the front.
-fn behind_head(
-    alloc: Global,
-    lines: &mut Lines,
-    head: LeafHead,
-) -> Result<Leaf, ProofFault>
+fn behind_head(alloc: Global, lines: &mut Lines, head: LeafHead) -> Result<Leaf, ProofFault>
     ensures { Reads result lines.old lines.new (behind_leaf head lines.old.left) }
 {
     match head {

@@ -45,11 +45,7 @@ fn row(alloc: Global, lines: &mut Lines) -> Result<RowProof, ProofFault>
 }
 
 // The row of a head, whose leaves are at the front.
-fn behind_head(
-    alloc: Global,
-    lines: &mut Lines,
-    head: RowHead,
-) -> Result<RowProof, ProofFault>
+fn behind_head(alloc: Global, lines: &mut Lines, head: RowHead) -> Result<RowProof, ProofFault>
     requires { WeighsLong head }
     ensures { Reads result lines.old lines.new (behind_row head lines.old.left) }
 {

@@ -39,7 +39,8 @@ const ROWS: &[&[u8]] = &[
 ];
 
 /// The steps that drop the second of two lines of a trade survey.
-const DROPPED: &[u8] = b"drop 9\ngiven 1\ngiven 4\ncombine 1 1 2 1 1\ngiven 6\ncombine 3 1 4 1 1\ngiven 5\ncombine 6 1 2 3 1\ncombine 7 1 4 3 2\ncombine 5 1 8 1 1\n";
+const DROPPED: &[u8] =
+    b"drop 9\ngiven 1\ngiven 4\ncombine 1 1 2 1 1\ngiven 6\ncombine 3 1 4 1 1\ngiven 5\ncombine 6 1 2 3 1\ncombine 7 1 4 3 2\ncombine 5 1 8 1 1\n";
 
 /// Whether the text is read, and what is read is written as the text.
 fn is_read_and_written(alloc: Global, text: &[u8]) -> Result<bool, OutOfMemory> {

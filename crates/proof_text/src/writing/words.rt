@@ -49,10 +49,7 @@ pub(super) fn write_named(text: &mut Vec<u8>, number: u64) -> Result<(), OutOfMe
 }
 
 /// Appends the name of what has this number, from 0, or 0 for none.
-pub(super) fn write_named_or_0(
-    text: &mut Vec<u8>,
-    number: Option<u32>,
-) -> Result<(), OutOfMemory>
+pub(super) fn write_named_or_0(text: &mut Vec<u8>, number: Option<u32>) -> Result<(), OutOfMemory>
     ensures { OnOk result (text.new.items ≡ text.old.items ++ 32 ∷ named_or_0 number) }
 {
     match number {

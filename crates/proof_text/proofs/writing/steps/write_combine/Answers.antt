@@ -15,5 +15,5 @@ returns c =
     let second = simp to_z-of_z at c.in_ok-write_multiple-2.ensures in
     let third = simp to_z-of_z at c.in_ok-write_signed.ensures in
     combine-words c.args.text.now.items c.extend_from_slice.new.self.items c.write_multiple.new.text.items c.write_multiple-2.new.text.items c.write_signed.new.text.items
-        (named c.args.a) (signed_decimal c.args.m) (named c.args.b) (signed_decimal c.args.n) (signed_decimal c.args.g)
-        c.in_ok-extend_from_slice.ensures.items first second third
+    (named c.args.a) (signed_decimal c.args.m) (named c.args.b) (signed_decimal c.args.n) (signed_decimal c.args.g)
+    c.in_ok-extend_from_slice.ensures.items first second third
