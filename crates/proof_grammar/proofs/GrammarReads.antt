@@ -1,4 +1,4 @@
-use Rattle.std.proofs.Common.{◌≡◌, ℕ, zero, suc, List, [], ◌∷◌, Option, Some, None, Result, Ok, Err, codes, refl, ap, ◌∙◌}
+use Rattle.std.proofs.Common.{◌≡◌, ℕ, zero, suc, List, [], ◌∷◌, Option, Some, None, Ok, Err, codes, refl, ap, ◌∙◌}
 use Rattle.derivation.specs.declared.step.Step.{Step}
 use Rattle.bound_cert.specs.declared.cert.Leaf.{Leaf}
 use Rattle.bound_cert.specs.declared.outcome.RowProof.{RowProof}
@@ -8,8 +8,7 @@ use Rattle.proof_grammar.specs.declared.heads.LeafHead.TheVariants.{BadAt, Bound
 use Rattle.proof_grammar.specs.declared.heads.RowHead.{RowHead}
 use Rattle.proof_grammar.specs.declared.heads.RowHead.TheVariants.{BudgetAt, ChangeAt, CleanAt, ContradictoryAt, EventAt, GiftAt}
 use Rattle.proof_grammar.specs.declared.heads.RunLimits.{RunLimits}
-use Rattle.proof_grammar.specs.declared.proof.Proof.{Proof}
-use Rattle.proof_grammar.specs.FileReading.{behind_verdict, claim_in, count_in, counted_reading, end_in, file_reading, limits_in, lists_reading, verdict_in, verdict_reading, version_in}
+use Rattle.proof_grammar.specs.FileReading.{behind_verdict, claim_in, count_in, counted_reading, file_reading, limits_in, lists_reading, verdict_in, verdict_reading, version_in}
 use Rattle.proof_grammar.specs.Heads.{leaves_behind, steps_behind}
 use Rattle.proof_grammar.specs.LeafReading.{behind_leaf, leaf_in, leaf_reading}
 use Rattle.proof_grammar.specs.Limits.{IsEntry, IsLeaf, IsLong, IsRowProof, IsStep}

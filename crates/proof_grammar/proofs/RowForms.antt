@@ -1,8 +1,6 @@
-use Rattle.std.proofs.Common.{◌≡◌, inl, inr, ℕ, suc, List, [], ◌∷◌, ◌++◌, Some, None, codes, refl, ap, ◌∙◌, subst, arith}
+use Rattle.std.proofs.Common.{◌≡◌, inl, inr, ℕ, suc, List, [], ◌∷◌, ◌++◌, Some, None, codes, refl, ap, ◌∙◌, subst}
 use Rattle.std.specs.Fmt.{decimal}
-use Rattle.edit_line.specs.declared.place.Place.{Place}
 use Rattle.bound_cert.specs.declared.outcome.Event.TheVariants as event
-use Rattle.bound_cert.specs.declared.outcome.GiftFault.{GiftFault}
 use Rattle.proof_grammar.specs.declared.heads.RowHead.{RowHead}
 use Rattle.proof_grammar.specs.declared.heads.RowHead.TheVariants.{BudgetAt, ChangeAt, CleanAt, ContradictoryAt, EventAt, GiftAt}
 use Rattle.proof_grammar.specs.Heads.{IsRowHead, row_head}

@@ -80,11 +80,14 @@ abbrev pub counted_reading : {X : Type 0} → (Line → Option ℕ) → (List Li
 counted_reading said read ls = then_read (read_line said ls) (λ n ls. read_many read n ls)
 
 abbrev pub proof_from : RunLimits → List (Option (List Step)) → List RowProof → List Entry → Proof
-proof_from l verdicts rows claims = record { limit = l.limit; near = l.near; budget = l.budget; verdicts = verdicts; rows = rows; claims = claims }
+proof_from l verdicts rows claims =
+    record { limit = l.limit; near = l.near; budget = l.budget; verdicts = verdicts; rows = rows; claims = claims }
 
 -- behind the limits and the verdicts and the rows
 abbrev pub claims_reading : RunLimits → List (Option (List Step)) → List RowProof → List Line → Reading Line Proof
-claims_reading l verdicts rows ls = then_read (counted_reading (count_in (codes "claims")) (read_line claim_in) ls) (λ claims ls. seen (λ u. proof_from l verdicts rows claims) (read_line end_in ls))
+claims_reading l verdicts rows ls =
+    then_read (counted_reading (count_in (codes "claims")) (read_line claim_in) ls) (λ claims ls.
+    seen (λ u. proof_from l verdicts rows claims) (read_line end_in ls))
 
 -- behind the limits and the verdicts
 abbrev pub rows_reading : RunLimits → List (Option (List Step)) → List Line → Reading Line Proof

@@ -8,6 +8,10 @@ use Rattle.proof_grammar.specs.ProofLines.{proof_text}
 abbrev pub IsInGrammar : List ℕ → Type 0
 IsInGrammar bytes = (p : Proof) × IsPlain p × (bytes ≡ proof_text p)
 
+-- no other plain proof has this text
+abbrev pub IsOnlyOf : List ℕ → Proof → Type 0
+IsOnlyOf bytes p = (other : Proof) → IsPlain other → bytes ≡ proof_text other → other ≡ p
+
 -- the text of some proof begins with these bytes
 abbrev pub Begins : List ℕ → Type 0
 Begins bytes = (p : Proof) × IsPlain p × (rest : List ℕ) × (proof_text p ≡ bytes ++ rest)
@@ -19,7 +23,8 @@ feed_count (b ∷ bytes) = if b == 10 then suc (feed_count bytes) else feed_coun
 
 -- a line feed ends the line of this number, from 1, and some proof begins with the bytes up to it
 abbrev pub GoesOn : List ℕ → ℕ → Type 0
-GoesOn bytes line = (front : List ℕ) × (rest : List ℕ) × (bytes ≡ front ++ 10 ∷ rest) × (suc (feed_count front) ≡ line) × Begins (front ++ 10 ∷ [])
+GoesOn bytes line =
+    (front : List ℕ) × (rest : List ℕ) × (bytes ≡ front ++ 10 ∷ rest) × (suc (feed_count front) ≡ line) × Begins (front ++ 10 ∷ [])
 
 -- the bytes are no proof, and this is the first line, from 1, that can't go on
 pub record IsFirstFault (bytes : List ℕ) (line : ℕ) : Type 0 where

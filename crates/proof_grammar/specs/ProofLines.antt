@@ -53,7 +53,8 @@ place_word (Field f) = named f
 
 abbrev pub step_line : Step → Line
 step_line (step.Given i) = codes "given" ∷ named i ∷ []
-step_line (step.Combine a m b n g) = codes "combine" ∷ named a ∷ signed_decimal m ∷ named b ∷ signed_decimal n ∷ signed_decimal g ∷ []
+step_line (step.Combine a m b n g) =
+    codes "combine" ∷ named a ∷ signed_decimal m ∷ named b ∷ signed_decimal n ∷ signed_decimal g ∷ []
 step_line (step.Fail a) = codes "fail" ∷ named a ∷ []
 step_line (step.Cover field parts) = codes "cover" ∷ named field ∷ map named parts
 step_line (step.Fix field part) = codes "fix" ∷ named field ∷ named part ∷ []
@@ -92,7 +93,8 @@ change_lines path zero leaves = (codes "clean" ∷ []) ∷ []
 change_lines path (suc w) leaves = with_leaves (codes "change" ∷ decimal (suc w) ∷ path_word path ∷ []) leaves
 
 abbrev pub event_line : List Bool → Event → Line
-event_line path (event.Step first second place) = codes "step" ∷ path_word path ∷ named first ∷ named second ∷ place_word place ∷ []
+event_line path (event.Step first second place) =
+    codes "step" ∷ path_word path ∷ named first ∷ named second ∷ place_word place ∷ []
 event_line path (event.Test line field) = codes "test" ∷ path_word path ∷ named line ∷ named field ∷ []
 
 abbrev pub row_lines : RowProof → List Line
@@ -100,7 +102,8 @@ row_lines row = outcome_lines row.outcome row.gift
   where
     outcome_lines : Outcome → Option GiftFault → List Line
     outcome_lines (outcome.Change path weight cert) None = change_lines path weight cert.leaves
-    outcome_lines (outcome.Change path weight cert) (Some fault) = with_leaves (codes "gift" ∷ decimal weight ∷ path_word path ∷ gift_words fault) cert.leaves
+    outcome_lines (outcome.Change path weight cert) (Some fault) =
+        with_leaves (codes "gift" ∷ decimal weight ∷ path_word path ∷ gift_words fault) cert.leaves
     outcome_lines (outcome.Budget path work) fault = (codes "budget" ∷ path_word path ∷ decimal work ∷ []) ∷ []
     outcome_lines (outcome.Overflow path event) fault = event_line path event ∷ []
     outcome_lines (outcome.Contradictory cert) fault = with_leaves (codes "contradictory" ∷ []) cert.leaves
@@ -120,7 +123,8 @@ version_line = codes "fh-proof" ∷ codes "1" ∷ []
 
 -- how often a donor may be given, how many donors a row ranks, and how much work a search may take
 abbrev pub limits_words : ℕ → ℕ → ℕ → Line
-limits_words limit near budget = codes "limit" ∷ decimal limit ∷ codes "near" ∷ decimal near ∷ codes "budget" ∷ decimal budget ∷ []
+limits_words limit near budget =
+    codes "limit" ∷ decimal limit ∷ codes "near" ∷ decimal near ∷ codes "budget" ∷ decimal budget ∷ []
 
 -- the last line
 abbrev pub end_line : Line

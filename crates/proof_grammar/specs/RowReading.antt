@@ -1,6 +1,7 @@
-use Rattle.std.specs.Prelude.{ℕ, suc, ◌<◌, ◌^◌, if◌then◌else◌, List, [], ◌∷◌, Option, Some, None, Ok, codes}
+use Rattle.std.specs.Prelude.{Bool, ℕ, suc, ◌<◌, ◌^◌, if◌then◌else◌, List, [], ◌∷◌, Option, Some, None, Ok, codes}
 use Rattle.std.specs.Str.{bytes_eq}
 use Rattle.bound_cert.specs.declared.outcome.Event.TheVariants as event
+use Rattle.bound_cert.specs.declared.cert.Leaf.{Leaf}
 use Rattle.bound_cert.specs.declared.outcome.GiftFault.{GiftFault}
 use Rattle.bound_cert.specs.declared.outcome.GiftFault.TheVariants as gift
 use Rattle.bound_cert.specs.declared.outcome.Outcome.TheVariants as outcome
@@ -86,14 +87,19 @@ WeighsLong (ContradictoryAt n) = Unit {0}
 abbrev pub clean_proof : RowProof
 clean_proof = record { outcome = outcome.Change [] 0 (record { leaves = clean_leaves }); gift = None }
 
+-- a change with these leaves
+abbrev pub change_proof : List Bool → ℕ → Option GiftFault → List Leaf → RowProof
+change_proof path weight fault leaves = record { outcome = outcome.Change path weight (record { leaves = leaves }); gift = fault }
+
 -- what is read behind the head of a row
 abbrev pub behind_row : RowHead → List Line → Reading Line RowProof
 behind_row CleanAt ls = Ok (clean_proof, ls)
-behind_row (ChangeAt w path n) ls = seen (λ leaves. record { outcome = outcome.Change path (suc w) (record { leaves = leaves }); gift = None }) (read_many leaf_reading n ls)
-behind_row (GiftAt weight path fault n) ls = seen (λ leaves. record { outcome = outcome.Change path weight (record { leaves = leaves }); gift = Some fault }) (read_many leaf_reading n ls)
+behind_row (ChangeAt w path n) ls = seen (λ leaves. change_proof path (suc w) None leaves) (read_many leaf_reading n ls)
+behind_row (GiftAt weight path fault n) ls = seen (λ leaves. change_proof path weight (Some fault) leaves) (read_many leaf_reading n ls)
 behind_row (BudgetAt path work) ls = Ok (record { outcome = outcome.Budget path work; gift = None }, ls)
 behind_row (EventAt path event) ls = Ok (record { outcome = outcome.Overflow path event; gift = None }, ls)
-behind_row (ContradictoryAt n) ls = seen (λ leaves. record { outcome = outcome.Contradictory (record { leaves = leaves }); gift = None }) (read_many leaf_reading n ls)
+behind_row (ContradictoryAt n) ls =
+    seen (λ leaves. record { outcome = outcome.Contradictory (record { leaves = leaves }); gift = None }) (read_many leaf_reading n ls)
 
 abbrev pub row_reading : List Line → Reading Line RowProof
 row_reading ls = then_read (read_line row_in ls) behind_row

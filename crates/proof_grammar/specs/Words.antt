@@ -87,7 +87,10 @@ is_changed b = b == 67
 -- the letters of a path
 abbrev pub path_said : List ℕ → Option (List Bool)
 path_said [] = None
-path_said (b ∷ bs) = if bytes_eq (b ∷ bs) (codes "-") then Some [] else if list_all is_path_letter (b ∷ bs) then Some (map is_changed (b ∷ bs)) else None
+path_said (b ∷ bs) =
+    if bytes_eq (b ∷ bs) (codes "-") then Some []
+    else if list_all is_path_letter (b ∷ bs) then Some (map is_changed (b ∷ bs))
+    else None
 
 -- the field of a number, or the constant
 abbrev pub place_of : Option ℕ → Place

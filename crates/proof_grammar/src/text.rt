@@ -8,5 +8,5 @@ ghost use Rattle.proof_grammar.specs.declared.proof.Proof.{Proof};
 pub fn one_reading()
     ensures one_proof { (p : Proof) (q : Proof) → IsPlain p → IsPlain q → proof_text p ≡ proof_text q → p ≡ q }
     ensures decided { (bytes : List ℕ) → IsInGrammar bytes ⊎ ((line : ℕ) × IsFirstFault bytes line) }
-    ensures one_line { (bytes : List ℕ) (line : ℕ) (other : ℕ) → IsFirstFault bytes line → IsFirstFault bytes other → line ≡ other }
+    ensures one_line { (bytes : List ℕ) (line other : ℕ) → IsFirstFault bytes line → IsFirstFault bytes other → line ≡ other }
 {}

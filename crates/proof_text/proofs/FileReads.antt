@@ -1,4 +1,4 @@
-use Rattle.std.proofs.Common.{◌≡◌, ◌≢◌, ℕ, suc, ◌+◌, List, [], ◌∷◌, Result, Ok, Err, length, sym, ap, ◌∙◌, subst, arith}
+use Rattle.std.proofs.Common.{◌≡◌, ◌≢◌, ℕ, suc, ◌+◌, List, [], ◌∷◌, Ok, Err, length, sym, ap, ◌∙◌, subst, arith}
 use Rattle.proof_grammar.specs.Cuts.{lines_in}
 use Rattle.proof_grammar.specs.FileReading.{file_reading}
 use Rattle.proof_grammar.specs.FirstFaults.{IsFirstFault}

@@ -1,9 +1,9 @@
 //! A proof as the bytes of a file.
 ghost use Rattle.std.specs.Prelude.{◌≡◌, ◌++◌, IfOk, OnOk};
+ghost use Rattle.proof_grammar.specs.FirstFaults.{IsOnlyOf};
 ghost use Rattle.proof_grammar.specs.Limits.{IsPlain};
 ghost use Rattle.proof_grammar.specs.ProofLines.{proof_text};
 ghost use Rattle.proof_text.specs.inner.Texts.{claims_text, limits_text, parts_text, rows_text, verdict_text, verdicts_text};
-ghost use Rattle.proof_grammar.specs.declared.proof.Proof.{Proof as AnyProof};
 
 mod claims;
 mod leaves;
@@ -25,7 +25,7 @@ use words::{write_count, write_number};
 /// The text of a proof. No other plain proof has the text of a plain one.
 pub fn write_proof(alloc: Global, proof: &Proof) -> Result<Vec<u8>, OutOfMemory>
     ensures text { IfOk result (λ text. text.items ≡ proof_text proof.now) }
-    ensures only { IfOk result (λ text. IsPlain proof.now → (other : AnyProof) → IsPlain other → proof_text other ≡ text.items → other ≡ proof.now) }
+    ensures only { IfOk result (λ text. IsPlain proof.now → IsOnlyOf text.items proof.now) }
 {
     let mut text = Vec::new(alloc);
     write_parts(&mut text, proof)?;

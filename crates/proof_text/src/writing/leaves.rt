@@ -3,6 +3,7 @@ ghost use Rattle.std.specs.Prelude.{◌≡◌, ◌∷◌, ◌++◌, length, OnOk
 ghost use Rattle.std.specs.Fmt.{decimal};
 ghost use Rattle.std.specs.List.{flat_map};
 ghost use Rattle.proof_grammar.specs.ProofLines.{leaf_lines, lines_text};
+ghost use Rattle.proof_text.specs.inner.Texts.{counted_text};
 
 use super::steps::write_steps;
 use super::words::{write_count, write_path};
@@ -11,7 +12,7 @@ use foundation::OutOfMemory;
 
 /// Appends the count of the leaves, the last word of its line, and their lines.
 pub(super) fn write_leaves(text: &mut Vec<u8>, leaves: &[Leaf]) -> Result<(), OutOfMemory>
-    ensures { OnOk result (text.new.items ≡ text.old.items ++ (32 ∷ decimal (length leaves.now)) ++ (10 ∷ lines_text (flat_map leaf_lines leaves.now))) }
+    ensures { OnOk result (text.new.items ≡ text.old.items ++ counted_text (length leaves.now) (flat_map leaf_lines leaves.now)) }
 {
     write_count(text, leaves.len())?;
     for leaf in leaves {

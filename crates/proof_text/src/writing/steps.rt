@@ -2,6 +2,7 @@
 ghost use Rattle.std.specs.Prelude.{◌≡◌, ◌∷◌, ◌++◌, [], codes, length, map, OnOk};
 ghost use Rattle.std.specs.Fmt.{decimal, signed_decimal};
 ghost use Rattle.proof_grammar.specs.ProofLines.{lines_text, named, step_line, words_text};
+ghost use Rattle.proof_text.specs.inner.Texts.{combine_line, counted_text};
 
 use super::words::{write_all_named, write_count, write_named, write_signed};
 use derivation::Step;
@@ -9,7 +10,7 @@ use foundation::OutOfMemory;
 
 /// Appends the count of the steps, the last word of its line, and their lines.
 pub(super) fn write_steps(text: &mut Vec<u8>, steps: &[Step]) -> Result<(), OutOfMemory>
-    ensures { OnOk result (text.new.items ≡ text.old.items ++ (32 ∷ decimal (length steps.now)) ++ (10 ∷ lines_text (map step_line steps.now))) }
+    ensures { OnOk result (text.new.items ≡ text.old.items ++ counted_text (length steps.now) (map step_line steps.now)) }
 {
     write_count(text, steps.len())?;
     for step in steps {
@@ -61,7 +62,7 @@ fn write_combine(
     n: i128,
     g: i128,
 ) -> Result<(), OutOfMemory>
-    ensures { OnOk result (text.new.items ≡ text.old.items ++ words_text (codes "combine" ∷ named a ∷ signed_decimal m ∷ named b ∷ signed_decimal n ∷ signed_decimal g ∷ [])) }
+    ensures { OnOk result (text.new.items ≡ text.old.items ++ words_text (combine_line a m b n g)) }
 {
     text.extend_from_slice(b"combine")?;
     write_multiple(text, a, m)?;

@@ -1,4 +1,4 @@
-use Rattle.std.proofs.Common.{◌≡◌, Err, sym, ◌∙◌}
+use Rattle.std.proofs.Common.{sym, ◌∙◌}
 use Rattle.proof_grammar.proofs.ProofWords.{text-once}
 use Rattle.proof_text.proofs.FileReads.{end-fault, file-fault, file-found}
 use Rattle.proof_text.proofs.reading.read_proof.Goals as goal

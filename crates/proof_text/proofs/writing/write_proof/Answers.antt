@@ -10,4 +10,4 @@ returns-clause-text c =
     parts ∙ sym (proof-parts c.args.proof.now)
 
 pub returns-clause-only : goal.returns-clause-only
-returns-clause-only c = λ plain other fine same. text-once other c.args.proof.now fine plain (same ∙ returns-clause-text c)
+returns-clause-only c = λ plain other fine same. text-once other c.args.proof.now fine plain (sym same ∙ returns-clause-text c)
