@@ -1,7 +1,7 @@
 use Rattle.std.specs.Prelude.{ℕ, ◌==◌, if◌then◌else◌, List, [], ◌∷◌}
 use Rattle.proof_grammar.specs.ProofLines.{Line}
 
--- Bytes that are cut into lines and words. Private contracts alone cite this page.
+-- Bytes that are cut into lines and words. The contracts of the reader alone cite this page.
 
 -- a byte before the first part
 abbrev pub push : ℕ → List (List ℕ) → List (List ℕ)

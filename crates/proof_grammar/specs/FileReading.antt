@@ -11,7 +11,7 @@ use Rattle.proof_grammar.specs.Readings.{Reading, read_line, read_many, seen, th
 use Rattle.proof_grammar.specs.Words.{all_in, ended, fixed_said, long_said, named_short, named_short_or_0, short_said, then_in, word_in}
 use Rattle.proof_grammar.specs.RowReading.{row_reading}
 
--- How verdicts and claims are read. Private contracts alone cite this page.
+-- How verdicts and claims are read. The contracts of the reader alone cite this page.
 
 abbrev pub keep_in : Line → Option (Option ℕ)
 keep_in ws = ended None ws

@@ -10,7 +10,7 @@ use Rattle.proof_grammar.specs.StepReading.{step_in}
 use Rattle.proof_grammar.specs.Readings.{Reading, read_line, read_many, seen, then_read}
 use Rattle.proof_grammar.specs.Words.{ended, long_said, path_said, then_in, word_in}
 
--- How leaves are read. Private contracts alone cite this page.
+-- How leaves are read. The contracts of the reader alone cite this page.
 
 abbrev pub bound_in : Line → Option LeafHead
 bound_in ws = then_in (word_in path_said ws) (λ path ws. ended (BoundAt path) ws)

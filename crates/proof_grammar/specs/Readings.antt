@@ -6,7 +6,7 @@ use Rattle.proof_grammar.specs.declared.fault.ProofFault.TheVariants as fault
 use Rattle.proof_grammar.specs.declared.words.Stop.{Stop}
 use Rattle.proof_grammar.specs.declared.words.Stop.TheVariants as stop
 
--- How values are read at the front of lines. Private contracts alone cite this page.
+-- How values are read at the front of lines. The contracts of the reader alone cite this page.
 
 -- a value at the front, and the lines behind it; or the lines from the first that can't go on
 abbrev pub Reading : Type 0 → Type 0 → Type 0

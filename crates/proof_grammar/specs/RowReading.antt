@@ -14,7 +14,7 @@ use Rattle.proof_grammar.specs.LeafReading.{leaf_reading}
 use Rattle.proof_grammar.specs.Readings.{Reading, read_line, read_many, seen, then_read}
 use Rattle.proof_grammar.specs.Words.{Front, ended, long_said, named_long, named_short, named_short_or_0, path_said, place_said, positive_said, then_in, word_in}
 
--- How rows are read. Private contracts alone cite this page.
+-- How rows are read. The contracts of the reader alone cite this page.
 
 abbrev pub clean_in : Line → Option RowHead
 clean_in ws = ended CleanAt ws

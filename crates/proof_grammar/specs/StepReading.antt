@@ -5,7 +5,7 @@ use Rattle.derivation.specs.declared.step.Step.TheVariants as step
 use Rattle.proof_grammar.specs.ProofLines.{Line}
 use Rattle.proof_grammar.specs.Words.{all_in, divisor_said, ended, named_long, named_short, then_in, whole_said, word_in}
 
--- How the lines of steps are read. Private contracts alone cite this page.
+-- How the lines of steps are read. The contracts of the reader alone cite this page.
 
 abbrev pub given_in : Line → Option Step
 given_in ws = then_in (word_in named_long ws) (λ i ws. ended (step.Given i) ws)

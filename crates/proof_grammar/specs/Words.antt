@@ -11,7 +11,7 @@ use Rattle.proof_grammar.specs.Cuts.{split}
 use Rattle.proof_grammar.specs.declared.words.Stop.{Stop}
 use Rattle.proof_grammar.specs.declared.words.Stop.TheVariants as stop
 
--- How words are read. Private contracts alone cite this page.
+-- How words are read. The contracts of the reader alone cite this page.
 
 -- the words of what is left of a line, if something is
 abbrev pub words_left : Option (List ℕ) → Line

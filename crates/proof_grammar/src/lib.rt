@@ -1,5 +1,8 @@
-//! The grammar of proof files: what a proof holds, the lines that spell it, and the words and lines that a
-//! reader takes from bytes one after another.
+//! The grammar of proof files: what a proof holds ([`Proof`]), the lines that spell it (`specs/ProofLines.antt`),
+//! which proofs have a text (`specs/Limits.antt`), and where bytes leave the grammar
+//! (`specs/FirstFaults.antt`). Each text is that of one proof, and bytes that are none have one first line
+//! that can't go on ([`one_reading`]). A reader takes [`Lines`] from the bytes one after another, and
+//! [`Words`] from a line.
 #![tactic(auto)]
 
 mod fault;
