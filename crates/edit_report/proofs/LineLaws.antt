@@ -1,5 +1,5 @@
 -- How many rows and lines there are.
-use Rattle.std.proofs.Common.{◌≡◌, ℕ, suc, ◌+◌, ◌&&◌, Bool, true, false, if◌then◌else◌, List, [], ◌∷◌, ◌++◌, Option, Some, None, length, length-append, refl, ap, ◌∙◌, arith, subst}
+use Rattle.std.proofs.Common.{IfSome, ◌≡◌, ℕ, suc, ◌+◌, ◌&&◌, Bool, true, false, if◌then◌else◌, List, [], ◌∷◌, ◌++◌, Option, Some, None, length, length-append, refl, ap, ◌∙◌, arith, subst}
 use Rattle.std.specs.Prelude.{is_none, is_some}
 use Rattle.std.specs.List.{filter}
 use Rattle.edit_model.specs.Corrections.{path_order}
@@ -9,13 +9,12 @@ use Rattle.bound_cert.specs.Paths.{changes}
 use Rattle.bound_cert.specs.Trees.{all_kept}
 use Rattle.back_subst.specs.declared.gift.Gift.{Gift}
 use Rattle.back_subst.specs.declared.gift.How.{How}
-use Rattle.edit_report.specs.Ends.{AreOfOneEnd, changed_fields, path_found}
+use Rattle.edit_report.specs.Ends.{IsGift, changed_fields, path_found}
 use Rattle.edit_report.specs.Laws.{ChangedCountLaw, CleanLaw, ReleasedCountLaw, UnresolvedLaw}
 use Rattle.edit_report.specs.Reasons.{changed_lines, lines_with}
 use Rattle.edit_report.specs.Released.{released_rows, row_of, row_with}
 use Rattle.edit_report.specs.declared.end.RowEnd.{RowEnd}
 use Rattle.edit_report.proofs.ChangedLaws.{none-changed}
-use Rattle.edit_report.proofs.EndLaws.{given-there}
 use Rattle.edit_report.proofs.ReleasedLaws.{texts-kept}
 
 -- ---- released rows
@@ -74,7 +73,7 @@ line-count fields columns number texts donor new (f ∷ changed) (how ∷ hows) 
 
 pub changed-told : ChangedCountLaw
 changed-told fields columns number texts end gift parts given =
-    let there = given-there fields end.proof.outcome end.proof.gift gift (subst (λ (g : Option Gift). AreOfOneEnd fields end.proof.outcome end.proof.gift g) given parts) in
+    let there = subst (λ (g : Option Gift). IfSome g (IsGift fields (path_found end.proof.outcome))) given parts in
     ap (λ (g : Option Gift). length (lines_with fields columns number texts end.proof end.donor g)) given ∙ line-count fields columns number texts end.donor gift.row (changed_fields fields (path_found end.proof.outcome)) gift.how there.how
 
 pub unresolved-told : UnresolvedLaw

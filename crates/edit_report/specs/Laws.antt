@@ -3,7 +3,7 @@ use Rattle.std.specs.Prelude.{◌≡◌, ℕ, Bool, true, List, [], ◌∷◌, S
 use Rattle.std.specs.List.{filter}
 use Rattle.edit_model.specs.declared.field.Field.{Field}
 use Rattle.back_subst.specs.declared.gift.Gift.{Gift}
-use Rattle.edit_report.specs.Ends.{AreOfOneEnd, changed_fields, path_found}
+use Rattle.edit_report.specs.Ends.{IsEnd, changed_fields, path_found}
 use Rattle.edit_report.specs.Reasons.{reasons_of}
 use Rattle.edit_report.specs.Released.{released_rows, row_of}
 use Rattle.edit_report.specs.Summaries.{is_clean, is_unresolved}
@@ -21,7 +21,7 @@ CleanLaw = (fields : List Field) (columns : List ℕ) (number : ℕ) (texts : Li
 
 -- a record that was given values has one line for each field that is changed
 abbrev pub ChangedCountLaw : Type 0
-ChangedCountLaw = (fields : List Field) (columns : List ℕ) (number : ℕ) (texts : List (List ℕ)) (end : RowEnd) (gift : Gift) → AreOfOneEnd fields end.proof.outcome end.proof.gift end.gift → end.gift ≡ Some gift
+ChangedCountLaw = (fields : List Field) (columns : List ℕ) (number : ℕ) (texts : List (List ℕ)) (end : RowEnd) (gift : Gift) → IsEnd fields end → end.gift ≡ Some gift
     → length (reasons_of fields columns number texts end) ≡ length (changed_fields fields (path_found end.proof.outcome))
 
 -- a record that was given none is not released, and has one line

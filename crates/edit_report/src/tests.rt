@@ -3,7 +3,7 @@ ghost use Rattle.std.specs.Prelude.{◌≡◌, ℕ, List, IfOk, IsTrue, length};
 ghost use Rattle.std.specs.List.{AllByRecursion};
 ghost use Rattle.edit_model.specs.Rows.{IsOfKind, IsRow};
 ghost use Rattle.record_text.specs.Sheets.{IsSheet};
-ghost use Rattle.edit_report.specs.Ends.{AreEnds, AreOfOneEnd, IsEnd, IsEventWithin, IsFaultWithin, IsGift};
+ghost use Rattle.edit_report.specs.Ends.{AreEnds, IsEnd, IsGift};
 
 use crate::changed::{changed_fields, path_found};
 use crate::{RowEnd, reasons_text, released_text, summary_text};
@@ -85,54 +85,16 @@ fn is_gift(alloc: Global, survey: &Survey, path: &[bool], gift: &Gift) -> bool
         Ok(changed) => changed.len() == gift.how.len(),
         Err(_) => false,
     };
-    hows && is_row(survey.fields(), gift.row.values())
-}
-
-fn is_event_within(count: usize, event: &Event) -> bool
-    ensures { IsTrue result → IsEventWithin count event.now }
-{
-    match event {
-        Event::Step {
-            place: Place::Field(field),
-            ..
-        } => (*field as usize) < count,
-        Event::Step {
-            place: Place::Constant,
-            ..
-        } => true,
-        Event::Test { field, .. } => (*field as usize) < count,
-    }
-}
-
-fn is_fault_within(count: usize, fault: &GiftFault) -> bool
-    ensures { IsTrue result → IsFaultWithin count fault.now }
-{
-    match fault {
-        GiftFault::Bound { field, .. } => (*field as usize) < count,
-        GiftFault::Test { .. } => true,
-    }
-}
-
-fn are_of_one_end(alloc: Global, survey: &Survey, found: &RowProof, gift: &Option<Gift>) -> bool
-    ensures { IsTrue result → AreOfOneEnd survey.now.fields found.now.outcome found.now.gift gift.now }
-{
-    let count = survey.fields().len();
-    match (&found.outcome, &found.gift, gift) {
-        (Outcome::Change { path, .. }, None, Some(gift)) => {
-            is_gift(alloc, survey, path.letters(), gift)
-        }
-        (Outcome::Change { .. }, Some(fault), None) => is_fault_within(count, fault),
-        (Outcome::Overflow { event, .. }, _, None) => is_event_within(count, event),
-        (Outcome::Budget { .. }, _, None) | (Outcome::Contradictory { .. }, _, None) => true,
-        _ => false,
-    }
+    hows && path.len() <= survey.fields().len() && is_row(survey.fields(), gift.row.values())
 }
 
 fn is_end(alloc: Global, survey: &Survey, end: &RowEnd) -> bool
     ensures { IsTrue result → IsEnd survey.now.fields end.now }
 {
-    path_found(&end.proof.outcome).len() <= survey.fields().len()
-        && are_of_one_end(alloc, survey, &end.proof, &end.gift)
+    match &end.gift {
+        None => true,
+        Some(gift) => is_gift(alloc, survey, path_found(&end.proof.outcome), gift),
+    }
 }
 
 fn are_all_ends(alloc: Global, survey: &Survey, ends: &[RowEnd]) -> bool

@@ -1,0 +1,106 @@
+#!/bin/bash
+# Times the reading of proof files, and tells how much memory it takes.
+#
+# usage: bench/proof_text.sh [MIB] [RUNS]      (default: files of 64 MiB, and 3 runs, of which the best counts)
+#
+# The files, each of about so many MiB: in `given`, `fail`, `fix` and `combine` one line of the rules is dropped by
+# so many such steps; in `cover` by covers of three parts; in `tree` one record has the leaves of a full tree, each
+# with a path of 20 letters and one step; in `short` the leaves have the empty path; in `claims` there are claims
+# that rank three donors; in `clean` and `bad` the records, or the leaves, are the shortest there are. The last
+# file has the line `lines 4000000000` and a few more.
+#
+# How to read a line: the kind of file; its MiB; the seconds of the program, the user's and the system's, with the
+# seconds for reading the bytes of the file; the MiB a second; and the bytes of memory at the highest, without
+# those of the file itself, a byte of the file. Reading should stay above 50 MiB a second, and, but for `clean` and
+# `bad`, below 12 bytes a byte. At 512 MiB it needs 7 GiB of memory, and 14 for the last two kinds, which are
+# then left out.
+set -eu
+top=$(cd "$(dirname "$0")/.." && pwd)
+program="$top/crates/proof_bench/out/proof_bench"
+mib=${1:-64}
+runs=${2:-3}
+work=$(mktemp -d)
+trap 'rm -rf "$work"' EXIT
+
+is_fresh() {
+    [ -x "$program" ] && [ -z "$(find "$top/crates" "$top/crates.txt" -name out -prune -o -type f -newer "$program" -print -quit)" ]
+}
+
+build() {
+    echo "proof_text.sh: proving and building the program; this takes minutes the first time" >&2
+    rm -f "$program"
+    (cd "$top/crates/proof_bench" && rt run >"$work/log" 2>&1 </dev/null) || true
+    [ -x "$program" ] || { cat "$work/log" >&2; exit 1; }
+}
+
+# A file with so many times this text, behind this front and before this end.
+file_of() {
+    local front=$1 text=$2 end=$3 count
+    count=$((mib * 1048576 / $(printf '%b' "$text" | wc -c)))
+    printf "fh-proof 1\nlimit 1 near 5 budget 1000000\n$front" "$count"
+    yes "$(printf '%b' "$text")" | head -n $((count * $(printf '%b' "$text" | wc -l)))
+    printf '%b' "$end"
+}
+
+steps_of() { file_of 'lines 1\ndrop %d\n' "$1" 'records 0\nclaims 0\nend\n'; }
+leaves_of() { file_of 'lines 0\nrecords 1\ncontradictory %d\n' "$1" 'claims 0\nend\n'; }
+
+# The leaves of a full tree, in order: number I of 2^20, with K for a bit that is 0.
+tree() {
+    local count=$((mib * 1048576 / 36))
+    printf 'fh-proof 1\nlimit 1 near 5 budget 1000000\nlines 0\nrecords 1\ncontradictory %d\n' "$count"
+    awk -v count="$count" 'BEGIN {
+        for (i = 0; i < 1024; i++) {
+            word = ""
+            for (bit = 512; bit >= 1; bit /= 2) word = word (int(i / bit) % 2 ? "C" : "K")
+            words[i] = word
+        }
+        for (i = 0; i < count; i++) printf "line %s%s 1\ngiven 12\n", words[int(i / 1024) % 1024], words[i % 1024]
+    }'
+    printf 'claims 0\nend\n'
+}
+
+# The best run on the file: its seconds, and its peak of memory in KiB.
+measure() {
+    for _ in $(seq "$runs"); do
+        python3 - "$program" "$work/file" <<'PYTHON'
+import resource, subprocess, sys
+printed = subprocess.run(sys.argv[1:], capture_output=True)
+used = resource.getrusage(resource.RUSAGE_CHILDREN)
+if printed.returncode != 0 or not printed.stdout.startswith(b"lines "):
+    sys.exit(printed.stdout.decode() + printed.stderr.decode())
+print(f"{used.ru_utime + used.ru_stime:.3f} {used.ru_maxrss}")
+PYTHON
+    done | sort -n | head -n 1
+}
+
+tell() {
+    local kind=$1 size
+    size=$(stat -c %s "$work/file")
+    measure | awk -v kind="$kind" -v size="$size" '{
+        seconds = $1 < 0.001 ? 0.001 : $1
+        printf "%s %.1f | %.3f s %.0f MiB/s | %.2f bytes a byte\n", kind, size / 1048576, seconds, size / 1048576 / seconds, ($2 * 1024 - size) / size
+    }'
+}
+
+is_fresh || build
+echo "kind MiB | seconds MiB/s | memory"
+for step in 'given 1' 'fail 1' 'fix 1 1' 'combine 1 1 2 1 1' 'cover 1 1 2 3'; do
+    steps_of "$step\n" >"$work/file"
+    tell "${step%% *}"
+done
+tree >"$work/file"
+tell tree
+leaves_of 'line - 1\ngiven 1\n' >"$work/file"
+tell short
+file_of 'lines 0\nrecords 0\nclaims %d\n' 'claim 123 77 77 12 230\n' 'end\n' >"$work/file"
+tell claims
+if [ "$mib" -le 256 ]; then
+    file_of 'lines 0\nrecords %d\n' 'clean\n' 'claims 0\nend\n' >"$work/file"
+    tell clean
+    leaves_of 'bad K\n' >"$work/file"
+    tell bad
+fi
+printf 'fh-proof 1\nlimit 1 near 5 budget 1000000\nlines 4000000000\nkeep\nkeep\n' >"$work/file"
+"$program" "$work/file"
+python3 "$top/bench/yardstick/measure.py" "$program" "$work/file" | awk 'NR == 2 { printf "lines 4000000000: %s s, %.1f MiB\n", $2, $3 / 1048576 }'

@@ -1,0 +1,71 @@
+//! A program that reads a proof file and tells how much it holds, or the first line that can't go on, so that
+//! the reading can be timed.
+#![tactic(auto)]
+
+ghost use Rattle.std.specs.Prelude.{◌≡◌, IfOk, string_bytes};
+ghost use Rattle.proof_bench.specs.inner.Told.{IsTold, counts_text, fault_text};
+
+mod fault;
+mod words;
+
+use fault::Fault;
+use proof_text::{Proof, ProofFault, read_proof};
+use std::alloc::Global;
+use std::fs;
+use std::io::ErrorKind;
+use std::process::ExitCode;
+
+fn main(rt: HostRuntime) -> ExitCode {
+    let (text, status) = match told(&rt, rt.alloc()) {
+        Ok(text) => (text, 0),
+        Err(fault) => match format!(in rt.alloc(); "{fault}\n") {
+            Ok(text) => (text, fault.status()),
+            Err(_) => return ExitCode::from(Fault::OutOfMemory.status()),
+        },
+    };
+    match rt.print(text.as_str()) {
+        Ok(()) => ExitCode::from(status),
+        Err(_) => ExitCode::from(6),
+    }
+}
+
+// What is printed of the file that the one word names.
+fn told(rt: &HostRuntime, alloc: Global) -> Result<String, Fault> {
+    let words = words::after_program_name(rt)?;
+    let [name] = words.as_slice() else {
+        return Err(Fault::Usage);
+    };
+    match fs::read(rt, name) {
+        Ok(bytes) => text_of(alloc, &bytes),
+        Err(error) if error.kind() == ErrorKind::OutOfMemory => Err(Fault::OutOfMemory),
+        Err(_) => Err(Fault::Unread),
+    }
+}
+
+// What is printed of these bytes.
+fn text_of(alloc: Global, bytes: &[u8]) -> Result<String, Fault>
+    ensures { IfOk result (λ text. IsTold bytes.now (string_bytes text)) }
+{
+    match read_proof(alloc, bytes) {
+        Ok(proof) => Ok(counts(alloc, &proof)?),
+        Err(ProofFault::At { line }) => Ok(fault_at(alloc, line)?),
+        Err(ProofFault::OutOfMemory) => Err(Fault::OutOfMemory),
+    }
+}
+
+// How many lines, records and claims there are.
+fn counts(alloc: Global, proof: &Proof) -> Result<String, Fault>
+    ensures { IfOk result (λ text. string_bytes text ≡ counts_text proof.now) }
+{
+    let verdicts = proof.verdicts.len();
+    let rows = proof.rows.len();
+    let claims = proof.claims.len();
+    Ok(format!(in alloc; "lines {verdicts} records {rows} claims {claims}\n")?)
+}
+
+// The line that can't go on.
+fn fault_at(alloc: Global, line: u64) -> Result<String, Fault>
+    ensures { IfOk result (λ text. string_bytes text ≡ fault_text line) }
+{
+    Ok(format!(in alloc; "line {line} can't go on\n")?)
+}

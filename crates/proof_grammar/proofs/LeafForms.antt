@@ -1,0 +1,123 @@
+use Rattle.std.proofs.Common.{◌≡◌, inl, inr, ℕ, ◌==◌, ◌||◌, Bool, true, false, if◌then◌else◌, List, [], ◌∷◌, Some, None, codes, map, refl, sym, ap, ◌∙◌, subst, arith}
+use Rattle.std.specs.Fmt.{decimal}
+use Rattle.std.specs.List.{list_all}
+use Rattle.std.specs.Str.{bytes_eq}
+use Rattle.std.proofs.lemmas.Bool.Decides.{Decides-eqb}
+use Rattle.std.proofs.lemmas.Slice.Eq.{bytes_eq-Decides}
+use Rattle.edit_line.proofs.BoolLaws.{both_true}
+use Rattle.proof_grammar.specs.declared.heads.LeafHead.{LeafHead}
+use Rattle.proof_grammar.specs.declared.heads.LeafHead.TheVariants.{BadAt, BoundAt, BoxAt, LineAt}
+use Rattle.proof_grammar.specs.Heads.{IsLeafHead, leaf_head}
+use Rattle.proof_grammar.specs.Limits.{IsLong}
+use Rattle.proof_grammar.specs.ProofLines.{Line, letter, path_word}
+use Rattle.proof_grammar.specs.LeafReading.{bad_in, bound_in, box_in, leaf_in, line_in}
+use Rattle.proof_grammar.specs.Words.{is_changed, is_path_letter, path_said}
+use Rattle.proof_grammar.proofs.Productions.{LineForm}
+use Rattle.proof_grammar.proofs.StepForms.{chosen}
+use Rattle.proof_grammar.proofs.WordForms.{end-found, long_form, next-again, next-found}
+
+-- The forms of a path and of a leaf's first line.
+
+-- ---- paths
+
+abbrev pub IsPath : List Bool → Type 0
+IsPath path = Unit {0}
+
+letters-read : (path : List Bool) → map is_changed (map letter path) ≡ path
+letters-read [] = refl
+letters-read (true ∷ path) = ap (λ (p : List Bool). true ∷ p) (letters-read path)
+letters-read (false ∷ path) = ap (λ (p : List Bool). false ∷ p) (letters-read path)
+
+letters-good : (path : List Bool) → list_all is_path_letter (map letter path) ≡ true
+letters-good [] = refl
+letters-good (true ∷ path) = letters-good path
+letters-good (false ∷ path) = letters-good path
+
+letter-back : (b : ℕ) → is_path_letter b ≡ true → letter (is_changed b) ≡ b
+letter-back b good = by (b == 67) refl (b == 75) refl good
+  where
+    by : (c : Bool) → (b == 67) ≡ c → (k : Bool) → (b == 75) ≡ k → (k || c) ≡ true → letter c ≡ b
+    by true is k kept good_ = sym ((Decides-eqb b 67).0 is)
+    by false is true kept good_ = sym ((Decides-eqb b 75).0 kept)
+    by false is false kept good_ = absurd (cc (good_))
+
+letters-back : (bs : List ℕ) → list_all is_path_letter bs ≡ true → map letter (map is_changed bs) ≡ bs
+letters-back [] good = refl
+letters-back (b ∷ bs) good =
+    let (here, rest) = both_true (is_path_letter b) (list_all is_path_letter bs) good in ap (λ (k : ℕ). k ∷ map letter (map is_changed bs)) (letter-back b here) ∙ ap (λ (ks : List ℕ). b ∷ ks) (letters-back bs rest)
+
+pub path-again : (path : List Bool) → IsPath path → path_said (path_word path) ≡ Some path
+path-again [] good = refl
+path-again (true ∷ path) good = rw (letters-good path) (ap (λ (p : List Bool). Some (true ∷ p)) (letters-read path))
+path-again (false ∷ path) good = rw (letters-good path) (ap (λ (p : List Bool). Some (false ∷ p)) (letters-read path))
+
+pub path-found : (w : List ℕ) (path : List Bool) → path_said w ≡ Some path → IsPath path × (w ≡ path_word path)
+path-found [] path e = absurd (cc (e))
+path-found (b ∷ bs) path e = by (bytes_eq (b ∷ bs) (codes "-")) refl e
+  where
+    lettered : (c : Bool) → list_all is_path_letter (b ∷ bs) ≡ c → (if c then Some (map is_changed (b ∷ bs)) else None) ≡ Some path → b ∷ bs ≡ path_word path
+    lettered false good h = absurd (cc (h))
+    lettered true good h = let own : map is_changed (b ∷ bs) ≡ path = cc (h) in sym (letters-back (b ∷ bs) good) ∙ ap path_word own
+
+    by : (c : Bool) → bytes_eq (b ∷ bs) (codes "-") ≡ c → (if c then Some [] else if list_all is_path_letter (b ∷ bs) then Some (map is_changed (b ∷ bs)) else None) ≡ Some path → IsPath path × (b ∷ bs ≡ path_word path)
+    by true is h = let own : [] ≡ path = cc (h) in (tt, (bytes_eq-Decides (b ∷ bs) (codes "-")).0 is ∙ ap path_word own)
+    by false is h = (tt, lettered (list_all is_path_letter (b ∷ bs)) refl h)
+
+abbrev pub path_form : LineForm {L = List ℕ} IsPath path_word
+path_form = record { read = path_said; sample = []; sound_sample = tt; again = path-again; found = path-found }
+
+-- ---- heads
+
+abbrev Found : LeafHead → List ℕ → Line → Type 0
+Found head word ws = IsLeafHead head × (word ∷ ws ≡ leaf_head head)
+
+bound-found : (ws : Line) (head : LeafHead) → bound_in ws ≡ Some head → Found head (codes "bound") ws
+bound-found ws head e =
+    let (path, w1, fits, e1, h1) = next-found IsPath path_word path_form ws _ head e in
+    let (own, none) = end-found (BoundAt path) head w1 h1 in
+    (subst IsLeafHead own (omega arith), ap (λ (v : Line). codes "bound" ∷ v) (e1 ∙ ap (λ (v : Line). path_word path ∷ v) none) ∙ ap leaf_head own)
+
+bad-found : (ws : Line) (head : LeafHead) → bad_in ws ≡ Some head → Found head (codes "bad") ws
+bad-found ws head e =
+    let (path, w1, fits, e1, h1) = next-found IsPath path_word path_form ws _ head e in
+    let (own, none) = end-found (BadAt path) head w1 h1 in
+    (subst IsLeafHead own (omega arith), ap (λ (v : Line). codes "bad" ∷ v) (e1 ∙ ap (λ (v : Line). path_word path ∷ v) none) ∙ ap leaf_head own)
+
+line-found : (ws : Line) (head : LeafHead) → line_in ws ≡ Some head → Found head (codes "line") ws
+line-found ws head e =
+    let (path, w1, fits, e1, h1) = next-found IsPath path_word path_form ws _ head e in
+    let (n, w2, n_fits, e2, h2) = next-found IsLong decimal long_form w1 _ head h1 in
+    let (own, none) = end-found (LineAt path n) head w2 h2 in
+    (subst IsLeafHead own n_fits, ap (λ (v : Line). codes "line" ∷ v) (e1 ∙ ap (λ (v : Line). path_word path ∷ v) (e2 ∙ ap (λ (v : Line). decimal n ∷ v) none)) ∙ ap leaf_head own)
+
+box-found : (ws : Line) (head : LeafHead) → box_in ws ≡ Some head → Found head (codes "box") ws
+box-found ws head e =
+    let (path, w1, fits, e1, h1) = next-found IsPath path_word path_form ws _ head e in
+    let (n, w2, n_fits, e2, h2) = next-found IsLong decimal long_form w1 _ head h1 in
+    let (own, none) = end-found (BoxAt path n) head w2 h2 in
+    (subst IsLeafHead own n_fits, ap (λ (v : Line). codes "box" ∷ v) (e1 ∙ ap (λ (v : Line). path_word path ∷ v) (e2 ∙ ap (λ (v : Line). decimal n ∷ v) none)) ∙ ap leaf_head own)
+
+pub head-found : (l : Line) (head : LeafHead) → leaf_in l ≡ Some head → IsLeafHead head × (l ≡ leaf_head head)
+head-found [] head e = absurd (cc (e))
+head-found (w ∷ ws) head e = elim (chosen w (codes "bound") (bound_in ws) _ head e) [
+  | inl (is, h) ↦ worded (codes "bound") is (bound-found ws head h)
+  | inr e1 ↦ elim (chosen w (codes "bad") (bad_in ws) _ head e1) [
+    | inl (is, h) ↦ worded (codes "bad") is (bad-found ws head h)
+    | inr e2 ↦ elim (chosen w (codes "line") (line_in ws) _ head e2) [
+      | inl (is, h) ↦ worded (codes "line") is (line-found ws head h)
+      | inr e3 ↦ elim (chosen w (codes "box") (box_in ws) None head e3) [ inl (is, h) ↦ worded (codes "box") is (box-found ws head h) | inr e4 ↦ absurd (cc (e4)) ]
+    ]
+  ]
+]
+  where
+    worded : (word : List ℕ) → w ≡ word → Found head word ws → IsLeafHead head × (w ∷ ws ≡ leaf_head head)
+    worded word is (fits, same) = (fits, ap (λ (v : List ℕ). v ∷ ws) is ∙ same)
+
+pub head-again : (head : LeafHead) → IsLeafHead head → leaf_in (leaf_head head) ≡ Some head
+head-again (BoundAt path) fits = next-again IsPath path_word path_form path [] _ tt
+head-again (BadAt path) fits = next-again IsPath path_word path_form path [] _ tt
+head-again (LineAt path n) fits = next-again IsPath path_word path_form path _ _ tt ∙ next-again IsLong decimal long_form n [] _ fits
+head-again (BoxAt path n) fits = next-again IsPath path_word path_form path _ _ tt ∙ next-again IsLong decimal long_form n [] _ fits
+
+abbrev pub leaf_form : LineForm IsLeafHead leaf_head
+leaf_form = record { read = leaf_in; sample = BoundAt []; sound_sample = omega arith; again = head-again; found = head-found }

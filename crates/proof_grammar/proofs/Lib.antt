@@ -1,0 +1,15 @@
+pub mod Cutting
+pub mod Grammar
+pub mod GrammarReads
+pub mod FileForms
+pub mod LeafForms
+pub mod MoreWordForms
+pub mod NumberLaws
+pub mod Productions
+pub mod ProofGrammar
+pub mod ProofWords
+pub mod RowForms
+pub mod StepForms
+pub mod TextFaults
+pub mod WordForms
+pub mod WordLaws

@@ -1,0 +1,104 @@
+use Rattle.std.specs.Prelude.{ℕ, if◌then◌else◌, List, [], ◌∷◌, Option, Some, None, Ok, codes}
+use Rattle.bound_cert.specs.declared.outcome.RowProof.{RowProof}
+use Rattle.proof_grammar.specs.declared.heads.RunLimits.{RunLimits}
+use Rattle.proof_grammar.specs.declared.proof.Proof.{Proof}
+use Rattle.std.specs.Str.{bytes_eq}
+use Rattle.derivation.specs.declared.step.Step.{Step}
+use Rattle.donor_book.specs.declared.claim.Entry.{Entry}
+use Rattle.proof_grammar.specs.ProofLines.{Line}
+use Rattle.proof_grammar.specs.LeafReading.{steps_reading}
+use Rattle.proof_grammar.specs.Readings.{Reading, read_line, read_many, seen, then_read}
+use Rattle.proof_grammar.specs.Words.{all_in, ended, fixed_said, long_said, named_short, named_short_or_0, short_said, then_in, word_in}
+use Rattle.proof_grammar.specs.RowReading.{row_reading}
+
+-- How verdicts and claims are read. The contracts of the reader alone cite this page.
+
+abbrev pub keep_in : Line → Option (Option ℕ)
+keep_in ws = ended None ws
+
+abbrev pub drop_in : Line → Option (Option ℕ)
+drop_in ws = then_in (word_in long_said ws) (λ n ws. ended (Some n) ws)
+
+-- the count of a verdict's steps, or None where there are none to come
+abbrev pub verdict_in : Line → Option (Option ℕ)
+verdict_in [] = None
+verdict_in (w ∷ ws) = if bytes_eq w (codes "keep") then keep_in ws else if bytes_eq w (codes "drop") then drop_in ws else None
+
+abbrev pub behind_verdict : Option ℕ → List Line → Reading Line (Option (List Step))
+behind_verdict None ls = Ok (None, ls)
+behind_verdict (Some n) ls = seen Some (steps_reading n ls)
+
+abbrev pub verdict_reading : List Line → Reading Line (Option (List Step))
+verdict_reading ls = then_read (read_line verdict_in ls) behind_verdict
+
+abbrev pub claims_of : ℕ → Option ℕ → Option (List ℕ) → Option Entry
+claims_of row reply None = None
+claims_of row reply (Some ranking) = Some (record { row_no = row; ranking = ranking; reply = reply })
+
+abbrev pub claim_behind : Line → Option Entry
+claim_behind ws =
+    then_in (word_in named_short ws) (λ row ws.
+    then_in (word_in named_short_or_0 ws) (λ reply ws. claims_of row reply (all_in named_short ws)))
+
+abbrev pub claim_in : Line → Option Entry
+claim_in [] = None
+claim_in (w ∷ ws) = if bytes_eq w (codes "claim") then claim_behind ws else None
+
+-- ---- the file
+
+abbrev pub version_in : Line → Option (Unit {0})
+version_in ws =
+    then_in (word_in (fixed_said (codes "fh-proof")) ws) (λ u ws.
+    then_in (word_in (fixed_said (codes "1")) ws) (λ v ws. ended tt ws))
+
+abbrev pub end_in : Line → Option (Unit {0})
+end_in ws = then_in (word_in (fixed_said (codes "end")) ws) (λ u ws. ended tt ws)
+
+-- a number behind a word
+abbrev pub count_in : List ℕ → Line → Option ℕ
+count_in word ws =
+    then_in (word_in (fixed_said word) ws) (λ u ws.
+    then_in (word_in long_said ws) (λ n ws. ended n ws))
+
+abbrev pub budget_behind : ℕ → ℕ → Line → Option RunLimits
+budget_behind limit near ws =
+    then_in (word_in (fixed_said (codes "budget")) ws) (λ u ws.
+    then_in (word_in long_said ws) (λ budget ws. ended (record { limit = limit; near = near; budget = budget }) ws))
+
+abbrev pub near_behind : ℕ → Line → Option RunLimits
+near_behind limit ws =
+    then_in (word_in (fixed_said (codes "near")) ws) (λ u ws.
+    then_in (word_in short_said ws) (λ near ws. budget_behind limit near ws))
+
+abbrev pub limits_in : Line → Option RunLimits
+limits_in ws =
+    then_in (word_in (fixed_said (codes "limit")) ws) (λ u ws.
+    then_in (word_in short_said ws) near_behind)
+
+-- a count, and so many
+abbrev pub counted_reading : {X : Type 0} → (Line → Option ℕ) → (List Line → Reading Line X) → List Line → Reading Line (List X)
+counted_reading said read ls = then_read (read_line said ls) (λ n ls. read_many read n ls)
+
+abbrev pub proof_from : RunLimits → List (Option (List Step)) → List RowProof → List Entry → Proof
+proof_from l verdicts rows claims =
+    record { limit = l.limit; near = l.near; budget = l.budget; verdicts = verdicts; rows = rows; claims = claims }
+
+-- behind the limits and the verdicts and the rows
+abbrev pub claims_reading : RunLimits → List (Option (List Step)) → List RowProof → List Line → Reading Line Proof
+claims_reading l verdicts rows ls =
+    then_read (counted_reading (count_in (codes "claims")) (read_line claim_in) ls) (λ claims ls.
+    seen (λ u. proof_from l verdicts rows claims) (read_line end_in ls))
+
+-- behind the limits and the verdicts
+abbrev pub rows_reading : RunLimits → List (Option (List Step)) → List Line → Reading Line Proof
+rows_reading l verdicts ls = then_read (counted_reading (count_in (codes "records")) row_reading ls) (claims_reading l verdicts)
+
+-- behind the limits
+abbrev pub lists_reading : RunLimits → List Line → Reading Line Proof
+lists_reading l ls = then_read (counted_reading (count_in (codes "lines")) verdict_reading ls) (rows_reading l)
+
+abbrev pub behind_version : Unit {0} → List Line → Reading Line Proof
+behind_version u ls = then_read (read_line limits_in ls) lists_reading
+
+abbrev pub file_reading : List Line → Reading Line Proof
+file_reading ls = then_read (read_line version_in ls) behind_version

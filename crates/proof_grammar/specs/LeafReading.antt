@@ -1,0 +1,51 @@
+use Rattle.std.specs.Prelude.{ℕ, if◌then◌else◌, List, [], ◌∷◌, Option, None, Ok, codes}
+use Rattle.std.specs.Str.{bytes_eq}
+use Rattle.derivation.specs.declared.step.Step.{Step}
+use Rattle.bound_cert.specs.declared.cert.Leaf.{Leaf}
+use Rattle.bound_cert.specs.declared.cert.LeafWhy.TheVariants as why
+use Rattle.proof_grammar.specs.declared.heads.LeafHead.{LeafHead}
+use Rattle.proof_grammar.specs.declared.heads.LeafHead.TheVariants.{BadAt, BoundAt, BoxAt, LineAt}
+use Rattle.proof_grammar.specs.ProofLines.{Line}
+use Rattle.proof_grammar.specs.StepReading.{step_in}
+use Rattle.proof_grammar.specs.Readings.{Reading, read_line, read_many, seen, then_read}
+use Rattle.proof_grammar.specs.Words.{ended, long_said, path_said, then_in, word_in}
+
+-- How leaves are read. The contracts of the reader alone cite this page.
+
+abbrev pub bound_in : Line → Option LeafHead
+bound_in ws = then_in (word_in path_said ws) (λ path ws. ended (BoundAt path) ws)
+
+abbrev pub bad_in : Line → Option LeafHead
+bad_in ws = then_in (word_in path_said ws) (λ path ws. ended (BadAt path) ws)
+
+abbrev pub line_in : Line → Option LeafHead
+line_in ws =
+    then_in (word_in path_said ws) (λ path ws.
+    then_in (word_in long_said ws) (λ n ws. ended (LineAt path n) ws))
+
+abbrev pub box_in : Line → Option LeafHead
+box_in ws =
+    then_in (word_in path_said ws) (λ path ws.
+    then_in (word_in long_said ws) (λ n ws. ended (BoxAt path n) ws))
+
+abbrev pub leaf_in : Line → Option LeafHead
+leaf_in [] = None
+leaf_in (w ∷ ws) =
+    if bytes_eq w (codes "bound") then bound_in ws
+    else if bytes_eq w (codes "bad") then bad_in ws
+    else if bytes_eq w (codes "line") then line_in ws
+    else if bytes_eq w (codes "box") then box_in ws
+    else None
+
+abbrev pub steps_reading : ℕ → List Line → Reading Line (List Step)
+steps_reading n ls = read_many (read_line step_in) n ls
+
+-- what is read behind the head of a leaf
+abbrev pub behind_leaf : LeafHead → List Line → Reading Line Leaf
+behind_leaf (BoundAt path) ls = Ok (record { path = path; why = why.Bound }, ls)
+behind_leaf (BadAt path) ls = Ok (record { path = path; why = why.BadKept }, ls)
+behind_leaf (LineAt path n) ls = seen (λ steps. record { path = path; why = why.Line steps }) (steps_reading n ls)
+behind_leaf (BoxAt path n) ls = seen (λ steps. record { path = path; why = why.Box steps }) (steps_reading n ls)
+
+abbrev pub leaf_reading : List Line → Reading Line Leaf
+leaf_reading ls = then_read (read_line leaf_in ls) behind_leaf

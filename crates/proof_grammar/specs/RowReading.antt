@@ -1,0 +1,105 @@
+use Rattle.std.specs.Prelude.{Bool, ℕ, suc, ◌<◌, ◌^◌, if◌then◌else◌, List, [], ◌∷◌, Option, Some, None, Ok, codes}
+use Rattle.std.specs.Str.{bytes_eq}
+use Rattle.bound_cert.specs.declared.outcome.Event.TheVariants as event
+use Rattle.bound_cert.specs.declared.cert.Leaf.{Leaf}
+use Rattle.bound_cert.specs.declared.outcome.GiftFault.{GiftFault}
+use Rattle.bound_cert.specs.declared.outcome.GiftFault.TheVariants as gift
+use Rattle.bound_cert.specs.declared.outcome.Outcome.TheVariants as outcome
+use Rattle.bound_cert.specs.declared.outcome.RowProof.{RowProof}
+use Rattle.proof_grammar.specs.declared.heads.RowHead.{RowHead}
+use Rattle.proof_grammar.specs.declared.heads.RowHead.TheVariants.{BudgetAt, ChangeAt, CleanAt, ContradictoryAt, EventAt, GiftAt}
+use Rattle.proof_grammar.specs.Limits.{clean_leaves}
+use Rattle.proof_grammar.specs.ProofLines.{Line}
+use Rattle.proof_grammar.specs.LeafReading.{leaf_reading}
+use Rattle.proof_grammar.specs.Readings.{Reading, read_line, read_many, seen, then_read}
+use Rattle.proof_grammar.specs.Words.{Front, ended, long_said, named_long, named_short, named_short_or_0, path_said, place_said, positive_said, then_in, word_in}
+
+-- How rows are read. The contracts of the reader alone cite this page.
+
+abbrev pub clean_in : Line → Option RowHead
+clean_in ws = ended CleanAt ws
+
+abbrev pub change_in : Line → Option RowHead
+change_in ws =
+    then_in (word_in positive_said ws) (λ w ws.
+    then_in (word_in path_said ws) (λ path ws.
+    then_in (word_in long_said ws) (λ n ws. ended (ChangeAt w path n) ws)))
+
+-- the line behind a field, or the rule behind 0
+abbrev pub gift_fault_behind : Option ℕ → Line → Front GiftFault
+gift_fault_behind None ws = then_in (word_in named_short ws) (λ rule ws. Some (gift.Test rule, ws))
+gift_fault_behind (Some field) ws = then_in (word_in named_long ws) (λ line ws. Some (gift.Bound field line, ws))
+
+-- the field and the line, or 0 and the rule
+abbrev pub gift_fault_in : Line → Front GiftFault
+gift_fault_in ws = then_in (word_in named_short_or_0 ws) gift_fault_behind
+
+abbrev pub gift_in : Line → Option RowHead
+gift_in ws =
+    then_in (word_in long_said ws) (λ weight ws.
+    then_in (word_in path_said ws) (λ path ws.
+    then_in (gift_fault_in ws) (λ fault ws.
+    then_in (word_in long_said ws) (λ n ws. ended (GiftAt weight path fault n) ws))))
+
+abbrev pub budget_in : Line → Option RowHead
+budget_in ws =
+    then_in (word_in path_said ws) (λ path ws.
+    then_in (word_in long_said ws) (λ work ws. ended (BudgetAt path work) ws))
+
+abbrev pub step_event_in : Line → Option RowHead
+step_event_in ws =
+    then_in (word_in path_said ws) (λ path ws.
+    then_in (word_in named_long ws) (λ first ws.
+    then_in (word_in named_long ws) (λ second ws.
+    then_in (word_in place_said ws) (λ place ws. ended (EventAt path (event.Step first second place)) ws))))
+
+abbrev pub test_event_in : Line → Option RowHead
+test_event_in ws =
+    then_in (word_in path_said ws) (λ path ws.
+    then_in (word_in named_long ws) (λ line ws.
+    then_in (word_in named_short ws) (λ field ws. ended (EventAt path (event.Test line field)) ws)))
+
+abbrev pub contradictory_in : Line → Option RowHead
+contradictory_in ws = then_in (word_in long_said ws) (λ n ws. ended (ContradictoryAt n) ws)
+
+abbrev pub row_in : Line → Option RowHead
+row_in [] = None
+row_in (w ∷ ws) =
+    if bytes_eq w (codes "clean") then clean_in ws
+    else if bytes_eq w (codes "change") then change_in ws
+    else if bytes_eq w (codes "gift") then gift_in ws
+    else if bytes_eq w (codes "budget") then budget_in ws
+    else if bytes_eq w (codes "step") then step_event_in ws
+    else if bytes_eq w (codes "test") then test_event_in ws
+    else if bytes_eq w (codes "contradictory") then contradictory_in ws
+    else None
+
+-- the weight of a change fits 64 bits
+abbrev pub WeighsLong : RowHead → Type 0
+WeighsLong (ChangeAt w path n) = suc w < 2 ^ 64
+WeighsLong CleanAt = Unit {0}
+WeighsLong (GiftAt weight path fault n) = Unit {0}
+WeighsLong (BudgetAt path work) = Unit {0}
+WeighsLong (EventAt path event) = Unit {0}
+WeighsLong (ContradictoryAt n) = Unit {0}
+
+-- a clean row, held as the change of nothing with its one leaf
+abbrev pub clean_proof : RowProof
+clean_proof = record { outcome = outcome.Change [] 0 (record { leaves = clean_leaves }); gift = None }
+
+-- a change with these leaves
+abbrev pub change_proof : List Bool → ℕ → Option GiftFault → List Leaf → RowProof
+change_proof path weight fault leaves = record { outcome = outcome.Change path weight (record { leaves = leaves }); gift = fault }
+
+-- what is read behind the head of a row
+abbrev pub behind_row : RowHead → List Line → Reading Line RowProof
+behind_row CleanAt ls = Ok (clean_proof, ls)
+behind_row (ChangeAt w path n) ls = seen (λ leaves. change_proof path (suc w) None leaves) (read_many leaf_reading n ls)
+behind_row (GiftAt weight path fault n) ls = seen (λ leaves. change_proof path weight (Some fault) leaves) (read_many leaf_reading n ls)
+behind_row (BudgetAt path work) ls = Ok (record { outcome = outcome.Budget path work; gift = None }, ls)
+behind_row (EventAt path event) ls = Ok (record { outcome = outcome.Overflow path event; gift = None }, ls)
+behind_row (ContradictoryAt n) ls =
+    seen (λ leaves. record { outcome = outcome.Contradictory (record { leaves = leaves }); gift = None }) (read_many leaf_reading n ls)
+
+abbrev pub row_reading : List Line → Reading Line RowProof
+row_reading ls = then_read (read_line row_in ls) behind_row

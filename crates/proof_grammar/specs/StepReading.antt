@@ -1,0 +1,44 @@
+use Rattle.std.specs.Prelude.{ℕ, if◌then◌else◌, List, [], ◌∷◌, Option, Some, None, codes}
+use Rattle.std.specs.Str.{bytes_eq}
+use Rattle.derivation.specs.declared.step.Step.{Step}
+use Rattle.derivation.specs.declared.step.Step.TheVariants as step
+use Rattle.proof_grammar.specs.ProofLines.{Line}
+use Rattle.proof_grammar.specs.Words.{all_in, divisor_said, ended, named_long, named_short, then_in, whole_said, word_in}
+
+-- How the lines of steps are read. The contracts of the reader alone cite this page.
+
+abbrev pub given_in : Line → Option Step
+given_in ws = then_in (word_in named_long ws) (λ i ws. ended (step.Given i) ws)
+
+abbrev pub combine_in : Line → Option Step
+combine_in ws =
+    then_in (word_in named_long ws) (λ a ws.
+    then_in (word_in whole_said ws) (λ m ws.
+    then_in (word_in named_long ws) (λ b ws.
+    then_in (word_in whole_said ws) (λ n ws.
+    then_in (word_in divisor_said ws) (λ g ws. ended (step.Combine a m b n g) ws)))))
+
+abbrev pub fail_in : Line → Option Step
+fail_in ws = then_in (word_in named_long ws) (λ a ws. ended (step.Fail a) ws)
+
+abbrev pub covers : ℕ → Option (List ℕ) → Option Step
+covers field None = None
+covers field (Some parts) = Some (step.Cover field parts)
+
+abbrev pub cover_in : Line → Option Step
+cover_in ws = then_in (word_in named_short ws) (λ field ws. covers field (all_in named_long ws))
+
+abbrev pub fix_in : Line → Option Step
+fix_in ws =
+    then_in (word_in named_short ws) (λ field ws.
+    then_in (word_in named_long ws) (λ part ws. ended (step.Fix field part) ws))
+
+abbrev pub step_in : Line → Option Step
+step_in [] = None
+step_in (w ∷ ws) =
+    if bytes_eq w (codes "given") then given_in ws
+    else if bytes_eq w (codes "combine") then combine_in ws
+    else if bytes_eq w (codes "fail") then fail_in ws
+    else if bytes_eq w (codes "cover") then cover_in ws
+    else if bytes_eq w (codes "fix") then fix_in ws
+    else None

@@ -1,0 +1,53 @@
+use Rattle.std.proofs.Common.{◌≡◌, ℕ, List, [], ◌∷◌, ◌++◌, codes, map, refl, sym, ap, ◌∙◌, append_assoc}
+use Rattle.std.specs.List.{flat_map}
+use Rattle.proof_grammar.specs.ProofLines.{Line, claim_line, count_line, line_text, lines_text, named, proof_text, row_lines, verdict_lines, words_text}
+use Rattle.donor_book.specs.declared.claim.Entry.{Entry}
+use Rattle.proof_grammar.specs.declared.proof.Proof.{Proof}
+use Rattle.bound_cert.specs.declared.outcome.RowProof.{RowProof}
+use Rattle.proof_grammar.proofs.TextFaults.{lines-append}
+use Rattle.proof_text.specs.inner.Texts.{limits_text, parts_text, verdict_text}
+
+-- The text of a proof, part by part.
+
+-- a word, and names behind it, each behind a space
+pub named-words : (word : List ℕ) (ns : List ℕ) → words_text (word ∷ map named ns) ≡ word ++ flat_map (λ (n : ℕ). 32 ∷ named n) ns
+named-words word [] = sym (append-none word)
+  where
+    append-none : (w : List ℕ) → w ++ [] ≡ w
+    append-none [] = refl
+    append-none (b ∷ w) = ap (λ (v : List ℕ). b ∷ v) (append-none w)
+named-words word (n ∷ ns) = ap (λ (rest : List ℕ). word ++ 32 ∷ rest) (named-words (named n) ns)
+
+-- the text of the lines of all elements
+flat-text : {X : Type 0} (lines : X → List Line) (xs : List X) → lines_text (flat_map lines xs) ≡ flat_map (λ x. lines_text (lines x)) xs
+flat-text lines [] = refl
+flat-text lines (x ∷ xs) = lines-append (lines x) (flat_map lines xs) ∙ ap (λ (bs : List ℕ). lines_text (lines x) ++ bs) (flat-text lines xs)
+
+map-text : {X : Type 0} (said : X → Line) (xs : List X) → lines_text (map said xs) ≡ flat_map (λ x. line_text (said x)) xs
+map-text said [] = refl
+map-text said (x ∷ xs) = ap (λ (bs : List ℕ). line_text (said x) ++ bs) (map-text said xs)
+
+-- a count, its elements' lines, and lines behind them
+behind-count : (count : Line) (ls ks : List Line) (part rest : List ℕ) → lines_text ls ≡ part → lines_text ks ≡ rest → lines_text (count ∷ (ls ++ ks)) ≡ (line_text count ++ part) ++ rest
+behind-count count ls ks part rest first later =
+    ap (λ (bs : List ℕ). line_text count ++ bs) (lines-append ls ks ∙ ap (λ (bs : List ℕ). bs ++ lines_text ks) first ∙ ap (λ (bs : List ℕ). part ++ bs) later) ∙ sym (append_assoc (line_text count) part rest)
+
+-- the text of a proof is the texts of its parts
+pub proof-parts : (p : Proof) → proof_text p ≡ parts_text p
+proof-parts p =
+    ap (λ (bs : List ℕ). codes "fh-proof 1\n" ++ (limits_text p ++ bs)) (behind-count (count_line (codes "lines") p.verdicts) (flat_map verdict_lines p.verdicts) _ (flat_map verdict_text p.verdicts) _ (flat-text verdict_lines p.verdicts)
+    (behind-count (count_line (codes "records") p.rows) (flat_map row_lines p.rows) _ (flat_map (λ (row : RowProof). lines_text (row_lines row)) p.rows) _ (flat-text row_lines p.rows)
+    (behind-count (count_line (codes "claims") p.claims) (map claim_line p.claims) ((codes "end" ∷ []) ∷ []) (flat_map (λ (claim : Entry). line_text (claim_line claim)) p.claims) (codes "end\n") (map-text claim_line p.claims) refl)))
+
+-- six texts, one behind another
+pub six-appended : (t0 t1 t2 t3 t4 t5 t6 a b c d e f : List ℕ) → t1 ≡ t0 ++ a → t2 ≡ t1 ++ b → t3 ≡ t2 ++ c → t4 ≡ t3 ++ d → t5 ≡ t4 ++ e → t6 ≡ t5 ++ f → t6 ≡ t0 ++ (a ++ (b ++ (c ++ (d ++ (e ++ f)))))
+six-appended t0 t1 t2 t3 t4 t5 t6 a b c d e f first second third fourth fifth sixth =
+    sixth ∙ ap (λ (t : List ℕ). t ++ f) fifth ∙ append_assoc t4 e f ∙ ap (λ (t : List ℕ). t ++ (e ++ f)) fourth ∙ append_assoc t3 d (e ++ f) ∙ ap (λ (t : List ℕ). t ++ (d ++ (e ++ f))) third ∙ append_assoc t2 c (d ++ (e ++ f))
+    ∙ ap (λ (t : List ℕ). t ++ (c ++ (d ++ (e ++ f)))) second ∙ append_assoc t1 b (c ++ (d ++ (e ++ f))) ∙ ap (λ (t : List ℕ). t ++ (b ++ (c ++ (d ++ (e ++ f))))) first ∙ append_assoc t0 a (b ++ (c ++ (d ++ (e ++ f))))
+
+-- the words of a combination, piece by piece
+pub combine-words : (t0 t1 t2 t3 t4 a m b n g : List ℕ) → t1 ≡ t0 ++ codes "combine" → t2 ≡ (t1 ++ (32 ∷ a)) ++ (32 ∷ m) → t3 ≡ (t2 ++ (32 ∷ b)) ++ (32 ∷ n) → t4 ≡ t3 ++ (32 ∷ g)
+    → t4 ≡ t0 ++ words_text (codes "combine" ∷ a ∷ m ∷ b ∷ n ∷ g ∷ [])
+combine-words t0 t1 t2 t3 t4 a m b n g first second third fourth =
+    rw (fourth, third, second, first) (simp append_assoc (ap (λ (w : List ℕ). t0 ++ (codes "combine " ++ w)) (append_assoc a (32 ∷ (m ++ (32 ∷ (b ++ (32 ∷ n))))) (32 ∷ g)
+    ∙ ap (λ (w : List ℕ). a ++ (32 ∷ w)) (append_assoc m (32 ∷ (b ++ (32 ∷ n))) (32 ∷ g) ∙ ap (λ (w : List ℕ). m ++ (32 ∷ w)) (append_assoc b (32 ∷ n) (32 ∷ g))))))

@@ -1,0 +1,253 @@
+//! The lines of rows.
+ghost use Rattle.std.specs.Prelude.{◌≡◌, IfErr, IfOk};
+ghost use Rattle.proof_grammar.specs.Cuts.{split};
+ghost use Rattle.proof_grammar.specs.Readings.{Reads, read_line, read_many};
+ghost use Rattle.proof_grammar.specs.RowReading.{WeighsLong, behind_row, budget_in, change_in, clean_proof, contradictory_in, gift_fault_in, gift_in, row_in, row_reading, step_event_in, test_event_in};
+ghost use Rattle.proof_grammar.specs.Words.{ReadsAs, Takes};
+
+use super::fitted::fitted;
+use super::leaves::leaves;
+use bound_cert::{Cert, Event, GiftFault, Leaf, LeafWhy, Outcome, Path, RowProof};
+use foundation::Sequence;
+use proof_grammar::{Lines, ProofFault, RowHead, Stop, Words, settle};
+use std::alloc::Global;
+
+/// So many rows. Memory is taken for each when its lines were read.
+pub(super) fn rows(
+    alloc: Global,
+    lines: &mut Lines,
+    count: u64,
+) -> Result<Sequence<RowProof>, ProofFault>
+    ensures { Reads result lines.old lines.new (read_many row_reading count lines.old.left) }
+{
+    let mut rows = Vec::new(alloc);
+    for _ in 0..count {
+        let row = match row(alloc, lines) {
+            Ok(row) => row,
+            Err(fault) => return Err(fault),
+        };
+        let Ok(()) = rows.push(row) else {
+            return Err(ProofFault::OutOfMemory);
+        };
+    }
+    Ok(fitted(rows))
+}
+
+// The row at the front.
+fn row(alloc: Global, lines: &mut Lines) -> Result<RowProof, ProofFault>
+    ensures { Reads result lines.old lines.new (row_reading lines.old.left) }
+{
+    let head = match next_head(alloc, lines) {
+        Ok(head) => head,
+        Err(fault) => return Err(fault),
+    };
+    behind_head(alloc, lines, head)
+}
+
+// The row of a head, whose leaves are at the front.
+fn behind_head(alloc: Global, lines: &mut Lines, head: RowHead) -> Result<RowProof, ProofFault>
+    requires { WeighsLong head }
+    ensures { Reads result lines.old lines.new (behind_row head lines.old.left) }
+{
+    match head {
+        RowHead::CleanAt => clean_row(alloc),
+        RowHead::ChangeAt(less, path, count) => match leaves(alloc, lines, count) {
+            Ok(leaves) => Ok(RowProof {
+                outcome: Outcome::Change {
+                    path,
+                    weight: less + 1,
+                    cert: Cert { leaves },
+                },
+                gift: None,
+            }),
+            Err(fault) => Err(fault),
+        },
+        RowHead::GiftAt(weight, path, gift, count) => match leaves(alloc, lines, count) {
+            Ok(leaves) => Ok(RowProof {
+                outcome: Outcome::Change {
+                    path,
+                    weight,
+                    cert: Cert { leaves },
+                },
+                gift: Some(gift),
+            }),
+            Err(fault) => Err(fault),
+        },
+        RowHead::BudgetAt(path, work) => Ok(RowProof {
+            outcome: Outcome::Budget { path, work },
+            gift: None,
+        }),
+        RowHead::EventAt(path, event) => Ok(RowProof {
+            outcome: Outcome::Overflow { path, event },
+            gift: None,
+        }),
+        RowHead::ContradictoryAt(count) => match leaves(alloc, lines, count) {
+            Ok(leaves) => Ok(RowProof {
+                outcome: Outcome::Contradictory {
+                    cert: Cert { leaves },
+                },
+                gift: None,
+            }),
+            Err(fault) => Err(fault),
+        },
+    }
+}
+
+// The head of the next line.
+fn next_head(alloc: Global, lines: &mut Lines) -> Result<RowHead, ProofFault>
+    ensures read { Reads result lines.old lines.new (read_line row_in lines.old.left) }
+    ensures fits { IfOk result WeighsLong }
+{
+    let line = lines.next()?;
+    settle(lines, head(alloc, line))
+}
+
+// The head of a line.
+fn head(alloc: Global, line: &[u8]) -> Result<RowHead, Stop>
+    ensures read { ReadsAs result (row_in (split 32 line.now)) }
+    ensures fits { IfOk result WeighsLong }
+{
+    let mut words = Words::new(line);
+    let Some(kind) = words.next() else {
+        return Err(Stop::Form);
+    };
+    if kind == b"clean".as_slice() {
+        words.end()?;
+        Ok(RowHead::CleanAt)
+    } else if kind == b"change".as_slice() {
+        change(alloc, &mut words)
+    } else if kind == b"gift".as_slice() {
+        gift(alloc, &mut words)
+    } else if kind == b"budget".as_slice() {
+        budget(alloc, &mut words)
+    } else if kind == b"step".as_slice() {
+        step_event(alloc, &mut words)
+    } else if kind == b"test".as_slice() {
+        test_event(alloc, &mut words)
+    } else if kind == b"contradictory".as_slice() {
+        contradictory(&mut words)
+    } else {
+        Err(Stop::Form)
+    }
+}
+
+// A change whose values were all given.
+fn change(alloc: Global, words: &mut Words) -> Result<RowHead, Stop>
+    ensures read { ReadsAs result (change_in words.old) }
+    ensures fits { IfOk result WeighsLong }
+{
+    let less = words.positive()?;
+    let path = words.path(alloc)?;
+    let count = words.long()?;
+    words.end()?;
+    Ok(RowHead::ChangeAt(less, path, count))
+}
+
+// A change of which a number left the range while values were given.
+fn gift(alloc: Global, words: &mut Words) -> Result<RowHead, Stop>
+    ensures read { ReadsAs result (gift_in words.old) }
+    ensures fits { IfOk result WeighsLong }
+{
+    let weight = words.long()?;
+    let path = words.path(alloc)?;
+    let fault = gift_fault(words)?;
+    let count = words.long()?;
+    words.end()?;
+    Ok(RowHead::GiftAt(weight, path, fault, count))
+}
+
+// The field and the line, or 0 and the rule.
+fn gift_fault(words: &mut Words) -> Result<GiftFault, Stop>
+    ensures { Takes result words.new (gift_fault_in words.old) }
+{
+    match words.named_short_or_none()? {
+        None => {
+            let rule = words.named_short()?;
+            Ok(GiftFault::Test { rule })
+        }
+        Some(field) => {
+            let line = words.named_long()?;
+            Ok(GiftFault::Bound { field, line })
+        }
+    }
+}
+
+// A search whose work ended.
+fn budget(alloc: Global, words: &mut Words) -> Result<RowHead, Stop>
+    ensures read { ReadsAs result (budget_in words.old) }
+    ensures fits { IfOk result WeighsLong }
+{
+    let path = words.path(alloc)?;
+    let work = words.long()?;
+    words.end()?;
+    Ok(RowHead::BudgetAt(path, work))
+}
+
+// A number of an elimination that left the range.
+fn step_event(alloc: Global, words: &mut Words) -> Result<RowHead, Stop>
+    ensures read { ReadsAs result (step_event_in words.old) }
+    ensures fits { IfOk result WeighsLong }
+{
+    let path = words.path(alloc)?;
+    let first = words.named_long()?;
+    let second = words.named_long()?;
+    let place = words.place()?;
+    words.end()?;
+    Ok(RowHead::EventAt(
+        path,
+        Event::Step {
+            first,
+            second,
+            place,
+        },
+    ))
+}
+
+// A number of a test that left the range.
+fn test_event(alloc: Global, words: &mut Words) -> Result<RowHead, Stop>
+    ensures read { ReadsAs result (test_event_in words.old) }
+    ensures fits { IfOk result WeighsLong }
+{
+    let path = words.path(alloc)?;
+    let line = words.named_long()?;
+    let field = words.named_short()?;
+    words.end()?;
+    Ok(RowHead::EventAt(path, Event::Test { line, field }))
+}
+
+// A record that no change corrects.
+fn contradictory(words: &mut Words) -> Result<RowHead, Stop>
+    ensures read { ReadsAs result (contradictory_in words.old) }
+    ensures fits { IfOk result WeighsLong }
+{
+    let count = words.long()?;
+    words.end()?;
+    Ok(RowHead::ContradictoryAt(count))
+}
+
+// A clean row, held as the change of nothing with its one leaf.
+fn clean_row(alloc: Global) -> Result<RowProof, ProofFault>
+    ensures clean { IfOk result (λ row. row ≡ clean_proof) }
+    ensures refused { IfErr result (λ fault. fault ≡ ProofFault.OutOfMemory) }
+{
+    let leaf = Leaf {
+        path: Path::new(Vec::new(alloc)),
+        why: LeafWhy::Bound,
+    };
+    let Ok(mut leaves) = Vec::with_capacity(alloc, 1) else {
+        return Err(ProofFault::OutOfMemory);
+    };
+    let Ok(()) = leaves.push(leaf) else {
+        return Err(ProofFault::OutOfMemory);
+    };
+    Ok(RowProof {
+        outcome: Outcome::Change {
+            path: Path::new(Vec::new(alloc)),
+            weight: 0,
+            cert: Cert {
+                leaves: Sequence::from_vec(leaves),
+            },
+        },
+        gift: None,
+    })
+}

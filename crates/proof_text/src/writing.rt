@@ -1,0 +1,115 @@
+//! A proof as the bytes of a file.
+ghost use Rattle.std.specs.Prelude.{◌≡◌, ◌++◌, IfOk, OnOk};
+ghost use Rattle.proof_grammar.specs.FirstFaults.{IsOnlyOf};
+ghost use Rattle.proof_grammar.specs.Limits.{IsPlain};
+ghost use Rattle.proof_grammar.specs.ProofLines.{proof_text};
+ghost use Rattle.proof_text.specs.inner.Texts.{claims_text, limits_text, parts_text, rows_text, verdict_text, verdicts_text};
+
+mod claims;
+mod leaves;
+mod rows;
+mod steps;
+mod words;
+
+use bound_cert::RowProof;
+use claims::write_claim;
+use derivation::Step;
+use donor_book::Entry;
+use foundation::{OutOfMemory, Sequence};
+use proof_grammar::Proof;
+use rows::write_row;
+use std::alloc::Global;
+use steps::write_steps;
+use words::{write_count, write_number};
+
+/// The text of a proof. No other plain proof has the text of a plain one.
+pub fn write_proof(alloc: Global, proof: &Proof) -> Result<Vec<u8>, OutOfMemory>
+    ensures text { IfOk result (λ text. text.items ≡ proof_text proof.now) }
+    ensures only { IfOk result (λ text. IsPlain proof.now → IsOnlyOf text.items proof.now) }
+{
+    let mut text = Vec::new(alloc);
+    write_parts(&mut text, proof)?;
+    Ok(text)
+}
+
+// Appends the lines of a proof.
+fn write_parts(text: &mut Vec<u8>, proof: &Proof) -> Result<(), OutOfMemory>
+    ensures { OnOk result (text.new.items ≡ text.old.items ++ parts_text proof.now) }
+{
+    text.extend_from_slice(b"fh-proof 1\n")?;
+    write_limits(text, proof)?;
+    write_verdicts(text, proof.verdicts.as_slice())?;
+    write_rows(text, proof.rows.as_slice())?;
+    write_claims(text, proof.claims.as_slice())?;
+    text.extend_from_slice(b"end\n")?;
+    Ok(())
+}
+
+// Appends the line of the limits.
+fn write_limits(text: &mut Vec<u8>, proof: &Proof) -> Result<(), OutOfMemory>
+    ensures { OnOk result (text.new.items ≡ text.old.items ++ limits_text proof.now) }
+{
+    text.extend_from_slice(b"limit")?;
+    write_number(text, proof.limit as u64)?;
+    text.extend_from_slice(b" near")?;
+    write_number(text, proof.near as u64)?;
+    text.extend_from_slice(b" budget")?;
+    write_number(text, proof.budget)?;
+    text.push(b'\n')?;
+    Ok(())
+}
+
+// Appends the count of the verdicts and their lines.
+fn write_verdicts(
+    text: &mut Vec<u8>,
+    verdicts: &[Option<Sequence<Step>>],
+) -> Result<(), OutOfMemory>
+    ensures { OnOk result (text.new.items ≡ text.old.items ++ verdicts_text verdicts.now) }
+{
+    text.extend_from_slice(b"lines")?;
+    write_count(text, verdicts.len())?;
+    for verdict in verdicts {
+        write_verdict(text, verdict)?;
+    }
+    Ok(())
+}
+
+// Appends the lines of a verdict.
+fn write_verdict(text: &mut Vec<u8>, verdict: &Option<Sequence<Step>>) -> Result<(), OutOfMemory>
+    ensures { OnOk result (text.new.items ≡ text.old.items ++ verdict_text verdict.now) }
+{
+    match verdict {
+        None => {
+            text.extend_from_slice(b"keep\n")?;
+            Ok(())
+        }
+        Some(steps) => {
+            text.extend_from_slice(b"drop")?;
+            write_steps(text, steps.as_slice())
+        }
+    }
+}
+
+// Appends the count of the rows and their lines.
+fn write_rows(text: &mut Vec<u8>, rows: &[RowProof]) -> Result<(), OutOfMemory>
+    ensures { OnOk result (text.new.items ≡ text.old.items ++ rows_text rows.now) }
+{
+    text.extend_from_slice(b"records")?;
+    write_count(text, rows.len())?;
+    for row in rows {
+        write_row(text, row)?;
+    }
+    Ok(())
+}
+
+// Appends the count of the claims and their lines.
+fn write_claims(text: &mut Vec<u8>, claims: &[Entry]) -> Result<(), OutOfMemory>
+    ensures { OnOk result (text.new.items ≡ text.old.items ++ claims_text claims.now) }
+{
+    text.extend_from_slice(b"claims")?;
+    write_count(text, claims.len())?;
+    for claim in claims {
+        write_claim(text, claim)?;
+    }
+    Ok(())
+}

@@ -1,0 +1,52 @@
+//! The lines of leaves.
+ghost use Rattle.std.specs.Prelude.{◌≡◌, ◌∷◌, ◌++◌, length, OnOk};
+ghost use Rattle.std.specs.Fmt.{decimal};
+ghost use Rattle.std.specs.List.{flat_map};
+ghost use Rattle.proof_grammar.specs.ProofLines.{leaf_lines, lines_text};
+ghost use Rattle.proof_text.specs.inner.Texts.{counted_text};
+
+use super::steps::write_steps;
+use super::words::{write_count, write_path};
+use bound_cert::{Leaf, LeafWhy};
+use foundation::OutOfMemory;
+
+/// Appends the count of the leaves, the last word of its line, and their lines.
+pub(super) fn write_leaves(text: &mut Vec<u8>, leaves: &[Leaf]) -> Result<(), OutOfMemory>
+    ensures { OnOk result (text.new.items ≡ text.old.items ++ counted_text (length leaves.now) (flat_map leaf_lines leaves.now)) }
+{
+    write_count(text, leaves.len())?;
+    for leaf in leaves {
+        write_leaf(text, leaf)?;
+    }
+    Ok(())
+}
+
+// Appends the lines of a leaf.
+fn write_leaf(text: &mut Vec<u8>, leaf: &Leaf) -> Result<(), OutOfMemory>
+    ensures { OnOk result (text.new.items ≡ text.old.items ++ lines_text (leaf_lines leaf.now)) }
+{
+    match &leaf.why {
+        LeafWhy::Bound => {
+            text.extend_from_slice(b"bound")?;
+            write_path(text, &leaf.path)?;
+            text.push(b'\n')?;
+            Ok(())
+        }
+        LeafWhy::BadKept => {
+            text.extend_from_slice(b"bad")?;
+            write_path(text, &leaf.path)?;
+            text.push(b'\n')?;
+            Ok(())
+        }
+        LeafWhy::Line(steps) => {
+            text.extend_from_slice(b"line")?;
+            write_path(text, &leaf.path)?;
+            write_steps(text, steps.as_slice())
+        }
+        LeafWhy::Box(steps) => {
+            text.extend_from_slice(b"box")?;
+            write_path(text, &leaf.path)?;
+            write_steps(text, steps.as_slice())
+        }
+    }
+}

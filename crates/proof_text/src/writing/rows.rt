@@ -1,0 +1,105 @@
+//! The lines of rows.
+ghost use Rattle.std.specs.Prelude.{◌≡◌, ◌++◌, OnOk};
+ghost use Rattle.proof_grammar.specs.ProofLines.{change_lines, event_line, line_text, lines_text, row_lines};
+ghost use Rattle.proof_text.specs.inner.Texts.{gift_text};
+
+use super::leaves::write_leaves;
+use super::words::{write_named, write_number, write_path, write_place};
+use bound_cert::{Cert, Event, GiftFault, Outcome, Path, RowProof};
+use foundation::OutOfMemory;
+
+/// Appends the lines of a row.
+pub(super) fn write_row(text: &mut Vec<u8>, row: &RowProof) -> Result<(), OutOfMemory>
+    ensures { OnOk result (text.new.items ≡ text.old.items ++ lines_text (row_lines row.now)) }
+{
+    match &row.outcome {
+        Outcome::Change { path, weight, cert } => match &row.gift {
+            None => write_change(text, path, *weight, cert),
+            Some(fault) => write_gift(text, path, *weight, fault, cert),
+        },
+        Outcome::Budget { path, work } => {
+            text.extend_from_slice(b"budget")?;
+            write_path(text, path)?;
+            write_number(text, *work)?;
+            text.push(b'\n')?;
+            Ok(())
+        }
+        Outcome::Overflow { path, event } => write_event(text, path, event),
+        Outcome::Contradictory { cert } => {
+            text.extend_from_slice(b"contradictory")?;
+            write_leaves(text, cert.leaves.as_slice())
+        }
+    }
+}
+
+// Appends the lines of a change whose values were all given.
+fn write_change(
+    text: &mut Vec<u8>,
+    path: &Path,
+    weight: u64,
+    cert: &Cert,
+) -> Result<(), OutOfMemory>
+    ensures { OnOk result (text.new.items ≡ text.old.items ++ lines_text (change_lines path.now weight cert.now.leaves)) }
+{
+    if weight == 0 {
+        text.extend_from_slice(b"clean\n")?;
+        return Ok(());
+    }
+    text.extend_from_slice(b"change")?;
+    write_number(text, weight)?;
+    write_path(text, path)?;
+    write_leaves(text, cert.leaves.as_slice())
+}
+
+// Appends the lines of a change of which a number left the range while values were given.
+fn write_gift(
+    text: &mut Vec<u8>,
+    path: &Path,
+    weight: u64,
+    fault: &GiftFault,
+    cert: &Cert,
+) -> Result<(), OutOfMemory>
+    ensures { OnOk result (text.new.items ≡ text.old.items ++ gift_text path.now weight fault.now cert.now.leaves) }
+{
+    text.extend_from_slice(b"gift")?;
+    write_number(text, weight)?;
+    write_path(text, path)?;
+    match fault {
+        GiftFault::Bound { field, line } => {
+            write_named(text, *field as u64)?;
+            write_named(text, *line)?;
+        }
+        GiftFault::Test { rule } => {
+            text.extend_from_slice(b" 0")?;
+            write_named(text, *rule as u64)?;
+        }
+    }
+    write_leaves(text, cert.leaves.as_slice())
+}
+
+// Appends the line of a number that left the range.
+fn write_event(text: &mut Vec<u8>, path: &Path, event: &Event) -> Result<(), OutOfMemory>
+    ensures { OnOk result (text.new.items ≡ text.old.items ++ line_text (event_line path.now event.now)) }
+{
+    match event {
+        Event::Step {
+            first,
+            second,
+            place,
+        } => {
+            text.extend_from_slice(b"step")?;
+            write_path(text, path)?;
+            write_named(text, *first)?;
+            write_named(text, *second)?;
+            write_place(text, *place)?;
+        }
+        Event::Test { line, field } => {
+            text.extend_from_slice(b"test")?;
+            write_path(text, path)?;
+            write_named(text, *line)?;
+            write_named(text, *field as u64)?;
+        }
+    }
+    text.push(b'\n')?;
+    Ok(())
+}

@@ -1,0 +1,80 @@
+//! The lines of steps.
+ghost use Rattle.std.specs.Prelude.{◌≡◌, ◌∷◌, ◌++◌, [], codes, length, map, OnOk};
+ghost use Rattle.std.specs.Fmt.{decimal, signed_decimal};
+ghost use Rattle.proof_grammar.specs.ProofLines.{lines_text, named, step_line, words_text};
+ghost use Rattle.proof_text.specs.inner.Texts.{combine_line, counted_text};
+
+use super::words::{write_all_named, write_count, write_named, write_signed};
+use derivation::Step;
+use foundation::OutOfMemory;
+
+/// Appends the count of the steps, the last word of its line, and their lines.
+pub(super) fn write_steps(text: &mut Vec<u8>, steps: &[Step]) -> Result<(), OutOfMemory>
+    ensures { OnOk result (text.new.items ≡ text.old.items ++ counted_text (length steps.now) (map step_line steps.now)) }
+{
+    write_count(text, steps.len())?;
+    for step in steps {
+        write_step(text, step)?;
+        text.push(b'\n')?;
+    }
+    Ok(())
+}
+
+// Appends the words of a step.
+fn write_step(text: &mut Vec<u8>, step: &Step) -> Result<(), OutOfMemory>
+    ensures { OnOk result (text.new.items ≡ text.old.items ++ words_text (step_line step.now)) }
+{
+    match step {
+        Step::Given(place) => {
+            text.extend_from_slice(b"given")?;
+            write_named(text, *place)
+        }
+        Step::Combine { a, m, b, n, g } => write_combine(text, *a, *m, *b, *n, *g),
+        Step::Fail(place) => {
+            text.extend_from_slice(b"fail")?;
+            write_named(text, *place)
+        }
+        Step::Cover { field, parts } => write_cover(text, *field, parts.as_slice()),
+        Step::Fix { field, part } => {
+            text.extend_from_slice(b"fix")?;
+            write_named(text, *field as u64)?;
+            write_named(text, *part)
+        }
+    }
+}
+
+// Appends the words of a step that covers a field.
+fn write_cover(text: &mut Vec<u8>, field: u32, parts: &[u64]) -> Result<(), OutOfMemory>
+    ensures { OnOk result (text.new.items ≡ text.old.items ++ words_text (codes "cover" ∷ named field ∷ map named parts.now)) }
+{
+    text.extend_from_slice(b"cover")?;
+    write_named(text, field as u64)?;
+    write_all_named(text, parts)?;
+    Ok(())
+}
+
+// Appends the words of a step that combines two lines.
+fn write_combine(
+    text: &mut Vec<u8>,
+    a: u64,
+    m: i128,
+    b: u64,
+    n: i128,
+    g: i128,
+) -> Result<(), OutOfMemory>
+    ensures { OnOk result (text.new.items ≡ text.old.items ++ words_text (combine_line a m b n g)) }
+{
+    text.extend_from_slice(b"combine")?;
+    write_multiple(text, a, m)?;
+    write_multiple(text, b, n)?;
+    write_signed(text, g)?;
+    Ok(())
+}
+
+// Appends the name of a step and the factor that its line is taken with.
+fn write_multiple(text: &mut Vec<u8>, place: u64, factor: i128) -> Result<(), OutOfMemory>
+    ensures { OnOk result (text.new.items ≡ text.old.items ++ (32 ∷ named place) ++ (32 ∷ signed_decimal factor)) }
+{
+    write_named(text, place)?;
+    write_signed(text, factor)
+}
