@@ -27,11 +27,14 @@ abbrev pub IsComputed : EditsParts → (ℕ → Value) → List Value → ℕ �
 IsComputed edits target row f left told =
     (lines : List Derived) × (system_of edits.lines (reverse left) ≡ Ok lines) × (number_result (lines_of lines) row f (number_in (target f)) ≡ told)
 
+-- the record's number at a field, if it has one, is what the formulas give
+abbrev pub HasComputed : EditsParts → (ℕ → Value) → List Value → ℕ → List ℕ → Type 0
+HasComputed edits target row f left = (x : Fraction) → value_of row f ≡ Number x → IsComputed edits target row f left (Ok (ratio_of x))
+
 -- each number at the first fields of an order, where the others are left, is what the formulas give
 abbrev pub AreComputed : EditsParts → (ℕ → Value) → List Value → List ℕ → List ℕ → Type 0
 AreComputed edits target row [] left = Unit {0}
-AreComputed edits target row (f ∷ fields) left =
-    ((x : Fraction) → value_of row f ≡ Number x → IsComputed edits target row f (fields ++ left) (Ok (ratio_of x))) × AreComputed edits target row fields left
+AreComputed edits target row (f ∷ fields) left = HasComputed edits target row f (fields ++ left) × AreComputed edits target row fields left
 
 -- the giving stopped at a numerical field, at a line of the system of the edits without those that are left after it: the values before were given, by formulas in range, and a number of the field's leaves the range first there
 pub record StopsAtLine (survey : SurveyParts) (edits : EditsParts) (row : List Value) (changed : ℕ) (donor : Option (List Value)) (field line : ℕ) : Type 0 where

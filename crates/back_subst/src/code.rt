@@ -92,7 +92,8 @@ fn settled(
     requires row { IsRow survey.now.fields row.now }
     requires field { IsCategorical (shape_of survey.now.fields) field }
     requires codes { TakesCodes (shape_of survey.now.fields) field }
-    requires few { ((c : ℕ) → value_of row.now field ≢ Code c) → cover_count (shape_of survey.now.fields) (sets_of boxes.now) field < 2 ^ 64 }
+    requires few { ((c : ℕ) → value_of row.now field ≢ Code c)
+        → cover_count (shape_of survey.now.fields) (sets_of boxes.now) field < 2 ^ 64 }
     ensures over { IfOk result (λ kept. AreBoxesOver (shape_of survey.now.fields) kept.items) }
     ensures sets { IfOk result (λ kept. sets_of kept.items ≡ settled_by (shape_of survey.now.fields) (value_of row.now field) field (sets_of boxes.now)) }
 {

@@ -49,7 +49,8 @@ pub(crate) fn give_numbers<S: Systems, L: Ledger>(
     ensures given { OnOk result ((row : List value.Value) (given : List ℕ)
         → IsGiving survey.now (arc_value edits.now) (option_copied donor.entry) row given order.now new.old
         → IsGiving survey.now (arc_value edits.now) (option_copied donor.entry) row (given ++ order.now) [] new.new) }
-    ensures computed { OnOk result (AreComputedBy (start_lines (arc_value edits.now)) (target_of (option_copied donor.entry)) new.new order.now []) }
+    ensures computed { OnOk result (
+        AreComputedBy (start_lines (arc_value edits.now)) (target_of (option_copied donor.entry)) new.new order.now []) }
     ensures bound { (f line : ℕ) (row : List value.Value) (given : List ℕ) → result ≡ Err (fault.Bound f line)
         → IsGiving survey.now (arc_value edits.now) (option_copied donor.entry) row given order.now new.old
         → StopsAmong survey.now (start_lines (arc_value edits.now)) (target_of (option_copied donor.entry)) row given order.now f line }

@@ -56,7 +56,8 @@ pub fn give<S: Systems, L: Ledger>(
         → (p : Point) (f : ℕ) → Completes survey.now gift.row [] p → has_number changed f ≡ true → Differs row.now p f) }
     ensures bound { (field line : ℕ) → result ≡ Err (fault.Bound field line)
         → StopsAtLine survey.now (arc_value edits.now) row.now changed (option_copied donor.entry) field line }
-    ensures test { (rule : ℕ) → result ≡ Err (fault.Test rule) → StopsAtRule survey.now (arc_value edits.now) row.now changed (option_copied donor.entry) rule }
+    ensures test { (rule : ℕ) → result ≡ Err (fault.Test rule)
+        → StopsAtRule survey.now (arc_value edits.now) row.now changed (option_copied donor.entry) rule }
     ensures due { (due : gives.GiveFault) → Shows survey.now (arc_value edits.now) row.now changed (option_copied donor.entry) due
         → (result ≡ Err due) ⊎ (result ≡ Err fault.OutOfMemory) }
     ensures serves { (e : EditsParts) → S.serves source.old e → S.serves source.new e }
@@ -104,11 +105,13 @@ fn imputed<S: Systems, L: Ledger>(
     requires donor { IsDonor survey.now (option_copied donor) }
     requires served { S.serves source.old (arc_value edits.now) }
     ensures given { IfOk result (λ new. IsGiving survey.now (arc_value edits.now) (option_copied donor.entry) row.now (giving_order survey.now.fields changed) [] new) }
-    ensures computed { IfOk result (λ new. AreComputed (arc_value edits.now) (target_of (option_copied donor.entry)) new (giving_order survey.now.fields changed) []) }
+    ensures computed { IfOk result (λ new.
+        AreComputed (arc_value edits.now) (target_of (option_copied donor.entry)) new (giving_order survey.now.fields changed) []) }
     ensures tested { IfOk result (λ new. AllHoldAt survey.now new) }
     ensures bound { (field line : ℕ) → result ≡ Err (fault.Bound field line)
         → StopsAtLine survey.now (arc_value edits.now) row.now changed (option_copied donor.entry) field line }
-    ensures test { (rule : ℕ) → result ≡ Err (fault.Test rule) → StopsAtRule survey.now (arc_value edits.now) row.now changed (option_copied donor.entry) rule }
+    ensures test { (rule : ℕ) → result ≡ Err (fault.Test rule)
+        → StopsAtRule survey.now (arc_value edits.now) row.now changed (option_copied donor.entry) rule }
     ensures serves { (e : EditsParts) → S.serves source.old e → S.serves source.new e }
     ensures keeps { (f : ℕ) → S.keeps source.old f ≡ true → S.keeps source.new f ≡ true }
 {
