@@ -1,7 +1,7 @@
 //! Files that are no proofs, and their first lines that can't go on; and those on the other side of a limit.
 
-use crate::{ProofFault, read_proof};
 use foundation::OutOfMemory;
+use proof_text::{ProofFault, read_proof};
 use std::alloc::Global;
 use std::test::Fail;
 

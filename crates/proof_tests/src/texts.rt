@@ -1,10 +1,10 @@
 //! Worked proofs, read and written byte for byte.
 
-use crate::{Proof, read_proof, write_proof};
 use bound_cert::{Cert, Leaf, LeafWhy, Outcome, Path, RowProof};
 use derivation::Step;
 use donor_book::Entry;
 use foundation::{OutOfMemory, Sequence};
+use proof_text::{Proof, read_proof, write_proof};
 use std::alloc::Global;
 use std::test::Fail;
 
