@@ -191,7 +191,7 @@ same-calls (Some a) None P R less p = absurd p
 same-calls (Some a) (Some b) P R less (x, e, px) = (x, e, less x px)
 
 -- the calls up to a refusal of rules
-pub rules-calls : (asked : EditAsked) (f : Fault) (A : Type 0) (calls : List Asked) → IsOfRules asked.names.rules f → IsFetchOf {A} asked.names.rules (Err f) calls → AreCallsTo asked f calls
+pub rules-calls : (asked : EditAsked) (f : Fault) (A : Type 0) (calls : List Asked) → IsOfRules asked.names.rules f → IsFetchOf {A = A} asked.names.rules (Err f) calls → AreCallsTo asked f calls
 rules-calls asked fault.Usage A calls kind h = absurd kind
 rules-calls asked (fault.Rules line k) A calls kind h = h
 rules-calls asked (fault.Records what) A calls kind h = absurd kind
@@ -202,7 +202,7 @@ rules-calls asked fault.OutOfMemory A calls kind (inl h) = (0, h)
 rules-calls asked fault.OutOfMemory A calls kind (inr h) = (1, h)
 
 -- and of records
-pub records-calls : (asked : EditAsked) (f : Fault) (A : Type 0) (x y : List Asked) → IsOfRecords asked.names.records f → x ≡ fetched asked.names.rules ∷ [] → IsFetchOf {A} asked.names.records (Err f) y → AreCallsTo asked f (x ++ y)
+pub records-calls : (asked : EditAsked) (f : Fault) (A : Type 0) (x y : List Asked) → IsOfRecords asked.names.records f → x ≡ fetched asked.names.rules ∷ [] → IsFetchOf {A = A} asked.names.records (Err f) y → AreCallsTo asked f (x ++ y)
 records-calls asked fault.Usage A x y kind e h = absurd kind
 records-calls asked (fault.Rules line k) A x y kind e h = absurd kind
 records-calls asked (fault.Records what) A x y kind e h = rw (e, h) refl
@@ -219,7 +219,7 @@ both-fetched asked a b c p q =
     then-calls a b c (λ calls. calls ≡ fetched asked.names.rules ∷ []) (λ calls. calls ≡ fetched asked.names.records ∷ []) (λ calls. calls ≡ fetched asked.names.rules ∷ fetched asked.names.records ∷ []) (λ x y e f. rw (e, f) refl) p q
 
 -- the calls up to a refusal of a store
-pub stores-calls : (asked : EditAsked) (f : Fault) (A : Type 0) (x y : List Asked) → IsOfStores asked f → x ≡ fetched asked.names.rules ∷ fetched asked.names.records ∷ [] → AreStoresOf {A} asked (Err f) y → AreCallsTo asked f (x ++ y)
+pub stores-calls : (asked : EditAsked) (f : Fault) (A : Type 0) (x y : List Asked) → IsOfStores asked f → x ≡ fetched asked.names.rules ∷ fetched asked.names.records ∷ [] → AreStoresOf {A = A} asked (Err f) y → AreCallsTo asked f (x ++ y)
 stores-calls asked fault.Usage A x y kind e h = absurd kind
 stores-calls asked (fault.Rules line k) A x y kind e h = absurd kind
 stores-calls asked (fault.Records what) A x y kind e h = absurd kind
@@ -258,7 +258,7 @@ records-leave asked fault.OutOfMemory files now kind e = rw e (same-told files (
 
 -- what both stores leave, where they were of the edit that is to be made
 pub stores-leave : (asked : EditAsked) (f : Fault) (A : Type 0) (answer : Status) (written : Written) (files now : Option Files) → IsOfStores asked f
-    → IfSome files (λ old. IsMade asked answer old written) → Told files now (StoreBoth {A} asked written (Err f)) → Told files now (Leaves asked f)
+    → IfSome files (λ old. IsMade asked answer old written) → Told files now (StoreBoth {A = A} asked written (Err f)) → Told files now (Leaves asked f)
 stores-leave asked f A answer written None None kind made h = tt
 stores-leave asked f A answer written None (Some new) kind made h = absurd h
 stores-leave asked f A answer written (Some old) None kind made h = absurd h
@@ -282,7 +282,7 @@ all-left asked answer written (Some old) (Some new) made h = (made, h)
 -- ---- both stores
 
 -- the first store failed, or memory was refused there
-pub first-store : (asked : EditAsked) (written : Written) (A B : Type 0) (f : Fault) (files now : Option Files) → IsOfStore asked.names.reasons f → Told files now (StoresAs {A} asked.names.reasons written.reasons (Err f)) → Told files now (StoreBoth {B} asked written (Err f))
+pub first-store : (asked : EditAsked) (written : Written) (A B : Type 0) (f : Fault) (files now : Option Files) → IsOfStore asked.names.reasons f → Told files now (StoresAs {A = A} asked.names.reasons written.reasons (Err f)) → Told files now (StoreBoth {A = B} asked written (Err f))
 first-store asked written A B f None None kind h = tt
 first-store asked written A B f None (Some new) kind h = absurd h
 first-store asked written A B f (Some old) None kind h = absurd h
@@ -297,7 +297,7 @@ first-store asked written A B fault.OutOfMemory (Some old) (Some new) kind h = i
 -- the second store failed, or memory was refused there
 pub second-store : (asked : EditAsked) (written : Written) (A B : Type 0) (f : Fault) (files between now : Option Files) → IsOfStore asked.names.released f
     → Told files between (λ old new. (new asked.names.reasons ≡ Some written.reasons) × SameElsewhere old new asked.names.reasons)
-    → Told between now (StoresAs {A} asked.names.released written.released (Err f)) → Told files now (StoreBoth {B} asked written (Err f))
+    → Told between now (StoresAs {A = A} asked.names.released written.released (Err f)) → Told files now (StoreBoth {A = B} asked written (Err f))
 second-store asked written A B f None None None kind first h = tt
 second-store asked written A B f None None (Some new) kind first h = absurd h
 second-store asked written A B f None (Some mid) now kind first h = absurd first
@@ -330,7 +330,7 @@ both-stored asked written (Some old) (Some mid) (Some new) apart first second = 
 }
 
 -- the calls of the first store, and of both
-pub first-calls : (asked : EditAsked) (A B : Type 0) (f : Fault) (calls : List Asked) → IsOfStore asked.names.reasons f → IsStoreOf {A} asked.names.reasons (Err f) calls → AreStoresOf {B} asked (Err f) calls
+pub first-calls : (asked : EditAsked) (A B : Type 0) (f : Fault) (calls : List Asked) → IsOfStore asked.names.reasons f → IsStoreOf {A = A} asked.names.reasons (Err f) calls → AreStoresOf {A = B} asked (Err f) calls
 first-calls asked A B fault.Usage calls kind h = absurd kind
 first-calls asked A B (fault.Rules line k) calls kind h = absurd kind
 first-calls asked A B (fault.Records what) calls kind h = absurd kind
@@ -339,7 +339,7 @@ first-calls asked A B (fault.TooLong name) calls kind h = absurd kind
 first-calls asked A B (fault.Write name) calls kind h = inl (kind, h)
 first-calls asked A B fault.OutOfMemory calls kind h = inl h
 
-pub second-calls : (asked : EditAsked) (A B : Type 0) (f : Fault) (x y : List Asked) → IsOfStore asked.names.released f → x ≡ stored asked.names.reasons ∷ [] → IsStoreOf {A} asked.names.released (Err f) y → AreStoresOf {B} asked (Err f) (x ++ y)
+pub second-calls : (asked : EditAsked) (A B : Type 0) (f : Fault) (x y : List Asked) → IsOfStore asked.names.released f → x ≡ stored asked.names.reasons ∷ [] → IsStoreOf {A = A} asked.names.released (Err f) y → AreStoresOf {A = B} asked (Err f) (x ++ y)
 second-calls asked A B fault.Usage x y kind e h = absurd kind
 second-calls asked A B (fault.Rules line k) x y kind e h = absurd kind
 second-calls asked A B (fault.Records what) x y kind e h = absurd kind

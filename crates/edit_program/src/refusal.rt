@@ -32,7 +32,7 @@ impl<'a> Model for Refusal<'a> {
 impl<'a> Refusal<'a> {
     /// The refusal for a fault.
     pub(crate) fn new(alloc: Global, fault: Fault<'a>) -> Result<Refusal<'a>, OutOfMemory>
-        ensures { IfOk result (λ refusal. refusal ≡ fault) }
+        ensures { IfOk result (λ refusal. refusal ≡ fault.entry) }
     {
         let line = fault.line(alloc)?;
         Ok(Refusal {
@@ -43,7 +43,7 @@ impl<'a> Refusal<'a> {
 
     /// The refusal for a fault, or for want of memory.
     pub(crate) fn of(alloc: Global, fault: Fault<'a>) -> Refusal<'a>
-        ensures { (result ≡ fault) ⊎ (result ≡ faults.OutOfMemory) }
+        ensures { (result ≡ fault.entry) ⊎ (result ≡ faults.OutOfMemory) }
     {
         match Refusal::new(alloc, fault) {
             Ok(refusal) => refusal,
