@@ -2,3 +2,4 @@ mod AskedLaws
 pub mod FieldFaults
 mod PairLaws
 pub mod RunLaws
+pub mod TextLaws

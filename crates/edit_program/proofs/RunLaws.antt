@@ -11,15 +11,17 @@ use Rattle.record_text.specs.declared.fault.SheetFault.{SheetFault}
 use Rattle.record_text.specs.declared.fault.SheetFault.TheVariants as sheet
 use Rattle.edit_desk.specs.Desk.{Asked, Files, IsLonger, PutsOnRecord, SameElsewhere, Told, failing, fetched, raised, stored}
 use Rattle.edit_program.specs.Asked.{EditAsked}
-use Rattle.edit_program.specs.Edits.{HasReleased, Written}
-use Rattle.edit_program.specs.Faults.{fault_status, rules_fault, sheet_fault}
+use Rattle.edit_program.specs.Edits.{HasReleased, IsEditOf, Written}
+use Rattle.edit_program.specs.Faults.{fault_status, fault_text, rules_fault, sheet_fault}
 use Rattle.edit_program.specs.Readings.{AnswersDue, AreNoRecords, AreNoRules, HoldsRecords, HoldsRules, HoldsText, IsDue, Refuses, most_bytes}
-use Rattle.edit_program.specs.Run.{AreCallsTo, AreExplained, AreWritten, IsCutOff, IsLeft, IsMade, Leaves, all_calls, faults_by}
-use Rattle.edit_program.specs.inner.Parts.{AreStoresOf, Fetched, IsFetchOf, IsOfFetch, IsOfRecords, IsOfRules, IsOfStore, IsOfStores, IsStoreOf, RefusesLong, RefusesRecords, RefusesRules, StoreBoth, StoresAs, faults_after}
+use Rattle.edit_program.specs.Run.{AreCallsTo, AreExplained, AreWritten, IsCutOff, IsEdited, IsLeft, IsLinePrinted, IsMade, IsRefused, IsStored, IsUntold, Leaves, Seen, faults_by}
+use Rattle.edit_program.specs.inner.Parts.{AreCallsOf, AreStoresOf, Ends, Fetched, IsFetchOf, IsOfFetch, IsOfRecords, IsOfRules, IsOfStore, IsOfStores, IsStoreOf, IsTelling, RefusesRecords, RefusesRules, StoreBoth, StoresAs, written_in}
 use Rattle.edit_program.specs.declared.fault.Fault.{Fault}
 use Rattle.edit_program.specs.declared.fault.Fault.TheVariants as fault
 use Rattle.edit_program.specs.declared.status.Status.{Status}
 use Rattle.edit_program.specs.declared.status.Status.TheVariants as status
+use Rattle.edit_program.specs.declared.texts.Texts.{Texts}
+use Rattle.edit_program.specs.declared.fault.RecordsFault.{RecordsFault}
 
 -- ---- what stands under a name
 
@@ -291,7 +293,8 @@ first-store asked written A B (fault.Rules line k) (Some old) (Some new) kind h 
 first-store asked written A B (fault.Records what) (Some old) (Some new) kind h = absurd kind
 first-store asked written A B (fault.Read name) (Some old) (Some new) kind h = absurd kind
 first-store asked written A B (fault.TooLong name) (Some old) (Some new) kind h = absurd kind
-first-store asked written A B (fault.Write name) (Some old) (Some new) kind h = inl (kind, subst (λ (n : List ℕ). IsCutOff n written.reasons old new × SameElsewhere old new n) (sym kind) h)
+first-store asked written A B (fault.Write name) (Some old) (Some new) kind h =
+    let there = subst (λ (n : List ℕ). IsCutOff n written.reasons old new × SameElsewhere old new n) (sym kind) h in inl (kind, there.0, there.1)
 first-store asked written A B fault.OutOfMemory (Some old) (Some new) kind h = inl h
 
 -- the second store failed, or memory was refused there
@@ -309,7 +312,8 @@ second-store asked written A B (fault.Records what) (Some old) (Some mid) (Some 
 second-store asked written A B (fault.Read name) (Some old) (Some mid) (Some new) kind first h = absurd kind
 second-store asked written A B (fault.TooLong name) (Some old) (Some mid) (Some new) kind first h = absurd kind
 second-store asked written A B (fault.Write name) (Some old) (Some mid) (Some new) kind first h =
-    inr (kind, mid, record { reasons = first.0; elsewhere = first.1 }, subst (λ (n : List ℕ). IsCutOff n written.released mid new × SameElsewhere mid new n) (sym kind) h)
+    let there = subst (λ (n : List ℕ). IsCutOff n written.released mid new × SameElsewhere mid new n) (sym kind) h in
+    inr (kind, mid, record { reasons = first.0; elsewhere = first.1 }, there.0, there.1)
 second-store asked written A B fault.OutOfMemory (Some old) (Some mid) (Some new) kind first h =
     subst (λ (f : Files). (f ≡ old) ⊎ AreExplained asked written old f) (sym h) (inr (record { reasons = first.0; elsewhere = first.1 }))
 
@@ -366,3 +370,137 @@ second-kind asked (fault.Read name) kind = absurd kind
 second-kind asked (fault.TooLong name) kind = absurd kind
 second-kind asked (fault.Write name) kind = inr kind
 second-kind asked fault.OutOfMemory kind = tt
+
+-- ---- the same, where the files are told
+
+pub told-rules-refuse : (asked : EditAsked) (files : Option Files) (f : Fault) → IsOfRules asked.names.rules f → IfSome files (λ o. RefusesRules asked.names.rules o f) → IfSome files (λ o. Refuses asked o f)
+told-rules-refuse asked None f kind why = tt
+told-rules-refuse asked (Some o) f kind why = rules-refuse asked o f kind why
+
+pub told-rules-due : (asked : EditAsked) (files : Option Files) (f : Fault) → IsOfRules asked.names.rules f → IfSome files (λ o. RefusesRules asked.names.rules o f) → IfSome files (λ o. AnswersDue asked o (fault_status f))
+told-rules-due asked None f kind why = tt
+told-rules-due asked (Some o) f kind why = rules-due asked o f kind why
+
+pub told-records-refuse : (asked : EditAsked) (files : Option Files) (survey : SurveyParts) (f : Fault) → IfSome files (λ o. HoldsRules o asked.names.rules survey) → IsOfRecords asked.names.records f → IfSome files (λ o. RefusesRecords asked.names.records survey.fields o f) → IfSome files (λ o. Refuses asked o f)
+told-records-refuse asked None survey f hr kind why = tt
+told-records-refuse asked (Some o) survey f hr kind why = records-refuse asked o survey f hr kind why
+
+pub told-records-due : (asked : EditAsked) (files : Option Files) (survey : SurveyParts) (f : Fault) → IfSome files (λ o. HoldsRules o asked.names.rules survey) → IsOfRecords asked.names.records f → IfSome files (λ o. RefusesRecords asked.names.records survey.fields o f) → IfSome files (λ o. AnswersDue asked o (fault_status f))
+told-records-due asked None survey f hr kind why = tt
+told-records-due asked (Some o) survey f hr kind why = records-due asked o survey f hr kind why
+
+pub told-both-due : (asked : EditAsked) (files : Option Files) (survey : SurveyParts) (s : SheetParts) (answer : Status) → IfSome files (λ o. HoldsRules o asked.names.rules survey) → IfSome files (λ o. HoldsRecords o asked.names.records survey.fields s) → IfSome files (λ o. AnswersDue asked o answer)
+told-both-due asked None survey s answer hr hs = tt
+told-both-due asked (Some o) survey s answer hr hs = both-due asked o survey s answer hr hs
+
+pub told-stores-refuse : (asked : EditAsked) (files : Option Files) (f : Fault) → IsOfStores asked f → IfSome files (λ o. Refuses asked o f)
+told-stores-refuse asked None f kind = tt
+told-stores-refuse asked (Some o) f kind = stores-refuse asked o f kind
+
+-- what is to be made of the files that were read
+pub told-made : (asked : EditAsked) (files : Option Files) (survey : SurveyParts) (s : SheetParts) (answer : Status) (written : Written) → IfSome files (λ o. HoldsRules o asked.names.rules survey) → IfSome files (λ o. HoldsRecords o asked.names.records survey.fields s)
+    → IsEditOf survey s asked.budget answer written → IfSome files (λ o. IsMade asked answer o written)
+told-made asked None survey s answer written hr hs edit = tt
+told-made asked (Some o) survey s answer written hr hs edit = record { survey = survey; sheet = s; rules = hr; records = hs; edit = edit }
+
+-- ---- a reading of a fetched file
+
+-- a fetched file meets a claim that its bytes meet
+pub told-holds : (P : List ℕ → Type 0) (files : Option Files) (name bytes : List ℕ) → IfSome files (Fetched name bytes) → P bytes → IfSome files (λ o. HoldsText o name P)
+told-holds P None name bytes held claim = tt
+told-holds P (Some o) name bytes held claim = record { bytes = bytes; held = held.0; short = held.1; claim = claim }
+
+-- rules that were not read are refused, unless for want of memory
+pub rules-refused : (files : Option Files) (name bytes : List ℕ) (told : RulesFault) (f : Fault) → IfSome files (Fetched name bytes) → IsFaultOf bytes told → IsNoRuleText bytes told → (f ≡ rules_fault told) ⊎ (f ≡ fault.OutOfMemory)
+    → IfSome files (λ o. RefusesRules name o f)
+rules-refused files name bytes told f held is none (inr memory) = subst (λ (g : Fault). IfSome files (λ o. RefusesRules name o g)) (sym memory) (nothing files)
+  where
+    nothing : (fs : Option Files) → IfSome fs (λ o. RefusesRules name o fault.OutOfMemory)
+    nothing None = tt
+    nothing (Some o) = tt
+rules-refused files name bytes (rules.At line k) f held is none (inl same) =
+    subst (λ (g : Fault). IfSome files (λ o. RefusesRules name o g)) (sym same) (told-holds (AreNoRules line k) files name bytes held (record { unread = none; first = is }))
+rules-refused files name bytes rules.OutOfMemory f held is none (inl same) = subst (λ (g : Fault). IfSome files (λ o. RefusesRules name o g)) (sym same) (nothing files)
+  where
+    nothing : (fs : Option Files) → IfSome fs (λ o. RefusesRules name o fault.OutOfMemory)
+    nothing None = tt
+    nothing (Some o) = tt
+
+-- the same of records
+module _ (files : Option Files) (name bytes : List ℕ) (fields : List Field) (held : IfSome files (Fetched name bytes)) where
+  out-of-memory : (fs : Option Files) → IfSome fs (λ o. RefusesRecords name fields o fault.OutOfMemory)
+  out-of-memory None = tt
+  out-of-memory (Some o) = tt
+
+  sheet-refused : (told : SheetFault) (what : RecordsFault) → sheet_fault fields told ≡ fault.Records what → IsSheetFault fields bytes told → ((t : SheetParts) → ¬ IsSheet fields bytes t) → IfSome files (λ o. RefusesRecords name fields o (fault.Records what))
+  sheet-refused told what shown is none = told-holds (AreNoRecords fields what) files name bytes held (record { unread = none; found = told; first = is; told = shown })
+
+  by-fault : (told : SheetFault) → (told ≢ sheet.OutOfMemory → IsSheetFault fields bytes told) → (told ≢ sheet.OutOfMemory → (t : SheetParts) → ¬ IsSheet fields bytes t) → IfSome files (λ o. RefusesRecords name fields o (sheet_fault fields told))
+  by-fault sheet.OutOfMemory is none = out-of-memory files
+  by-fault sheet.NoHeader is none = sheet-refused sheet.NoHeader _ refl (is (λ e. cc e)) (none (λ e. cc e))
+  by-fault sheet.TooManyColumns is none = sheet-refused sheet.TooManyColumns _ refl (is (λ e. cc e)) (none (λ e. cc e))
+  by-fault (sheet.NoColumn n) is none = sheet-refused (sheet.NoColumn n) _ refl (is (λ e. cc e)) (none (λ e. cc e))
+  by-fault (sheet.DoubleColumn n) is none = sheet-refused (sheet.DoubleColumn n) _ refl (is (λ e. cc e)) (none (λ e. cc e))
+  by-fault sheet.TooManyRows is none = sheet-refused sheet.TooManyRows _ refl (is (λ e. cc e)) (none (λ e. cc e))
+  by-fault (sheet.RowLength n) is none = sheet-refused (sheet.RowLength n) _ refl (is (λ e. cc e)) (none (λ e. cc e))
+
+  pub records-refused : (told : SheetFault) (f : Fault) → (told ≢ sheet.OutOfMemory → IsSheetFault fields bytes told) → (told ≢ sheet.OutOfMemory → (t : SheetParts) → ¬ IsSheet fields bytes t) → (f ≡ sheet_fault fields told) ⊎ (f ≡ fault.OutOfMemory)
+      → IfSome files (λ o. RefusesRecords name fields o f)
+  records-refused told f is none (inl same) = subst (λ (g : Fault). IfSome files (λ o. RefusesRecords name fields o g)) (sym same) (by-fault told is none)
+  records-refused told f is none (inr memory) = subst (λ (g : Fault). IfSome files (λ o. RefusesRecords name fields o g)) (sym memory) (out-of-memory files)
+
+-- ---- the whole run
+
+-- after an edit that did all on the desk, no status is due
+pub none-due : (asked : EditAsked) (files : Option Files) (a b : Status) → HasReleased a → IfSome files (λ o. AnswersDue asked o a) → IfSome files (λ o. AnswersDue asked o b)
+none-due asked None a b ended due = tt
+none-due asked (Some o) a b ended due = λ s here. absurd (by ended (due s here) here)
+  where
+    by : {s : Status} → HasReleased a → (a ≡ s) ⊎ ((a ≡ status.ReadFault) ⊎ (a ≡ status.OutOfMemory)) → IsDue asked o s → ⊥
+    by (inl done) (inl same) here = subst (λ (t : Status). IsDue asked o t) (sym same ∙ done) here
+    by (inr some) (inl same) here = subst (λ (t : Status). IsDue asked o t) (sym same ∙ some) here
+    by (inl done) (inr (inl e)) here = cc (sym done ∙ e)
+    by (inl done) (inr (inr e)) here = cc (sym done ∙ e)
+    by (inr some) (inr (inl e)) here = cc (sym some ∙ e)
+    by (inr some) (inr (inr e)) here = cc (sym some ∙ e)
+
+module _ (asked found : EditAsked) (same : asked ≡ found) (before after : Seen) where
+  -- all was done on the desk
+  stored-by : (texts : Texts) → Told before.files after.files (Ends found (Ok texts)) → PutsOnRecord before.calls after.calls (AreCallsOf found (Ok texts)) → after.faults ≡ before.faults
+      → IsStored asked texts.status (written_in texts) before after
+  stored-by texts files calls faults = subst (λ (a : EditAsked). IsStored a texts.status (written_in texts) before after) (sym same) (record { files = files; calls = calls; faultless = faults })
+
+  pub edited-by : (texts : Texts) (answer : Status) → HasReleased answer → IsTelling texts.status texts.summary.items answer before.printed after.printed before.unprinted after.unprinted
+      → Told before.files after.files (Ends found (Ok texts)) → PutsOnRecord before.calls after.calls (AreCallsOf found (Ok texts)) → after.faults ≡ before.faults → IsEdited asked answer before after
+  edited-by texts answer ended (inl (is, printed, told)) files calls faults = record {
+    written = written_in texts;
+    stored = subst (λ (s : Status). IsStored asked s (written_in texts) before after) (sym is) (stored-by texts files calls faults);
+    printed = printed;
+    told = told;
+  }
+  edited-by texts answer (inl done) (inr (is, printed, told)) files calls faults = absurd (cc (sym done ∙ is))
+  edited-by texts answer (inr some) (inr (is, printed, told)) files calls faults = absurd (cc (sym some ∙ is))
+
+  pub untold-by : (texts : Texts) (answer : Status) → (¬ HasReleased answer) → HasReleased texts.status → IsTelling texts.status texts.summary.items answer before.printed after.printed before.unprinted after.unprinted
+      → Told before.files after.files (Ends found (Ok texts)) → PutsOnRecord before.calls after.calls (AreCallsOf found (Ok texts)) → after.faults ≡ before.faults
+      → IsRefused asked answer before after ⊎ ((answer ≡ status.WriteFault) × IsUntold asked before after)
+  untold-by texts answer not ended (inl (is, printed, told)) files calls faults = absurd (not (subst HasReleased (sym is) ended))
+  untold-by texts answer not ended (inr (is, printed, told)) files calls faults = inr (is, record {
+    answer = texts.status;
+    written = written_in texts;
+    stored = stored-by texts files calls faults;
+    printed = printed;
+    failed = told;
+  })
+
+  pub refused-by : (f : Fault) (answer : Status) → answer ≡ fault_status f → IfSome before.files (λ o. Refuses found o f) → Told before.files after.files (Leaves found f) → PutsOnRecord before.calls after.calls (AreCallsTo found f)
+      → after.faults ≡ faults_by f before.faults → IsLinePrinted (fault_text f) before after → IsRefused asked answer before after
+  refused-by f answer is cause files calls faults printed = subst (λ (a : EditAsked). IsRefused a answer before after) (sym same) (record {
+    fault = f;
+    status = is;
+    cause = cause;
+    calls = calls;
+    files = files;
+    faults = faults;
+    printed = printed;
+  })

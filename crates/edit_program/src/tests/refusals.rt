@@ -1,0 +1,244 @@
+//! Runs that are refused, or of which a call or a line fails.
+use super::{Run, desk_of, first_wrong, words};
+use crate::edit::fh_main;
+use crate::status::Status;
+use edit_desk::MemoryPrinter;
+use std::alloc::Global;
+use std::test::Fail;
+
+const RUNS: &[Run] = &[
+    // the rules can not be read
+    Run {
+        rules: "number A\nA >= 3\n",
+        records: "A\n1\n",
+        words: &[],
+        fails: 1,
+        unprinted: 0,
+        status: Status::ReadFault,
+        reasons: None,
+        released: None,
+        printed: "fault: read r\n",
+    },
+    // the records can not be read
+    Run {
+        rules: "number A\nA >= 3\n",
+        records: "A\n1\n",
+        words: &[],
+        fails: 2,
+        unprinted: 0,
+        status: Status::ReadFault,
+        reasons: None,
+        released: None,
+        printed: "fault: read c\n",
+    },
+    // the reasons can not be written, but for two bytes
+    Run {
+        rules: "number A\nA >= 3\n",
+        records: "A\n1\n",
+        words: &[],
+        fails: 3,
+        unprinted: 0,
+        status: Status::WriteFault,
+        reasons: Some("re"),
+        released: None,
+        printed: "fault: write w\n",
+    },
+    // the released file can not be written, but for two bytes
+    Run {
+        rules: "number A\nA >= 3\n",
+        records: "A\n1\n",
+        words: &[],
+        fails: 4,
+        unprinted: 0,
+        status: Status::WriteFault,
+        reasons: Some("record,cause,field,before,after,donor,detail\n1,changed,A,1,3,,nearest\n"),
+        released: Some("A\n"),
+        printed: "fault: write d\n",
+    },
+    // there is no fifth call
+    Run {
+        rules: "number A\nA >= 3\n",
+        records: "A\n1\n",
+        words: &[],
+        fails: 5,
+        unprinted: 0,
+        status: Status::Done,
+        reasons: Some("record,cause,field,before,after,donor,detail\n1,changed,A,1,3,,nearest\n"),
+        released: Some("A\n3\n"),
+        printed: "records 1 clean 0 changed 1 unresolved 0 weight 1\n",
+    },
+    // the summary can not be printed
+    Run {
+        rules: "number A\nA >= 3\n",
+        records: "A\n1\n",
+        words: &[],
+        fails: 0,
+        unprinted: 1,
+        status: Status::WriteFault,
+        reasons: Some("record,cause,field,before,after,donor,detail\n1,changed,A,1,3,,nearest\n"),
+        released: Some("A\n3\n"),
+        printed: "",
+    },
+    // nor can a refusal
+    Run {
+        rules: "number A\nA >= 3\n",
+        records: "A\n1\n",
+        words: &[],
+        fails: 1,
+        unprinted: 1,
+        status: Status::ReadFault,
+        reasons: None,
+        released: None,
+        printed: "",
+    },
+    // there is no second line
+    Run {
+        rules: "number A\nA >= 3\n",
+        records: "A\n1\n",
+        words: &[],
+        fails: 0,
+        unprinted: 2,
+        status: Status::Done,
+        reasons: Some("record,cause,field,before,after,donor,detail\n1,changed,A,1,3,,nearest\n"),
+        released: Some("A\n3\n"),
+        printed: "records 1 clean 0 changed 1 unresolved 0 weight 1\n",
+    },
+    // an option stands twice
+    Run {
+        rules: "number A\nA >= 3\n",
+        records: "A\n1\n",
+        words: &["--rules", "x"],
+        fails: 0,
+        unprinted: 0,
+        status: Status::Usage,
+        reasons: None,
+        released: None,
+        printed: "fault: usage\n",
+    },
+    // a budget of 0
+    Run {
+        rules: "number A\nA >= 3\n",
+        records: "A\n1\n",
+        words: &["--budget", "0"],
+        fails: 0,
+        unprinted: 0,
+        status: Status::Usage,
+        reasons: None,
+        released: None,
+        printed: "fault: usage\n",
+    },
+    // a name that is not declared, whatever the records are
+    Run {
+        rules: A >= 0
+,
+        records: "",
+        words: &[],
+        fails: 0,
+        unprinted: 0,
+        status: Status::Rules,
+        reasons: None,
+        released: None,
+        printed: "fault: rules line 1 kind 3 UnknownField\n",
+    },
+    // a name declared again
+    Run {
+        rules: "number A\nnumber A\n",
+        records: "A\n1\n",
+        words: &[],
+        fails: 0,
+        unprinted: 0,
+        status: Status::Rules,
+        reasons: None,
+        released: None,
+        printed: "fault: rules line 2 kind 4 DoubleField\n",
+    },
+    // no header
+    Run {
+        rules: "number A\nA >= 3\n",
+        records: "",
+        words: &[],
+        fails: 0,
+        unprinted: 0,
+        status: Status::Records,
+        reasons: None,
+        released: None,
+        printed: "fault: records kind 11 NoHeader\n",
+    },
+    // a field without a column
+    Run {
+        rules: "number A\nA >= 3\n",
+        records: "B\n1\n",
+        words: &[],
+        fails: 0,
+        unprinted: 0,
+        status: Status::Records,
+        reasons: None,
+        released: None,
+        printed: "fault: records kind 12 NoColumn field A\n",
+    },
+    // a field with two columns
+    Run {
+        rules: "number A\nA >= 3\n",
+        records: "A,A\n1,1\n",
+        words: &[],
+        fails: 0,
+        unprinted: 0,
+        status: Status::Records,
+        reasons: None,
+        released: None,
+        printed: "fault: records kind 13 DoubleColumn field A\n",
+    },
+    // a short row
+    Run {
+        rules: "number A\nA >= 3\n",
+        records: "id,A\n1,2\n7\n",
+        words: &[],
+        fails: 0,
+        unprinted: 0,
+        status: Status::Records,
+        reasons: None,
+        released: None,
+        printed: "fault: records kind 14 RowLength row 2\n",
+    },
+    // 257 columns
+    Run {
+        rules: "number A\nA >= 3\n",
+        records: "A,,,,,,,,,,,,,,,,,,,,,,,,,,,,,,,,,,,,,,,,,,,,,,,,,,,,,,,,,,,,,,,,,,,,,,,,,,,,,,,,,,,,,,,,,,,,,,,,,,,,,,,,,,,,,,,,,,,,,,,,,,,,,,,,,,,,,,,,,,,,,,,,,,,,,,,,,,,,,,,,,,,,,,,,,,,,,,,,,,,,,,,,,,,,,,,,,,,,,,,,,,,,,,,,,,,,,,,,,,,,,,,,,,,,,,,,,,,,,,,,,,,,,,,,,,,,,,,,\n",
+        words: &[],
+        fails: 0,
+        unprinted: 0,
+        status: Status::Records,
+        reasons: None,
+        released: None,
+        printed: "fault: records kind 16 TooManyColumns\n",
+    },
+];
+
+// How a run over these files ends and what it prints.
+fn is_refused(alloc: Global, rules: &[u8], records: &[u8], status: Status, line: &str) -> Result<bool, Fail> {
+    let mut desk = desk_of(alloc, rules, records, 0)?;
+    let mut printer = MemoryPrinter::new(alloc, None)?;
+    let ended = fh_main(alloc, &words(alloc, &[])?, &mut desk, &mut printer);
+    Ok(ended == status && printer.text() == line.as_bytes())
+}
+
+// So many rows of one field, behind a header.
+fn rows(alloc: Global, count: usize) -> Result<Vec<u8>, Fail> {
+    let mut bytes = b"A\n".to_vec(alloc)?;
+    for _ in 0..count {
+        bytes.extend_from_slice(b"3\n")?;
+    }
+    Ok(bytes)
+}
+
+#[test]
+fn refusals_say_the_file_the_place_and_the_kind(rt: HostRuntime) -> Result<(), Fail> {
+    let alloc = rt.alloc();
+    assert_eq!(rt; first_wrong(alloc, RUNS)?, None);
+    let long = vec![in alloc; b'#'; 67_108_865]?;
+    assert!(rt; is_refused(alloc, &long, b"A\n", Status::TooLong, "fault: too long r\n")?);
+    assert!(rt; is_refused(alloc, b"number A\n", &long, Status::TooLong, "fault: too long c\n")?);
+    let many = rows(alloc, 200_001)?;
+    assert!(rt; is_refused(alloc, b"number A\n", &many, Status::Records, "fault: records kind 15 TooManyRows\n")?);
+    Ok(())
+}
