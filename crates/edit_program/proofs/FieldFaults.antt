@@ -30,8 +30,8 @@ column_below : (i bound : ℕ) (fields : List Field) (header : List (List ℕ)) 
 column_below i bound [] header fault h e = cc
 column_below i bound (field ∷ fields) header fault h e =
     either (field_fault i (columns_of field.name header)) (column_fault (suc i) fields header) fault (IsBelow bound fault)
-      (field_below (columns_of field.name header) i bound fault (omega arith))
-      (column_below (suc i) bound fields header fault (omega arith)) e
+    (field_below (columns_of field.name header) i bound fault (omega arith))
+    (column_below (suc i) bound fields header fault (omega arith)) e
 
 row_step : (many same : Bool) (i bound : ℕ) (rest : Option SheetFault) (fault : SheetFault) → (rest ≡ Some fault → IsBelow bound fault) → (if many then Some sheet.TooManyRows else if same then rest else Some (sheet.RowLength i)) ≡ Some fault → IsBelow bound fault
 row_step true same i bound rest fault f e = let same : sheet.TooManyRows ≡ fault = cc in subst (IsBelow bound) same tt
@@ -50,8 +50,8 @@ sheet_below : (fields : List Field) (records : List (List (List ℕ))) (fault : 
 sheet_below fields [] fault e = let same : sheet.NoHeader ≡ fault = cc in subst (IsBelow (length fields)) same tt
 sheet_below fields (first ∷ raws) fault e =
     wide_step (nat_lt 256 (length first)) (length fields) (option_or (column_fault 0 fields (header_of first)) (row_fault 0 (length first) raws)) fault
-      (either (column_fault 0 fields (header_of first)) (row_fault 0 (length first) raws) fault (IsBelow (length fields) fault)
-        (column_below 0 (length fields) fields (header_of first) fault (omega arith)) (row_below 0 (length first) (length fields) raws fault)) e
+    (either (column_fault 0 fields (header_of first)) (row_fault 0 (length first) raws) fault (IsBelow (length fields) fault)
+    (column_below 0 (length fields) fields (header_of first) fault (omega arith)) (row_below 0 (length first) (length fields) raws fault)) e
 
 of_fields : (fields : List Field) (fault : SheetFault) → IsBelow (length fields) fault → IsOfFields fields fault
 of_fields fields sheet.NoHeader h = tt

@@ -485,13 +485,16 @@ module _ (asked found : EditAsked) (same : asked ≡ found) (before after : Seen
       → Told before.files after.files (Ends found (Ok texts)) → PutsOnRecord before.calls after.calls (AreCallsOf found (Ok texts)) → after.faults ≡ before.faults
       → IsRefused asked answer before after ⊎ ((answer ≡ status.WriteFault) × IsUntold asked before after)
   untold-by texts answer not ended (inl (is, printed, told)) files calls faults = absurd (not (subst HasReleased (sym is) ended))
-  untold-by texts answer not ended (inr (is, printed, told)) files calls faults = inr (is, record {
-    answer = texts.status;
-    written = written_in texts;
-    stored = stored-by texts files calls faults;
-    printed = printed;
-    failed = told;
-  })
+  untold-by texts answer not ended (inr (is, printed, told)) files calls faults = inr (
+    is,
+    record {
+      answer = texts.status;
+      written = written_in texts;
+      stored = stored-by texts files calls faults;
+      printed = printed;
+      failed = told;
+    },
+  )
 
   pub refused-by : (f : Fault) (answer : Status) → answer ≡ fault_status f → IfSome before.files (λ o. Refuses found o f) → Told before.files after.files (Leaves found f) → PutsOnRecord before.calls after.calls (AreCallsTo found f)
       → after.faults ≡ faults_by f before.faults → IsLinePrinted (fault_text f) before after → IsRefused asked answer before after

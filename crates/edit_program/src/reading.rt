@@ -64,10 +64,7 @@ pub(crate) fn fetch_sheet<'a, D: Desk>(
     };
     match read_records(alloc, survey, &bytes) {
         Ok(sheet) => Ok(sheet),
-        Err(fault) => Err(Refusal::of(
-            alloc,
-            Fault::of_records(survey.fields(), fault),
-        )),
+        Err(fault) => Err(Refusal::of(alloc, Fault::of_records(survey.fields(), fault))),
     }
 }
 

@@ -24,7 +24,15 @@ struct Run {
 }
 
 const NAMES: &[&str] = &[
-    "edit", "--rules", "r", "--records", "c", "--reasons", "w", "--released", "d",
+    "edit",
+    "--rules",
+    "r",
+    "--records",
+    "c",
+    "--reasons",
+    "w",
+    "--released",
+    "d",
 ];
 
 fn words(alloc: Global, last: &[&str]) -> Result<Vec<String>, Fail> {
@@ -72,7 +80,12 @@ fn is_held(desk: &MemoryDesk, name: &str, text: Option<&str>) -> bool {
 
 // Whether the run ends, leaves and prints what it is to.
 fn is_right(alloc: Global, run: &Run) -> Result<bool, Fail> {
-    let mut desk = desk_of(alloc, run.rules.as_bytes(), run.records.as_bytes(), run.fails)?;
+    let mut desk = desk_of(
+        alloc,
+        run.rules.as_bytes(),
+        run.records.as_bytes(),
+        run.fails,
+    )?;
     let mut printer = MemoryPrinter::new(alloc, Some(run.unprinted))?;
     let status = fh_main(alloc, &words(alloc, run.words)?, &mut desk, &mut printer);
     Ok(

@@ -18,6 +18,7 @@ use std::sync::ledger::Ledger;
 
 /// The most systems that are kept, and the most lines of them in all. What goes past is folded anew.
 const MOST_SYSTEMS: usize = 4096;
+
 const MOST_LINES: usize = 200_000;
 
 /// A system, beside the fields that were eliminated.

@@ -129,8 +129,7 @@ const RUNS: &[Run] = &[
     },
     // a name that is not declared, whatever the records are
     Run {
-        rules: A >= 0
-,
+        rules: "A >= 0\n",
         records: "",
         words: &[],
         fails: 0,
@@ -215,7 +214,13 @@ const RUNS: &[Run] = &[
 ];
 
 // How a run over these files ends and what it prints.
-fn is_refused(alloc: Global, rules: &[u8], records: &[u8], status: Status, line: &str) -> Result<bool, Fail> {
+fn is_refused(
+    alloc: Global,
+    rules: &[u8],
+    records: &[u8],
+    status: Status,
+    line: &str,
+) -> Result<bool, Fail> {
     let mut desk = desk_of(alloc, rules, records, 0)?;
     let mut printer = MemoryPrinter::new(alloc, None)?;
     let ended = fh_main(alloc, &words(alloc, &[])?, &mut desk, &mut printer);
@@ -237,8 +242,24 @@ fn refusals_say_the_file_the_place_and_the_kind(rt: HostRuntime) -> Result<(), F
     assert_eq!(rt; first_wrong(alloc, RUNS)?, None);
     let long = vec![in alloc; b'#'; 67_108_865]?;
     assert!(rt; is_refused(alloc, &long, b"A\n", Status::TooLong, "fault: too long r\n")?);
-    assert!(rt; is_refused(alloc, b"number A\n", &long, Status::TooLong, "fault: too long c\n")?);
+    assert!(rt;
+        is_refused(
+            alloc,
+            b"number A\n",
+            &long,
+            Status::TooLong,
+            "fault: too long c\n"
+        )?
+    );
     let many = rows(alloc, 200_001)?;
-    assert!(rt; is_refused(alloc, b"number A\n", &many, Status::Records, "fault: records kind 15 TooManyRows\n")?);
+    assert!(rt;
+        is_refused(
+            alloc,
+            b"number A\n",
+            &many,
+            Status::Records,
+            "fault: records kind 15 TooManyRows\n"
+        )?
+    );
     Ok(())
 }

@@ -3,13 +3,16 @@ use super::{Run, first_wrong};
 use crate::status::Status;
 use std::test::Fail;
 
-const TRADE: &str = "number Turnover weight 2\nnumber Costs\nnumber Profit\nTurnover >= 0\nCosts >= 0\nTurnover - Costs - Profit = 0\n10 Profit <= 6 Turnover\n";
+const TRADE: &str =
+    "number Turnover weight 2\nnumber Costs\nnumber Profit\nTurnover >= 0\nCosts >= 0\nTurnover - Costs - Profit = 0\n10 Profit <= 6 Turnover\n";
 
-const HOUSEHOLD: &str = "code Age in {child, adult}\ncode Status in {single, married}\ncode Rel in {spouse, other}\nif Age in {child} then Status in {single}\nif Rel in {spouse} then Status in {married}\n";
+const HOUSEHOLD: &str =
+    "code Age in {child, adult}\ncode Status in {single, married}\ncode Rel in {spouse, other}\nif Age in {child} then Status in {single}\nif Rel in {spouse} then Status in {married}\n";
 
 const SUM: &str = "number A\nnumber B\nA + B = 10\n";
 
-const CHAIN: &str = "number x1\nnumber x2\nnumber x3\nnumber x4\nnumber x5\nnumber x6\n999999999 x1 >= 1000000000 x2\n999999999 x2 >= 1000000000 x3\n999999999 x3 >= 1000000000 x4\n999999999 x4 >= 1000000000 x5\n999999999 x5 >= 1000000000 x6\n";
+const CHAIN: &str =
+    "number x1\nnumber x2\nnumber x3\nnumber x4\nnumber x5\nnumber x6\n999999999 x1 >= 1000000000 x2\n999999999 x2 >= 1000000000 x3\n999999999 x3 >= 1000000000 x4\n999999999 x4 >= 1000000000 x5\n999999999 x5 >= 1000000000 x6\n";
 
 const RUNS: &[Run] = &[
     // a record that meets all rules keeps its bytes
@@ -32,7 +35,9 @@ const RUNS: &[Run] = &[
         fails: 0,
         unprinted: 0,
         status: Status::Done,
-        reasons: Some("record,cause,field,before,after,donor,detail\n1,changed,Profit,400,40,,nearest\n"),
+        reasons: Some(
+            "record,cause,field,before,after,donor,detail\n1,changed,Profit,400,40,,nearest\n",
+        ),
         released: Some("Turnover,Costs,Profit\n100,60,40\n"),
         printed: "records 1 clean 0 changed 1 unresolved 0 weight 1\n",
     },
@@ -44,7 +49,9 @@ const RUNS: &[Run] = &[
         fails: 0,
         unprinted: 0,
         status: Status::Done,
-        reasons: Some("record,cause,field,before,after,donor,detail\n1,changed,Costs,30,100,,nearest\n1,changed,Profit,70,0,,default\n"),
+        reasons: Some(
+            "record,cause,field,before,after,donor,detail\n1,changed,Costs,30,100,,nearest\n1,changed,Profit,70,0,,default\n",
+        ),
         released: Some("Turnover,Costs,Profit\n100,100,0\n"),
         printed: "records 1 clean 0 changed 1 unresolved 0 weight 2\n",
     },
@@ -56,7 +63,9 @@ const RUNS: &[Run] = &[
         fails: 0,
         unprinted: 0,
         status: Status::Done,
-        reasons: Some("record,cause,field,before,after,donor,detail\n1,changed,Costs,,100,,nearest\n1,changed,Profit,,0,,default\n"),
+        reasons: Some(
+            "record,cause,field,before,after,donor,detail\n1,changed,Costs,,100,,nearest\n1,changed,Profit,,0,,default\n",
+        ),
         released: Some("Turnover,Costs,Profit\n100,100,0\n"),
         printed: "records 1 clean 0 changed 1 unresolved 0 weight 2\n",
     },
@@ -92,7 +101,9 @@ const RUNS: &[Run] = &[
         fails: 0,
         unprinted: 0,
         status: Status::SomeUnresolved,
-        reasons: Some("record,cause,field,before,after,donor,detail\n1,budget,,,,,path KC work 3\n"),
+        reasons: Some(
+            "record,cause,field,before,after,donor,detail\n1,budget,,,,,path KC work 3\n",
+        ),
         released: Some("A,B\n"),
         printed: "records 1 clean 0 changed 0 unresolved 1 weight 0\n",
     },
@@ -104,7 +115,9 @@ const RUNS: &[Run] = &[
         fails: 0,
         unprinted: 0,
         status: Status::Done,
-        reasons: Some("record,cause,field,before,after,donor,detail\n1,changed,Age,child,adult,,nearest\n"),
+        reasons: Some(
+            "record,cause,field,before,after,donor,detail\n1,changed,Age,child,adult,,nearest\n",
+        ),
         released: Some("Age,Status,Rel\nadult,married,spouse\n"),
         printed: "records 1 clean 0 changed 1 unresolved 0 weight 1\n",
     },
@@ -140,7 +153,9 @@ const RUNS: &[Run] = &[
         fails: 0,
         unprinted: 0,
         status: Status::Done,
-        reasons: Some("record,cause,field,before,after,donor,detail\n1,changed,Status,child,adult,,nearest\n"),
+        reasons: Some(
+            "record,cause,field,before,after,donor,detail\n1,changed,Status,child,adult,,nearest\n",
+        ),
         released: Some("Status,Wage\nadult,50\n"),
         printed: "records 1 clean 0 changed 1 unresolved 0 weight 1\n",
     },
@@ -152,7 +167,9 @@ const RUNS: &[Run] = &[
         fails: 0,
         unprinted: 0,
         status: Status::Done,
-        reasons: Some("record,cause,field,before,after,donor,detail\n1,changed,Wage,50,0,,default\n"),
+        reasons: Some(
+            "record,cause,field,before,after,donor,detail\n1,changed,Wage,50,0,,default\n",
+        ),
         released: Some("Status,Wage\nchild,0\n"),
         printed: "records 1 clean 0 changed 1 unresolved 0 weight 1\n",
     },
@@ -176,7 +193,9 @@ const RUNS: &[Run] = &[
         fails: 0,
         unprinted: 0,
         status: Status::SomeUnresolved,
-        reasons: Some("record,cause,field,before,after,donor,detail\n1,overflow,,,,,path KCCCC lines 1 2 at x1\n"),
+        reasons: Some(
+            "record,cause,field,before,after,donor,detail\n1,overflow,,,,,path KCCCC lines 1 2 at x1\n",
+        ),
         released: Some("x1,x2,x3,x4,x5,x6\n"),
         printed: "records 1 clean 0 changed 0 unresolved 1 weight 0\n",
     },
@@ -188,7 +207,9 @@ const RUNS: &[Run] = &[
         fails: 0,
         unprinted: 0,
         status: Status::Done,
-        reasons: Some("record,cause,field,before,after,donor,detail\n2,changed,A,1e3,0,,default\n3,changed,A,-4,0,,default\n"),
+        reasons: Some(
+            "record,cause,field,before,after,donor,detail\n2,changed,A,1e3,0,,default\n3,changed,A,-4,0,,default\n",
+        ),
         released: Some("id,A\n\"x, y\",007.50\n1,0\n2,0\n"),
         printed: "records 3 clean 1 changed 2 unresolved 0 weight 2\n",
     },
