@@ -1,6 +1,0 @@
-pub mod BoundLaws
-pub mod ChangeLaws
-pub mod EndLaws
-pub mod LeastLaws
-pub mod LimitLaws
-pub mod PointLaws
