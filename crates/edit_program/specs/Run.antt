@@ -21,6 +21,10 @@ pub record Seen : Type 0 where
   pub printed : Option (List ℕ)
   pub unprinted : ℕ
 
+-- the same of these parts
+abbrev pub seen : Option Files → Option (List Asked) → ℕ → Option (List ℕ) → ℕ → Seen
+seen files calls faults printed unprinted = record { files = files; calls = calls; faults = faults; printed = printed; unprinted = unprinted }
+
 -- ---- the calls
 
 -- all calls of an edit, in order

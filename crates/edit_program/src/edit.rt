@@ -4,7 +4,7 @@ ghost use Rattle.edit_program.specs.Asked.{ForAsked, IsNoCommand};
 ghost use Rattle.edit_program.specs.Edits.{HasReleased};
 ghost use Rattle.edit_program.specs.Faults.{fault_text};
 ghost use Rattle.edit_program.specs.Readings.{AnswersDue, Refuses};
-ghost use Rattle.edit_program.specs.Run.{AreBytesOf, IsEdited, IsRefused, IsUntold, IsUsage};
+ghost use Rattle.edit_program.specs.Run.{AreBytesOf, IsEdited, IsRefused, IsUntold, IsUsage, seen};
 ghost use Rattle.edit_program.specs.declared.fault.Fault.TheVariants as faults;
 ghost use Rattle.edit_program.specs.inner.Parts.{AreCallsOf, Ends, IsTelling, end_of, faults_after};
 
@@ -31,21 +31,21 @@ pub fn fh_main<D: Desk, P: Printer>(
     // The words are no command.
     ensures usage { (result ≡ Status.Usage) ↔ IsNoCommand words.now }
     ensures unasked { result ≡ Status.Usage → IsUsage
-        (record { files = D.files desk.old; calls = D.calls desk.old; faults = D.faults desk.old; printed = P.printed printer.old; unprinted = P.faults printer.old })
-        (record { files = D.files desk.new; calls = D.calls desk.new; faults = D.faults desk.new; printed = P.printed printer.new; unprinted = P.faults printer.new }) }
+        (seen (D.files desk.old) (D.calls desk.old) (D.faults desk.old) (P.printed printer.old) (P.faults printer.old))
+        (seen (D.files desk.new) (D.calls desk.new) (D.faults desk.new) (P.printed printer.new) (P.faults printer.new)) }
 
     // The release guarantee: what stands in both files, and what was printed, after statuses 0 and 1.
     ensures edited { HasReleased result → ForAsked words.now (λ asked. IsEdited asked result
-        (record { files = D.files desk.old; calls = D.calls desk.old; faults = D.faults desk.old; printed = P.printed printer.old; unprinted = P.faults printer.old })
-        (record { files = D.files desk.new; calls = D.calls desk.new; faults = D.faults desk.new; printed = P.printed printer.new; unprinted = P.faults printer.new })) }
+        (seen (D.files desk.old) (D.calls desk.old) (D.faults desk.old) (P.printed printer.old) (P.faults printer.old))
+        (seen (D.files desk.new) (D.calls desk.new) (D.faults desk.new) (P.printed printer.new) (P.faults printer.new))) }
 
     // After every other status: the fault that ended the run, where it ended, what is left and what was printed.
     ensures refused { ¬ HasReleased result → ForAsked words.now (λ asked. IsRefused asked result
-        (record { files = D.files desk.old; calls = D.calls desk.old; faults = D.faults desk.old; printed = P.printed printer.old; unprinted = P.faults printer.old })
-        (record { files = D.files desk.new; calls = D.calls desk.new; faults = D.faults desk.new; printed = P.printed printer.new; unprinted = P.faults printer.new })
+        (seen (D.files desk.old) (D.calls desk.old) (D.faults desk.old) (P.printed printer.old) (P.faults printer.old))
+        (seen (D.files desk.new) (D.calls desk.new) (D.faults desk.new) (P.printed printer.new) (P.faults printer.new))
         ⊎ ((result ≡ Status.WriteFault) × IsUntold asked
-        (record { files = D.files desk.old; calls = D.calls desk.old; faults = D.faults desk.old; printed = P.printed printer.old; unprinted = P.faults printer.old })
-        (record { files = D.files desk.new; calls = D.calls desk.new; faults = D.faults desk.new; printed = P.printed printer.new; unprinted = P.faults printer.new }))) }
+        (seen (D.files desk.old) (D.calls desk.old) (D.faults desk.old) (P.printed printer.old) (P.faults printer.old))
+        (seen (D.files desk.new) (D.calls desk.new) (D.faults desk.new) (P.printed printer.new) (P.faults printer.new)))) }
 
     // A file that is too long or has no reading is told exactly where it is so.
     ensures due { ForAsked words.now (λ asked. IfSome (D.files desk.old) (λ files. AnswersDue asked files result)) }
