@@ -1,5 +1,6 @@
 -- What the parts of a run, one after the other, do to the desk, and what their answers show of the files that it held.
-use Rattle.std.proofs.Common.{◌≡◌, ◌≢◌, ◌⊎◌, ℕ, ◌≤◌, List, [], ◌∷◌, ◌++◌, Option, Some, None, Result, Ok, Err, IfErr, IfOk, IfSome, length, take, inl, inr, ap, append_assoc, arith, refl, subst, sym, ◌∙◌}
+use Rattle.std.proofs.Common.{◌≡◌, ◌≢◌, ◌⊎◌, ◌+◌, ◌-◌, ◌^◌, ◌<◌, ℕ, ◌≤◌, List, [], ◌∷◌, ◌++◌, Option, Some, None, Result, Ok, Err, IfErr, IfOk, IfSome, length, take, inl, inr, ap, append_assoc, arith, refl, subst, sym, ◌∙◌}
+use Rattle.std.proofs.Math.Nat.{min-eq_left}
 use Rattle.edit_language.specs.Grammar.{IsRuleText}
 use Rattle.edit_language.specs.Reading.{IsFaultOf, IsNoRuleText}
 use Rattle.edit_language.specs.declared.fault.RulesFault.{RulesFault}
@@ -14,7 +15,7 @@ use Rattle.edit_program.specs.Asked.{EditAsked}
 use Rattle.edit_program.specs.Edits.{HasReleased, IsEditOf, Written}
 use Rattle.edit_program.specs.Faults.{fault_status, fault_text, rules_fault, sheet_fault}
 use Rattle.edit_program.specs.Readings.{AnswersDue, AreNoRecords, AreNoRules, HoldsRecords, HoldsRules, HoldsText, IsDue, Refuses, most_bytes}
-use Rattle.edit_program.specs.Run.{AreCallsTo, AreExplained, AreWritten, IsCutOff, IsEdited, IsLeft, IsLinePrinted, IsMade, IsRefused, IsStored, IsUntold, Leaves, Seen, faults_by}
+use Rattle.edit_program.specs.Run.{AreCallsTo, AreExplained, AreWritten, IsComplete, IsCutOff, IsEdited, IsFaultless, IsLeft, IsLinePrinted, IsMade, IsRefused, IsStored, IsUntold, Leaves, Seen, faults_by}
 use Rattle.edit_program.specs.inner.Parts.{AreCallsOf, AreStoresOf, Ends, Fetched, IsFetchOf, IsOfFetch, IsOfRecords, IsOfRules, IsOfStore, IsOfStores, IsStoreOf, IsTelling, RefusesRecords, RefusesRules, StoreBoth, StoresAs, written_in}
 use Rattle.edit_program.specs.declared.fault.Fault.{Fault}
 use Rattle.edit_program.specs.declared.fault.Fault.TheVariants as fault
@@ -507,3 +508,42 @@ module _ (asked found : EditAsked) (same : asked ≡ found) (before after : Seen
     faults = faults;
     printed = printed;
   })
+
+-- ---- a run that meets no fault
+
+-- a count that does not stand at its end rises
+raised-more : (n : ℕ) → n < 2 ^ 64 - 1 → raised n ≡ n → ⊥
+raised-more n room same =
+    let least : raised n ≡ n + 1 = min-eq_left (omega (arith, room)) in
+    omega (arith, least, same)
+
+module _ (found : EditAsked) (before after : Seen) where
+  -- a refusal of files that have readings, without a fault, is want of memory
+  refused-for : (f : Fault) (files : Files) (survey : SurveyParts) (s : SheetParts) → f ≢ fault.Usage → Refuses found files f → after.faults ≡ faults_by f before.faults
+      → HoldsRules files found.names.rules survey → HoldsRecords files found.names.records survey.fields s → IsFaultless before after → fault_status f ≡ status.OutOfMemory
+  refused-for fault.Usage files survey s not why faults hr hs none = absurd (not refl)
+  refused-for (fault.Rules line k) files survey s not why faults hr hs none = absurd (not_unread files found.names.rules survey hr (weaker files found.names.rules (λ bytes no. no.unread) why))
+  refused-for (fault.Records what) files survey s not why faults hr hs none =
+      absurd (not_unread_records files found.names.records survey why.0 s (one_survey files found.names.rules survey why.0 hr why.1) hs (weaker files found.names.records (λ bytes no. no.unread) why.2))
+  refused-for (fault.TooLong name) files survey s not (inl (same, long)) faults hr hs none = absurd (not_longer files found.names.rules hr (subst (λ (n : List ℕ). IsLonger files n most_bytes) same long))
+  refused-for (fault.TooLong name) files survey s not (inr (same, other, held, long)) faults hr hs none = absurd (not_longer files found.names.records hs (subst (λ (n : List ℕ). IsLonger files n most_bytes) same long))
+  refused-for (fault.Read name) files survey s not why faults hr hs none = absurd (raised-more before.faults none.room (sym faults ∙ none.faults))
+  refused-for (fault.Write name) files survey s not why faults hr hs none = absurd (raised-more before.faults none.room (sym faults ∙ none.faults))
+  refused-for fault.OutOfMemory files survey s not why faults hr hs none = refl
+
+  pub refused-complete : (asked : EditAsked) → asked ≡ found → (f : Fault) (answer : Status) → f ≢ fault.Usage → answer ≡ fault_status f → IfSome before.files (λ o. Refuses found o f) → after.faults ≡ faults_by f before.faults → IsComplete asked answer before after
+  refused-complete asked same f answer not is why faults = subst (λ (a : EditAsked). IsComplete a answer before after) (sym same) (by before.files why)
+    where
+      by : (files : Option Files) → IfSome files (λ o. Refuses found o f) → IfSome files (λ o. (survey : SurveyParts) (s : SheetParts) → HoldsRules o found.names.rules survey → HoldsRecords o found.names.records survey.fields s → IsFaultless before after
+          → HasReleased answer ⊎ (answer ≡ status.OutOfMemory))
+      by None why = tt
+      by (Some o) why = λ survey s hr hs none. inr (is ∙ refused-for f o survey s not why faults hr hs none)
+
+  pub told-complete : (asked : EditAsked) (texts : Texts) (answer : Status) → HasReleased texts.status → IsTelling texts.status texts.summary.items answer before.printed after.printed before.unprinted after.unprinted → IsComplete asked answer before after
+  told-complete asked texts answer ended told = by before.files told
+    where
+      by : (files : Option Files) → IsTelling texts.status texts.summary.items answer before.printed after.printed before.unprinted after.unprinted → IfSome files (λ o. (survey : SurveyParts) (s : SheetParts) → HoldsRules o asked.names.rules survey → HoldsRecords o asked.names.records survey.fields s → IsFaultless before after
+          → HasReleased answer ⊎ (answer ≡ status.OutOfMemory))
+      by None told = tt
+      by (Some o) (inl (is, printed, same)) = λ survey s hr hs none. inl (subst HasReleased (sym is) ended)
+      by (Some o) (inr (is, printed, failed)) = λ survey s hr hs none. absurd (raised-more before.unprinted none.place (sym failed ∙ none.unprinted))

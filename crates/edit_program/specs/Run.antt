@@ -1,17 +1,18 @@
 -- What a run of an edit asks of the desk, leaves on it, and prints.
-use Rattle.std.specs.Prelude.{◌≡◌, ◌≢◌, ◌⊎◌, ℕ, List, [], ◌∷◌, ◌++◌, Option, Result, Ok, Err, Some, IfSome, take}
+use Rattle.std.specs.Prelude.{◌≡◌, ◌≢◌, ◌⊎◌, ◌<◌, ◌^◌, ◌-◌, ℕ, List, [], ◌∷◌, ◌++◌, Option, Result, Ok, Err, Some, IfSome, take}
 use Rattle.edit_desk.specs.Desk.{Asked, Files, HoldsPrefix, PutsOnRecord, SameElsewhere, Told, failing, fetched, raised, stored}
 use Rattle.edit_desk.specs.Printer.{Prints, after_line, line_of}
 use Rattle.edit_desk.specs.declared.printer.PrintFailed.{PrintFailed}
 use Rattle.edit_model.specs.Parts.{SurveyParts}
 use Rattle.record_text.specs.Sheets.{SheetParts}
 use Rattle.edit_program.specs.Asked.{EditAsked}
-use Rattle.edit_program.specs.Edits.{IsEditOf, Written}
+use Rattle.edit_program.specs.Edits.{HasReleased, IsEditOf, Written}
 use Rattle.edit_program.specs.Faults.{fault_status, fault_text}
 use Rattle.edit_program.specs.Readings.{HoldsRecords, HoldsRules, Refuses}
 use Rattle.edit_program.specs.declared.fault.Fault.{Fault}
 use Rattle.edit_program.specs.declared.fault.Fault.TheVariants as fault
 use Rattle.edit_program.specs.declared.status.Status.{Status}
+use Rattle.edit_program.specs.declared.status.Status.TheVariants as status
 
 -- what is seen of a desk and of a printer: the files, the calls on record and the printed bytes, where they are told; and how many calls and how many lines failed
 pub record Seen : Type 0 where
@@ -136,3 +137,16 @@ pub record IsUsage (before after : Seen) : Type 0 where
   pub calls : after.calls ≡ before.calls
   pub faults : after.faults ≡ before.faults
   pub printed : IsLinePrinted (fault_text fault.Usage) before after
+
+-- the desk and the printer met no fault, and their counts do not stand at their end
+pub record IsFaultless (before after : Seen) : Type 0 where
+  pub faults : after.faults ≡ before.faults
+  pub room : before.faults < 2 ^ 64 - 1
+  pub unprinted : after.unprinted ≡ before.unprinted
+  pub place : before.unprinted < 2 ^ 64 - 1
+
+-- where both files that the desk held have readings, and no fault is met, the edit is done, but for want of memory
+abbrev pub IsComplete : EditAsked → Status → Seen → Seen → Type 0
+IsComplete asked answer before after = IfSome before.files (λ files. (survey : SurveyParts) (sheet : SheetParts)
+    → HoldsRules files asked.names.rules survey → HoldsRecords files asked.names.records survey.fields sheet → IsFaultless before after
+    → HasReleased answer ⊎ (answer ≡ status.OutOfMemory))

@@ -4,7 +4,7 @@ ghost use Rattle.edit_program.specs.Asked.{ForAsked, IsNoCommand};
 ghost use Rattle.edit_program.specs.Edits.{HasReleased};
 ghost use Rattle.edit_program.specs.Faults.{fault_text};
 ghost use Rattle.edit_program.specs.Readings.{AnswersDue, Refuses};
-ghost use Rattle.edit_program.specs.Run.{AreBytesOf, IsEdited, IsRefused, IsUntold, IsUsage, seen};
+ghost use Rattle.edit_program.specs.Run.{AreBytesOf, IsComplete, IsEdited, IsRefused, IsUntold, IsUsage, seen};
 ghost use Rattle.edit_program.specs.declared.fault.Fault.TheVariants as faults;
 ghost use Rattle.edit_program.specs.inner.Parts.{AreCallsOf, Ends, IsTelling, end_of, faults_after};
 
@@ -46,6 +46,11 @@ pub fn fh_main<D: Desk, P: Printer>(
         ⊎ ((result ≡ Status.WriteFault) × IsUntold asked
         (seen (D.files desk.old) (D.calls desk.old) (D.faults desk.old) (P.printed printer.old) (P.faults printer.old))
         (seen (D.files desk.new) (D.calls desk.new) (D.faults desk.new) (P.printed printer.new) (P.faults printer.new)))) }
+
+    // Where both files have readings and no fault is met, the edit is done, but for want of memory.
+    ensures complete { ForAsked words.now (λ asked. IsComplete asked result
+        (seen (D.files desk.old) (D.calls desk.old) (D.faults desk.old) (P.printed printer.old) (P.faults printer.old))
+        (seen (D.files desk.new) (D.calls desk.new) (D.faults desk.new) (P.printed printer.new) (P.faults printer.new))) }
 
     // A file that is too long or has no reading is told exactly where it is so.
     ensures due { ForAsked words.now (λ asked. IfSome (D.files desk.old) (λ files. AnswersDue asked files result)) }

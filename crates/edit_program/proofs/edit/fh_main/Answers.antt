@@ -1,5 +1,5 @@
-use Rattle.std.proofs.Common.{◌≡◌, ◌∙◌, inl, sym}
-use Rattle.edit_program.proofs.RunLaws.{edited-by, none-due, refused-by, untold-by}
+use Rattle.std.proofs.Common.{Err, ◌≡◌, ◌∙◌, ap, inl, sym}
+use Rattle.edit_program.proofs.RunLaws.{edited-by, none-due, refused-by, refused-complete, told-complete, untold-by}
 use Rattle.edit_program.proofs.edit.fh_main.Goals as goal
 
 pub returns-in_default-clause-refused : goal.returns-in_default-clause-refused
@@ -27,3 +27,13 @@ returns-in-Err-clause-refused g c = λ not asked is.
 
 pub returns-in-Err-clause-due : goal.returns-in-Err-clause-due
 returns-in-Err-clause-due g c = λ asked is. rw (c.in-Some.ensures.only asked is, c.refuse-in-Err.ensures.status ∙ c.status.ensures) c.in-Err.ensures.due
+
+pub returns-in_default-clause-complete : goal.returns-in_default-clause-complete
+returns-in_default-clause-complete g c = λ asked is. absurd (c.in_default.ensures.none asked is)
+
+pub returns-in-Ok-clause-complete : goal.returns-in-Ok-clause-complete
+returns-in-Ok-clause-complete g c = λ asked is. told-complete asked _ _ asked c.in-Ok.texts c.tell.result c.in-Ok.ensures.released c.tell.ensures
+
+pub returns-in-Err-clause-complete : goal.returns-in-Err-clause-complete
+returns-in-Err-clause-complete g c = λ asked is.
+    refused-complete c.in-Some.asked _ _ asked (c.in-Some.ensures.only asked is) c.in-Err.refusal _ (λ usage. c.in-Err.ensures.command (ap Err usage)) (c.refuse-in-Err.ensures.status ∙ c.status.ensures) c.in-Err.ensures.cause c.in-Err.ensures.faults
