@@ -3,3 +3,4 @@ pub mod FieldFaults
 mod PairLaws
 pub mod RunLaws
 pub mod TextLaws
+pub mod WholeLaws

@@ -1,6 +1,7 @@
 pub mod Asked
 pub mod Edits
 pub mod Faults
+pub mod Laws
 pub mod Options
 pub mod Readings
 pub mod Run

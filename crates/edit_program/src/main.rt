@@ -5,6 +5,7 @@
 mod asked;
 pub mod edit;
 mod fault;
+pub mod laws;
 mod options;
 mod reading;
 mod refusal;
