@@ -5,7 +5,7 @@
 # usage: bench/hostile.sh [SEED]      (default: 1)
 #
 # Each run has to end with a status of the README's table, never by a signal, and within a time that grows with
-# the size of the files; where nothing was released, the file under that name has to be as it was. Where the
+# the files and their wrong values; where nothing was released, the file under that name has to be as it was. Where the
 # rules of a file say which status is right, it has to be that one. A line for each group of cases counts them
 # and names the slowest; the first failure is printed with its files, and ends the script with status 1.
 set -eu

@@ -17,6 +17,9 @@ RELEASED = {0, 1}
 SECONDS = 2.0
 SECONDS_A_BYTE = 1 / (4 << 20)
 
+# Each wrong value costs a step of the search and a leaf of the certificate, however few bytes it has.
+SECONDS_A_WRONG_VALUE = 5e-6
+
 # What stands in the files that are written, before a run.
 BEFORE = b"what stood here before\n"
 WRITTEN = ("reasons", "released")
@@ -41,10 +44,10 @@ class Attack:
         seen = " ".join(f"{status}:{count}" for status, count in sorted(self.seen.items()))
         print(f"{self.group}: {self.count} runs, slowest {self.slowest:.2f} s, statuses {seen}", flush=True)
 
-    def words(self, words, expected, size=0):
+    def words(self, words, expected, size=0, wrong_values=0):
         """Runs the program with these words; expected are the statuses that are right."""
         begin = time.perf_counter()
-        allowed = SECONDS + size * SECONDS_A_BYTE
+        allowed = SECONDS + size * SECONDS_A_BYTE + wrong_values * SECONDS_A_WRONG_VALUE
         try:
             run = subprocess.run([self.program, *words], stdout=subprocess.DEVNULL, stderr=subprocess.DEVNULL,
                                  cwd=self.folder, timeout=20 * allowed + 10)
@@ -62,14 +65,14 @@ class Attack:
             raise Failed(f"{self.group}: {seconds:.2f} s for {size} bytes")
         return run.returncode
 
-    def files(self, rules, records, expected):
-        """Runs `edit` on these two files."""
+    def files(self, rules, records, expected, wrong_values=0):
+        """Runs `edit` on these two files; wrong_values is how many of their values have to change."""
         (self.folder / "rules").write_bytes(rules)
         (self.folder / "records").write_bytes(records)
         for name in WRITTEN:
             (self.folder / name).write_bytes(BEFORE)
         words = ["edit", "--rules", "rules", "--records", "records", "--reasons", "reasons", "--released", "released"]
-        status = self.words(words, expected, len(rules) + len(records))
+        status = self.words(words, expected, len(rules) + len(records), wrong_values)
         for name in WRITTEN:
             left = (self.folder / name).read_bytes()
             if (left == BEFORE) == (status in RELEASED):
@@ -179,7 +182,7 @@ def hard_files(attack, examples, dice):
         attack.files(plain, b"A\n" + b"\n" * size, {0, 7})
         attack.files(plain, b"A\n" + b"9" * size + b"\n", {0, 7})
         attack.files(plain, b"\xef\xbb\xbf" * (size // 3) + b"A\n1\n", {0, 4, 7})
-        attack.files(fields, sheet(names_of(64), (b"," * 63 + b"\n") * min(200000, size // 64)), {0, 7})
+    attack.files(fields, sheet(names_of(64), (b"," * 63 + b"\n") * 200000), {0, 7}, wrong_values=200000 * 64)
     attack.end()
 
 
