@@ -1,0 +1,6 @@
+pub mod Places
+pub mod Released
+pub mod Releases
+pub mod RowChecks
+pub mod Shown
+pub mod Texts

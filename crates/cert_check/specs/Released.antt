@@ -1,0 +1,71 @@
+-- What a released row gives of the record that was read.
+use Rattle.std.specs.Prelude.{◌≡◌, ℕ, suc, ◌==◌, ◌&&◌, ◌||◌, Bool, true, false, List, [], ◌∷◌, Some, slice_index_or, ◌*ℤ◌}
+use Rattle.std.specs.List.{AllByRecursion, list_any}
+use Rattle.std.specs.Ordering.{int_eq}
+use Rattle.std.specs.Str.{bytes_eq}
+use Rattle.fraction128.specs.Spelling.{spelling}
+use Rattle.edit_model.specs.Parts.{SurveyParts}
+use Rattle.edit_model.specs.Rows.{is_bad}
+use Rattle.edit_model.specs.Trials.{rule_at}
+use Rattle.edit_model.specs.declared.field.Field.{Field}
+use Rattle.edit_model.specs.declared.field.Kind.{Kind}
+use Rattle.edit_model.specs.declared.field.Kind.TheVariants as kind
+use Rattle.edit_model.specs.declared.rule.Rule.{Rule}
+use Rattle.edit_model.specs.declared.value.Value.{Value}
+use Rattle.edit_model.specs.declared.value.Value.TheVariants.{Code, Number}
+use Rattle.record_text.specs.Values.{code_number}
+
+-- ---- values
+
+-- the text of a value that was given: the canonical spelling of a fraction, or the bytes of a code
+abbrev pub IsGivenText : Kind → List ℕ → Value → Type 0
+IsGivenText (kind.Number scale) text (Number x) = text ≡ spelling x
+IsGivenText (kind.Code codes) text (Code c) = code_number codes text ≡ Some c
+IsGivenText k text v = ⊥
+
+-- whether two values are the same code, or the same number
+abbrev pub is_same : Value → Value → Bool
+is_same (Code a) (Code b) = a == b
+is_same (Number x) (Number y) = int_eq (x.numerator *ℤ y.denominator) (y.numerator *ℤ x.denominator)
+is_same a b = false
+
+-- the value of a field: where it is kept the one that was read, and else another one, by its text
+abbrev pub IsValueOf : Bool → Kind → List ℕ → Value → Value → Type 0
+IsValueOf false k text read v = v ≡ read
+IsValueOf true k text read v = IsGivenText k text v × (is_same v read ≡ false)
+
+-- the same of each field, from number i on
+abbrev pub AreValuesFrom : (ℕ → Bool) → (ℕ → List ℕ) → ℕ → List Field → List Value → List Value → Type 0
+AreValuesFrom changed text i [] [] [] = Unit {0}
+AreValuesFrom changed text i (field ∷ fields) (read ∷ row) (v ∷ new) = IsValueOf (changed i) field.kind (text i) read v × AreValuesFrom changed text (suc i) fields row new
+AreValuesFrom changed text i _ _ _ = ⊥
+
+-- ---- texts
+
+-- the text of a field: that of the column in which it stands
+abbrev pub text_at : List ℕ → List (List ℕ) → ℕ → List ℕ
+text_at columns texts f = slice_index_or texts (slice_index_or columns f 0) []
+
+-- whether a changed field, of those from number i on, stands in the column j
+abbrev pub stands_changed : (ℕ → Bool) → ℕ → List ℕ → ℕ → Bool
+stands_changed changed i [] j = false
+stands_changed changed i (column ∷ columns) j = (changed i && (column == j)) || stands_changed changed (suc i) columns j
+
+-- whether each text, from column j on, is the one that was read, or that of a changed field
+abbrev pub same_from : (ℕ → Bool) → List ℕ → ℕ → List (List ℕ) → List (List ℕ) → Bool
+same_from changed columns j [] [] = true
+same_from changed columns j (read ∷ reads) (text ∷ texts) = (bytes_eq text read || stands_changed changed 0 columns j) && same_from changed columns (suc j) reads texts
+same_from changed columns j _ _ = false
+
+-- ---- a row
+
+-- every rule holds at the record, and no number of its sums leaves the range
+abbrev pub AllHold : List Rule → List Value → Type 0
+AllHold rules row = AllByRecursion (λ (rule : Rule). rule_at rule row ≡ Some true) rules
+
+-- the texts of a row are released for a record of which some fields are changed: these are its values, the fields that are kept have their bytes, and so has each other column; each field has a value, and all rules hold
+pub record IsReleasedAs (survey : SurveyParts) (columns : List ℕ) (changed : ℕ → Bool) (reads : List (List ℕ)) (row : List Value) (texts : List (List ℕ)) (new : List Value) : Type 0 where
+  pub values : AreValuesFrom changed (text_at columns texts) 0 survey.fields row new
+  pub elsewhere : same_from changed columns 0 reads texts ≡ true
+  pub whole : list_any is_bad new ≡ false
+  pub holds : AllHold survey.rules new

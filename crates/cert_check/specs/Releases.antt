@@ -1,0 +1,155 @@
+-- A valid release: a proof file and a released file that are right for rules and records.
+use Rattle.std.specs.Prelude.{◌≡◌, ◌≢◌, ◌⊎◌, ℕ, ◌+◌, ◌==◌, ◌&&◌, nat_le, not, Bool, true, false, if◌then◌else◌, List, [], ◌∷◌, Option, Some, None, is_none, is_some, length, map, option_map, position}
+use Rattle.std.specs.List.{AllByRecursion, filter}
+use Rattle.derivation.specs.declared.step.Step.{Step}
+use Rattle.edit_model.specs.Parts.{SurveyParts}
+use Rattle.edit_model.specs.declared.value.Value.{Value}
+use Rattle.edit_normal.specs.RuleLines.{normal_lines_of}
+use Rattle.record_text.specs.Sheets.{AreRecordsOf, SheetParts}
+use Rattle.record_text.specs.Trimming.{header_of}
+use Rattle.bound_cert.specs.declared.outcome.GiftFault.{GiftFault}
+use Rattle.bound_cert.specs.declared.outcome.Outcome.{Outcome}
+use Rattle.bound_cert.specs.declared.outcome.Outcome.TheVariants.{Budget, Change, Contradictory, Overflow}
+use Rattle.bound_cert.specs.declared.outcome.RowProof.{RowProof}
+use Rattle.proof_grammar.specs.FirstFaults.{IsFirstFault}
+use Rattle.proof_grammar.specs.Limits.{IsPlain}
+use Rattle.proof_grammar.specs.ProofLines.{proof_text, row_lines}
+use Rattle.proof_grammar.specs.declared.proof.Proof.{Proof}
+use Rattle.cert_check.specs.Places.{claims_line, records_line}
+use Rattle.cert_check.specs.RowChecks.{IsRowFault, IsValidRow, RowFiles, RowRules}
+use Rattle.cert_check.specs.declared.fault.Why.{Why}
+use Rattle.cert_check.specs.declared.fault.Why.TheVariants as why
+
+-- what is checked: the rules and the records as they were read, and the bytes of the released file and of the proof
+pub record Audit : Type 0 where
+  pub survey : SurveyParts
+  pub sheet : SheetParts
+  pub released : List ℕ
+  pub proof : List ℕ
+
+-- the same of these parts
+abbrev pub audit_of : SurveyParts → SheetParts → List ℕ → List ℕ → Audit
+audit_of survey sheet released proof = record { survey = survey; sheet = sheet; released = released; proof = proof }
+
+-- ---- the proof file alone
+
+-- the bytes spell the proof
+pub record Spells (bytes : List ℕ) (p : Proof) : Type 0 where
+  pub plain : IsPlain p
+  pub text : bytes ≡ proof_text p
+
+-- a donor may be given 1 to 1,000 times, a record ranks 1 to 64 donors, and a search may take work of 1 to 1,000,000,000
+abbrev pub limits_fit : Proof → Bool
+limits_fit p =
+    (nat_le 1 p.limit && nat_le p.limit 1000) && ((nat_le 1 p.near && nat_le p.near 64) && (nat_le 1 p.budget && nat_le p.budget 1000000000))
+
+-- the first line that does not fit the rules and the records: the limits, the count of the lines of the rules, and the count of the records
+abbrev pub head_fault : Audit → Proof → Option ℕ
+head_fault a p =
+    if not (limits_fit p) then Some 2
+    else if not (length p.verdicts == length (normal_lines_of a.survey)) then Some 3
+    else if not (length p.rows == length a.sheet.rows) then Some (records_line p)
+    else None
+
+-- the first line that says that a line of the rules is dropped; none may be
+abbrev pub dropped_line : Proof → Option ℕ
+dropped_line p = option_map (λ place. 4 + place) (position is_some p.verdicts)
+
+-- ---- the released file
+
+-- whether a record is released: it is clean, or changed and was given values
+abbrev pub is_released : RowProof → Bool
+is_released said = gives said.outcome said.gift
+  where
+    gives : Outcome → Option GiftFault → Bool
+    gives (Change path weight cert) fault = is_none fault
+    gives (Budget path work) fault = false
+    gives (Overflow path event) fault = false
+    gives (Contradictory cert) fault = false
+
+-- the released bytes are, as a record file, the header of the records and these rows, as long as the header: one for each record that is released
+pub record AreReleased (a : Audit) (p : Proof) (rows : List (List (List ℕ))) : Type 0 where
+  pub first : List (List ℕ)
+  pub given : AreRecordsOf a.released (first ∷ rows)
+  pub header : header_of first ≡ a.sheet.header
+  pub long : AllByRecursion (λ (texts : List (List ℕ)). length texts ≡ length a.sheet.header) rows
+  pub one_each : length rows ≡ length (filter is_released p.rows)
+
+-- ---- the records
+
+-- by what the records are checked
+abbrev pub rules_of : Audit → Proof → RowRules
+rules_of a p =
+    record { survey = a.survey; given = normal_lines_of a.survey; usable = map is_none p.verdicts; columns = a.sheet.columns; budget = p.budget }
+
+-- a record, with the next released row if it is released
+abbrev pub files_of : RowProof → List (List ℕ) → List Value → List (List (List ℕ)) → RowFiles
+files_of said reads row [] = record { reads = reads; row = row; texts = None }
+files_of said reads row (texts ∷ released) = record { reads = reads; row = row; texts = if is_released said then Some texts else None }
+
+-- the released rows of the records behind one
+abbrev pub behind : RowProof → List (List (List ℕ)) → List (List (List ℕ))
+behind said [] = []
+behind said (texts ∷ released) = if is_released said then released else texts ∷ released
+
+-- what is said of each record is valid; the released rows are those of the records in order
+abbrev pub AreValidRows : RowRules → List RowProof → List (List (List ℕ)) → List (List Value) → List (List (List ℕ)) → Type 0
+AreValidRows r [] [] [] released = Unit {0}
+AreValidRows r (said ∷ saids) (reads ∷ raws) (row ∷ rows) released = IsValidRow r (files_of said reads row released) said × AreValidRows r saids raws rows (behind said released)
+AreValidRows r _ _ _ released = ⊥
+
+-- what is said of some record is not: of the first such, the fault stands so many lines behind the head of the first record
+abbrev pub IsFaultAmong : RowRules → List RowProof → List (List (List ℕ)) → List (List Value) → List (List (List ℕ)) → ℕ → Why → Type 0
+IsFaultAmong r (said ∷ saids) (reads ∷ raws) (row ∷ rows) released offset why =
+    IsRowFault r (files_of said reads row released) said offset why
+    ⊎ (IsValidRow r (files_of said reads row released) said × ((rest : ℕ) × IsFaultAmong r saids raws rows (behind said released) rest why × (offset ≡ length (row_lines said) + rest)))
+IsFaultAmong r _ _ _ released offset why = ⊥
+
+-- ---- a valid release
+
+-- the proof fits the rules and the records: its limits and counts do, and no line is dropped
+pub record Fits (a : Audit) (p : Proof) : Type 0 where
+  pub spelled : Spells a.proof p
+  pub head : head_fault a p ≡ None
+  pub kept : dropped_line p ≡ None
+
+-- the files are a valid release: the proof fits, the released rows are those that it tells of, what it says of each record is right, and no donor is claimed
+pub record IsValidRelease (a : Audit) : Type 0 where
+  pub proof : Proof
+  pub fits : Fits a proof
+  pub rows : List (List (List ℕ))
+  pub released : AreReleased a proof rows
+  pub each : AreValidRows (rules_of a proof) proof.rows a.sheet.raws a.sheet.rows rows
+  pub claims : proof.claims ≡ []
+
+-- the proof tells of so many released records
+abbrev pub IsReleasedCount : Audit → ℕ → Type 0
+IsReleasedCount a count = (p : Proof) × Spells a.proof p × (count ≡ length (filter is_released p.rows))
+
+-- ---- the first condition that fails, and the line of the proof
+
+-- the bytes spell a proof of which this holds
+abbrev pub OfProof : Audit → (Proof → Type 0) → Type 0
+OfProof a P = (p : Proof) × Spells a.proof p × P p
+
+-- the proof fits, and this holds of it and of the released rows
+abbrev pub OfRows : Audit → (Proof → List (List (List ℕ)) → Type 0) → Type 0
+OfRows a P = (p : Proof) × Fits a p × ((rows : List (List (List ℕ))) × AreReleased a p rows × P p rows)
+
+-- of some record the fault is this
+abbrev pub IsRecordFault : Audit → ℕ → Why → Type 0
+IsRecordFault a line why = OfRows a (λ p rows. (offset : ℕ) × IsFaultAmong (rules_of a p) p.rows a.sheet.raws a.sheet.rows rows offset why × (line ≡ records_line p + 1 + offset))
+
+-- the released rows are not those that the proof tells of
+abbrev pub IsNotReleased : Audit → ℕ → Type 0
+IsNotReleased a line = ((p : Proof) × Fits a p × ((rows : List (List (List ℕ))) → ¬ AreReleased a p rows)) × (line ≡ 0)
+
+-- the files are no valid release; the first condition that fails, in the order of the proof but for the released rows, is told with its line; line 0 is none
+abbrev pub IsFirstFailure : Audit → ℕ → Why → Type 0
+IsFirstFailure a line why.Grammar = IsFirstFault a.proof line
+IsFirstFailure a line why.Head = OfProof a (λ p. head_fault a p ≡ Some line)
+IsFirstFailure a line why.Drop = OfProof a (λ p. (head_fault a p ≡ None) × (dropped_line p ≡ Some line))
+IsFirstFailure a line why.Cert = IsRecordFault a line why.Cert
+IsFirstFailure a line why.RowText = IsNotReleased a line ⊎ IsRecordFault a line why.RowText
+IsFirstFailure a line why.Claims =
+    OfRows a (λ p rows. AreValidRows (rules_of a p) p.rows a.sheet.raws a.sheet.rows rows × (p.claims ≢ []) × (line ≡ claims_line p))

@@ -1,0 +1,31 @@
+ghost use Rattle.std.specs.Prelude.{◌≡◌, ℕ, List, Err, IfOk, OnOk};
+ghost use Rattle.record_text.specs.Sheets.{IsSheet};
+ghost use Rattle.cert_check.specs.Releases.{IsFirstFailure, IsReleasedCount, IsValidRelease, audit_of};
+ghost use Rattle.cert_check.specs.Shown.{Shows};
+ghost use Rattle.cert_check.specs.declared.fault.Why.{Why as Condition};
+
+use crate::fault::{CheckFault, Why};
+use edit_model::Survey;
+use record_text::Sheet;
+use std::alloc::Global;
+
+/// Ok exactly where the bytes of the released file and of the proof are a valid release of the records, which are a
+/// sheet of the rules; it tells how many records are released. Then each released row is a correction of least weight,
+/// whoever wrote the files. Rejected comes with the first condition that fails and its line in the proof. The time is in proportion to the files and to the
+/// rules.
+pub fn check_all(
+    alloc: Global,
+    rules: &Survey,
+    records: &Sheet,
+    released: &[u8],
+    proof: &[u8],
+) -> Result<u32, CheckFault>
+    requires { (bytes : List ℕ) × IsSheet rules.now.fields bytes records.now }
+    ensures valid { OnOk result (IsValidRelease (audit_of rules.now records.now released.now proof.now)) }
+    ensures count { IfOk result (IsReleasedCount (audit_of rules.now records.now released.now proof.now)) }
+    ensures shown { OnOk result (Shows (audit_of rules.now records.now released.now proof.now)) }
+    ensures rejected { (line : ℕ) (why : Condition) → result ≡ Err (CheckFault.Rejected line why) → IsFirstFailure (audit_of rules.now records.now released.now proof.now) line why }
+    ensures invalid { (line : ℕ) (why : Condition) → result ≡ Err (CheckFault.Rejected line why) → ¬ IsValidRelease (audit_of rules.now records.now released.now proof.now) }
+{
+    Err(CheckFault::OutOfMemory)
+}

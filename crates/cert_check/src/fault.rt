@@ -1,0 +1,74 @@
+use foundation::OutOfMemory;
+use std::{error, fmt};
+
+/// Which condition of a valid release fails.
+#[derive(Clone, Copy, Debug, PartialEq, Eq)]
+pub enum Why {
+    /// The bytes are no proof: the line is the first that can't go on.
+    Grammar,
+    /// The limits, or the counts of lines or of records, do not fit the rules and the records.
+    Head,
+    /// A line of the rules is dropped.
+    Drop,
+    /// What is said of a record is not right: its path, its weight, or its tree.
+    Cert,
+    /// The released file is not what the proof tells of. Line 0 is the file as a whole.
+    RowText,
+    /// The claims of donors are not right.
+    Claims,
+}
+
+impl fmt::Display for Why {
+    ghost use Rattle.std.specs.Prelude.{Some};
+    ghost use Rattle.cert_check.specs.Texts.{why_text};
+
+    ghost output = { λ why. Some (why_text why) };
+
+    fn fmt<W: fmt::Write>(&self, f: &mut fmt::Formatter<W>) -> fmt::Result {
+        f.write_str(match self {
+            Why::Grammar => "Grammar",
+            Why::Head => "Head",
+            Why::Drop => "Drop",
+            Why::Cert => "Cert",
+            Why::RowText => "RowText",
+            Why::Claims => "Claims",
+        })
+    }
+}
+
+/// Why files are no valid release.
+#[derive(Clone, Copy, Debug, PartialEq, Eq)]
+pub enum CheckFault {
+    /// The line of the proof file, from 1, at which the first condition fails, and which one it is; line 0 where
+    /// it is the released file as a whole.
+    Rejected { line: u64, why: Why },
+    /// Memory was refused.
+    OutOfMemory,
+}
+
+impl fmt::Display for CheckFault {
+    ghost use Rattle.std.specs.Prelude.{Some};
+    ghost use Rattle.cert_check.specs.Texts.{fault_text};
+
+    ghost output = { λ fault. Some (fault_text fault) };
+
+    fn fmt<W: fmt::Write>(&self, f: &mut fmt::Formatter<W>) -> fmt::Result {
+        match self {
+            CheckFault::Rejected { line, why } => write!(f, "proof line {line} {why}"),
+            CheckFault::OutOfMemory => f.write_str("out of memory"),
+        }
+    }
+}
+
+impl error::Error for CheckFault {}
+
+impl From<OutOfMemory> for CheckFault {
+    ghost use Rattle.std.specs.Prelude.{◌≡◌};
+    ghost use Rattle.cert_check.specs.declared.fault.CheckFault.TheVariants as faults;
+
+    ghost from_gives = { λ _ fault. fault ≡ faults.OutOfMemory };
+
+    fn from(_refused: OutOfMemory) -> Self {
+        CheckFault::OutOfMemory
+    }
+}

@@ -1,0 +1,84 @@
+-- What an edit makes of the records of a survey.
+use Rattle.std.specs.Prelude.{◌≡◌, ⊤, ℕ, zero, suc, Bool, true, List, [], ◌∷◌, Option, Some, None, map}
+use Rattle.std.specs.List.{AllZip}
+use Rattle.derivation.specs.declared.step.Step.{Step}
+use Rattle.edit_line.specs.Lines.{LineParts}
+use Rattle.edit_model.specs.Parts.{SurveyParts}
+use Rattle.edit_model.specs.declared.value.Value.{Value}
+use Rattle.edit_normal.specs.RuleEdits.{rule_edits}
+use Rattle.edit_normal.specs.RuleLines.{normal_lines_of}
+use Rattle.bound_cert.specs.ValidTrees.{IsValidTree, tree_case}
+use Rattle.bound_cert.specs.declared.cert.Cert.{Cert}
+use Rattle.bound_cert.specs.declared.outcome.GiftFault.{GiftFault}
+use Rattle.bound_cert.specs.declared.outcome.Outcome.{Outcome}
+use Rattle.bound_cert.specs.declared.outcome.Outcome.TheVariants.{Budget, Change, Contradictory, Overflow}
+use Rattle.bound_cert.specs.declared.outcome.RowProof.{RowProof}
+use Rattle.record_text.specs.Sheets.{SheetParts}
+use Rattle.proof_grammar.specs.ProofLines.{proof_text}
+use Rattle.proof_grammar.specs.declared.proof.Proof.{Proof}
+use Rattle.cert_check.specs.Releases.{IsValidRelease, audit_of}
+use Rattle.edit_report.specs.Reasons.{reasons_text_of}
+use Rattle.edit_report.specs.Released.{released_text_of}
+use Rattle.edit_report.specs.Summaries.{summary_of}
+use Rattle.edit_report.specs.declared.end.RowEnd.{RowEnd}
+use Rattle.record_workers.specs.Ends.{IsEndOf}
+use Rattle.record_workers.specs.Said.{Says}
+
+-- ---- the proof
+
+-- what the proof says of a record: what was found; a change that weighs nothing is written as one of no fields
+abbrev pub said_of : Outcome → Option GiftFault → RowProof
+said_of (Change path zero cert) None = record { outcome = Change [] zero cert; gift = None }
+said_of outcome gift = record { outcome = outcome; gift = gift }
+
+-- the same of the end of a record
+abbrev pub said : RowEnd → RowProof
+said end = said_of end.proof.outcome end.proof.gift
+
+-- each line of the rules is kept
+abbrev pub all_kept : List LineParts → List (Option (List Step))
+all_kept lines = map (λ (line : LineParts). None) lines
+
+-- the proof of an edit: no donor is given more than once, and none is claimed
+abbrev pub proof_of : SurveyParts → ℕ → List RowEnd → Proof
+proof_of survey budget ends =
+    record { limit = 1; near = 5; budget = budget; verdicts = all_kept (normal_lines_of survey); rows = map said ends; claims = [] }
+
+-- ---- proof trees
+
+-- every line may be used
+abbrev pub all_usable : List LineParts → List Bool
+all_usable lines = map (λ (line : LineParts). true) lines
+
+-- the tree of a record is valid over the lines of the rules, with this weight or with none
+abbrev pub IsTreeOf : SurveyParts → List Value → Option ℕ → Cert → Type 0
+IsTreeOf survey row weight cert = IsValidTree (tree_case survey (normal_lines_of survey) (all_usable (normal_lines_of survey)) row weight) cert.leaves
+
+-- a change is shown by a valid tree of its weight, and a contradiction by one without a weight
+abbrev pub HasTree : SurveyParts → List Value → Outcome → Type 0
+HasTree survey row (Change path weight cert) = IsTreeOf survey row (Some weight) cert
+HasTree survey row (Contradictory cert) = IsTreeOf survey row None cert
+HasTree survey row outcome = ⊤
+
+abbrev pub IsShown : SurveyParts → List Value → RowEnd → Type 0
+IsShown survey row end = HasTree survey row end.proof.outcome
+
+-- ---- the edit
+
+-- what an edit writes and prints: the proof, the reasons file, the released file, and the summary line
+pub record Written : Type 0 where
+  pub proof : List ℕ
+  pub reasons : List ℕ
+  pub released : List ℕ
+  pub summary : List ℕ
+
+-- the edit of a sheet within a budget: what becomes of each record, what this says of it in terms of corrections, and the tree that shows it; what is written and printed of all; and that the files are a valid release
+pub record IsEditOf (survey : SurveyParts) (sheet : SheetParts) (budget : ℕ) (ends : List RowEnd) (written : Written) : Type 0 where
+  pub each : AllZip (IsEndOf survey (rule_edits survey) budget) sheet.rows ends
+  pub say : AllZip (Says survey (rule_edits survey) budget) sheet.rows ends
+  pub shown : AllZip (IsShown survey) sheet.rows ends
+  pub proof : written.proof ≡ proof_text (proof_of survey budget ends)
+  pub reasons : written.reasons ≡ reasons_text_of survey sheet ends
+  pub released : written.released ≡ released_text_of survey sheet ends
+  pub summary : written.summary ≡ summary_of survey ends
+  pub valid : IsValidRelease (audit_of survey sheet written.released written.proof)

@@ -1,0 +1,9 @@
+//! What an edit releases of the records of a sheet: the proof, the reasons file, the released file and the summary
+//! line. Begin with [`edit_sheet`]: what it gives is a valid release, as `cert_check` states it.
+#![tactic(auto)]
+
+mod edit;
+mod release;
+
+pub use edit::edit_sheet;
+pub use release::Release;
