@@ -3,12 +3,15 @@ use Rattle.std.specs.Prelude.{◌≡◌, ℕ, List, [], ◌∷◌, codes, map, s
 use Rattle.std.specs.declared.alloc.Global.{Global}
 use Rattle.edit_program.specs.Options.{AreApart, AreGiven, GivesNumber, Pairs, values_of, words_of}
 
--- the files that an edit names: its rules, its records, what is released of them, and the reasons for that
+-- ---- edit
+
+-- the files that an edit names: its rules, its records, what is released of them, the reasons for that, and the proof
 pub record Names : Type 0 where
   pub rules : List ℕ
   pub records : List ℕ
   pub released : List ℕ
   pub reasons : List ℕ
+  pub proof : List ℕ
 
 -- what an edit is asked for: its files, and the most work that may be spent on one record
 pub record EditAsked : Type 0 where
@@ -17,19 +20,20 @@ pub record EditAsked : Type 0 where
 
 -- the options of an edit
 abbrev pub edit_options : List (List ℕ)
-edit_options = codes "--rules" ∷ codes "--records" ∷ codes "--released" ∷ codes "--reasons" ∷ codes "--budget" ∷ []
+edit_options = codes "--rules" ∷ codes "--records" ∷ codes "--released" ∷ codes "--reasons" ∷ codes "--proof" ∷ codes "--budget" ∷ []
 
--- the names of the four files
+-- the names of the five files
 abbrev pub names_in : Names → List (List ℕ)
-names_in names = names.rules ∷ names.records ∷ names.released ∷ names.reasons ∷ []
+names_in names = names.rules ∷ names.records ∷ names.released ∷ names.reasons ∷ names.proof ∷ []
 
--- the pairs give the options of an edit, each at most once: four that name files, no two of them the same, and a budget from 1 to 1,000,000,000, or 1,000,000
+-- the pairs give the options of an edit, each at most once: five that name files, no two of them the same, and a budget from 1 to 1,000,000,000, or 1,000,000
 pub record GiveEdit (pairs : Pairs) (asked : EditAsked) : Type 0 where
   pub given : AreGiven edit_options pairs
   pub rules : values_of (codes "--rules") pairs ≡ asked.names.rules ∷ []
   pub records : values_of (codes "--records") pairs ≡ asked.names.records ∷ []
   pub released : values_of (codes "--released") pairs ≡ asked.names.released ∷ []
   pub reasons : values_of (codes "--reasons") pairs ≡ asked.names.reasons ∷ []
+  pub proof : values_of (codes "--proof") pairs ≡ asked.names.proof ∷ []
   pub budget : GivesNumber 1000000 1 1000000000 (values_of (codes "--budget") pairs) asked.budget
   pub apart : AreApart (names_in asked.names)
 
@@ -39,10 +43,49 @@ pub record IsEdit (words : List (List ℕ)) (asked : EditAsked) : Type 0 where
   pub form : words ≡ codes "edit" ∷ words_of pairs
   pub options : GiveEdit pairs asked
 
--- the words ask for no edit
-abbrev pub IsNoCommand : List (String Global) → Type 0
-IsNoCommand words = (asked : EditAsked) → ¬ IsEdit (map string_bytes words) asked
+-- ---- check
+
+-- the files that a check names: rules, records, what is released of them, and the proof
+pub record CheckAsked : Type 0 where
+  pub rules : List ℕ
+  pub records : List ℕ
+  pub released : List ℕ
+  pub proof : List ℕ
+
+-- the options of a check
+abbrev pub check_options : List (List ℕ)
+check_options = codes "--rules" ∷ codes "--records" ∷ codes "--released" ∷ codes "--proof" ∷ []
+
+-- the names of the four files
+abbrev pub checked_in : CheckAsked → List (List ℕ)
+checked_in asked = asked.rules ∷ asked.records ∷ asked.released ∷ asked.proof ∷ []
+
+-- the pairs give the options of a check, each once: four that name files, no two of them the same
+pub record GiveCheck (pairs : Pairs) (asked : CheckAsked) : Type 0 where
+  pub given : AreGiven check_options pairs
+  pub rules : values_of (codes "--rules") pairs ≡ asked.rules ∷ []
+  pub records : values_of (codes "--records") pairs ≡ asked.records ∷ []
+  pub released : values_of (codes "--released") pairs ≡ asked.released ∷ []
+  pub proof : values_of (codes "--proof") pairs ≡ asked.proof ∷ []
+  pub apart : AreApart (checked_in asked)
+
+-- the words ask for a check: the command, and behind it pairs that give its options, in any order
+pub record IsCheck (words : List (List ℕ)) (asked : CheckAsked) : Type 0 where
+  pub pairs : Pairs
+  pub form : words ≡ codes "check" ∷ words_of pairs
+  pub options : GiveCheck pairs asked
+
+-- ---- any words
+
+-- the words ask for no edit and for no check
+pub record IsNoCommand (words : List (String Global)) : Type 0 where
+  pub no_edit : (asked : EditAsked) → ¬ IsEdit (map string_bytes words) asked
+  pub no_check : (asked : CheckAsked) → ¬ IsCheck (map string_bytes words) asked
 
 -- whatever edit the words ask for, the claim holds of it
-abbrev pub ForAsked : List (String Global) → (EditAsked → Type 0) → Type 0
-ForAsked words P = (asked : EditAsked) → IsEdit (map string_bytes words) asked → P asked
+abbrev pub ForEdit : List (String Global) → (EditAsked → Type 0) → Type 0
+ForEdit words P = (asked : EditAsked) → IsEdit (map string_bytes words) asked → P asked
+
+-- the same of a check
+abbrev pub ForCheck : List (String Global) → (CheckAsked → Type 0) → Type 0
+ForCheck words P = (asked : CheckAsked) → IsCheck (map string_bytes words) asked → P asked

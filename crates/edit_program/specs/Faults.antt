@@ -1,18 +1,17 @@
 -- Why a run is refused: what each refusal ends it with, what is printed of it, and what each error of a call below is refused as.
 use Rattle.std.specs.Prelude.{⊤, ℕ, ◌+◌, ◌++◌, ◌<◌, List, codes, length, map, slice_index_or, []}
 use Rattle.std.specs.Fmt.{decimal}
-use Rattle.edit_desk.specs.declared.calls.FetchError.{FetchError}
-use Rattle.edit_desk.specs.declared.calls.FetchError.TheVariants as fetch
-use Rattle.edit_desk.specs.declared.calls.StoreError.{StoreError}
-use Rattle.edit_desk.specs.declared.calls.StoreError.TheVariants as store
 use Rattle.edit_language.specs.Faults.{kind_name, kind_number}
 use Rattle.edit_language.specs.declared.fault.RulesFault.{RulesFault}
 use Rattle.edit_language.specs.declared.fault.RulesFault.TheVariants as rules
 use Rattle.edit_model.specs.declared.field.Field.{Field}
 use Rattle.record_text.specs.declared.fault.SheetFault.{SheetFault}
 use Rattle.record_text.specs.declared.fault.SheetFault.TheVariants as sheet
+use Rattle.cert_check.specs.Texts.{why_text}
+use Rattle.cert_check.specs.declared.fault.CheckFault.{CheckFault}
+use Rattle.cert_check.specs.declared.fault.CheckFault.TheVariants as check
 use Rattle.edit_program.specs.declared.fault.Fault.{Fault}
-use Rattle.edit_program.specs.declared.fault.Fault.TheVariants.{Usage, Rules, Records, Read, Write, TooLong, OutOfMemory}
+use Rattle.edit_program.specs.declared.fault.Fault.TheVariants.{Usage, Rules, Records, Read, Write, TooLong, Rejected, OutOfMemory}
 use Rattle.edit_program.specs.declared.fault.RecordsFault.{RecordsFault}
 use Rattle.edit_program.specs.declared.fault.RecordsFault.TheVariants as records
 use Rattle.edit_program.specs.declared.status.Status.{Status}
@@ -26,6 +25,7 @@ fault_status (Records fault) = status.Records
 fault_status (Read name) = status.ReadFault
 fault_status (Write name) = status.WriteFault
 fault_status (TooLong name) = status.TooLong
+fault_status (Rejected line why) = status.Rejected
 fault_status OutOfMemory = status.OutOfMemory
 
 -- what is wrong with the records: the kind's number and name, and the field by its name, or the row, counted from 1
@@ -45,23 +45,18 @@ fault_text (Records fault) = codes "fault: records " ++ records_text fault
 fault_text (Read name) = codes "fault: read " ++ name
 fault_text (Write name) = codes "fault: write " ++ name
 fault_text (TooLong name) = codes "fault: too long " ++ name
+fault_text (Rejected line why) = codes "fault: proof line " ++ (decimal line ++ (codes " " ++ why_text why))
 fault_text OutOfMemory = codes "fault: out of memory"
-
--- the refusal for a fetch from this file that gave no bytes
-abbrev pub fetch_fault : List ℕ → FetchError → Fault
-fetch_fault name fetch.Failed = Read name
-fetch_fault name (fetch.TooLong taken) = TooLong name
-fetch_fault name fetch.OutOfMemory = OutOfMemory
-
--- the refusal for a store to this file that did not put all the bytes
-abbrev pub store_fault : List ℕ → StoreError → Fault
-store_fault name store.Failed = Write name
-store_fault name store.OutOfMemory = OutOfMemory
 
 -- the refusal for rules that were not read
 abbrev pub rules_fault : RulesFault → Fault
 rules_fault (rules.At line kind) = Rules line kind
 rules_fault rules.OutOfMemory = OutOfMemory
+
+-- the refusal for files that are no valid release
+abbrev pub check_fault : CheckFault → Fault
+check_fault (check.Rejected line why) = Rejected line why
+check_fault check.OutOfMemory = OutOfMemory
 
 -- the name of the field of this number, from 0
 abbrev pub name_of : List Field → ℕ → List ℕ

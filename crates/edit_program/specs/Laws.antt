@@ -13,7 +13,8 @@ use Rattle.edit_paths.specs.Cases.{case_of}
 use Rattle.edit_paths.specs.Outcomes.{outcome_of, total_work}
 use Rattle.record_text.specs.Sheets.{SheetParts}
 use Rattle.record_workers.specs.Ends.{StopsGiving}
-use Rattle.edit_program.specs.Edits.{IsEditOf, Written}
+use Rattle.edit_release.specs.Edits.{Written}
+use Rattle.edit_program.specs.Edits.{IsEditWith}
 use Rattle.edit_program.specs.declared.status.Status.{Status}
 use Rattle.edit_program.specs.declared.status.Status.TheVariants.{Done}
 
@@ -25,5 +26,5 @@ pub record IsInReach (survey : SurveyParts) (budget : ℕ) (row : List Value) : 
 
 -- where some point is consistent, and nothing stands in the way of any record, the edit ends with all records released
 abbrev pub WholeLaw : Type 0
-WholeLaw = (survey : SurveyParts) (sheet : SheetParts) (budget : ℕ) (answer : Status) (written : Written) (p : Point) → IsEditOf survey sheet budget answer written
+WholeLaw = (survey : SurveyParts) (sheet : SheetParts) (budget : ℕ) (answer : Status) (written : Written) (p : Point) → IsEditWith survey sheet budget answer written
     → IsCorrection survey p → AllByRecursion (IsInReach survey budget) sheet.rows → answer ≡ Done

@@ -1,4 +1,6 @@
 pub mod Asked
+pub mod CheckRun
+pub mod EditRun
 pub mod Edits
 pub mod Faults
 pub mod Laws

@@ -7,7 +7,8 @@ use Rattle.edit_model.specs.Parts.{SurveyParts}
 use Rattle.edit_model.specs.declared.field.Field.{Field}
 use Rattle.record_text.specs.Sheets.{IsSheet, IsSheetFault, SheetParts}
 use Rattle.record_text.specs.declared.fault.SheetFault.{SheetFault}
-use Rattle.edit_program.specs.Asked.{EditAsked}
+use Rattle.cert_check.specs.Releases.{Audit, IsFirstFailure, IsValidRelease}
+use Rattle.edit_program.specs.Asked.{CheckAsked, EditAsked}
 use Rattle.edit_program.specs.Faults.{sheet_fault}
 use Rattle.edit_program.specs.declared.fault.Fault.{Fault}
 use Rattle.edit_program.specs.declared.fault.Fault.TheVariants as fault
@@ -15,16 +16,24 @@ use Rattle.edit_program.specs.declared.fault.RecordsFault.{RecordsFault}
 use Rattle.edit_program.specs.declared.status.Status.{Status}
 use Rattle.edit_program.specs.declared.status.Status.TheVariants as status
 
--- the most bytes of a rule file, and of a record file
+-- the most bytes of a file of rules or records, and of a released file
 abbrev pub most_bytes : ℕ
 most_bytes = 67108864
 
--- a file of that name stands on the desk, within the limit, and its bytes meet the claim
-pub record HoldsText (files : Files) (name : List ℕ) (P : List ℕ → Type 0) : Type 0 where
+-- the most bytes of a proof
+abbrev pub most_proof_bytes : ℕ
+most_proof_bytes = 536870912
+
+-- a file of that name stands on the desk, within a limit, and its bytes meet the claim
+pub record HoldsWithin (files : Files) (name : List ℕ) (most : ℕ) (P : List ℕ → Type 0) : Type 0 where
   pub bytes : List ℕ
   pub held : files name ≡ Some bytes
-  pub short : length bytes ≤ most_bytes
+  pub short : length bytes ≤ most
   pub claim : P bytes
+
+-- the same within the limit of all files but a proof
+abbrev pub HoldsText : Files → List ℕ → (List ℕ → Type 0) → Type 0
+HoldsText files name P = HoldsWithin files name most_bytes P
 
 -- ---- readings
 
@@ -41,6 +50,17 @@ HoldsRules files name survey = HoldsText files name (λ bytes. ReadsAs bytes sur
 abbrev pub HoldsRecords : Files → List ℕ → List Field → SheetParts → Type 0
 HoldsRecords files name fields sheet = HoldsText files name (λ bytes. IsSheet fields bytes sheet)
 
+-- the file has just these bytes
+abbrev pub HoldsBytes : Files → List ℕ → ℕ → List ℕ → Type 0
+HoldsBytes files name most bytes = HoldsWithin files name most (λ held. held ≡ bytes)
+
+-- the files of a check are there: rules and records that read as these, and the bytes of a released file and of a proof
+pub record HoldsRelease (files : Files) (asked : CheckAsked) (audit : Audit) : Type 0 where
+  pub rules : HoldsRules files asked.rules audit.survey
+  pub records : HoldsRecords files asked.records audit.survey.fields audit.sheet
+  pub released : HoldsBytes files asked.released most_bytes audit.released
+  pub proof : HoldsBytes files asked.proof most_proof_bytes audit.proof
+
 -- ---- refusals
 
 -- the bytes are no rules: they read as no survey, and this is their first fault
@@ -55,20 +75,52 @@ pub record AreNoRecords (fields : List Field) (what : RecordsFault) (bytes : Lis
   pub first : IsSheetFault fields bytes found
   pub told : sheet_fault fields found ≡ fault.Records what
 
--- why the files that the desk held are refused; a file that could not be read or written, and want of memory, say nothing of them
-abbrev pub Refuses : EditAsked → Files → Fault → Type 0
-Refuses asked files (fault.Rules line kind) = HoldsText files asked.names.rules (AreNoRules line kind)
-Refuses asked files (fault.Records what) = (survey : SurveyParts) × HoldsRules files asked.names.rules survey × HoldsText files asked.names.records (AreNoRecords survey.fields what)
-Refuses asked files (fault.TooLong name) = ((name ≡ asked.names.rules) × IsLonger files name most_bytes) ⊎ ((name ≡ asked.names.records) × (survey : SurveyParts) × HoldsRules files asked.names.rules survey × IsLonger files name most_bytes)
-Refuses asked files fault = ⊤
+-- some survey and some sheet are read from files of these names, and the claim holds of them
+abbrev pub WithSheet : Files → List ℕ → List ℕ → (SurveyParts → SheetParts → Type 0) → Type 0
+WithSheet files rules records P = (survey : SurveyParts) × HoldsRules files rules survey × ((sheet : SheetParts) × HoldsRecords files records survey.fields sheet × P survey sheet)
 
--- the files that the desk held are to be refused with this status: a file is too long, or has no reading
+-- why the rules and the records, in files of these names, are refused; a file that could not be read or written, and want of memory, say nothing of them
+abbrev pub RefusesInput : List ℕ → List ℕ → Files → Fault → Type 0
+RefusesInput rules records files (fault.Rules line kind) = HoldsText files rules (AreNoRules line kind)
+RefusesInput rules records files (fault.Records what) = (survey : SurveyParts) × HoldsRules files rules survey × HoldsText files records (AreNoRecords survey.fields what)
+RefusesInput rules records files (fault.TooLong name) = ((name ≡ rules) × IsLonger files name most_bytes) ⊎ ((name ≡ records) × (survey : SurveyParts) × HoldsRules files rules survey × IsLonger files name most_bytes)
+RefusesInput rules records files fault = ⊤
+
+-- why the files of an edit are refused
+abbrev pub Refuses : EditAsked → Files → Fault → Type 0
+Refuses asked files fault = RefusesInput asked.names.rules asked.names.records files fault
+
+-- a released file, or a proof, behind rules and records that were read, is too long
+abbrev pub IsTooLong : CheckAsked → Files → List ℕ → Type 0
+IsTooLong asked files name = WithSheet files asked.rules asked.records (λ survey sheet.
+    ((name ≡ asked.released) × IsLonger files name most_bytes)
+    ⊎ ((name ≡ asked.proof) × (bytes : List ℕ) × HoldsBytes files asked.released most_bytes bytes × IsLonger files name most_proof_bytes))
+
+-- why the files of a check are refused: the rules or the records are, or another file is too long, or they are no valid release
+abbrev pub RefusesCheck : CheckAsked → Files → Fault → Type 0
+RefusesCheck asked files (fault.TooLong name) = RefusesInput asked.rules asked.records files (fault.TooLong name) ⊎ IsTooLong asked files name
+RefusesCheck asked files (fault.Rejected line why) = (audit : Audit) × HoldsRelease files asked audit × ¬ IsValidRelease audit × IsFirstFailure audit line why
+RefusesCheck asked files fault = RefusesInput asked.rules asked.records files fault
+
+-- ---- what is due
+
+-- the rules and the records are to be refused with this status: a file is too long, or has no reading
+abbrev pub IsInputDue : List ℕ → List ℕ → Files → Status → Type 0
+IsInputDue rules records files status.TooLong = IsLonger files rules most_bytes ⊎ ((survey : SurveyParts) × HoldsRules files rules survey × IsLonger files records most_bytes)
+IsInputDue rules records files status.Rules = HoldsText files rules (λ bytes. (survey : SurveyParts) → ¬ IsRuleText bytes survey)
+IsInputDue rules records files status.Records = (survey : SurveyParts) × HoldsRules files rules survey × HoldsText files records (λ bytes. (sheet : SheetParts) → ¬ IsSheet survey.fields bytes sheet)
+IsInputDue rules records files answer = ⊥
+
+-- the files of an edit are
 abbrev pub IsDue : EditAsked → Files → Status → Type 0
-IsDue asked files status.TooLong = IsLonger files asked.names.rules most_bytes ⊎ ((survey : SurveyParts) × HoldsRules files asked.names.rules survey × IsLonger files asked.names.records most_bytes)
-IsDue asked files status.Rules = HoldsText files asked.names.rules (λ bytes. (survey : SurveyParts) → ¬ IsRuleText bytes survey)
-IsDue asked files status.Records = (survey : SurveyParts) × HoldsRules files asked.names.rules survey × HoldsText files asked.names.records (λ bytes. (sheet : SheetParts) → ¬ IsSheet survey.fields bytes sheet)
-IsDue asked files answer = ⊥
+IsDue asked files answer = IsInputDue asked.names.rules asked.names.records files answer
+
+-- the files of a check are, with this status: as for an edit, or another file is too long, or they are no valid release
+abbrev pub IsCheckDue : CheckAsked → Files → Status → Type 0
+IsCheckDue asked files status.TooLong = IsInputDue asked.rules asked.records files status.TooLong ⊎ ((name : List ℕ) × IsTooLong asked files name)
+IsCheckDue asked files status.Rejected = (audit : Audit) × HoldsRelease files asked audit × ¬ IsValidRelease audit
+IsCheckDue asked files answer = IsInputDue asked.rules asked.records files answer
 
 -- a status that is due is answered, unless a file could not be read or memory was refused
-abbrev pub AnswersDue : EditAsked → Files → Status → Type 0
-AnswersDue asked files answer = (s : Status) → IsDue asked files s → (answer ≡ s) ⊎ ((answer ≡ status.ReadFault) ⊎ (answer ≡ status.OutOfMemory))
+abbrev pub AnswersDue : (Status → Type 0) → Status → Type 0
+AnswersDue Due answer = (s : Status) → Due s → (answer ≡ s) ⊎ ((answer ≡ status.ReadFault) ⊎ (answer ≡ status.OutOfMemory))

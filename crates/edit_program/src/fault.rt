@@ -1,9 +1,9 @@
 ghost use Rattle.std.specs.Prelude.{◌≡◌, ◌<◌, ◌++◌, IfOk, length};
 ghost use Rattle.edit_program.specs.declared.fault.Fault.TheVariants as faults;
-ghost use Rattle.edit_program.specs.Faults.{IsOfFields, fault_status, fault_text, fetch_fault, name_of, records_text, rules_fault, sheet_fault, store_fault};
+ghost use Rattle.edit_program.specs.Faults.{IsOfFields, fault_status, fault_text, name_of, records_text, rules_fault, sheet_fault};
 
 use crate::status::Status;
-use edit_desk::{FetchError, StoreError};
+use cert_check::{CheckFault, Why};
 use edit_language::{RulesFault, RulesKind};
 use edit_model::{Field, Name};
 use foundation::OutOfMemory;
@@ -79,34 +79,13 @@ pub enum Fault<'a> {
     Write { name: FileName<'a> },
     /// The file has more bytes than its limit.
     TooLong { name: FileName<'a> },
+    /// The files are no valid release: the line of the proof, from 1 or 0 for none, and which condition fails.
+    Rejected { line: u64, why: Why },
     /// Memory was refused.
     OutOfMemory,
 }
 
 impl<'a> Fault<'a> {
-    /// The refusal for a fetch from the file of this name that gave no bytes.
-    pub fn of_fetch(name: &'a str, error: FetchError) -> Self
-        ensures { result ≡ fetch_fault name.now error }
-    {
-        let name = FileName::new(name);
-        match error {
-            FetchError::Failed => Fault::Read { name },
-            FetchError::TooLong { .. } => Fault::TooLong { name },
-            FetchError::OutOfMemory => Fault::OutOfMemory,
-        }
-    }
-
-    /// The refusal for a store to the file of this name that did not put all the bytes.
-    pub fn of_store(name: &'a str, error: StoreError) -> Self
-        ensures { result ≡ store_fault name.now error }
-    {
-        let name = FileName::new(name);
-        match error {
-            StoreError::Failed => Fault::Write { name },
-            StoreError::OutOfMemory => Fault::OutOfMemory,
-        }
-    }
-
     /// The refusal for records of these fields that were not read.
     pub fn of_records(fields: &[Field], fault: SheetFault) -> Self
         requires { IsOfFields fields.now fault }
@@ -139,6 +118,7 @@ impl<'a> Fault<'a> {
             Fault::Read { .. } => Status::ReadFault,
             Fault::Write { .. } => Status::WriteFault,
             Fault::TooLong { .. } => Status::TooLong,
+            Fault::Rejected { .. } => Status::Rejected,
             Fault::OutOfMemory => Status::OutOfMemory,
         }
     }
@@ -154,19 +134,9 @@ impl<'a> Fault<'a> {
             Fault::Read { name } => joined(alloc, b"fault: read ", name.as_bytes()),
             Fault::Write { name } => joined(alloc, b"fault: write ", name.as_bytes()),
             Fault::TooLong { name } => joined(alloc, b"fault: too long ", name.as_bytes()),
+            Fault::Rejected { line, why } => rejected_line(alloc, *line, *why),
             Fault::OutOfMemory => Ok(OUT_OF_MEMORY.to_vec(alloc)?),
         }
-    }
-}
-
-impl From<OutOfMemory> for Fault<'_> {
-    ghost use Rattle.std.specs.Prelude.{◌≡◌};
-    ghost use Rattle.edit_program.specs.declared.fault.Fault.TheVariants as faults;
-
-    ghost from_gives = { λ _ fault. fault ≡ faults.OutOfMemory };
-
-    fn from(_refused: OutOfMemory) -> Self {
-        Fault::OutOfMemory
     }
 }
 
@@ -180,6 +150,20 @@ impl From<RulesFault> for Fault<'_> {
         match error {
             RulesFault::At { line, kind } => Fault::Rules { line, kind },
             RulesFault::OutOfMemory => Fault::OutOfMemory,
+        }
+    }
+}
+
+impl From<CheckFault> for Fault<'_> {
+    ghost use Rattle.std.specs.Prelude.{◌≡◌};
+    ghost use Rattle.edit_program.specs.Faults.{check_fault};
+
+    ghost from_gives = { λ error fault. fault ≡ check_fault error };
+
+    fn from(error: CheckFault) -> Self {
+        match error {
+            CheckFault::Rejected { line, why } => Fault::Rejected { line, why },
+            CheckFault::OutOfMemory => Fault::OutOfMemory,
         }
     }
 }
@@ -219,6 +203,13 @@ fn rules_line(alloc: Global, line: u32, kind: RulesKind) -> Result<Vec<u8>, OutO
 {
     let fault = RulesFault::At { line, kind };
     Ok(format!(in alloc; "fault: rules {fault}")?.into_bytes())
+}
+
+// The line that is printed of files that are no valid release.
+fn rejected_line(alloc: Global, line: u64, why: Why) -> Result<Vec<u8>, OutOfMemory>
+    ensures { IfOk result (λ text. text.items ≡ fault_text (faults.Rejected line why)) }
+{
+    Ok(format!(in alloc; "fault: proof line {line} {why}")?.into_bytes())
 }
 
 // A copy of the name of the field of this number, from 0.

@@ -1,19 +1,22 @@
-//! The program: it reads the words of the command line, fetches the files that they name, edits the
-//! records, stores the results and prints a line. Begin with [`edit::fh_main`].
+//! The program: it reads the words of the command line, fetches the files that they name, and edits the records or
+//! checks what was released of them. Begin with [`run::fh_main`].
 #![tactic(auto)]
 
-mod asked;
-pub mod edit;
+mod check_asked;
+mod check_run;
+mod edit_asked;
+mod edit_run;
 mod fault;
 pub mod laws;
 mod options;
 mod reading;
 mod refusal;
+pub mod run;
 pub mod status;
 mod storing;
+pub mod telling;
 #[cfg(test)]
 mod tests;
-mod texts;
 mod words;
 
 use edit_desk::{FileDesk, OutPrinter};
@@ -27,8 +30,8 @@ fn main(rt: HostRuntime) -> ExitCode {
     };
     let mut printer = OutPrinter::new(out);
     let status = match words::after_program_name(&rt) {
-        Ok(words) => edit::fh_main(alloc, &words, &mut FileDesk::new(rt), &mut printer),
-        Err(status) => edit::refuse_words(&mut printer, status),
+        Ok(words) => run::fh_main(alloc, &words, &mut FileDesk::new(rt), &mut printer),
+        Err(status) => telling::refuse_words(&mut printer, status),
     };
     ExitCode::from(status.number())
 }

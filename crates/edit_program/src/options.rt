@@ -1,5 +1,5 @@
 ghost use Rattle.std.specs.Prelude.{◌≡◌, ◌≢◌, ◌↔◌, ◌+◌, ◌*◌, ◌≤◌, ◌<◌, ◌++◌, ◌∷◌, [], ℕ, List, IfSome, IfNone, IsTrue, length, map, string_bytes, slice_index_or, option_copied};
-ghost use Rattle.std.specs.List.{list_any};
+ghost use Rattle.std.specs.List.{AllByRecursion, list_any};
 ghost use Rattle.std.specs.Option.{option_to_list};
 ghost use Rattle.std.specs.Str.{bytes_eq};
 ghost use Rattle.edit_program.specs.Options.{AreGiven, GivesNumber, IsNumberText, IsValue, values_of};
@@ -130,4 +130,11 @@ fn number_of(text: &str) -> Option<u64>
         Ok(number) => Some(number),
         Err(_) => None,
     }
+}
+
+/// Whether the name is none of the others. No memory.
+pub(crate) fn differs_from(name: &str, others: &[&str]) -> bool
+    ensures { IsTrue result ↔ AllByRecursion (λ other. name.now ≢ other.now) others.now }
+{
+    others.iter().all(|other| name != *other)
 }

@@ -1,10 +1,10 @@
 //! The files of a run as they are fetched and read.
-ghost use Rattle.std.specs.Prelude.{◌≡◌, ◌≤◌, ℕ, List, IfErr, IfOk, IfSome, length};
-ghost use Rattle.edit_desk.specs.Desk.{PutsOnRecord};
+ghost use Rattle.std.specs.Prelude.{◌≡◌, ◌≤◌, ◌∷◌, [], ℕ, List, IfErr, IfOk, IfSome, length};
+ghost use Rattle.edit_desk.specs.Desk.{PutsOnRecord, fetched};
 ghost use Rattle.edit_model.specs.Surveys.{IsWellFormed};
+ghost use Rattle.edit_program.specs.Readings.{HoldsBytes, HoldsRecords, HoldsRules, most_bytes, most_proof_bytes};
 ghost use Rattle.edit_program.specs.declared.fault.Fault.TheVariants as faults;
-ghost use Rattle.edit_program.specs.Readings.{HoldsRecords, HoldsRules, most_bytes};
-ghost use Rattle.edit_program.specs.inner.Parts.{Fetched, IsFetchOf, IsOfFetch, IsOfRecords, IsOfRules, RefusesLong, RefusesRecords, RefusesRules, faults_after};
+ghost use Rattle.edit_program.specs.inner.Parts.{AreCallsOf, IsOfFetch, IsOfRecords, IsOfRules, RefusesLong, RefusesRecords, RefusesRules, faults_after};
 ghost use Rattle.record_text.specs.Sheets.{IsSheet};
 
 use crate::fault::{Fault, FileName};
@@ -16,8 +16,11 @@ use foundation::OutOfMemory;
 use record_text::{Sheet, read_records};
 use std::alloc::Global;
 
-/// The most bytes of a rule file, and of a record file: 64 MiB.
+/// The most bytes of a file of rules or records, and of a released file: 64 MiB.
 const MOST_BYTES: u64 = 67_108_864;
+
+/// The most bytes of a proof: 512 MiB.
+const MOST_PROOF_BYTES: u64 = 536_870_912;
 
 /// The survey that the rule file reads as.
 pub(crate) fn fetch_survey<'a, D: Desk>(
@@ -29,14 +32,11 @@ pub(crate) fn fetch_survey<'a, D: Desk>(
     ensures well_formed { IfOk result (λ survey. IsWellFormed survey) }
     ensures kind { IfErr result (IsOfRules name.now) }
     ensures cause { IfErr result (λ fault. IfSome (D.files desk.old) (λ files. RefusesRules name.now files fault)) }
-    ensures asked { PutsOnRecord (D.calls desk.old) (D.calls desk.new) (IsFetchOf name.now result) }
+    ensures asked { PutsOnRecord (D.calls desk.old) (D.calls desk.new) (AreCallsOf (fetched name.now ∷ []) result) }
     ensures faults { D.faults desk.new ≡ faults_after result (D.faults desk.old) }
     ensures unchanged { D.files desk.new ≡ D.files desk.old }
 {
-    let bytes = match fetch_file(alloc, name, desk) {
-        Ok(bytes) => bytes,
-        Err(refusal) => return Err(refusal),
-    };
+    let bytes = fetch_file(alloc, name, MOST_BYTES, desk)?;
     match read_rules(alloc, &bytes) {
         Ok(survey) => Ok(survey),
         Err(fault) => Err(Refusal::of(alloc, Fault::from(fault))),
@@ -54,38 +54,68 @@ pub(crate) fn fetch_sheet<'a, D: Desk>(
     ensures sheet { IfOk result (λ sheet. (bytes : List ℕ) × IsSheet survey.now.fields bytes sheet) }
     ensures kind { IfErr result (IsOfRecords name.now) }
     ensures cause { IfErr result (λ fault. IfSome (D.files desk.old) (λ files. RefusesRecords name.now survey.now.fields files fault)) }
-    ensures asked { PutsOnRecord (D.calls desk.old) (D.calls desk.new) (IsFetchOf name.now result) }
+    ensures asked { PutsOnRecord (D.calls desk.old) (D.calls desk.new) (AreCallsOf (fetched name.now ∷ []) result) }
     ensures faults { D.faults desk.new ≡ faults_after result (D.faults desk.old) }
     ensures unchanged { D.files desk.new ≡ D.files desk.old }
 {
-    let bytes = match fetch_file(alloc, name, desk) {
-        Ok(bytes) => bytes,
-        Err(refusal) => return Err(refusal),
-    };
+    let bytes = fetch_file(alloc, name, MOST_BYTES, desk)?;
     match read_records(alloc, survey, &bytes) {
         Ok(sheet) => Ok(sheet),
         Err(fault) => Err(Refusal::of(alloc, Fault::of_records(survey.fields(), fault))),
     }
 }
 
-// The bytes of a file, within the limit.
-fn fetch_file<'a, D: Desk>(
+/// The bytes of a released file.
+pub(crate) fn fetch_released<'a, D: Desk>(
     alloc: Global,
     name: &'a str,
     desk: &mut D,
 ) -> Result<Vec<u8>, Refusal<'a>>
-    ensures bytes { IfOk result (λ bytes. IfSome (D.files desk.old) (Fetched name.now bytes.items)) }
-    ensures short { IfOk result (λ bytes. length bytes.items ≤ most_bytes) }
+    ensures bytes { IfOk result (λ bytes. IfSome (D.files desk.old) (λ files. HoldsBytes files name.now most_bytes bytes.items)) }
     ensures kind { IfErr result (IsOfFetch name.now) }
-    ensures cause { IfErr result (λ fault. IfSome (D.files desk.old) (λ files. RefusesLong files fault)) }
-    ensures asked { PutsOnRecord (D.calls desk.old) (D.calls desk.new) (IsFetchOf name.now result) }
+    ensures cause { IfErr result (λ fault. IfSome (D.files desk.old) (λ files. RefusesLong most_bytes files fault)) }
+    ensures asked { PutsOnRecord (D.calls desk.old) (D.calls desk.new) (AreCallsOf (fetched name.now ∷ []) result) }
+    ensures faults { D.faults desk.new ≡ faults_after result (D.faults desk.old) }
+    ensures unchanged { D.files desk.new ≡ D.files desk.old }
+{
+    fetch_file(alloc, name, MOST_BYTES, desk)
+}
+
+/// The bytes of a proof.
+pub(crate) fn fetch_proof<'a, D: Desk>(
+    alloc: Global,
+    name: &'a str,
+    desk: &mut D,
+) -> Result<Vec<u8>, Refusal<'a>>
+    ensures bytes { IfOk result (λ bytes. IfSome (D.files desk.old) (λ files. HoldsBytes files name.now most_proof_bytes bytes.items)) }
+    ensures kind { IfErr result (IsOfFetch name.now) }
+    ensures cause { IfErr result (λ fault. IfSome (D.files desk.old) (λ files. RefusesLong most_proof_bytes files fault)) }
+    ensures asked { PutsOnRecord (D.calls desk.old) (D.calls desk.new) (AreCallsOf (fetched name.now ∷ []) result) }
+    ensures faults { D.faults desk.new ≡ faults_after result (D.faults desk.old) }
+    ensures unchanged { D.files desk.new ≡ D.files desk.old }
+{
+    fetch_file(alloc, name, MOST_PROOF_BYTES, desk)
+}
+
+// The bytes of a file, within the limit.
+fn fetch_file<'a, D: Desk>(
+    alloc: Global,
+    name: &'a str,
+    most: u64,
+    desk: &mut D,
+) -> Result<Vec<u8>, Refusal<'a>>
+    ensures bytes { IfOk result (λ bytes. IfSome (D.files desk.old) (λ files. HoldsBytes files name.now most bytes.items)) }
+    ensures short { IfOk result (λ bytes. length bytes.items ≤ most) }
+    ensures kind { IfErr result (IsOfFetch name.now) }
+    ensures cause { IfErr result (λ fault. IfSome (D.files desk.old) (λ files. RefusesLong most files fault)) }
+    ensures asked { PutsOnRecord (D.calls desk.old) (D.calls desk.new) (AreCallsOf (fetched name.now ∷ []) result) }
     ensures faults { D.faults desk.new ≡ faults_after result (D.faults desk.old) }
     ensures unchanged { D.files desk.new ≡ D.files desk.old }
 {
     let Ok((failed, too_long)) = fetch_refusals(alloc, name) else {
         return Err(Refusal::out_of_memory());
     };
-    match desk.fetch(alloc, name, MOST_BYTES) {
+    match desk.fetch(alloc, name, most) {
         Ok(bytes) => Ok(bytes),
         Err(FetchError::Failed) => Err(failed),
         Err(FetchError::TooLong { .. }) => Err(too_long),

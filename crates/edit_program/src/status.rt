@@ -3,9 +3,9 @@ ghost use Rattle.std.specs.Prelude.{◌≡◌};
 /// How a run of the program ended.
 #[derive(Clone, Copy, Debug, PartialEq, Eq)]
 pub enum Status {
-    /// Every record was released.
+    /// Every record was released, or the files are a valid release.
     Done,
-    /// Some record has no consistent correction and was left out.
+    /// Some record is unresolved, and was left out.
     SomeUnresolved,
     /// The words are no command.
     Usage,
@@ -21,6 +21,8 @@ pub enum Status {
     OutOfMemory,
     /// A file has more bytes than its limit.
     TooLong,
+    /// The files are no valid release.
+    Rejected,
 }
 
 impl Status {
@@ -40,6 +42,7 @@ impl Status {
             Status::WriteFault => 6,
             Status::OutOfMemory => 7,
             Status::TooLong => 8,
+            Status::Rejected => 9,
         }
     }
 }

@@ -1,37 +1,34 @@
 //! The files of a run as they are stored.
-ghost use Rattle.std.specs.Prelude.{◌≡◌, ◌≢◌, IfErr, IfOk};
-ghost use Rattle.edit_desk.specs.Desk.{PutsOnRecord, Told};
+ghost use Rattle.std.specs.Prelude.{◌≡◌, ◌∷◌, [], IfErr, map};
+ghost use Rattle.edit_desk.specs.Desk.{PutsOnRecord, Told, stored};
+ghost use Rattle.edit_program.specs.EditRun.{edit_files};
 ghost use Rattle.edit_program.specs.declared.fault.Fault.TheVariants as faults;
-ghost use Rattle.edit_program.specs.inner.Parts.{AreStoresOf, IsOfStore, IsOfStores, IsStoreOf, StoreBoth, StoresAs, faults_after, written_in};
+ghost use Rattle.edit_program.specs.inner.Parts.{AreCallsOf, IsOfStores, StoresOf, faults_after, store_calls};
+ghost use Rattle.edit_release.specs.Releases.{written_in};
 
-use crate::asked::EditWords;
+use crate::edit_asked::EditWords;
 use crate::fault::{Fault, FileName};
 use crate::refusal::Refusal;
-use crate::texts::Texts;
 use edit_desk::{Desk, StoreError};
+use edit_release::Release;
 use std::alloc::Global;
 
-/// Stores the reasons, and then the released file.
-pub(crate) fn store_texts<'a, D: Desk>(
+/// Stores the proof, the reasons, and then the released file.
+pub(crate) fn store_release<'a, D: Desk>(
     alloc: Global,
     asked: &EditWords<'a>,
-    texts: &Texts,
+    release: &Release,
     desk: &mut D,
 ) -> Result<(), Refusal<'a>>
-    requires apart { asked.now.names.reasons ≢ asked.now.names.released }
-    ensures kind { IfErr result (IsOfStores asked.now) }
-    ensures files { Told (D.files desk.old) (D.files desk.new) (StoreBoth asked.now (written_in texts.now) result) }
-    ensures asked { PutsOnRecord (D.calls desk.old) (D.calls desk.new) (AreStoresOf asked.now result) }
+    ensures kind { IfErr result IsOfStores }
+    ensures files { Told (D.files desk.old) (D.files desk.new) (StoresOf (edit_files asked.now (written_in release.now)) result) }
+    ensures asked { PutsOnRecord (D.calls desk.old) (D.calls desk.new) (AreCallsOf (store_calls (edit_files asked.now (written_in release.now))) result) }
     ensures faults { D.faults desk.new ≡ faults_after result (D.faults desk.old) }
 {
-    match store_file(alloc, asked.reasons, &texts.reasons, desk) {
-        Ok(()) => {}
-        Err(refusal) => return Err(refusal),
-    }
-    match store_file(alloc, asked.released, &texts.released, desk) {
-        Ok(()) => Ok(()),
-        Err(refusal) => Err(refusal),
-    }
+    store_file(alloc, asked.proof, &release.proof, desk)?;
+    store_file(alloc, asked.reasons, &release.reasons, desk)?;
+    store_file(alloc, asked.released, &release.released, desk)?;
+    Ok(())
 }
 
 // Puts the bytes under the name.
@@ -41,9 +38,9 @@ fn store_file<'a, D: Desk>(
     bytes: &[u8],
     desk: &mut D,
 ) -> Result<(), Refusal<'a>>
-    ensures kind { IfErr result (IsOfStore name.now) }
-    ensures files { Told (D.files desk.old) (D.files desk.new) (StoresAs name.now bytes.now result) }
-    ensures asked { PutsOnRecord (D.calls desk.old) (D.calls desk.new) (IsStoreOf name.now result) }
+    ensures kind { IfErr result IsOfStores }
+    ensures files { Told (D.files desk.old) (D.files desk.new) (StoresOf ((name.now, bytes.now) ∷ []) result) }
+    ensures asked { PutsOnRecord (D.calls desk.old) (D.calls desk.new) (AreCallsOf (stored name.now ∷ []) result) }
     ensures faults { D.faults desk.new ≡ faults_after result (D.faults desk.old) }
 {
     let Ok(failed) = Refusal::new(

@@ -1,17 +1,18 @@
-ghost use Rattle.std.specs.Prelude.{◌≡◌, ◌≢◌, ◌↔◌, IfSome, IfNone, IsTrue, map, string_bytes};
-ghost use Rattle.edit_program.specs.Asked.{EditAsked, GiveEdit, IsEdit, IsNoCommand, names_in};
+ghost use Rattle.std.specs.Prelude.{◌≡◌, ◌↔◌, IfSome, IfNone, IsTrue, map, string_bytes};
+ghost use Rattle.edit_program.specs.Asked.{EditAsked, GiveEdit, IsEdit, names_in};
 ghost use Rattle.edit_program.specs.Options.{AreApart};
 ghost use Rattle.edit_program.specs.inner.Pairs.{pairs_of};
 
-use crate::options::{are_given, number_given, only_value};
+use crate::options::{are_given, differs_from, number_given, only_value};
 use std::marker::Model;
 
 /// The options of the command `edit`.
-const EDIT_OPTIONS: [&str; 5] = [
+const EDIT_OPTIONS: [&str; 6] = [
     "--rules",
     "--records",
     "--released",
     "--reasons",
+    "--proof",
     "--budget",
 ];
 
@@ -33,26 +34,32 @@ pub struct EditWords<'a> {
     pub released: &'a str,
     /// The file that the reasons go to.
     pub reasons: &'a str,
+    /// The file that the proof goes to.
+    pub proof: &'a str,
     /// The most work on one record, from 1 to 1,000,000,000.
     pub budget: u64,
 }
 
 impl<'a> Model for EditWords<'a> {
-    ghost use Rattle.edit_program.specs.Asked.{EditAsked};
+    ghost use Rattle.std.specs.Prelude.{◌≤◌};
+    ghost use Rattle.edit_program.specs.Asked.{EditAsked, names_in};
+    ghost use Rattle.edit_program.specs.Options.{AreApart};
 
     ghost Value = { EditAsked };
 
-    ghost view = { λ w. record { names = record { rules = w.rules.now; records = w.records.now; released = w.released.now; reasons = w.reasons.now }; budget = w.budget } };
+    ghost view = { λ w. record { names = record { rules = w.rules.now; records = w.records.now; released = w.released.now; reasons = w.reasons.now; proof = w.proof.now }; budget = w.budget } };
+
+    ghost invariant = { λ w. AreApart (names_in (record { rules = w.rules.now; records = w.records.now; released = w.released.now; reasons = w.reasons.now; proof = w.proof.now })) × (1 ≤ w.budget) × (w.budget ≤ 1000000000) };
 }
 
 /// Reads the words after the program's name as the command `edit` with pairs of an option and its value, in any
-/// order and each at most once: `--rules`, `--records`, `--released` and `--reasons`, each with a file's name,
-/// and `--budget` with a number, which may be left out. No value is empty or begins with `-`, and the four
+/// order and each at most once: `--rules`, `--records`, `--released`, `--reasons` and `--proof`, each with a file's
+/// name, and `--budget` with a number, which may be left out. No value is empty or begins with `-`, and the five
 /// names differ. What is asked for is all that the words can be read as. No memory.
 pub fn edit_asked(words: &[String]) -> Option<EditWords<'_>>
     ensures some { IfSome result (λ asked. IsEdit (map string_bytes words.now) asked) }
     ensures only { IfSome result (λ asked. (other : EditAsked) → IsEdit (map string_bytes words.now) other → other ≡ asked) }
-    ensures none { IfNone result (IsNoCommand words.now) }
+    ensures none { IfNone result ((asked : EditAsked) → ¬ IsEdit (map string_bytes words.now) asked) }
 {
     let (command, options) = words.split_first()?;
     if command.as_str() != "edit" || options.len() % 2 != 0 {
@@ -73,8 +80,9 @@ fn edit_options(options: &[String]) -> Option<EditWords<'_>>
     let records = only_value("--records", options)?;
     let released = only_value("--released", options)?;
     let reasons = only_value("--reasons", options)?;
+    let proof = only_value("--proof", options)?;
     let budget = number_given("--budget", options, BUDGET, LEAST_BUDGET, MOST_BUDGET)?;
-    if !are_apart(rules, records, released, reasons) {
+    if !are_apart(rules, records, released, reasons, proof) {
         return None;
     }
     Some(EditWords {
@@ -82,18 +90,17 @@ fn edit_options(options: &[String]) -> Option<EditWords<'_>>
         records,
         released,
         reasons,
+        proof,
         budget,
     })
 }
 
 // Whether no two of the names are the same.
-fn are_apart(rules: &str, records: &str, released: &str, reasons: &str) -> bool
-    ensures { IsTrue result ↔ AreApart (names_in (record { rules = rules.now; records = records.now; released = released.now; reasons = reasons.now })) }
+fn are_apart(rules: &str, records: &str, released: &str, reasons: &str, proof: &str) -> bool
+    ensures { IsTrue result ↔ AreApart (names_in (record { rules = rules.now; records = records.now; released = released.now; reasons = reasons.now; proof = proof.now })) }
 {
-    rules != records
-        && rules != released
-        && rules != reasons
-        && records != released
-        && records != reasons
-        && released != reasons
+    differs_from(rules, &[records, released, reasons, proof])
+        && differs_from(records, &[released, reasons, proof])
+        && differs_from(released, &[reasons, proof])
+        && reasons != proof
 }

@@ -1,0 +1,63 @@
+-- What a run of a check does.
+use Rattle.std.specs.Prelude.{◌≡◌, ◌⊎◌, ℕ, List, [], ◌∷◌, ◌++◌, codes, decimal, IfSome, length}
+use Rattle.edit_desk.specs.Desk.{Asked, Files, PutsOnRecord, Told, fetched}
+use Rattle.cert_check.specs.Releases.{Audit, IsReleasedCount, IsValidRelease}
+use Rattle.cert_check.specs.Shown.{Shows}
+use Rattle.edit_program.specs.Asked.{CheckAsked}
+use Rattle.edit_program.specs.Readings.{HoldsRelease, RefusesCheck}
+use Rattle.edit_program.specs.Run.{IsFaultless, IsRefused, IsTold, IsUntold, Seen}
+use Rattle.edit_program.specs.declared.fault.Fault.{Fault}
+use Rattle.edit_program.specs.declared.status.Status.{Status}
+use Rattle.edit_program.specs.declared.status.Status.TheVariants as status
+
+-- all calls of a check, in order
+abbrev pub check_calls : CheckAsked → List Asked
+check_calls asked = fetched asked.rules ∷ fetched asked.records ∷ fetched asked.released ∷ fetched asked.proof ∷ []
+
+-- the files that the desk held are a valid release of so many records, of which so many are released; and this is what it shows
+pub record IsAccepted (asked : CheckAsked) (files : Files) (records released : ℕ) : Type 0 where
+  pub audit : Audit
+  pub held : HoldsRelease files asked audit
+  pub valid : IsValidRelease audit
+  pub shown : Shows audit
+  pub records : length audit.sheet.rows ≡ records
+  pub released : IsReleasedCount audit released
+
+-- the line that is printed of a valid release
+abbrev pub valid_text : ℕ → ℕ → List ℕ
+valid_text records released = codes "valid records " ++ (decimal records ++ (codes " released " ++ decimal released))
+
+-- the files of a check are as they were
+abbrev pub LeavesAll : Fault → Files → Files → Type 0
+LeavesAll fault before after = after ≡ before
+
+-- a check did all that it does on the desk, and found a valid release
+pub record IsRead (asked : CheckAsked) (records released : ℕ) (before after : Seen) : Type 0 where
+  pub files : Told before.files after.files (λ old new. (new ≡ old) × IsAccepted asked old records released)
+  pub calls : PutsOnRecord before.calls after.calls (λ calls. calls ≡ check_calls asked)
+  pub faultless : after.faults ≡ before.faults
+
+-- a whole check: that was printed
+pub record IsChecked (asked : CheckAsked) (before after : Seen) : Type 0 where
+  pub records : ℕ
+  pub released : ℕ
+  pub read : IsRead asked records released before after
+  pub told : IsTold (valid_text records released) before after
+
+-- a check whose line was not printed whole
+pub record IsCheckUntold (asked : CheckAsked) (before after : Seen) : Type 0 where
+  pub records : ℕ
+  pub released : ℕ
+  pub read : IsRead asked records released before after
+  pub untold : IsUntold (valid_text records released) before after
+
+-- a check that did not do all: it is refused for a fault, or its line was not printed
+abbrev pub IsCheckStopped : CheckAsked → Status → Seen → Seen → Type 0
+IsCheckStopped asked answer before after =
+    IsRefused (RefusesCheck asked) (check_calls asked) LeavesAll answer before after ⊎ ((answer ≡ status.WriteFault) × IsCheckUntold asked before after)
+
+-- where the files that the desk held are a valid release, and no fault is met, the check is done, but for want of memory
+abbrev pub IsCheckComplete : CheckAsked → Status → Seen → Seen → Type 0
+IsCheckComplete asked answer before after = IfSome before.files (λ files. (audit : Audit)
+    → HoldsRelease files asked audit → IsValidRelease audit → IsFaultless before after
+    → (answer ≡ status.Done) ⊎ (answer ≡ status.OutOfMemory))

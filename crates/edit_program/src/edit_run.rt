@@ -1,0 +1,78 @@
+//! A run of `edit`.
+ghost use Rattle.std.specs.Prelude.{◌≡◌, ◌≢◌, Err, IfErr, IfOk, IfSome};
+ghost use Rattle.edit_desk.specs.Desk.{PutsOnRecord, Told};
+ghost use Rattle.edit_program.specs.EditRun.{IsEditComplete, IsEditStopped, IsEdited, edit_calls};
+ghost use Rattle.edit_program.specs.Edits.{HasReleased};
+ghost use Rattle.edit_program.specs.Readings.{AnswersDue, IsDue, Refuses};
+ghost use Rattle.edit_program.specs.Run.{seen};
+ghost use Rattle.edit_program.specs.declared.fault.Fault.TheVariants as faults;
+ghost use Rattle.edit_program.specs.inner.EditParts.{EditEnds, edit_end, edit_status};
+ghost use Rattle.edit_program.specs.inner.Parts.{AreCallsOf, faults_after};
+
+use crate::edit_asked::EditWords;
+use crate::reading::{fetch_sheet, fetch_survey};
+use crate::refusal::Refusal;
+use crate::status::Status;
+use crate::storing::store_release;
+use crate::telling::{refuse, tell};
+use edit_desk::{Desk, Printer};
+use edit_release::{Release, edit_sheet};
+use std::alloc::Global;
+
+/// Edits what the words ask for, and prints the summary, or why the run is refused.
+pub(crate) fn run_edit<D: Desk, P: Printer>(
+    alloc: Global,
+    asked: &EditWords,
+    desk: &mut D,
+    printer: &mut P,
+) -> Status
+    ensures command { result ≢ Status.Usage }
+    ensures edited { HasReleased result → IsEdited asked.now result
+        (seen (D.files desk.old) (D.calls desk.old) (D.faults desk.old) (P.printed printer.old) (P.faults printer.old))
+        (seen (D.files desk.new) (D.calls desk.new) (D.faults desk.new) (P.printed printer.new) (P.faults printer.new)) }
+    ensures stopped { ¬ HasReleased result → IsEditStopped asked.now result
+        (seen (D.files desk.old) (D.calls desk.old) (D.faults desk.old) (P.printed printer.old) (P.faults printer.old))
+        (seen (D.files desk.new) (D.calls desk.new) (D.faults desk.new) (P.printed printer.new) (P.faults printer.new)) }
+    ensures complete { IsEditComplete asked.now result
+        (seen (D.files desk.old) (D.calls desk.old) (D.faults desk.old) (P.printed printer.old) (P.faults printer.old))
+        (seen (D.files desk.new) (D.calls desk.new) (D.faults desk.new) (P.printed printer.new) (P.faults printer.new)) }
+    ensures due { IfSome (D.files desk.old) (λ files. AnswersDue (IsDue asked.now files) result) }
+{
+    match edit(alloc, asked, desk) {
+        Ok(release) => tell(printer, &release.summary, status_of(&release)),
+        Err(refusal) => refuse(printer, refusal.line(), refusal.status()),
+    }
+}
+
+// How an edit ends that did all on the desk.
+fn status_of(release: &Release) -> Status
+    ensures { result ≡ edit_status release.now }
+{
+    if release.whole {
+        Status::Done
+    } else {
+        Status::SomeUnresolved
+    }
+}
+
+// Does on the desk all that an edit does there, up to the first fault.
+fn edit<'a, D: Desk>(
+    alloc: Global,
+    asked: &EditWords<'a>,
+    desk: &mut D,
+) -> Result<Release, Refusal<'a>>
+    ensures command { result ≢ Err faults.Usage }
+    ensures cause { IfErr result (λ fault. IfSome (D.files desk.old) (λ files. Refuses asked.now files fault)) }
+    ensures due { IfSome (D.files desk.old) (λ files. AnswersDue (IsDue asked.now files) (edit_end result)) }
+    ensures files { Told (D.files desk.old) (D.files desk.new) (EditEnds asked.now result) }
+    ensures asked { PutsOnRecord (D.calls desk.old) (D.calls desk.new) (AreCallsOf (edit_calls asked.now) result) }
+    ensures faults { D.faults desk.new ≡ faults_after result (D.faults desk.old) }
+{
+    let survey = fetch_survey(alloc, asked.rules, desk)?;
+    let sheet = fetch_sheet(alloc, asked.records, &survey, desk)?;
+    let Ok(release) = edit_sheet(alloc, &survey, &sheet, asked.budget) else {
+        return Err(Refusal::out_of_memory());
+    };
+    store_release(alloc, asked, &release, desk)?;
+    Ok(release)
+}

@@ -1,0 +1,78 @@
+ghost use Rattle.std.specs.Prelude.{◌≡◌, ◌≢◌, ◌↔◌, IfSome};
+ghost use Rattle.edit_program.specs.Asked.{ForCheck, ForEdit, IsNoCommand};
+ghost use Rattle.edit_program.specs.CheckRun.{IsCheckComplete, IsCheckStopped, IsChecked};
+ghost use Rattle.edit_program.specs.EditRun.{IsEditComplete, IsEditStopped, IsEdited};
+ghost use Rattle.edit_program.specs.Edits.{HasReleased};
+ghost use Rattle.edit_program.specs.Readings.{AnswersDue, IsCheckDue, IsDue};
+ghost use Rattle.edit_program.specs.Run.{IsUsage, seen};
+
+use crate::check_asked::check_asked;
+use crate::check_run::run_check;
+use crate::edit_asked::edit_asked;
+use crate::edit_run::run_edit;
+use crate::fault::USAGE;
+use crate::status::Status;
+use crate::telling::refuse;
+use edit_desk::{Desk, Printer};
+use std::alloc::Global;
+
+/// Serves the words after the program's name, over a desk and a printer. `edit` fetches and reads the rules, then
+/// the records, corrects each record at the least weight, stores the proof, the reasons and the released file, and
+/// prints a summary. `check` fetches and reads the rules, then the records, fetches the released file, then the proof,
+/// and prints whether they are a valid release. The first refusal in this order ends the call, and is printed.
+pub fn fh_main<D: Desk, P: Printer>(
+    alloc: Global,
+    words: &[String],
+    desk: &mut D,
+    printer: &mut P,
+) -> Status
+    // The words are no command.
+    ensures usage { (result ≡ Status.Usage) ↔ IsNoCommand words.now }
+    ensures unasked { result ≡ Status.Usage → IsUsage
+        (seen (D.files desk.old) (D.calls desk.old) (D.faults desk.old) (P.printed printer.old) (P.faults printer.old))
+        (seen (D.files desk.new) (D.calls desk.new) (D.faults desk.new) (P.printed printer.new) (P.faults printer.new)) }
+
+    // The release guarantee: what stands in the three files, and what was printed, where an edit ends with 0 or 1.
+    ensures edited { HasReleased result → ForEdit words.now (λ asked. IsEdited asked result
+        (seen (D.files desk.old) (D.calls desk.old) (D.faults desk.old) (P.printed printer.old) (P.faults printer.old))
+        (seen (D.files desk.new) (D.calls desk.new) (D.faults desk.new) (P.printed printer.new) (P.faults printer.new))) }
+
+    // Where it ends otherwise: the fault that ended it, where it ended, what is left and what was printed.
+    ensures edit_stopped { ¬ HasReleased result → ForEdit words.now (λ asked. IsEditStopped asked result
+        (seen (D.files desk.old) (D.calls desk.old) (D.faults desk.old) (P.printed printer.old) (P.faults printer.old))
+        (seen (D.files desk.new) (D.calls desk.new) (D.faults desk.new) (P.printed printer.new) (P.faults printer.new))) }
+
+    // Where both files have readings and no fault is met, the edit is done, but for want of memory.
+    ensures edit_complete { ForEdit words.now (λ asked. IsEditComplete asked result
+        (seen (D.files desk.old) (D.calls desk.old) (D.faults desk.old) (P.printed printer.old) (P.faults printer.old))
+        (seen (D.files desk.new) (D.calls desk.new) (D.faults desk.new) (P.printed printer.new) (P.faults printer.new))) }
+
+    // A file that is too long or has no reading is told exactly where it is so.
+    ensures edit_due { ForEdit words.now (λ asked. IfSome (D.files desk.old) (λ files. AnswersDue (IsDue asked files) result)) }
+
+    // The audit: what the files are, and what they show, where a check ends with 0.
+    ensures checked { result ≡ Status.Done → ForCheck words.now (λ asked. IsChecked asked
+        (seen (D.files desk.old) (D.calls desk.old) (D.faults desk.old) (P.printed printer.old) (P.faults printer.old))
+        (seen (D.files desk.new) (D.calls desk.new) (D.faults desk.new) (P.printed printer.new) (P.faults printer.new))) }
+
+    // Where it ends otherwise: the fault that ended it, where it ended, and what was printed; no file is changed.
+    ensures check_stopped { result ≢ Status.Done → ForCheck words.now (λ asked. IsCheckStopped asked result
+        (seen (D.files desk.old) (D.calls desk.old) (D.faults desk.old) (P.printed printer.old) (P.faults printer.old))
+        (seen (D.files desk.new) (D.calls desk.new) (D.faults desk.new) (P.printed printer.new) (P.faults printer.new))) }
+
+    // Where the files are a valid release and no fault is met, the check is done, but for want of memory.
+    ensures check_complete { ForCheck words.now (λ asked. IsCheckComplete asked result
+        (seen (D.files desk.old) (D.calls desk.old) (D.faults desk.old) (P.printed printer.old) (P.faults printer.old))
+        (seen (D.files desk.new) (D.calls desk.new) (D.faults desk.new) (P.printed printer.new) (P.faults printer.new))) }
+
+    // Files that are too long, have no reading or are no valid release are told exactly where they are so.
+    ensures check_due { ForCheck words.now (λ asked. IfSome (D.files desk.old) (λ files. AnswersDue (IsCheckDue asked files) result)) }
+{
+    if let Some(asked) = edit_asked(words) {
+        return run_edit(alloc, &asked, desk, printer);
+    }
+    if let Some(asked) = check_asked(words) {
+        return run_check(alloc, &asked, desk, printer);
+    }
+    refuse(printer, USAGE, Status::Usage)
+}
