@@ -1,0 +1,3 @@
+pub mod NewRowLaws
+pub mod ShownLaws
+pub mod UsableLaws

@@ -1,0 +1,122 @@
+use Rattle.std.proofs.Common.{◌≡◌, ℕ, zero, suc, ◌≤◌, Bool, true, List, [], ◌∷◌, Option, Some, None, IfSome, IsSomeAnd, refl, sym, ap, ◌∙◌, subst, arith}
+use Rattle.std.specs.List.{AllByRecursion}
+use Rattle.std.proofs.lemmas.Bool.Decides.{Decides-eqb}
+use Rattle.edit_model.specs.Corrections.{IsCorrection, change_weight}
+use Rattle.edit_model.specs.Points.{Point}
+use Rattle.edit_model.specs.Rows.{IsRow}
+use Rattle.edit_model.specs.Surveys.{IsWellFormed}
+use Rattle.edit_model.specs.declared.value.Value.{Value}
+use Rattle.edit_model.proofs.RowPointLaws.{point_of}
+use Rattle.edit_line.specs.Lines.{AreOver, LineParts}
+use Rattle.edit_line.specs.Lines as lines
+use Rattle.edit_line.specs.Shapes.{shape_of}
+use Rattle.edit_line.proofs.BoolLaws.{both_true}
+use Rattle.edit_normal.specs.RuleLines.{lines_from, normal_lines_of}
+use Rattle.edit_normal.proofs.MeaningLaws.{lines-all, lines-mean, lines-over}
+use Rattle.record_text.specs.Sheets.{IsSheet}
+use Rattle.record_text.proofs.SheetLaws.{rows_are_records}
+use Rattle.bound_cert.specs.Paths.{changes, path_weight}
+use Rattle.bound_cert.specs.ValidTrees.{IsValidTree}
+use Rattle.bound_cert.specs.declared.cert.Leaf.{Leaf}
+use Rattle.bound_cert.specs.declared.outcome.GiftFault.{GiftFault}
+use Rattle.bound_cert.specs.declared.outcome.Outcome.{Outcome}
+use Rattle.bound_cert.specs.declared.outcome.Outcome.TheVariants.{Budget, Change, Contradictory, Overflow}
+use Rattle.bound_cert.specs.declared.outcome.RowProof.{RowProof}
+use Rattle.bound_cert.proofs.CertLaws.{tree-shows}
+use Rattle.proof_grammar.specs.Limits.{IsChange, IsOutcome, IsRowProof}
+use Rattle.proof_grammar.specs.declared.proof.Proof.{Proof}
+use Rattle.cert_check.specs.Released.{IsReleasedAs, text_at}
+use Rattle.cert_check.specs.Releases.{AreValidRows, Audit, Fits, IsValidRelease, behind, files_of, rules_of}
+use Rattle.cert_check.specs.RowChecks.{IsReleased, IsValidChange, IsValidSaid, RowFiles, is_change, tree_of}
+use Rattle.cert_check.specs.Shown.{IsLeastRelease, ShowAll, Shows, ShowsSaid}
+use Rattle.cert_check.proofs.NewRowLaws.{differing-weighs, empty-weighs, row-differs, values-row, whole-agrees, whole-corrects}
+use Rattle.cert_check.proofs.UsableLaws.{normal-usable}
+
+-- What a valid release shows, whoever wrote it.
+
+-- the lines of a survey are over its fields
+normal-over : (a : Audit) → AreOver (shape_of a.survey.fields) (normal_lines_of a.survey)
+normal-over a =
+    let numbered = lines_from (shape_of a.survey.fields) 0 a.survey.rules in
+    subst (λ (ls : List LineParts). AreOver (shape_of a.survey.fields) ls) (lines-all a.survey numbered refl) (lines-over a.survey numbered refl)
+
+-- what holds of the texts that are released, if some are
+some-then : {X : Type 0} (o : Option X) (P Q : X → Type 0) → ((x : X) → P x → Q x) → IsSomeAnd o P → IfSome o Q
+some-then None P Q then none = absurd none
+some-then (Some x) P Q then is = then x is
+
+module _ (a : Audit) (p : Proof) (well : IsWellFormed a.survey) (fits : Fits a p) (f : RowFiles) (are : IsRow a.survey.fields f.row) where
+  -- no correction is lighter than a valid tree says
+  none-lighter : (weight : Option ℕ) (leaves : List Leaf) → IsValidTree (tree_of (rules_of a p) f weight) leaves → (q : Point) → IsCorrection a.survey q → IsSomeAnd weight (λ w. w ≤ change_weight a.survey f.row q)
+  none-lighter weight leaves valid q correction =
+      tree-shows (tree_of (rules_of a p) f weight) are (normal-over a) leaves valid q correction.codes
+      (subst (λ (ls : List LineParts). lines.AllHold ls q) (sym (normal-usable a p fits)) ((lines-mean a.survey q well correction.codes).1 correction.rules))
+
+  -- the weight of a path that is right
+  right-weight : (path : List Bool) (weight : ℕ) → is_change a.survey.fields f.row path weight ≡ true → path_weight a.survey.fields path ≡ weight
+  right-weight path weight right = (Decides-eqb (path_weight a.survey.fields path) weight).0 (both_true _ _ (both_true _ _ right).1).1
+
+  -- a released row of a path's weight is a correction of least weight, where no correction is lighter
+  least-release : (path : List Bool) (weight : ℕ) → path_weight a.survey.fields path ≡ weight → ((q : Point) → IsCorrection a.survey q → weight ≤ change_weight a.survey f.row q) → IsReleased (rules_of a p) f path
+      → IfSome f.texts (λ texts. IsLeastRelease a.survey a.sheet.columns (changes a.survey.fields path) f.row texts weight)
+  least-release path weight is least released = some-then f.texts _ _ of_texts released
+    where
+      of_texts : (texts : List (List ℕ)) → (new : List Value) × IsReleasedAs a.survey a.sheet.columns (changes a.survey.fields path) f.reads f.row texts new
+          → IsLeastRelease a.survey a.sheet.columns (changes a.survey.fields path) f.row texts weight
+      of_texts texts (new, as_new) =
+          let changed = changes a.survey.fields path in
+          let text = text_at a.sheet.columns texts in
+          let new_row = values-row changed text 0 a.survey.fields f.row new are as_new.values in
+          let agrees = whole-agrees a.survey well new new_row as_new.whole in
+          let correction = whole-corrects a.survey well new new_row as_new.whole as_new.holds in
+          let weighs : change_weight a.survey f.row (point_of new) ≡ weight = differing-weighs a.survey f.row path (point_of new) are (row-differs changed text (point_of new) a.survey.fields f.row new are as_new.values agrees) ∙ is in
+          record {
+            new = new;
+            values = as_new.values;
+            point = point_of new;
+            agrees = agrees;
+            correction = correction;
+            weighs = weighs;
+            least = record { reached = (point_of new, correction, weighs); least = least };
+          }
+
+  -- a change with its released row: one that weighs nothing has the empty path
+  change-shows : (path : List Bool) (weight : ℕ) (leaves : List Leaf) → IsChange path weight leaves → IsValidChange (rules_of a p) f path weight leaves
+      → IfSome f.texts (λ texts. IsLeastRelease a.survey a.sheet.columns (changes a.survey.fields path) f.row texts weight)
+  change-shows path zero leaves plain valid = least-release path 0 (ap (λ (q : List Bool). path_weight a.survey.fields q) plain.0 ∙ empty-weighs a.survey.fields) (λ q correction. omega arith) valid
+  change-shows path (suc w) leaves plain valid = least-release path (suc w) (right-weight path (suc w) valid.0) (none-lighter (Some (suc w)) leaves valid.1) valid.2
+
+  said-shows : (outcome : Outcome) (fault : Option GiftFault) → IsOutcome outcome fault → IsValidSaid (rules_of a p) f outcome fault → ShowsSaid a.survey a.sheet.columns f outcome fault
+  said-shows (Change path weight cert) None plain valid = change-shows path weight cert.leaves plain valid
+  said-shows (Change path weight cert) (Some fault) plain valid = none-lighter (Some weight) cert.leaves valid.1
+  said-shows (Contradictory cert) fault plain valid = none-lighter None cert.leaves valid
+  said-shows (Budget path work) fault plain valid = tt
+  said-shows (Overflow path event) fault plain valid = tt
+
+-- each record shows it
+module _ (a : Audit) (p : Proof) (well : IsWellFormed a.survey) (fits : Fits a p) where
+  rows-show : (saids : List RowProof) (raws : List (List (List ℕ))) (rows : List (List Value)) (released : List (List (List ℕ))) → AllByRecursion IsRowProof saids → AllByRecursion (IsRow a.survey.fields) rows
+      → AreValidRows (rules_of a p) saids raws rows released → ShowAll a.survey a.sheet.columns saids raws rows released
+  rows-show [] [] [] released plain are valid = tt
+  rows-show [] [] (row ∷ rows) released plain are valid = absurd valid
+  rows-show [] (reads ∷ raws) rows released plain are valid = absurd valid
+  rows-show (said ∷ saids) [] rows released plain are valid = absurd valid
+  rows-show (said ∷ saids) (reads ∷ raws) [] released plain are valid = absurd valid
+  rows-show (said ∷ saids) (reads ∷ raws) (row ∷ rows) released plain are valid = (
+    said-shows a p well fits (files_of said reads row released) (row-is released) said.outcome said.gift plain.0 valid.0,
+    rows-show saids raws rows (behind said released) plain.1 are.1 valid.1,
+  )
+    where
+      row-is : (released : List (List (List ℕ))) → IsRow a.survey.fields (files_of said reads row released).row
+      row-is [] = are.0
+      row-is (texts ∷ later) = are.0
+
+-- a valid release of a sheet shows that its rows are corrections of least weight, and that its contradictions are none
+pub release-shows : (a : Audit) → IsWellFormed a.survey → (bytes : List ℕ) → IsSheet a.survey.fields bytes a.sheet → IsValidRelease a → Shows a
+release-shows a well bytes sheet valid = record {
+  proof = valid.proof;
+  spelled = valid.fits.spelled;
+  rows = valid.rows;
+  released = valid.released;
+  each = rows-show a valid.proof well valid.fits valid.proof.rows a.sheet.raws a.sheet.rows valid.rows valid.fits.spelled.plain.rows.1 (rows_are_records a.survey.fields bytes a.sheet sheet) valid.each;
+}
