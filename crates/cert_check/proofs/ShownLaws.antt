@@ -1,4 +1,4 @@
-use Rattle.std.proofs.Common.{◌≡◌, ℕ, zero, suc, ◌≤◌, Bool, true, List, [], ◌∷◌, Option, Some, None, IfSome, IsSomeAnd, refl, sym, ap, ◌∙◌, subst, arith}
+use Rattle.std.proofs.Common.{◌≡◌, ℕ, zero, suc, ◌≤◌, Bool, true, List, [], ◌∷◌, Option, Some, None, IsSomeAnd, refl, sym, ap, ◌∙◌, subst, arith}
 use Rattle.std.specs.List.{AllByRecursion}
 use Rattle.std.proofs.lemmas.Bool.Decides.{Decides-eqb}
 use Rattle.edit_model.specs.Corrections.{IsCorrection, change_weight}
@@ -41,7 +41,7 @@ normal-over a =
     subst (λ (ls : List LineParts). AreOver (shape_of a.survey.fields) ls) (lines-all a.survey numbered refl) (lines-over a.survey numbered refl)
 
 -- what holds of the texts that are released, if some are
-some-then : {X : Type 0} (o : Option X) (P Q : X → Type 0) → ((x : X) → P x → Q x) → IsSomeAnd o P → IfSome o Q
+some-then : {X : Type 0} (o : Option X) (P Q : X → Type 0) → ((x : X) → P x → Q x) → IsSomeAnd o P → IsSomeAnd o Q
 some-then None P Q then none = absurd none
 some-then (Some x) P Q then is = then x is
 
@@ -58,7 +58,7 @@ module _ (a : Audit) (p : Proof) (well : IsWellFormed a.survey) (fits : Fits a p
 
   -- a released row of a path's weight is a correction of least weight, where no correction is lighter
   least-release : (path : List Bool) (weight : ℕ) → path_weight a.survey.fields path ≡ weight → ((q : Point) → IsCorrection a.survey q → weight ≤ change_weight a.survey f.row q) → IsReleased (rules_of a p) f path
-      → IfSome f.texts (λ texts. IsLeastRelease a.survey a.sheet.columns (changes a.survey.fields path) f.row texts weight)
+      → IsSomeAnd f.texts (λ texts. IsLeastRelease a.survey a.sheet.columns (changes a.survey.fields path) f.row texts weight)
   least-release path weight is least released = some-then f.texts _ _ of_texts released
     where
       of_texts : (texts : List (List ℕ)) → (new : List Value) × IsReleasedAs a.survey a.sheet.columns (changes a.survey.fields path) f.reads f.row texts new
@@ -82,7 +82,7 @@ module _ (a : Audit) (p : Proof) (well : IsWellFormed a.survey) (fits : Fits a p
 
   -- a change with its released row: one that weighs nothing has the empty path
   change-shows : (path : List Bool) (weight : ℕ) (leaves : List Leaf) → IsChange path weight leaves → IsValidChange (rules_of a p) f path weight leaves
-      → IfSome f.texts (λ texts. IsLeastRelease a.survey a.sheet.columns (changes a.survey.fields path) f.row texts weight)
+      → IsSomeAnd f.texts (λ texts. IsLeastRelease a.survey a.sheet.columns (changes a.survey.fields path) f.row texts weight)
   change-shows path zero leaves plain valid = least-release path 0 (ap (λ (q : List Bool). path_weight a.survey.fields q) plain.0 ∙ empty-weighs a.survey.fields) (λ q correction. omega arith) valid
   change-shows path (suc w) leaves plain valid = least-release path (suc w) (right-weight path (suc w) valid.0) (none-lighter (Some (suc w)) leaves valid.1) valid.2
 
