@@ -5,14 +5,16 @@ ghost use Rattle.cert_check.specs.Shown.{Shows};
 ghost use Rattle.cert_check.specs.declared.fault.Why.{Why as Condition};
 
 use crate::fault::{CheckFault, Why};
+use crate::said_check::{Audit, check_said, rejected};
 use edit_model::Survey;
+use proof_text::{ProofFault, read_proof};
 use record_text::Sheet;
 use std::alloc::Global;
 
 /// Ok exactly where the bytes of the released file and of the proof are a valid release of the records, which are a
 /// sheet of the rules; it tells how many records are released. Then each released row is a correction of least weight,
-/// whoever wrote the files. Rejected comes with the first condition that fails and its line in the proof. The time is in proportion to the files and to the
-/// rules.
+/// whoever wrote the files. Rejected comes with the first condition that fails and its line in the proof. The time is
+/// in proportion to the files and to the rules.
 pub fn check_all(
     alloc: Global,
     rules: &Survey,
@@ -27,5 +29,14 @@ pub fn check_all(
     ensures rejected { (line : ℕ) (why : Condition) → result ≡ Err (CheckFault.Rejected line why) → IsFirstFailure (audit_of rules.now records.now released.now proof.now) line why }
     ensures invalid { (line : ℕ) (why : Condition) → result ≡ Err (CheckFault.Rejected line why) → ¬ IsValidRelease (audit_of rules.now records.now released.now proof.now) }
 {
-    Err(CheckFault::OutOfMemory)
+    let audit = Audit {
+        rules,
+        records,
+        released,
+    };
+    match read_proof(alloc, proof) {
+        Ok(said) => check_said(alloc, &audit, &said),
+        Err(ProofFault::At { line }) => Err(rejected(line, Why::Grammar)),
+        Err(ProofFault::OutOfMemory) => Err(CheckFault::OutOfMemory),
+    }
 }

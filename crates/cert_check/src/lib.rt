@@ -4,7 +4,15 @@
 #![tactic(auto)]
 
 mod check;
+mod checking;
 mod fault;
+mod head;
+mod line_counts;
+mod released_file;
+mod row_check;
+mod row_fault;
+mod rows_check;
+mod said_check;
 
 pub use check::check_all;
 pub use fault::{CheckFault, Why};

@@ -1,0 +1,6 @@
+pub mod Answers
+pub mod Checks
+pub mod Counts
+pub mod Finds
+pub mod Parts
+pub mod Rows

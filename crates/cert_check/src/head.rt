@@ -1,0 +1,43 @@
+//! Whether a proof fits the rules and the records.
+ghost use Rattle.std.specs.Prelude.{◌≡◌};
+ghost use Rattle.cert_check.specs.Releases.{dropped_line, limits_fit};
+ghost use Rattle.cert_check.specs.inner.Counts.{IsCounted};
+ghost use Rattle.cert_check.specs.inner.Parts.{head_fault_of};
+
+use crate::line_counts::records_line;
+use proof_text::Proof;
+
+/// The first line that does not fit: the limits, the count of the lines of the rules, or the count of the records.
+pub(crate) fn head_fault(proof: &Proof, lines: usize, records: u32) -> Option<u64>
+    requires { IsCounted proof.now }
+    ensures { result ≡ head_fault_of lines records proof.now }
+{
+    if !limits_fit(proof) {
+        return Some(2);
+    }
+    if proof.verdicts.len() != lines {
+        return Some(3);
+    }
+    if proof.rows.len() != records as usize {
+        return Some(records_line(proof));
+    }
+    None
+}
+
+// Whether the limits of the run are in their own limits.
+fn limits_fit(proof: &Proof) -> bool
+    ensures { result ≡ limits_fit proof.now }
+{
+    (1 <= proof.limit && proof.limit <= 1000)
+        && ((1 <= proof.near && proof.near <= 64)
+            && (1 <= proof.budget && proof.budget <= 1_000_000_000))
+}
+
+/// The first line that says that a line of the rules is dropped.
+pub(crate) fn dropped_line(proof: &Proof) -> Option<u64>
+    requires { IsCounted proof.now }
+    ensures { result ≡ dropped_line proof.now }
+{
+    let place = proof.verdicts.as_slice().iter().position(|verdict| verdict.is_some())?;
+    Some(4 + place as u64)
+}

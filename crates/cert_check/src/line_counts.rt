@@ -1,0 +1,99 @@
+//! How many lines the parts of a proof take, and the numbers of some of its lines.
+ghost use Rattle.std.specs.Prelude.{◌≡◌, ◌<◌, ◌^◌, length};
+ghost use Rattle.std.specs.List.{flat_map};
+ghost use Rattle.cert_check.specs.Places.{claims_line, records_line};
+ghost use Rattle.cert_check.specs.inner.Counts.{AreCounted, IsCounted};
+ghost use Rattle.proof_grammar.specs.ProofLines.{leaf_lines, row_lines, verdict_lines};
+
+use bound_cert::{Leaf, LeafWhy, Outcome, RowProof};
+use derivation::Step;
+use foundation::Sequence;
+use proof_text::Proof;
+
+/// How many lines the leaves take. No memory.
+pub(crate) fn leaves_line_count(leaves: &[Leaf]) -> u64
+    requires { AreCounted leaves.now }
+    ensures { result ≡ length (flat_map leaf_lines leaves.now) }
+{
+    let mut count = 0;
+    for leaf in leaves {
+        count += leaf_line_count(leaf);
+    }
+    count
+}
+
+// How many lines a leaf takes.
+fn leaf_line_count(leaf: &Leaf) -> u64
+    requires { length (leaf_lines leaf.now) < 2 ^ 64 }
+    ensures { result ≡ length (leaf_lines leaf.now) }
+{
+    match &leaf.why {
+        LeafWhy::Bound | LeafWhy::BadKept => 1,
+        LeafWhy::Line(steps) | LeafWhy::Box(steps) => 1 + steps.len() as u64,
+    }
+}
+
+/// How many lines what is said of a record takes. No memory.
+pub(crate) fn row_line_count(said: &RowProof) -> u64
+    requires { length (row_lines said.now) < 2 ^ 64 }
+    ensures { result ≡ length (row_lines said.now) }
+{
+    match &said.outcome {
+        Outcome::Change { weight: 0, .. } if said.gift.is_none() => 1,
+        Outcome::Change { cert, .. } | Outcome::Contradictory { cert } => {
+            1 + leaves_line_count(cert.leaves.as_slice())
+        }
+        Outcome::Budget { .. } | Outcome::Overflow { .. } => 1,
+    }
+}
+
+// How many lines what is said of the records takes.
+fn rows_line_count(rows: &[RowProof]) -> u64
+    requires { length (flat_map row_lines rows.now) < 2 ^ 64 }
+    ensures { result ≡ length (flat_map row_lines rows.now) }
+{
+    let mut count = 0;
+    for row in rows {
+        count += row_line_count(row);
+    }
+    count
+}
+
+// How many lines a verdict takes.
+fn verdict_line_count(verdict: &Option<Sequence<Step>>) -> u64
+    requires { length (verdict_lines verdict.now) < 2 ^ 64 }
+    ensures { result ≡ length (verdict_lines verdict.now) }
+{
+    match verdict {
+        None => 1,
+        Some(steps) => 1 + steps.len() as u64,
+    }
+}
+
+// How many lines the verdicts take.
+fn verdicts_line_count(verdicts: &[Option<Sequence<Step>>]) -> u64
+    requires { length (flat_map verdict_lines verdicts.now) < 2 ^ 64 }
+    ensures { result ≡ length (flat_map verdict_lines verdicts.now) }
+{
+    let mut count = 0;
+    for verdict in verdicts {
+        count += verdict_line_count(verdict);
+    }
+    count
+}
+
+/// The number of the line that counts the records, from 1. No memory.
+pub(crate) fn records_line(proof: &Proof) -> u64
+    requires { IsCounted proof.now }
+    ensures { result ≡ records_line proof.now }
+{
+    4 + verdicts_line_count(proof.verdicts.as_slice())
+}
+
+/// The number of the line that counts the claims, from 1. No memory.
+pub(crate) fn claims_line(proof: &Proof) -> u64
+    requires { IsCounted proof.now }
+    ensures { result ≡ claims_line proof.now }
+{
+    records_line(proof) + 1 + rows_line_count(proof.rows.as_slice())
+}

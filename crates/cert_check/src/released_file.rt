@@ -1,0 +1,56 @@
+//! The rows of a released file.
+ghost use Rattle.std.specs.Prelude.{◌≡◌, ℕ, List, IfNone, IfOk, IfSome, length};
+ghost use Rattle.std.specs.Bool.{Decides};
+ghost use Rattle.cert_check.specs.inner.Rows.{AreInLimits, AreRowsOf};
+
+use edit_model::Survey;
+use foundation::OutOfMemory;
+use record_text::{Sheet, SheetFault, Texts, read_records};
+use std::alloc::Global;
+
+/// The rows of the released bytes, if these are, as a record file, the header and so many rows as long as it. The
+/// file is read as one of no fields: its texts stand for no values yet.
+pub(crate) fn released_rows(
+    alloc: Global,
+    header: &Texts,
+    bytes: &[u8],
+    count: u32,
+) -> Result<Option<Sheet>, OutOfMemory>
+    requires { AreInLimits header.now count }
+    ensures some { IfOk result (λ found. IfSome found (λ sheet. AreRowsOf header.now bytes.now count sheet.raws)) }
+    ensures none { IfOk result (λ found. IfNone found ((rows : List (List (List ℕ))) → ¬ AreRowsOf header.now bytes.now count rows)) }
+{
+    let no_fields = Survey::of(alloc, Vec::new(alloc), Vec::new(alloc))?;
+    match read_records(alloc, &no_fields, bytes) {
+        Ok(sheet) => Ok(if_fits(header, sheet, count)),
+        Err(SheetFault::OutOfMemory) => Err(OutOfMemory),
+        Err(_) => Ok(None),
+    }
+}
+
+// The sheet, if it has this header and so many rows.
+fn if_fits(header: &Texts, sheet: Sheet, count: u32) -> Option<Sheet>
+    ensures some { IfSome result (λ kept. (kept ≡ sheet) × (sheet.header ≡ header.now) × (length sheet.rows ≡ count)) }
+    ensures none { IfNone result ((sheet.header ≡ header.now) → ¬ (length sheet.rows ≡ count)) }
+{
+    if are_equal(sheet.header(), header) && sheet.len() == count {
+        Some(sheet)
+    } else {
+        None
+    }
+}
+
+// Whether the texts are the same.
+fn are_equal(texts: &Texts, others: &Texts) -> bool
+    ensures { Decides result (texts.now ≡ others.now) }
+{
+    if texts.len() != others.len() {
+        return false;
+    }
+    for place in 0..texts.len() {
+        if texts.get(place) != others.get(place) {
+            return false;
+        }
+    }
+    true
+}

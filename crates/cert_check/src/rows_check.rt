@@ -1,0 +1,96 @@
+//! Whether what a proof says of all records is valid.
+ghost use Rattle.std.specs.Prelude.{◌≡◌, ◌<◌, ◌^◌, [], All, IfOk, drop, length, slice_index_or};
+ghost use Rattle.std.specs.List.{AllByRecursion, flat_map};
+ghost use Rattle.cert_check.specs.Releases.{behind, files_of, is_released};
+ghost use Rattle.cert_check.specs.inner.Checks.{IsChecking, files_in, rules_in};
+ghost use Rattle.cert_check.specs.inner.Finds.{FindsAmong};
+ghost use Rattle.edit_model.specs.Rows.{IsRow};
+ghost use Rattle.proof_grammar.specs.ProofLines.{row_lines};
+
+use crate::checking::{Checking, RowAt};
+use crate::line_counts::row_line_count;
+use crate::row_check::row_fault;
+use crate::row_fault::RowFault;
+use bound_cert::{Outcome, RowProof};
+use foundation::OutOfMemory;
+use record_text::Sheet;
+use std::alloc::Global;
+
+/// The first fault of what is said of the records, if there is one. The released rows are those of the records that
+/// are released, in order.
+pub(crate) fn rows_fault(
+    alloc: Global,
+    checking: &Checking,
+    saids: &[RowProof],
+    records: &Sheet,
+    released: &Sheet,
+) -> Result<Option<RowFault>, OutOfMemory>
+    requires checking { IsChecking checking.now }
+    requires one_each { length saids.now ≡ length records.now.rows }
+    requires rows { AllByRecursion (IsRow checking.now.survey.now.fields) records.now.rows }
+    requires within { All (λ column. column < length records.now.header) checking.now.columns.now }
+    requires long { AllByRecursion (λ texts. length texts ≡ length records.now.header) records.now.raws }
+    requires as_long { AllByRecursion (λ texts. length texts ≡ length records.now.header) released.now.raws }
+    requires few { length (flat_map row_lines saids.now) < 2 ^ 64 }
+    ensures { IfOk result (λ found. FindsAmong (rules_in checking.now) saids.now records.now.raws records.now.rows released.now.raws found) }
+{
+    let mut offset = 0;
+    let mut next = 0;
+    for row_no in 0..records.len() {
+        let said = &saids[row_no as usize];
+        let files = files_at(said, records, row_no, released, next);
+        if let Some(fault) = row_fault(alloc, checking, &files, said)? {
+            return Ok(Some(RowFault {
+                offset: offset + fault.offset,
+                why: fault.why,
+            }));
+        }
+        offset += row_line_count(said);
+        next = behind(said, released, next);
+    }
+    Ok(None)
+}
+
+// The record of this number, with the next released row if it is released.
+fn files_at<'a>(
+    said: &RowProof,
+    records: &'a Sheet,
+    row_no: u32,
+    released: &'a Sheet,
+    next: u32,
+) -> RowAt<'a>
+    requires { row_no < length records.now.rows }
+    ensures { files_in result ≡ files_of said.now (slice_index_or records.now.raws row_no []) (slice_index_or records.now.rows row_no []) (drop next released.now.raws) }
+{
+    let texts = if is_released(said) && next < released.len() {
+        Some(released.raw(next))
+    } else {
+        None
+    };
+    RowAt {
+        reads: records.raw(row_no),
+        row: records.row(row_no),
+        texts,
+    }
+}
+
+// The place of the next released row behind a record.
+fn behind(said: &RowProof, released: &Sheet, next: u32) -> u32
+    ensures { drop result released.now.raws ≡ behind said.now (drop next released.now.raws) }
+{
+    if is_released(said) && next < released.len() {
+        next + 1
+    } else {
+        next
+    }
+}
+
+/// Whether a record is released. No memory.
+pub(crate) fn is_released(said: &RowProof) -> bool
+    ensures { result ≡ is_released said.now }
+{
+    match &said.outcome {
+        Outcome::Change { .. } => said.gift.is_none(),
+        Outcome::Budget { .. } | Outcome::Overflow { .. } | Outcome::Contradictory { .. } => false,
+    }
+}

@@ -1,0 +1,131 @@
+//! Whether a proof, as it was read, is right for rules, records and released bytes.
+ghost use Rattle.std.specs.Prelude.{◌≡◌, ◌≤◌, ℕ, List, IfOk, None, is_none, length, map};
+ghost use Rattle.std.specs.List.{filter};
+ghost use Rattle.edit_line.specs.Lines.{AreOver};
+ghost use Rattle.edit_line.specs.Shapes.{shape_of};
+ghost use Rattle.edit_normal.specs.RuleLines.{normal_lines_of};
+ghost use Rattle.cert_check.specs.Releases.{Spells, dropped_line, head_fault, is_released};
+ghost use Rattle.cert_check.specs.inner.Answers.{Answers, IsOfSheet, audit_in};
+ghost use Rattle.cert_check.specs.inner.Counts.{IsCounted};
+ghost use Rattle.cert_check.specs.declared.fault.CheckFault.TheVariants as faults;
+
+use crate::checking::Checking;
+use crate::fault::{CheckFault, Why};
+use crate::head::{dropped_line, head_fault};
+use crate::line_counts::{claims_line, records_line};
+use crate::released_file::released_rows;
+use crate::rows_check::{is_released, rows_fault};
+use bound_cert::RowProof;
+use derivation::Step;
+use edit_line::Line;
+use edit_model::Survey;
+use edit_normal::normal_lines;
+use foundation::{OutOfMemory, Sequence};
+use proof_text::Proof;
+use record_text::Sheet;
+use std::alloc::Global;
+
+/// What a proof is checked against: the rules and the records as they were read, and the released bytes.
+#[derive(Clone, Copy)]
+pub(crate) struct Audit<'a> {
+    pub(crate) rules: &'a Survey,
+    pub(crate) records: &'a Sheet,
+    pub(crate) released: &'a [u8],
+}
+
+/// How many records are released, where all is right, or the first condition that fails.
+pub(crate) fn check_said(alloc: Global, audit: &Audit, said: &Proof) -> Result<u32, CheckFault>
+    requires sheet { IsOfSheet audit.now }
+    requires counted { IsCounted said.now }
+    ensures { (bytes : List ℕ) → Spells bytes said.now → Answers (audit_in audit.now bytes) result }
+{
+    let lines = rule_lines(alloc, audit.rules)?;
+    if let Some(line) = head_fault(said, lines.len(), audit.records.len()) {
+        return Err(rejected(line, Why::Head));
+    }
+    if let Some(line) = dropped_line(said) {
+        return Err(rejected(line, Why::Drop));
+    }
+    check_records(alloc, audit, &lines, said)
+}
+
+// The same of a proof whose limits and counts fit, and which drops no line of the rules.
+fn check_records(
+    alloc: Global,
+    audit: &Audit,
+    lines: &[Line],
+    said: &Proof,
+) -> Result<u32, CheckFault>
+    requires sheet { IsOfSheet audit.now }
+    requires counted { IsCounted said.now }
+    requires lines { lines.now ≡ normal_lines_of audit.now.rules.now }
+    requires head { (bytes : List ℕ) → head_fault (audit_in audit.now bytes) said.now ≡ None }
+    requires kept { dropped_line said.now ≡ None }
+    ensures { (bytes : List ℕ) → Spells bytes said.now → Answers (audit_in audit.now bytes) result }
+{
+    let saids = said.rows.as_slice();
+    let count = released_count(saids);
+    let Some(released) = released_rows(alloc, audit.records.header(), audit.released, count)? else {
+        return Err(rejected(0, Why::RowText));
+    };
+    let usable = kept_flags(alloc, said.verdicts.as_slice())?;
+    let checking = Checking {
+        survey: audit.rules,
+        given: lines,
+        usable: &usable,
+        columns: audit.records.columns(),
+        budget: said.budget,
+    };
+    if let Some(fault) = rows_fault(alloc, &checking, saids, audit.records, &released)? {
+        return Err(rejected(records_line(said) + 1 + fault.offset, fault.why));
+    }
+    if !said.claims.is_empty() {
+        return Err(rejected(claims_line(said), Why::Claims));
+    }
+    Ok(count)
+}
+
+/// The files are refused for this condition, which fails at this line.
+pub(crate) fn rejected(line: u64, why: Why) -> CheckFault
+    ensures { result ≡ faults.Rejected line why }
+{
+    CheckFault::Rejected { line, why }
+}
+
+// The lines of all rules.
+fn rule_lines(alloc: Global, rules: &Survey) -> Result<Vec<Line>, OutOfMemory>
+    ensures lines { IfOk result (λ lines. lines.items ≡ normal_lines_of rules.now) }
+    ensures over { IfOk result (λ lines. AreOver (shape_of rules.now.fields) lines.items) }
+{
+    let numbered = normal_lines(alloc, rules)?;
+    let mut lines = Vec::with_capacity(alloc, numbered.len())?;
+    for rule_line in numbered {
+        lines.push(rule_line.line)?;
+    }
+    Ok(lines)
+}
+
+// For each line of the rules whether it is kept.
+fn kept_flags(alloc: Global, verdicts: &[Option<Sequence<Step>>]) -> Result<Vec<bool>, OutOfMemory>
+    ensures { IfOk result (λ flags. flags.items ≡ map is_none verdicts.now) }
+{
+    let mut flags = Vec::with_capacity(alloc, verdicts.len())?;
+    for verdict in verdicts {
+        flags.push(verdict.is_none())?;
+    }
+    Ok(flags)
+}
+
+// How many records are released.
+fn released_count(saids: &[RowProof]) -> u32
+    requires { length saids.now ≤ 200000 }
+    ensures { result ≡ length (filter is_released saids.now) }
+{
+    let mut count = 0;
+    for said in saids {
+        if is_released(said) {
+            count += 1;
+        }
+    }
+    count
+}
