@@ -1,0 +1,2 @@
+pub mod NormalLines
+pub mod CaseLaws
