@@ -1,4 +1,4 @@
-use Rattle.std.proofs.Common.{◌≡◌, ℕ, zero, suc, Bool, true, List, [], ◌∷◌, Option, Some, None, refl, sym, ap, ◌∙◌, subst}
+use Rattle.std.proofs.Common.{◌≡◌, ℕ, zero, suc, Bool, true, List, [], ◌∷◌, map, is_none, Option, Some, None, refl, sym, ap, ◌∙◌, subst}
 use Rattle.edit_model.specs.Parts.{SurveyParts}
 use Rattle.edit_model.specs.Rows.{IsRow}
 use Rattle.edit_model.specs.Surveys.{IsWellFormed}
@@ -9,14 +9,18 @@ use Rattle.bound_cert.specs.declared.cert.Cert.{Cert}
 use Rattle.bound_cert.specs.declared.outcome.GiftFault.{GiftFault}
 use Rattle.bound_cert.specs.declared.outcome.Outcome.{Outcome}
 use Rattle.bound_cert.specs.declared.outcome.Outcome.TheVariants as outcome
+use Rattle.bound_cert.specs.declared.outcome.RowProof.{RowProof}
+use Rattle.edit_line.specs.Lines.{LineParts}
 use Rattle.edit_paths.specs.Cases.{IsCase, case_of}
 use Rattle.edit_paths.specs.Outcomes.{outcome_of}
 use Rattle.edit_paths.proofs.CertificateTrees.{change-tree, contradiction-tree}
 use Rattle.back_subst.specs.declared.gift.Gift.{Gift}
 use Rattle.edit_report.specs.declared.end.RowEnd.{RowEnd}
 use Rattle.record_workers.specs.Ends.{Follows, IsEndOf}
-use Rattle.cert_check.specs.RowChecks.{IsReleased, IsValidRow, IsValidSaid, RowFiles, RowRules}
-use Rattle.edit_release.specs.Edits.{HasTree, IsShown, all_usable, said, said_of}
+use Rattle.record_text.specs.Sheets.{SheetParts}
+use Rattle.cert_check.specs.Releases.{audit_of, rules_of}
+use Rattle.cert_check.specs.RowChecks.{IsReleased, IsValidGift, IsValidRow, RowFiles, RowRules}
+use Rattle.edit_release.specs.Edits.{HasTree, IsShown, all_kept, all_usable, proof_of, said, said_of}
 use Rattle.edit_release.proofs.CaseLaws.{rule-case, rules-given}
 use Rattle.edit_release.proofs.EventLaws.{event-there}
 use Rattle.edit_release.proofs.GiftFaults.{stop-there}
@@ -28,10 +32,18 @@ use Rattle.edit_release.proofs.OutcomeLaws.{change-is, work-within}
 abbrev pub edit_rules : SurveyParts → List ℕ → ℕ → RowRules
 edit_rules survey columns budget = record { survey = survey; given = normal_lines_of survey; usable = all_usable (normal_lines_of survey); columns = columns; budget = budget }
 
--- a record to which values were given is released, with those of its path, or of no field where they weigh nothing
+-- the checks of its proof are made by them
+pub rules-are : (survey : SurveyParts) (sheet : SheetParts) (released proof : List ℕ) (budget : ℕ) (ends : List RowEnd) → rules_of (audit_of survey sheet released proof) (proof_of survey budget ends) ≡ edit_rules survey sheet.columns budget
+rules-are survey sheet released proof budget ends =
+    ap (λ (usable : List Bool). record { survey = survey; given = normal_lines_of survey; usable = usable; columns = sheet.columns; budget = budget }) (none-dropped (normal_lines_of survey))
+  where
+    none-dropped : (lines : List LineParts) → map is_none (all_kept lines) ≡ all_usable lines
+    none-dropped [] = refl
+    none-dropped (line ∷ lines) = ap (λ (usable : List Bool). true ∷ usable) (none-dropped lines)
+
+-- texts are released for a record that is changed and was given values
 abbrev pub IsReleasedSaid : RowRules → RowFiles → Outcome → Option GiftFault → Type 0
-IsReleasedSaid r f (outcome.Change path zero cert) None = IsReleased r f []
-IsReleasedSaid r f (outcome.Change path (suc w) cert) None = IsReleased r f path
+IsReleasedSaid r f (outcome.Change path weight cert) None = IsReleased r f path
 IsReleasedSaid r f o stop = Unit {0}
 
 module _ (survey : SurveyParts) (row : List Value) (budget : ℕ) (formed : IsWellFormed survey) (is : IsRow survey.fields row) where
@@ -52,16 +64,29 @@ module _ (survey : SurveyParts) (row : List Value) (budget : ℕ) (formed : IsWe
     abbrev f : RowFiles
     f = record { reads = reads; row = row; texts = texts }
 
-    valid-said : (o : Outcome) (stop : Option GiftFault) (gift : Option Gift) → outcome_of (case_of survey (rule_edits survey) row) budget ≡ o → Follows survey (rule_edits survey) row o stop gift → IsReleasedSaid r f o stop
-        → IsValidRow r f (said_of o stop)
-    valid-said (outcome.Change path zero cert) None gift e follows released = released
-    valid-said (outcome.Change path (suc w) cert) None gift e follows released = (change-is (case_of survey (rule_edits survey) row) budget path (suc w) cert e, has-tree _ e, released)
-    valid-said (outcome.Change path weight cert) (Some stop) None e follows released =
-        (change-is (case_of survey (rule_edits survey) row) budget path weight cert e, has-tree _ e, stop-there survey (rule_edits survey) row follows.changed None stop follows.stops)
-    valid-said (outcome.Change path weight cert) (Some stop) (Some gift) e follows released = absurd follows
-    valid-said (outcome.Budget path work) stop gift e follows released = work-within (case_of survey (rule_edits survey) row) budget path work e
-    valid-said (outcome.Overflow path event) stop gift e follows released = event-there (case_of survey (rule_edits survey) row) (rule-case survey row formed is) budget path event e
-    valid-said (outcome.Contradictory cert) stop gift e follows released = has-tree _ e
+    -- what is said of a record, if it is released as that says, is right
+    abbrev IsRight : RowProof → Type 0
+    IsRight said = IsReleasedSaid r f said.outcome said.gift → IsValidRow r f said
 
-    pub said-valid : (end : RowEnd) → IsEndOf survey (rule_edits survey) budget row end → IsReleasedSaid r f end.proof.outcome end.proof.gift → IsValidRow r f (said end)
-    said-valid end ends released = valid-said end.proof.outcome end.proof.gift end.gift (sym ends.outcome) ends.follows released
+    stopped : (path : List Bool) (weight : ℕ) (cert : Cert) (stop : GiftFault) (gift : Option Gift) → outcome_of (case_of survey (rule_edits survey) row) budget ≡ outcome.Change path weight cert
+        → Follows survey (rule_edits survey) row (outcome.Change path weight cert) (Some stop) gift → IsValidGift r f path weight cert.leaves stop
+    stopped path weight cert stop None e follows =
+        (change-is (case_of survey (rule_edits survey) row) budget path weight cert e, has-tree _ e, stop-there survey (rule_edits survey) row follows.changed None stop follows.stops)
+    stopped path weight cert stop (Some gift) e follows = absurd follows
+
+    right-said : (o : Outcome) (stop : Option GiftFault) (gift : Option Gift) → outcome_of (case_of survey (rule_edits survey) row) budget ≡ o → Follows survey (rule_edits survey) row o stop gift → IsRight (said_of o stop)
+    right-said (outcome.Change path zero cert) None gift e follows released = released
+    right-said (outcome.Change path (suc w) cert) None gift e follows released = (change-is (case_of survey (rule_edits survey) row) budget path (suc w) cert e, has-tree _ e, released)
+    right-said (outcome.Change path zero cert) (Some stop) gift e follows released = stopped path zero cert stop gift e follows
+    right-said (outcome.Change path (suc w) cert) (Some stop) gift e follows released = stopped path (suc w) cert stop gift e follows
+    right-said (outcome.Budget path work) stop gift e follows released = work-within (case_of survey (rule_edits survey) row) budget path work e
+    right-said (outcome.Overflow path event) stop gift e follows released = event-there (case_of survey (rule_edits survey) row) (rule-case survey row formed is) budget path event e
+    right-said (outcome.Contradictory cert) stop gift e follows released = has-tree _ e
+
+  -- the proof of an edit is right of a record
+  pub said-valid : (r : RowRules) (f : RowFiles) (end : RowEnd) → r ≡ edit_rules survey r.columns budget → f.row ≡ row → IsEndOf survey (rule_edits survey) budget row end
+      → IsReleasedSaid r f (said end).outcome (said end).gift → IsValidRow r f (said end)
+  said-valid r f end rules_are row_is ends =
+      subst (λ (s : RowRules). IsReleasedSaid s f (said end).outcome (said end).gift → IsValidRow s f (said end)) (sym rules_are)
+      (subst (λ (read : List Value). (let g : RowFiles = record { reads = f.reads; row = read; texts = f.texts } in IsReleasedSaid (edit_rules survey r.columns budget) g (said end).outcome (said end).gift → IsValidRow (edit_rules survey r.columns budget) g (said end))) (sym row_is)
+      (right-said r.columns f.reads f.texts end.proof.outcome end.proof.gift end.gift (sym ends.outcome) ends.follows))
