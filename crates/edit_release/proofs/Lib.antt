@@ -4,3 +4,4 @@ pub mod OutcomeLaws
 pub mod EventLaws
 pub mod GiftFaults
 pub mod SaidLaws
+pub mod SoundLaws
