@@ -1,4 +1,4 @@
-use Rattle.std.proofs.Common.{◌≡◌, ◌<◌, ◌≤◌, ◌&&◌, ℕ, zero, suc, nat_le, nat_lt, Bool, true, List, [], ◌∷◌, inl, inr, Option, Some, None, Result, Ok, Err, length, slice_get, ℤ, refl, sym, ap, ◌∙◌, subst, arith}
+use Rattle.std.proofs.Common.{◌≡◌, ℕ, zero, suc, nat_le, nat_lt, Bool, true, List, [], ◌∷◌, inl, inr, Option, Some, None, Result, Ok, Err, length, slice_get, ℤ, refl, ap, ◌∙◌, subst, arith}
 use Rattle.std.proofs.lemmas.Bool.Decides.{Decides-ltb, nat_tests}
 use Rattle.fraction128.specs.Formulas.{Ratio}
 use Rattle.edit_model.specs.Corrections.{is_numerical}
@@ -26,7 +26,6 @@ use Rattle.edit_paths.specs.Cases.{Case, IsCase}
 use Rattle.edit_paths.specs.Events.{IsStepOverflow, IsTestOverflow}
 use Rattle.edit_paths.specs.Outcomes.{outcome_of}
 use Rattle.edit_paths.specs.ReachedPaths.{reached_paths}
-use Rattle.edit_paths.specs.States.{state_of}
 use Rattle.edit_paths.proofs.CaseSystems.{system-over}
 use Rattle.edit_paths.proofs.ReachedLaws.{reached-are}
 use Rattle.record_workers.proofs.OverflowLaws.{step-shown, stops-from, test-shown}

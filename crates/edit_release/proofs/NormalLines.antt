@@ -1,5 +1,4 @@
-use Rattle.std.proofs.Common.{◌≡◌, ◌≤◌, ◌^◌, ◌==◌, not, ℕ, zero, suc, Bool, true, false, if◌then◌else◌, inl, inr, List, [], ◌∷◌, All, map, slice_index_or, unsigned_abs, ℤ, pos, ◌<ℤ◌, refl, sym, subst, arith}
-use Rattle.std.specs.List.{flat_map}
+use Rattle.std.proofs.Common.{◌≡◌, ◌≤◌, ◌^◌, ◌==◌, not, ℕ, zero, suc, Bool, true, false, if◌then◌else◌, inl, inr, List, [], ◌∷◌, All, map, unsigned_abs, ℤ, pos, ◌<ℤ◌, refl, sym, subst, arith}
 use lib.IntN.{neg_ℤ}
 use Rattle.std.proofs.lemmas.Int.{ints}
 use Rattle.std.proofs.lemmas.List.{length-map}
@@ -44,11 +43,11 @@ reduced-line line is full = IsLine-divided line (divisor_of line.factors line.co
 numbers-in : (number : ℕ → ℤ) (fields : List ℕ) → ((f : ℕ) → InRange (number f)) → All InRange (map number fields)
 numbers-in number fields each = all-in InRange (map number fields) (λ z there. let (f, was, is) = in-map-out number z fields there in subst (λ (x : ℤ). InRange x) (sym is) (each f))
 
-module _ (fields : List Field) where
-  -- a number of a rule is small
-  small-in : (z : ℤ) → unsigned_abs z ≤ 10 ^ 15 → InRange z
-  small-in z small = omega (arith, small)
+-- a number of a rule is small
+small-in : (z : ℤ) → unsigned_abs z ≤ 10 ^ 15 → InRange z
+small-in z small = omega (arith, small)
 
+module _ (fields : List Field) where
   factor-in : (terms : List Term) (f : ℕ) → All (IsTerm fields) terms → InRange (term_factor terms f)
   factor-in [] f are = omega arith
   factor-in (term ∷ terms) f are = by (term.field == f) (factor-in terms f (λ k d below. are (suc k) d (omega arith)))

@@ -1,10 +1,9 @@
-use Rattle.std.proofs.Common.{◌≡◌, ◌≤◌, ◌+◌, ◌++◌, ◌==◌, ◌&&◌, not, nat_lt, ℕ, zero, suc, Bool, true, false, if◌then◌else◌, List, [], ◌∷◌, Option, Some, None, length, refl, sym, ap, ◌∙◌, arith}
+use Rattle.std.proofs.Common.{◌≡◌, ◌≤◌, ◌+◌, ◌++◌, not, nat_lt, ℕ, zero, suc, Bool, true, false, if◌then◌else◌, List, [], ◌∷◌, Some, None, refl, sym, ap, ◌∙◌, arith}
 use Rattle.std.proofs.lemmas.Bool.Decides.{Decides-eqb, nat_tests}
 use Rattle.std.proofs.lemmas.List.Sums.{sum_by-append, sum_by-cons}
 use Rattle.edit_line.proofs.BoolLaws.{true-both}
-use Rattle.bound_cert.specs.Paths.{keeps_bad, path_weight}
+use Rattle.bound_cert.specs.Paths.{path_weight}
 use Rattle.bound_cert.specs.declared.cert.Cert.{Cert}
-use Rattle.bound_cert.specs.declared.cert.Leaf.{Leaf}
 use Rattle.bound_cert.specs.declared.outcome.Outcome.TheVariants as outcome
 use Rattle.proof_grammar.specs.Limits.{clean_leaves}
 use Rattle.edit_paths.specs.Cases.{Case}

@@ -1,8 +1,9 @@
-use Rattle.std.proofs.Common.{◌≡◌, ℕ, zero, suc, Bool, true, List, [], ◌∷◌, map, is_none, Option, Some, None, refl, sym, ap, ◌∙◌, subst}
+use Rattle.std.proofs.Common.{◌≡◌, ℕ, zero, suc, Bool, true, List, [], ◌∷◌, map, is_none, Option, Some, None, refl, sym, ap, subst}
 use Rattle.edit_model.specs.Parts.{SurveyParts}
 use Rattle.edit_model.specs.Rows.{IsRow}
 use Rattle.edit_model.specs.Surveys.{IsWellFormed}
 use Rattle.edit_model.specs.declared.value.Value.{Value}
+use Rattle.edit_line.specs.Lines.{LineParts}
 use Rattle.edit_normal.specs.RuleEdits.{rule_edits}
 use Rattle.edit_normal.specs.RuleLines.{normal_lines_of}
 use Rattle.bound_cert.specs.declared.cert.Cert.{Cert}
@@ -10,14 +11,13 @@ use Rattle.bound_cert.specs.declared.outcome.GiftFault.{GiftFault}
 use Rattle.bound_cert.specs.declared.outcome.Outcome.{Outcome}
 use Rattle.bound_cert.specs.declared.outcome.Outcome.TheVariants as outcome
 use Rattle.bound_cert.specs.declared.outcome.RowProof.{RowProof}
-use Rattle.edit_line.specs.Lines.{LineParts}
-use Rattle.edit_paths.specs.Cases.{IsCase, case_of}
+use Rattle.edit_paths.specs.Cases.{case_of}
 use Rattle.edit_paths.specs.Outcomes.{outcome_of}
 use Rattle.edit_paths.proofs.CertificateTrees.{change-tree, contradiction-tree}
 use Rattle.back_subst.specs.declared.gift.Gift.{Gift}
+use Rattle.record_text.specs.Sheets.{SheetParts}
 use Rattle.edit_report.specs.declared.end.RowEnd.{RowEnd}
 use Rattle.record_workers.specs.Ends.{Follows, IsEndOf}
-use Rattle.record_text.specs.Sheets.{SheetParts}
 use Rattle.cert_check.specs.Releases.{audit_of, rules_of}
 use Rattle.cert_check.specs.RowChecks.{IsReleased, IsValidGift, IsValidRow, RowFiles, RowRules}
 use Rattle.edit_release.specs.Edits.{HasTree, IsShown, all_kept, all_usable, proof_of, said, said_of}

@@ -1,4 +1,4 @@
-use Rattle.std.proofs.Common.{◌≡◌, ◌++◌, ◌&&◌, ℕ, zero, suc, Bool, true, List, [], ◌∷◌, Option, Some, None, Result, Ok, Err, length, slice_get, ℤ, pos, ◌<ℤ◌, int_lt, refl, sym}
+use Rattle.std.proofs.Common.{◌≡◌, ◌++◌, ℕ, zero, suc, Bool, true, List, [], ◌∷◌, Option, Some, None, Result, Ok, Err, length, slice_get, ℤ, pos, ◌<ℤ◌, int_lt, refl, sym}
 use Rattle.std.specs.List.{AllByRecursion}
 use Rattle.fraction128.specs.Formulas.{then_some}
 use Rattle.edit_model.specs.Parts.{SurveyParts}
@@ -7,7 +7,6 @@ use Rattle.edit_model.specs.Surveys.{IsWellFormed}
 use Rattle.edit_model.specs.declared.value.Value.{Value}
 use Rattle.edit_line.specs.Combinations.{may_combine, sum_of}
 use Rattle.edit_line.specs.Divisors.{divided_by}
-use Rattle.edit_line.specs.Lines.{LineParts}
 use Rattle.edit_line.proofs.BoolLaws.{both_true}
 use Rattle.edit_line.proofs.Enough.{is_enough-Decides}
 use Rattle.edit_normal.specs.RuleEdits.{rule_edits}
@@ -19,7 +18,6 @@ use Rattle.derivation.specs.declared.step.Step.{Step}
 use Rattle.derivation.specs.declared.step.Step.TheVariants as step
 use Rattle.derivation.proofs.CoverLaws.{was-some, was-true}
 use Rattle.bound_cert.specs.ValidTrees.{IsValidLeaf, IsValidTree, TreeCase, premises_at, steps_in}
-use Rattle.bound_cert.specs.declared.cert.Cert.{Cert}
 use Rattle.bound_cert.specs.declared.cert.Leaf.{Leaf}
 use Rattle.bound_cert.specs.declared.cert.LeafWhy.{LeafWhy}
 use Rattle.bound_cert.specs.declared.cert.LeafWhy.TheVariants as why
