@@ -1,3 +1,6 @@
 pub mod NewRowLaws
 pub mod ShownLaws
 pub mod UsableLaws
+pub mod CountLaws
+pub mod PlaceLaws
+pub mod RowsLoop

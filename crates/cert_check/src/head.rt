@@ -38,6 +38,10 @@ pub(crate) fn dropped_line(proof: &Proof) -> Option<u64>
     requires { IsCounted proof.now }
     ensures { result ≡ dropped_line proof.now }
 {
-    let place = proof.verdicts.as_slice().iter().position(|verdict| verdict.is_some())?;
-    Some(4 + place as u64)
+    for (place, verdict) in proof.verdicts.as_slice().iter().enumerate() {
+        if verdict.is_some() {
+            return Some(4 + place as u64);
+        }
+    }
+    None
 }

@@ -1,7 +1,7 @@
 //! Whether what a proof says of all records is valid.
-ghost use Rattle.std.specs.Prelude.{◌≡◌, ◌<◌, ◌^◌, [], All, IfOk, drop, length, slice_index_or};
+ghost use Rattle.std.specs.Prelude.{◌≡◌, ◌<◌, ◌^◌, [], All, IfOk, drop, length, option_map, slice_index_or};
 ghost use Rattle.std.specs.List.{AllByRecursion, flat_map};
-ghost use Rattle.cert_check.specs.Releases.{behind, files_of, is_released};
+ghost use Rattle.cert_check.specs.Releases.{behind, files_of, is_released, next_texts};
 ghost use Rattle.cert_check.specs.inner.Checks.{IsChecking, files_in, rules_in};
 ghost use Rattle.cert_check.specs.inner.Finds.{FindsAmong};
 ghost use Rattle.edit_model.specs.Rows.{IsRow};
@@ -13,7 +13,7 @@ use crate::row_check::row_fault;
 use crate::row_fault::RowFault;
 use bound_cert::{Outcome, RowProof};
 use foundation::OutOfMemory;
-use record_text::Sheet;
+use record_text::{Sheet, Texts};
 use std::alloc::Global;
 
 /// The first fault of what is said of the records, if there is one. The released rows are those of the records that
@@ -62,15 +62,21 @@ fn files_at<'a>(
     requires { row_no < length records.now.rows }
     ensures { files_in result ≡ files_of said.now (slice_index_or records.now.raws row_no []) (slice_index_or records.now.rows row_no []) (drop next released.now.raws) }
 {
-    let texts = if is_released(said) && next < released.len() {
-        Some(released.raw(next))
-    } else {
-        None
-    };
     RowAt {
         reads: records.raw(row_no),
         row: records.row(row_no),
-        texts,
+        texts: texts_at(said, released, next),
+    }
+}
+
+// The released texts at the next place, if the record is released.
+fn texts_at<'a>(said: &RowProof, released: &'a Sheet, next: u32) -> Option<&'a Texts>
+    ensures { option_map (λ t. t.now) result ≡ next_texts said.now (drop next released.now.raws) }
+{
+    if is_released(said) && next < released.len() {
+        Some(released.raw(next))
+    } else {
+        None
     }
 }
 
