@@ -1,1 +1,2 @@
 pub mod ReadBackLaws
+pub mod ReleasedLaws
