@@ -1,2 +1,3 @@
+pub mod ColumnTexts
 pub mod ReadBackLaws
 pub mod ReleasedLaws
