@@ -1,3 +1,4 @@
 pub mod ColumnTexts
+pub mod GivenValues
 pub mod ReadBackLaws
 pub mod ReleasedLaws
