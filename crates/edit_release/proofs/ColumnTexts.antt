@@ -1,5 +1,5 @@
 -- The texts of a released row, column by column: those of the changed fields, and else those that were read.
-use Rattle.std.proofs.Common.{◌≡◌, ◌≢◌, ◌∙◌, sym, ap, refl, ℕ, zero, suc, ◌+◌, ◌<◌, ◌==◌, ◌&&◌, ◌||◌, Bool, true, false, cond, nat_lt, if◌then◌else◌, List, [], ◌∷◌, length, get_or, AllPairs, Option, Some, None, arith}
+use Rattle.std.proofs.Common.{◌≡◌, ◌≢◌, ◌∙◌, ap, refl, ℕ, zero, suc, ◌+◌, ◌<◌, ◌==◌, ◌&&◌, ◌||◌, Bool, true, false, cond, nat_lt, if◌then◌else◌, List, [], ◌∷◌, length, get_or, AllPairs, Option, Some, None, arith}
 use Rattle.std.specs.List.{position}
 use Rattle.std.specs.Str.{bytes_eq}
 use Rattle.std.proofs.lemmas.Bool.{ne_eqb}
@@ -9,7 +9,7 @@ use Rattle.std.proofs.lemmas.List.Sums.{position_or_len_is}
 use Rattle.std.proofs.lemmas.Slice.Eq.{bytes_eq-Decides}
 use Rattle.edit_model.specs.declared.field.Field.{Field}
 use Rattle.edit_model.specs.declared.value.Value.{Value}
-use Rattle.edit_line.proofs.BoolLaws.{or_true}
+use Rattle.edit_line.proofs.BoolLaws.{true-both, true-first, true-second}
 use Rattle.edit_report.specs.Layouts.{field_in}
 use Rattle.edit_report.specs.Released.{column_text, text_at, texts_from}
 use Rattle.cert_check.specs.Released.{same_from, stands_changed}
@@ -55,24 +55,25 @@ module _ (fields : List Field) (columns : List ℕ) (changed : ℕ → Bool) (ne
   stands-at told i f j [] below here is = absurd (omega arith)
   stands-at told i zero j (column ∷ some) below here is =
       let own : i ≡ i + 0 = omega arith in
-      ap (λ b. (b && (column == j)) || stands_changed told (suc i) some j) (ap told own ∙ is) ∙ ap (λ b. b || stands_changed told (suc i) some j) here
+      true-first (told i && (column == j)) (stands_changed told (suc i) some j) (true-both (told i) (column == j) (ap told own ∙ is) here)
   stands-at told i (suc f) j (column ∷ some) below here is =
       let next : suc i + f ≡ i + suc f = omega arith in
-      ap (λ b. (told i && (column == j)) || b) (stands-at told (suc i) f j some (omega arith) here (ap told next ∙ is)) ∙ or_true (told i && (column == j))
+      true-second (told i && (column == j)) (stands_changed told (suc i) some j) (stands-at told (suc i) f j some (omega arith) here (ap told next ∙ is))
 
   module _ (told : ℕ → Bool) (same : (f : ℕ) → told f ≡ changed f) where
     same-text : (j : ℕ) (read : List ℕ) (field : Option ℕ) → field_in columns j ≡ field → (bytes_eq (column_text fields changed new field read) read || stands_changed told 0 columns j) ≡ true
-    same-text j read None is = ap (λ b. b || stands_changed told 0 columns j) ((bytes_eq-Decides read read).1 refl)
+    same-text j read None is = true-first (bytes_eq read read) (stands_changed told 0 columns j) ((bytes_eq-Decides read read).1 refl)
     same-text j read (Some f) is = by (changed f) refl
       where
         by : (b : Bool) → changed f ≡ b → (bytes_eq (if b then text_at fields new f else read) read || stands_changed told 0 columns j) ≡ true
-        by false e = ap (λ b. b || stands_changed told 0 columns j) ((bytes_eq-Decides read read).1 refl)
+        by false e = true-first (bytes_eq read read) (stands_changed told 0 columns j) ((bytes_eq-Decides read read).1 refl)
         by true e =
             let there = position-Some (λ c. c == j) columns f 0 is in
             let own : 0 + f ≡ f = omega arith in
-            ap (λ b. bytes_eq (text_at fields new f) read || b) (stands-at told 0 f j columns there.0 there.1 (ap told own ∙ same f ∙ e)) ∙ or_true (bytes_eq (text_at fields new f) read)
+            true-second (bytes_eq (text_at fields new f) read) (stands_changed told 0 columns j) (stands-at told 0 f j columns there.0 there.1 (ap told own ∙ same f ∙ e))
 
     pub same-elsewhere : (j : ℕ) (reads : List (List ℕ)) → same_from told columns j reads (texts_from fields columns changed new j reads) ≡ true
     same-elsewhere j [] = refl
     same-elsewhere j (read ∷ reads) =
-        ap (λ b. b && same_from told columns (suc j) reads (texts_from fields columns changed new (suc j) reads)) (same-text j read (field_in columns j) refl) ∙ same-elsewhere (suc j) reads
+        true-both (bytes_eq (column_text fields changed new (field_in columns j) read) read || stands_changed told 0 columns j) (same_from told columns (suc j) reads (texts_from fields columns changed new (suc j) reads))
+        (same-text j read (field_in columns j) refl) (same-elsewhere (suc j) reads)

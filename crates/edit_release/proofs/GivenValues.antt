@@ -1,6 +1,6 @@
 -- The values of a record that was given values: their texts stand for them, and where the record is changed they are others.
 use Rattle.std.proofs.Common.{◌≡◌, ◌≢◌, ◌∙◌, sym, ap, refl, ℕ, zero, suc, ◌+◌, ◌<◌, ◌≤◌, ◌==◌, ◌||◌, ◌⊎◌, inl, inr, not, Bool, true, false, if◌then◌else◌, List, [], ◌∷◌, length, map, get_or, slice_get, All, Some, subst, ℤ, pos, ◌*ℤ◌, ◌<ℤ◌, arith}
-use Rattle.std.specs.List.{AllByRecursion, list_any}
+use Rattle.std.specs.List.{list_any}
 use Rattle.std.specs.Str.{bytes_eq}
 use Rattle.std.proofs.lemmas.Bool.{cases_lt, ne_eqb}
 use Rattle.std.proofs.lemmas.Bool.Decides.{Decides-int_eq}
@@ -83,8 +83,8 @@ values-from told text i (field ∷ fields) (v ∷ row) (w ∷ new) is_row is_new
     let own : i + 0 ≡ i = omega arith in (
       subst (λ n. IsValueOf (told n) field.kind (text n) v w) own (each 0 field refl),
       values-from told text (suc i) fields row new is_row.1 is_new.1 (λ k f at.
-      let next : i + suc k ≡ suc i + k = omega arith in
-      subst (λ n. IsValueOf (told n) f.kind (text n) (value_of row k) (value_of new k)) next (each (suc k) f at)),
+          let next : i + suc k ≡ suc i + k = omega arith in
+          subst (λ n. IsValueOf (told n) f.kind (text n) (value_of row k) (value_of new k)) next (each (suc k) f at)),
     )
 
 -- each field has a value

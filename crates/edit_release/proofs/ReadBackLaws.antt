@@ -1,14 +1,14 @@
 -- A written record file is read back as it was.
-use Rattle.std.proofs.Common.{◌≡◌, ◌∙◌, sym, ap, subst, refl, ℕ, zero, suc, ◌≤◌, ◌==◌, ◌&&◌, Bool, true, false, if◌then◌else◌, List, [], ◌∷◌, ◌++◌, length, Some, None, arith, append_assoc}
+use Rattle.std.proofs.Common.{◌≡◌, ◌∙◌, sym, ap, subst, refl, ℕ, ◌≤◌, ◌==◌, ◌&&◌, Bool, true, false, List, [], ◌∷◌, ◌++◌, length, None, arith, append_assoc}
 use Rattle.std.proofs.lemmas.Bool.Decides.{nat_tests}
-use Rattle.std.specs.List.{AllByRecursion, list_any}
+use Rattle.std.specs.List.{AllByRecursion}
 use Rattle.csv.proofs.RoundTrip.{read-write}
 use Rattle.csv.specs.Machine.{next_record}
 use Rattle.csv.specs.Reading.{AreRecords, Reached, default_config, is_bom, strip_bom}
-use Rattle.csv.specs.Writing.{default_writer, escaped, field_text, fields_text, is_blank, needs_quotes, read_back, row_text}
+use Rattle.csv.specs.Writing.{default_writer, field_text, fields_text, is_blank, needs_quotes, read_back, row_text}
 use Rattle.csv.specs.declared.parser.State.TheVariants as st
 use Rattle.edit_model.specs.declared.field.Field.{Field}
-use Rattle.record_text.proofs.HeaderLaws.{header_length}
+use Rattle.edit_line.proofs.BoolLaws.{and_false}
 use Rattle.record_text.specs.Sheets.{AreRecordsOf, IsSheet, SheetParts}
 use Rattle.record_text.specs.Texts.{records_text}
 use Rattle.record_text.specs.Trimming.{header_of, without_marks}
@@ -35,13 +35,10 @@ sheet_header_kept fields bytes sheet is = rw is.header (header_of_header is.firs
 -- ---- a written header does not begin with a mark
 
 second_differs : (x y z : Bool) → y ≡ false → (x && y && z) ≡ false
-second_differs true y z e = rw e refl
-second_differs false y z e = refl
+second_differs x y z e = rw (e, and_false x) refl
 
 third_differs : (x y z : Bool) → z ≡ false → (x && y && z) ≡ false
-third_differs true true z e = e
-third_differs true false z e = refl
-third_differs false y z e = refl
+third_differs x y z e = rw e (and_false (x && y))
 
 stripped_if_none : (a b c : ℕ) (rest : List ℕ) → is_bom a b c ≡ false → strip_bom (a ∷ b ∷ c ∷ rest) ≡ a ∷ b ∷ c ∷ rest
 unfolding strip_bom

@@ -172,8 +172,8 @@ module _ (survey : SurveyParts) (columns : List ℕ) (reads : List (List ℕ)) (
   released-as : (told : ℕ → Bool) → ((f : ℕ) → told f ≡ changes survey.fields path f) → IsReleasedAs survey columns told reads row texts gift.row
   released-as told same = record {
     values = values-from told (checked.text_at columns texts) 0 survey.fields row gift.row is_row given.imputed.fits (λ k field at.
-    let own : 0 + k ≡ k = omega arith in
-    subst (λ n. IsValueOf (told n) field.kind (checked.text_at columns texts n) (value_of row k) (value_of gift.row k)) (sym own) (value-told k field (told k) at (sym (same k))));
+        let own : 0 + k ≡ k = omega arith in
+        subst (λ n. IsValueOf (told n) field.kind (checked.text_at columns texts n) (value_of row k) (value_of gift.row k)) (sym own) (value-told k field (told k) at (sym (same k))));
     elsewhere = same-elsewhere survey.fields columns (changes survey.fields path) gift.row told same 0 reads;
     whole = none-bad gift.row (λ f below. agrees-held gift.row corrected.point f (agrees f below));
     holds = all-hold survey.rules gift.row given.tested;

@@ -1,5 +1,5 @@
 -- What the proof says of the records, one after another, each with the texts that are released of it.
-use Rattle.std.proofs.Common.{◌≡◌, ◌≢◌, ◌∙◌, sym, ap, subst, refl, ℕ, zero, suc, ◌<◌, ◌++◌, Bool, true, false, if◌then◌else◌, List, [], ◌∷◌, length, map, All, AllPairs, IsSome, Option, Some, None}
+use Rattle.std.proofs.Common.{◌≡◌, ◌≢◌, sym, ap, subst, refl, ℕ, zero, suc, ◌<◌, ◌++◌, Bool, if◌then◌else◌, List, [], ◌∷◌, length, map, All, AllPairs, IsSome, Option, Some, None}
 use Rattle.std.specs.Prelude.{is_some, option_map}
 use Rattle.std.specs.List.{AllByRecursion, AllZip}
 use Rattle.edit_model.specs.Parts.{SurveyParts}
@@ -11,7 +11,6 @@ use Rattle.edit_line.specs.EditSets.{EditsParts}
 use Rattle.bound_cert.specs.declared.outcome.GiftFault.{GiftFault}
 use Rattle.bound_cert.specs.declared.outcome.Outcome.{Outcome}
 use Rattle.bound_cert.specs.declared.outcome.Outcome.TheVariants.{Budget, Change, Contradictory, Overflow}
-use Rattle.bound_cert.specs.declared.outcome.RowProof.{RowProof}
 use Rattle.back_subst.specs.declared.gift.Gift.{Gift}
 use Rattle.record_text.specs.Values.{AreRows, AreValues}
 use Rattle.edit_report.specs.Ends.{path_found}
