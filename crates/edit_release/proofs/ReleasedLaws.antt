@@ -41,46 +41,42 @@ use Rattle.edit_release.proofs.ReadBackLaws.{sheet_header_kept, written-read}
 
 -- ---- which records are released
 
--- the proof tells the fault of a change, if there is one: a change that weighs nothing has none
-abbrev pub IsTold : Outcome → Option GiftFault → Type 0
-IsTold (Change path zero cert) (Some fault) = ⊥
-IsTold outcome fault = Unit {0}
-
 -- the proof says of a record that it is released where it was given values
 abbrev pub IsSaidReleased : RowEnd → Type 0
 IsSaidReleased end = is_released (said end) ≡ is_some end.gift
 
-said-released : (survey : SurveyParts) (edits : EditsParts) (row : List Value) (outcome : Outcome) (fault : Option GiftFault) (gift : Option Gift) → Follows survey edits row outcome fault gift → IsTold outcome fault
+said-released : (survey : SurveyParts) (edits : EditsParts) (row : List Value) (outcome : Outcome) (fault : Option GiftFault) (gift : Option Gift) → Follows survey edits row outcome fault gift
     → is_released (said_of outcome fault) ≡ is_some gift
-said-released survey edits row (Change path zero cert) None None follows told = absurd follows
-said-released survey edits row (Change path zero cert) None (Some gift) follows told = refl
-said-released survey edits row (Change path zero cert) (Some fault) gift follows told = absurd told
-said-released survey edits row (Change path (suc w) cert) None None follows told = absurd follows
-said-released survey edits row (Change path (suc w) cert) None (Some gift) follows told = refl
-said-released survey edits row (Change path (suc w) cert) (Some fault) None follows told = refl
-said-released survey edits row (Change path (suc w) cert) (Some fault) (Some gift) follows told = absurd follows
-said-released survey edits row (Budget path work) None None follows told = refl
-said-released survey edits row (Budget path work) None (Some gift) follows told = absurd follows
-said-released survey edits row (Budget path work) (Some fault) None follows told = absurd follows
-said-released survey edits row (Budget path work) (Some fault) (Some gift) follows told = absurd follows
-said-released survey edits row (Overflow path event) None None follows told = refl
-said-released survey edits row (Overflow path event) None (Some gift) follows told = absurd follows
-said-released survey edits row (Overflow path event) (Some fault) None follows told = absurd follows
-said-released survey edits row (Overflow path event) (Some fault) (Some gift) follows told = absurd follows
-said-released survey edits row (Contradictory cert) None None follows told = refl
-said-released survey edits row (Contradictory cert) None (Some gift) follows told = absurd follows
-said-released survey edits row (Contradictory cert) (Some fault) None follows told = absurd follows
-said-released survey edits row (Contradictory cert) (Some fault) (Some gift) follows told = absurd follows
+said-released survey edits row (Change path zero cert) None None follows = absurd follows
+said-released survey edits row (Change path zero cert) None (Some gift) follows = refl
+said-released survey edits row (Change path zero cert) (Some fault) None follows = refl
+said-released survey edits row (Change path zero cert) (Some fault) (Some gift) follows = absurd follows
+said-released survey edits row (Change path (suc w) cert) None None follows = absurd follows
+said-released survey edits row (Change path (suc w) cert) None (Some gift) follows = refl
+said-released survey edits row (Change path (suc w) cert) (Some fault) None follows = refl
+said-released survey edits row (Change path (suc w) cert) (Some fault) (Some gift) follows = absurd follows
+said-released survey edits row (Budget path work) None None follows = refl
+said-released survey edits row (Budget path work) None (Some gift) follows = absurd follows
+said-released survey edits row (Budget path work) (Some fault) None follows = absurd follows
+said-released survey edits row (Budget path work) (Some fault) (Some gift) follows = absurd follows
+said-released survey edits row (Overflow path event) None None follows = refl
+said-released survey edits row (Overflow path event) None (Some gift) follows = absurd follows
+said-released survey edits row (Overflow path event) (Some fault) None follows = absurd follows
+said-released survey edits row (Overflow path event) (Some fault) (Some gift) follows = absurd follows
+said-released survey edits row (Contradictory cert) None None follows = refl
+said-released survey edits row (Contradictory cert) None (Some gift) follows = absurd follows
+said-released survey edits row (Contradictory cert) (Some fault) None follows = absurd follows
+said-released survey edits row (Contradictory cert) (Some fault) (Some gift) follows = absurd follows
 
-pub end-said : (survey : SurveyParts) (edits : EditsParts) (budget : ℕ) (row : List Value) (end : RowEnd) → IsEndOf survey edits budget row end → IsTold end.proof.outcome end.proof.gift → IsSaidReleased end
-end-said survey edits budget row end is told = said-released survey edits row end.proof.outcome end.proof.gift end.gift is.follows told
+pub end-said : (survey : SurveyParts) (edits : EditsParts) (budget : ℕ) (row : List Value) (end : RowEnd) → IsEndOf survey edits budget row end → IsSaidReleased end
+end-said survey edits budget row end is = said-released survey edits row end.proof.outcome end.proof.gift end.gift is.follows
 
 pub ends-said : (survey : SurveyParts) (edits : EditsParts) (budget : ℕ) (rows : List (List Value)) (ends : List RowEnd) → AllZip (IsEndOf survey edits budget) rows ends
-    → AllByRecursion (λ (end : RowEnd). IsTold end.proof.outcome end.proof.gift) ends → AllByRecursion IsSaidReleased ends
-ends-said survey edits budget [] [] each told = tt
-ends-said survey edits budget [] (end ∷ ends) each told = absurd each
-ends-said survey edits budget (row ∷ rows) [] each told = absurd each
-ends-said survey edits budget (row ∷ rows) (end ∷ ends) each told = (end-said survey edits budget row end each.0 told.0, ends-said survey edits budget rows ends each.1 told.1)
+    → AllByRecursion IsSaidReleased ends
+ends-said survey edits budget [] [] each = tt
+ends-said survey edits budget [] (end ∷ ends) each = absurd each
+ends-said survey edits budget (row ∷ rows) [] each = absurd each
+ends-said survey edits budget (row ∷ rows) (end ∷ ends) each = (end-said survey edits budget row end each.0, ends-said survey edits budget rows ends each.1)
 
 -- there are as many
 said-count : (ends : List RowEnd) → AllByRecursion IsSaidReleased ends → length (filter (λ (end : RowEnd). is_some end.gift) ends) ≡ length (filter is_released (map said ends))
