@@ -32,12 +32,9 @@ module _ (r : RowRules) (saids : List RowProof) (raws : List (List (List ℕ))) 
     fault = λ rest why found. subst (λ (n : ℕ). IsFaultAmong r saids raws rows released n why) (omega arith) found;
   }
 
-  module _ (i next offset : ℕ) (goes : GoesOn i next offset) (here : i < length saids) (same : length saids ≡ length rows) (also : length raws ≡ length rows) (none : RowProof) where
-    said : RowProof
-    said = get_or saids i none
-
+  module _ (i next offset : ℕ) (goes : GoesOn i next offset) (here : i < length saids) (same : length saids ≡ length rows) (also : length raws ≡ length rows) (said : RowProof) (is_said : said ≡ get_or saids i said) where
     saids-are : drop i saids ≡ said ∷ drop (i + 1) saids
-    saids-are = drop_more saids i none here
+    saids-are = drop_more saids i said here ∙ ap (λ (s : RowProof). s ∷ drop (i + 1) saids) (sym is_said)
 
     raws-are : drop i raws ≡ get_or raws i [] ∷ drop (i + 1) raws
     raws-are = drop_more raws i [] (omega (arith, here, same, also))

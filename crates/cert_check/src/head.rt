@@ -1,10 +1,12 @@
 //! Whether a proof fits the rules and the records.
-ghost use Rattle.std.specs.Prelude.{◌≡◌};
+ghost use Rattle.std.specs.Prelude.{◌≡◌, is_some, position};
 ghost use Rattle.cert_check.specs.Releases.{dropped_line, limits_fit};
 ghost use Rattle.cert_check.specs.inner.Counts.{IsCounted};
 ghost use Rattle.cert_check.specs.inner.Parts.{head_fault_of};
 
 use crate::line_counts::records_line;
+use derivation::Step;
+use foundation::Sequence;
 use proof_text::Proof;
 
 /// The first line that does not fit: the limits, the count of the lines of the rules, or the count of the records.
@@ -38,10 +40,15 @@ pub(crate) fn dropped_line(proof: &Proof) -> Option<u64>
     requires { IsCounted proof.now }
     ensures { result ≡ dropped_line proof.now }
 {
-    for (place, verdict) in proof.verdicts.as_slice().iter().enumerate() {
-        if verdict.is_some() {
-            return Some(4 + place as u64);
-        }
+    match first_dropped(proof.verdicts.as_slice()) {
+        Some(place) => Some(4 + place as u64),
+        None => None,
     }
-    None
+}
+
+// The place of the first verdict that drops its line.
+fn first_dropped(verdicts: &[Option<Sequence<Step>>]) -> Option<usize>
+    ensures { result ≡ position is_some verdicts.now }
+{
+    verdicts.iter().position(|verdict| verdict.is_some())
 }

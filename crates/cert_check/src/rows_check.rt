@@ -59,7 +59,8 @@ fn files_at<'a>(
     released: &'a Sheet,
     next: u32,
 ) -> RowAt<'a>
-    requires { row_no < length records.now.rows }
+    requires rows { row_no < length records.now.rows }
+    requires raws { row_no < length records.now.raws }
     ensures { files_in result ≡ files_of said.now (slice_index_or records.now.raws row_no []) (slice_index_or records.now.rows row_no []) (drop next released.now.raws) }
 {
     RowAt {
