@@ -4,3 +4,4 @@ pub mod UsableLaws
 pub mod CountLaws
 pub mod PlaceLaws
 pub mod RowsLoop
+pub mod ReleasedFileLaws

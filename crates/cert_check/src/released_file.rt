@@ -1,5 +1,5 @@
 //! The rows of a released file.
-ghost use Rattle.std.specs.Prelude.{◌≡◌, ℕ, List, IfNone, IfOk, IfSome, length};
+ghost use Rattle.std.specs.Prelude.{◌≡◌, [], ℕ, List, IfNone, IfOk, IfSome, length};
 ghost use Rattle.std.specs.Bool.{Decides};
 ghost use Rattle.cert_check.specs.inner.Rows.{AreInLimits, AreRowsOf};
 
@@ -20,12 +20,18 @@ pub(crate) fn released_rows(
     ensures some { IfOk result (λ found. IfSome found (λ sheet. AreRowsOf header.now bytes.now count sheet.raws)) }
     ensures none { IfOk result (λ found. IfNone found ((rows : List (List (List ℕ))) → ¬ AreRowsOf header.now bytes.now count rows)) }
 {
-    let no_fields = Survey::of(alloc, Vec::new(alloc), Vec::new(alloc))?;
-    match read_records(alloc, &no_fields, bytes) {
+    match read_records(alloc, &no_fields(alloc)?, bytes) {
         Ok(sheet) => Ok(if_fits(header, sheet, count)),
-        Err(SheetFault::OutOfMemory) => Err(OutOfMemory),
+        Err(fault) if fault == SheetFault::OutOfMemory => Err(OutOfMemory),
         Err(_) => Ok(None),
     }
+}
+
+// A survey of no fields.
+fn no_fields(alloc: Global) -> Result<Survey, OutOfMemory>
+    ensures { IfOk result (λ survey. survey.fields ≡ []) }
+{
+    Survey::of(alloc, Vec::new(alloc), Vec::new(alloc))
 }
 
 // The sheet, if it has this header and so many rows.
