@@ -4,3 +4,4 @@ pub mod Releases
 pub mod RowChecks
 pub mod Shown
 pub mod Texts
+pub mod inner

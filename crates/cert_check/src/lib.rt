@@ -3,8 +3,14 @@
 //! `specs/Releases.antt`, and what it shows in `specs/Shown.antt`.
 #![tactic(auto)]
 
+mod changed_fields;
 mod check;
+mod checking;
 mod fault;
+mod new_values;
+mod released_row;
+mod right_row;
+mod same_texts;
 
 pub use check::check_all;
 pub use fault::{CheckFault, Why};

@@ -1,0 +1,5 @@
+pub mod ChangeLaws
+pub mod ReleasedLaws
+pub mod RuleLoop
+pub mod ValueLaws
+pub mod ValueLoop

@@ -1,0 +1,48 @@
+use Rattle.std.specs.Prelude.{◌≡◌, ℕ, ◌<◌, All, Bool, false, List, IfSome, IsSomeAnd, length, option_map, slice_get}
+use Rattle.std.specs.List.{list_any}
+use Rattle.edit_model.specs.Parts.{SurveyParts}
+use Rattle.edit_model.specs.Rows.{IsRow, is_bad, value_of}
+use Rattle.edit_model.specs.declared.field.Field.{Field}
+use Rattle.edit_model.specs.declared.value.Value.{Value}
+use Rattle.edit_line.specs.Lines.{AreOver}
+use Rattle.edit_line.specs.Shapes.{shape_of}
+use Rattle.bound_cert.specs.Paths.{changes}
+use Rattle.cert_check.specs.Released.{AllHold, AreValuesFrom, IsValueOf, text_at}
+use Rattle.cert_check.specs.RowChecks.{RowFiles, RowRules}
+use Rattle.cert_check.specs.declared.checking.Checking.{Checking}
+use Rattle.cert_check.specs.declared.checking.RowAt.{RowAt}
+
+-- The parts of the audit. Private contracts alone cite this page.
+
+-- by what the records are checked
+abbrev pub rules_in : Checking → RowRules
+rules_in c = record { survey = c.survey.now; given = c.given.now; usable = c.usable.now; columns = c.columns.now; budget = c.budget }
+
+-- a record
+abbrev pub files_in : RowAt → RowFiles
+files_in f = record { reads = f.reads.now; row = f.row.now; texts = option_map (λ t. t.now) f.texts }
+
+-- the parts fit each other: the lines are over the survey's fields, and each field has a column
+pub record IsChecking (c : Checking) : Type 0 where
+  pub lists : length c.given.now ≡ length c.usable.now
+  pub over : AreOver (shape_of c.survey.now.fields) c.given.now
+  pub columns : length c.columns.now ≡ length c.survey.now.fields
+
+-- the record is one of the survey, each field's column is there, and as many texts are released as were read
+pub record FitsFiles (c : Checking) (f : RowAt) : Type 0 where
+  pub row : IsRow c.survey.now.fields f.row.now
+  pub within : All (λ column. column < length f.reads.now) c.columns.now
+  pub long : IfSome f.texts (λ texts. length texts.now ≡ length f.reads.now)
+
+-- the value of the field of this number, of the record of which the path changes some fields
+abbrev pub IsValueAt : Checking → List Value → List Bool → List (List ℕ) → ℕ → Value → Type 0
+IsValueAt c row path texts f v = IsSomeAnd (slice_get c.survey.now.fields f) (λ (field : Field). IsValueOf (changes c.survey.now.fields path f) field.kind (text_at c.columns.now texts f) (value_of row f) v)
+
+-- the record is right: each field has a value, and all rules hold
+pub record IsRight (survey : SurveyParts) (row : List Value) : Type 0 where
+  pub whole : list_any is_bad row ≡ false
+  pub holds : AllHold survey.rules row
+
+-- the texts give each field a value, and the record of these is right
+abbrev pub GivesRight : Checking → List Bool → List (List ℕ) → List Value → Type 0
+GivesRight c path texts row = (new : List Value) × AreValuesFrom (changes c.survey.now.fields path) (text_at c.columns.now texts) 0 c.survey.now.fields row new × IsRight c.survey.now new
