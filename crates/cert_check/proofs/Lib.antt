@@ -1,4 +1,5 @@
 pub mod ChangeLaws
+pub mod LineCounts
 pub mod ReleasedLaws
 pub mod RuleLoop
 pub mod ValueLaws

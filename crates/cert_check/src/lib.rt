@@ -10,7 +10,10 @@ mod fault;
 mod new_values;
 mod released_row;
 mod right_row;
+mod row_check;
+mod said;
 mod same_texts;
+mod tree_check;
 
 pub use check::check_all;
 pub use fault::{CheckFault, Why};
