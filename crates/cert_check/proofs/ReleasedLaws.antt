@@ -1,5 +1,4 @@
-use Rattle.std.proofs.Common.{◌≡◌, ℕ, zero, suc, Bool, true, false, List, [], ◌∷◌, Option, Some, IsSomeAnd, option_map, slice_index_or, refl, sym, ap, subst}
-use Rattle.std.specs.Bool.{Decides}
+use Rattle.std.proofs.Common.{◌≡◌, ℕ, zero, suc, Bool, true, false, List, [], ◌∷◌, Option, Some, IsSomeAnd, option_map, slice_index_or, refl, sym, subst}
 use Rattle.std.specs.List.{list_any}
 use Rattle.std.specs.Str.{bytes_eq}
 use Rattle.std.proofs.lemmas.List.Quantifiers.{position-Some}
@@ -17,10 +16,6 @@ use Rattle.cert_check.specs.declared.checking.RowAt.{RowAt}
 use Rattle.cert_check.specs.inner.Checks.{GivesRight, IsRight, files_in, rules_in}
 
 -- A row that is released.
-
--- what decides one of two facts that follow from each other decides the other
-pub decides-same : {P Q : Type 0} (b : Bool) → (P → Q) → (Q → P) → Decides b P → Decides b Q
-decides-same b to from decides = (λ is. to (decides.0 is), λ q. decides.1 (from q))
 
 -- ---- the kinds of the values
 

@@ -1,9 +1,6 @@
-use Rattle.std.proofs.Common.{◌≡◌, ◌≢◌, ℕ, zero, suc, ◌<◌, ◌≤◌, ◌+◌, false, true, List, [], ◌∷◌, Some, add-one, drop, get_or, length, sym, subst, arith}
-use Rattle.std.proofs.Math.Seq.{drop-cons}
-use Rattle.std.proofs.lemmas.List.{drop_all}
+use Rattle.std.proofs.Common.{◌≡◌, ◌≢◌, ℕ, zero, suc, ◌<◌, false, List, [], ◌∷◌, drop, length, arith}
 use Rattle.std.specs.List.{list_any}
 use Rattle.edit_model.specs.Rows.{is_bad, value_of}
-use Rattle.edit_model.specs.Trials.{rule_at}
 use Rattle.edit_model.specs.declared.rule.Rule.{Rule}
 use Rattle.edit_model.specs.declared.value.Value.{Value}
 use Rattle.edit_model.specs.declared.value.Value.TheVariants.{Bad, Code, Number}
@@ -24,25 +21,3 @@ none-bad (Number x ∷ row) (suc f) none below = none-bad row f none (omega arit
 pub record IsHeldTo (rules : List Rule) (row : List Value) (i : ℕ) : Type 0 where
   pub back : AllHold (drop i rules) row → AllHold rules row
   pub on : AllHold rules row → AllHold (drop i rules) row
-
-pub held-none : (rules : List Rule) (row : List Value) → IsHeldTo rules row 0
-held-none rules row = record { back = λ all. all; on = λ all. all }
-
-module _ (rules : List Rule) (row : List Value) (i : ℕ) (held : IsHeldTo rules row i) where
-  module _ (rule : Rule) (is : rule ≡ get_or rules i rule) (below : i < length rules) where
-    opened : drop i rules ≡ rule ∷ drop (suc i) rules
-    opened = rw (← is) at (drop-cons rules i rule below)
-
-    -- one rule more holds
-    pub held-more : rule_at rule row ≡ Some true → IsHeldTo rules row (i + 1)
-    held-more holds = rw add-one (record {
-      back = λ all. held.back (subst (λ (rs : List Rule). AllHold rs row) (sym opened) (holds, all));
-      on = λ all. (subst (λ (rs : List Rule). AllHold rs row) opened (held.on all)).1;
-    })
-
-    -- one does not
-    pub one-fails : rule_at rule row ≢ Some true → ¬ AllHold rules row
-    one-fails fails all = fails (subst (λ (rs : List Rule). AllHold rs row) opened (held.on all)).0
-
-  pub held-all : length rules ≤ i → AllHold rules row
-  held-all past = held.back (subst (λ (rs : List Rule). AllHold rs row) (sym (drop_all i rules past)) tt)

@@ -34,9 +34,6 @@ pub record IsBegun (changed : ℕ → Bool) (text : ℕ → List ℕ) (fields : 
   pub splits : (new : List Value) → AreValuesFrom changed text 0 fields row new → (rest : List Value) × (new ≡ values ++ rest) × AreValuesFrom changed text i (drop i fields) (drop i row) rest
 
 module _ (changed : ℕ → Bool) (text : ℕ → List ℕ) (fields : List Field) (row : List Value) where
-  pub begun-none : IsBegun changed text fields row 0 []
-  begun-none = record { builds = λ rest are. are; splits = λ new are. (new, refl, are) }
-
   module _ (i : ℕ) (values : List Value) (long : length row ≡ length fields) (begun : IsBegun changed text fields row i values) where
     -- one value more
     pub begun-more : (v : Value) → i < length fields → IsValueIn changed text fields row i i v → ((w : Value) → IsValueIn changed text fields row i i w → Some v ≡ Some w) → IsBegun changed text fields row (suc i) (values ++ v ∷ [])

@@ -1,10 +1,10 @@
 //! Whether what a proof says of a record is right.
-ghost use Rattle.std.specs.Prelude.{◌≡◌, ◌<◌, ◌+◌, ◌^◌, IfOk, IfSome, None, Some, if◌then◌else◌, length, option_map};
+ghost use Rattle.std.specs.Prelude.{◌≡◌, ◌<◌, ◌+◌, ◌^◌, IfOk, None, Some, if◌then◌else◌, length, option_map};
 ghost use Rattle.std.specs.List.{flat_map};
 ghost use Rattle.proof_grammar.specs.ProofLines.{change_lines, leaf_lines, row_lines};
 ghost use Rattle.cert_check.specs.RowChecks.{IsChangeFault, IsGiftFault, IsValidChange, IsValidGift};
 ghost use Rattle.cert_check.specs.inner.Checks.{FitsFiles, IsChecking, files_in, rules_in};
-ghost use Rattle.cert_check.specs.inner.RowFaults.{Finds, FindsInCert, FindsInChange, FindsOf, IsWithin, IsWithinTree};
+ghost use Rattle.cert_check.specs.inner.RowFaults.{Finds, FindsInCert, FindsInChange, FindsOf, IsAmong, IsWithin};
 
 use crate::checking::{Checking, RowAt};
 use crate::fault::Why;
@@ -122,7 +122,7 @@ fn tree_of_change(
     requires files { FitsFiles checking.now files.now }
     requires few { length (change_lines path.now weight cert.now.leaves) < 2 ^ 64 }
     ensures found { IfOk result (FindsInChange (rules_in checking.now) (files_in files.now) path.now weight cert.now.leaves) }
-    ensures within { IfOk result (λ found. IfSome found (λ offset. offset < length (change_lines path.now weight cert.now.leaves))) }
+    ensures within { IfOk result (IsAmong (length (change_lines path.now weight cert.now.leaves))) }
 {
     if weight == 0 {
         Ok(None)
@@ -144,7 +144,7 @@ fn path_fault(
     requires files { FitsFiles checking.now files.now }
     requires few { 1 + length (flat_map leaf_lines cert.now.leaves) < 2 ^ 64 }
     ensures found { IfOk result (FindsInCert (rules_in checking.now) (files_in files.now) path.now weight cert.now.leaves) }
-    ensures within { IfOk result (IsWithinTree cert.now.leaves) }
+    ensures within { IfOk result (IsAmong (1 + length (flat_map leaf_lines cert.now.leaves))) }
 {
     if is_change(checking.survey, files.row, path, weight) {
         tree_fault(alloc, checking, files, cert, Some(weight))

@@ -6,7 +6,7 @@ ghost use Rattle.proof_grammar.specs.ProofLines.{leaf_lines};
 ghost use Rattle.cert_check.specs.Places.{step_offset, tree_offset};
 ghost use Rattle.cert_check.specs.RowChecks.{tree_of};
 ghost use Rattle.cert_check.specs.inner.Checks.{FitsFiles, IsChecking, files_in, rules_in};
-ghost use Rattle.cert_check.specs.inner.RowFaults.{FindsInTree, IsWithinTree};
+ghost use Rattle.cert_check.specs.inner.RowFaults.{FindsInTree, IsAmong};
 
 use crate::checking::{Checking, RowAt};
 use bound_cert::{Cert, CertFault, Leaf, LeafWhy, check_cert};
@@ -25,7 +25,7 @@ pub(crate) fn tree_fault(
     requires files { FitsFiles checking.now files.now }
     requires few { 1 + length (flat_map leaf_lines cert.now.leaves) < 2 ^ 64 }
     ensures found { IfOk result (FindsInTree (tree_of (rules_in checking.now) (files_in files.now) weight) cert.now.leaves) }
-    ensures within { IfOk result (IsWithinTree cert.now.leaves) }
+    ensures within { IfOk result (IsAmong (1 + length (flat_map leaf_lines cert.now.leaves))) }
 {
     match check_cert(
         alloc,

@@ -1,9 +1,7 @@
-use Rattle.std.specs.Prelude.{◌≡◌, ◌⊎◌, ℕ, zero, suc, ◌<◌, ◌+◌, Bool, true, false, List, Option, Some, None, IfSome, length}
-use Rattle.std.specs.List.{flat_map}
+use Rattle.std.specs.Prelude.{◌≡◌, ◌⊎◌, ℕ, zero, suc, ◌<◌, Bool, true, false, List, Option, Some, None, IfSome}
 use Rattle.bound_cert.specs.ValidTrees.{IsValidTree, TreeCase}
 use Rattle.bound_cert.specs.declared.cert.Leaf.{Leaf}
 use Rattle.bound_cert.specs.declared.outcome.RowProof.{RowProof}
-use Rattle.proof_grammar.specs.ProofLines.{leaf_lines, row_lines}
 use Rattle.cert_check.specs.RowChecks.{IsRowFault, IsTreeFault, IsValidRow, RowFiles, RowRules, is_change, tree_of}
 use Rattle.cert_check.specs.declared.fault.Why.{Why}
 use Rattle.cert_check.specs.declared.row_check.RowFault.{RowFault}
@@ -46,6 +44,6 @@ abbrev pub FindsInChange : RowRules → RowFiles → List Bool → ℕ → List 
 FindsInChange r f path zero leaves found = found ≡ None
 FindsInChange r f path (suc w) leaves found = FindsInCert r f path (suc w) leaves found
 
--- it stands on the head, or on a line of the leaves
-abbrev pub IsWithinTree : List Leaf → Option ℕ → Type 0
-IsWithinTree leaves found = IfSome found (λ offset. offset < 1 + length (flat_map leaf_lines leaves))
+-- it is that of one of so many lines, if there is one
+abbrev pub IsAmong : ℕ → Option ℕ → Type 0
+IsAmong lines found = IfSome found (λ offset. offset < lines)

@@ -1,4 +1,4 @@
-use Rattle.std.proofs.Common.{◌≡◌, ◌==◌, ◌∙◌, List, ap, arith, length, sym, false}
+use Rattle.std.proofs.Common.{◌≡◌, ◌∙◌, List, ap, arith, length}
 use Rattle.edit_model.specs.Corrections.{path_order}
 use Rattle.edit_model.specs.declared.field.Field.{Field}
 use Rattle.edit_model.proofs.OrderLaws.{order-length}

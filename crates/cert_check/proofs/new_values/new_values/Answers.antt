@@ -1,4 +1,4 @@
-use Rattle.std.proofs.Common.{◌≡◌, ◌<◌, add-one, ap, arith, length, List}
+use Rattle.std.proofs.Common.{◌<◌, add-one, ap, arith, length, List}
 use Rattle.edit_model.proofs.RowLaws.{row-length}
 use Rattle.edit_model.specs.declared.field.Field.{Field}
 use Rattle.bound_cert.specs.Paths.{changes}

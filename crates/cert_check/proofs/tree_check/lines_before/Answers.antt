@@ -1,5 +1,4 @@
 use Rattle.std.proofs.Common.{◌+◌, ◌≤◌, arith, length, take}
-use Rattle.std.specs.List.{flat_map}
 use Rattle.std.proofs.lemmas.List.Folds.{length-flat_map-take}
 use Rattle.proof_grammar.specs.ProofLines.{leaf_lines}
 use Rattle.cert_check.proofs.LineCounts.{lines_of}
