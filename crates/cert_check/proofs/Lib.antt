@@ -1,7 +1,13 @@
+pub mod ChangeLaws
+pub mod CountLaws
+pub mod LineCounts
 pub mod NewRowLaws
+pub mod PlaceLaws
+pub mod ReleasedFileLaws
+pub mod ReleasedLaws
+pub mod RowsLoop
+pub mod RuleLoop
 pub mod ShownLaws
 pub mod UsableLaws
-pub mod CountLaws
-pub mod PlaceLaws
-pub mod RowsLoop
-pub mod ReleasedFileLaws
+pub mod ValueLaws
+pub mod ValueLoop

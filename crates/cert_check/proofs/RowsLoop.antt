@@ -8,8 +8,9 @@ use Rattle.proof_grammar.specs.ProofLines.{row_lines}
 use Rattle.cert_check.specs.Releases.{AreValidRows, IsFaultAmong, behind, files_of, is_released, next_texts}
 use Rattle.cert_check.specs.RowChecks.{IsValidRow, RowRules}
 use Rattle.cert_check.specs.declared.fault.Why.{Why}
-use Rattle.cert_check.specs.declared.row_fault.RowFault.{RowFault}
-use Rattle.cert_check.specs.inner.Finds.{Finds, FindsAmong}
+use Rattle.cert_check.specs.declared.row_check.RowFault.{RowFault}
+use Rattle.cert_check.specs.inner.Finds.{FindsAmong}
+use Rattle.cert_check.specs.inner.RowFaults.{Finds}
 
 -- the next released row, where there is one, and the rows behind it
 pub next-there : (said : RowProof) (raws : List (List (List ℕ))) (next : ℕ) → is_released said ≡ true → next < length raws → next_texts said (drop next raws) ≡ Some (get_or raws next [])
@@ -60,7 +61,7 @@ module _ (r : RowRules) (saids : List RowProof) (raws : List (List (List ℕ))) 
     -- the fault of the record is the first
     pub goes-fault : (fault : RowFault) → Finds r (files_of said (get_or raws i []) (get_or rows i []) (drop next released)) said (Some fault) → offset + fault.offset < length (flat_map row_lines saids)
         → FindsAmong r saids raws rows released (Some (record { offset = offset + fault.offset; why = fault.why }))
-    goes-fault fault (found, not, below) fits = (
+    goes-fault fault (found, not) fits = (
       goes.fault fault.offset fault.why (rw (saids-are, raws-are, rows-are) (inl found)),
       λ all. not ((valid-apart (goes.on all)).0),
       fits,

@@ -3,4 +3,5 @@ pub mod Checks
 pub mod Counts
 pub mod Finds
 pub mod Parts
+pub mod RowFaults
 pub mod Rows

@@ -3,16 +3,22 @@
 //! `specs/Releases.antt`, and what it shows in `specs/Shown.antt`.
 #![tactic(auto)]
 
+mod changed_fields;
 mod check;
 mod checking;
 mod fault;
 mod head;
 mod line_counts;
+mod new_values;
 mod released_file;
+mod released_row;
+mod right_row;
 mod row_check;
-mod row_fault;
 mod rows_check;
+mod said;
 mod said_check;
+mod same_texts;
+mod tree_check;
 
 pub use check::check_all;
 pub use fault::{CheckFault, Why};

@@ -22,8 +22,8 @@ pub(crate) fn leaves_line_count(leaves: &[Leaf]) -> u64
     count
 }
 
-// How many lines a leaf takes.
-fn leaf_line_count(leaf: &Leaf) -> u64
+/// How many lines a leaf takes: one, and one for each of its steps. No memory.
+pub(crate) fn leaf_line_count(leaf: &Leaf) -> u64
     requires { length (leaf_lines leaf.now) < 2 ^ 64 }
     ensures { result ≡ length (leaf_lines leaf.now) }
 {

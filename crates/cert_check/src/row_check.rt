@@ -1,18 +1,30 @@
-//! Whether what a proof says of one record is valid.
-ghost use Rattle.std.specs.Prelude.{◌<◌, ◌^◌, IfOk, length};
+//! Whether what a proof says of a record is right.
+ghost use Rattle.std.specs.Prelude.{◌≡◌, ◌<◌, ◌+◌, ◌^◌, IfOk, None, Some, if◌then◌else◌, length, option_map};
+ghost use Rattle.std.specs.List.{flat_map};
+ghost use Rattle.proof_grammar.specs.ProofLines.{change_lines, leaf_lines, row_lines};
+ghost use Rattle.cert_check.specs.RowChecks.{IsChangeFault, IsGiftFault, IsValidChange, IsValidGift};
 ghost use Rattle.cert_check.specs.inner.Checks.{FitsFiles, IsChecking, files_in, rules_in};
-ghost use Rattle.cert_check.specs.inner.Finds.{Finds};
-ghost use Rattle.proof_grammar.specs.ProofLines.{row_lines};
+ghost use Rattle.cert_check.specs.inner.RowFaults.{Finds, FindsInCert, FindsInChange, FindsOf, IsAmong, IsWithin};
 
 use crate::checking::{Checking, RowAt};
-use crate::row_fault::RowFault;
-use bound_cert::RowProof;
+use crate::fault::Why;
+use crate::released_row::is_released;
+use crate::said::{event_exists, gift_exists, is_change};
+use crate::tree_check::tree_fault;
+use bound_cert::{Cert, GiftFault, Outcome, Path, RowProof};
 use foundation::OutOfMemory;
 use std::alloc::Global;
 
+/// The first fault of what a proof says of a record: how many lines behind its head, and why.
+#[derive(Clone, Copy, Debug, PartialEq, Eq)]
+pub(crate) struct RowFault {
+    pub(crate) offset: u64,
+    pub(crate) why: Why,
+}
+
 /// The first fault of what is said of a record, if there is one.
 pub(crate) fn row_fault(
-    _alloc: Global,
+    alloc: Global,
     checking: &Checking,
     files: &RowAt,
     said: &RowProof,
@@ -20,7 +32,150 @@ pub(crate) fn row_fault(
     requires checking { IsChecking checking.now }
     requires files { FitsFiles checking.now files.now }
     requires few { length (row_lines said.now) < 2 ^ 64 }
-    ensures { IfOk result (λ found. Finds (rules_in checking.now) (files_in files.now) said.now found) }
+    ensures found { IfOk result (Finds (rules_in checking.now) (files_in files.now) said.now) }
+    ensures within { IfOk result (IsWithin (length (row_lines said.now))) }
 {
-    Err(OutOfMemory)
+    match &said.outcome {
+        Outcome::Change { path, weight, cert } => match said.gift {
+            None => change_fault(alloc, checking, files, path, *weight, cert),
+            Some(fault) => gift_fault(alloc, checking, files, path, *weight, cert, fault),
+        },
+        Outcome::Budget { work, .. } => Ok(head_fault(*work <= checking.budget)),
+        Outcome::Overflow { path, event } => {
+            Ok(head_fault(event_exists(checking.survey, path, *event)))
+        }
+        Outcome::Contradictory { cert } => {
+            Ok(cert_fault(tree_fault(alloc, checking, files, cert, None)?))
+        }
+    }
+}
+
+// The first fault of a change that was given values.
+fn change_fault(
+    alloc: Global,
+    checking: &Checking,
+    files: &RowAt,
+    path: &Path,
+    weight: u64,
+    cert: &Cert,
+) -> Result<Option<RowFault>, OutOfMemory>
+    requires checking { IsChecking checking.now }
+    requires files { FitsFiles checking.now files.now }
+    requires few { length (change_lines path.now weight cert.now.leaves) < 2 ^ 64 }
+    ensures found { IfOk result (FindsOf (IsValidChange (rules_in checking.now) (files_in files.now) path.now weight cert.now.leaves) (IsChangeFault (rules_in checking.now) (files_in files.now) path.now weight cert.now.leaves)) }
+    ensures within { IfOk result (IsWithin (length (change_lines path.now weight cert.now.leaves))) }
+{
+    match tree_of_change(alloc, checking, files, path, weight, cert)? {
+        Some(offset) => Ok(Some(RowFault {
+            offset,
+            why: Why::Cert,
+        })),
+        None => {
+            if is_released(alloc, checking, files, path.letters())? {
+                Ok(None)
+            } else {
+                Ok(Some(RowFault {
+                    offset: 0,
+                    why: Why::RowText,
+                }))
+            }
+        }
+    }
+}
+
+// The first fault of a change to which no values were given.
+fn gift_fault(
+    alloc: Global,
+    checking: &Checking,
+    files: &RowAt,
+    path: &Path,
+    weight: u64,
+    cert: &Cert,
+    fault: GiftFault,
+) -> Result<Option<RowFault>, OutOfMemory>
+    requires checking { IsChecking checking.now }
+    requires files { FitsFiles checking.now files.now }
+    requires few { 1 + length (flat_map leaf_lines cert.now.leaves) < 2 ^ 64 }
+    ensures found { IfOk result (FindsOf (IsValidGift (rules_in checking.now) (files_in files.now) path.now weight cert.now.leaves fault) (IsGiftFault (rules_in checking.now) (files_in files.now) path.now weight cert.now.leaves fault)) }
+    ensures within { IfOk result (IsWithin (1 + length (flat_map leaf_lines cert.now.leaves))) }
+{
+    match path_fault(alloc, checking, files, path, weight, cert)? {
+        Some(offset) => Ok(Some(RowFault {
+            offset,
+            why: Why::Cert,
+        })),
+        None => Ok(head_fault(gift_exists(checking.survey, fault))),
+    }
+}
+
+// How many lines behind the head the first fault of a change's path, weight or tree is. A change of nothing needs
+// no tree.
+fn tree_of_change(
+    alloc: Global,
+    checking: &Checking,
+    files: &RowAt,
+    path: &Path,
+    weight: u64,
+    cert: &Cert,
+) -> Result<Option<u64>, OutOfMemory>
+    requires checking { IsChecking checking.now }
+    requires files { FitsFiles checking.now files.now }
+    requires few { length (change_lines path.now weight cert.now.leaves) < 2 ^ 64 }
+    ensures found { IfOk result (FindsInChange (rules_in checking.now) (files_in files.now) path.now weight cert.now.leaves) }
+    ensures within { IfOk result (IsAmong (length (change_lines path.now weight cert.now.leaves))) }
+{
+    if weight == 0 {
+        Ok(None)
+    } else {
+        path_fault(alloc, checking, files, path, weight, cert)
+    }
+}
+
+// How many lines behind the head the first fault of the path, the weight or the tree is.
+fn path_fault(
+    alloc: Global,
+    checking: &Checking,
+    files: &RowAt,
+    path: &Path,
+    weight: u64,
+    cert: &Cert,
+) -> Result<Option<u64>, OutOfMemory>
+    requires checking { IsChecking checking.now }
+    requires files { FitsFiles checking.now files.now }
+    requires few { 1 + length (flat_map leaf_lines cert.now.leaves) < 2 ^ 64 }
+    ensures found { IfOk result (FindsInCert (rules_in checking.now) (files_in files.now) path.now weight cert.now.leaves) }
+    ensures within { IfOk result (IsAmong (1 + length (flat_map leaf_lines cert.now.leaves))) }
+{
+    if is_change(checking.survey, files.row, path, weight) {
+        tree_fault(alloc, checking, files, cert, Some(weight))
+    } else {
+        Ok(Some(0))
+    }
+}
+
+// The fault at the head of a record, unless what it says is right.
+fn head_fault(right: bool) -> Option<RowFault>
+    ensures { result ≡ (if right then None else Some (record { offset = 0; why = Why.Cert })) }
+{
+    if right {
+        None
+    } else {
+        Some(RowFault {
+            offset: 0,
+            why: Why::Cert,
+        })
+    }
+}
+
+// The fault so many lines behind the head of a record, if there is one.
+fn cert_fault(offset: Option<u64>) -> Option<RowFault>
+    ensures { result ≡ option_map (λ offset. record { offset = offset; why = Why.Cert }) offset }
+{
+    match offset {
+        None => None,
+        Some(offset) => Some(RowFault {
+            offset,
+            why: Why::Cert,
+        }),
+    }
 }

@@ -9,8 +9,7 @@ ghost use Rattle.proof_grammar.specs.ProofLines.{row_lines};
 
 use crate::checking::{Checking, RowAt};
 use crate::line_counts::row_line_count;
-use crate::row_check::row_fault;
-use crate::row_fault::RowFault;
+use crate::row_check::{RowFault, row_fault};
 use bound_cert::{Outcome, RowProof};
 use foundation::OutOfMemory;
 use record_text::{Sheet, Texts};

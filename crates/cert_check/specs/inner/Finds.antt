@@ -5,13 +5,8 @@ use Rattle.edit_model.specs.declared.value.Value.{Value}
 use Rattle.bound_cert.specs.declared.outcome.RowProof.{RowProof}
 use Rattle.proof_grammar.specs.ProofLines.{row_lines}
 use Rattle.cert_check.specs.Releases.{AreValidRows, IsFaultAmong}
-use Rattle.cert_check.specs.RowChecks.{IsRowFault, IsValidRow, RowFiles, RowRules}
-use Rattle.cert_check.specs.declared.row_fault.RowFault.{RowFault}
-
--- of one record: it is valid, or has this first fault
-abbrev pub Finds : RowRules → RowFiles → RowProof → Option RowFault → Type 0
-Finds r f said None = IsValidRow r f said
-Finds r f said (Some fault) = IsRowFault r f said fault.offset fault.why × ¬ IsValidRow r f said × (fault.offset < length (row_lines said))
+use Rattle.cert_check.specs.RowChecks.{RowRules}
+use Rattle.cert_check.specs.declared.row_check.RowFault.{RowFault}
 
 -- of all records: they are valid, or this is the first fault, so many lines behind the head of the first record
 abbrev pub FindsAmong : RowRules → List RowProof → List (List (List ℕ)) → List (List Value) → List (List (List ℕ)) → Option RowFault → Type 0

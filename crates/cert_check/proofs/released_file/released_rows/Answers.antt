@@ -2,8 +2,8 @@ use Rattle.std.proofs.Common.{◌≡◌, ◌∙◌, Bool, true, false, sym}
 use Rattle.cert_check.proofs.ReleasedFileLaws.{fits-none, fits-some, unread-none}
 use Rattle.cert_check.proofs.released_file.released_rows.Goals as goal
 
-no_and_yes : (b : Bool) → b ≡ false → b ≡ true → ⊥
-no_and_yes b no yes = cc (sym no ∙ yes)
+not_both : (b : Bool) → b ≡ false → b ≡ true → ⊥
+not_both b f t = cc (sym f ∙ t)
 
 pub returns-in-Ok-clause-some : goal.returns-in-Ok-clause-some
 returns-in-Ok-clause-some c =
@@ -17,5 +17,5 @@ pub returns : goal.returns
 returns c = record {
   some = tt;
   none = unread-none c.args.header.now c.args.bytes.now c.args.count c.requires _ c.in_ok-no_fields.ensures
-    (c.in-Err.ensures.unread (λ same. no_and_yes c.eq.result c.if-eq.false (c.eq.ensures.1 same)));
+    (c.in-Err.ensures.unread (λ same. not_both c.eq.result c.if-eq.false (search (c.eq.ensures, same))));
 }

@@ -18,8 +18,8 @@ pub overflow_add-result : goal.overflow_add-result
 overflow_add-result c =
     let below : c.loop-row_no.row_no < length c.args.saids.now = omega (arith, c.loop-row_no-test.true, c.len-row_no-end.ensures.rows, c.requires.one_each) in
     let fits = count-fits row_lines c.args.saids.now c.loop-row_no.row_no c.index-saids-row_no.result below c.index-saids-row_no.is in
-    let found = rw c.in-Some.is at c.in_ok-fault.ensures in
-    omega (arith, fits, c.requires.few, found.2, c.loop-row_no.invariant.1)
+    let within = rw c.in-Some.is at c.in_ok-fault.ensures.within in
+    omega (arith, fits, c.requires.few, within, c.loop-row_no.invariant.1)
 
 pub row_line_count-offset-requires : goal.row_line_count-offset-requires
 row_line_count-offset-requires c =
@@ -38,16 +38,17 @@ returns-in-Some c =
     let below : c.loop-row_no.row_no < length c.args.saids.now = omega (arith, c.loop-row_no-test.true, c.len-row_no-end.ensures.rows, c.requires.one_each) in
     let fits = count-fits row_lines c.args.saids.now c.loop-row_no.row_no c.index-saids-row_no.result below c.index-saids-row_no.is in
     let also : length c.args.records.now.raws ≡ length c.args.records.now.rows = sym c.len-row_no-end.ensures.raws ∙ c.len-row_no-end.ensures.rows in
-    let found = rw (c.in-Some.is, c.files_at-files.ensures) at c.in_ok-fault.ensures in
+    let found = rw (c.in-Some.is, c.files_at-files.ensures) at c.in_ok-fault.ensures.found in
+    let within = rw c.in-Some.is at c.in_ok-fault.ensures.within in
     goes-fault (rules_in c.args.checking.now) c.args.saids.now c.args.records.now.raws c.args.records.now.rows c.args.released.now.raws c.loop-row_no.row_no c.loop-row_no.next c.loop-row_no.offset c.loop-row_no.invariant.0 below c.requires.one_each also
-    c.index-saids-row_no.result c.index-saids-row_no.is c.in-Some.fault found (omega (arith, fits, found.2, c.loop-row_no.invariant.1))
+    c.index-saids-row_no.result c.index-saids-row_no.is c.in-Some.fault found (omega (arith, fits, within, c.loop-row_no.invariant.1))
 
 pub loop-row_no-preserved : goal.loop-row_no-preserved
 loop-row_no-preserved c =
     let below : c.loop-row_no.row_no < length c.args.saids.now = omega (arith, c.loop-row_no-test.true, c.len-row_no-end.ensures.rows, c.requires.one_each) in
     let more = count-more row_lines c.args.saids.now c.loop-row_no.row_no c.index-saids-row_no.result below c.index-saids-row_no.is in
     let also : length c.args.records.now.raws ≡ length c.args.records.now.rows = sym c.len-row_no-end.ensures.raws ∙ c.len-row_no-end.ensures.rows in
-    let valid = rw (c.in_default.is, c.files_at-files.ensures) at c.in_ok-fault.ensures in (
+    let valid = rw (c.in_default.is, c.files_at-files.ensures) at c.in_ok-fault.ensures.found in (
       rw c.row_line_count-offset.ensures (goes-more (rules_in c.args.checking.now) c.args.saids.now c.args.records.now.raws c.args.records.now.rows c.args.released.now.raws c.loop-row_no.row_no c.loop-row_no.next c.loop-row_no.offset c.loop-row_no.invariant.0 below c.requires.one_each also
       c.index-saids-row_no.result c.index-saids-row_no.is c.behind-next.result valid c.behind-next.ensures),
       omega (arith, more, c.row_line_count-offset.ensures, c.loop-row_no.invariant.1),

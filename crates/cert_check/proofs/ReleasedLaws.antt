@@ -1,0 +1,91 @@
+use Rattle.std.proofs.Common.{◌≡◌, ℕ, zero, suc, Bool, true, false, List, [], ◌∷◌, Option, Some, IsSomeAnd, option_map, slice_index_or, refl, sym, subst}
+use Rattle.std.specs.List.{list_any}
+use Rattle.std.specs.Str.{bytes_eq}
+use Rattle.std.proofs.lemmas.List.Quantifiers.{position-Some}
+use Rattle.edit_model.specs.Rows.{IsOfKind, IsRow}
+use Rattle.edit_model.specs.declared.field.Field.{Field}
+use Rattle.edit_model.specs.declared.field.Kind.{Kind}
+use Rattle.edit_model.specs.declared.field.Kind.TheVariants as kind
+use Rattle.edit_model.specs.declared.value.Value.{Value}
+use Rattle.edit_model.specs.declared.value.Value.TheVariants.{Bad, Code, Number}
+use Rattle.bound_cert.specs.Paths.{changes, path_place}
+use Rattle.cert_check.specs.Released.{AreValuesFrom, IsGivenText, IsReleasedAs, IsValueOf, same_from, text_at}
+use Rattle.cert_check.specs.RowChecks.{IsReleased}
+use Rattle.cert_check.specs.declared.checking.Checking.{Checking}
+use Rattle.cert_check.specs.declared.checking.RowAt.{RowAt}
+use Rattle.cert_check.specs.inner.Checks.{GivesRight, IsRight, files_in, rules_in}
+
+-- A row that is released.
+
+-- ---- the kinds of the values
+
+given-kind : (k : Kind) (text : List ℕ) (v : Value) → IsGivenText k text v → IsOfKind k v
+given-kind (kind.Number scale) text (Number x) is = tt
+given-kind (kind.Number scale) text (Code c) is = absurd is
+given-kind (kind.Number scale) text Bad is = absurd is
+given-kind (kind.Code codes) text (Number x) is = absurd is
+given-kind (kind.Code codes) text (Code c) is = (position-Some (λ code. bytes_eq code text) codes c [] is).0
+given-kind (kind.Code codes) text Bad is = absurd is
+
+value-kind : (b : Bool) (k : Kind) (text : List ℕ) (read v : Value) → IsOfKind k read → IsValueOf b k text read v → IsOfKind k v
+value-kind false k text read v fits is = subst (λ (u : Value). IsOfKind k u) (sym is) fits
+value-kind true k text read v fits is = given-kind k text v is.0
+
+module _ (changed : ℕ → Bool) (text : ℕ → List ℕ) where
+  -- the values are a record of the survey
+  pub values-row : (i : ℕ) (fields : List Field) (row new : List Value) → IsRow fields row → AreValuesFrom changed text i fields row new → IsRow fields new
+  values-row i [] [] [] fits are = tt
+  values-row i [] [] (v ∷ new) fits are = absurd are
+  values-row i [] (read ∷ row) new fits are = absurd fits
+  values-row i (field ∷ fields) [] new fits are = absurd fits
+  values-row i (field ∷ fields) (read ∷ row) [] fits are = absurd are
+  values-row i (field ∷ fields) (read ∷ row) (v ∷ new) fits are = (value-kind (changed i) field.kind (text i) read v fits.0 are.0, values-row (suc i) fields row new fits.1 are.1)
+
+  -- ---- where nothing is changed
+
+  module _ (none : (f : ℕ) → changed f ≡ false) where
+    pub all-kept : (i : ℕ) (fields : List Field) (row : List Value) → IsRow fields row → AreValuesFrom changed text i fields row row
+    all-kept i [] [] fits = tt
+    all-kept i [] (read ∷ row) fits = absurd fits
+    all-kept i (field ∷ fields) [] fits = absurd fits
+    all-kept i (field ∷ fields) (read ∷ row) fits = (subst (λ (b : Bool). IsValueOf b field.kind (text i) read read) (sym (none i)) refl, all-kept (suc i) fields row fits.1)
+
+    pub kept-alone : (i : ℕ) (fields : List Field) (row new : List Value) → AreValuesFrom changed text i fields row new → new ≡ row
+    kept-alone i [] [] [] are = refl
+    kept-alone i [] [] (v ∷ new) are = absurd are
+    kept-alone i [] (read ∷ row) new are = absurd are
+    kept-alone i (field ∷ fields) [] new are = absurd are
+    kept-alone i (field ∷ fields) (read ∷ row) [] are = absurd are
+    kept-alone i (field ∷ fields) (read ∷ row) (v ∷ new) are =
+        let first : v ≡ read = subst (λ (b : Bool). IsValueOf b field.kind (text i) read v) (none i) are.0 in
+        let rest = kept-alone (suc i) fields row new are.1 in cc (first, rest)
+
+no-letter : (path : List Bool) (place : ℕ) → list_any (λ changed. changed) path ≡ false → slice_index_or path place false ≡ false
+no-letter [] place none = refl
+no-letter (true ∷ path) place none = absurd (cc)
+no-letter (false ∷ path) zero none = refl
+no-letter (false ∷ path) (suc place) none = no-letter path place none
+
+-- a path without a letter that says changed changes no field
+pub changes-none : (fields : List Field) (path : List Bool) → list_any (λ changed. changed) path ≡ false → (f : ℕ) → changes fields path f ≡ false
+changes-none fields path none f = no-letter path (path_place fields f) none
+
+module _ (c : Checking) (path : List Bool) (texts : List (List ℕ)) (row : List Value) (fits : IsRow c.survey.now.fields row) (none : list_any (λ changed. changed) path ≡ false) where
+  pub right-gives : IsRight c.survey.now row → GivesRight c path texts row
+  right-gives right = (row, all-kept (changes c.survey.now.fields path) (text_at c.columns.now texts) (changes-none c.survey.now.fields path none) 0 c.survey.now.fields row fits, right)
+
+  pub gives-right : GivesRight c path texts row → IsRight c.survey.now row
+  gives-right (new, values, right) = subst (IsRight c.survey.now) (kept-alone (changes c.survey.now.fields path) (text_at c.columns.now texts) (changes-none c.survey.now.fields path none) 0 c.survey.now.fields row new values) right
+
+-- ---- the texts that are released
+
+module _ (c : Checking) (f : RowAt) (path : List Bool) where
+  abbrev Of : Option (List (List ℕ)) → Type 0
+  Of released = IsSomeAnd released (λ texts. (new : List Value) × IsReleasedAs c.survey.now c.columns.now (changes c.survey.now.fields path) f.reads.now f.row.now texts new)
+
+  module _ (texts : List (List ℕ)) (is : option_map (λ t. t.now) f.texts ≡ Some texts) where
+    pub gives-released : same_from (changes c.survey.now.fields path) c.columns.now 0 f.reads.now texts ≡ true → GivesRight c path texts f.row.now → IsReleased (rules_in c) (files_in f) path
+    gives-released same (new, values, right) = subst Of (sym is) (new, record { values = values; elsewhere = same; whole = right.whole; holds = right.holds })
+
+    pub released-gives : IsReleased (rules_in c) (files_in f) path → GivesRight c path texts f.row.now
+    released-gives released = let (new, as_said) = subst Of is released in (new, as_said.values, record { whole = as_said.whole; holds = as_said.holds })

@@ -1,0 +1,122 @@
+//! The values that a released row gives.
+ghost use Rattle.std.specs.Prelude.{◌≡◌, ◌<◌, All, IfOk, IfSome, IsSomeAnd, List, false, length};
+ghost use Rattle.edit_model.specs.Rows.{IsRow};
+ghost use Rattle.edit_model.specs.Surveys.{IsKind};
+ghost use Rattle.edit_model.specs.declared.value.Value.{Value as Given};
+ghost use Rattle.bound_cert.specs.Paths.{changes};
+ghost use Rattle.record_text.specs.Values.{code_number};
+ghost use Rattle.cert_check.specs.Released.{AreValuesFrom, IsGivenText, is_same, text_at};
+ghost use Rattle.cert_check.specs.inner.Checks.{IsChecking, IsValueAt};
+
+use crate::changed_fields::changes;
+use crate::checking::Checking;
+use edit_model::{Kind, Name, Row, Value};
+use foundation::OutOfMemory;
+use fraction128::Fraction;
+use record_text::Texts;
+use std::alloc::Global;
+
+/// The value of each field: of a field that is kept the one that was read, and else another one, by its text. None
+/// where some field has no such value.
+pub(crate) fn new_values(
+    alloc: Global,
+    checking: &Checking,
+    row: &Row,
+    path: &[bool],
+    texts: &Texts,
+) -> Result<Option<Vec<Value>>, OutOfMemory>
+    requires checking { IsChecking checking.now }
+    requires row { IsRow checking.now.survey.now.fields row.now }
+    requires within { All (λ column. column < length texts.now) checking.now.columns.now }
+    ensures values { IfOk result (λ found. IfSome found (λ v. AreValuesFrom (changes checking.now.survey.now.fields path.now) (text_at checking.now.columns.now texts.now) 0 checking.now.survey.now.fields row.now v.items)) }
+    ensures only { IfOk result (λ found. (new : List Given) → AreValuesFrom (changes checking.now.survey.now.fields path.now) (text_at checking.now.columns.now texts.now) 0 checking.now.survey.now.fields row.now new → IsSomeAnd found (λ v. v.items ≡ new)) }
+{
+    let count = checking.survey.fields().len();
+    let mut values = Vec::with_capacity(alloc, count)?;
+    for field in 0..count {
+        match value_at(checking, row, path, texts, field) {
+            Some(value) => values.push(value)?,
+            None => return Ok(None),
+        }
+    }
+    Ok(Some(values))
+}
+
+// The value of the field of this number.
+fn value_at(
+    checking: &Checking,
+    row: &Row,
+    path: &[bool],
+    texts: &Texts,
+    field: usize,
+) -> Option<Value>
+    requires checking { IsChecking checking.now }
+    requires row { IsRow checking.now.survey.now.fields row.now }
+    requires within { All (λ column. column < length texts.now) checking.now.columns.now }
+    requires field { field < length checking.now.survey.now.fields }
+    ensures value { IfSome result (λ v. IsValueAt checking.now row.now path.now texts.now field v) }
+    ensures only { (v : Given) → IsValueAt checking.now row.now path.now texts.now field v → result ≡ Some v }
+{
+    let kind = &checking.survey.fields()[field].kind;
+    let read = row.value(field as u32);
+    if changes(checking.survey, path, field) {
+        other_value(kind, texts.get(checking.columns[field] as usize), read)
+    } else {
+        Some(*read)
+    }
+}
+
+// The value of the text, if it is not the one that was read.
+fn other_value(kind: &Kind, text: &[u8], read: &Value) -> Option<Value>
+    requires { IsKind kind.now }
+    ensures value { IfSome result (λ v. IsGivenText kind.now text.now v × (is_same v read.now ≡ false)) }
+    ensures only { (v : Given) → IsGivenText kind.now text.now v → is_same v read.now ≡ false → result ≡ Some v }
+{
+    match given_value(kind, text) {
+        Some(value) => {
+            if is_same(&value, read) {
+                None
+            } else {
+                Some(value)
+            }
+        }
+        None => None,
+    }
+}
+
+// The value of which this is the text.
+fn given_value(kind: &Kind, text: &[u8]) -> Option<Value>
+    requires { IsKind kind.now }
+    ensures given { IfSome result (IsGivenText kind.now text.now) }
+    ensures only { (v : Given) → IsGivenText kind.now text.now v → result ≡ Some v }
+{
+    match kind {
+        Kind::Number { .. } => match Fraction::read_text(text) {
+            Some(x) => Some(Value::Number(x)),
+            None => None,
+        },
+        Kind::Code { codes } => match code_place(codes.as_slice(), text) {
+            Some(place) => Some(Value::Code(place as u8)),
+            None => None,
+        },
+    }
+}
+
+// The place of the code that the text is.
+fn code_place(codes: &[Name], text: &[u8]) -> Option<usize>
+    ensures place { result ≡ code_number codes.now text.now }
+    ensures within { IfSome result (λ place. place < length codes.now) }
+{
+    codes.iter().position(|code| code.as_bytes() == text)
+}
+
+// Whether two values are the same code, or the same number.
+fn is_same(first: &Value, second: &Value) -> bool
+    ensures { result ≡ is_same first.now second.now }
+{
+    match (first, second) {
+        (Value::Code(a), Value::Code(b)) => a == b,
+        (Value::Number(x), Value::Number(y)) => x.compare(*y).is_eq(),
+        _ => false,
+    }
+}

@@ -1,0 +1,59 @@
+//! Whether the row that is released of a record is right.
+ghost use Rattle.std.specs.Prelude.{◌<◌, All, IfOk, length};
+ghost use Rattle.std.specs.Bool.{Decides};
+ghost use Rattle.edit_model.specs.Rows.{IsRow};
+ghost use Rattle.cert_check.specs.RowChecks.{IsReleased};
+ghost use Rattle.cert_check.specs.inner.Checks.{FitsFiles, GivesRight, IsChecking, files_in, rules_in};
+
+use crate::changed_fields::changes_some;
+use crate::checking::{Checking, RowAt};
+use crate::new_values::new_values;
+use crate::right_row::is_right;
+use crate::same_texts::are_same;
+use edit_model::Row;
+use foundation::OutOfMemory;
+use record_text::Texts;
+use std::alloc::Global;
+
+/// Whether texts are released for the record, of which the path changes some fields.
+pub(crate) fn is_released(
+    alloc: Global,
+    checking: &Checking,
+    files: &RowAt,
+    path: &[bool],
+) -> Result<bool, OutOfMemory>
+    requires checking { IsChecking checking.now }
+    requires files { FitsFiles checking.now files.now }
+    ensures { IfOk result (λ b. Decides b (IsReleased (rules_in checking.now) (files_in files.now) path.now)) }
+{
+    let Some(texts) = files.texts else {
+        return Ok(false);
+    };
+    if !are_same(checking, path, files.reads, texts) {
+        return Ok(false);
+    }
+    if changes_some(path) {
+        gives_right(alloc, checking, files.row, path, texts)
+    } else {
+        Ok(is_right(checking.survey, files.row))
+    }
+}
+
+// Whether the texts give each field a value, and the record of these is right.
+fn gives_right(
+    alloc: Global,
+    checking: &Checking,
+    row: &Row,
+    path: &[bool],
+    texts: &Texts,
+) -> Result<bool, OutOfMemory>
+    requires checking { IsChecking checking.now }
+    requires row { IsRow checking.now.survey.now.fields row.now }
+    requires within { All (λ column. column < length texts.now) checking.now.columns.now }
+    ensures { IfOk result (λ b. Decides b (GivesRight checking.now path.now texts.now row.now)) }
+{
+    match new_values(alloc, checking, row, path, texts)? {
+        Some(values) => Ok(is_right(checking.survey, &Row::new(checking.survey, values))),
+        None => Ok(false),
+    }
+}

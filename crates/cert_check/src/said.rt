@@ -1,0 +1,50 @@
+//! What a proof says of a record, but for its tree and the released row.
+ghost use Rattle.std.specs.Prelude.{◌≡◌};
+ghost use Rattle.edit_model.specs.Rows.{IsRow};
+ghost use Rattle.cert_check.specs.RowChecks.{event_exists, gift_exists, is_change, place_exists};
+
+use bound_cert::{Event, GiftFault, Path};
+use edit_line::Place;
+use edit_model::{Row, Survey};
+
+/// Whether the path says something of all fields, keeps none at which the record has no value, and has this weight.
+/// No memory.
+pub(crate) fn is_change(survey: &Survey, row: &Row, path: &Path, weight: u64) -> bool
+    requires { IsRow survey.now.fields row.now }
+    ensures { result ≡ is_change survey.now.fields row.now path.now weight }
+{
+    path.letters().len() == survey.fields().len()
+        && (!path.keeps_bad(survey, row) && path.weight(survey) == weight)
+}
+
+/// Whether the field, or the rule, at which a giving stopped is there. No memory.
+pub(crate) fn gift_exists(survey: &Survey, fault: GiftFault) -> bool
+    ensures { result ≡ gift_exists survey.now fault }
+{
+    match fault {
+        GiftFault::Bound { field, .. } => (field as usize) < survey.fields().len(),
+        GiftFault::Test { rule } => (rule as usize) < survey.rules().len(),
+    }
+}
+
+/// Whether the path is no longer than the fields, and the field at which a number left the range is there. No
+/// memory.
+pub(crate) fn event_exists(survey: &Survey, path: &Path, event: Event) -> bool
+    ensures { result ≡ event_exists survey.now.fields path.now event }
+{
+    let count = survey.fields().len();
+    match event {
+        Event::Step { place, .. } => path.letters().len() <= count && place_exists(survey, place),
+        Event::Test { field, .. } => path.letters().len() <= count && (field as usize) < count,
+    }
+}
+
+// Whether the place of a number is that of a field that is there, or of the constant.
+fn place_exists(survey: &Survey, place: Place) -> bool
+    ensures { result ≡ place_exists survey.now.fields place }
+{
+    match place {
+        Place::Field(field) => (field as usize) < survey.fields().len(),
+        Place::Constant => true,
+    }
+}

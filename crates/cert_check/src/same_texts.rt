@@ -1,0 +1,41 @@
+//! Whether a released row has the texts that were read, but for those of the changed fields.
+ghost use Rattle.std.specs.Prelude.{◌≡◌, ◌||◌, length};
+ghost use Rattle.std.specs.Str.{bytes_eq};
+ghost use Rattle.bound_cert.specs.Paths.{changes};
+ghost use Rattle.cert_check.specs.Released.{same_from, stands_changed};
+
+use crate::changed_fields::changes;
+use crate::checking::Checking;
+use record_text::Texts;
+
+/// Whether each text is the one that was read, or that of a field that the path changes. No memory.
+pub(crate) fn are_same(checking: &Checking, path: &[bool], reads: &Texts, texts: &Texts) -> bool
+    requires { length texts.now ≡ length reads.now }
+    ensures { result ≡ same_from (changes checking.now.survey.now.fields path.now) checking.now.columns.now 0 reads.now texts.now }
+{
+    for column in 0..reads.len() {
+        if !may_stand(checking, path, column, reads.get(column), texts.get(column)) {
+            return false;
+        }
+    }
+    true
+}
+
+// Whether the text may stand in the column in which the other was read.
+fn may_stand(checking: &Checking, path: &[bool], column: usize, read: &[u8], text: &[u8]) -> bool
+    ensures { result ≡ (bytes_eq text.now read.now || stands_changed (changes checking.now.survey.now.fields path.now) 0 checking.now.columns.now column) }
+{
+    text == read || stands_changed(checking, path, column)
+}
+
+// Whether a field that the path changes stands in the column.
+fn stands_changed(checking: &Checking, path: &[bool], column: usize) -> bool
+    ensures { result ≡ stands_changed (changes checking.now.survey.now.fields path.now) 0 checking.now.columns.now column }
+{
+    for (field, place) in checking.columns.iter().enumerate() {
+        if *place as usize == column && changes(checking.survey, path, field) {
+            return true;
+        }
+    }
+    false
+}
