@@ -1,6 +1,9 @@
+pub mod AnswerLaws
+pub mod AuditLaws
 pub mod ChangeLaws
 pub mod CountLaws
 pub mod LineCounts
+pub mod LineNumbers
 pub mod NewRowLaws
 pub mod PlaceLaws
 pub mod ReleasedFileLaws

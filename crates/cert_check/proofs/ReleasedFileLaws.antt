@@ -9,7 +9,7 @@ use Rattle.record_text.specs.Sheets.{IsSheet, SheetParts}
 use Rattle.record_text.specs.Trimming.{header_of}
 use Rattle.record_text.specs.Values.{AreRows}
 use Rattle.record_text.proofs.HeaderLaws.{header_length}
-use Rattle.record_text.proofs.SheetLaws.{as_many_raws_as_rows, raws_as_long_as_header}
+use Rattle.record_text.proofs.SheetLaws.{as_many_raws_as_rows, raws_as_long_as_header, same_sheet}
 use Rattle.cert_check.specs.inner.Rows.{AreInLimits, AreRowsOf}
 
 -- rows as long as the header are not at fault, where there are not too many
@@ -74,3 +74,8 @@ module _ (header : List (List ℕ)) (bytes : List ℕ) (count : ℕ) where
   -- where no sheet is read there are no such rows
   pub unread-none : AreInLimits header count → (fields : List Field) → fields ≡ [] → ((sheet : SheetParts) → ¬ IsSheet fields bytes sheet) → (rows : List (List (List ℕ))) → ¬ AreRowsOf header bytes count rows
   unread-none limits fields none unread rows are = unread (sheet-of rows) (rw none (rows-sheet limits rows are))
+
+  -- there are no other such rows
+  pub rows-once : AreInLimits header count → (rows others : List (List (List ℕ))) → AreRowsOf header bytes count rows → AreRowsOf header bytes count others → rows ≡ others
+  unfolding sheet-of
+  rows-once limits rows others are also = (same_sheet [] bytes (sheet-of rows) (sheet-of others) (rows-sheet limits rows are) (rows-sheet limits others also)).2

@@ -29,13 +29,14 @@ pub fn check_all(
     ensures rejected { (line : ℕ) (why : Condition) → result ≡ Err (CheckFault.Rejected line why) → IsFirstFailure (audit_of rules.now records.now released.now proof.now) line why }
     ensures invalid { (line : ℕ) (why : Condition) → result ≡ Err (CheckFault.Rejected line why) → ¬ IsValidRelease (audit_of rules.now records.now released.now proof.now) }
 {
+    let _rules = rules.rules(); // read for what it says: they are in form
     let audit = Audit {
         rules,
         records,
         released,
     };
     match read_proof(alloc, proof) {
-        Ok(said) => check_said(alloc, &audit, &said),
+        Ok(said) => check_said(alloc, &audit, &said, proof.len()),
         Err(ProofFault::At { line }) => Err(rejected(line, Why::Grammar)),
         Err(ProofFault::OutOfMemory) => Err(CheckFault::OutOfMemory),
     }

@@ -1,23 +1,24 @@
 //! Whether a proof fits the rules and the records.
-ghost use Rattle.std.specs.Prelude.{◌≡◌, is_some, position};
+ghost use Rattle.std.specs.Prelude.{◌≡◌, is_some, length, position};
 ghost use Rattle.cert_check.specs.Releases.{dropped_line, limits_fit};
 ghost use Rattle.cert_check.specs.inner.Counts.{IsCounted};
 ghost use Rattle.cert_check.specs.inner.Parts.{head_fault_of};
 
 use crate::line_counts::records_line;
 use derivation::Step;
+use edit_line::Line;
 use foundation::Sequence;
 use proof_text::Proof;
 
 /// The first line that does not fit: the limits, the count of the lines of the rules, or the count of the records.
-pub(crate) fn head_fault(proof: &Proof, lines: usize, records: u32) -> Option<u64>
+pub(crate) fn head_fault(proof: &Proof, lines: &[Line], records: u32) -> Option<u64>
     requires { IsCounted proof.now }
-    ensures { result ≡ head_fault_of lines records proof.now }
+    ensures { result ≡ head_fault_of (length lines.now) records proof.now }
 {
     if !limits_fit(proof) {
         return Some(2);
     }
-    if proof.verdicts.len() != lines {
+    if proof.verdicts.len() != lines.len() {
         return Some(3);
     }
     if proof.rows.len() != records as usize {

@@ -7,6 +7,7 @@ ghost use Rattle.edit_normal.specs.RuleLines.{normal_lines_of};
 ghost use Rattle.cert_check.specs.Releases.{Spells, dropped_line, head_fault, is_released};
 ghost use Rattle.cert_check.specs.inner.Answers.{Answers, IsOfSheet, audit_in};
 ghost use Rattle.cert_check.specs.inner.Counts.{IsCounted};
+ghost use Rattle.proof_grammar.specs.ProofLines.{proof_lines};
 ghost use Rattle.cert_check.specs.declared.fault.CheckFault.TheVariants as faults;
 
 use crate::checking::Checking;
@@ -33,14 +34,21 @@ pub(crate) struct Audit<'a> {
     pub(crate) released: &'a [u8],
 }
 
-/// How many records are released, where all is right, or the first condition that fails.
-pub(crate) fn check_said(alloc: Global, audit: &Audit, said: &Proof) -> Result<u32, CheckFault>
+/// How many records are released, where all is right, or the first condition that fails. The proof has no more lines
+/// than bytes.
+pub(crate) fn check_said(
+    alloc: Global,
+    audit: &Audit,
+    said: &Proof,
+    bytes: usize,
+) -> Result<u32, CheckFault>
     requires sheet { IsOfSheet audit.now }
-    requires counted { IsCounted said.now }
-    ensures { (bytes : List ℕ) → Spells bytes said.now → Answers (audit_in audit.now bytes) result }
+    requires counted { length (proof_lines said.now) ≤ bytes }
+    ensures { (text : List ℕ) → Spells text said.now → Answers (audit_in audit.now text) result }
 {
+    let _ = bytes; // no proof has more lines than 64 bits count
     let lines = rule_lines(alloc, audit.rules)?;
-    if let Some(line) = head_fault(said, lines.len(), audit.records.len()) {
+    if let Some(line) = head_fault(said, &lines, audit.records.len()) {
         return Err(rejected(line, Why::Head));
     }
     if let Some(line) = dropped_line(said) {
@@ -59,6 +67,7 @@ fn check_records(
     requires sheet { IsOfSheet audit.now }
     requires counted { IsCounted said.now }
     requires lines { lines.now ≡ normal_lines_of audit.now.rules.now }
+    requires over { AreOver (shape_of audit.now.rules.now.fields) lines.now }
     requires head { (bytes : List ℕ) → head_fault (audit_in audit.now bytes) said.now ≡ None }
     requires kept { dropped_line said.now ≡ None }
     ensures { (bytes : List ℕ) → Spells bytes said.now → Answers (audit_in audit.now bytes) result }

@@ -1,9 +1,6 @@
 use Rattle.std.proofs.Common.{◌≡◌, ◌∙◌, ◌+◌, ◌<◌, ℕ, List, arith, ap, length, sym, subst}
-use Rattle.bound_cert.specs.declared.outcome.RowProof.{RowProof}
 use Rattle.proof_grammar.specs.ProofLines.{row_lines}
-use Rattle.cert_check.specs.RowChecks.{RowFiles}
 use Rattle.cert_check.specs.inner.Checks.{rules_in}
-use Rattle.cert_check.specs.inner.Finds.{Finds}
 use Rattle.cert_check.proofs.CountLaws.{count-fits, count-more}
 use Rattle.cert_check.proofs.RowsLoop.{goes-fault, goes-more}
 use Rattle.cert_check.proofs.rows_check.rows_fault.Goals as goal

@@ -1,0 +1,79 @@
+use Rattle.std.proofs.Common.{◌≡◌, ◌∙◌, ℕ, List, ap, arith, length, map, subst, sym, [], is_none}
+use Rattle.std.specs.List.{AllByRecursion}
+use Rattle.std.proofs.lemmas.List.{length-map}
+use Rattle.record_text.proofs.SheetLaws.{columns_in_header, few_sheet_rows, one_column_a_field, raws_as_long_as_header, rows_are_records}
+use Rattle.cert_check.specs.inner.Answers.{audit_in}
+use Rattle.cert_check.proofs.AuditLaws.{claims-answers, counts-fit, file-answers, in-limits, record-answers, valid-answers}
+use Rattle.cert_check.proofs.PlaceLaws.{no-elements, some-elements}
+use Rattle.cert_check.proofs.said_check.check_records.Goals as goal
+
+pub released_count-count-requires : goal.released_count-count-requires
+released_count-count-requires c =
+    let a = audit_in c.args.audit.now [] in
+    let counts = counts-fit a c.args.said.now (c.requires.head []) in
+    omega (arith, ap length c.as_slice-saids.ensures, counts.1, few_sheet_rows a.survey.fields c.requires.sheet.0 a.sheet c.requires.sheet.1)
+
+pub released_rows-requires : goal.released_rows-requires
+released_rows-requires c =
+    let a = audit_in c.args.audit.now [] in
+    rw (c.header.ensures, c.released_count-count.ensures, c.as_slice-saids.ensures) (in-limits a c.args.said.now (c.requires.head []) c.requires.sheet.0 c.requires.sheet.1)
+
+pub returns-in_default : goal.returns-in_default
+returns-in_default c = λ bytes spelled.
+    let a = audit_in c.args.audit.now bytes in
+    let none = rw (c.in_default.is, c.header.ensures, c.released_count-count.ensures, c.as_slice-saids.ensures) at c.in_ok-released.ensures.none in
+    rw c.rejected.ensures (file-answers a c.args.said.now spelled (c.requires.head bytes) c.requires.kept c.requires.sheet.0 c.requires.sheet.1 none)
+
+pub rows_fault-requires-clause-checking : goal.rows_fault-requires-clause-checking
+rows_fault-requires-clause-checking c =
+    let counts = counts-fit (audit_in c.args.audit.now []) c.args.said.now (c.requires.head []) in
+    let usable = ap length (c.deref.ensures.value ∙ c.in_ok-usable.ensures ∙ ap (map is_none) c.as_slice.ensures) ∙ length-map c.args.said.now.verdicts is_none in
+    record {
+      lists = ap length c.requires.lines ∙ sym counts.0 ∙ sym usable;
+      over = c.requires.over;
+      columns = ap length c.columns.ensures ∙ one_column_a_field c.args.audit.now.rules.now.fields c.requires.sheet.0 c.args.audit.now.records.now c.requires.sheet.1;
+    }
+
+pub rows_fault-requires-clause-one_each : goal.rows_fault-requires-clause-one_each
+rows_fault-requires-clause-one_each c =
+    ap length c.as_slice-saids.ensures ∙ (counts-fit (audit_in c.args.audit.now []) c.args.said.now (c.requires.head [])).1
+
+pub rows_fault-requires-clause-rows : goal.rows_fault-requires-clause-rows
+rows_fault-requires-clause-rows c = rows_are_records c.args.audit.now.rules.now.fields c.requires.sheet.0 c.args.audit.now.records.now c.requires.sheet.1
+
+pub rows_fault-requires-clause-within : goal.rows_fault-requires-clause-within
+rows_fault-requires-clause-within c = rw c.columns.ensures (columns_in_header c.args.audit.now.rules.now.fields c.requires.sheet.0 c.args.audit.now.records.now c.requires.sheet.1)
+
+pub rows_fault-requires-clause-long : goal.rows_fault-requires-clause-long
+rows_fault-requires-clause-long c = raws_as_long_as_header c.args.audit.now.rules.now.fields c.requires.sheet.0 c.args.audit.now.records.now c.requires.sheet.1
+
+pub rows_fault-requires-clause-as_long : goal.rows_fault-requires-clause-as_long
+rows_fault-requires-clause-as_long c =
+    let are = rw (c.in-Some.is, c.header.ensures, c.released_count-count.ensures, c.as_slice-saids.ensures) at c.in_ok-released.ensures.some in are.long
+
+pub returns-in-Some-2 : goal.returns-in-Some-2
+returns-in-Some-2 c = λ bytes spelled.
+    let a = audit_in c.args.audit.now bytes in
+    let are = rw (c.in-Some.is, c.header.ensures, c.released_count-count.ensures, c.as_slice-saids.ensures) at c.in_ok-released.ensures.some in
+    let usable = c.deref.ensures.value ∙ c.in_ok-usable.ensures ∙ ap (map is_none) c.as_slice.ensures in
+    let found = rw (c.in-Some-2.is, c.as_slice-saids.ensures, c.requires.lines, usable, c.columns.ensures) at c.in_ok-fault.ensures in
+    rw (c.rejected-in-Some-2.ensures, c.records_line.ensures)
+    (record-answers a c.args.said.now spelled (c.requires.head bytes) c.requires.kept c.requires.sheet.0 c.requires.sheet.1 c.in-Some.released.raws are c.in-Some-2.fault.offset c.in-Some-2.fault.why found.0 found.1)
+
+pub returns-then-not-is_empty : goal.returns-then-not-is_empty
+returns-then-not-is_empty c = λ bytes spelled.
+    let a = audit_in c.args.audit.now bytes in
+    let are = rw (c.in-Some.is, c.header.ensures, c.released_count-count.ensures, c.as_slice-saids.ensures) at c.in_ok-released.ensures.some in
+    let usable = c.deref.ensures.value ∙ c.in_ok-usable.ensures ∙ ap (map is_none) c.as_slice.ensures in
+    let valid = rw (c.in_default-2.is, c.as_slice-saids.ensures, c.requires.lines, usable, c.columns.ensures) at c.in_ok-fault.ensures in
+    rw (c.rejected-then-not-is_empty.ensures, c.claims_line.ensures)
+    (claims-answers a c.args.said.now spelled (c.requires.head bytes) c.requires.kept c.requires.sheet.0 c.requires.sheet.1 c.in-Some.released.raws are valid (some-elements _ (sym c.is_empty.ensures ∙ c.if-not-is_empty.true)))
+
+pub returns : goal.returns
+returns c = λ bytes spelled.
+    let a = audit_in c.args.audit.now bytes in
+    let are = rw (c.in-Some.is, c.header.ensures, c.released_count-count.ensures, c.as_slice-saids.ensures) at c.in_ok-released.ensures.some in
+    let usable = c.deref.ensures.value ∙ c.in_ok-usable.ensures ∙ ap (map is_none) c.as_slice.ensures in
+    let valid = rw (c.in_default-2.is, c.as_slice-saids.ensures, c.requires.lines, usable, c.columns.ensures) at c.in_ok-fault.ensures in
+    rw (c.released_count-count.ensures, c.as_slice-saids.ensures)
+    (valid-answers a c.args.said.now spelled (c.requires.head bytes) c.requires.kept c.requires.sheet.0 c.requires.sheet.1 c.in-Some.released.raws are valid (no-elements _ (sym c.is_empty.ensures ∙ c.if-not-is_empty.false)))

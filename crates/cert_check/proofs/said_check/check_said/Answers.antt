@@ -1,0 +1,17 @@
+use Rattle.std.proofs.Common.{◌≡◌, ◌∙◌, ap, length, sym}
+use Rattle.cert_check.specs.inner.Answers.{audit_in}
+use Rattle.cert_check.proofs.AuditLaws.{drop-answers, head-answers}
+use Rattle.cert_check.proofs.said_check.check_said.Goals as goal
+
+pub returns-in-Some : goal.returns-in-Some
+returns-in-Some c = λ bytes spelled.
+    let lines = ap length (c.deref.ensures.value ∙ c.in_ok-lines.ensures.lines) in
+    let head = rw (lines, c.len.ensures.rows) at (sym c.head_fault.ensures ∙ c.in-Some.is) in
+    rw c.rejected.ensures (head-answers (audit_in c.args.audit.now bytes) c.args.said.now spelled c.in-Some.line head)
+
+pub returns-in-Some-dropped_line : goal.returns-in-Some-dropped_line
+returns-in-Some-dropped_line c = λ bytes spelled.
+    let lines = ap length (c.deref.ensures.value ∙ c.in_ok-lines.ensures.lines) in
+    let head = rw (lines, c.len.ensures.rows) at (sym c.head_fault.ensures ∙ c.in_default.is) in
+    rw c.rejected-in-Some-dropped_line.ensures
+    (drop-answers (audit_in c.args.audit.now bytes) c.args.said.now spelled c.in-Some-dropped_line.line head (sym c.dropped_line.ensures ∙ c.in-Some-dropped_line.is))
