@@ -1,5 +1,5 @@
 -- What an answer says, clause by clause.
-use Rattle.std.proofs.Common.{◌≡◌, ℕ, Result, Ok, Err, IfOk, OnOk, sym}
+use Rattle.std.proofs.Common.{◌≡◌, ℕ, Result, Ok, Err, IfOk, OnOk}
 use Rattle.cert_check.specs.Releases.{Audit, IsFirstFailure, IsReleasedCount, IsValidRelease}
 use Rattle.cert_check.specs.declared.fault.CheckFault.{CheckFault}
 use Rattle.cert_check.specs.declared.fault.CheckFault.TheVariants as fault

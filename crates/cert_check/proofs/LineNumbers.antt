@@ -1,11 +1,10 @@
 -- The lines of a proof are no more than its bytes.
-use Rattle.std.proofs.Common.{◌≡◌, ◌∙◌, ℕ, ◌+◌, ◌<◌, ◌≤◌, List, [], ◌∷◌, ◌++◌, length, ap, arith, map}
+use Rattle.std.proofs.Common.{◌≡◌, ◌∙◌, ℕ, ◌+◌, ◌≤◌, List, [], ◌∷◌, ◌++◌, length, ap, arith, map}
 use Rattle.std.specs.List.{flat_map}
 use Rattle.std.proofs.lemmas.List.{length-append, length-map}
 use Rattle.std.proofs.lemmas.List.Concat.{flat_map-cons}
-use Rattle.proof_grammar.specs.ProofLines.{Line, claim_line, count_line, end_line, line_text, lines_text, limits_words, proof_lines, row_lines, verdict_lines, version_line, words_text}
+use Rattle.proof_grammar.specs.ProofLines.{Line, claim_line, count_line, end_line, line_text, lines_text, proof_lines, row_lines, verdict_lines, words_text}
 use Rattle.proof_grammar.specs.declared.proof.Proof.{Proof}
-use Rattle.cert_check.specs.Places.{claims_line, records_line}
 use Rattle.std.specs.Prelude.{codes}
 
 -- each line takes a byte at least

@@ -1,12 +1,11 @@
 -- A released file, read as a record file of no fields.
-use Rattle.std.proofs.Common.{◌≡◌, ◌≢◌, ◌∙◌, ℕ, suc, ◌+◌, ◌<◌, ◌≤◌, ◌==◌, Bool, true, false, List, [], ◌∷◌, Option, Some, None, IfNone, IfSome, Result, Ok, Err, refl, sym, ap, subst, arith, length, map, nat_lt}
+use Rattle.std.proofs.Common.{◌≡◌, ◌∙◌, ℕ, suc, ◌+◌, ◌<◌, ◌≤◌, ◌==◌, false, List, [], ◌∷◌, Option, Some, None, IfNone, IfSome, refl, sym, ap, subst, arith, length, map, nat_lt}
 use Rattle.std.specs.List.{AllByRecursion}
 use Rattle.std.proofs.lemmas.Bool.Decides.{Decides-eqb, nat_tests}
 use Rattle.std.proofs.lemmas.List.{length-map}
 use Rattle.edit_model.specs.declared.field.Field.{Field}
-use Rattle.record_text.specs.Faults.{row_fault, sheet_fault}
+use Rattle.record_text.specs.Faults.{row_fault}
 use Rattle.record_text.specs.Sheets.{IsSheet, SheetParts}
-use Rattle.record_text.specs.Trimming.{header_of}
 use Rattle.record_text.specs.Values.{AreRows}
 use Rattle.record_text.proofs.HeaderLaws.{header_length}
 use Rattle.record_text.proofs.SheetLaws.{as_many_raws_as_rows, raws_as_long_as_header, same_sheet}

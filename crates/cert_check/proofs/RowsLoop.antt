@@ -1,6 +1,6 @@
 -- The loop over the records of a proof.
-use Rattle.std.proofs.Common.{◌≡◌, ◌∙◌, ℕ, ◌+◌, ◌<◌, ◌≤◌, Bool, true, false, List, [], ◌∷◌, Option, Some, None, IfSome, inl, inr, refl, sym, ap, subst, arith, drop, get_or, length, take, option_map}
-use Rattle.std.specs.List.{AllByRecursion, flat_map}
+use Rattle.std.proofs.Common.{◌≡◌, ◌∙◌, ℕ, ◌+◌, ◌<◌, ◌≤◌, true, List, [], ◌∷◌, Some, inl, inr, refl, sym, ap, subst, arith, drop, get_or, length}
+use Rattle.std.specs.List.{flat_map}
 use Rattle.std.proofs.lemmas.List.{drop_all, drop_more}
 use Rattle.edit_model.specs.declared.value.Value.{Value}
 use Rattle.bound_cert.specs.declared.outcome.RowProof.{RowProof}
@@ -55,7 +55,7 @@ module _ (r : RowRules) (saids : List RowProof) (raws : List (List (List ℕ))) 
       back = λ rest. goes.back (rw (saids-are, raws-are, rows-are) (valid, rw is at rest));
       on = λ all. rw is ((valid-apart (goes.on all)).1);
       fault = λ rest why found.
-        subst (λ (n : ℕ). IsFaultAmong r saids raws rows released n why) (omega arith) (goes.fault (length (row_lines said) + rest) why (rw (saids-are, raws-are, rows-are) (inr (valid, (rest, rw is at found, refl)))));
+          subst (λ (n : ℕ). IsFaultAmong r saids raws rows released n why) (omega arith) (goes.fault (length (row_lines said) + rest) why (rw (saids-are, raws-are, rows-are) (inr (valid, (rest, rw is at found, refl)))));
     }
 
     -- the fault of the record is the first

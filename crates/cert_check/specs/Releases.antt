@@ -1,7 +1,6 @@
 -- A valid release: a proof file and a released file that are right for rules and records.
-use Rattle.std.specs.Prelude.{◌≡◌, ◌≢◌, ◌⊎◌, ℕ, ◌+◌, ◌==◌, ◌&&◌, nat_le, not, Bool, true, false, if◌then◌else◌, List, [], ◌∷◌, Option, Some, None, is_none, is_some, length, map, option_map, position}
+use Rattle.std.specs.Prelude.{◌≡◌, ◌≢◌, ◌⊎◌, ℕ, ◌+◌, ◌==◌, ◌&&◌, nat_le, not, Bool, false, if◌then◌else◌, List, [], ◌∷◌, Option, Some, None, is_none, is_some, length, map, option_map, position}
 use Rattle.std.specs.List.{AllByRecursion, filter}
-use Rattle.derivation.specs.declared.step.Step.{Step}
 use Rattle.edit_model.specs.Parts.{SurveyParts}
 use Rattle.edit_model.specs.declared.value.Value.{Value}
 use Rattle.edit_normal.specs.RuleLines.{normal_lines_of}

@@ -1,6 +1,6 @@
 -- What a valid release shows, whoever wrote it.
 use Rattle.std.specs.Prelude.{◌≡◌, ⊤, ℕ, ◌<◌, ◌≤◌, Bool, List, [], ◌∷◌, Option, Some, None, IsSomeAnd, length}
-use Rattle.edit_model.specs.Corrections.{IsCorrection, IsLeastWeight, change_weight, word_of}
+use Rattle.edit_model.specs.Corrections.{IsCorrection, IsLeastWeight, change_weight}
 use Rattle.edit_model.specs.Parts.{SurveyParts}
 use Rattle.edit_model.specs.Points.{Point}
 use Rattle.edit_model.specs.RowPoints.{Agrees}
@@ -8,7 +8,7 @@ use Rattle.edit_model.specs.declared.value.Value.{Value}
 use Rattle.bound_cert.specs.Paths.{changes}
 use Rattle.bound_cert.specs.declared.outcome.GiftFault.{GiftFault}
 use Rattle.bound_cert.specs.declared.outcome.Outcome.{Outcome}
-use Rattle.bound_cert.specs.declared.outcome.Outcome.TheVariants.{Budget, Change, Contradictory, Overflow}
+use Rattle.bound_cert.specs.declared.outcome.Outcome.TheVariants.{Change, Contradictory}
 use Rattle.bound_cert.specs.declared.outcome.RowProof.{RowProof}
 use Rattle.cert_check.specs.Released.{AreValuesFrom, text_at}
 use Rattle.cert_check.specs.Releases.{Audit, AreReleased, Spells, behind, files_of}

@@ -1,5 +1,5 @@
 -- How many lines the parts of a proof take.
-use Rattle.std.specs.Prelude.{ℕ, ◌+◌, ◌<◌, ◌^◌, List, length}
+use Rattle.std.specs.Prelude.{◌+◌, ◌<◌, ◌^◌, List, length}
 use Rattle.std.specs.List.{flat_map}
 use Rattle.bound_cert.specs.declared.cert.Leaf.{Leaf}
 use Rattle.proof_grammar.specs.ProofLines.{leaf_lines, proof_lines}

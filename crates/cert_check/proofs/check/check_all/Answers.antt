@@ -1,4 +1,4 @@
-use Rattle.std.proofs.Common.{◌≡◌, ◌∙◌, ◌<◌, ◌≤◌, ◌^◌, ap, arith, length, sym, subst, ℕ}
+use Rattle.std.proofs.Common.{ap, arith, length}
 use Rattle.proof_grammar.specs.ProofLines.{proof_lines}
 use Rattle.cert_check.specs.Releases.{audit_of}
 use Rattle.cert_check.proofs.AnswerLaws.{answers-count, answers-invalid, answers-rejected, answers-valid}

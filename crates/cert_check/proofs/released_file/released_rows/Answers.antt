@@ -17,5 +17,5 @@ pub returns : goal.returns
 returns c = record {
   some = tt;
   none = unread-none c.args.header.now c.args.bytes.now c.args.count c.requires _ c.in_ok-no_fields.ensures
-    (c.in-Err.ensures.unread (λ same. not_both c.eq.result c.if-eq.false (search (c.eq.ensures, same))));
+      (c.in-Err.ensures.unread (λ same. not_both c.eq.result c.if-eq.false (search (c.eq.ensures, same))));
 }

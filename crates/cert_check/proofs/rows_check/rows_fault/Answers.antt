@@ -1,4 +1,4 @@
-use Rattle.std.proofs.Common.{◌≡◌, ◌∙◌, ◌+◌, ◌<◌, ℕ, List, arith, ap, length, sym, subst}
+use Rattle.std.proofs.Common.{◌≡◌, ◌∙◌, ◌<◌, arith, length, sym}
 use Rattle.proof_grammar.specs.ProofLines.{row_lines}
 use Rattle.cert_check.specs.inner.Checks.{rules_in}
 use Rattle.cert_check.proofs.CountLaws.{count-fits, count-more}
@@ -47,6 +47,6 @@ loop-row_no-preserved c =
     let also : length c.args.records.now.raws ≡ length c.args.records.now.rows = sym c.len-row_no-end.ensures.raws ∙ c.len-row_no-end.ensures.rows in
     let valid = rw (c.in_default.is, c.files_at-files.ensures) at c.in_ok-fault.ensures.found in (
       rw c.row_line_count-offset.ensures (goes-more (rules_in c.args.checking.now) c.args.saids.now c.args.records.now.raws c.args.records.now.rows c.args.released.now.raws c.loop-row_no.row_no c.loop-row_no.next c.loop-row_no.offset c.loop-row_no.invariant.0 below c.requires.one_each also
-      c.index-saids-row_no.result c.index-saids-row_no.is c.behind-next.result valid c.behind-next.ensures),
+          c.index-saids-row_no.result c.index-saids-row_no.is c.behind-next.result valid c.behind-next.ensures),
       omega (arith, more, c.row_line_count-offset.ensures, c.loop-row_no.invariant.1),
     )

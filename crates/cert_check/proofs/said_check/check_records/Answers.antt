@@ -1,5 +1,4 @@
-use Rattle.std.proofs.Common.{◌≡◌, ◌∙◌, ℕ, List, ap, arith, length, map, subst, sym, [], is_none}
-use Rattle.std.specs.List.{AllByRecursion}
+use Rattle.std.proofs.Common.{◌∙◌, ap, arith, length, map, sym, [], is_none}
 use Rattle.std.proofs.lemmas.List.{length-map}
 use Rattle.record_text.proofs.SheetLaws.{columns_in_header, few_sheet_rows, one_column_a_field, raws_as_long_as_header, rows_are_records}
 use Rattle.cert_check.specs.inner.Answers.{audit_in}

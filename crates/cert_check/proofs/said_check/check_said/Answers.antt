@@ -1,4 +1,4 @@
-use Rattle.std.proofs.Common.{◌≡◌, ◌∙◌, ap, length, sym}
+use Rattle.std.proofs.Common.{◌∙◌, ap, length, sym}
 use Rattle.cert_check.specs.inner.Answers.{audit_in}
 use Rattle.cert_check.proofs.AuditLaws.{drop-answers, head-answers}
 use Rattle.cert_check.proofs.said_check.check_said.Goals as goal
