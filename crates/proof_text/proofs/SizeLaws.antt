@@ -1,8 +1,6 @@
-use Rattle.std.proofs.Common.{◌≡◌, ℕ, zero, suc, ◌+◌, ◌<◌, ◌≤◌, ℤ, pos, negsuc, ◌<ℤ◌, ◌≤ℤ◌, List, [], ◌∷◌, ◌++◌, Bool, Option, Some, None, IfSome, FitsSigned, length, take, get_or, sym, ap, subst, arith}
+use Rattle.std.proofs.Common.{ℕ, zero, suc, ℤ, pos, negsuc, ◌<ℤ◌, List, [], ◌∷◌, Bool, Option, Some, None, IfSome, arith}
 use Rattle.std.proofs.lemmas.Int.{ints}
-use Rattle.std.proofs.lemmas.List.{take_all, take_more}
 use Rattle.std.specs.List.{AllByRecursion}
-use mir.Syntax.{w128}
 use Rattle.fraction128.specs.Range.{InRange}
 use Rattle.derivation.specs.declared.step.Step.{Step}
 use Rattle.derivation.specs.declared.step.Step.TheVariants as step
@@ -17,35 +15,14 @@ use Rattle.proof_grammar.specs.Limits.{AreFit, IsChange, IsLeaf, IsOutcome, IsPl
 use Rattle.proof_grammar.specs.declared.proof.Proof.{Proof}
 use Rattle.proof_text.specs.Sizes.{ArePositiveSteps, AreSizedSteps, IsCoherent, IsCoherentChange, IsCoherentOutcome, IsCoherentRow, IsPositiveLeaf, IsPositiveReason, IsPositiveStep, IsSized, IsSizedChange, IsSizedLeaf, IsSizedOutcome, IsSizedReason, IsSizedRow, IsSizedStep, IsSizedVerdict, IsWide}
 
--- Numbers of their types, and what makes a proof of such numbers plain.
+-- A proof whose numbers are of their types is plain where its combinations and rows are coherent.
 
--- ---- the elements that a loop went through
-
-all-append : {X : Type 0} (P : X → Type 0) (xs : List X) (x : X) → AllByRecursion P xs → P x → AllByRecursion P (xs ++ x ∷ [])
-all-append P [] x each one = (one, tt)
-all-append P (y ∷ ys) x (first, each) one = (first, all-append P ys x each one)
-
--- one more
-pub all-more : {X : Type 0} (P : X → Type 0) (xs : List X) (i : ℕ) (x : X) → i < length xs → x ≡ get_or xs i x → AllByRecursion P (take i xs) → P x → AllByRecursion P (take (i + 1) xs)
-all-more P xs i x less is each one =
-    subst (AllByRecursion P) (sym (take_more xs i x less)) (all-append P (take i xs) (get_or xs i x) each (subst P is one))
-
--- all of them
-pub all-whole : {X : Type 0} (P : X → Type 0) (xs : List X) (i : ℕ) → length xs ≤ i → AllByRecursion P (take i xs) → AllByRecursion P xs
-all-whole P xs i most each = subst (AllByRecursion P) (take_all i xs most) each
-
--- ---- numbers with a sign
-
-pub wide : (z : ℤ) → FitsSigned w128 z → IsWide z
-wide (pos n) fits = omega (arith, ints, fits)
-wide (negsuc n) fits = omega (arith, ints, fits)
-
+-- a number of 128 bits above 0 is in range
 in-range : (z : ℤ) → IsWide z → pos 0 <ℤ z → InRange z
 in-range (pos n) fits above = fits
 in-range (negsuc n) fits above = absurd above.lt
 
--- ---- plain proofs
-
+-- what two facts of each element tell of it
 all-both : {X : Type 0} (P Q R : X → Type 0) → ((x : X) → P x → Q x → R x) → (xs : List X) → AllByRecursion P xs → AllByRecursion Q xs → AllByRecursion R xs
 all-both P Q R both [] ps qs = tt
 all-both P Q R both (x ∷ xs) (p, ps) (q, qs) = (both x p q, all-both P Q R both xs ps qs)
@@ -94,13 +71,12 @@ plain-verdict : (verdict : Option (List Step)) → IsSizedVerdict verdict → If
 plain-verdict None sized positive = tt
 plain-verdict (Some steps) sized positive = plain-steps steps sized positive
 
--- a proof of numbers of their types is plain where its combinations and rows are coherent
 pub plain-if : (p : Proof) → IsSized p → IsCoherent p → IsPlain p
 plain-if p sized coherent = record {
-    limit = sized.limit;
-    near = sized.near;
-    budget = sized.budget;
-    verdicts = (sized.verdicts.0, all-both IsSizedVerdict (λ v. IfSome v ArePositiveSteps) (λ v. IfSome v (AreFit IsStep)) plain-verdict p.verdicts sized.verdicts.1 coherent.verdicts);
-    rows = (sized.rows.0, all-both IsSizedRow IsCoherentRow IsRowProof plain-row p.rows sized.rows.1 coherent.rows);
-    claims = sized.claims
-  }
+  limit = sized.limit;
+  near = sized.near;
+  budget = sized.budget;
+  verdicts = (sized.verdicts.0, all-both IsSizedVerdict (λ v. IfSome v ArePositiveSteps) (λ v. IfSome v (AreFit IsStep)) plain-verdict p.verdicts sized.verdicts.1 coherent.verdicts);
+  rows = (sized.rows.0, all-both IsSizedRow IsCoherentRow IsRowProof plain-row p.rows sized.rows.1 coherent.rows);
+  claims = sized.claims;
+}

@@ -3,8 +3,8 @@ ghost use Rattle.std.specs.Prelude.{◌≡◌, ◌++◌, IfOk, OnOk};
 ghost use Rattle.proof_grammar.specs.FirstFaults.{IsOnlyOf};
 ghost use Rattle.proof_grammar.specs.Limits.{AreFit, IsEntry, IsLong, IsPlain, IsShort};
 ghost use Rattle.proof_grammar.specs.ProofLines.{proof_text};
-ghost use Rattle.proof_text.specs.inner.Texts.{claims_text, limits_text, parts_text, rows_text, verdict_text, verdicts_text};
 ghost use Rattle.proof_text.specs.Sizes.{IsSized, IsSizedRow, IsSizedVerdict};
+ghost use Rattle.proof_text.specs.inner.Texts.{claims_text, limits_text, parts_text, rows_text, verdict_text, verdicts_text};
 
 mod claims;
 mod leaves;
@@ -23,7 +23,8 @@ use std::alloc::Global;
 use steps::write_steps;
 use words::{write_count, write_number};
 
-/// The text of a proof. No other plain proof has the text of a plain one.
+/// The text of a proof. No other plain proof has the text of a plain one. Each number that the text says is one
+/// of its type, and each list is counted by 64 bits.
 pub fn write_proof(alloc: Global, proof: &Proof) -> Result<Vec<u8>, OutOfMemory>
     ensures text { IfOk result (λ text. text.items ≡ proof_text proof.now) }
     ensures only { IfOk result (λ text. IsPlain proof.now → IsOnlyOf text.items proof.now) }

@@ -3,8 +3,8 @@ ghost use Rattle.std.specs.Prelude.{◌≡◌, ◌∷◌, ◌++◌, length, OnOk
 ghost use Rattle.std.specs.Fmt.{decimal};
 ghost use Rattle.std.specs.List.{flat_map};
 ghost use Rattle.proof_grammar.specs.ProofLines.{leaf_lines, lines_text};
-ghost use Rattle.proof_text.specs.inner.Texts.{counted_text};
 ghost use Rattle.proof_text.specs.Sizes.{AreSizedLeaves, IsSizedLeaf};
+ghost use Rattle.proof_text.specs.inner.Texts.{counted_text};
 
 use super::steps::write_steps;
 use super::words::{write_count, write_path};

@@ -1,9 +1,9 @@
 //! The lines of rows.
 ghost use Rattle.std.specs.Prelude.{◌≡◌, ◌++◌, OnOk};
-ghost use Rattle.proof_grammar.specs.ProofLines.{change_lines, event_line, line_text, lines_text, row_lines};
-ghost use Rattle.proof_text.specs.inner.Texts.{gift_text};
 ghost use Rattle.proof_grammar.specs.Limits.{IsEvent, IsGift, IsLong};
+ghost use Rattle.proof_grammar.specs.ProofLines.{change_lines, event_line, line_text, lines_text, row_lines};
 ghost use Rattle.proof_text.specs.Sizes.{AreSizedLeaves, IsSizedChange, IsSizedRow};
+ghost use Rattle.proof_text.specs.inner.Texts.{gift_text};
 
 use super::leaves::write_leaves;
 use super::words::{write_named, write_number, write_path, write_place};

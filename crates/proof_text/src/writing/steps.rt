@@ -1,11 +1,11 @@
 //! The lines of steps.
 ghost use Rattle.std.specs.Prelude.{◌≡◌, ◌∷◌, ◌++◌, [], codes, length, map, OnOk};
 ghost use Rattle.std.specs.Fmt.{decimal, signed_decimal};
-ghost use Rattle.proof_grammar.specs.ProofLines.{lines_text, named, step_line, words_text};
-ghost use Rattle.proof_text.specs.inner.Texts.{combine_line, counted_text};
-ghost use Rattle.proof_grammar.specs.Limits.{IsLong};
-ghost use Rattle.proof_text.specs.Sizes.{AreSizedSteps, IsSizedStep, IsWide};
 ghost use Rattle.derivation.specs.declared.step.Step.TheVariants as step;
+ghost use Rattle.proof_grammar.specs.Limits.{IsLong};
+ghost use Rattle.proof_grammar.specs.ProofLines.{lines_text, named, step_line, words_text};
+ghost use Rattle.proof_text.specs.Sizes.{AreSizedSteps, IsSizedStep, IsWide};
+ghost use Rattle.proof_text.specs.inner.Texts.{combine_line, counted_text};
 
 use super::words::{write_all_named, write_count, write_named, write_signed};
 use derivation::Step;

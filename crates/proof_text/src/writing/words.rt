@@ -2,8 +2,8 @@
 ghost use Rattle.std.specs.Prelude.{◌≡◌, ◌∷◌, ◌++◌, [], map, IfSome, OnOk};
 ghost use Rattle.std.specs.Fmt.{decimal, signed_decimal};
 ghost use Rattle.std.specs.List.{AllByRecursion, flat_map};
-ghost use Rattle.proof_grammar.specs.ProofLines.{letter, named, named_or_0, path_word, place_word};
 ghost use Rattle.proof_grammar.specs.Limits.{IsLong, IsPlace, IsShort};
+ghost use Rattle.proof_grammar.specs.ProofLines.{letter, named, named_or_0, path_word, place_word};
 ghost use Rattle.proof_text.specs.Sizes.{IsWide};
 
 use bound_cert::Path;
