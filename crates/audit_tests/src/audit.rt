@@ -1,0 +1,50 @@
+//! What the audit answers to the bytes of four files.
+use cert_check::{CheckFault, Why, check_all};
+use edit_language::read_rules;
+use foundation::OutOfMemory;
+use record_text::read_records;
+use std::alloc::Global;
+use std::test::Fail;
+
+/// How many records are released, or the line and the condition that fails.
+pub(crate) type Answer = Result<u32, (u64, Why)>;
+
+/// The bytes of lines, of which some, by their numbers from 1, are others; one without bytes is left out.
+pub(crate) fn with_lines(
+    alloc: Global,
+    lines: &[&[u8]],
+    changed: &[(usize, &[u8])],
+) -> Result<Vec<u8>, OutOfMemory> {
+    let mut bytes = Vec::new(alloc);
+    for (place, line) in lines.iter().enumerate() {
+        bytes.extend_from_slice(line_at(place + 1, line, changed))?;
+    }
+    Ok(bytes)
+}
+
+// The line of this number.
+fn line_at<'a>(number: usize, line: &'a [u8], changed: &'a [(usize, &'a [u8])]) -> &'a [u8] {
+    for (place, text) in changed {
+        if *place == number {
+            return *text;
+        }
+    }
+    line
+}
+
+/// What the audit answers.
+pub(crate) fn answer(
+    alloc: Global,
+    rules: &[u8],
+    records: &[u8],
+    released: &[u8],
+    proof: &[u8],
+) -> Result<Answer, Fail> {
+    let survey = read_rules(alloc, rules)?;
+    let sheet = read_records(alloc, &survey, records)?;
+    match check_all(alloc, &survey, &sheet, released, proof) {
+        Ok(count) => Ok(Ok(count)),
+        Err(CheckFault::Rejected { line, why }) => Ok(Err((line, why))),
+        Err(CheckFault::OutOfMemory) => Err(OutOfMemory.into()),
+    }
+}

@@ -1,0 +1,236 @@
+//! A release of two fields whose sum is at most 6, and what the audit answers where lines of its proof are others.
+use crate::audit::{Answer, answer, with_lines};
+use cert_check::Why;
+use std::alloc::Global;
+use std::test::Fail;
+
+const RULES: &[u8] = b"number A\nnumber B\nA + B <= 6\n";
+
+const RECORDS: &[u8] = b"A,B\n3,4\n";
+
+const PROOF: &[&[u8]] = &[
+    b"fh-proof 1\n",
+    b"limit 1 near 5 budget 1000000\n",
+    b"lines 1\n",
+    b"keep\n",
+    b"records 1\n",
+    b"change 1 KC 3\n",
+    b"line KK 1\n",
+    b"given 1\n",
+    b"bound KC\n",
+    b"bound C\n",
+    b"claims 0\n",
+    b"end\n",
+];
+
+/// Lines of the proof by their numbers, and what is answered; the released row is `3,0`.
+type Change = (&'static [(usize, &'static [u8])], Answer);
+
+const CHANGES: &[Change] = &[
+    (&[], Ok(1)),
+    // no line, a missing one, and counts of lines that are not there
+    (&[(1, b"")], Err((1, Why::Grammar))),
+    (&[(12, b"")], Err((12, Why::Grammar))),
+    (&[(3, b"lines 2\n")], Err((5, Why::Grammar))),
+    (&[(3, b"lines 4000000000\n")], Err((5, Why::Grammar))),
+    (&[(5, b"records 2\n")], Err((11, Why::Grammar))),
+    (&[(7, b"line KK 99999999\n")], Err((9, Why::Grammar))),
+    // each limit, and one past it
+    (&[(2, b"limit 1000 near 64 budget 1000000000\n")], Ok(1)),
+    (&[(2, b"limit 0 near 5 budget 1\n")], Err((2, Why::Head))),
+    (&[(2, b"limit 1001 near 5 budget 1\n")], Err((2, Why::Head))),
+    (&[(2, b"limit 1 near 0 budget 1\n")], Err((2, Why::Head))),
+    (&[(2, b"limit 1 near 65 budget 1\n")], Err((2, Why::Head))),
+    (&[(2, b"limit 1 near 5 budget 0\n")], Err((2, Why::Head))),
+    (
+        &[(2, b"limit 1 near 5 budget 1000000001\n")],
+        Err((2, Why::Head)),
+    ),
+    // another number of lines or of records, each of the others before it
+    (&[(3, b"lines 0\n"), (4, b"")], Err((3, Why::Head))),
+    (
+        &[(3, b"lines 2\n"), (4, b"drop 0\nkeep\n")],
+        Err((3, Why::Head)),
+    ),
+    (
+        &[(4, b"drop 1\ngiven 1\n"), (5, b"records 2\nclean\n")],
+        Err((6, Why::Head)),
+    ),
+    (&[(4, b"drop 0\n")], Err((4, Why::Drop))),
+    // the head of the record
+    (&[(6, b"change 2 KC 3\n")], Err((6, Why::Cert))),
+    (&[(6, b"change 1 K 3\n")], Err((6, Why::Cert))),
+    (&[(6, b"change 1 KCK 3\n")], Err((6, Why::Cert))),
+    (&[(6, b"change 1 KC 2\n"), (10, b"")], Err((9, Why::Cert))),
+    (
+        &[
+            (6, b"change 1 KC 0\n"),
+            (7, b""),
+            (8, b""),
+            (9, b""),
+            (10, b""),
+        ],
+        Err((6, Why::Cert)),
+    ),
+    (
+        &[(6, b"clean\n"), (7, b""), (8, b""), (9, b""), (10, b"")],
+        Err((6, Why::RowText)),
+    ),
+    // its tree
+    (&[(7, b"line KKK 1\n")], Err((7, Why::Cert))),
+    (&[(7, b"bad KK\n"), (8, b"")], Err((7, Why::Cert))),
+    (&[(7, b"line KK 0\n"), (8, b"")], Err((7, Why::Cert))),
+    (&[(8, b"given 2\n")], Err((8, Why::Cert))),
+    (&[(8, b"fail 1\n")], Err((8, Why::Cert))),
+    (
+        &[(7, b"line KK 2\n"), (8, b"given 1\ncombine 1 1 2 1 1\n")],
+        Err((9, Why::Cert)),
+    ),
+    (&[(9, b"bound KK\n")], Err((9, Why::Cert))),
+    (&[(10, b"bound CC\n")], Err((10, Why::Cert))),
+    (
+        &[(6, b"change 1 KC 4\n"), (10, b"bound C\nbound C\n")],
+        Err((11, Why::Cert)),
+    ),
+    // claims
+    (&[(11, b"claims 1\nclaim 1 0\n")], Err((11, Why::Claims))),
+];
+
+/// The same, where no row is released.
+const LEFT_OUT: &[Change] = &[
+    (&[], Err((0, Why::RowText))),
+    (&[(6, b"gift 1 KC 2 1 3\n")], Ok(0)),
+    (&[(6, b"gift 1 KC 3 1 3\n")], Err((6, Why::Cert))),
+    (&[(6, b"gift 1 KC 0 1 3\n")], Ok(0)),
+    (&[(6, b"gift 1 KC 0 2 3\n")], Err((6, Why::Cert))),
+    (&[(6, b"gift 2 KC 0 1 3\n")], Err((6, Why::Cert))),
+    (
+        &[(6, b"gift 1 KC 0 2 3\n"), (8, b"given 2\n")],
+        Err((8, Why::Cert)),
+    ),
+    (
+        &[
+            (6, b"gift 0 KK 0 1 1\n"),
+            (7, b"bound -\n"),
+            (8, b""),
+            (9, b""),
+            (10, b""),
+        ],
+        Ok(0),
+    ),
+    (
+        &[
+            (6, b"budget KC 1000000\n"),
+            (7, b""),
+            (8, b""),
+            (9, b""),
+            (10, b""),
+        ],
+        Ok(0),
+    ),
+    (
+        &[
+            (6, b"budget KC 1000001\n"),
+            (7, b""),
+            (8, b""),
+            (9, b""),
+            (10, b""),
+        ],
+        Err((6, Why::Cert)),
+    ),
+    (
+        &[
+            (6, b"step KC 9 9 0\n"),
+            (7, b""),
+            (8, b""),
+            (9, b""),
+            (10, b""),
+        ],
+        Ok(0),
+    ),
+    (
+        &[
+            (6, b"step KC 9 9 2\n"),
+            (7, b""),
+            (8, b""),
+            (9, b""),
+            (10, b""),
+        ],
+        Ok(0),
+    ),
+    (
+        &[
+            (6, b"step KC 9 9 3\n"),
+            (7, b""),
+            (8, b""),
+            (9, b""),
+            (10, b""),
+        ],
+        Err((6, Why::Cert)),
+    ),
+    (
+        &[
+            (6, b"step KCC 9 9 0\n"),
+            (7, b""),
+            (8, b""),
+            (9, b""),
+            (10, b""),
+        ],
+        Err((6, Why::Cert)),
+    ),
+    (
+        &[
+            (6, b"test KC 9 2\n"),
+            (7, b""),
+            (8, b""),
+            (9, b""),
+            (10, b""),
+        ],
+        Ok(0),
+    ),
+    (
+        &[
+            (6, b"test KC 9 3\n"),
+            (7, b""),
+            (8, b""),
+            (9, b""),
+            (10, b""),
+        ],
+        Err((6, Why::Cert)),
+    ),
+    (&[(6, b"contradictory 3\n")], Err((9, Why::Cert))),
+    (
+        &[
+            (6, b"contradictory 0\n"),
+            (7, b""),
+            (8, b""),
+            (9, b""),
+            (10, b""),
+        ],
+        Err((6, Why::Cert)),
+    ),
+];
+
+// The place of the first change that is answered otherwise, or how many there are.
+fn first_other(alloc: Global, released: &[u8], changes: &[Change]) -> Result<usize, Fail> {
+    for (place, (lines, expected)) in changes.iter().enumerate() {
+        let proof = with_lines(alloc, PROOF, lines)?;
+        if answer(alloc, RULES, RECORDS, released, &proof)? != *expected {
+            return Ok(place);
+        }
+    }
+    Ok(changes.len())
+}
+
+#[test]
+fn the_first_condition_that_fails_is_told(rt: HostRuntime) -> Result<(), Fail> {
+    assert_eq!(rt;
+        first_other(rt.alloc(), b"A,B\n3,0\n", CHANGES)?,
+        CHANGES.len()
+    );
+    assert_eq!(rt;
+        first_other(rt.alloc(), b"A,B\n", LEFT_OUT)?,
+        LEFT_OUT.len()
+    );
+    Ok(())
+}
