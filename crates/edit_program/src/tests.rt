@@ -1,16 +1,18 @@
-//! Whole runs of `edit`, over files and lines in memory. What is expected was worked out by hand.
+//! Whole runs, over files and lines in memory. What is expected was worked out by hand.
+mod checks;
 mod refusals;
 mod worked;
 
-use crate::edit::fh_main;
+use crate::run::fh_main;
 use crate::status::Status;
 use edit_desk::{Failure, MemoryDesk, MemoryPrinter};
 use std::alloc::Global;
 use std::collections::BTreeMap;
 use std::test::Fail;
 
-/// A run: its two files, the last words, the call of the desk and the line that fail, if one is to (else 0), the status
-/// that it ends with, the two files that it leaves, and what it prints.
+/// A run of `edit`: its two files, the last words, the call of the desk and the line that fail, if one is to (else 0),
+/// the status that it ends with, the three files that it leaves, what it prints, and what `check` prints of its files
+/// where all of them are stored.
 struct Run {
     rules: &'static str,
     records: &'static str,
@@ -18,26 +20,43 @@ struct Run {
     fails: u64,
     unprinted: u64,
     status: Status,
+    proof: Option<&'static str>,
     reasons: Option<&'static str>,
     released: Option<&'static str>,
     printed: &'static str,
+    checked: &'static str,
 }
 
-const NAMES: &[&str] = &[
+const EDIT: &[&str] = &[
     "edit",
     "--rules",
     "r",
     "--records",
     "c",
+    "--proof",
+    "p",
     "--reasons",
     "w",
     "--released",
     "d",
 ];
 
-fn words(alloc: Global, last: &[&str]) -> Result<Vec<String>, Fail> {
+const CHECK: &[&str] = &[
+    "check",
+    "--proof",
+    "p",
+    "--released",
+    "d",
+    "--records",
+    "c",
+    "--rules",
+    "r",
+];
+
+// These words, and some last ones.
+fn words(alloc: Global, first: &[&str], last: &[&str]) -> Result<Vec<String>, Fail> {
     let mut words = Vec::new(alloc);
-    for word in NAMES {
+    for word in first {
         words.push(String::from_str(alloc, word)?)?;
     }
     for word in last {
@@ -78,7 +97,7 @@ fn is_held(desk: &MemoryDesk, name: &str, text: Option<&str>) -> bool {
     }
 }
 
-// Whether the run ends, leaves and prints what it is to.
+// Whether the run ends, leaves and prints what it is to, and its files are checked so.
 fn is_right(alloc: Global, run: &Run) -> Result<bool, Fail> {
     let mut desk = desk_of(
         alloc,
@@ -87,13 +106,32 @@ fn is_right(alloc: Global, run: &Run) -> Result<bool, Fail> {
         run.fails,
     )?;
     let mut printer = MemoryPrinter::new(alloc, Some(run.unprinted))?;
-    let status = fh_main(alloc, &words(alloc, run.words)?, &mut desk, &mut printer);
+    let status = fh_main(
+        alloc,
+        &words(alloc, EDIT, run.words)?,
+        &mut desk,
+        &mut printer,
+    );
     Ok(
         status == run.status
+            && is_held(&desk, "p", run.proof)
             && is_held(&desk, "w", run.reasons)
             && is_held(&desk, "d", run.released)
-            && printer.text() == run.printed.as_bytes(),
+            && printer.text() == run.printed.as_bytes()
+            && (run.checked.is_empty() || prints(alloc, &mut desk, Status::Done, run.checked)?),
     )
+}
+
+// Whether a check of the desk's files ends and prints so.
+fn prints(
+    alloc: Global,
+    desk: &mut MemoryDesk,
+    status: Status,
+    printed: &str,
+) -> Result<bool, Fail> {
+    let mut printer = MemoryPrinter::new(alloc, None)?;
+    let ended = fh_main(alloc, &words(alloc, CHECK, &[])?, desk, &mut printer);
+    Ok(ended == status && printer.text() == printed.as_bytes())
 }
 
 // The place of the first run that is not right.

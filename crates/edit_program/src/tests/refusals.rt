@@ -1,10 +1,14 @@
 //! Runs that are refused, or of which a call or a line fails.
-use super::{Run, desk_of, first_wrong, words};
-use crate::edit::fh_main;
+use super::{EDIT, Run, desk_of, first_wrong, words};
+use crate::run::fh_main;
 use crate::status::Status;
 use edit_desk::MemoryPrinter;
 use std::alloc::Global;
 use std::test::Fail;
+
+/// The proof of the first record that is at least 3, where it was 1.
+const PROOF: &str =
+    "fh-proof 1\nlimit 1 near 5 budget 1000000\nlines 1\nkeep\nrecords 1\nchange 1 C 2\nline K 1\ngiven 1\nbound C\nclaims 0\nend\n";
 
 const RUNS: &[Run] = &[
     // the rules can not be read
@@ -15,9 +19,11 @@ const RUNS: &[Run] = &[
         fails: 1,
         unprinted: 0,
         status: Status::ReadFault,
+        proof: None,
         reasons: None,
         released: None,
         printed: "fault: read r\n",
+        checked: "",
     },
     // the records can not be read
     Run {
@@ -27,11 +33,13 @@ const RUNS: &[Run] = &[
         fails: 2,
         unprinted: 0,
         status: Status::ReadFault,
+        proof: None,
         reasons: None,
         released: None,
         printed: "fault: read c\n",
+        checked: "",
     },
-    // the reasons can not be written, but for two bytes
+    // the proof can not be written, but for two bytes
     Run {
         rules: "number A\nA >= 3\n",
         records: "A\n1\n",
@@ -39,11 +47,13 @@ const RUNS: &[Run] = &[
         fails: 3,
         unprinted: 0,
         status: Status::WriteFault,
-        reasons: Some("re"),
+        proof: Some("fh"),
+        reasons: None,
         released: None,
-        printed: "fault: write w\n",
+        printed: "fault: write p\n",
+        checked: "",
     },
-    // the released file can not be written, but for two bytes
+    // the reasons can not be written, but for two bytes
     Run {
         rules: "number A\nA >= 3\n",
         records: "A\n1\n",
@@ -51,21 +61,39 @@ const RUNS: &[Run] = &[
         fails: 4,
         unprinted: 0,
         status: Status::WriteFault,
-        reasons: Some("record,cause,field,before,after,donor,detail\n1,changed,A,1,3,,nearest\n"),
-        released: Some("A\n"),
-        printed: "fault: write d\n",
+        proof: Some(PROOF),
+        reasons: Some("re"),
+        released: None,
+        printed: "fault: write w\n",
+        checked: "",
     },
-    // there is no fifth call
+    // the released file can not be written, but for two bytes
     Run {
         rules: "number A\nA >= 3\n",
         records: "A\n1\n",
         words: &[],
         fails: 5,
         unprinted: 0,
+        status: Status::WriteFault,
+        proof: Some(PROOF),
+        reasons: Some("record,cause,field,before,after,donor,detail\n1,changed,A,1,3,,nearest\n"),
+        released: Some("A\n"),
+        printed: "fault: write d\n",
+        checked: "",
+    },
+    // there is no sixth call
+    Run {
+        rules: "number A\nA >= 3\n",
+        records: "A\n1\n",
+        words: &[],
+        fails: 6,
+        unprinted: 0,
         status: Status::Done,
+        proof: Some(PROOF),
         reasons: Some("record,cause,field,before,after,donor,detail\n1,changed,A,1,3,,nearest\n"),
         released: Some("A\n3\n"),
         printed: "records 1 clean 0 changed 1 unresolved 0 weight 1\n",
+        checked: "valid records 1 released 1\n",
     },
     // the summary can not be printed
     Run {
@@ -75,9 +103,11 @@ const RUNS: &[Run] = &[
         fails: 0,
         unprinted: 1,
         status: Status::WriteFault,
+        proof: Some(PROOF),
         reasons: Some("record,cause,field,before,after,donor,detail\n1,changed,A,1,3,,nearest\n"),
         released: Some("A\n3\n"),
         printed: "",
+        checked: "valid records 1 released 1\n",
     },
     // nor can a refusal
     Run {
@@ -87,9 +117,11 @@ const RUNS: &[Run] = &[
         fails: 1,
         unprinted: 1,
         status: Status::ReadFault,
+        proof: None,
         reasons: None,
         released: None,
         printed: "",
+        checked: "",
     },
     // there is no second line
     Run {
@@ -99,9 +131,11 @@ const RUNS: &[Run] = &[
         fails: 0,
         unprinted: 2,
         status: Status::Done,
+        proof: Some(PROOF),
         reasons: Some("record,cause,field,before,after,donor,detail\n1,changed,A,1,3,,nearest\n"),
         released: Some("A\n3\n"),
         printed: "records 1 clean 0 changed 1 unresolved 0 weight 1\n",
+        checked: "valid records 1 released 1\n",
     },
     // an option stands twice
     Run {
@@ -111,9 +145,11 @@ const RUNS: &[Run] = &[
         fails: 0,
         unprinted: 0,
         status: Status::Usage,
+        proof: None,
         reasons: None,
         released: None,
         printed: "fault: usage\n",
+        checked: "",
     },
     // a budget of 0
     Run {
@@ -123,9 +159,11 @@ const RUNS: &[Run] = &[
         fails: 0,
         unprinted: 0,
         status: Status::Usage,
+        proof: None,
         reasons: None,
         released: None,
         printed: "fault: usage\n",
+        checked: "",
     },
     // a name that is not declared, whatever the records are
     Run {
@@ -135,9 +173,11 @@ const RUNS: &[Run] = &[
         fails: 0,
         unprinted: 0,
         status: Status::Rules,
+        proof: None,
         reasons: None,
         released: None,
         printed: "fault: rules line 1 kind 3 UnknownField\n",
+        checked: "",
     },
     // a name declared again
     Run {
@@ -147,9 +187,11 @@ const RUNS: &[Run] = &[
         fails: 0,
         unprinted: 0,
         status: Status::Rules,
+        proof: None,
         reasons: None,
         released: None,
         printed: "fault: rules line 2 kind 4 DoubleField\n",
+        checked: "",
     },
     // no header
     Run {
@@ -159,9 +201,11 @@ const RUNS: &[Run] = &[
         fails: 0,
         unprinted: 0,
         status: Status::Records,
+        proof: None,
         reasons: None,
         released: None,
         printed: "fault: records kind 11 NoHeader\n",
+        checked: "",
     },
     // a field without a column
     Run {
@@ -171,9 +215,11 @@ const RUNS: &[Run] = &[
         fails: 0,
         unprinted: 0,
         status: Status::Records,
+        proof: None,
         reasons: None,
         released: None,
         printed: "fault: records kind 12 NoColumn field A\n",
+        checked: "",
     },
     // a field with two columns
     Run {
@@ -183,9 +229,11 @@ const RUNS: &[Run] = &[
         fails: 0,
         unprinted: 0,
         status: Status::Records,
+        proof: None,
         reasons: None,
         released: None,
         printed: "fault: records kind 13 DoubleColumn field A\n",
+        checked: "",
     },
     // a short row
     Run {
@@ -195,9 +243,11 @@ const RUNS: &[Run] = &[
         fails: 0,
         unprinted: 0,
         status: Status::Records,
+        proof: None,
         reasons: None,
         released: None,
         printed: "fault: records kind 14 RowLength row 2\n",
+        checked: "",
     },
     // 257 columns
     Run {
@@ -207,9 +257,11 @@ const RUNS: &[Run] = &[
         fails: 0,
         unprinted: 0,
         status: Status::Records,
+        proof: None,
         reasons: None,
         released: None,
         printed: "fault: records kind 16 TooManyColumns\n",
+        checked: "",
     },
 ];
 
@@ -223,7 +275,7 @@ fn is_refused(
 ) -> Result<bool, Fail> {
     let mut desk = desk_of(alloc, rules, records, 0)?;
     let mut printer = MemoryPrinter::new(alloc, None)?;
-    let ended = fh_main(alloc, &words(alloc, &[])?, &mut desk, &mut printer);
+    let ended = fh_main(alloc, &words(alloc, EDIT, &[])?, &mut desk, &mut printer);
     Ok(ended == status && printer.text() == line.as_bytes())
 }
 

@@ -23,9 +23,13 @@ const RUNS: &[Run] = &[
         fails: 0,
         unprinted: 0,
         status: Status::Done,
+        proof: Some(
+            "fh-proof 1\nlimit 1 near 5 budget 1000000\nlines 5\nkeep\nkeep\nkeep\nkeep\nkeep\nrecords 1\nclean\nclaims 0\nend\n",
+        ),
         reasons: Some("record,cause,field,before,after,donor,detail\n"),
         released: Some("Turnover,Costs,Profit\n100,60,40\n"),
         printed: "records 1 clean 1 changed 0 unresolved 0 weight 0\n",
+        checked: "valid records 1 released 1\n",
     },
     // one wrong value
     Run {
@@ -35,11 +39,15 @@ const RUNS: &[Run] = &[
         fails: 0,
         unprinted: 0,
         status: Status::Done,
+        proof: Some(
+            "fh-proof 1\nlimit 1 near 5 budget 1000000\nlines 5\nkeep\nkeep\nkeep\nkeep\nkeep\nrecords 1\nchange 1 KKC 4\nline KKK 1\ngiven 3\nbound KKC\nbound KC\nbound C\nclaims 0\nend\n",
+        ),
         reasons: Some(
             "record,cause,field,before,after,donor,detail\n1,changed,Profit,400,40,,nearest\n",
         ),
         released: Some("Turnover,Costs,Profit\n100,60,40\n"),
         printed: "records 1 clean 0 changed 1 unresolved 0 weight 1\n",
+        checked: "valid records 1 released 1\n",
     },
     // two fields of weight 1, where one of weight 2 is impossible
     Run {
@@ -49,11 +57,15 @@ const RUNS: &[Run] = &[
         fails: 0,
         unprinted: 0,
         status: Status::Done,
+        proof: Some(
+            "fh-proof 1\nlimit 1 near 5 budget 1000000\nlines 5\nkeep\nkeep\nkeep\nkeep\nkeep\nrecords 1\nchange 2 KCC 5\nline KKK 1\ngiven 5\nline KKC 3\ngiven 4\ngiven 5\ncombine 1 5 2 1 1\nline KCK 1\ngiven 5\nbound KCC\nbound C\nclaims 0\nend\n",
+        ),
         reasons: Some(
             "record,cause,field,before,after,donor,detail\n1,changed,Costs,30,100,,nearest\n1,changed,Profit,70,0,,default\n",
         ),
         released: Some("Turnover,Costs,Profit\n100,100,0\n"),
         printed: "records 1 clean 0 changed 1 unresolved 0 weight 2\n",
+        checked: "valid records 1 released 1\n",
     },
     // two missing values
     Run {
@@ -63,11 +75,15 @@ const RUNS: &[Run] = &[
         fails: 0,
         unprinted: 0,
         status: Status::Done,
+        proof: Some(
+            "fh-proof 1\nlimit 1 near 5 budget 1000000\nlines 5\nkeep\nkeep\nkeep\nkeep\nkeep\nrecords 1\nchange 2 KCC 4\nbad KK\nbad KCK\nbound KCC\nbound C\nclaims 0\nend\n",
+        ),
         reasons: Some(
             "record,cause,field,before,after,donor,detail\n1,changed,Costs,,100,,nearest\n1,changed,Profit,,0,,default\n",
         ),
         released: Some("Turnover,Costs,Profit\n100,100,0\n"),
         printed: "records 1 clean 0 changed 1 unresolved 0 weight 2\n",
+        checked: "valid records 1 released 1\n",
     },
     // a fraction
     Run {
@@ -77,9 +93,13 @@ const RUNS: &[Run] = &[
         fails: 0,
         unprinted: 0,
         status: Status::Done,
+        proof: Some(
+            "fh-proof 1\nlimit 1 near 5 budget 1000000\nlines 2\nkeep\nkeep\nrecords 1\nchange 1 CK 4\nline KK 1\ngiven 2\nbound KC\nbound CK\nbound CC\nclaims 0\nend\n",
+        ),
         reasons: Some("record,cause,field,before,after,donor,detail\n1,changed,A,5,7/3,,nearest\n"),
         released: Some("A,B\n7/3,7\n"),
         printed: "records 1 clean 0 changed 1 unresolved 0 weight 1\n",
+        checked: "valid records 1 released 1\n",
     },
     // a tie: the first set in path order, within a budget of just its work
     Run {
@@ -89,9 +109,13 @@ const RUNS: &[Run] = &[
         fails: 0,
         unprinted: 0,
         status: Status::Done,
+        proof: Some(
+            "fh-proof 1\nlimit 1 near 5 budget 5\nlines 2\nkeep\nkeep\nrecords 1\nchange 1 KC 3\nline KK 1\ngiven 1\nbound KC\nbound C\nclaims 0\nend\n",
+        ),
         reasons: Some("record,cause,field,before,after,donor,detail\n1,changed,B,4,7,,nearest\n"),
         released: Some("A,B\n3,7\n"),
         printed: "records 1 clean 0 changed 1 unresolved 0 weight 1\n",
+        checked: "valid records 1 released 1\n",
     },
     // the same with one less
     Run {
@@ -101,11 +125,15 @@ const RUNS: &[Run] = &[
         fails: 0,
         unprinted: 0,
         status: Status::SomeUnresolved,
+        proof: Some(
+            "fh-proof 1\nlimit 1 near 5 budget 4\nlines 2\nkeep\nkeep\nrecords 1\nbudget KC 3\nclaims 0\nend\n",
+        ),
         reasons: Some(
             "record,cause,field,before,after,donor,detail\n1,budget,,,,,path KC work 3\n",
         ),
         released: Some("A,B\n"),
         printed: "records 1 clean 0 changed 0 unresolved 1 weight 0\n",
+        checked: "valid records 1 released 0\n",
     },
     // rules on codes: one field alone is closed only by both rules together
     Run {
@@ -115,11 +143,15 @@ const RUNS: &[Run] = &[
         fails: 0,
         unprinted: 0,
         status: Status::Done,
+        proof: Some(
+            "fh-proof 1\nlimit 1 near 5 budget 1000000\nlines 2\nkeep\nkeep\nrecords 1\nchange 1 CKK 6\nbox KK 4\ngiven 1\nfail 1\nfix 1 2\nfix 2 3\nbox KCK 7\ngiven 2\nfail 1\ngiven 1\nfail 3\nfix 1 4\ncover 2 2 5\nfix 3 6\nbound KCC\nbound CKK\nbound CKC\nbound CC\nclaims 0\nend\n",
+        ),
         reasons: Some(
             "record,cause,field,before,after,donor,detail\n1,changed,Age,child,adult,,nearest\n",
         ),
         released: Some("Age,Status,Rel\nadult,married,spouse\n"),
         printed: "records 1 clean 0 changed 1 unresolved 0 weight 1\n",
+        checked: "valid records 1 released 1\n",
     },
     // an open interval
     Run {
@@ -129,9 +161,13 @@ const RUNS: &[Run] = &[
         fails: 0,
         unprinted: 0,
         status: Status::Done,
+        proof: Some(
+            "fh-proof 1\nlimit 1 near 5 budget 1000000\nlines 2\nkeep\nkeep\nrecords 1\nchange 1 C 2\nbad K\nbound C\nclaims 0\nend\n",
+        ),
         reasons: Some("record,cause,field,before,after,donor,detail\n1,changed,A,,1/2,,nearest\n"),
         released: Some("id,A\n1,1/2\n"),
         printed: "records 1 clean 0 changed 1 unresolved 0 weight 1\n",
+        checked: "valid records 1 released 1\n",
     },
     // an open interval without an end
     Run {
@@ -141,9 +177,13 @@ const RUNS: &[Run] = &[
         fails: 0,
         unprinted: 0,
         status: Status::Done,
+        proof: Some(
+            "fh-proof 1\nlimit 1 near 5 budget 1000000\nlines 1\nkeep\nrecords 1\nchange 1 C 2\nbad K\nbound C\nclaims 0\nend\n",
+        ),
         reasons: Some("record,cause,field,before,after,donor,detail\n1,changed,A,,1,,nearest\n"),
         released: Some("id,A\n1,1\n"),
         printed: "records 1 clean 0 changed 1 unresolved 0 weight 1\n",
+        checked: "valid records 1 released 1\n",
     },
     // a rule of a code and a number, of which the code is lighter
     Run {
@@ -153,11 +193,15 @@ const RUNS: &[Run] = &[
         fails: 0,
         unprinted: 0,
         status: Status::Done,
+        proof: Some(
+            "fh-proof 1\nlimit 1 near 5 budget 1000000\nlines 2\nkeep\nkeep\nrecords 1\nchange 1 KC 3\nbox KK 3\ngiven 2\nfail 1\nfix 1 2\nbound KC\nbound C\nclaims 0\nend\n",
+        ),
         reasons: Some(
             "record,cause,field,before,after,donor,detail\n1,changed,Status,child,adult,,nearest\n",
         ),
         released: Some("Status,Wage\nadult,50\n"),
         printed: "records 1 clean 0 changed 1 unresolved 0 weight 1\n",
+        checked: "valid records 1 released 1\n",
     },
     // and of which the number is
     Run {
@@ -167,11 +211,15 @@ const RUNS: &[Run] = &[
         fails: 0,
         unprinted: 0,
         status: Status::Done,
+        proof: Some(
+            "fh-proof 1\nlimit 1 near 5 budget 1000000\nlines 2\nkeep\nkeep\nrecords 1\nchange 1 CK 4\nbox KK 3\ngiven 2\nfail 1\nfix 1 2\nbound KC\nbound CK\nbound CC\nclaims 0\nend\n",
+        ),
         reasons: Some(
             "record,cause,field,before,after,donor,detail\n1,changed,Wage,50,0,,default\n",
         ),
         released: Some("Status,Wage\nchild,0\n"),
         printed: "records 1 clean 0 changed 1 unresolved 0 weight 1\n",
+        checked: "valid records 1 released 1\n",
     },
     // rules that contradict each other
     Run {
@@ -181,9 +229,13 @@ const RUNS: &[Run] = &[
         fails: 0,
         unprinted: 0,
         status: Status::SomeUnresolved,
+        proof: Some(
+            "fh-proof 1\nlimit 1 near 5 budget 1000000\nlines 2\nkeep\nkeep\nrecords 1\ncontradictory 2\nline K 1\ngiven 1\nline C 3\ngiven 1\ngiven 2\ncombine 1 1 2 1 2\nclaims 0\nend\n",
+        ),
         reasons: Some("record,cause,field,before,after,donor,detail\n1,contradictory,,,,,\n"),
         released: Some("A\n"),
         printed: "records 1 clean 0 changed 0 unresolved 1 weight 0\n",
+        checked: "valid records 1 released 0\n",
     },
     // a number past 128 bits
     Run {
@@ -193,11 +245,15 @@ const RUNS: &[Run] = &[
         fails: 0,
         unprinted: 0,
         status: Status::SomeUnresolved,
+        proof: Some(
+            "fh-proof 1\nlimit 1 near 5 budget 1000000\nlines 5\nkeep\nkeep\nkeep\nkeep\nkeep\nrecords 1\nstep KCCCC 1 2 1\nclaims 0\nend\n",
+        ),
         reasons: Some(
             "record,cause,field,before,after,donor,detail\n1,overflow,,,,,path KCCCC lines 1 2 at x1\n",
         ),
         released: Some("x1,x2,x3,x4,x5,x6\n"),
         printed: "records 1 clean 0 changed 0 unresolved 1 weight 0\n",
+        checked: "valid records 1 released 0\n",
     },
     // records of each kind, further columns, and no numerals
     Run {
@@ -207,11 +263,15 @@ const RUNS: &[Run] = &[
         fails: 0,
         unprinted: 0,
         status: Status::Done,
+        proof: Some(
+            "fh-proof 1\nlimit 1 near 5 budget 1000000\nlines 1\nkeep\nrecords 3\nclean\nchange 1 C 2\nbad K\nbound C\nchange 1 C 2\nline K 1\ngiven 1\nbound C\nclaims 0\nend\n",
+        ),
         reasons: Some(
             "record,cause,field,before,after,donor,detail\n2,changed,A,1e3,0,,default\n3,changed,A,-4,0,,default\n",
         ),
         released: Some("id,A\n\"x, y\",007.50\n1,0\n2,0\n"),
         printed: "records 3 clean 1 changed 2 unresolved 0 weight 2\n",
+        checked: "valid records 3 released 3\n",
     },
     // no records
     Run {
@@ -221,9 +281,13 @@ const RUNS: &[Run] = &[
         fails: 0,
         unprinted: 0,
         status: Status::Done,
+        proof: Some(
+            "fh-proof 1\nlimit 1 near 5 budget 1000000\nlines 2\nkeep\nkeep\nrecords 0\nclaims 0\nend\n",
+        ),
         reasons: Some("record,cause,field,before,after,donor,detail\n"),
         released: Some("A\n"),
         printed: "records 0 clean 0 changed 0 unresolved 0 weight 0\n",
+        checked: "valid records 0 released 0\n",
     },
 ];
 
