@@ -1,6 +1,4 @@
 mod AskedLaws
 pub mod FieldFaults
 mod PairLaws
-pub mod RunLaws
-pub mod TextLaws
 pub mod WholeLaws
