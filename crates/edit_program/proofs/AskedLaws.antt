@@ -23,7 +23,8 @@ between default least most (text ∷ second ∷ more) n low high given = absurd 
 one_value : (values : List (List ℕ)) (a b : List ℕ) → values ≡ a ∷ [] → values ≡ b ∷ [] → a ≡ b
 one_value values a b p q = cc
 
-abbrev edit_of : List ℕ → List ℕ → List ℕ → List ℕ → List ℕ → ℕ → EditAsked
+-- an edit of these files
+abbrev pub edit_of : List ℕ → List ℕ → List ℕ → List ℕ → List ℕ → ℕ → EditAsked
 edit_of r c d s p n = record { names = record { rules = r; records = c; released = d; reasons = s; proof = p }; budget = n }
 
 same_edit : (r c d s p r' c' d' s' p' : List ℕ) (n n' : ℕ) → r ≡ r' → c ≡ c' → d ≡ d' → s ≡ s' → p ≡ p' → n ≡ n' → edit_of r c d s p n ≡ edit_of r' c' d' s' p' n'
@@ -34,7 +35,8 @@ pub one_edit : (pairs : Pairs) (a b : EditAsked) → GiveEdit pairs a → GiveEd
 one_edit pairs a b p q =
     same_edit _ _ _ _ _ _ _ _ _ _ _ _ (one_value _ _ _ p.rules q.rules) (one_value _ _ _ p.records q.records) (one_value _ _ _ p.released q.released) (one_value _ _ _ p.reasons q.reasons) (one_value _ _ _ p.proof q.proof) (one_number _ _ _ _ _ _ p.budget q.budget)
 
-abbrev check_of : List ℕ → List ℕ → List ℕ → List ℕ → CheckAsked
+-- a check of these files
+abbrev pub check_of : List ℕ → List ℕ → List ℕ → List ℕ → CheckAsked
 check_of r c d p = record { rules = r; records = c; released = d; proof = p }
 
 same_check : (r c d p r' c' d' p' : List ℕ) → r ≡ r' → c ≡ c' → d ≡ d' → p ≡ p' → check_of r c d p ≡ check_of r' c' d' p'

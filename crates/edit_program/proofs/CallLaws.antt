@@ -1,14 +1,16 @@
 -- The calls of the parts of a run, one after the other.
-use Rattle.std.proofs.Common.{◌≡◌, ◌⊎◌, ◌∙◌, ◌+◌, ℕ, zero, suc, List, [], ◌∷◌, ◌++◌, Option, ap, append_assoc, inl, inr, length, refl, subst, sym, take}
+use Rattle.std.proofs.Common.{◌≡◌, ◌⊎◌, ◌∙◌, ◌+◌, ℕ, zero, suc, List, [], ◌∷◌, ◌++◌, Option, Result, Ok, Err, IfErr, ap, append_assoc, arith, inl, inr, length, refl, subst, sym, take, take_all}
 use Rattle.std.specs.Prelude.{⊤}
 use Rattle.std.proofs.Math.Seq.{take-append-add}
 use Rattle.edit_desk.specs.Desk.{Asked, PutsOnRecord, failing, fetched, stored}
 use Rattle.edit_model.specs.declared.field.Field.{Field}
 use Rattle.record_text.specs.declared.fault.SheetFault.{SheetFault}
 use Rattle.record_text.specs.declared.fault.SheetFault.TheVariants as sheet
-use Rattle.edit_program.specs.Faults.{sheet_fault}
+use Rattle.cert_check.specs.declared.fault.CheckFault.{CheckFault}
+use Rattle.cert_check.specs.declared.fault.CheckFault.TheVariants as check
+use Rattle.edit_program.specs.Faults.{check_fault, sheet_fault}
 use Rattle.edit_program.specs.Run.{AreCallsTo, EndAt}
-use Rattle.edit_program.specs.inner.Parts.{IsOfFetch, IsOfRecords, IsOfRules, IsOfStores}
+use Rattle.edit_program.specs.inner.Parts.{AreCallsOf, IsOfFetch, IsOfRecords, IsOfRules, IsOfStores, faults_after}
 use Rattle.edit_program.specs.declared.fault.Fault.{Fault}
 use Rattle.edit_program.specs.declared.fault.Fault.TheVariants as fault
 use Rattle.edit_program.proofs.ToldLaws.{less-told, then-told}
@@ -111,3 +113,22 @@ pub sheet-calls : (a b : Option (List Asked)) (fields : List Field) (name : List
     → PutsOnRecord a b (λ calls. calls ≡ fetched name ∷ []) → PutsOnRecord a b (AreCallsTo (fetched name ∷ []) f)
 sheet-calls a b fields name told f (inl same) p = less-calls a b (AreCallsTo (fetched name ∷ []) f) (λ x e. rw same (subst (AreCallsTo (fetched name ∷ []) (sheet_fault fields told)) (sym e) (as-sheet fields name told))) p
 sheet-calls a b fields name told f (inr memory) p = less-calls a b (AreCallsTo (fetched name ∷ []) f) (λ x e. rw memory (1, e)) p
+
+-- ---- all calls, and then perhaps want of memory
+
+pub memory-calls : {A : Type 0} (a b : Option (List Asked)) (order : List Asked) (r : Result A Fault) → IfErr r (λ f. f ≡ fault.OutOfMemory) → PutsOnRecord a b (λ calls. calls ≡ order) → PutsOnRecord a b (AreCallsOf order r)
+memory-calls a b order (Ok done) memory p = p
+memory-calls a b order (Err f) memory p = less-calls a b (AreCallsTo order f) (λ x e. rw memory (length order, e ∙ sym (take_all (length order) order (omega arith)))) p
+
+pub memory-faults : {A : Type 0} (r : Result A Fault) (faults : ℕ) → IfErr r (λ f. f ≡ fault.OutOfMemory) → faults_after r faults ≡ faults
+memory-faults (Ok done) faults memory = refl
+memory-faults (Err f) faults memory = rw memory refl
+
+-- all calls, and then a refusal of the release that they gave
+as-told : (order : List Asked) (told : CheckFault) → AreCallsTo order (check_fault told) order
+as-told order (check.Rejected line why) = refl
+as-told order check.OutOfMemory = (length order, sym (take_all (length order) order (omega arith)))
+
+pub told-calls : (a b : Option (List Asked)) (order : List Asked) (told : CheckFault) (f : Fault) → (f ≡ check_fault told) ⊎ (f ≡ fault.OutOfMemory) → PutsOnRecord a b (λ calls. calls ≡ order) → PutsOnRecord a b (AreCallsTo order f)
+told-calls a b order told f (inl same) p = less-calls a b (AreCallsTo order f) (λ x e. rw same (subst (AreCallsTo order (check_fault told)) (sym e) (as-told order told))) p
+told-calls a b order told f (inr memory) p = less-calls a b (AreCallsTo order f) (λ x e. rw memory (subst (AreCallsTo order fault.OutOfMemory) (sym e) (as-told order check.OutOfMemory))) p

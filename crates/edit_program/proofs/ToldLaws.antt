@@ -9,10 +9,18 @@ module _ {A : Type 0} where
   each-told None less p = tt
   each-told (Some x) less p = less x p
 
-  -- what two claims give
+  -- what several claims give
   pub both-told : (a : Option A) {P Q R : A → Type 0} → ((x : A) → P x → Q x → R x) → IfSome a P → IfSome a Q → IfSome a R
   both-told None less p q = tt
   both-told (Some x) less p q = less x p q
+
+  pub three-told : (a : Option A) {P Q R S : A → Type 0} → ((x : A) → P x → Q x → R x → S x) → IfSome a P → IfSome a Q → IfSome a R → IfSome a S
+  three-told None less p q r = tt
+  three-told (Some x) less p q r = less x p q r
+
+  pub four-told : (a : Option A) {P Q R S T : A → Type 0} → ((x : A) → P x → Q x → R x → S x → T x) → IfSome a P → IfSome a Q → IfSome a R → IfSome a S → IfSome a T
+  four-told None less p q r s = tt
+  four-told (Some x) less p q r s = less x p q r s
 
   -- what two steps give
   pub then-told : (a b c : Option A) {P Q R : A → A → Type 0} → ((x y z : A) → P x y → Q y z → R x z) → Told a b P → Told b c Q → Told a c R

@@ -1,0 +1,97 @@
+-- How whole runs end.
+use Rattle.std.proofs.Common.{◌≡◌, ◌⊎◌, ◌∙◌, ℕ, List, IfSome, inl, inr, refl, subst, sym}
+use Rattle.edit_desk.specs.Desk.{PutsOnRecord, Told}
+use Rattle.edit_release.specs.Releases.{written_in}
+use Rattle.edit_release.specs.declared.release.Release.{Release}
+use Rattle.edit_program.specs.Asked.{CheckAsked, EditAsked}
+use Rattle.edit_program.specs.CheckRun.{IsCheckComplete, IsCheckStopped, IsChecked, IsRead, check_calls}
+use Rattle.edit_program.specs.EditRun.{AreWritten, IsEditComplete, IsEditStopped, IsEdited, IsMade, IsStored, edit_calls}
+use Rattle.edit_program.specs.Edits.{HasReleased}
+use Rattle.edit_program.specs.Faults.{fault_status}
+use Rattle.edit_program.specs.Readings.{RefusesCheck, Refuses}
+use Rattle.edit_program.specs.Run.{Seen, faults_by}
+use Rattle.edit_program.specs.inner.CheckParts.{Accepts}
+use Rattle.edit_program.specs.inner.EditParts.{edit_status}
+use Rattle.edit_program.specs.inner.Parts.{IsTelling}
+use Rattle.edit_program.specs.declared.fault.Fault.{Fault}
+use Rattle.edit_program.specs.declared.status.Status.{Status}
+use Rattle.edit_program.specs.declared.status.Status.TheVariants as status
+use Rattle.edit_program.proofs.AuditLaws.{valid-beside}
+use Rattle.edit_program.proofs.EndLaws.{has-released, memory-left}
+use Rattle.edit_program.proofs.InputLaws.{read-beside}
+use Rattle.edit_program.proofs.ToldLaws.{each-told, from-told, same-told}
+
+-- ---- edits
+
+module _ (asked : EditAsked) (before after : Seen) where
+  module _ (release : Release) (answer : Status) (telling : IsTelling (edit_status release) release.summary.items answer before.printed after.printed before.unprinted after.unprinted)
+      (files : Told before.files after.files (λ old new. IsMade asked (edit_status release) old (written_in release) × AreWritten asked (written_in release) old new))
+      (calls : PutsOnRecord before.calls after.calls (λ calls. calls ≡ edit_calls asked)) (faults : after.faults ≡ before.faults) where
+    stored : IsStored asked (edit_status release) (written_in release) before after
+    stored = record { files = files; calls = calls; faultless = faults }
+
+    -- all was done, and the summary was printed
+    pub edited-by : HasReleased answer → IsEdited asked answer before after
+    edited-by ended = by telling
+      where
+        by : IsTelling (edit_status release) release.summary.items answer before.printed after.printed before.unprinted after.unprinted → IsEdited asked answer before after
+        by (inl (is, printed, told)) = record {
+          written = written_in release;
+          stored = subst (λ (s : Status). IsStored asked s (written_in release) before after) (sym is) stored;
+          told = record { printed = printed; unprinted = told };
+        }
+        by (inr (is, printed, told)) = absurd (failed ended)
+          where
+            failed : HasReleased answer → ⊥
+            failed (inl done) = cc (sym done ∙ is)
+            failed (inr some) = cc (sym some ∙ is)
+
+    -- or it was not
+    pub untold-by : (¬ HasReleased answer) → IsEditStopped asked answer before after
+    untold-by not = by telling
+      where
+        by : IsTelling (edit_status release) release.summary.items answer before.printed after.printed before.unprinted after.unprinted → IsEditStopped asked answer before after
+        by (inl (is, printed, told)) = absurd (not (subst HasReleased (sym is) (has-released release)))
+        by (inr (is, printed, told)) = inr (
+          is,
+          record {
+            answer = edit_status release;
+            written = written_in release;
+            stored = stored;
+            untold = record { printed = printed; unprinted = told };
+          },
+        )
+
+  -- a refusal of files that have readings, in a run without a fault, is want of memory
+  pub edit-refused : (f : Fault) (answer : Status) → answer ≡ fault_status f → IfSome before.files (λ o. Refuses asked o f) → after.faults ≡ faults_by f before.faults → IsEditComplete asked answer before after
+  edit-refused f answer is cause faults =
+      each-told before.files (λ o why survey s hr hs none. inr (is ∙ memory-left before after f (read-beside asked.names.rules asked.names.records o f survey s hr hs why) faults none)) cause
+
+-- ---- checks
+
+module _ (asked : CheckAsked) (before after : Seen) where
+  module _ (line : List ℕ) (answer : Status) (telling : IsTelling status.Done line answer before.printed after.printed before.unprinted after.unprinted)
+      (accepts : Accepts asked before.files line) (files : after.files ≡ before.files) (calls : PutsOnRecord before.calls after.calls (λ calls. calls ≡ check_calls asked)) (faults : after.faults ≡ before.faults) where
+    read : IsRead asked accepts.0 accepts.1 before after
+    read = record { files = from-told before.files after.files (λ old new h same. (same, h)) accepts.3 (same-told before.files after.files (λ old new. new ≡ old) files (λ o. refl)); calls = calls; faultless = faults }
+
+    -- the files were accepted, and that was printed
+    pub checked-by : answer ≡ status.Done → IsChecked asked before after
+    checked-by done = by telling
+      where
+        by : IsTelling status.Done line answer before.printed after.printed before.unprinted after.unprinted → IsChecked asked before after
+        by (inl (is, printed, told)) = record { records = accepts.0; released = accepts.1; read = read; told = rw (← accepts.2) (record { printed = printed; unprinted = told }) }
+        by (inr (is, printed, told)) = absurd (cc (sym done ∙ is))
+
+    -- or it was not
+    pub unchecked-by : (answer ≡ status.Done → ⊥) → IsCheckStopped asked answer before after
+    unchecked-by not = by telling
+      where
+        by : IsTelling status.Done line answer before.printed after.printed before.unprinted after.unprinted → IsCheckStopped asked answer before after
+        by (inl (is, printed, told)) = absurd (not is)
+        by (inr (is, printed, told)) = inr (is, record { records = accepts.0; released = accepts.1; read = read; untold = rw (← accepts.2) (record { printed = printed; unprinted = told }) })
+
+  -- a refusal of a valid release, in a run without a fault, is want of memory
+  pub check-refused : (f : Fault) (answer : Status) → answer ≡ fault_status f → IfSome before.files (λ o. RefusesCheck asked o f) → after.faults ≡ faults_by f before.faults → IsCheckComplete asked answer before after
+  check-refused f answer is cause faults =
+      each-told before.files (λ o why audit held valid none. inr (is ∙ memory-left before after f (valid-beside asked o audit held f valid why) faults none)) cause
