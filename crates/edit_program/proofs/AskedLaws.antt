@@ -97,10 +97,6 @@ module _ (words : List (String Global)) (first : String Global) (others : List (
         options = given;
       }
 
--- the commands differ
-pub edit_no_check : (words : List (List ℕ)) (edit : EditAsked) (check : CheckAsked) → IsEdit words edit → IsCheck words check → ⊥
-edit_no_check words edit check is also = let a = is.form in let b = also.form in absurd cc
-
 -- ---- answers
 
 pub true_unless : (b : Bool) → not b ≡ false → b ≡ true

@@ -25,17 +25,6 @@ use Rattle.edit_program.proofs.ToldLaws.{each-told, four-told}
 module _ (asked : CheckAsked) (files : Files) where
   -- ---- the rules and the records
 
-  -- what refuses these refuses the check
-  pub rules-refuse-check : (f : Fault) → IsOfRules asked.rules f → RefusesInput asked.rules asked.records files f → RefusesCheck asked files f
-  rules-refuse-check (fault.TooLong name) kind why = inl why
-  rules-refuse-check (fault.Rejected line w) kind why = absurd kind
-  rules-refuse-check f kind why = why
-
-  pub records-refuse-check : (f : Fault) → IsOfRecords asked.records f → RefusesInput asked.rules asked.records files f → RefusesCheck asked files f
-  records-refuse-check (fault.TooLong name) kind why = inl why
-  records-refuse-check (fault.Rejected line w) kind why = absurd kind
-  records-refuse-check f kind why = why
-
   -- a status that is due of a check is due of these, or they were read
   due-or-read : (s : Status) → IsCheckDue asked files s → IsDueOrRead asked.rules asked.records files s
   due-or-read status.TooLong (inl due) = inl due

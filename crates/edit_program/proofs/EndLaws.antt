@@ -51,22 +51,6 @@ made asked files survey s release hr hs h = record {
 
 -- ---- what an edit leaves
 
--- nothing was stored before a fault of the rules
-pub rules-leave : (asked : EditAsked) (name : List ℕ) (f : Fault) (files : Files) → IsOfRules name f → Leaves asked f files files
-rules-leave asked name (fault.Rules line k) files kind = refl
-rules-leave asked name (fault.Read n) files kind = refl
-rules-leave asked name (fault.TooLong n) files kind = refl
-rules-leave asked name fault.OutOfMemory files kind = inl refl
-rules-leave asked name f files kind = absurd kind
-
--- or of the records
-pub records-leave : (asked : EditAsked) (name : List ℕ) (f : Fault) (files : Files) → IsOfRecords name f → Leaves asked f files files
-records-leave asked name (fault.Records what) files kind = refl
-records-leave asked name (fault.Read n) files kind = refl
-records-leave asked name (fault.TooLong n) files kind = refl
-records-leave asked name fault.OutOfMemory files kind = inl refl
-records-leave asked name f files kind = absurd kind
-
 -- what stores leave is of the edit that is to be made
 pub stores-leave : (asked : EditAsked) (f : Fault) (answer : Status) (written : Written) (old new : Files) → IsOfStores f → IsMade asked answer old written → LeavesOf (edit_files asked written) f old new → Leaves asked f old new
 stores-leave asked (fault.Write name) answer written old new kind is h = (answer, written, is, h)

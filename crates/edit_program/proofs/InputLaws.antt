@@ -12,15 +12,6 @@ use Rattle.edit_program.specs.declared.status.Status.{Status}
 use Rattle.edit_program.specs.declared.status.Status.TheVariants as status
 use Rattle.edit_program.proofs.HeldLaws.{not_longer, not_unread, not_unread_records, one_survey, weaker}
 
--- after a status that is not due, another one is not
-pub none-due : (Due : Status → Type 0) (a b : Status) → ¬ Due a → a ≢ status.ReadFault → a ≢ status.OutOfMemory → AnswersDue Due a → AnswersDue Due b
-none-due Due a b not read memory due s here = absurd (by (due s here))
-  where
-    by : (a ≡ s) ⊎ ((a ≡ status.ReadFault) ⊎ (a ≡ status.OutOfMemory)) → ⊥
-    by (inl same) = not (subst Due (sym same) here)
-    by (inr (inl e)) = read e
-    by (inr (inr e)) = memory e
-
 -- a fault that says nothing of the files
 abbrev pub IsBeside : Fault → Type 0
 IsBeside (fault.Read name) = Unit {0}
@@ -75,32 +66,9 @@ module _ (rules records : List ℕ) (files : Files) where
   answered a here s (inl due) = inl (one-due a s here due)
   answered a here s (inr (survey, hr, (sheet, hs, done))) = absurd (read-not-due survey sheet hr hs a here)
 
-  -- ---- refusals of the rules
-
-  pub rules-refuse : (f : Fault) → IsOfRules rules f → RefusesRules rules files f → RefusesInput rules records files f
-  rules-refuse (fault.Rules line k) kind why = why
-  rules-refuse (fault.Read name) kind why = tt
-  rules-refuse (fault.TooLong name) kind why = inl (kind, why)
-  rules-refuse fault.OutOfMemory kind why = tt
-  rules-refuse f kind why = absurd kind
-
-  pub rules-due : (f : Fault) → IsOfRules rules f → RefusesRules rules files f → AnswersDue IsDueOrRead (fault_status f)
-  rules-due (fault.Rules line k) kind why = answered status.Rules (weaker files rules most_bytes (λ bytes no. no.unread) why)
-  rules-due (fault.Read name) kind why = λ s due. inr (inl refl)
-  rules-due (fault.TooLong name) kind why = answered status.TooLong (inl (subst (λ (n : List ℕ). IsLonger files n most_bytes) kind why))
-  rules-due fault.OutOfMemory kind why = λ s due. inr (inr refl)
-  rules-due f kind why = absurd kind
-
-  -- ---- and of the records
+  -- ---- refusals of the records
 
   module _ (survey : SurveyParts) (hr : HoldsRules files rules survey) where
-    pub records-refuse : (f : Fault) → IsOfRecords records f → RefusesRecords records survey.fields files f → RefusesInput rules records files f
-    records-refuse (fault.Records what) kind why = (survey, hr, why)
-    records-refuse (fault.Read name) kind why = tt
-    records-refuse (fault.TooLong name) kind why = inr (kind, survey, hr, why)
-    records-refuse fault.OutOfMemory kind why = tt
-    records-refuse f kind why = absurd kind
-
     pub records-due : (f : Fault) → IsOfRecords records f → RefusesRecords records survey.fields files f → AnswersDue IsDueOrRead (fault_status f)
     records-due (fault.Records what) kind why = answered status.Records (survey, hr, weaker files records most_bytes (λ bytes no. no.unread) why)
     records-due (fault.Read name) kind why = λ s due. inr (inl refl)

@@ -1,4 +1,4 @@
--- Why a file that was fetched and not read is refused.
+-- Why a file of records that was fetched and not read is refused.
 use Rattle.std.proofs.Common.{◌≡◌, ◌≢◌, ◌⊎◌, ℕ, List, Option, Some, None, IfSome, inl, inr, refl, subst, sym}
 use Rattle.edit_language.specs.Reading.{IsFaultOf, IsNoRuleText}
 use Rattle.edit_language.specs.declared.fault.RulesFault.{RulesFault}
@@ -17,18 +17,7 @@ use Rattle.edit_program.specs.declared.fault.RecordsFault.{RecordsFault}
 use Rattle.edit_program.proofs.HeldLaws.{holds}
 use Rattle.edit_program.proofs.ToldLaws.{each-told}
 
-
--- rules that were not read are refused, unless for want of memory
-rules-unread : (files : Files) (name bytes : List ℕ) (told : RulesFault) → HoldsBytes files name most_bytes bytes → IsFaultOf bytes told → IsNoRuleText bytes told → RefusesRules name files (rules_fault told)
-rules-unread files name bytes (rules.At line k) held is none = holds (AreNoRules line k) files name most_bytes bytes held (record { unread = none; first = is })
-rules-unread files name bytes rules.OutOfMemory held is none = tt
-
-pub rules-refused : (files : Option Files) (name bytes : List ℕ) (told : RulesFault) (f : Fault) → IfSome files (λ o. HoldsBytes o name most_bytes bytes) → IsFaultOf bytes told → IsNoRuleText bytes told → (f ≡ rules_fault told) ⊎ (f ≡ fault.OutOfMemory)
-    → IfSome files (λ o. RefusesRules name o f)
-rules-refused files name bytes told f held is none (inl same) = each-told files (λ o h. subst (RefusesRules name o) (sym same) (rules-unread o name bytes told h is none)) held
-rules-refused files name bytes told f held is none (inr memory) = each-told files (λ o h. subst (RefusesRules name o) (sym memory) tt) held
-
--- the same of records
+-- records that were not read are refused
 module _ (files : Files) (name bytes : List ℕ) (fields : List Field) (held : HoldsBytes files name most_bytes bytes) where
   refused-as : (told : SheetFault) (what : RecordsFault) → sheet_fault fields told ≡ fault.Records what → IsSheetFault fields bytes told → ((t : SheetParts) → ¬ IsSheet fields bytes t) → RefusesRecords name fields files (fault.Records what)
   refused-as told what shown is none = holds (AreNoRecords fields what) files name most_bytes bytes held (record { unread = none; found = told; first = is; told = shown })
@@ -42,6 +31,7 @@ module _ (files : Files) (name bytes : List ℕ) (fields : List Field) (held : H
   records-unread sheet.TooManyRows is none = refused-as sheet.TooManyRows _ refl (is (λ e. cc e)) (none (λ e. cc e))
   records-unread (sheet.RowLength n) is none = refused-as (sheet.RowLength n) _ refl (is (λ e. cc e)) (none (λ e. cc e))
 
+-- unless for want of memory
 pub records-refused : (files : Option Files) (name bytes : List ℕ) (fields : List Field) (told : SheetFault) (f : Fault) → IfSome files (λ o. HoldsBytes o name most_bytes bytes)
     → (told ≢ sheet.OutOfMemory → IsSheetFault fields bytes told) → (told ≢ sheet.OutOfMemory → (t : SheetParts) → ¬ IsSheet fields bytes t) → (f ≡ sheet_fault fields told) ⊎ (f ≡ fault.OutOfMemory)
     → IfSome files (λ o. RefusesRecords name fields o f)
