@@ -25,7 +25,6 @@ use Rattle.edit_program.proofs.InputLaws.{IsBeside}
 
 -- ---- the status of an edit
 
-
 -- an edit that did all on the desk released something
 pub has-released : (release : Release) → HasReleased (edit_status release)
 has-released release = by release.whole

@@ -131,4 +131,3 @@ pub returns-clause-asked : goal.returns-clause-asked
 returns-clause-asked g c =
     subst (λ (a : CheckAsked). PutsOnRecord (g.D.Desk.calls c.args.desk.now) (g.D.Desk.calls c.fetch_proof.new.desk) (AreCallsTo (check_calls a) c.of.result)) c.asked.view_is
     (told-calls (g.D.Desk.calls c.args.desk.now) _ (check_calls (check_of c.asked.inside.rules.now c.asked.inside.records.now c.asked.inside.released.now c.asked.inside.proof.now)) c.in-Err.fault c.of.result (rw c.from.ensures at c.of.ensures) (all-calls (g.D.Desk.calls c.args.desk.now) _ _ (fetched c.asked.inside.rules.now ∷ fetched c.asked.inside.records.now ∷ fetched c.asked.inside.released.now ∷ []) (fetched c.asked.inside.proof.now ∷ []) (all-calls (g.D.Desk.calls c.args.desk.now) _ _ (fetched c.asked.inside.rules.now ∷ fetched c.asked.inside.records.now ∷ []) (fetched c.asked.inside.released.now ∷ []) (all-calls (g.D.Desk.calls c.args.desk.now) _ _ (fetched c.asked.inside.rules.now ∷ []) (fetched c.asked.inside.records.now ∷ []) c.in_ok-survey.ensures.asked c.in_ok-sheet.ensures.asked) c.in_ok-released.ensures.asked) c.in_ok-proof.ensures.asked))
-

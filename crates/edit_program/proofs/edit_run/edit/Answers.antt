@@ -92,4 +92,3 @@ returns-clause-asked g c =
     subst (λ (a : EditAsked). PutsOnRecord (g.D.Desk.calls c.args.desk.now) (g.D.Desk.calls c.store_release.new.desk) (λ calls. calls ≡ edit_calls a)) c.asked.view_is
     (all-calls (g.D.Desk.calls c.args.desk.now) _ _ (fetched c.asked.inside.rules.now ∷ fetched c.asked.inside.records.now ∷ []) (stored c.asked.inside.proof.now ∷ stored c.asked.inside.reasons.now ∷ stored c.asked.inside.released.now ∷ []) (all-calls (g.D.Desk.calls c.args.desk.now) _ _ (fetched c.asked.inside.rules.now ∷ []) (fetched c.asked.inside.records.now ∷ []) c.in_ok-survey.ensures.asked c.in_ok-sheet.ensures.asked)
     (subst (λ (a : EditAsked). PutsOnRecord (g.D.Desk.calls c.fetch_sheet.new.desk) (g.D.Desk.calls c.store_release.new.desk) (λ calls. calls ≡ store_calls (edit_files a (written_in c.in-Ok.release)))) (sym c.asked.view_is) c.in_ok-store_release.ensures.asked))
-
