@@ -1,6 +1,13 @@
-mod AskedLaws
+pub mod AskedLaws
+pub mod AuditLaws
+pub mod CallLaws
+pub mod EndLaws
 pub mod FieldFaults
+pub mod HeldLaws
+pub mod InputLaws
 mod PairLaws
+pub mod ReadingLaws
 pub mod RunLaws
-pub mod TextLaws
+pub mod StoreLaws
+pub mod ToldLaws
 pub mod WholeLaws

@@ -1,9 +1,10 @@
 -- Words taken two by two, and what their pairs give an option.
-use Rattle.std.proofs.Common.{◌≡◌, ◌∙◌, ◌+◌, ◌*◌, ◌<◌, ◌≤◌, ℕ, suc, zero, Bool, true, false, List, [], ◌∷◌, ◌++◌, Bor, String, Global, map, string_bytes, ◌||◌, ◌/◌, ap, arith, get_or, length, refl, sym, subst, take, drop, length-append, take-append-drop, take_all}
+use Rattle.std.proofs.Common.{◌≡◌, ◌∙◌, ◌+◌, ◌*◌, ◌<◌, ◌≤◌, ℕ, suc, zero, Bool, true, false, not, IsTrue, ◌≢◌, ◌↔◌, List, [], ◌∷◌, ◌++◌, Bor, String, Global, map, string_bytes, ◌||◌, ◌/◌, ap, arith, get_or, length, refl, sym, subst, take, drop, length-append, take-append-drop, take_all}
 use Rattle.std.specs.Prelude.{if◌then◌else◌}
-use Rattle.std.specs.List.{list_any}
+use Rattle.std.specs.List.{AllByRecursion, list_any}
 use Rattle.std.specs.Str.{bytes_eq}
 use Rattle.std.proofs.lemmas.List.{length-map, take_more}
+use Rattle.std.proofs.lemmas.Slice.Eq.{bytes_eq-Decides}
 use Rattle.edit_program.specs.Options.{AreGiven, GivesNumber, Pairs, values_of, words_of}
 use Rattle.edit_program.specs.inner.Pairs.{pairs_of}
 
@@ -110,3 +111,14 @@ pub many_values : (default least most : ℕ) (values : List (List ℕ)) (number 
 many_values default least most [] number h is = omega arith
 many_values default least most (text ∷ []) number h is = omega arith
 many_values default least most (text ∷ second ∷ more) number h is = is
+
+-- ---- names apart
+
+first_differs : (same rest : Bool) (a b : List ℕ) {P : Type 0} → (same ≡ true ↔ a ≡ b) → (IsTrue (not rest) ↔ P) → IsTrue (not (same || rest)) ↔ ((a ≢ b) × P)
+first_differs true rest a b named others = (λ t. absurd cc, λ both. absurd (both.0 (named.0 refl)))
+first_differs false rest a b named others = (λ t. (λ e. let h = named.1 e in cc, others.0 t), λ both. others.1 both.1)
+
+-- a name is not listed where it has other bytes than each that is
+pub all_differ : (name : List ℕ) (others : List (Bor (List ℕ))) → IsTrue (not (list_any (λ (o : Bor (List ℕ)). bytes_eq name o.now) others)) ↔ AllByRecursion (λ (o : Bor (List ℕ)). name ≢ o.now) others
+all_differ name [] = (λ t. tt, λ t. refl)
+all_differ name (other ∷ others) = first_differs (bytes_eq name other.now) _ name other.now (bytes_eq-Decides name other.now) (all_differ name others)

@@ -15,7 +15,8 @@ use Rattle.back_subst.specs.declared.gift.Gift.{Gift}
 use Rattle.edit_report.specs.declared.end.RowEnd.{RowEnd}
 use Rattle.record_workers.specs.Ends.{Follows, IsEndOf}
 use Rattle.record_workers.specs.Said.{OutcomeSays, Says}
-use Rattle.edit_program.specs.Edits.{AllGiven, IsStatusOf}
+use Rattle.edit_release.specs.Releases.{AllGiven}
+use Rattle.edit_program.specs.Edits.{IsStatusOf}
 use Rattle.edit_program.specs.Laws.{IsInReach, WholeLaw}
 use Rattle.edit_program.specs.declared.status.Status.{Status}
 use Rattle.edit_program.specs.declared.status.Status.TheVariants.{Done}
@@ -42,4 +43,4 @@ by-status ends answer (inl (done, all)) given = done
 by-status ends answer (inr (some, not)) given = absurd (not given)
 
 pub whole-released : WholeLaw
-whole-released survey s budget answer written p edit correction reach = by-status edit.ends answer edit.ended (all-given survey budget p correction s.rows edit.ends reach edit.each edit.say)
+whole-released survey s budget answer written p edit correction reach = by-status edit.ends answer edit.ended (all-given survey budget p correction s.rows edit.ends reach edit.edit.each edit.edit.say)

@@ -15,13 +15,13 @@ abbrev pub check_calls : CheckAsked → List Asked
 check_calls asked = fetched asked.rules ∷ fetched asked.records ∷ fetched asked.released ∷ fetched asked.proof ∷ []
 
 -- the files that the desk held are a valid release of so many records, of which so many are released; and this is what it shows
-pub record IsAccepted (asked : CheckAsked) (files : Files) (records released : ℕ) : Type 0 where
+pub record IsAccepted (asked : CheckAsked) (files : Files) (total given : ℕ) : Type 0 where
   pub audit : Audit
   pub held : HoldsRelease files asked audit
   pub valid : IsValidRelease audit
   pub shown : Shows audit
-  pub records : length audit.sheet.rows ≡ records
-  pub released : IsReleasedCount audit released
+  pub records : length audit.sheet.rows ≡ total
+  pub released : IsReleasedCount audit given
 
 -- the line that is printed of a valid release
 abbrev pub valid_text : ℕ → ℕ → List ℕ

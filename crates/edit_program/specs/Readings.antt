@@ -84,6 +84,8 @@ abbrev pub RefusesInput : List ℕ → List ℕ → Files → Fault → Type 0
 RefusesInput rules records files (fault.Rules line kind) = HoldsText files rules (AreNoRules line kind)
 RefusesInput rules records files (fault.Records what) = (survey : SurveyParts) × HoldsRules files rules survey × HoldsText files records (AreNoRecords survey.fields what)
 RefusesInput rules records files (fault.TooLong name) = ((name ≡ rules) × IsLonger files name most_bytes) ⊎ ((name ≡ records) × (survey : SurveyParts) × HoldsRules files rules survey × IsLonger files name most_bytes)
+RefusesInput rules records files fault.Usage = ⊥
+RefusesInput rules records files (fault.Rejected line why) = ⊥
 RefusesInput rules records files fault = ⊤
 
 -- why the files of an edit are refused

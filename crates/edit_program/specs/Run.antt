@@ -102,10 +102,10 @@ pub record IsUntold (text : List ℕ) (before after : Seen) : Type 0 where
 -- ---- refused runs
 
 -- a run that is refused for a fault, with its status: of the files that the desk held this holds, the calls end there, this is left on the desk, and the fault is printed
-pub record IsRefused (cause : Files → Fault → Type 0) (order : List Asked) (leaves : Fault → Files → Files → Type 0) (answer : Status) (before after : Seen) : Type 0 where
+pub record IsRefused (refuses : Files → Fault → Type 0) (order : List Asked) (leaves : Fault → Files → Files → Type 0) (answer : Status) (before after : Seen) : Type 0 where
   pub fault : Fault
   pub status : answer ≡ fault_status fault
-  pub cause : IfSome before.files (λ files. cause files fault)
+  pub cause : IfSome before.files (λ files. refuses files fault)
   pub calls : PutsOnRecord before.calls after.calls (AreCallsTo order fault)
   pub files : Told before.files after.files (leaves fault)
   pub faults : after.faults ≡ faults_by fault before.faults

@@ -136,5 +136,5 @@ fn number_of(text: &str) -> Option<u64>
 pub(crate) fn differs_from(name: &str, others: &[&str]) -> bool
     ensures { IsTrue result ↔ AllByRecursion (λ other. name.now ≢ other.now) others.now }
 {
-    others.iter().all(|other| name != *other)
+    !is_listed(others, name)
 }
