@@ -82,10 +82,14 @@ abbrev pub rules_of : Audit → Proof → RowRules
 rules_of a p =
     record { survey = a.survey; given = normal_lines_of a.survey; usable = map is_none p.verdicts; columns = a.sheet.columns; budget = p.budget }
 
+-- the next of the released rows, if the record is released
+abbrev pub next_texts : RowProof → List (List (List ℕ)) → Option (List (List ℕ))
+next_texts said [] = None
+next_texts said (texts ∷ released) = if is_released said then Some texts else None
+
 -- a record, with the next released row if it is released
 abbrev pub files_of : RowProof → List (List ℕ) → List Value → List (List (List ℕ)) → RowFiles
-files_of said reads row [] = record { reads = reads; row = row; texts = None }
-files_of said reads row (texts ∷ released) = record { reads = reads; row = row; texts = if is_released said then Some texts else None }
+files_of said reads row released = record { reads = reads; row = row; texts = next_texts said released }
 
 -- the released rows of the records behind one
 abbrev pub behind : RowProof → List (List (List ℕ)) → List (List (List ℕ))

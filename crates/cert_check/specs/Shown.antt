@@ -1,5 +1,5 @@
 -- What a valid release shows, whoever wrote it.
-use Rattle.std.specs.Prelude.{◌≡◌, ⊤, ℕ, ◌<◌, ◌≤◌, Bool, List, [], ◌∷◌, Option, Some, None, IfSome, length}
+use Rattle.std.specs.Prelude.{◌≡◌, ⊤, ℕ, ◌<◌, ◌≤◌, Bool, List, [], ◌∷◌, Option, Some, None, IsSomeAnd, length}
 use Rattle.edit_model.specs.Corrections.{IsCorrection, IsLeastWeight, change_weight, word_of}
 use Rattle.edit_model.specs.Parts.{SurveyParts}
 use Rattle.edit_model.specs.Points.{Point}
@@ -31,7 +31,7 @@ pub record IsLeastRelease (survey : SurveyParts) (columns : List ℕ) (changed :
 
 -- what is shown of a record, by what the proof says of it: a released row is a correction of least weight; no correction weighs less than a change to which no values were given; and a contradictory record shows that no point is consistent
 abbrev pub ShowsSaid : SurveyParts → List ℕ → RowFiles → Outcome → Option GiftFault → Type 0
-ShowsSaid survey columns f (Change path weight cert) None = IfSome f.texts (λ texts. IsLeastRelease survey columns (changes survey.fields path) f.row texts weight)
+ShowsSaid survey columns f (Change path weight cert) None = IsSomeAnd f.texts (λ texts. IsLeastRelease survey columns (changes survey.fields path) f.row texts weight)
 ShowsSaid survey columns f (Change path weight cert) (Some fault) = (p : Point) → IsCorrection survey p → weight ≤ change_weight survey f.row p
 ShowsSaid survey columns f (Contradictory cert) fault = (p : Point) → ¬ IsCorrection survey p
 ShowsSaid survey columns f outcome fault = ⊤

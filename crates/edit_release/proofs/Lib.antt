@@ -1,7 +1,12 @@
-pub mod NormalLines
 pub mod CaseLaws
-pub mod OutcomeLaws
+pub mod ColumnTexts
 pub mod EventLaws
 pub mod GiftFaults
+pub mod GivenValues
+pub mod NormalLines
+pub mod OutcomeLaws
+pub mod ReadBackLaws
+pub mod ReleasedLaws
+pub mod RowsLaws
 pub mod SaidLaws
 pub mod SoundLaws
