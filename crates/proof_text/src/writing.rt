@@ -1,8 +1,9 @@
 //! A proof as the bytes of a file.
 ghost use Rattle.std.specs.Prelude.{◌≡◌, ◌++◌, IfOk, OnOk};
 ghost use Rattle.proof_grammar.specs.FirstFaults.{IsOnlyOf};
-ghost use Rattle.proof_grammar.specs.Limits.{IsPlain};
+ghost use Rattle.proof_grammar.specs.Limits.{AreFit, IsEntry, IsLong, IsPlain, IsShort};
 ghost use Rattle.proof_grammar.specs.ProofLines.{proof_text};
+ghost use Rattle.proof_text.specs.Sizes.{IsSized, IsSizedRow, IsSizedVerdict};
 ghost use Rattle.proof_text.specs.inner.Texts.{claims_text, limits_text, parts_text, rows_text, verdict_text, verdicts_text};
 
 mod claims;
@@ -22,10 +23,12 @@ use std::alloc::Global;
 use steps::write_steps;
 use words::{write_count, write_number};
 
-/// The text of a proof. No other plain proof has the text of a plain one.
+/// The text of a proof. No other plain proof has the text of a plain one. Each number that the text says is one
+/// of its type, and each list is counted by 64 bits.
 pub fn write_proof(alloc: Global, proof: &Proof) -> Result<Vec<u8>, OutOfMemory>
     ensures text { IfOk result (λ text. text.items ≡ proof_text proof.now) }
     ensures only { IfOk result (λ text. IsPlain proof.now → IsOnlyOf text.items proof.now) }
+    ensures sized { IfOk result (λ text. IsSized proof.now) }
 {
     let mut text = Vec::new(alloc);
     write_parts(&mut text, proof)?;
@@ -34,7 +37,8 @@ pub fn write_proof(alloc: Global, proof: &Proof) -> Result<Vec<u8>, OutOfMemory>
 
 // Appends the lines of a proof.
 fn write_parts(text: &mut Vec<u8>, proof: &Proof) -> Result<(), OutOfMemory>
-    ensures { OnOk result (text.new.items ≡ text.old.items ++ parts_text proof.now) }
+    ensures text { OnOk result (text.new.items ≡ text.old.items ++ parts_text proof.now) }
+    ensures sized { OnOk result (IsSized proof.now) }
 {
     text.extend_from_slice(b"fh-proof 1\n")?;
     write_limits(text, proof)?;
@@ -47,7 +51,8 @@ fn write_parts(text: &mut Vec<u8>, proof: &Proof) -> Result<(), OutOfMemory>
 
 // Appends the line of the limits.
 fn write_limits(text: &mut Vec<u8>, proof: &Proof) -> Result<(), OutOfMemory>
-    ensures { OnOk result (text.new.items ≡ text.old.items ++ limits_text proof.now) }
+    ensures text { OnOk result (text.new.items ≡ text.old.items ++ limits_text proof.now) }
+    ensures sized { OnOk result (IsShort proof.now.limit × IsShort proof.now.near × IsLong proof.now.budget) }
 {
     text.extend_from_slice(b"limit")?;
     write_number(text, proof.limit as u64)?;
@@ -64,7 +69,8 @@ fn write_verdicts(
     text: &mut Vec<u8>,
     verdicts: &[Option<Sequence<Step>>],
 ) -> Result<(), OutOfMemory>
-    ensures { OnOk result (text.new.items ≡ text.old.items ++ verdicts_text verdicts.now) }
+    ensures text { OnOk result (text.new.items ≡ text.old.items ++ verdicts_text verdicts.now) }
+    ensures sized { OnOk result (AreFit IsSizedVerdict verdicts.now) }
 {
     text.extend_from_slice(b"lines")?;
     write_count(text, verdicts.len())?;
@@ -76,7 +82,8 @@ fn write_verdicts(
 
 // Appends the lines of a verdict.
 fn write_verdict(text: &mut Vec<u8>, verdict: &Option<Sequence<Step>>) -> Result<(), OutOfMemory>
-    ensures { OnOk result (text.new.items ≡ text.old.items ++ verdict_text verdict.now) }
+    ensures text { OnOk result (text.new.items ≡ text.old.items ++ verdict_text verdict.now) }
+    ensures sized { OnOk result (IsSizedVerdict verdict.now) }
 {
     match verdict {
         None => {
@@ -92,7 +99,8 @@ fn write_verdict(text: &mut Vec<u8>, verdict: &Option<Sequence<Step>>) -> Result
 
 // Appends the count of the rows and their lines.
 fn write_rows(text: &mut Vec<u8>, rows: &[RowProof]) -> Result<(), OutOfMemory>
-    ensures { OnOk result (text.new.items ≡ text.old.items ++ rows_text rows.now) }
+    ensures text { OnOk result (text.new.items ≡ text.old.items ++ rows_text rows.now) }
+    ensures sized { OnOk result (AreFit IsSizedRow rows.now) }
 {
     text.extend_from_slice(b"records")?;
     write_count(text, rows.len())?;
@@ -104,7 +112,8 @@ fn write_rows(text: &mut Vec<u8>, rows: &[RowProof]) -> Result<(), OutOfMemory>
 
 // Appends the count of the claims and their lines.
 fn write_claims(text: &mut Vec<u8>, claims: &[Entry]) -> Result<(), OutOfMemory>
-    ensures { OnOk result (text.new.items ≡ text.old.items ++ claims_text claims.now) }
+    ensures text { OnOk result (text.new.items ≡ text.old.items ++ claims_text claims.now) }
+    ensures sized { OnOk result (AreFit IsEntry claims.now) }
 {
     text.extend_from_slice(b"claims")?;
     write_count(text, claims.len())?;

@@ -1,6 +1,7 @@
 //! The lines of claims.
 ghost use Rattle.std.specs.Prelude.{◌≡◌, ◌∷◌, ◌++◌, OnOk};
-ghost use Rattle.std.specs.List.{flat_map};
+ghost use Rattle.std.specs.List.{AllByRecursion, flat_map};
+ghost use Rattle.proof_grammar.specs.Limits.{IsEntry, IsShort};
 ghost use Rattle.proof_grammar.specs.ProofLines.{claim_line, line_text, named};
 
 use super::words::{write_named, write_named_or_0};
@@ -9,7 +10,8 @@ use foundation::OutOfMemory;
 
 /// Appends the line of a claim.
 pub(super) fn write_claim(text: &mut Vec<u8>, claim: &Entry) -> Result<(), OutOfMemory>
-    ensures { OnOk result (text.new.items ≡ text.old.items ++ line_text (claim_line claim.now)) }
+    ensures text { OnOk result (text.new.items ≡ text.old.items ++ line_text (claim_line claim.now)) }
+    ensures sized { OnOk result (IsEntry claim.now) }
 {
     text.extend_from_slice(b"claim")?;
     write_named(text, claim.row_no as u64)?;
@@ -21,7 +23,8 @@ pub(super) fn write_claim(text: &mut Vec<u8>, claim: &Entry) -> Result<(), OutOf
 
 // Appends the donors of a ranking.
 fn write_ranking(text: &mut Vec<u8>, ranking: &[u32]) -> Result<(), OutOfMemory>
-    ensures { OnOk result (text.new.items ≡ text.old.items ++ flat_map (λ n. 32 ∷ named n) ranking.now) }
+    ensures text { OnOk result (text.new.items ≡ text.old.items ++ flat_map (λ n. 32 ∷ named n) ranking.now) }
+    ensures sized { OnOk result (AllByRecursion IsShort ranking.now) }
 {
     for donor in ranking {
         write_named(text, *donor as u64)?;

@@ -3,6 +3,7 @@ ghost use Rattle.std.specs.Prelude.{◌≡◌, ◌∷◌, ◌++◌, length, OnOk
 ghost use Rattle.std.specs.Fmt.{decimal};
 ghost use Rattle.std.specs.List.{flat_map};
 ghost use Rattle.proof_grammar.specs.ProofLines.{leaf_lines, lines_text};
+ghost use Rattle.proof_text.specs.Sizes.{AreSizedLeaves, IsSizedLeaf};
 ghost use Rattle.proof_text.specs.inner.Texts.{counted_text};
 
 use super::steps::write_steps;
@@ -12,7 +13,8 @@ use foundation::OutOfMemory;
 
 /// Appends the count of the leaves, the last word of its line, and their lines.
 pub(super) fn write_leaves(text: &mut Vec<u8>, leaves: &[Leaf]) -> Result<(), OutOfMemory>
-    ensures { OnOk result (text.new.items ≡ text.old.items ++ counted_text (length leaves.now) (flat_map leaf_lines leaves.now)) }
+    ensures text { OnOk result (text.new.items ≡ text.old.items ++ counted_text (length leaves.now) (flat_map leaf_lines leaves.now)) }
+    ensures sized { OnOk result (AreSizedLeaves leaves.now) }
 {
     write_count(text, leaves.len())?;
     for leaf in leaves {
@@ -23,7 +25,8 @@ pub(super) fn write_leaves(text: &mut Vec<u8>, leaves: &[Leaf]) -> Result<(), Ou
 
 // Appends the lines of a leaf.
 fn write_leaf(text: &mut Vec<u8>, leaf: &Leaf) -> Result<(), OutOfMemory>
-    ensures { OnOk result (text.new.items ≡ text.old.items ++ lines_text (leaf_lines leaf.now)) }
+    ensures text { OnOk result (text.new.items ≡ text.old.items ++ lines_text (leaf_lines leaf.now)) }
+    ensures sized { OnOk result (IsSizedLeaf leaf.now) }
 {
     match &leaf.why {
         LeafWhy::Bound => {

@@ -1,6 +1,8 @@
 //! The lines of rows.
 ghost use Rattle.std.specs.Prelude.{◌≡◌, ◌++◌, OnOk};
+ghost use Rattle.proof_grammar.specs.Limits.{IsEvent, IsGift, IsLong};
 ghost use Rattle.proof_grammar.specs.ProofLines.{change_lines, event_line, line_text, lines_text, row_lines};
+ghost use Rattle.proof_text.specs.Sizes.{AreSizedLeaves, IsSizedChange, IsSizedRow};
 ghost use Rattle.proof_text.specs.inner.Texts.{gift_text};
 
 use super::leaves::write_leaves;
@@ -10,7 +12,8 @@ use foundation::OutOfMemory;
 
 /// Appends the lines of a row.
 pub(super) fn write_row(text: &mut Vec<u8>, row: &RowProof) -> Result<(), OutOfMemory>
-    ensures { OnOk result (text.new.items ≡ text.old.items ++ lines_text (row_lines row.now)) }
+    ensures text { OnOk result (text.new.items ≡ text.old.items ++ lines_text (row_lines row.now)) }
+    ensures sized { OnOk result (IsSizedRow row.now) }
 {
     match &row.outcome {
         Outcome::Change { path, weight, cert } => match &row.gift {
@@ -39,7 +42,8 @@ fn write_change(
     weight: u64,
     cert: &Cert,
 ) -> Result<(), OutOfMemory>
-    ensures { OnOk result (text.new.items ≡ text.old.items ++ lines_text (change_lines path.now weight cert.now.leaves)) }
+    ensures text { OnOk result (text.new.items ≡ text.old.items ++ lines_text (change_lines path.now weight cert.now.leaves)) }
+    ensures sized { OnOk result (IsSizedChange weight cert.now.leaves) }
 {
     if weight == 0 {
         text.extend_from_slice(b"clean\n")?;
@@ -59,7 +63,8 @@ fn write_gift(
     fault: &GiftFault,
     cert: &Cert,
 ) -> Result<(), OutOfMemory>
-    ensures { OnOk result (text.new.items ≡ text.old.items ++ gift_text path.now weight fault.now cert.now.leaves) }
+    ensures text { OnOk result (text.new.items ≡ text.old.items ++ gift_text path.now weight fault.now cert.now.leaves) }
+    ensures sized { OnOk result (IsLong weight × IsGift fault.now × AreSizedLeaves cert.now.leaves) }
 {
     text.extend_from_slice(b"gift")?;
     write_number(text, weight)?;
@@ -79,7 +84,8 @@ fn write_gift(
 
 // Appends the line of a number that left the range.
 fn write_event(text: &mut Vec<u8>, path: &Path, event: &Event) -> Result<(), OutOfMemory>
-    ensures { OnOk result (text.new.items ≡ text.old.items ++ line_text (event_line path.now event.now)) }
+    ensures text { OnOk result (text.new.items ≡ text.old.items ++ line_text (event_line path.now event.now)) }
+    ensures sized { OnOk result (IsEvent event.now) }
 {
     match event {
         Event::Step {

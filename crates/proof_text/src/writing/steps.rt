@@ -1,7 +1,10 @@
 //! The lines of steps.
 ghost use Rattle.std.specs.Prelude.{◌≡◌, ◌∷◌, ◌++◌, [], codes, length, map, OnOk};
 ghost use Rattle.std.specs.Fmt.{decimal, signed_decimal};
+ghost use Rattle.derivation.specs.declared.step.Step.TheVariants as step;
+ghost use Rattle.proof_grammar.specs.Limits.{IsLong};
 ghost use Rattle.proof_grammar.specs.ProofLines.{lines_text, named, step_line, words_text};
+ghost use Rattle.proof_text.specs.Sizes.{AreSizedSteps, IsSizedStep, IsWide};
 ghost use Rattle.proof_text.specs.inner.Texts.{combine_line, counted_text};
 
 use super::words::{write_all_named, write_count, write_named, write_signed};
@@ -10,7 +13,8 @@ use foundation::OutOfMemory;
 
 /// Appends the count of the steps, the last word of its line, and their lines.
 pub(super) fn write_steps(text: &mut Vec<u8>, steps: &[Step]) -> Result<(), OutOfMemory>
-    ensures { OnOk result (text.new.items ≡ text.old.items ++ counted_text (length steps.now) (map step_line steps.now)) }
+    ensures text { OnOk result (text.new.items ≡ text.old.items ++ counted_text (length steps.now) (map step_line steps.now)) }
+    ensures sized { OnOk result (AreSizedSteps steps.now) }
 {
     write_count(text, steps.len())?;
     for step in steps {
@@ -22,7 +26,8 @@ pub(super) fn write_steps(text: &mut Vec<u8>, steps: &[Step]) -> Result<(), OutO
 
 // Appends the words of a step.
 fn write_step(text: &mut Vec<u8>, step: &Step) -> Result<(), OutOfMemory>
-    ensures { OnOk result (text.new.items ≡ text.old.items ++ words_text (step_line step.now)) }
+    ensures text { OnOk result (text.new.items ≡ text.old.items ++ words_text (step_line step.now)) }
+    ensures sized { OnOk result (IsSizedStep step.now) }
 {
     match step {
         Step::Given(place) => {
@@ -45,7 +50,8 @@ fn write_step(text: &mut Vec<u8>, step: &Step) -> Result<(), OutOfMemory>
 
 // Appends the words of a step that covers a field.
 fn write_cover(text: &mut Vec<u8>, field: u32, parts: &[u64]) -> Result<(), OutOfMemory>
-    ensures { OnOk result (text.new.items ≡ text.old.items ++ words_text (codes "cover" ∷ named field ∷ map named parts.now)) }
+    ensures text { OnOk result (text.new.items ≡ text.old.items ++ words_text (codes "cover" ∷ named field ∷ map named parts.now)) }
+    ensures sized { OnOk result (IsSizedStep (step.Cover field parts.now)) }
 {
     text.extend_from_slice(b"cover")?;
     write_named(text, field as u64)?;
@@ -62,7 +68,8 @@ fn write_combine(
     n: i128,
     g: i128,
 ) -> Result<(), OutOfMemory>
-    ensures { OnOk result (text.new.items ≡ text.old.items ++ words_text (combine_line a m b n g)) }
+    ensures text { OnOk result (text.new.items ≡ text.old.items ++ words_text (combine_line a m b n g)) }
+    ensures sized { OnOk result (IsSizedStep (step.Combine a m b n g)) }
 {
     text.extend_from_slice(b"combine")?;
     write_multiple(text, a, m)?;
@@ -73,7 +80,8 @@ fn write_combine(
 
 // Appends the name of a step and the factor that its line is taken with.
 fn write_multiple(text: &mut Vec<u8>, place: u64, factor: i128) -> Result<(), OutOfMemory>
-    ensures { OnOk result (text.new.items ≡ text.old.items ++ (32 ∷ named place) ++ (32 ∷ signed_decimal factor)) }
+    ensures text { OnOk result (text.new.items ≡ text.old.items ++ (32 ∷ named place) ++ (32 ∷ signed_decimal factor)) }
+    ensures sized { OnOk result (IsLong place × IsWide factor) }
 {
     write_named(text, place)?;
     write_signed(text, factor)

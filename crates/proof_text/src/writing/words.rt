@@ -1,8 +1,10 @@
 //! Words, each behind a space.
-ghost use Rattle.std.specs.Prelude.{◌≡◌, ◌∷◌, ◌++◌, [], map, OnOk};
+ghost use Rattle.std.specs.Prelude.{◌≡◌, ◌∷◌, ◌++◌, [], map, IfSome, OnOk};
 ghost use Rattle.std.specs.Fmt.{decimal, signed_decimal};
-ghost use Rattle.std.specs.List.{flat_map};
+ghost use Rattle.std.specs.List.{AllByRecursion, flat_map};
+ghost use Rattle.proof_grammar.specs.Limits.{IsLong, IsPlace, IsShort};
 ghost use Rattle.proof_grammar.specs.ProofLines.{letter, named, named_or_0, path_word, place_word};
+ghost use Rattle.proof_text.specs.Sizes.{IsWide};
 
 use bound_cert::Path;
 use edit_line::Place;
@@ -11,7 +13,8 @@ use itoa::Buffer;
 
 /// Appends a number.
 pub(super) fn write_number(text: &mut Vec<u8>, number: u64) -> Result<(), OutOfMemory>
-    ensures { OnOk result (text.new.items ≡ text.old.items ++ 32 ∷ decimal number) }
+    ensures text { OnOk result (text.new.items ≡ text.old.items ++ 32 ∷ decimal number) }
+    ensures sized { OnOk result (IsLong number) }
 {
     let mut buffer = Buffer::new();
     text.push(b' ')?;
@@ -21,7 +24,8 @@ pub(super) fn write_number(text: &mut Vec<u8>, number: u64) -> Result<(), OutOfM
 
 /// Appends a number with its sign.
 pub(super) fn write_signed(text: &mut Vec<u8>, number: i128) -> Result<(), OutOfMemory>
-    ensures { OnOk result (text.new.items ≡ text.old.items ++ 32 ∷ signed_decimal number) }
+    ensures text { OnOk result (text.new.items ≡ text.old.items ++ 32 ∷ signed_decimal number) }
+    ensures sized { OnOk result (IsWide number) }
 {
     let mut buffer = Buffer::new();
     text.push(b' ')?;
@@ -31,7 +35,8 @@ pub(super) fn write_signed(text: &mut Vec<u8>, number: i128) -> Result<(), OutOf
 
 /// Appends the count, the last word of its line.
 pub(super) fn write_count(text: &mut Vec<u8>, count: usize) -> Result<(), OutOfMemory>
-    ensures { OnOk result (text.new.items ≡ text.old.items ++ (32 ∷ decimal count) ++ 10 ∷ []) }
+    ensures text { OnOk result (text.new.items ≡ text.old.items ++ (32 ∷ decimal count) ++ 10 ∷ []) }
+    ensures sized { OnOk result (IsLong count) }
 {
     write_number(text, count as u64)?;
     text.push(b'\n')?;
@@ -40,7 +45,8 @@ pub(super) fn write_count(text: &mut Vec<u8>, count: usize) -> Result<(), OutOfM
 
 /// Appends the name of what has this number, from 0.
 pub(super) fn write_named(text: &mut Vec<u8>, number: u64) -> Result<(), OutOfMemory>
-    ensures { OnOk result (text.new.items ≡ text.old.items ++ 32 ∷ named number) }
+    ensures text { OnOk result (text.new.items ≡ text.old.items ++ 32 ∷ named number) }
+    ensures sized { OnOk result (IsLong number) }
 {
     let mut buffer = Buffer::new();
     text.push(b' ')?;
@@ -50,7 +56,8 @@ pub(super) fn write_named(text: &mut Vec<u8>, number: u64) -> Result<(), OutOfMe
 
 /// Appends the name of what has this number, from 0, or 0 for none.
 pub(super) fn write_named_or_0(text: &mut Vec<u8>, number: Option<u32>) -> Result<(), OutOfMemory>
-    ensures { OnOk result (text.new.items ≡ text.old.items ++ 32 ∷ named_or_0 number) }
+    ensures text { OnOk result (text.new.items ≡ text.old.items ++ 32 ∷ named_or_0 number) }
+    ensures sized { OnOk result (IfSome number IsShort) }
 {
     match number {
         None => {
@@ -63,7 +70,8 @@ pub(super) fn write_named_or_0(text: &mut Vec<u8>, number: Option<u32>) -> Resul
 
 /// Appends the names of what has these numbers.
 pub(super) fn write_all_named(text: &mut Vec<u8>, numbers: &[u64]) -> Result<(), OutOfMemory>
-    ensures { OnOk result (text.new.items ≡ text.old.items ++ flat_map (λ n. 32 ∷ named n) numbers.now) }
+    ensures text { OnOk result (text.new.items ≡ text.old.items ++ flat_map (λ n. 32 ∷ named n) numbers.now) }
+    ensures sized { OnOk result (AllByRecursion IsLong numbers.now) }
 {
     for number in numbers {
         write_named(text, *number)?;
@@ -73,7 +81,8 @@ pub(super) fn write_all_named(text: &mut Vec<u8>, numbers: &[u64]) -> Result<(),
 
 /// Appends a field, or 0 for the constant.
 pub(super) fn write_place(text: &mut Vec<u8>, place: Place) -> Result<(), OutOfMemory>
-    ensures { OnOk result (text.new.items ≡ text.old.items ++ 32 ∷ place_word place) }
+    ensures text { OnOk result (text.new.items ≡ text.old.items ++ 32 ∷ place_word place) }
+    ensures sized { OnOk result (IsPlace place) }
 {
     match place {
         Place::Constant => {

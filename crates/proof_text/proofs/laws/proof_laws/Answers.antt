@@ -1,0 +1,5 @@
+use Rattle.proof_text.proofs.SizeLaws.{plain-if}
+use Rattle.proof_text.proofs.laws.proof_laws.Goals as goal
+
+pub returns : goal.returns
+returns c = record { plain = plain-if }

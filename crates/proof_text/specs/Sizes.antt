@@ -1,0 +1,123 @@
+-- Which numbers and lists stand in the text of a proof.
+use Rattle.std.specs.Prelude.{◌≡◌, ℕ, zero, suc, ℤ, pos, negsuc, ◌<◌, ◌<ℤ◌, ◌^◌, Bool, List, [], Option, Some, None, IfSome}
+use Rattle.std.specs.List.{AllByRecursion}
+use Rattle.derivation.specs.declared.step.Step.{Step}
+use Rattle.derivation.specs.declared.step.Step.TheVariants as step
+use Rattle.bound_cert.specs.declared.cert.Leaf.{Leaf}
+use Rattle.bound_cert.specs.declared.cert.LeafWhy.{LeafWhy}
+use Rattle.bound_cert.specs.declared.cert.LeafWhy.TheVariants as why
+use Rattle.bound_cert.specs.declared.outcome.GiftFault.{GiftFault}
+use Rattle.bound_cert.specs.declared.outcome.Outcome.{Outcome}
+use Rattle.bound_cert.specs.declared.outcome.Outcome.TheVariants as outcome
+use Rattle.bound_cert.specs.declared.outcome.RowProof.{RowProof}
+use Rattle.proof_grammar.specs.Limits.{AreFit, IsEntry, IsEvent, IsGift, IsLong, IsPlain, IsShort, clean_leaves}
+use Rattle.proof_grammar.specs.declared.proof.Proof.{Proof}
+
+-- ---- sizes
+
+-- a number of 128 bits with its sign: from -(2^127) to 2^127 - 1
+abbrev pub IsWide : ℤ → Type 0
+IsWide (pos n) = n < 2 ^ 127
+IsWide (negsuc n) = n < 2 ^ 127
+
+-- the numbers of a step are of their types
+abbrev pub IsSizedStep : Step → Type 0
+IsSizedStep (step.Given i) = IsLong i
+IsSizedStep (step.Combine a m b n g) = IsLong a × IsWide m × IsLong b × IsWide n × IsWide g
+IsSizedStep (step.Fail a) = IsLong a
+IsSizedStep (step.Cover field parts) = IsShort field × AllByRecursion IsLong parts
+IsSizedStep (step.Fix field part) = IsShort field × IsLong part
+
+abbrev pub AreSizedSteps : List Step → Type 0
+AreSizedSteps steps = AreFit IsSizedStep steps
+
+abbrev pub IsSizedReason : LeafWhy → Type 0
+IsSizedReason why.Bound = Unit {0}
+IsSizedReason why.BadKept = Unit {0}
+IsSizedReason (why.Line steps) = AreSizedSteps steps
+IsSizedReason (why.Box steps) = AreSizedSteps steps
+
+abbrev pub IsSizedLeaf : Leaf → Type 0
+IsSizedLeaf leaf = IsSizedReason leaf.why
+
+abbrev pub AreSizedLeaves : List Leaf → Type 0
+AreSizedLeaves leaves = AreFit IsSizedLeaf leaves
+
+-- of a change without a gift fault that weighs nothing, the text says no number
+abbrev pub IsSizedChange : ℕ → List Leaf → Type 0
+IsSizedChange zero leaves = Unit {0}
+IsSizedChange (suc w) leaves = IsLong (suc w) × AreSizedLeaves leaves
+
+-- the text says a gift fault only of a change
+abbrev pub IsSizedOutcome : Outcome → Option GiftFault → Type 0
+IsSizedOutcome (outcome.Change path weight cert) None = IsSizedChange weight cert.leaves
+IsSizedOutcome (outcome.Change path weight cert) (Some fault) = IsLong weight × IsGift fault × AreSizedLeaves cert.leaves
+IsSizedOutcome (outcome.Budget path work) fault = IsLong work
+IsSizedOutcome (outcome.Overflow path event) fault = IsEvent event
+IsSizedOutcome (outcome.Contradictory cert) fault = AreSizedLeaves cert.leaves
+
+abbrev pub IsSizedRow : RowProof → Type 0
+IsSizedRow row = IsSizedOutcome row.outcome row.gift
+
+abbrev pub IsSizedVerdict : Option (List Step) → Type 0
+IsSizedVerdict verdict = IfSome verdict AreSizedSteps
+
+-- each number that the text says is one of its type, and each list is counted by 64 bits
+pub record IsSized (p : Proof) : Type 0 where
+  pub limit : IsShort p.limit
+  pub near : IsShort p.near
+  pub budget : IsLong p.budget
+  pub verdicts : AreFit IsSizedVerdict p.verdicts
+  pub rows : AreFit IsSizedRow p.rows
+  pub claims : AreFit IsEntry p.claims
+
+-- ---- what a plain proof says beyond sizes
+
+-- both factors and the divisor of a combination are above 0
+abbrev pub IsPositiveStep : Step → Type 0
+IsPositiveStep (step.Given i) = Unit {0}
+IsPositiveStep (step.Combine a m b n g) = (pos 0 <ℤ m) × (pos 0 <ℤ n) × (pos 0 <ℤ g)
+IsPositiveStep (step.Fail a) = Unit {0}
+IsPositiveStep (step.Cover field parts) = Unit {0}
+IsPositiveStep (step.Fix field part) = Unit {0}
+
+abbrev pub ArePositiveSteps : List Step → Type 0
+ArePositiveSteps steps = AllByRecursion IsPositiveStep steps
+
+abbrev pub IsPositiveReason : LeafWhy → Type 0
+IsPositiveReason why.Bound = Unit {0}
+IsPositiveReason why.BadKept = Unit {0}
+IsPositiveReason (why.Line steps) = ArePositiveSteps steps
+IsPositiveReason (why.Box steps) = ArePositiveSteps steps
+
+abbrev pub IsPositiveLeaf : Leaf → Type 0
+IsPositiveLeaf leaf = IsPositiveReason leaf.why
+
+abbrev pub ArePositiveLeaves : List Leaf → Type 0
+ArePositiveLeaves leaves = AllByRecursion IsPositiveLeaf leaves
+
+-- a change without a gift fault that weighs nothing has the empty path and the one leaf of a clean row
+abbrev pub IsCoherentChange : List Bool → ℕ → List Leaf → Type 0
+IsCoherentChange path zero leaves = (path ≡ []) × (leaves ≡ clean_leaves)
+IsCoherentChange path (suc w) leaves = ArePositiveLeaves leaves
+
+-- a gift fault stands only with a change
+abbrev pub IsCoherentOutcome : Outcome → Option GiftFault → Type 0
+IsCoherentOutcome (outcome.Change path weight cert) None = IsCoherentChange path weight cert.leaves
+IsCoherentOutcome (outcome.Change path weight cert) (Some fault) = ArePositiveLeaves cert.leaves
+IsCoherentOutcome (outcome.Budget path work) None = Unit {0}
+IsCoherentOutcome (outcome.Overflow path event) None = Unit {0}
+IsCoherentOutcome (outcome.Contradictory cert) None = ArePositiveLeaves cert.leaves
+IsCoherentOutcome _ (Some fault) = ⊥
+
+abbrev pub IsCoherentRow : RowProof → Type 0
+IsCoherentRow row = IsCoherentOutcome row.outcome row.gift
+
+-- each combination's factors and divisor are above 0, and of each row no more stands in the proof than its lines say
+pub record IsCoherent (p : Proof) : Type 0 where
+  pub verdicts : AllByRecursion (λ v. IfSome v ArePositiveSteps) p.verdicts
+  pub rows : AllByRecursion IsCoherentRow p.rows
+
+-- a proof of such numbers and lists is plain where its rows and combinations are in order
+abbrev pub PlainLaw : Type 0
+PlainLaw = (p : Proof) → IsSized p → IsCoherent p → IsPlain p
