@@ -3,10 +3,14 @@ ghost use Rattle.record_text.specs.Sheets.{IsSheet};
 ghost use Rattle.edit_release.specs.Edits.{IsEditOf};
 ghost use Rattle.edit_release.specs.Releases.{IsReleaseOf};
 
+use crate::proof::proof_of;
 use crate::release::Release;
 use edit_model::Survey;
+use edit_report::{reasons_text, released_text, summary_text};
 use foundation::OutOfMemory;
+use proof_text::write_proof;
 use record_text::Sheet;
+use record_workers::edit_records;
 use std::alloc::Global;
 
 /// The edit of a sheet of the survey's records within a budget, the most work that may be spent on one record, from 1
@@ -22,5 +26,17 @@ pub fn edit_sheet(
     requires most { budget ≤ 1000000000 }
     ensures edit { IfOk result (IsReleaseOf survey.now sheet.now budget) }
 {
-    Err(OutOfMemory)
+    let ends = edit_records(alloc, survey, sheet, budget)?;
+    let reasons = reasons_text(alloc, sheet, survey, &ends)?;
+    let released = released_text(alloc, sheet, survey, &ends)?;
+    let summary = summary_text(alloc, survey, &ends)?;
+    let whole = ends.iter().all(|end| end.gift.is_some());
+    let proof = write_proof(alloc, &proof_of(alloc, survey, budget, ends)?)?;
+    Ok(Release {
+        proof,
+        reasons,
+        released,
+        summary,
+        whole,
+    })
 }
