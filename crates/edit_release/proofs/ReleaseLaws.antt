@@ -1,5 +1,5 @@
 -- The files of an edit are a valid release.
-use Rattle.std.proofs.Common.{◌≡◌, ◌≤◌, ◌≢◌, ◌<◌, ◌∙◌, nat_lt, cond, not, sym, ap, refl, ℕ, suc, ◌+◌, ◌==◌, ◌&&◌, Bool, true, if◌then◌else◌, List, [], ◌∷◌, length, map, All, AllPairs, IsSome, IfSome, Option, Some, None, false, subst, arith}
+use Rattle.std.proofs.Common.{◌≡◌, ◌≤◌, ◌≢◌, ◌<◌, ◌∙◌, nat_lt, cond, not, sym, ap, refl, ℕ, suc, ◌+◌, ◌==◌, ◌&&◌, Bool, true, if◌then◌else◌, List, [], ◌∷◌, length, map, All, AllPairs, IsSome, IfSome, IsTrue, ◌↔◌, Option, Some, None, false, subst, arith}
 use Rattle.std.specs.Prelude.{is_some, nat_le, option_map, position}
 use Rattle.std.specs.List.{AllByRecursion, AllZip, position_or_len}
 use Rattle.std.proofs.lemmas.Bool.{le-leb}
@@ -25,15 +25,20 @@ use Rattle.record_text.proofs.ValueLaws.{values_are_row}
 use Rattle.proof_grammar.specs.Limits.{IsPlain}
 use Rattle.proof_grammar.specs.ProofLines.{proof_text}
 use Rattle.proof_grammar.specs.declared.proof.Proof.{Proof}
-use Rattle.proof_text.specs.Sizes.{ArePositiveSteps, IsCoherent, IsCoherentRow}
+use Rattle.proof_text.specs.Sizes.{ArePositiveSteps, IsCoherent, IsCoherentRow, IsSized}
+use Rattle.proof_text.proofs.SizeLaws.{plain-if}
 use Rattle.edit_report.specs.Ends.{path_found}
+use Rattle.edit_report.specs.Reasons.{reasons_text_of}
 use Rattle.edit_report.specs.Released.{released_rows, released_text_of}
+use Rattle.edit_report.specs.Summaries.{summary_of}
 use Rattle.edit_report.specs.declared.end.RowEnd.{RowEnd}
 use Rattle.record_workers.specs.Ends.{IsEndOf}
 use Rattle.record_workers.specs.Said.{Says}
 use Rattle.cert_check.specs.Releases.{Audit, IsValidRelease, audit_of, dropped_line, head_fault, is_released, limits_fit, rules_of}
 use Rattle.cert_check.specs.RowChecks.{IsReleased, IsValidRow, RowFiles, RowRules}
 use Rattle.edit_release.specs.Edits.{IsShown, all_kept, proof_of, said}
+use Rattle.edit_release.specs.Releases.{AllGiven, IsReleaseOf}
+use Rattle.edit_release.specs.declared.release.Release.{Release}
 use Rattle.edit_release.proofs.CoherentLaws.{said-coherent}
 use Rattle.edit_release.proofs.ReleasedLaws.{IsSaidReleased, are-released, end-said, ends-said}
 use Rattle.edit_release.proofs.RowsLaws.{IsValidEnd, each-follows, end-released, own_files, rows-valid}
@@ -112,17 +117,20 @@ released-told r f (Contradictory cert) stop gift told released = tt
 
 module _ (survey : SurveyParts) (sheet : SheetParts) (bytes : List ℕ) (budget : ℕ) (ends : List RowEnd) (formed : IsWellFormed survey) (read : IsSheet survey.fields bytes sheet) (least : 1 ≤ budget) (most : budget ≤ 1000000000)
     (each : AllZip (IsEndOf survey (rule_edits survey) budget) sheet.rows ends) (say : AllZip (Says survey (rule_edits survey) budget) sheet.rows ends) where
-  abbrev release : Audit
-  release = audit_of survey sheet (released_text_of survey sheet ends) (proof_text (proof_of survey budget ends))
+  abbrev audit : Audit
+  audit = audit_of survey sheet (released_text_of survey sheet ends) (proof_text (proof_of survey budget ends))
+
+  abbrev are : AllByRecursion (IsRow survey.fields) sheet.rows
+  are = rows_are_records survey.fields bytes sheet read
 
   abbrev r : RowRules
-  r = rules_of release (proof_of survey budget ends)
+  r = rules_of audit (proof_of survey budget ends)
 
   row-valid : (reads : List (List ℕ)) (row : List Value) (end : RowEnd) → AreValues survey.fields sheet.columns reads row → length reads ≡ length sheet.header → IsEndOf survey (rule_edits survey) budget row end
       → Says survey (rule_edits survey) budget row end → IsShown survey row end → IsValidEnd r survey.fields sheet.columns reads row end
   row-valid reads row end values long is says shown = (
     told,
-    said-valid survey row budget formed is_row r (own_files survey.fields sheet.columns reads row end) end (rules-are survey sheet release.released release.proof budget ends) refl is
+    said-valid survey row budget formed is_row r (own_files survey.fields sheet.columns reads row end) end (rules-are survey sheet audit.released audit.proof budget ends) refl is
     (released-told r (own_files survey.fields sheet.columns reads row end) (said end).outcome (said end).gift end.gift told
     (end-released r (rule_edits survey) budget reads row formed is_row (one_column_a_field survey.fields bytes sheet read) (distinct_columns survey.fields bytes sheet read formed.names) within end.proof.outcome end.proof.gift end.gift is.follows says)),
   )
@@ -136,18 +144,42 @@ module _ (survey : SurveyParts) (sheet : SheetParts) (bytes : List ℕ) (budget 
       within : All (λ (c : ℕ). c < length reads) sheet.columns
       within = subst (λ (n : ℕ). All (λ (c : ℕ). c < n) sheet.columns) (sym long) (columns_in_header survey.fields bytes sheet read)
 
-  pub release-valid : IsPlain (proof_of survey budget ends) → IsValidRelease release
+  pub release-valid : IsPlain (proof_of survey budget ends) → IsValidRelease audit
   release-valid plain = record {
     proof = proof_of survey budget ends;
     fits = record {
       spelled = record { plain = plain; text = refl };
-      head = head-fits survey sheet release.released release.proof budget ends least most (AllZip-long (IsEndOf survey (rule_edits survey) budget) sheet.rows ends each);
+      head = head-fits survey sheet audit.released audit.proof budget ends least most (AllZip-long (IsEndOf survey (rule_edits survey) budget) sheet.rows ends each);
       kept = ap (λ (o : Option ℕ). option_map (λ place. 4 + place) o) (none-dropped (normal_lines_of survey));
     };
     rows = released_rows survey.fields sheet.columns sheet.raws ends;
-    released = are-released survey bytes sheet budget ends release.proof read each (ends-said survey (rule_edits survey) budget sheet.rows ends each);
+    released = are-released survey bytes sheet budget ends audit.proof read each (ends-said survey (rule_edits survey) budget sheet.rows ends each);
     each = rows-valid r survey.fields sheet.columns sheet.raws sheet.rows ends
         (each-follows (IsValidEnd r survey.fields sheet.columns) survey (rule_edits survey) sheet.columns (length sheet.header) budget sheet.raws sheet.rows ends read.values (raws_as_long_as_header survey.fields bytes sheet read) each say
-        (all-shown survey formed budget sheet.rows ends (rows_are_records survey.fields bytes sheet read) each) row-valid);
+        (all-shown survey formed budget sheet.rows ends are each) row-valid);
     claims = refl;
   }
+
+  -- what was written is the edit of the sheet
+  pub release-of : (release : Release) (p : Proof) → p ≡ proof_of survey budget ends → IsSized p → release.proof.items ≡ proof_text p → release.reasons.items ≡ reasons_text_of survey sheet ends → release.released.items ≡ released_text_of survey sheet ends
+      → release.summary.items ≡ summary_of survey ends → (IsTrue release.whole ↔ AllGiven ends) → IsReleaseOf survey sheet budget release
+  release-of release p same sized proof reasons released summary whole = record {
+    ends = ends;
+    edit = record {
+      each = each;
+      say = say;
+      shown = all-shown survey formed budget sheet.rows ends are each;
+      proof = text;
+      reasons = reasons;
+      released = released;
+      summary = summary;
+      valid = subst (λ (given : List ℕ). IsValidRelease (audit_of survey sheet given release.proof.items)) (sym released) (subst (λ (told : List ℕ). IsValidRelease (audit_of survey sheet (released_text_of survey sheet ends) told)) (sym text) (release-valid plain));
+    };
+    whole = whole;
+  }
+    where
+      text : release.proof.items ≡ proof_text (proof_of survey budget ends)
+      text = proof ∙ ap proof_text same
+
+      plain : IsPlain (proof_of survey budget ends)
+      plain = plain-if (proof_of survey budget ends) (subst IsSized same sized) (proof-coherent survey formed budget sheet.rows ends are each)

@@ -1,12 +1,12 @@
-ghost use Rattle.std.specs.Prelude.{◌≤◌, ℕ, List, IfOk};
+ghost use Rattle.std.specs.Prelude.{◌↔◌, ◌≤◌, ℕ, List, IfOk, IsTrue};
 ghost use Rattle.record_text.specs.Sheets.{IsSheet};
 ghost use Rattle.edit_release.specs.Edits.{IsEditOf};
-ghost use Rattle.edit_release.specs.Releases.{IsReleaseOf};
+ghost use Rattle.edit_release.specs.Releases.{AllGiven, IsReleaseOf};
 
 use crate::proof::proof_of;
 use crate::release::Release;
 use edit_model::Survey;
-use edit_report::{reasons_text, released_text, summary_text};
+use edit_report::{RowEnd, reasons_text, released_text, summary_text};
 use foundation::OutOfMemory;
 use proof_text::write_proof;
 use record_text::Sheet;
@@ -26,11 +26,12 @@ pub fn edit_sheet(
     requires most { budget ≤ 1000000000 }
     ensures edit { IfOk result (IsReleaseOf survey.now sheet.now budget) }
 {
+    let _fields = survey.fields(); // read for what it says: the survey is well formed
     let ends = edit_records(alloc, survey, sheet, budget)?;
     let reasons = reasons_text(alloc, sheet, survey, &ends)?;
     let released = released_text(alloc, sheet, survey, &ends)?;
     let summary = summary_text(alloc, survey, &ends)?;
-    let whole = ends.iter().all(|end| end.gift.is_some());
+    let whole = are_given(&ends);
     let proof = write_proof(alloc, &proof_of(alloc, survey, budget, ends)?)?;
     Ok(Release {
         proof,
@@ -39,4 +40,11 @@ pub fn edit_sheet(
         summary,
         whole,
     })
+}
+
+// Whether each record was given values.
+fn are_given(ends: &[RowEnd]) -> bool
+    ensures { IsTrue result ↔ AllGiven ends.now }
+{
+    ends.iter().all(|end| end.gift.is_some())
 }

@@ -36,7 +36,11 @@ fn all_kept(alloc: Global, survey: &Survey) -> Result<Vec<Option<Sequence<Step>>
     ensures { IfOk result (λ verdicts. verdicts.items ≡ all_kept (normal_lines_of survey.now)) }
 {
     let lines = normal_lines(alloc, survey)?;
-    Ok(lines.iter().map(|_line| None).collect(alloc)?)
+    let mut verdicts = Vec::new(alloc);
+    for _line in &lines {
+        verdicts.push(None)?;
+    }
+    Ok(verdicts)
 }
 
 // What is said of each record.
