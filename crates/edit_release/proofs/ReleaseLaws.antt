@@ -1,12 +1,11 @@
 -- The files of an edit are a valid release.
-use Rattle.std.proofs.Common.{◌≡◌, ◌≤◌, ◌≢◌, ◌<◌, ◌∙◌, nat_lt, cond, not, sym, ap, refl, ℕ, suc, ◌+◌, ◌==◌, ◌&&◌, Bool, true, if◌then◌else◌, List, [], ◌∷◌, length, map, All, AllPairs, IsSome, IfSome, IsTrue, ◌↔◌, Option, Some, None, false, subst, arith}
-use Rattle.std.specs.Prelude.{is_some, nat_le, option_map, position}
+use Rattle.std.proofs.Common.{◌≡◌, ◌≤◌, ◌<◌, ◌∙◌, nat_lt, cond, sym, ap, refl, ℕ, ◌+◌, ◌==◌, Bool, true, List, [], ◌∷◌, length, map, All, IsSome, IfSome, IsTrue, ◌↔◌, Option, Some, None, false, subst, arith}
+use Rattle.std.specs.Prelude.{is_some, option_map, position}
 use Rattle.std.specs.List.{AllByRecursion, AllZip, position_or_len}
 use Rattle.std.proofs.lemmas.Bool.{le-leb}
 use Rattle.std.proofs.lemmas.Bool.Decides.{Decides-eqb, nat_tests}
 use Rattle.std.proofs.lemmas.List.{length-map}
 use Rattle.std.proofs.lemmas.Slice.Zip.{AllZip-long}
-use Rattle.derivation.specs.declared.step.Step.{Step}
 use Rattle.edit_model.specs.Parts.{SurveyParts}
 use Rattle.edit_model.specs.Rows.{IsRow}
 use Rattle.edit_model.specs.Surveys.{IsWellFormed}
@@ -34,8 +33,8 @@ use Rattle.edit_report.specs.Summaries.{summary_of}
 use Rattle.edit_report.specs.declared.end.RowEnd.{RowEnd}
 use Rattle.record_workers.specs.Ends.{IsEndOf}
 use Rattle.record_workers.specs.Said.{Says}
-use Rattle.cert_check.specs.Releases.{Audit, IsValidRelease, audit_of, dropped_line, head_fault, is_released, limits_fit, rules_of}
-use Rattle.cert_check.specs.RowChecks.{IsReleased, IsValidRow, RowFiles, RowRules}
+use Rattle.cert_check.specs.Releases.{Audit, IsValidRelease, audit_of, head_fault, is_released, limits_fit, rules_of}
+use Rattle.cert_check.specs.RowChecks.{IsReleased, RowFiles, RowRules}
 use Rattle.edit_release.specs.Edits.{IsShown, all_kept, proof_of, said}
 use Rattle.edit_release.specs.Releases.{AllGiven, IsReleaseOf}
 use Rattle.edit_release.specs.declared.release.Release.{Release}
@@ -131,8 +130,8 @@ module _ (survey : SurveyParts) (sheet : SheetParts) (bytes : List ℕ) (budget 
   row-valid reads row end values long is says shown = (
     told,
     said-valid survey row budget formed is_row r (own_files survey.fields sheet.columns reads row end) end (rules-are survey sheet audit.released audit.proof budget ends) refl is
-    (released-told r (own_files survey.fields sheet.columns reads row end) (said end).outcome (said end).gift end.gift told
-    (end-released r (rule_edits survey) budget reads row formed is_row (one_column_a_field survey.fields bytes sheet read) (distinct_columns survey.fields bytes sheet read formed.names) within end.proof.outcome end.proof.gift end.gift is.follows says)),
+        (released-told r (own_files survey.fields sheet.columns reads row end) (said end).outcome (said end).gift end.gift told
+        (end-released r (rule_edits survey) budget reads row formed is_row (one_column_a_field survey.fields bytes sheet read) (distinct_columns survey.fields bytes sheet read formed.names) within end.proof.outcome end.proof.gift end.gift is.follows says)),
   )
     where
       is_row : IsRow survey.fields row

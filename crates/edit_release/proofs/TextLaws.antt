@@ -1,10 +1,10 @@
 -- The ends of the records of a sheet are such as can be told.
-use Rattle.std.proofs.Common.{◌≡◌, ◌≤◌, ℕ, suc, Bool, true, false, List, [], ◌∷◌, Option, Some, None, IfSome, length, map, refl, sym, ap, ◌∙◌, subst, arith}
+use Rattle.std.proofs.Common.{◌≡◌, ℕ, Bool, false, List, [], ◌∷◌, Option, Some, None, IfSome, length, sym, ap, ◌∙◌, arith}
 use Rattle.std.specs.List.{AllByRecursion, AllZip, filter}
+use Rattle.std.proofs.lemmas.Slice.Zip.{AllZip-long}
 use Rattle.edit_model.specs.Corrections.{path_order}
 use Rattle.edit_model.specs.FieldSets.{has_number}
 use Rattle.edit_model.specs.Parts.{SurveyParts}
-use Rattle.edit_model.specs.declared.field.Field.{Field}
 use Rattle.edit_model.specs.declared.value.Value.{Value}
 use Rattle.std.proofs.lemmas.List.{length-map}
 use Rattle.edit_model.proofs.OrderLaws.{order-length}
@@ -67,11 +67,5 @@ each-tellable survey edits budget (row ∷ rows) [] each = absurd each
 each-tellable survey edits budget (row ∷ rows) (end ∷ ends) each =
     (follows-tellable survey edits row end.proof.outcome end.proof.gift end.gift each.0.follows, each-tellable survey edits budget rows ends each.1)
 
-one-each : (survey : SurveyParts) (edits : EditsParts) (budget : ℕ) (rows : List (List Value)) (ends : List RowEnd) → AllZip (IsEndOf survey edits budget) rows ends → length ends ≡ length rows
-one-each survey edits budget [] [] each = refl
-one-each survey edits budget [] (end ∷ ends) each = absurd each
-one-each survey edits budget (row ∷ rows) [] each = absurd each
-one-each survey edits budget (row ∷ rows) (end ∷ ends) each = ap suc (one-each survey edits budget rows ends each.1)
-
 pub ends-tellable : (survey : SurveyParts) (edits : EditsParts) (budget : ℕ) (s : SheetParts) (ends : List RowEnd) → AllZip (IsEndOf survey edits budget) s.rows ends → AreEnds survey s ends
-ends-tellable survey edits budget s ends each = record { one_each = one-each survey edits budget s.rows ends each; each = each-tellable survey edits budget s.rows ends each }
+ends-tellable survey edits budget s ends each = record { one_each = AllZip-long (IsEndOf survey edits budget) s.rows ends each; each = each-tellable survey edits budget s.rows ends each }

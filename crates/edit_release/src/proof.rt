@@ -1,9 +1,10 @@
 //! The proof of an edit.
-ghost use Rattle.std.specs.Prelude.{◌≡◌, IfOk, map};
+ghost use Rattle.std.specs.Prelude.{◌≡◌, [], IfOk, None, map};
+ghost use Rattle.bound_cert.specs.declared.outcome.Outcome.TheVariants.{Change};
 ghost use Rattle.edit_normal.specs.RuleLines.{normal_lines_of};
 ghost use Rattle.edit_release.specs.Edits.{all_kept, proof_of, said, said_of};
 
-use bound_cert::{Outcome, Path, RowProof};
+use bound_cert::{Cert, Outcome, Path, RowProof};
 use derivation::Step;
 use edit_model::Survey;
 use edit_normal::normal_lines;
@@ -61,17 +62,28 @@ fn said(alloc: Global, proof: RowProof) -> RowProof
     match (proof.outcome, proof.gift) {
         (
             Outcome::Change {
-                weight: 0, cert, ..
-            },
-            None,
-        ) => RowProof {
-            outcome: Outcome::Change {
-                path: Path::new(Vec::new(alloc)),
                 weight: 0,
                 cert,
+                ..
             },
-            gift: None,
-        },
+            None,
+        ) => clean(alloc, cert),
         (outcome, gift) => RowProof { outcome, gift },
+    }
+}
+
+// A change of no fields.
+fn clean(alloc: Global, cert: Cert) -> RowProof
+    ensures outcome { result.outcome ≡ Change [] 0 cert }
+    ensures gift { result.gift ≡ None }
+{
+    let path = Path::new(Vec::new(alloc));
+    RowProof {
+        outcome: Outcome::Change {
+            path,
+            weight: 0,
+            cert,
+        },
+        gift: None,
     }
 }

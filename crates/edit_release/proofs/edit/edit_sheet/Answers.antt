@@ -1,4 +1,4 @@
-use Rattle.std.proofs.Common.{rules, ◌≡◌, ◌∙◌, ap, subst, List, IsTrue, ◌↔◌}
+use Rattle.std.proofs.Common.{◌∙◌, ap, subst, List, IsTrue, ◌↔◌}
 use Rattle.edit_normal.specs.RuleEdits.{rule_edits}
 use Rattle.record_text.proofs.SheetLaws.{rows_are_records}
 use Rattle.edit_report.specs.Reasons.{reasons_text_of}
