@@ -1,4 +1,5 @@
 pub mod CaseLaws
+pub mod CoherentLaws
 pub mod ColumnTexts
 pub mod EventLaws
 pub mod GiftFaults
@@ -6,7 +7,8 @@ pub mod GivenValues
 pub mod NormalLines
 pub mod OutcomeLaws
 pub mod ReadBackLaws
+pub mod ReleaseLaws
 pub mod ReleasedLaws
 pub mod RowsLaws
 pub mod SaidLaws
-pub mod SoundLaws
+pub mod TextLaws

@@ -1,5 +1,5 @@
 -- What an edit makes of the records of a survey.
-use Rattle.std.specs.Prelude.{◌≡◌, ⊤, ℕ, zero, suc, Bool, true, List, [], ◌∷◌, Option, Some, None, map}
+use Rattle.std.specs.Prelude.{◌≡◌, ⊤, ℕ, zero, Bool, true, List, [], Option, Some, None, map}
 use Rattle.std.specs.List.{AllZip}
 use Rattle.derivation.specs.declared.step.Step.{Step}
 use Rattle.edit_line.specs.Lines.{LineParts}
@@ -11,7 +11,7 @@ use Rattle.bound_cert.specs.ValidTrees.{IsValidTree, tree_case}
 use Rattle.bound_cert.specs.declared.cert.Cert.{Cert}
 use Rattle.bound_cert.specs.declared.outcome.GiftFault.{GiftFault}
 use Rattle.bound_cert.specs.declared.outcome.Outcome.{Outcome}
-use Rattle.bound_cert.specs.declared.outcome.Outcome.TheVariants.{Budget, Change, Contradictory, Overflow}
+use Rattle.bound_cert.specs.declared.outcome.Outcome.TheVariants.{Change, Contradictory}
 use Rattle.bound_cert.specs.declared.outcome.RowProof.{RowProof}
 use Rattle.record_text.specs.Sheets.{SheetParts}
 use Rattle.proof_grammar.specs.ProofLines.{proof_text}

@@ -3,6 +3,7 @@
 #![tactic(auto)]
 
 mod edit;
+mod proof;
 mod release;
 
 pub use edit::edit_sheet;

@@ -1,0 +1,113 @@
+use Rattle.std.proofs.Common.{◌≡◌, ◌++◌, ℕ, zero, suc, Bool, true, List, [], ◌∷◌, Option, Some, None, Result, Ok, Err, length, slice_get, ℤ, pos, ◌<ℤ◌, int_lt, refl, sym}
+use Rattle.std.specs.List.{AllByRecursion}
+use Rattle.fraction128.specs.Formulas.{then_some}
+use Rattle.edit_model.specs.Parts.{SurveyParts}
+use Rattle.edit_model.specs.Rows.{IsRow}
+use Rattle.edit_model.specs.Surveys.{IsWellFormed}
+use Rattle.edit_model.specs.declared.value.Value.{Value}
+use Rattle.edit_line.specs.Combinations.{may_combine, sum_of}
+use Rattle.edit_line.specs.Divisors.{divided_by}
+use Rattle.edit_line.proofs.BoolLaws.{both_true}
+use Rattle.edit_line.proofs.Enough.{is_enough-Decides}
+use Rattle.edit_normal.specs.RuleEdits.{rule_edits}
+use Rattle.derivation.specs.Premises.{Premises}
+use Rattle.derivation.specs.ValidSteps.{AreValidSteps, as_line, combined_line, last_proved, or_place, proved_by, proved_from}
+use Rattle.derivation.specs.declared.proved.Proved.{Proved}
+use Rattle.derivation.specs.declared.proved.Proved.TheVariants as proved
+use Rattle.derivation.specs.declared.step.Step.{Step}
+use Rattle.derivation.specs.declared.step.Step.TheVariants as step
+use Rattle.derivation.proofs.CoverLaws.{was-some, was-true}
+use Rattle.bound_cert.specs.ValidTrees.{IsValidLeaf, IsValidTree, TreeCase, premises_at}
+use Rattle.bound_cert.specs.declared.cert.Leaf.{Leaf}
+use Rattle.bound_cert.specs.declared.cert.LeafWhy.{LeafWhy}
+use Rattle.bound_cert.specs.declared.cert.LeafWhy.TheVariants as why
+use Rattle.bound_cert.specs.declared.outcome.GiftFault.{GiftFault}
+use Rattle.bound_cert.specs.declared.outcome.Outcome.{Outcome}
+use Rattle.bound_cert.specs.declared.outcome.Outcome.TheVariants as outcome
+use Rattle.edit_paths.specs.Cases.{case_of}
+use Rattle.edit_paths.specs.Outcomes.{outcome_of}
+use Rattle.back_subst.specs.declared.gift.Gift.{Gift}
+use Rattle.proof_text.specs.Sizes.{ArePositiveLeaves, ArePositiveSteps, IsCoherentRow, IsPositiveReason, IsPositiveStep}
+use Rattle.edit_report.specs.declared.end.RowEnd.{RowEnd}
+use Rattle.record_workers.specs.Ends.{Follows, IsEndOf}
+use Rattle.edit_release.specs.Edits.{said, said_of}
+use Rattle.edit_release.proofs.OutcomeLaws.{change-clean}
+use Rattle.edit_release.proofs.SaidLaws.{has-tree}
+
+-- What the proof of an edit says of a record is coherent.
+
+-- ---- valid steps
+
+module _ (p : Premises) where
+  combined-positive : (earlier : List Proved) (a : ℕ) (m : ℤ) (b : ℕ) (n g : ℤ) (x : Proved) → proved_by p earlier (step.Combine a m b n g) ≡ Some x → (pos 0 <ℤ m) × (pos 0 <ℤ n) × (pos 0 <ℤ g)
+  combined-positive earlier a m b n g x e =
+      let (s, first, after_first) = was-some (as_line (slice_get earlier a)) (λ s. then_some (as_line (slice_get earlier b)) (λ t. combined_line m n g s t)) x e in
+      let (t, second, made) = was-some (as_line (slice_get earlier b)) (λ t. combined_line m n g s t) x after_first in
+      let (may, same) = was-true (may_combine m n g s t) (proved.Line (divided_by g (sum_of m n s t))) x made in
+      let (m_above, after_m) = both_true (int_lt (pos 0) m) _ may in
+      let (n_above, after_n) = both_true (int_lt (pos 0) n) _ after_m in
+      let (g_above, after_g) = both_true (int_lt (pos 0) g) _ after_n in
+      (above m m_above, above n n_above, above g g_above)
+    where
+      above : (z : ℤ) → int_lt (pos 0) z ≡ true → pos 0 <ℤ z
+      above z h = (is_enough-Decides true z).0 h
+
+  step-positive : (earlier : List Proved) (one : Step) (x : Proved) → proved_by p earlier one ≡ Some x → IsPositiveStep one
+  step-positive earlier (step.Given place) x e = tt
+  step-positive earlier (step.Combine a m b n g) x e = combined-positive earlier a m b n g x e
+  step-positive earlier (step.Fail a) x e = tt
+  step-positive earlier (step.Cover field parts) x e = tt
+  step-positive earlier (step.Fix field part) x e = tt
+
+  positive-from : (earlier : List Proved) (steps : List Step) (all : List Proved) → proved_from p earlier steps ≡ Ok all → ArePositiveSteps steps
+  positive-from earlier [] all e = tt
+  positive-from earlier (one ∷ steps) all e = by (proved_by p earlier one) refl (λ x. positive-from (earlier ++ x ∷ []) steps all) e
+    where
+      by : (o : Option Proved) → proved_by p earlier one ≡ o → ((x : Proved) → proved_from p (earlier ++ x ∷ []) steps ≡ Ok all → ArePositiveSteps steps)
+          → or_place (length earlier) o (λ x. proved_from p (earlier ++ x ∷ []) steps) ≡ Ok all → ArePositiveSteps (one ∷ steps)
+      by None is rest h = absurd (cc)
+      by (Some x) is rest h = (step-positive earlier one x is, rest x h)
+
+  valid-positive : (steps : List Step) (x : Proved) → AreValidSteps p steps x → ArePositiveSteps steps
+  valid-positive steps x valid = by (proved_from p [] steps) refl valid
+    where
+      by : (r : Result (List Proved) ℕ) → proved_from p [] steps ≡ r → last_proved r ≡ Ok x → ArePositiveSteps steps
+      by (Ok all) is h = positive-from [] steps all is
+      by (Err place) is h = absurd (cc)
+
+-- ---- valid trees
+
+module _ (c : TreeCase) where
+  leaf-positive : (path : List Bool) (w : LeafWhy) → IsValidLeaf c path w → IsPositiveReason w
+  leaf-positive path why.Bound valid = tt
+  leaf-positive path why.BadKept valid = tt
+  leaf-positive path (why.Line steps) valid = let (line, are, refutes) = valid in valid-positive (premises_at c path) steps (proved.Line line) are
+  leaf-positive path (why.Box steps) valid = let (code_box, are, refutes) = valid in valid-positive (premises_at c path) steps (proved.Box code_box) are
+
+  leaves-positive : (leaves : List Leaf) → AllByRecursion (λ (leaf : Leaf). IsValidLeaf c leaf.path leaf.why) leaves → ArePositiveLeaves leaves
+  leaves-positive [] each = tt
+  leaves-positive (leaf ∷ leaves) each = (leaf-positive leaf.path leaf.why each.0, leaves-positive leaves each.1)
+
+  tree-positive : (leaves : List Leaf) → IsValidTree c leaves → ArePositiveLeaves leaves
+  tree-positive leaves valid = leaves-positive leaves valid.each
+
+-- ---- what is said of a record
+
+module _ (survey : SurveyParts) (row : List Value) (budget : ℕ) (formed : IsWellFormed survey) (is : IsRow survey.fields row) where
+  coherent-of : (o : Outcome) (stop : Option GiftFault) (gift : Option Gift) → outcome_of (case_of survey (rule_edits survey) row) budget ≡ o → Follows survey (rule_edits survey) row o stop gift → IsCoherentRow (said_of o stop)
+  coherent-of (outcome.Change path zero cert) None gift e follows = (refl, change-clean (case_of survey (rule_edits survey) row) budget path zero cert e refl)
+  coherent-of (outcome.Change path (suc w) cert) None gift e follows = tree-positive _ cert.leaves (has-tree survey row budget formed is _ e)
+  coherent-of (outcome.Change path zero cert) (Some stop) gift e follows = tree-positive _ cert.leaves (has-tree survey row budget formed is _ e)
+  coherent-of (outcome.Change path (suc w) cert) (Some stop) gift e follows = tree-positive _ cert.leaves (has-tree survey row budget formed is _ e)
+  coherent-of (outcome.Budget path work) None gift e follows = tt
+  coherent-of (outcome.Budget path work) (Some stop) None e follows = absurd follows
+  coherent-of (outcome.Budget path work) (Some stop) (Some gift) e follows = absurd follows
+  coherent-of (outcome.Overflow path event) None gift e follows = tt
+  coherent-of (outcome.Overflow path event) (Some stop) None e follows = absurd follows
+  coherent-of (outcome.Overflow path event) (Some stop) (Some gift) e follows = absurd follows
+  coherent-of (outcome.Contradictory cert) None gift e follows = tree-positive _ cert.leaves (has-tree survey row budget formed is _ e)
+  coherent-of (outcome.Contradictory cert) (Some stop) None e follows = absurd follows
+  coherent-of (outcome.Contradictory cert) (Some stop) (Some gift) e follows = absurd follows
+
+  pub said-coherent : (end : RowEnd) → IsEndOf survey (rule_edits survey) budget row end → IsCoherentRow (said end)
+  said-coherent end ends = coherent-of end.proof.outcome end.proof.gift end.gift (sym ends.outcome) ends.follows

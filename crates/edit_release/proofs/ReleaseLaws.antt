@@ -1,0 +1,184 @@
+-- The files of an edit are a valid release.
+use Rattle.std.proofs.Common.{◌≡◌, ◌≤◌, ◌<◌, ◌∙◌, nat_lt, cond, sym, ap, refl, ℕ, ◌+◌, ◌==◌, Bool, true, List, [], ◌∷◌, length, map, All, IsSome, IfSome, IsTrue, ◌↔◌, Option, Some, None, false, subst, arith}
+use Rattle.std.specs.Prelude.{is_some, option_map, position}
+use Rattle.std.specs.List.{AllByRecursion, AllZip, position_or_len}
+use Rattle.std.proofs.lemmas.Bool.{le-leb}
+use Rattle.std.proofs.lemmas.Bool.Decides.{Decides-eqb, nat_tests}
+use Rattle.std.proofs.lemmas.List.{length-map}
+use Rattle.std.proofs.lemmas.Slice.Zip.{AllZip-long}
+use Rattle.edit_model.specs.Parts.{SurveyParts}
+use Rattle.edit_model.specs.Rows.{IsRow}
+use Rattle.edit_model.specs.Surveys.{IsWellFormed}
+use Rattle.edit_model.specs.declared.value.Value.{Value}
+use Rattle.edit_line.specs.Lines.{LineParts}
+use Rattle.edit_normal.specs.RuleEdits.{rule_edits}
+use Rattle.edit_normal.specs.RuleLines.{normal_lines_of}
+use Rattle.bound_cert.specs.declared.outcome.GiftFault.{GiftFault}
+use Rattle.bound_cert.specs.declared.outcome.Outcome.{Outcome}
+use Rattle.bound_cert.specs.declared.outcome.Outcome.TheVariants.{Budget, Change, Contradictory, Overflow}
+use Rattle.back_subst.specs.declared.gift.Gift.{Gift}
+use Rattle.record_text.specs.Sheets.{IsSheet, SheetParts}
+use Rattle.record_text.specs.Values.{AreValues}
+use Rattle.record_text.proofs.SheetLaws.{columns_in_header, distinct_columns, one_column_a_field, raws_as_long_as_header, rows_are_records}
+use Rattle.record_text.proofs.ValueLaws.{values_are_row}
+use Rattle.proof_grammar.specs.Limits.{IsPlain}
+use Rattle.proof_grammar.specs.ProofLines.{proof_text}
+use Rattle.proof_grammar.specs.declared.proof.Proof.{Proof}
+use Rattle.proof_text.specs.Sizes.{ArePositiveSteps, IsCoherent, IsCoherentRow, IsSized}
+use Rattle.proof_text.proofs.SizeLaws.{plain-if}
+use Rattle.edit_report.specs.Ends.{path_found}
+use Rattle.edit_report.specs.Reasons.{reasons_text_of}
+use Rattle.edit_report.specs.Released.{released_rows, released_text_of}
+use Rattle.edit_report.specs.Summaries.{summary_of}
+use Rattle.edit_report.specs.declared.end.RowEnd.{RowEnd}
+use Rattle.record_workers.specs.Ends.{IsEndOf}
+use Rattle.record_workers.specs.Said.{Says}
+use Rattle.cert_check.specs.Releases.{Audit, IsValidRelease, audit_of, head_fault, is_released, limits_fit, rules_of}
+use Rattle.cert_check.specs.RowChecks.{IsReleased, RowFiles, RowRules}
+use Rattle.edit_release.specs.Edits.{IsShown, all_kept, proof_of, said}
+use Rattle.edit_release.specs.Releases.{AllGiven, IsReleaseOf}
+use Rattle.edit_release.specs.declared.release.Release.{Release}
+use Rattle.edit_release.proofs.CoherentLaws.{said-coherent}
+use Rattle.edit_release.proofs.ReleasedLaws.{IsSaidReleased, are-released, end-said, ends-said}
+use Rattle.edit_release.proofs.RowsLaws.{IsValidEnd, each-follows, end-released, own_files, rows-valid}
+use Rattle.edit_release.proofs.SaidLaws.{IsReleasedSaid, rules-are, said-valid, tree-shown}
+
+-- ---- the head of the proof
+
+-- no line of the rules is dropped
+none-dropped : (lines : List LineParts) → position is_some (all_kept lines) ≡ None
+none-dropped lines = ap (λ (n : ℕ). cond (nat_lt n (length (all_kept lines))) (Some n) None) (past lines) ∙ ap (λ (b : Bool). cond b (Some (length (all_kept lines))) None) (no-less (length (all_kept lines)))
+  where
+    past : (lines : List LineParts) → position_or_len is_some (all_kept lines) ≡ length (all_kept lines)
+    past [] = refl
+    past (line ∷ lines) = let later = past lines in omega (arith, later)
+
+    no-less : (n : ℕ) → nat_lt n n ≡ false
+    no-less n = grind (arith, nat_tests)
+
+counts-agree : (m n : ℕ) → m ≡ n → (m == n) ≡ true
+counts-agree m n e = (Decides-eqb m n).1 e
+
+module _ (survey : SurveyParts) (sheet : SheetParts) (released proof : List ℕ) (budget : ℕ) (ends : List RowEnd) (least : 1 ≤ budget) (most : budget ≤ 1000000000) (many : length ends ≡ length sheet.rows) where
+  abbrev a : Audit
+  a = audit_of survey sheet released proof
+
+  abbrev p : Proof
+  p = proof_of survey budget ends
+
+  limits-fit : limits_fit p ≡ true
+  limits-fit = rw (le-leb 1 budget least, le-leb budget 1000000000 most) refl
+
+  lines-many : (length p.verdicts == length (normal_lines_of survey)) ≡ true
+  lines-many = counts-agree _ _ (length-map (normal_lines_of survey) (λ (line : LineParts). None))
+
+  rows-many : (length p.rows == length sheet.rows) ≡ true
+  rows-many = counts-agree _ _ (length-map ends said ∙ many)
+
+  head-fits : head_fault a p ≡ None
+  head-fits = rw (limits-fit, lines-many, rows-many) refl
+
+-- ---- what is said of each record
+
+module _ (survey : SurveyParts) (formed : IsWellFormed survey) (budget : ℕ) where
+  -- the trees of all records are valid
+  pub all-shown : (rows : List (List Value)) (ends : List RowEnd) → AllByRecursion (IsRow survey.fields) rows → AllZip (IsEndOf survey (rule_edits survey) budget) rows ends → AllZip (IsShown survey) rows ends
+  all-shown [] [] are each = tt
+  all-shown [] (end ∷ ends) are each = absurd each
+  all-shown (row ∷ rows) [] are each = absurd each
+  all-shown (row ∷ rows) (end ∷ ends) are each = (tree-shown survey row budget formed are.0 end each.0, all-shown rows ends are.1 each.1)
+
+  -- what is said of all records is coherent
+  all-coherent : (rows : List (List Value)) (ends : List RowEnd) → AllByRecursion (IsRow survey.fields) rows → AllZip (IsEndOf survey (rule_edits survey) budget) rows ends → AllByRecursion IsCoherentRow (map said ends)
+  all-coherent [] [] are each = tt
+  all-coherent [] (end ∷ ends) are each = absurd each
+  all-coherent (row ∷ rows) [] are each = absurd each
+  all-coherent (row ∷ rows) (end ∷ ends) are each = (said-coherent survey row budget formed are.0 end each.0, all-coherent rows ends are.1 each.1)
+
+  -- the proof is coherent
+  pub proof-coherent : (rows : List (List Value)) (ends : List RowEnd) → AllByRecursion (IsRow survey.fields) rows → AllZip (IsEndOf survey (rule_edits survey) budget) rows ends → IsCoherent (proof_of survey budget ends)
+  proof-coherent rows ends are each = record { verdicts = none-said (normal_lines_of survey); rows = all-coherent rows ends are each }
+    where
+      none-said : (lines : List LineParts) → AllByRecursion (λ v. IfSome v ArePositiveSteps) (all_kept lines)
+      none-said [] = tt
+      none-said (line ∷ lines) = (tt, none-said lines)
+
+-- texts are released of a record that is told to be released
+released-told : (r : RowRules) (f : RowFiles) (o : Outcome) (stop : Option GiftFault) (gift : Option Gift) → is_released (record { outcome = o; gift = stop }) ≡ is_some gift → (IsSome gift → IsReleased r f (path_found o)) → IsReleasedSaid r f o stop
+released-told r f (Change path weight cert) None None told released = absurd (cc told)
+released-told r f (Change path weight cert) None (Some gift) told released = released refl
+released-told r f (Change path weight cert) (Some stop) gift told released = tt
+released-told r f (Budget path work) stop gift told released = tt
+released-told r f (Overflow path event) stop gift told released = tt
+released-told r f (Contradictory cert) stop gift told released = tt
+
+-- ---- the release
+
+module _ (survey : SurveyParts) (sheet : SheetParts) (bytes : List ℕ) (budget : ℕ) (ends : List RowEnd) (formed : IsWellFormed survey) (read : IsSheet survey.fields bytes sheet) (least : 1 ≤ budget) (most : budget ≤ 1000000000)
+    (each : AllZip (IsEndOf survey (rule_edits survey) budget) sheet.rows ends) (say : AllZip (Says survey (rule_edits survey) budget) sheet.rows ends) where
+  abbrev audit : Audit
+  audit = audit_of survey sheet (released_text_of survey sheet ends) (proof_text (proof_of survey budget ends))
+
+  abbrev are : AllByRecursion (IsRow survey.fields) sheet.rows
+  are = rows_are_records survey.fields bytes sheet read
+
+  abbrev r : RowRules
+  r = rules_of audit (proof_of survey budget ends)
+
+  row-valid : (reads : List (List ℕ)) (row : List Value) (end : RowEnd) → AreValues survey.fields sheet.columns reads row → length reads ≡ length sheet.header → IsEndOf survey (rule_edits survey) budget row end
+      → Says survey (rule_edits survey) budget row end → IsShown survey row end → IsValidEnd r survey.fields sheet.columns reads row end
+  row-valid reads row end values long is says shown = (
+    told,
+    said-valid survey row budget formed is_row r (own_files survey.fields sheet.columns reads row end) end (rules-are survey sheet audit.released audit.proof budget ends) refl is
+        (released-told r (own_files survey.fields sheet.columns reads row end) (said end).outcome (said end).gift end.gift told
+        (end-released r (rule_edits survey) budget reads row formed is_row (one_column_a_field survey.fields bytes sheet read) (distinct_columns survey.fields bytes sheet read formed.names) within end.proof.outcome end.proof.gift end.gift is.follows says)),
+  )
+    where
+      is_row : IsRow survey.fields row
+      is_row = values_are_row survey.fields sheet.columns reads row values
+
+      told : IsSaidReleased end
+      told = end-said survey (rule_edits survey) budget row end is
+
+      within : All (λ (c : ℕ). c < length reads) sheet.columns
+      within = subst (λ (n : ℕ). All (λ (c : ℕ). c < n) sheet.columns) (sym long) (columns_in_header survey.fields bytes sheet read)
+
+  pub release-valid : IsPlain (proof_of survey budget ends) → IsValidRelease audit
+  release-valid plain = record {
+    proof = proof_of survey budget ends;
+    fits = record {
+      spelled = record { plain = plain; text = refl };
+      head = head-fits survey sheet audit.released audit.proof budget ends least most (AllZip-long (IsEndOf survey (rule_edits survey) budget) sheet.rows ends each);
+      kept = ap (λ (o : Option ℕ). option_map (λ place. 4 + place) o) (none-dropped (normal_lines_of survey));
+    };
+    rows = released_rows survey.fields sheet.columns sheet.raws ends;
+    released = are-released survey bytes sheet budget ends audit.proof read each (ends-said survey (rule_edits survey) budget sheet.rows ends each);
+    each = rows-valid r survey.fields sheet.columns sheet.raws sheet.rows ends
+        (each-follows (IsValidEnd r survey.fields sheet.columns) survey (rule_edits survey) sheet.columns (length sheet.header) budget sheet.raws sheet.rows ends read.values (raws_as_long_as_header survey.fields bytes sheet read) each say
+        (all-shown survey formed budget sheet.rows ends are each) row-valid);
+    claims = refl;
+  }
+
+  -- what was written is the edit of the sheet
+  pub release-of : (release : Release) (p : Proof) → p ≡ proof_of survey budget ends → IsSized p → release.proof.items ≡ proof_text p → release.reasons.items ≡ reasons_text_of survey sheet ends → release.released.items ≡ released_text_of survey sheet ends
+      → release.summary.items ≡ summary_of survey ends → (IsTrue release.whole ↔ AllGiven ends) → IsReleaseOf survey sheet budget release
+  release-of release p same sized proof reasons released summary whole = record {
+    ends = ends;
+    edit = record {
+      each = each;
+      say = say;
+      shown = all-shown survey formed budget sheet.rows ends are each;
+      proof = text;
+      reasons = reasons;
+      released = released;
+      summary = summary;
+      valid = subst (λ (given : List ℕ). IsValidRelease (audit_of survey sheet given release.proof.items)) (sym released) (subst (λ (told : List ℕ). IsValidRelease (audit_of survey sheet (released_text_of survey sheet ends) told)) (sym text) (release-valid plain));
+    };
+    whole = whole;
+  }
+    where
+      text : release.proof.items ≡ proof_text (proof_of survey budget ends)
+      text = proof ∙ ap proof_text same
+
+      plain : IsPlain (proof_of survey budget ends)
+      plain = plain-if (proof_of survey budget ends) (subst IsSized same sized) (proof-coherent survey formed budget sheet.rows ends are each)
