@@ -119,6 +119,7 @@ module _ (survey : SurveyParts) (sheet : SheetParts) (bytes : List ℕ) (budget 
   abbrev audit : Audit
   audit = audit_of survey sheet (released_text_of survey sheet ends) (proof_text (proof_of survey budget ends))
 
+  -- each row is a record of the survey
   abbrev are : AllByRecursion (IsRow survey.fields) sheet.rows
   are = rows_are_records survey.fields bytes sheet read
 

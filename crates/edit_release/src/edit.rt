@@ -1,6 +1,5 @@
 ghost use Rattle.std.specs.Prelude.{◌↔◌, ◌≤◌, ℕ, List, IfOk, IsTrue};
 ghost use Rattle.record_text.specs.Sheets.{IsSheet};
-ghost use Rattle.edit_release.specs.Edits.{IsEditOf};
 ghost use Rattle.edit_release.specs.Releases.{AllGiven, IsReleaseOf};
 
 use crate::proof::proof_of;
