@@ -1,5 +1,5 @@
 -- Words ask for one command at most.
-use Rattle.std.proofs.Common.{◌≡◌, ◌∙◌, ◌*◌, ◌/◌, ◌%◌, ◌≤◌, ℕ, Bool, true, false, not, Option, Some, None, refl, List, [], ◌∷◌, String, Global, ap, arith, length, map, string_bytes, subst, sym}
+use Rattle.std.proofs.Common.{◌≡◌, ◌∙◌, ◌/◌, ◌%◌, ◌≤◌, ℕ, Bool, true, false, not, Option, Some, None, refl, List, [], ◌∷◌, String, Global, ap, arith, length, map, string_bytes, subst, sym}
 use Rattle.std.proofs.lemmas.List.{length-map}
 use Rattle.std.specs.Prelude.{codes, IfNone, IfSome}
 use Rattle.edit_program.specs.Asked.{CheckAsked, EditAsked, GiveCheck, GiveEdit, IsCheck, IsEdit}

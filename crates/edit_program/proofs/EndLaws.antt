@@ -1,5 +1,5 @@
 -- How an edit and whole runs end.
-use Rattle.std.proofs.Common.{◌≡◌, ◌≢◌, ◌⊎◌, ◌∙◌, ◌+◌, ◌-◌, ◌^◌, ◌<◌, ℕ, Bool, true, false, IsTrue, List, Option, arith, inl, inr, refl, subst, sym, ◌↔◌}
+use Rattle.std.proofs.Common.{◌≡◌, ◌∙◌, ◌+◌, ◌-◌, ◌^◌, ◌<◌, ℕ, Bool, true, false, IsTrue, List, arith, inl, inr, refl, sym, ◌↔◌}
 use Rattle.std.specs.Prelude.{if◌then◌else◌}
 use Rattle.std.proofs.Math.Nat.{min-eq_left}
 use Rattle.edit_model.specs.Parts.{SurveyParts}
@@ -16,7 +16,7 @@ use Rattle.edit_program.specs.Faults.{fault_status}
 use Rattle.edit_program.specs.Readings.{HoldsRecords, HoldsRules}
 use Rattle.edit_program.specs.Run.{IsFaultless, LeavesOf, Seen, faults_by}
 use Rattle.edit_program.specs.inner.EditParts.{edit_status}
-use Rattle.edit_program.specs.inner.Parts.{IsOfRecords, IsOfRules, IsOfStores}
+use Rattle.edit_program.specs.inner.Parts.{IsOfStores}
 use Rattle.edit_program.specs.declared.fault.Fault.{Fault}
 use Rattle.edit_program.specs.declared.fault.Fault.TheVariants as fault
 use Rattle.edit_program.specs.declared.status.Status.{Status}

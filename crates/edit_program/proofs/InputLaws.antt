@@ -1,11 +1,11 @@
 -- What the reading of the rules and of the records shows of the files, and which status is due.
-use Rattle.std.proofs.Common.{◌≡◌, ◌≢◌, ◌⊎◌, ◌∙◌, ℕ, List, inl, inr, refl, subst, sym}
+use Rattle.std.proofs.Common.{◌≡◌, ◌⊎◌, ℕ, List, inl, inr, refl, subst}
 use Rattle.edit_model.specs.Parts.{SurveyParts}
 use Rattle.record_text.specs.Sheets.{SheetParts}
 use Rattle.edit_desk.specs.Desk.{Files, IsLonger}
 use Rattle.edit_program.specs.Faults.{fault_status}
 use Rattle.edit_program.specs.Readings.{AnswersDue, HoldsRecords, HoldsRules, IsInputDue, RefusesInput, WithSheet, most_bytes}
-use Rattle.edit_program.specs.inner.Parts.{IsOfRecords, IsOfRules, IsOfStores, RefusesRecords, RefusesRules}
+use Rattle.edit_program.specs.inner.Parts.{IsOfRecords, IsOfStores, RefusesRecords}
 use Rattle.edit_program.specs.declared.fault.Fault.{Fault}
 use Rattle.edit_program.specs.declared.fault.Fault.TheVariants as fault
 use Rattle.edit_program.specs.declared.status.Status.{Status}

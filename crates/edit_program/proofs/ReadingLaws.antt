@@ -1,16 +1,13 @@
 -- Why a file of records that was fetched and not read is refused.
-use Rattle.std.proofs.Common.{◌≡◌, ◌≢◌, ◌⊎◌, ℕ, List, Option, Some, None, IfSome, inl, inr, refl, subst, sym}
-use Rattle.edit_language.specs.Reading.{IsFaultOf, IsNoRuleText}
-use Rattle.edit_language.specs.declared.fault.RulesFault.{RulesFault}
-use Rattle.edit_language.specs.declared.fault.RulesFault.TheVariants as rules
+use Rattle.std.proofs.Common.{◌≡◌, ◌≢◌, ◌⊎◌, ℕ, List, Option, IfSome, inl, inr, refl, subst, sym}
 use Rattle.edit_model.specs.declared.field.Field.{Field}
 use Rattle.record_text.specs.Sheets.{IsSheet, IsSheetFault, SheetParts}
 use Rattle.record_text.specs.declared.fault.SheetFault.{SheetFault}
 use Rattle.record_text.specs.declared.fault.SheetFault.TheVariants as sheet
 use Rattle.edit_desk.specs.Desk.{Files}
-use Rattle.edit_program.specs.Faults.{rules_fault, sheet_fault}
-use Rattle.edit_program.specs.Readings.{AreNoRecords, AreNoRules, HoldsBytes, most_bytes}
-use Rattle.edit_program.specs.inner.Parts.{RefusesRecords, RefusesRules}
+use Rattle.edit_program.specs.Faults.{sheet_fault}
+use Rattle.edit_program.specs.Readings.{AreNoRecords, HoldsBytes, most_bytes}
+use Rattle.edit_program.specs.inner.Parts.{RefusesRecords}
 use Rattle.edit_program.specs.declared.fault.Fault.{Fault}
 use Rattle.edit_program.specs.declared.fault.Fault.TheVariants as fault
 use Rattle.edit_program.specs.declared.fault.RecordsFault.{RecordsFault}

@@ -1,5 +1,5 @@
 -- How whole runs end.
-use Rattle.std.proofs.Common.{◌≡◌, ◌⊎◌, ◌∙◌, ℕ, List, IfSome, inl, inr, refl, subst, sym}
+use Rattle.std.proofs.Common.{◌≡◌, ◌∙◌, ℕ, List, IfSome, inl, inr, refl, subst, sym}
 use Rattle.edit_desk.specs.Desk.{PutsOnRecord, Told}
 use Rattle.edit_release.specs.Releases.{written_in}
 use Rattle.edit_release.specs.declared.release.Release.{Release}

@@ -1,5 +1,5 @@
 -- An edit of a sheet whose records all have corrections in reach releases them all.
-use Rattle.std.proofs.Common.{◌≡◌, ◌≤◌, ◌<◌, ℕ, List, [], ◌∷◌, Option, Some, None, IsSome, inl, inr, refl, sym, ◌∙◌, arith}
+use Rattle.std.proofs.Common.{◌≡◌, ℕ, List, [], ◌∷◌, Option, Some, None, IsSome, inl, inr, refl, sym, arith}
 use Rattle.std.specs.List.{AllByRecursion, AllZip}
 use Rattle.edit_model.specs.Corrections.{IsCorrection}
 use Rattle.edit_model.specs.Parts.{SurveyParts}

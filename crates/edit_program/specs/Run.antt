@@ -1,5 +1,5 @@
 -- What a run asks of the desk, leaves on it, and prints.
-use Rattle.std.specs.Prelude.{◌≡◌, ◌≢◌, ◌⊎◌, ◌<◌, ◌^◌, ◌-◌, ℕ, List, [], ◌∷◌, ◌++◌, Option, Result, Some, IfSome, take}
+use Rattle.std.specs.Prelude.{◌≡◌, ◌⊎◌, ◌<◌, ◌^◌, ◌-◌, ℕ, List, [], ◌∷◌, ◌++◌, Option, Result, Some, IfSome, take}
 use Rattle.edit_desk.specs.Desk.{Asked, Files, HoldsPrefix, PutsOnRecord, SameElsewhere, Told, failing, fetched, raised, stored}
 use Rattle.edit_desk.specs.Printer.{Prints, after_line, line_of}
 use Rattle.edit_desk.specs.declared.printer.PrintFailed.{PrintFailed}

@@ -1,5 +1,5 @@
 //! A run of `edit`.
-ghost use Rattle.std.specs.Prelude.{◌≡◌, ◌≢◌, Err, IfErr, IfOk, IfSome};
+ghost use Rattle.std.specs.Prelude.{◌≡◌, ◌≢◌, Err, IfErr, IfSome};
 ghost use Rattle.edit_desk.specs.Desk.{PutsOnRecord, Told};
 ghost use Rattle.edit_program.specs.EditRun.{IsEditComplete, IsEditStopped, IsEdited, edit_calls};
 ghost use Rattle.edit_program.specs.Edits.{HasReleased};

@@ -1,6 +1,6 @@
 ghost use Rattle.std.specs.Prelude.{◌≡◌, ◌<◌, ◌++◌, IfOk, length};
 ghost use Rattle.edit_program.specs.declared.fault.Fault.TheVariants as faults;
-ghost use Rattle.edit_program.specs.Faults.{IsOfFields, fault_status, fault_text, name_of, records_text, rules_fault, sheet_fault};
+ghost use Rattle.edit_program.specs.Faults.{IsOfFields, fault_status, fault_text, name_of, sheet_fault};
 
 use crate::status::Status;
 use cert_check::{CheckFault, Why};

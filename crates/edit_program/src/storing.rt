@@ -1,8 +1,7 @@
 //! The files of a run as they are stored.
-ghost use Rattle.std.specs.Prelude.{◌≡◌, ◌∷◌, [], IfErr, map};
+ghost use Rattle.std.specs.Prelude.{◌≡◌, ◌∷◌, [], IfErr};
 ghost use Rattle.edit_desk.specs.Desk.{PutsOnRecord, Told, stored};
 ghost use Rattle.edit_program.specs.EditRun.{edit_files};
-ghost use Rattle.edit_program.specs.declared.fault.Fault.TheVariants as faults;
 ghost use Rattle.edit_program.specs.inner.Parts.{AreCallsOf, IsOfStores, StoresOf, faults_after, store_calls};
 ghost use Rattle.edit_release.specs.Releases.{written_in};
 

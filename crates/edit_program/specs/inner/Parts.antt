@@ -1,5 +1,5 @@
 -- What the parts of a run do.
-use Rattle.std.specs.Prelude.{◌≡◌, ◌⊎◌, ⊤, ℕ, List, [], ◌++◌, Option, Result, Ok, Err, map, take}
+use Rattle.std.specs.Prelude.{◌≡◌, ◌⊎◌, ⊤, ℕ, List, ◌++◌, Option, Result, Ok, Err, map, take}
 use Rattle.edit_desk.specs.Desk.{Asked, Files, IsLonger, Told, raised, stored}
 use Rattle.edit_desk.specs.Printer.{line_of}
 use Rattle.edit_model.specs.declared.field.Field.{Field}

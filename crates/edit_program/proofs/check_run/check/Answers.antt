@@ -1,4 +1,4 @@
-use Rattle.std.proofs.Common.{◌≡◌, ◌∙◌, ap, IfErr, IfOk, ◌∷◌, [], ◌++◌, ℕ, List, Err, IfSome, subst, sym}
+use Rattle.std.proofs.Common.{◌∙◌, ap, IfErr, IfOk, ◌∷◌, [], ◌++◌, List, Err, IfSome, subst, sym}
 use Rattle.edit_desk.specs.Desk.{Asked, PutsOnRecord, fetched}
 use Rattle.cert_check.specs.Releases.{Audit, audit_of}
 use Rattle.cert_check.specs.declared.fault.CheckFault.{CheckFault}

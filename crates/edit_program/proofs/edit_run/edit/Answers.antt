@@ -1,4 +1,4 @@
-use Rattle.std.proofs.Common.{◌≡◌, ◌∷◌, [], ◌++◌, ℕ, List, Err, IfSome, inl, refl, subst, sym}
+use Rattle.std.proofs.Common.{◌≡◌, ◌∷◌, [], ◌++◌, List, IfSome, inl, subst, sym}
 use Rattle.edit_desk.specs.Desk.{Asked, PutsOnRecord, Told, fetched, stored}
 use Rattle.edit_release.specs.Releases.{written_in}
 use Rattle.edit_program.specs.Asked.{EditAsked}

@@ -1,4 +1,4 @@
-use Rattle.std.proofs.Common.{◌≡◌, ◌∷◌, [], ◌++◌, ℕ, List, Err, Result, subst}
+use Rattle.std.proofs.Common.{◌∷◌, [], ◌++◌, List, Err, Result, subst}
 use Rattle.edit_desk.specs.Desk.{Asked, PutsOnRecord, stored}
 use Rattle.edit_release.specs.Releases.{written_in}
 use Rattle.edit_program.specs.Asked.{EditAsked}
