@@ -1,15 +1,10 @@
 use Rattle.std.proofs.Common.{◌≡◌, ℕ, zero, suc, Bool, true, false, List, [], ◌∷◌, Option, Some, IsSomeAnd, option_map, slice_index_or, refl, sym, subst}
 use Rattle.std.specs.List.{list_any}
-use Rattle.std.specs.Str.{bytes_eq}
-use Rattle.std.proofs.lemmas.List.Quantifiers.{position-Some}
-use Rattle.edit_model.specs.Rows.{IsOfKind, IsRow}
+use Rattle.edit_model.specs.Rows.{IsRow}
 use Rattle.edit_model.specs.declared.field.Field.{Field}
-use Rattle.edit_model.specs.declared.field.Kind.{Kind}
-use Rattle.edit_model.specs.declared.field.Kind.TheVariants as kind
 use Rattle.edit_model.specs.declared.value.Value.{Value}
-use Rattle.edit_model.specs.declared.value.Value.TheVariants.{Bad, Code, Number}
 use Rattle.bound_cert.specs.Paths.{changes, path_place}
-use Rattle.cert_check.specs.Released.{AreValuesFrom, IsGivenText, IsReleasedAs, IsValueOf, same_from, text_at}
+use Rattle.cert_check.specs.Released.{AreValuesFrom, IsReleasedAs, IsValueOf, same_from, text_at}
 use Rattle.cert_check.specs.RowChecks.{IsReleased}
 use Rattle.cert_check.specs.declared.checking.Checking.{Checking}
 use Rattle.cert_check.specs.declared.checking.RowAt.{RowAt}
@@ -17,32 +12,9 @@ use Rattle.cert_check.specs.inner.Checks.{GivesRight, IsRight, files_in, rules_i
 
 -- A row that is released.
 
--- ---- the kinds of the values
-
-given-kind : (k : Kind) (text : List ℕ) (v : Value) → IsGivenText k text v → IsOfKind k v
-given-kind (kind.Number scale) text (Number x) is = tt
-given-kind (kind.Number scale) text (Code c) is = absurd is
-given-kind (kind.Number scale) text Bad is = absurd is
-given-kind (kind.Code codes) text (Number x) is = absurd is
-given-kind (kind.Code codes) text (Code c) is = (position-Some (λ code. bytes_eq code text) codes c [] is).0
-given-kind (kind.Code codes) text Bad is = absurd is
-
-value-kind : (b : Bool) (k : Kind) (text : List ℕ) (read v : Value) → IsOfKind k read → IsValueOf b k text read v → IsOfKind k v
-value-kind false k text read v fits is = subst (λ (u : Value). IsOfKind k u) (sym is) fits
-value-kind true k text read v fits is = given-kind k text v is.0
+-- ---- where nothing is changed
 
 module _ (changed : ℕ → Bool) (text : ℕ → List ℕ) where
-  -- the values are a record of the survey
-  pub values-row : (i : ℕ) (fields : List Field) (row new : List Value) → IsRow fields row → AreValuesFrom changed text i fields row new → IsRow fields new
-  values-row i [] [] [] fits are = tt
-  values-row i [] [] (v ∷ new) fits are = absurd are
-  values-row i [] (read ∷ row) new fits are = absurd fits
-  values-row i (field ∷ fields) [] new fits are = absurd fits
-  values-row i (field ∷ fields) (read ∷ row) [] fits are = absurd are
-  values-row i (field ∷ fields) (read ∷ row) (v ∷ new) fits are = (value-kind (changed i) field.kind (text i) read v fits.0 are.0, values-row (suc i) fields row new fits.1 are.1)
-
-  -- ---- where nothing is changed
-
   module _ (none : (f : ℕ) → changed f ≡ false) where
     pub all-kept : (i : ℕ) (fields : List Field) (row : List Value) → IsRow fields row → AreValuesFrom changed text i fields row row
     all-kept i [] [] fits = tt

@@ -1,6 +1,6 @@
 use Rattle.bound_cert.specs.Paths.{changes}
 use Rattle.cert_check.specs.Released.{text_at}
-use Rattle.cert_check.proofs.ReleasedLaws.{values-row}
+use Rattle.cert_check.proofs.NewRowLaws.{values-row}
 use Rattle.cert_check.proofs.released_row.gives_right.Goals as goal
 
 pub new-requires : goal.new-requires
