@@ -10,7 +10,7 @@ use Rattle.cert_check.specs.declared.fault.CheckFault.TheVariants as check
 use Rattle.cert_check.specs.declared.fault.Why.{Why}
 use Rattle.edit_program.specs.Asked.{CheckAsked}
 use Rattle.edit_program.specs.CheckRun.{valid_text}
-use Rattle.edit_program.specs.Faults.{check_fault, fault_status}
+use Rattle.edit_program.specs.Faults.{IsOfCheck, check_fault, fault_status}
 use Rattle.edit_program.specs.Readings.{AnswersDue, HoldsBytes, HoldsRecords, HoldsRelease, HoldsRules, IsCheckDue, IsTooLong, RefusesCheck, most_bytes, most_proof_bytes}
 use Rattle.edit_program.specs.inner.CheckParts.{Accepts}
 use Rattle.edit_program.specs.inner.Parts.{IsOfFetch, RefusesLong}
@@ -132,3 +132,8 @@ module _ (asked : CheckAsked) (files : Option Files) where
     pub memory-refused : (r : Result (Vec ℕ Global) Fault) → IfErr r (λ f. f ≡ fault.OutOfMemory) → IfErr r (λ f. IfSome files (λ o. RefusesCheck asked o f))
     memory-refused (Ok line) memory = tt
     memory-refused (Err f) memory = each-told files (λ o h. rw memory tt) held
+
+-- want of memory is a fault of a check
+pub memory-kind : (r : Result (Vec ℕ Global) Fault) → IfErr r (λ f. f ≡ fault.OutOfMemory) → IfErr r IsOfCheck
+memory-kind (Ok line) memory = tt
+memory-kind (Err f) memory = rw memory tt

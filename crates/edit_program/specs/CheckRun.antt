@@ -4,6 +4,7 @@ use Rattle.edit_desk.specs.Desk.{Asked, Files, PutsOnRecord, Told, fetched}
 use Rattle.cert_check.specs.Releases.{Audit, IsReleasedCount, IsValidRelease}
 use Rattle.cert_check.specs.Shown.{Shows}
 use Rattle.edit_program.specs.Asked.{CheckAsked}
+use Rattle.edit_program.specs.Faults.{IsOfCheck}
 use Rattle.edit_program.specs.Readings.{HoldsRelease, RefusesCheck}
 use Rattle.edit_program.specs.Run.{IsFaultless, IsRefused, IsTold, IsUntold, Seen}
 use Rattle.edit_program.specs.declared.fault.Fault.{Fault}
@@ -54,7 +55,7 @@ pub record IsCheckUntold (asked : CheckAsked) (before after : Seen) : Type 0 whe
 -- a check that did not do all: it is refused for a fault, or its line was not printed
 abbrev pub IsCheckStopped : CheckAsked → Status → Seen → Seen → Type 0
 IsCheckStopped asked answer before after =
-    IsRefused (RefusesCheck asked) (check_calls asked) LeavesAll answer before after ⊎ ((answer ≡ status.WriteFault) × IsCheckUntold asked before after)
+    IsRefused IsOfCheck (RefusesCheck asked) (check_calls asked) LeavesAll answer before after ⊎ ((answer ≡ status.WriteFault) × IsCheckUntold asked before after)
 
 -- where the files that the desk held are a valid release, and no fault is met, the check is done, but for want of memory
 abbrev pub IsCheckComplete : CheckAsked → Status → Seen → Seen → Type 0

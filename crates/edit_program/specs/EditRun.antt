@@ -6,6 +6,7 @@ use Rattle.record_text.specs.Sheets.{SheetParts}
 use Rattle.edit_release.specs.Edits.{Written}
 use Rattle.edit_program.specs.Asked.{EditAsked}
 use Rattle.edit_program.specs.Edits.{HasReleased, IsEditWith}
+use Rattle.edit_program.specs.Faults.{IsOfEdit}
 use Rattle.edit_program.specs.Readings.{HoldsRecords, HoldsRules, Refuses}
 use Rattle.edit_program.specs.Run.{IsFaultless, IsRefused, IsTold, IsUntold, LeavesOf, Seen}
 use Rattle.edit_program.specs.declared.fault.Fault.{Fault}
@@ -67,7 +68,7 @@ pub record IsEditUntold (asked : EditAsked) (before after : Seen) : Type 0 where
 -- an edit that did not do all: it is refused for a fault, or its summary was not printed
 abbrev pub IsEditStopped : EditAsked → Status → Seen → Seen → Type 0
 IsEditStopped asked answer before after =
-    IsRefused (Refuses asked) (edit_calls asked) (Leaves asked) answer before after ⊎ ((answer ≡ status.WriteFault) × IsEditUntold asked before after)
+    IsRefused IsOfEdit (Refuses asked) (edit_calls asked) (Leaves asked) answer before after ⊎ ((answer ≡ status.WriteFault) × IsEditUntold asked before after)
 
 -- where both files that the desk held have readings, and no fault is met, the edit is done, but for want of memory
 abbrev pub IsEditComplete : EditAsked → Status → Seen → Seen → Type 0

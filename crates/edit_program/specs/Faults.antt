@@ -48,6 +48,18 @@ fault_text (TooLong name) = codes "fault: too long " ++ name
 fault_text (Rejected line why) = codes "fault: proof line " ++ (decimal line ++ (codes " " ++ why_text why))
 fault_text OutOfMemory = codes "fault: out of memory"
 
+-- a fault that an edit may be refused for
+abbrev pub IsOfEdit : Fault → Type 0
+IsOfEdit Usage = ⊥
+IsOfEdit (Rejected line why) = ⊥
+IsOfEdit fault = ⊤
+
+-- a fault that a check may be refused for: it writes nothing
+abbrev pub IsOfCheck : Fault → Type 0
+IsOfCheck Usage = ⊥
+IsOfCheck (Write name) = ⊥
+IsOfCheck fault = ⊤
+
 -- the refusal for rules that were not read
 abbrev pub rules_fault : RulesFault → Fault
 rules_fault (rules.At line kind) = Rules line kind

@@ -101,10 +101,11 @@ pub record IsUntold (text : List ℕ) (before after : Seen) : Type 0 where
 
 -- ---- refused runs
 
--- a run that is refused for a fault, with its status: of the files that the desk held this holds, the calls end there, this is left on the desk, and the fault is printed
-pub record IsRefused (refuses : Files → Fault → Type 0) (order : List Asked) (leaves : Fault → Files → Files → Type 0) (answer : Status) (before after : Seen) : Type 0 where
+-- a run that is refused for a fault that it may meet, with its status: of the files that the desk held this holds, the calls end there, this is left on the desk, and the fault is printed
+pub record IsRefused (meets : Fault → Type 0) (refuses : Files → Fault → Type 0) (order : List Asked) (leaves : Fault → Files → Files → Type 0) (answer : Status) (before after : Seen) : Type 0 where
   pub fault : Fault
   pub status : answer ≡ fault_status fault
+  pub kind : meets fault
   pub cause : IfSome before.files (λ files. refuses files fault)
   pub calls : PutsOnRecord before.calls after.calls (AreCallsTo order fault)
   pub files : Told before.files after.files (leaves fault)

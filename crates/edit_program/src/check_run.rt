@@ -1,7 +1,8 @@
 //! A run of `check`.
-ghost use Rattle.std.specs.Prelude.{◌≡◌, ◌≢◌, Err, IfErr, IfOk, IfSome};
+ghost use Rattle.std.specs.Prelude.{◌≡◌, ◌≢◌, IfErr, IfOk, IfSome};
 ghost use Rattle.edit_desk.specs.Desk.{PutsOnRecord};
 ghost use Rattle.edit_program.specs.CheckRun.{IsCheckComplete, IsCheckStopped, IsChecked, check_calls, valid_text};
+ghost use Rattle.edit_program.specs.Faults.{IsOfCheck};
 ghost use Rattle.edit_program.specs.Readings.{AnswersDue, IsCheckDue, RefusesCheck};
 ghost use Rattle.edit_program.specs.Run.{seen};
 ghost use Rattle.edit_program.specs.declared.fault.Fault.TheVariants as faults;
@@ -49,7 +50,7 @@ fn check<'a, D: Desk>(
     asked: &CheckWords<'a>,
     desk: &mut D,
 ) -> Result<Vec<u8>, Refusal<'a>>
-    ensures command { result ≢ Err faults.Usage }
+    ensures kind { IfErr result IsOfCheck }
     ensures accepted { IfOk result (λ line. Accepts asked.now (D.files desk.old) line.items) }
     ensures cause { IfErr result (λ fault. IfSome (D.files desk.old) (λ files. RefusesCheck asked.now files fault)) }
     ensures due { IfSome (D.files desk.old) (λ files. AnswersDue (IsCheckDue asked.now files) (check_end result)) }

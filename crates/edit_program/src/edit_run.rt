@@ -1,11 +1,11 @@
 //! A run of `edit`.
-ghost use Rattle.std.specs.Prelude.{◌≡◌, ◌≢◌, Err, IfErr, IfSome};
+ghost use Rattle.std.specs.Prelude.{◌≡◌, ◌≢◌, IfErr, IfSome};
 ghost use Rattle.edit_desk.specs.Desk.{PutsOnRecord, Told};
 ghost use Rattle.edit_program.specs.EditRun.{IsEditComplete, IsEditStopped, IsEdited, edit_calls};
 ghost use Rattle.edit_program.specs.Edits.{HasReleased};
+ghost use Rattle.edit_program.specs.Faults.{IsOfEdit};
 ghost use Rattle.edit_program.specs.Readings.{AnswersDue, IsDue, Refuses};
 ghost use Rattle.edit_program.specs.Run.{seen};
-ghost use Rattle.edit_program.specs.declared.fault.Fault.TheVariants as faults;
 ghost use Rattle.edit_program.specs.inner.EditParts.{EditEnds, edit_end, edit_status};
 ghost use Rattle.edit_program.specs.inner.Parts.{AreCallsOf, faults_after};
 
@@ -61,7 +61,7 @@ fn edit<'a, D: Desk>(
     asked: &EditWords<'a>,
     desk: &mut D,
 ) -> Result<Release, Refusal<'a>>
-    ensures command { result ≢ Err faults.Usage }
+    ensures kind { IfErr result IsOfEdit }
     ensures cause { IfErr result (λ fault. IfSome (D.files desk.old) (λ files. Refuses asked.now files fault)) }
     ensures due { IfSome (D.files desk.old) (λ files. AnswersDue (IsDue asked.now files) (edit_end result)) }
     ensures files { Told (D.files desk.old) (D.files desk.new) (EditEnds asked.now result) }

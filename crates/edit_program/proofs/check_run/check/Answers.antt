@@ -10,7 +10,7 @@ use Rattle.edit_program.specs.Run.{AreCallsTo}
 use Rattle.edit_program.specs.inner.CheckParts.{Accepts, check_end}
 use Rattle.edit_program.specs.inner.Parts.{AreCallsOf}
 use Rattle.edit_program.proofs.AskedLaws.{check_of}
-use Rattle.edit_program.proofs.AuditLaws.{accepted, check-due, check-refuse, input-check-due, memory-refused, told-held, valid-due, proof-due, proof-refuse, released-due, released-refuse}
+use Rattle.edit_program.proofs.AuditLaws.{accepted, check-due, check-refuse, input-check-due, memory-kind, memory-refused, proof-due, proof-refuse, released-due, released-refuse, told-held, valid-due}
 use Rattle.edit_program.proofs.CallLaws.{all-calls, memory-calls, memory-faults, told-calls, behind-calls, less-calls, of-fetch, records-calls, rules-calls, then-calls}
 use Rattle.edit_program.proofs.InputLaws.{records-due}
 use Rattle.edit_program.proofs.ToldLaws.{both-told, each-told, four-told, handed, three-told}
@@ -85,6 +85,9 @@ returns-in-Ok-clause-accepted g c =
     let held = told-held (check_of c.asked.inside.rules.now c.asked.inside.records.now c.asked.inside.released.now c.asked.inside.proof.now) (g.D.Desk.files c.args.desk.now) audit c.in_ok-survey.ensures.read (rw c.in_ok-survey.ensures.unchanged at c.in_ok-sheet.ensures.read) (rw (c.in_ok-sheet.ensures.unchanged, c.in_ok-survey.ensures.unchanged) at c.in_ok-released.ensures.bytes) (rw (c.in_ok-released.ensures.unchanged, c.in_ok-sheet.ensures.unchanged, c.in_ok-survey.ensures.unchanged) at c.in_ok-proof.ensures.bytes) in
     subst (λ (a : CheckAsked). IfOk c.valid_line.result (λ line. Accepts a (g.D.Desk.files c.args.desk.now) line.items)) c.asked.view_is
     (accepted (check_of c.asked.inside.rules.now c.asked.inside.records.now c.asked.inside.released.now c.asked.inside.proof.now) (g.D.Desk.files c.args.desk.now) audit held c.len.result c.in-Ok.count c.valid_line.result (rw (c.deref.ensures.value, c.deref-2.ensures.value) at c.in-Ok.ensures.valid) (rw (c.deref.ensures.value, c.deref-2.ensures.value) at c.in-Ok.ensures.shown) (sym c.len.ensures.rows) (rw c.deref-2.ensures.value at c.in-Ok.ensures.count) c.valid_line.ensures.line)
+
+pub returns-in-Ok-clause-kind : goal.returns-in-Ok-clause-kind
+returns-in-Ok-clause-kind g c = memory-kind c.valid_line.result c.valid_line.ensures.memory
 
 pub returns-in-Ok-clause-cause : goal.returns-in-Ok-clause-cause
 returns-in-Ok-clause-cause g c =

@@ -16,6 +16,7 @@ pub returns-in-Err-clause-stopped : goal.returns-in-Err-clause-stopped
 returns-in-Err-clause-stopped g c = λ not. inl (record {
   fault = c.in-Err.refusal;
   status = c.refuse.ensures.status ∙ c.status.ensures;
+  kind = c.in-Err.ensures.kind;
   cause = c.in-Err.ensures.cause;
   calls = c.in-Err.ensures.asked;
   files = same-told (g.D.Desk.files c.args.desk.now) _ (LeavesAll c.in-Err.refusal) c.in-Err.ensures.unchanged (λ o. refl);

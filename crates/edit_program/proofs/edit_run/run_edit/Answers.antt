@@ -14,6 +14,7 @@ pub returns-in-Err-clause-stopped : goal.returns-in-Err-clause-stopped
 returns-in-Err-clause-stopped g c = λ not. inl (record {
   fault = c.in-Err.refusal;
   status = c.refuse.ensures.status ∙ c.status.ensures;
+  kind = c.in-Err.ensures.kind;
   cause = c.in-Err.ensures.cause;
   calls = c.in-Err.ensures.asked;
   files = c.in-Err.ensures.files;
