@@ -1,4 +1,6 @@
 //! What the audit answers to the bytes of four files.
+ghost use Rattle.std.specs.Prelude.{◌<◌, length};
+
 use cert_check::{CheckFault, Why, check_all};
 use edit_language::read_rules;
 use foundation::OutOfMemory;
@@ -17,19 +19,26 @@ pub(crate) fn with_lines(
 ) -> Result<Vec<u8>, OutOfMemory> {
     let mut bytes = Vec::new(alloc);
     for (place, line) in lines.iter().enumerate() {
-        bytes.extend_from_slice(line_at(place + 1, line, changed))?;
+        push_line(&mut bytes, place + 1, line, &*changed)?;
     }
     Ok(bytes)
 }
 
-// The line of this number.
-fn line_at<'a>(number: usize, line: &'a [u8], changed: &'a [(usize, &'a [u8])]) -> &'a [u8] {
+// Puts the line of this number, or what stands in its place, behind the others.
+fn push_line(
+    bytes: &mut Vec<u8>,
+    number: usize,
+    line: &[u8],
+    changed: &[(usize, &[u8])],
+) -> Result<(), OutOfMemory> {
     for (place, text) in changed {
         if *place == number {
-            return *text;
+            bytes.extend_from_slice(text)?;
+            return Ok(());
         }
     }
-    line
+    bytes.extend_from_slice(line)?;
+    Ok(())
 }
 
 /// What the audit answers.
@@ -39,7 +48,9 @@ pub(crate) fn answer(
     records: &[u8],
     released: &[u8],
     proof: &[u8],
-) -> Result<Answer, Fail> {
+) -> Result<Answer, Fail>
+    requires { length rules.now < 4294967296 }
+{
     let survey = read_rules(alloc, rules)?;
     let sheet = read_records(alloc, &survey, records)?;
     match check_all(alloc, &survey, &sheet, released, proof) {
