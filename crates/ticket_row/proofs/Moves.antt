@@ -1,6 +1,5 @@
 -- Each kind of step keeps the rule: the first seat, a draw, a split, a join.
-use Rattle.std.proofs.Common.{◌≡◌, ◌≢◌, ◌⊎◌, ℕ, zero, suc, ◌+◌, ◌-◌, ◌<◌, ◌≤◌, ◌%◌, ◌^◌, Bool, true, false, List, [], ◌∷◌, ◌++◌, cond, set, min, slice_index, slice_set, All, refl, sym, ap, ◌∙◌, subst, ⊎_elim, nat_lt, nat_eq, arith, ltb-true, lt-ltb, eqb-true, true≢false}
-use Rattle.std.specs.List.{sum_by}
+use Rattle.std.proofs.Common.{◌≡◌, ◌≢◌, ℕ, zero, suc, ◌+◌, ◌-◌, ◌<◌, ◌≤◌, ◌%◌, ◌^◌, Bool, true, false, List, [], ◌∷◌, ◌++◌, cond, set, min, slice_index, All, refl, sym, ap, ◌∙◌, subst, ⊎_elim, nat_lt, nat_eq, arith, lt-ltb, eqb-true, true≢false}
 use Rattle.std.proofs.lemmas.List.Sums.{sum_by-append, sum_by_push}
 use Rattle.std.proofs.lemmas.Bool.{cases_lt}
 use Rattle.std.proofs.lemmas.Bool.Decides.{eqb_tells}
@@ -11,7 +10,7 @@ use Rattle.atomic_table.proofs.Lists.{at_set, at_snoc}
 use Rattle.ticket_row.specs.declared.rule.Hand.{Hand}
 use Rattle.ticket_row.specs.declared.rule.Terms.{Terms}
 use Rattle.ticket_row.specs.Tickets.{times}
-use Rattle.ticket_row.specs.inner.Rule.{hand_with, one_if, once_below, IsFair, EachOnce, AreTickets, first_hand, drew, HasDrawn, without_a_seat, new_hand, both_hands, spent_hand}
+use Rattle.ticket_row.specs.inner.Rule.{hand_with, once_below, IsFair, EachOnce, AreTickets, first_hand, drew, HasDrawn, without_a_seat, new_hand, both_hands, spent_hand}
 use Rattle.ticket_row.proofs.Rising.{all_by_times}
 use Rattle.ticket_row.proofs.Totals.{sum_by_set, term_within, sums_apart, sum_of_one}
 

@@ -1,5 +1,5 @@
 -- One seat takes in the others.
-use Rattle.std.proofs.Common.{◌≡◌, ℕ, ◌+◌, ◌-◌, ◌<◌, ◌≤◌, List, [], ◌∷◌, cond, length, get_or, true, min, sym, ap, ◌∙◌, nat_eq, arith}
+use Rattle.std.proofs.Common.{◌≡◌, ℕ, ◌+◌, ◌<◌, List, [], ◌∷◌, cond, length, get_or, true, min, sym, ap, ◌∙◌, nat_eq, arith}
 use Rattle.std.specs.List.{sum_by, Any}
 use Rattle.std.proofs.lemmas.List.Sums.{sum_by-cons, sum_by-append, get_or-le-sum_by}
 use mathlib.Core.Option.{some, some-injective}

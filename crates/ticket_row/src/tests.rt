@@ -25,7 +25,7 @@ fn draw_all(tickets: &Tickets, mut seat: Seat) -> (Seat, [u8; 3])
     requires three { tickets.now.row.count ≡ 3 }
     ensures { (result.0.row ≡ seat.row) × (result.0.ended ≡ true) }
 {
-    let mut times = [0; 3];
+    let mut times: [u8; 3] = [0; 3];
     while let Some(number) = tickets.draw(&mut seat) {
         times[number as usize] = times[number as usize].saturating_add(1);
     }
@@ -39,7 +39,19 @@ fn draw_by_two<R: Threads + Sync>(rt: &R, alloc: Global) -> Result<(u32, [u8; 3]
         return Ok((0, [0; 3]));
     };
     let all = &tickets;
-    let ((one, a), (two, b)) = join(rt, move || draw_all(all, one), move || draw_all(all, two));
+    let (left, right) = join(
+        rt,
+        move || -> (Seat, [u8; 3])
+            requires { (one.row ≡ all.now.row) × (all.now.row.count ≡ 3) }
+            ensures { result.0.row ≡ one.row }
+        { draw_all(all, one) },
+        move || -> (Seat, [u8; 3])
+            requires { (two.row ≡ all.now.row) × (all.now.row.count ≡ 3) }
+            ensures { result.0.row ≡ two.row }
+        { draw_all(all, two) },
+    );
+    let (one, a) = left;
+    let (two, b) = right;
     seats.push_reserved(one);
     seats.push_reserved(two);
     let times = [

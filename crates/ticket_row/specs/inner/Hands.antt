@@ -1,5 +1,4 @@
 -- What the seat of a caller knows.
-use Rattle.std.specs.Prelude.{ℕ}
 use Rattle.atomic_table.specs.Seated.{TableId}
 use Rattle.ticket_row.specs.declared.rule.Hand.{Hand}
 use Rattle.ticket_row.specs.Tickets.{Row, SeatState}

@@ -1,4 +1,4 @@
-use Rattle.std.proofs.Common.{rules, ◌≡◌, [], ◌∷◌, true, ℕ, length, min, All, Any, sym, ap, ◌∙◌, subst}
+use Rattle.std.proofs.Common.{rules, ◌≡◌, ◌∷◌, true, ℕ, length, min, All, Any, sym, ap, ◌∙◌, subst}
 use lib.ListN.{get_elem?}
 use Rattle.std.proofs.lemmas.List.Elements.{All-head, All-tail}
 use Rattle.ticket_row.specs.Tickets.{Row, SeatState, DrawnBelow}
