@@ -5,10 +5,14 @@ use Rattle.std.proofs.lemmas.List.Sums.{sum_by-cons, sum_by-append, get_or-le-su
 use mathlib.Core.Option.{some, some-injective}
 use lib.ListN.{get_elem?}
 use Rattle.ticket_row.specs.declared.rule.Hand.{Hand}
-use Rattle.ticket_row.specs.Tickets.{SeatState, times, times_drawn, DrawnBelow}
+use Rattle.ticket_row.specs.Tickets.{Row, SeatState, times, times_drawn, DrawnBelow}
 use Rattle.ticket_row.specs.inner.Hands.{hand_of}
 use Rattle.ticket_row.specs.inner.Rule.{one_if, once_below, both_hands, EachOnce}
 use Rattle.ticket_row.proofs.Moves.{all_drawn}
+
+-- the seat is of these tickets
+abbrev pub IsOf : Row → SeatState → Type 0
+IsOf row seat = seat.row ≡ row
 
 -- how many of these seats were answered None
 abbrev pub ends_of : List SeatState → ℕ

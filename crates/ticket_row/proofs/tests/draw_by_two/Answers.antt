@@ -1,12 +1,9 @@
-use Rattle.std.proofs.Common.{◌≡◌, List, [], ◌∷◌, ◌++◌, length, All, arith, refl, sym, ◌∙◌, subst, option_to_list}
+use Rattle.std.proofs.Common.{List, [], ◌∷◌, ◌++◌, length, All, arith, refl, sym, ◌∙◌, subst, option_to_list}
 use Rattle.std.proofs.lemmas.List.{length_push, get_or_push, get_or_append_left}
 use Rattle.std.proofs.lemmas.List.Elements.{All-push, All-weaker}
 use Rattle.ticket_row.specs.Tickets.{Row, SeatState, IsFresh}
+use Rattle.ticket_row.proofs.Taking.{IsOf}
 use Rattle.ticket_row.proofs.tests.draw_by_two.Goals as goal
-
--- the seat is of these tickets
-abbrev IsOf : Row → SeatState → Type 0
-IsOf row seat = seat.row ≡ row
 
 -- what holds of all seats holds of the last and of those before it
 popped : (row : Row) (rest : List SeatState) (seat : SeatState) → All (IsOf row) (rest ++ seat ∷ []) → All (IsOf row) rest × IsOf row seat

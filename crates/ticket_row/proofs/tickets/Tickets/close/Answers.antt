@@ -1,14 +1,10 @@
 use Rattle.std.proofs.Common.{rules, ◌≡◌, ◌∷◌, true, ℕ, length, min, All, Any, sym, ap, ◌∙◌, subst}
 use lib.ListN.{get_elem?}
 use Rattle.std.proofs.lemmas.List.Elements.{All-head, All-tail}
-use Rattle.ticket_row.specs.Tickets.{Row, SeatState, DrawnBelow}
+use Rattle.ticket_row.specs.Tickets.{SeatState, DrawnBelow}
 use Rattle.ticket_row.proofs.Moves.{joins_as}
-use Rattle.ticket_row.proofs.Taking.{HasTaken, takes_first, takes_next, closes}
+use Rattle.ticket_row.proofs.Taking.{IsOf, HasTaken, takes_first, takes_next, closes}
 use Rattle.ticket_row.proofs.tickets.Tickets.close.Goals as goal
-
--- the seat is of these tickets
-abbrev IsOf : Row → SeatState → Type 0
-IsOf row seat = seat.row ≡ row
 
 pub loop-seat-init : goal.loop-seat-init
 loop-seat-init c =
