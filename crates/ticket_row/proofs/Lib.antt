@@ -1,0 +1,4 @@
+mod Moves
+mod Rising
+mod Taking
+pub mod Totals
