@@ -1,0 +1,9 @@
+pub mod BaseLaws
+pub mod DroppedLaws
+pub mod NegationShapes
+pub mod ProvingLaws
+pub mod PruneLaws
+pub mod TurnLaws
+pub mod TurnLoops
+pub mod WalkLaws
+pub mod WalkPaths

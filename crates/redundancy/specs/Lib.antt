@@ -1,0 +1,4 @@
+pub mod Negations
+pub mod Refutations
+pub mod Verdicts
+pub mod inner

@@ -1,0 +1,95 @@
+use Rattle.std.specs.Prelude.{ℕ, zero, suc, ◌+◌, ◌++◌, Bool, true, false, List, [], ◌∷◌, if◌then◌else◌, map, nat_lt}
+use Rattle.edit_model.specs.Parts.{SurveyParts}
+use Rattle.edit_model.specs.declared.field.Field.{Field}
+use Rattle.edit_model.specs.declared.value.Value.{Value}
+use Rattle.edit_model.specs.declared.value.Value.TheVariants.{Bad}
+use Rattle.edit_line.specs.Lines.{LineParts}
+use Rattle.derivation.specs.Premises.{usable_lines}
+use Rattle.edit_paths.specs.Cases.{Case}
+use Rattle.edit_paths.specs.Histories.{steps_to}
+use Rattle.edit_paths.specs.PathHistories.{box_history, line_history}
+use Rattle.edit_paths.specs.Paths.{field_count}
+use Rattle.edit_paths.specs.States.{state_of}
+use Rattle.edit_paths.specs.Works.{work_of}
+use Rattle.edit_paths.specs.declared.state.PathState.{PathState}
+use Rattle.edit_paths.specs.declared.state.PathState.TheVariants.{ClosedBad, ClosedBox, ClosedLine, Open, Overflows}
+use Rattle.redundancy.specs.Negations.{given_lines, usable_flags}
+use Rattle.redundancy.specs.declared.verdict.Verdict.{Verdict}
+use Rattle.redundancy.specs.declared.verdict.Verdict.TheVariants.{Dropped, Kept}
+use Rattle.redundancy.specs.declared.verdict.Why.TheVariants.{Budget, Needed, Overflow}
+
+-- Which lines are dropped: those whose negation, with the lines that are left, no point meets, as far as the walk along the path that changes every field finds it.
+
+-- ---- the walk along the path that changes every field
+
+-- the path that changes the first fields, so many
+abbrev pub changing : ℕ → List Bool
+changing zero = []
+changing (suc n) = changing n ++ true ∷ []
+
+-- what a path of the walk tells: a closed one drops the line with the steps that close it, an overflow keeps it, and after an open one the walk goes on
+abbrev pub verdict_by : Case → List Bool → PathState → Verdict → Verdict
+verdict_by c path (ClosedLine i) next = Dropped (steps_to (line_history c path) i)
+verdict_by c path (ClosedBox i) next = Dropped (steps_to (box_history c path) i)
+verdict_by c path (Overflows event) next = Kept Overflow
+verdict_by c path ClosedBad next = next
+verdict_by c path Open next = next
+
+-- the verdict, unless the work passes the budget
+abbrev pub within : ℕ → ℕ → Verdict → Verdict
+within budget work verdict = if nat_lt budget work then Kept Budget else verdict
+
+-- the verdict from the path of n fields on, with so many fields left, after so much work
+abbrev pub verdict_from : Case → ℕ → ℕ → ℕ → ℕ → Verdict
+verdict_from c budget spent n zero = within budget (spent + work_of c (changing n)) (verdict_by c (changing n) (state_of c (changing n)) (Kept Needed))
+verdict_from c budget spent n (suc left) =
+    within budget (spent + work_of c (changing n)) (verdict_by c (changing n) (state_of c (changing n)) (verdict_from c budget (spent + work_of c (changing n)) (suc n) left))
+
+-- the verdict of the walk from the empty path on
+abbrev pub verdict_of : Case → ℕ → Verdict
+verdict_of c budget = verdict_from c budget 0 0 (field_count c)
+
+-- ---- the verdicts on all lines
+
+-- the line is kept
+abbrev pub is_kept : Verdict → Bool
+is_kept (Kept why) = true
+is_kept (Dropped steps) = false
+
+-- true, so many times
+abbrev pub trues : ℕ → List Bool
+trues zero = []
+trues (suc n) = true ∷ trues n
+
+-- which lines are left when the one at a place is tried, from the verdicts on the later ones: those before it, and the later ones that are kept
+abbrev pub left_at : ℕ → List Verdict → List Bool
+left_at place later = trues place ++ false ∷ map is_kept later
+
+-- the record without values
+abbrev pub no_values : List Field → List Value
+no_values fields = map (λ f. Bad) fields
+
+-- the usable lines, each with its place among the given ones, from i on
+abbrev pub usable_from : ℕ → List LineParts → List Bool → List (ℕ × LineParts)
+usable_from i (line ∷ given) (true ∷ usable) = (i, line) ∷ usable_from (suc i) given usable
+usable_from i (line ∷ given) (false ∷ usable) = usable_from (suc i) given usable
+usable_from i _ _ = []
+
+-- the lines that are left and then the line's negation, numbered after all lines, at the record without values
+abbrev pub negation_case : SurveyParts → List LineParts → List Bool → LineParts → Case
+negation_case survey lines left line =
+    record { survey = survey; edits = usable_from 0 (given_lines lines line) (usable_flags left line); row = no_values survey.fields }
+
+-- the verdicts on the lines from a place on: the last line is tried first
+abbrev pub verdicts_from : SurveyParts → List LineParts → ℕ → ℕ → List LineParts → List Verdict
+verdicts_from survey lines budget place [] = []
+verdicts_from survey lines budget place (line ∷ later) =
+    let verdicts = verdicts_from survey lines budget (suc place) later in verdict_of (negation_case survey lines (left_at place verdicts) line) budget ∷ verdicts
+
+-- the verdicts on all lines
+abbrev pub verdicts_of : SurveyParts → List LineParts → ℕ → List Verdict
+verdicts_of survey lines budget = verdicts_from survey lines budget 0 lines
+
+-- the lines that are kept
+abbrev pub kept_lines : List LineParts → List Verdict → List LineParts
+kept_lines lines verdicts = usable_lines lines (map is_kept verdicts)

@@ -1,0 +1,72 @@
+//! The lines that the walk of a line's negation begins with.
+ghost use Rattle.std.specs.Prelude.{◌≡◌, ◌≤◌, ◌^◌, ◌++◌, ◌∷◌, [], All, IfOk, OnOk, if◌then◌else◌, length};
+ghost use Rattle.edit_line.specs.EditSets.{base_lines};
+ghost use Rattle.edit_line.specs.Lines.{IsLine};
+ghost use Rattle.edit_line.specs.Reductions.{lines_of};
+ghost use Rattle.redundancy.specs.Negations.{given_lines, usable_flags};
+ghost use Rattle.redundancy.specs.Verdicts.{usable_from};
+
+use edit_line::{Derived, Line, Origin};
+use foundation::OutOfMemory;
+use std::alloc::Global;
+
+/// The lines that are left, each with its place as its origin, and then those of the line's negation,
+/// numbered after all lines.
+pub(crate) fn base_of(
+    alloc: Global,
+    lines: &[Line],
+    left: &[bool],
+    line: &Line,
+) -> Result<Vec<Derived>, OutOfMemory>
+    requires { length left.now ≡ length lines.now }
+    ensures base { IfOk result (λ base. base.items ≡ base_lines (usable_from 0 (given_lines lines.now line.now) (usable_flags left.now line.now))) }
+    ensures lines { IfOk result (λ base. All IsLine (lines_of base.items)) }
+{
+    let negation = line.negation(alloc)?;
+    let all = vec![in alloc; true; negation.len()]?;
+    let mut base = Vec::new(alloc);
+    push_usable(alloc, &mut base, 0, lines, left)?;
+    push_usable(alloc, &mut base, lines.len() as u64, &negation, &all)?;
+    Ok(base)
+}
+
+// Puts the usable lines last, numbered from the first number on.
+fn push_usable(
+    alloc: Global,
+    base: &mut Vec<Derived>,
+    first: u64,
+    lines: &[Line],
+    usable: &[bool],
+) -> Result<(), OutOfMemory>
+    requires count { length usable.now ≡ length lines.now }
+    requires first { first ≤ 2 ^ 63 }
+    requires lines { All IsLine (lines_of base.old.items) }
+    ensures base { OnOk result (base.new.items ≡ base.old.items ++ base_lines (usable_from first lines.now usable.now)) }
+    ensures lines { All IsLine (lines_of base.new.items) }
+{
+    for (i, line) in lines.iter().enumerate() {
+        push_if(alloc, base, usable[i], first + i as u64, line)?;
+    }
+    Ok(())
+}
+
+// Puts the line last, if it is usable.
+fn push_if(
+    alloc: Global,
+    base: &mut Vec<Derived>,
+    usable: bool,
+    number: u64,
+    line: &Line,
+) -> Result<(), OutOfMemory>
+    requires { All IsLine (lines_of base.old.items) }
+    ensures base { OnOk result (base.new.items ≡ base.old.items ++ base_lines (if usable then (number, line.now) ∷ [] else [])) }
+    ensures lines { All IsLine (lines_of base.new.items) }
+{
+    if usable {
+        base.push(Derived {
+            line: line.copy(alloc)?,
+            origin: Origin::Base(number),
+        })?;
+    }
+    Ok(())
+}

@@ -1,0 +1,178 @@
+//! The steps that prove an element of a derived list: each element once, parts before the whole.
+ghost use Rattle.std.specs.Prelude.{◌≡◌, IfOk, OnOk, map};
+ghost use Rattle.std.specs.List.{list_any, position};
+ghost use Rattle.edit_paths.specs.Histories.{is_element, maker, number_in, parts_of, renumbered, steps_to, with_proof};
+
+use crate::history::History;
+use derivation::Step;
+use edit_paths::{Making, Written};
+use foundation::{OutOfMemory, Sequence};
+use std::alloc::Global;
+
+/// The steps that prove the element at this place of the last list: each element has one step, those that it
+/// is made of come before it, the first of them first.
+pub(crate) fn write_steps(
+    alloc: Global,
+    history: &History,
+    place: u64,
+) -> Result<Sequence<Step>, OutOfMemory>
+    ensures { IfOk result (λ steps. steps ≡ steps_to history.now place) }
+{
+    let mut done = Vec::new(alloc);
+    prove(alloc, history.lists(), place, &mut done)?;
+    let steps = done.into_iter().map(|one| one.step).collect(alloc)?;
+    Ok(Sequence::from_vec(steps))
+}
+
+// Appends the steps that prove the element at this place of the first of the lists, but for those that stand
+// there.
+fn prove(
+    alloc: Global,
+    lists: &[Sequence<Making>],
+    place: u64,
+    done: &mut Vec<Written>,
+) -> Result<(), OutOfMemory>
+    ensures { OnOk result (done.new.items ≡ with_proof lists.now place done.old.items) }
+{
+    let Some((list, before)) = lists.split_first() else {
+        return Ok(());
+    };
+    match list.as_slice().get(place as usize) {
+        None => {
+            prove(alloc, before, 0, done)?;
+            Ok(())
+        }
+        Some(Making::Same(earlier)) => {
+            prove(alloc, before, *earlier, done)?;
+            Ok(())
+        }
+        Some(Making::By(step)) => {
+            let element = (before.len() as u64, place);
+            if has_step(done, element) {
+                return Ok(());
+            }
+            let parts = parts_of(alloc, step)?;
+            for part in &parts {
+                prove(alloc, before, *part, done)?;
+            }
+            let step = renumbered(alloc, before, done, step)?;
+            done.push(Written { element, step })?;
+            Ok(())
+        }
+    }
+}
+
+// Whether the element has a step. No memory.
+fn has_step(done: &[Written], element: (u64, u64)) -> bool
+    ensures { result ≡ list_any (λ w. is_element w.element element) done.now }
+{
+    done.iter().any(|one| is_element(one.element, element))
+}
+
+// Whether two are the same element. No memory.
+fn is_element(first: (u64, u64), second: (u64, u64)) -> bool
+    ensures { result ≡ is_element first second }
+{
+    first.0 == second.0 && first.1 == second.1
+}
+
+// The place of the first step that proves the element. No memory.
+fn first_step(done: &[Written], element: (u64, u64)) -> Option<usize>
+    ensures { result ≡ position (λ w. is_element w.element element) done.now }
+{
+    done.iter().position(|one| is_element(one.element, element))
+}
+
+// The number of the element's step, past the end where it has none. No memory.
+fn number_of(done: &[Written], element: (u64, u64)) -> u64
+    ensures { result ≡ number_in done.now element }
+{
+    match first_step(done, element) {
+        Some(number) => number as u64,
+        None => done.len() as u64,
+    }
+}
+
+// The element at this place of the first of the lists, where it was made. No memory.
+fn maker(lists: &[Sequence<Making>], place: u64) -> (u64, u64)
+    ensures { result ≡ maker lists.now place }
+{
+    let Some((list, before)) = lists.split_first() else {
+        return (0, place);
+    };
+    match list.as_slice().get(place as usize) {
+        None => maker(before, 0),
+        Some(Making::Same(earlier)) => maker(before, *earlier),
+        Some(Making::By(_)) => (before.len() as u64, place),
+    }
+}
+
+// The places that a step builds on, in order.
+fn parts_of(alloc: Global, step: &Step) -> Result<Vec<u64>, OutOfMemory>
+    ensures { IfOk result (λ parts. parts.items ≡ parts_of step.now) }
+{
+    match step {
+        Step::Given(_) => Ok(Vec::new(alloc)),
+        Step::Combine { a, b, .. } => Ok(vec![in alloc; *a, *b]?),
+        Step::Fail(place) => Ok(vec![in alloc; *place]?),
+        Step::Cover { parts, .. } => Ok(Vec::from_slice(alloc, parts.as_slice())?),
+        Step::Fix { part, .. } => Ok(vec![in alloc; *part]?),
+    }
+}
+
+// The number of the step that proves the element at this place of the first of the lists. No memory.
+fn part_number(lists: &[Sequence<Making>], done: &[Written], place: u64) -> u64
+    ensures { result ≡ number_in done.now (maker lists.now place) }
+{
+    number_of(done, maker(lists, place))
+}
+
+// The numbers of the steps that prove the elements at these places of the first of the lists.
+fn part_numbers(
+    alloc: Global,
+    lists: &[Sequence<Making>],
+    done: &[Written],
+    parts: &[u64],
+) -> Result<Vec<u64>, OutOfMemory>
+    ensures { IfOk result (λ numbers. numbers.items ≡ map (λ i. number_in done.now (maker lists.now i)) parts.now) }
+{
+    Ok(
+        parts
+            .iter()
+            .map(|part| part_number(lists, done, *part))
+            .collect(alloc)?,
+    )
+}
+
+// The step, with the numbers of the steps that prove its parts.
+fn renumbered(
+    alloc: Global,
+    lists: &[Sequence<Making>],
+    done: &[Written],
+    step: &Step,
+) -> Result<Step, OutOfMemory>
+    ensures { IfOk result (λ with. with ≡ renumbered (λ i. number_in done.now (maker lists.now i)) step.now) }
+{
+    match step {
+        Step::Given(number) => Ok(Step::Given(*number)),
+        Step::Combine { a, m, b, n, g } => Ok(Step::Combine {
+            a: part_number(lists, done, *a),
+            m: *m,
+            b: part_number(lists, done, *b),
+            n: *n,
+            g: *g,
+        }),
+        Step::Fail(place) => Ok(Step::Fail(part_number(lists, done, *place))),
+        Step::Cover { field, parts } => {
+            let numbers = part_numbers(alloc, lists, done, parts.as_slice())?;
+            Ok(Step::Cover {
+                field: *field,
+                parts: Sequence::from_vec(numbers),
+            })
+        }
+        Step::Fix { field, part } => Ok(Step::Fix {
+            field: *field,
+            part: part_number(lists, done, *part),
+        }),
+    }
+}

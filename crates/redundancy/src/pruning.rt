@@ -1,0 +1,109 @@
+ghost use Rattle.std.specs.Prelude.{◌≡◌, ◌<◌, ℕ, suc, All, IfOk, List, Some, drop, false, length, slice_get, slice_set};
+ghost use Rattle.edit_model.specs.Rows.{IsRow};
+ghost use Rattle.derivation.specs.Premises.{usable_lines};
+ghost use Rattle.derivation.specs.declared.step.Step.{Step as Proofstep};
+ghost use Rattle.edit_line.specs.Lines.{AreOver, Follows, IsLine, LineParts};
+ghost use Rattle.edit_line.specs.Reductions.{IsIn};
+ghost use Rattle.edit_line.specs.Shapes.{shape_of};
+ghost use Rattle.redundancy.specs.Negations.{refutation_of};
+ghost use Rattle.redundancy.specs.Refutations.{CanFail, RefutedBy};
+ghost use Rattle.redundancy.specs.Verdicts.{is_kept, kept_lines, left_at, negation_case, no_values, verdict_of, verdicts_of};
+ghost use Rattle.redundancy.specs.declared.verdict.Verdict.TheVariants.{Dropped, Kept};
+ghost use Rattle.redundancy.specs.declared.verdict.Why.TheVariants.{Needed};
+
+use crate::base::base_of;
+use crate::verdict::Verdict;
+use crate::walk::verdict_of;
+use edit_line::Line;
+use edit_model::{Row, Survey, Value};
+use foundation::OutOfMemory;
+use std::alloc::Global;
+
+/// The verdict on each line. They are tried from the last to the first: a line is dropped where the lines
+/// that are left then refute its negation, by elimination of all fields with this much work at most. The
+/// lines are over the survey's fields.
+pub fn prune(
+    alloc: Global,
+    survey: &Survey,
+    lines: &[Line],
+    budget: u64,
+) -> Result<Vec<Verdict>, OutOfMemory>
+    requires over { AreOver (shape_of survey.now.fields) lines.now }
+    ensures exact { IfOk result (λ verdicts. verdicts.items ≡ verdicts_of survey.now lines.now budget) }
+    ensures needed { IfOk result (λ verdicts. (j : ℕ) (line : LineParts)
+        → slice_get lines.now j ≡ Some line → slice_get verdicts.items j ≡ Some (Kept Needed)
+        → CanFail survey.now.fields (usable_lines lines.now (left_at j (drop (suc j) verdicts.items))) line) }
+    ensures steps { IfOk result (λ verdicts. (j : ℕ) (line : LineParts) (steps : List Proofstep)
+        → slice_get lines.now j ≡ Some line → slice_get verdicts.items j ≡ Some (Dropped steps)
+        → RefutedBy (refutation_of (shape_of survey.now.fields) lines.now (left_at j (drop (suc j) verdicts.items)) line (no_values survey.now.fields)) steps) }
+    ensures follow { IfOk result (λ verdicts. (line : LineParts) → IsIn line lines.now → Follows (kept_lines lines.now verdicts.items) line) }
+{
+    read_lines(lines);
+    let row = record_without_values(alloc, survey)?;
+    let mut left = vec![in alloc; true; lines.len()]?;
+    let mut verdicts = Vec::new(alloc);
+    let mut place = lines.len();
+    while place > 0 {
+        place -= 1;
+        let verdict = try_line(alloc, survey, &row, lines, &mut left, place, budget)?;
+        verdicts.insert(0, verdict)?;
+    }
+    let _well_formed = survey.fields(); // read for what it says: each categorical field has a code
+    Ok(verdicts)
+}
+
+// Reads the lines for what they say: each is in form.
+fn read_lines(lines: &[Line])
+    ensures { All IsLine lines.now }
+{
+    for line in lines {
+        let _in_form = line.sets();
+    }
+}
+
+// The record without values.
+fn record_without_values(alloc: Global, survey: &Survey) -> Result<Row, OutOfMemory>
+    ensures values { IfOk result (λ row. row ≡ no_values survey.now.fields) }
+    ensures row { IfOk result (λ row. IsRow survey.now.fields row) }
+{
+    let values = vec![in alloc; Value::Bad; survey.fields().len()]?;
+    Ok(Row::new(survey, values))
+}
+
+// The verdict on the line at the place, from the lines that are left but for itself; if it is dropped, it is
+// left no more.
+fn try_line(
+    alloc: Global,
+    survey: &Survey,
+    row: &Row,
+    lines: &[Line],
+    left: &mut Vec<bool>,
+    place: usize,
+    budget: u64,
+) -> Result<Verdict, OutOfMemory>
+    requires over { AreOver (shape_of survey.now.fields) lines.now }
+    requires values { row.now ≡ no_values survey.now.fields }
+    requires row { IsRow survey.now.fields row.now }
+    requires count { length left.old.items ≡ length lines.now }
+    requires place { place < length lines.now }
+    ensures verdict { IfOk result (λ verdict. (line : LineParts) → slice_get lines.now place ≡ Some line
+        → verdict ≡ verdict_of (negation_case survey.now lines.now (slice_set left.old.items place false) line) budget) }
+    ensures left { IfOk result (λ verdict. left.new.items ≡ slice_set left.old.items place (is_kept verdict)) }
+{
+    let _well_formed = survey.fields(); // read for what it says
+    left[place] = false;
+    let base = base_of(alloc, lines, left, &lines[place])?;
+    let verdict = verdict_of(alloc, survey, row, base, budget)?;
+    left[place] = is_kept(&verdict);
+    Ok(verdict)
+}
+
+// Whether the line is kept.
+fn is_kept(verdict: &Verdict) -> bool
+    ensures { result ≡ is_kept verdict.now }
+{
+    match verdict {
+        Verdict::Kept(_) => true,
+        Verdict::Dropped(_) => false,
+    }
+}

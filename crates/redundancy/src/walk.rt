@@ -1,0 +1,279 @@
+//! The walk along the path that changes every field: the numerical fields are eliminated in declared
+//! order, and then the categorical ones, until something absurd is left, or nothing, or the budget is
+//! passed.
+ghost use Rattle.std.specs.Prelude.{◌≡◌, ◌≤◌, ◌+◌, [], All, IfNone, IfOk, List, None, Ok};
+ghost use Rattle.edit_model.specs.Rows.{IsRow};
+ghost use Rattle.edit_line.specs.CodeFields.{TakesCodes};
+ghost use Rattle.edit_line.specs.Lines.{HaveShape};
+ghost use Rattle.edit_line.specs.Reductions.{lines_of, reduce_derived};
+ghost use Rattle.edit_line.specs.Shapes.{Domain, code_fields, shape_of, whole_sets};
+ghost use Rattle.edit_line.specs.Subsumption.{has_no_factor, is_enough, is_false};
+ghost use Rattle.linear_elim.specs.Steps.{OneShape, pairs_count, step_result};
+ghost use Rattle.categ_combine.specs.BoxLists.{AreBoxesOver, HaveCodeField, sets_of};
+ghost use Rattle.categ_combine.specs.Covers.{cover_count, covered_from};
+ghost use Rattle.categ_combine.specs.FailingBoxes.{failing_from};
+ghost use Rattle.edit_paths.specs.Histories.{steps_to, with_boxes, with_lines};
+ghost use Rattle.redundancy.specs.declared.verdict.Verdict.TheVariants.{Dropped};
+ghost use Rattle.redundancy.specs.inner.Turns.{box_walk, closing_box, closing_line, code_end, code_walk, ended_by, lines_verdict, number_end};
+
+use crate::history::History;
+use crate::proving::write_steps;
+use crate::verdict::{Verdict, Why};
+use categ_combine::{BoxFault, BoxFrom, Covered, boxes_of, cat_step};
+use edit_line::{Derived, Line, Shape, reduce};
+use edit_model::{Row, Survey};
+use foundation::OutOfMemory;
+use linear_elim::{StepFault, pairs, step};
+use std::alloc::Global;
+
+// The walk over the numerical fields: the lines that are left, how they were made, and the work so far.
+#[derive(Drop)]
+struct NumberWalk {
+    lines: Vec<Derived>,
+    history: History,
+    spent: u64,
+}
+
+// The walk over the categorical fields.
+#[derive(Drop)]
+struct CodeWalk {
+    boxes: Vec<BoxFrom>,
+    history: History,
+    spent: u64,
+}
+
+/// The verdict of the walk over the lines of a negation.
+pub(crate) fn verdict_of(
+    alloc: Global,
+    survey: &Survey,
+    row: &Row,
+    base: Vec<Derived>,
+    budget: u64,
+) -> Result<Verdict, OutOfMemory>
+    requires row { IsRow survey.now.fields row.now }
+    requires over { HaveShape (shape_of survey.now.fields) (lines_of base.items) }
+    ensures { IfOk result (λ verdict. verdict ≡ lines_verdict (shape_of survey.now.fields) row.now budget (reduce_derived base.items)) }
+{
+    if budget == 0 {
+        return Ok(Verdict::Kept(Why::Budget));
+    }
+    let wholes = Shape::of(survey).whole_sets(alloc)?;
+    let mut walk = first_walk(alloc, base)?;
+    for field in survey.numbers() {
+        if let Some(verdict) = number_turn(alloc, &wholes, &mut walk, *field, budget)? {
+            return Ok(verdict);
+        }
+    }
+    boxes_verdict(alloc, survey, row, &wholes, walk, budget)
+}
+
+// The walk at the empty path.
+fn first_walk(alloc: Global, base: Vec<Derived>) -> Result<NumberWalk, OutOfMemory>
+    ensures lines { IfOk result (λ walk. walk.lines.items ≡ reduce_derived base.items) }
+    ensures history { IfOk result (λ walk. walk.history ≡ with_lines [] (reduce_derived base.items)) }
+    ensures spent { IfOk result (λ walk. walk.spent ≡ 1) }
+{
+    let lines = reduce(alloc, base)?;
+    let mut history = History::new(alloc);
+    history.add_lines(alloc, &lines)?;
+    Ok(NumberWalk {
+        lines,
+        history,
+        spent: 1,
+    })
+}
+
+// The verdict, if the walk ends before the field is eliminated or in that step; and else the next lines.
+fn number_turn(
+    alloc: Global,
+    wholes: &[u64],
+    walk: &mut NumberWalk,
+    field: u32,
+    budget: u64,
+) -> Result<Option<Verdict>, OutOfMemory>
+    requires shape { OneShape walk.old.lines.items }
+    requires spent { walk.old.spent ≤ budget }
+    ensures ended { IfOk result (λ told. told ≡ number_end wholes.now budget walk.old.spent walk.old.history walk.old.lines.items field) }
+    ensures lines { IfOk result (λ told. IfNone told (step_result walk.old.lines.items field ≡ Ok walk.new.lines.items)) }
+    ensures history { IfOk result (λ told. IfNone told (walk.new.history ≡ with_lines walk.old.history walk.new.lines.items)) }
+    ensures spent { IfOk result (λ told. IfNone told (walk.new.spent ≡ walk.old.spent + (1 + pairs_count walk.old.lines.items field))) }
+    ensures few { IfOk result (λ told. IfNone told (walk.new.spent ≤ budget)) }
+{
+    if let Some(place) = closing_line(wholes, &walk.lines) {
+        return Ok(Some(dropped(alloc, &walk.history, place)?));
+    }
+    let pairs = pairs(&walk.lines, field);
+    if pairs >= u128::from(budget - walk.spent) {
+        return Ok(Some(Verdict::Kept(Why::Budget)));
+    }
+    match step(alloc, &walk.lines, field) {
+        Ok(lines) => {
+            walk.history.add_lines(alloc, &lines)?;
+            walk.lines = lines;
+            walk.spent += 1 + pairs as u64;
+            Ok(None)
+        }
+        Err(StepFault::Overflow { .. }) => Ok(Some(Verdict::Kept(Why::Overflow))),
+        Err(StepFault::OutOfMemory) => Err(OutOfMemory),
+    }
+}
+
+// The place of the first false line of all codes.
+fn closing_line(wholes: &[u64], lines: &[Derived]) -> Option<usize>
+    ensures { result ≡ closing_line wholes.now lines.now }
+{
+    lines.iter().position(|derived| derived.line.sets() == wholes && is_false(&derived.line))
+}
+
+// Whether no numerical field stands in the line, and it does not hold.
+fn is_false(line: &Line) -> bool
+    ensures { result ≡ is_false line.now }
+{
+    !is_enough(line.strict(), line.constant()) && has_no_factor(line)
+}
+
+// Whether no numerical field stands in the line.
+fn has_no_factor(line: &Line) -> bool
+    ensures { result ≡ has_no_factor line.now }
+{
+    line.factors().iter().all(|factor| *factor == 0)
+}
+
+// Whether a number is above 0, or, where it need not be strictly, at least 0.
+fn is_enough(strict: bool, number: i128) -> bool
+    ensures { result ≡ is_enough strict number }
+{
+    if strict { number > 0 } else { number >= 0 }
+}
+
+// The verdict of the walk where all numerical fields are eliminated.
+fn boxes_verdict(
+    alloc: Global,
+    survey: &Survey,
+    row: &Row,
+    wholes: &[u64],
+    walk: NumberWalk,
+    budget: u64,
+) -> Result<Verdict, OutOfMemory>
+    requires over { All (λ derived. derived.line.shape ≡ shape_of survey.now.fields) walk.lines.items }
+    requires row { IsRow survey.now.fields row.now }
+    requires wholes { wholes.now ≡ whole_sets (shape_of survey.now.fields) }
+    requires spent { walk.spent ≤ budget }
+    ensures { IfOk result (λ verdict. verdict ≡ box_walk (shape_of survey.now.fields) budget walk.spent walk.history walk.lines.items (failing_from 0 walk.lines.items row.now [])) }
+{
+    match boxes_of(alloc, survey, &walk.lines, row) {
+        Ok(boxes) => verdict_with_boxes(alloc, survey, wholes, walk, boxes, budget),
+        Err(BoxFault::Overflow { .. }) => Ok(Verdict::Kept(Why::Overflow)),
+        Err(BoxFault::OutOfMemory) => Err(OutOfMemory),
+    }
+}
+
+// The verdict of the walk from these boxes on.
+fn verdict_with_boxes(
+    alloc: Global,
+    survey: &Survey,
+    wholes: &[u64],
+    walk: NumberWalk,
+    boxes: Vec<BoxFrom>,
+    budget: u64,
+) -> Result<Verdict, OutOfMemory>
+    requires wholes { wholes.now ≡ whole_sets (shape_of survey.now.fields) }
+    requires over { AreBoxesOver (shape_of survey.now.fields) boxes.items }
+    requires spent { walk.spent ≤ budget }
+    ensures { IfOk result (λ verdict. verdict ≡ box_walk (shape_of survey.now.fields) budget walk.spent walk.history walk.lines.items (Ok boxes.items)) }
+{
+    if let Some(place) = closing_line(wholes, &walk.lines) {
+        return dropped(alloc, &walk.history, place);
+    }
+    let mut history = walk.history;
+    history.add_boxes(alloc, 0, &boxes)?;
+    let walk = CodeWalk {
+        boxes,
+        history,
+        spent: walk.spent,
+    };
+    codes_verdict(alloc, survey, wholes, walk, budget)
+}
+
+// The verdict of the walk over the categorical fields.
+fn codes_verdict(
+    alloc: Global,
+    survey: &Survey,
+    wholes: &[u64],
+    mut walk: CodeWalk,
+    budget: u64,
+) -> Result<Verdict, OutOfMemory>
+    requires wholes { wholes.now ≡ whole_sets (shape_of survey.now.fields) }
+    requires over { AreBoxesOver (shape_of survey.now.fields) walk.boxes.items }
+    requires spent { walk.spent ≤ budget }
+    ensures { IfOk result (λ verdict. verdict ≡ code_walk (shape_of survey.now.fields) budget walk.spent walk.history walk.boxes.items (code_fields (shape_of survey.now.fields))) }
+{
+    let _well_formed = survey.fields(); // read for what it says: each categorical field has a code
+    for field in survey.codes() {
+        if let Some(verdict) = code_turn(alloc, wholes, &mut walk, *field, budget)? {
+            return Ok(verdict);
+        }
+    }
+    Ok(Verdict::Kept(Why::Needed))
+}
+
+// The verdict, if the walk ends in the elimination of the field; and else the next boxes.
+fn code_turn(
+    alloc: Global,
+    wholes: &[u64],
+    walk: &mut CodeWalk,
+    field: u32,
+    budget: u64,
+) -> Result<Option<Verdict>, OutOfMemory>
+    requires field { HaveCodeField walk.old.boxes.items field }
+    requires spent { walk.old.spent ≤ budget }
+    ensures ended { IfOk result (λ told. (shape : List Domain) → wholes.now ≡ whole_sets shape → AreBoxesOver shape walk.old.boxes.items → TakesCodes shape field
+        → told ≡ code_end shape budget walk.old.spent walk.old.history walk.old.boxes.items field) }
+    ensures boxes { IfOk result (λ told. IfNone told ((shape : List Domain) → AreBoxesOver shape walk.old.boxes.items → TakesCodes shape field
+        → walk.new.boxes.items ≡ covered_from shape walk.old.boxes.items field)) }
+    ensures history { IfOk result (λ told. IfNone told (walk.new.history ≡ with_boxes walk.old.history field walk.new.boxes.items)) }
+    ensures spent { IfOk result (λ told. IfNone told ((shape : List Domain) → AreBoxesOver shape walk.old.boxes.items → TakesCodes shape field
+        → walk.new.spent ≡ walk.old.spent + (1 + cover_count shape (sets_of walk.old.boxes.items) field))) }
+    ensures few { IfOk result (λ told. IfNone told (walk.new.spent ≤ budget)) }
+{
+    if walk.spent == budget {
+        return Ok(Some(Verdict::Kept(Why::Budget)));
+    }
+    match cat_step(alloc, &walk.boxes, field, budget - walk.spent - 1)? {
+        Covered::Passed => Ok(Some(Verdict::Kept(Why::Budget))),
+        Covered::Done { boxes, pairs } => {
+            walk.boxes = boxes.into_vec();
+            walk.history.add_boxes(alloc, field, &walk.boxes)?;
+            walk.spent += 1 + pairs;
+            closed_by_box(alloc, wholes, walk)
+        }
+    }
+}
+
+// The verdict, if a box of all codes is left.
+fn closed_by_box(
+    alloc: Global,
+    wholes: &[u64],
+    walk: &CodeWalk,
+) -> Result<Option<Verdict>, OutOfMemory>
+    ensures { IfOk result (λ told. told ≡ ended_by walk.now.history (closing_box wholes.now walk.now.boxes.items) None) }
+{
+    match closing_box(wholes, &walk.boxes) {
+        Some(place) => Ok(Some(dropped(alloc, &walk.history, place)?)),
+        None => Ok(None),
+    }
+}
+
+// The place of the first box of all codes.
+fn closing_box(wholes: &[u64], boxes: &[BoxFrom]) -> Option<usize>
+    ensures { result ≡ closing_box wholes.now boxes.now }
+{
+    boxes.iter().position(|b| b.sets() == wholes)
+}
+
+// The verdict that the element at this place of the last list drops the line.
+fn dropped(alloc: Global, history: &History, place: usize) -> Result<Verdict, OutOfMemory>
+    ensures { IfOk result (λ verdict. verdict ≡ Dropped (steps_to history.now place)) }
+{
+    Ok(Verdict::Dropped(write_steps(alloc, history, place as u64)?))
+}
