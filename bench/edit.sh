@@ -1,16 +1,21 @@
 #!/bin/bash
-# Times `edit` over a business survey of 16 fields and 30 rules, and over a labour force survey beside a branch and bound.
+# Times `edit` and the `check` of what it wrote, over a business survey of 16 fields and 30 rules, and over a labour force
+# survey beside a branch and bound.
 #
 # usage: bench/edit.sh [ROWS..]      (default: 50000 100000 200000)
 #
 # The business survey (bench/yardstick/business_survey.py): about one row in 20 has a wrong number. Each line has the
 # rows, how many of them were changed, the MiB of the record file, the seconds, the rows a second, and the peak bytes of
-# memory for each byte of input. Time and memory should grow in proportion to the rows.
+# memory for each byte of input. Time and memory should grow in proportion to the rows. Then come the seconds of `check`
+# on the files that were just written, and what share that is of the time of `edit`: of the seconds of the processor,
+# which say more than those of the clock where the machine has other work. A check reads the proof and goes through its
+# steps, and neither searches nor eliminates; it is to take at most half the time of the edit.
 #
 # The labour force survey (bench/yardstick/labour_survey.py): 22 fields, 65 rules and 1,000 records, of which 256
 # break a rule. The line has the processor's seconds of `edit`, which finds the least sets of fields with their
-# certificates, gives values and writes two files; and those of the branch and bound in doubles
-# (bench/yardstick/branch_and_bound.cpp), which finds the weights alone; the best of five runs each.
+# certificates, gives values and writes three files; those of the branch and bound in doubles
+# (bench/yardstick/branch_and_bound.cpp), which finds the weights alone; and those of `check` on the files that the edit
+# wrote, with its share of the edit's: small, since most of the edit is search; the best of five runs each.
 set -eu
 top=$(cd "$(dirname "$0")/.." && pwd)
 program="$top/crates/edit_program/out/edit_program"
@@ -18,15 +23,21 @@ yardstick="$top/bench/yardstick"
 work=$(mktemp -d)
 trap 'rm -rf "$work"' EXIT
 
-edit() {
-    "$program" edit --rules "$work/rules" --records "$work/records" --released "$work/released" --reasons "$work/reasons"
+edit_words=(edit --rules "$work/rules" --records "$work/records" --released "$work/released" --reasons "$work/reasons" --proof "$work/proof")
+check_words=(check --rules "$work/rules" --records "$work/records" --released "$work/released" --proof "$work/proof")
+
+# Runs the program with these words, and puts what it prints, its status and what it used into the file `measured`.
+measure() {
+    python3 "$yardstick/measure.py" "$program" "$@" >"$work/measured"
+    read -r status seconds peak processor < <(tail -n 1 "$work/measured")
+    [ "$status" = 0 ] || { head -n 1 "$work/measured" >&2; echo "the program ended with status $status" >&2; exit 1; }
 }
 
 # The best seconds, of the processor, of five runs of a command.
 best() {
     local TIMEFORMAT='%U %S'
     for _ in 1 2 3 4 5; do
-        { time "$@" >"$work/printed" 2>"$work/said"; } 2>&1 || { cat "$work/said" >&2; exit 1; }
+        { time "$@" >"$work/printed" 2>"$work/said"; } 2>&1 || { cat "$work/printed" "$work/said" >&2; exit 1; }
     done | awk '{ print $1 + $2 }' | sort -n | head -n 1
 }
 
@@ -35,22 +46,22 @@ for rows in "${@:-50000 100000 200000}"; do
     for count in $rows; do
         python3 "$yardstick/business_survey.py" --rules "$work/rules" --records "$work/records" --rows "$count" --one-in 20
         size=$(stat -c %s "$work/records")
-        python3 "$yardstick/measure.py" "$program" edit --rules "$work/rules" --records "$work/records" \
-            --released "$work/released" --reasons "$work/reasons" >"$work/measured"
-        summary=$(head -n 1 "$work/measured")
-        read -r status seconds peak < <(tail -n 1 "$work/measured")
-        [ "$status" = 0 ] || { echo "the program ended with status $status" >&2; exit 1; }
-        awk -v n="$count" -v size="$size" -v s="$seconds" -v p="$peak" -v line="$summary" 'BEGIN {
-            split(line, words, " ")
-            printf "business: %d rows, %d changed, %.1f MiB: %.2f s, %d rows a second, %.1f bytes a byte\n", n, words[6], size / 1048576, s, n / s, p / size
+        measure "${edit_words[@]}"
+        changed=$(awk 'NR == 1 { print $6 }' "$work/measured")
+        edited="$seconds $peak $processor"
+        measure "${check_words[@]}"
+        echo "$edited $seconds $processor" | awk -v n="$count" -v changed="$changed" -v size="$size" '{
+            printf "business: %d rows, %d changed, %.1f MiB: %.2f s, %d rows a second, %.1f bytes a byte; check %.2f s, %.2f of edit\n", \
+                n, changed, size / 1048576, $1, n / $1, $2 / size, $4, $5 / $3
         }'
     done
 done
 
 g++ -O3 -march=native -std=c++17 -o "$work/yardstick" "$yardstick/branch_and_bound.cpp"
 python3 "$yardstick/labour_survey.py" --rules "$work/rules" --records "$work/records" --rows 1000
-ours=$(best edit)
+ours=$(best "$program" "${edit_words[@]}")
 theirs=$(best "$work/yardstick" --rules "$work/rules" --records "$work/records" --out "$work/weights")
-awk -v ours="$ours" -v theirs="$theirs" 'BEGIN {
-    printf "labour: program %.3f s | branch and bound %.3f s | %.1f times as long\n", ours, theirs, ours / theirs
+check=$(best "$program" "${check_words[@]}")
+awk -v ours="$ours" -v theirs="$theirs" -v check="$check" 'BEGIN {
+    printf "labour: program %.3f s | branch and bound %.3f s | %.1f times as long | check %.3f s, %.2f of edit\n", ours, theirs, ours / theirs, check, check / ours
 }'

@@ -5,8 +5,11 @@
 # usage: bench/hostile.sh [SEED]      (default: 1)
 #
 # Each run has to end with a status of the README's table, never by a signal, and within a time that grows with
-# the files and their wrong values; where nothing was released, the file under that name has to be as it was. Where the
-# rules of a file say which status is right, it has to be that one. A line for each group of cases counts them
+# the files and their wrong values; where nothing was released, the files under the three names that `edit` writes have to
+# be as they were. Where the rules of a file say which status is right, it has to be that one. What an edit wrote is checked,
+# and has to be valid, with as many records as it counted: after each edit, and of the random, cut and changed files
+# after each fourth that released something. The group `proofs` has rules, records and released files that are right,
+# and proofs that are not. A line for each group of cases counts the runs and how many of them were checks,
 # and names the slowest; the first failure is printed with its files, and ends the script with status 1.
 set -eu
 top=$(cd "$(dirname "$0")/.." && pwd)

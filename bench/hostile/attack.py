@@ -2,15 +2,18 @@
 
 Usage: attack.py PROGRAM EXAMPLES SEED
 """
+import os
 import pathlib
 import random
+import re
 import subprocess
 import sys
 import tempfile
 import time
 
 MOST_BYTES = 67108864
-STATUSES = {0, 1, 2, 3, 4, 5, 6, 7, 8}
+MOST_PROOF_BYTES = 536870912
+STATUSES = set(range(10))
 RELEASED = {0, 1}
 
 # Two seconds, and one more for each 4 MiB of input.
@@ -22,7 +25,17 @@ SECONDS_A_WRONG_VALUE = 5e-6
 
 # What stands in the files that are written, before a run.
 BEFORE = b"what stood here before\n"
-WRITTEN = ("reasons", "released")
+WRITTEN = ("proof", "reasons", "released")
+CHECKED = ("rules", "records", "released", "proof")
+
+EDIT = ["edit", "--rules", "rules", "--records", "records", "--reasons", "reasons", "--released", "released", "--proof", "proof"]
+CHECK = ["check", "--rules", "rules", "--records", "records", "--released", "released", "--proof", "proof"]
+
+# Of the small files that are changed in thousands of ways, every so many edits that end with 0 or 1 are checked too.
+CHECK_EVERY = 4
+
+SUMMARY = re.compile(r"records (\d+) clean (\d+) changed (\d+) unresolved (\d+) weight \d+\n")
+REJECTED = re.compile(r"fault: proof line (\d+) (Grammar|Head|Drop|Cert|RowText|Claims)\n")
 
 
 class Failed(Exception):
@@ -30,49 +43,50 @@ class Failed(Exception):
 
 
 class Attack:
-    """The program, a folder for its files, and the count and the slowest run of the present group."""
+    """The program, a folder for its files, and the counts and the slowest run of the present group."""
 
     def __init__(self, program, folder):
         self.program = program
         self.folder = pathlib.Path(folder)
         self.begin("")
 
-    def begin(self, group):
-        self.group, self.count, self.slowest, self.seen = group, 0, 0.0, {}
+    def begin(self, group, check_every=1):
+        self.group, self.check_every = group, check_every
+        self.count, self.checks, self.released, self.slowest, self.seen = 0, 0, 0, 0.0, {}
 
     def end(self):
         seen = " ".join(f"{status}:{count}" for status, count in sorted(self.seen.items()))
-        print(f"{self.group}: {self.count} runs, slowest {self.slowest:.2f} s, statuses {seen}", flush=True)
+        print(f"{self.group}: {self.count} runs, {self.checks} of them checks, slowest {self.slowest:.2f} s, statuses {seen}", flush=True)
 
     def words(self, words, expected, size=0, wrong_values=0):
-        """Runs the program with these words; expected are the statuses that are right."""
+        """Runs the program with these words; expected are the statuses that are right. The answer is the status and what is printed."""
         begin = time.perf_counter()
         allowed = SECONDS + size * SECONDS_A_BYTE + wrong_values * SECONDS_A_WRONG_VALUE
         try:
-            run = subprocess.run([self.program, *words], stdout=subprocess.DEVNULL, stderr=subprocess.DEVNULL,
+            run = subprocess.run([self.program, *words], stdout=subprocess.PIPE, stderr=subprocess.DEVNULL,
                                  cwd=self.folder, timeout=20 * allowed + 10)
         except subprocess.TimeoutExpired:
             raise Failed(f"{self.group}: no end after {20 * allowed + 10:.0f} seconds")
         seconds = time.perf_counter() - begin
         self.count += 1
+        self.checks += words[:1] == ["check"]
         self.slowest = max(self.slowest, seconds)
         self.seen[run.returncode] = self.seen.get(run.returncode, 0) + 1
         if run.returncode not in STATUSES:
             raise Failed(f"{self.group}: the program ended with {run.returncode}")
         if run.returncode not in expected:
-            raise Failed(f"{self.group}: status {run.returncode} in place of one of {sorted(expected)}")
+            raise Failed(f"{self.group}: status {run.returncode} in place of one of {sorted(expected)}; it printed {run.stdout[:200]}")
         if seconds > allowed:
             raise Failed(f"{self.group}: {seconds:.2f} s for {size} bytes")
-        return run.returncode
+        return run.returncode, run.stdout.decode(errors="replace")
 
     def files(self, rules, records, expected, wrong_values=0):
-        """Runs `edit` on these two files; wrong_values is how many of their values have to change."""
+        """Runs `edit` on these two files, and perhaps `check` on what it wrote; wrong_values is how many of their values have to change."""
         (self.folder / "rules").write_bytes(rules)
         (self.folder / "records").write_bytes(records)
         for name in WRITTEN:
             (self.folder / name).write_bytes(BEFORE)
-        words = ["edit", "--rules", "rules", "--records", "records", "--reasons", "reasons", "--released", "released"]
-        status = self.words(words, expected, len(rules) + len(records), wrong_values)
+        status, printed = self.words(EDIT, expected, len(rules) + len(records), wrong_values)
         for name in WRITTEN:
             left = (self.folder / name).read_bytes()
             if (left == BEFORE) == (status in RELEASED):
@@ -80,6 +94,44 @@ class Attack:
         for name, bytes_before in (("rules", rules), ("records", records)):
             if (self.folder / name).read_bytes() != bytes_before:
                 raise Failed(f"{self.group}: the file {name} was changed")
+        if status in RELEASED:
+            if self.released % self.check_every == 0:
+                self.check_edit(printed, expected & {7}, wrong_values)
+            self.released += 1
+        return status
+
+    def check_edit(self, summary, refused, wrong_values):
+        """Runs `check` on what an edit wrote, which printed this summary. It is valid, but where a file that was written is longer than one that is read."""
+        told = SUMMARY.fullmatch(summary)
+        if not told:
+            raise Failed(f"{self.group}: the edit printed {summary!r}")
+        is_long = self.size("released") > MOST_BYTES or self.size("proof") > MOST_PROOF_BYTES
+        status, printed = self.check({8 if is_long else 0} | refused, wrong_values)
+        if status == 0 and printed != f"valid records {told[1]} released {int(told[2]) + int(told[3])}\n":
+            raise Failed(f"{self.group}: the edit printed {summary!r}, and the check {printed!r}")
+
+    def check(self, expected, wrong_values=0):
+        """Runs `check` on the files as they stand. It changes none of them, and tells a line of the proof, or the one behind its last."""
+        before = self.state()
+        status, printed = self.words(CHECK, expected, sum(self.size(name) for name in CHECKED), wrong_values)
+        if self.state() != before:
+            raise Failed(f"{self.group}: the check changed a file")
+        if status == 9:
+            told = REJECTED.fullmatch(printed)
+            if not told or int(told[1]) > (self.folder / "proof").read_bytes().count(b"\n") + 1:
+                raise Failed(f"{self.group}: the check printed {printed!r}")
+        return status, printed
+
+    def proof(self, proof, expected):
+        """Runs `check` with this proof file."""
+        (self.folder / "proof").write_bytes(proof)
+        self.check(expected)
+
+    def size(self, name):
+        return (self.folder / name).stat().st_size
+
+    def state(self):
+        return [(file.name, file.stat().st_size, file.stat().st_mtime_ns) for file in sorted(self.folder.iterdir())]
 
 
 ANY = {0, 1, 3, 4}
@@ -93,7 +145,7 @@ def pairs(examples):
 
 
 def random_files(attack, examples, dice):
-    attack.begin("random bytes")
+    attack.begin("random bytes", CHECK_EVERY)
     alphabets = [bytes(range(256)), b"number code weight scale in not if and then AB01.{},+-*<>=# \t\n\r",
                  b'AB,"\n\r 01-/.', bytes([0xEF, 0xBB, 0xBF, 10, 44, 34])]
     rules, records = next(iter(pairs(examples)))
@@ -107,7 +159,7 @@ def random_files(attack, examples, dice):
 
 
 def cut_files(attack, examples, dice):
-    attack.begin("cut off anywhere")
+    attack.begin("cut off anywhere", CHECK_EVERY)
     for rules, records in pairs(examples):
         for length in range(len(rules)):
             attack.files(rules[:length], records, ANY)
@@ -117,7 +169,7 @@ def cut_files(attack, examples, dice):
 
 
 def changed_files(attack, examples, dice):
-    attack.begin("one byte changed")
+    attack.begin("one byte changed", CHECK_EVERY)
     for rules, records in pairs(examples):
         for text, is_rules in ((rules, True), (records, False)):
             for place in range(len(text)):
@@ -161,6 +213,12 @@ def limits(attack, examples, dice):
     both(lambda n: b"number A scale %d\n" % n, lambda n: one, 10 ** 12, 0, 3)
     both(lambda n: b"number A\nA <= %d\n" % n, lambda n: one, 10 ** 15, 0, 3)
     both(lambda n: b"number A\n%d A >= 0\n" % n, lambda n: one, 10 ** 9, 0, 3)
+    for name, most in (("released", MOST_BYTES), ("proof", MOST_PROOF_BYTES)):
+        attack.files(plain, one, {0})
+        os.truncate(attack.folder / name, most)
+        attack.check({9})
+        os.truncate(attack.folder / name, most + 1)
+        attack.check({8})
     attack.end()
 
 
@@ -186,26 +244,115 @@ def hard_files(attack, examples, dice):
     attack.end()
 
 
+# A proof of the change of B in the record 3,4,x to the rule A + B = 10.
+SUM_PROOF = b"""fh-proof 1
+limit 1 near 5 budget 1000000
+lines 2
+keep
+keep
+records 1
+change 1 KCK 3
+line KK 1
+given 1
+bound KC
+bound C
+claims 0
+end
+"""
+
+PROOF_BYTES = b"\n 0129-KCbdx\x00\xff"
+PROOF_WORDS = b"fh-proof limit near lines keep drop records clean change claims end given combine bound line K C - 0 1 2 18446744073709551616 \n \n"
+
+
+def proofs(attack, examples, dice):
+    """Proof files of the examples that are random, cut off or changed in a byte; and large ones, of one kind of line."""
+    attack.begin("proofs")
+    for rules, records in pairs(examples):
+        if attack.files(rules, records, ANY) not in RELEASED:
+            continue
+        proof = (attack.folder / "proof").read_bytes()
+        for _ in range(200):
+            attack.proof(random_proof(dice, proof.splitlines(True)), {0, 9})
+        for length in some(range(len(proof)), dice):
+            attack.proof(proof[:length], {9})
+        for place in some(range(len(proof)), dice):
+            attack.proof(proof[:place] + bytes([dice.choice(PROOF_BYTES)]) + proof[place + 1:], {0, 9})
+    attack.files(b"number A\nnumber B\ncode C in {x, y}\nA + B = 10\n", b"A,B,C\n3,4,x\n", {0})
+    for proof, expected in large_proofs(MOST_BYTES // 4):
+        attack.proof(proof, expected)
+    attack.end()
+
+
+def some(places, dice):
+    """All places, or a thousand of them where there are more."""
+    return places if len(places) <= 1000 else sorted(dice.sample(places, 1000))
+
+
+def random_proof(dice, lines):
+    """Bytes, or words of the grammar, or lines of a proof behind its first four, in no order."""
+    count = dice.choice([1, 10, 100, 1000])
+    return dice.choice([lambda: bytes(dice.randrange(256) for _ in range(count)),
+                        lambda: b" ".join(dice.choice(PROOF_WORDS.split(b" ")) for _ in range(count)),
+                        lambda: b"".join(lines[:4] + [dice.choice(lines) for _ in range(count)])])()
+
+
+def large_proofs(size):
+    """The proof of the sum as it is, and then with many lines of one kind, or a long one, in the place of some of it."""
+    def many(text):
+        return text * (size // len(text))
+
+    def counted(head, text):
+        return head + b" %d\n" % text.count(b"\n") + text
+
+    def with_text(before, text):
+        assert before in SUM_PROOF
+        return SUM_PROOF.replace(before, text)
+
+    def leaf(head, *steps):
+        return with_text(b"line KK 1\ngiven 1\n", counted(head, b"".join(steps)))
+
+    given, fail = b"given 1\n", b"given 1\nfail 1\n"
+    yield SUM_PROOF, {0}
+    yield leaf(b"line KK", many(given)), {0}
+    yield leaf(b"line KK", given, many(b"combine 1 1 1 1 2\n")), {0}
+    yield leaf(b"box KK", given, many(b"fail 1\n")), {0}
+    yield leaf(b"box KK", fail, many(b"cover 3 2 2\n")), {0}
+    yield leaf(b"box KK", fail, many(b"fix 3 2\n")), {9}
+    yield leaf(b"line KK", given, b"cover 3" + many(b" 1") + b"\n"), {9}
+    yield with_text(b"change 1 KCK 3\nline KK 1\ngiven 1\nbound KC\nbound C\n", counted(b"change 1 KCK", many(b"bound -\n"))), {9}
+    yield with_text(b"bound C\n", b"bound " + many(b"C") + b"\n"), {9}
+    yield with_text(given, b"given " + many(b"1") + b"\n"), {9}
+    yield with_text(given, b"given" + many(b" ") + b"1\n"), {9}
+    yield with_text(b"lines 2\nkeep\nkeep\n", counted(b"lines", many(b"keep\n"))), {9}
+    yield with_text(b"lines 2\n", b"lines 4000000000\n"), {9}
+    yield with_text(b"claims 0\n", counted(b"claims", many(b"claim 1 0\n"))), {9}
+    yield SUM_PROOF + many(b"\n"), {9}
+
+
 def words(attack, examples, dice):
     attack.begin("words and names")
-    (attack.folder / "rules").write_bytes(b"number A\n")
-    (attack.folder / "records").write_bytes(b"A\n1\n")
+    attack.files(b"number A\n", b"A\n1\n", {0})
     (attack.folder / "folder").mkdir()
-    good = ["edit", "--rules", "rules", "--records", "records", "--reasons", "why", "--released", "other"]
-    attack.words(good, {0})
-    for length in range(len(good)):
-        attack.words(good[:length], {2})
-    for place in range(len(good)):
-        for word in ("", "-", "--", "--rules", "edit", "rules", "\u00e9", "x" * 100000):
-            attack.words(good[:place] + [word] + good[place + 1:], STATUSES - {1})
-        attack.words(good[:place] + [good[place]] + good[place:], {2})
-    for place, status in ((2, 5), (4, 5), (6, 6), (8, 6)):
-        for name in ("missing/file", "folder", "rules/file"):
-            attack.words(good[:place] + [name] + good[place + 1:], {status})
+    for good, options in ((EDIT, [("--rules", 5), ("--records", 5), ("--reasons", 6), ("--released", 6), ("--proof", 6)]),
+                          (CHECK, [("--rules", 5), ("--records", 5), ("--released", 5), ("--proof", 5)])):
+        attack.words(good, {0})
+        for length in range(len(good)):
+            attack.words(good[:length], {2})
+        for place in range(len(good)):
+            for word in ("", "-", "--", "--rules", "edit", "check", "rules", "\u00e9", "x" * 100000):
+                attack.words(good[:place] + [word] + good[place + 1:], STATUSES - {1})
+            attack.words(good[:place] + [good[place]] + good[place:], {2})
+        for option, status in options:
+            place = good.index(option) + 1
+            for name in ("missing/file", "folder", "rules/file"):
+                attack.words(good[:place] + [name] + good[place + 1:], {status})
+        attack.words(good + ["--help"], {2})
+        attack.words(good + ["--proof", "another"], {2})
+        attack.words([good[0].encode(), b"--rules", b"\xff"], {2})
     for budget, status in (("1", 1), ("2", 0), ("007", 0), ("1000000000", 0), ("0", 2), ("1000000001", 2), ("99999999999", 2), ("+5", 2), ("", 2), ("1e3", 2)):
-        attack.words(good + ["--budget", budget], {status})
-    attack.words(good + ["--help"], {2})
-    attack.words([b"edit", b"--rules", b"\xff"], {2})
+        attack.words(EDIT + ["--budget", budget], {status})
+    attack.words(CHECK + ["--budget", "5"], {2})
+    attack.words(CHECK + ["--reasons", "why"], {2})
     attack.end()
 
 
@@ -214,7 +361,7 @@ def main():
     with tempfile.TemporaryDirectory() as folder:
         attack = Attack(program, folder)
         try:
-            for group in (words, random_files, cut_files, changed_files, limits, hard_files):
+            for group in (words, random_files, cut_files, changed_files, proofs, limits, hard_files):
                 group(attack, examples, random.Random(seed))
         except Failed as failure:
             kept = pathlib.Path(tempfile.mkdtemp(prefix="hostile-"))

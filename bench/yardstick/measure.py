@@ -1,4 +1,4 @@
-"""Runs a command and prints its exit status, its seconds and its peak memory in bytes.
+"""Runs a command and prints its exit status, its seconds, its peak memory in bytes, and the seconds of the processor.
 
 Usage: measure.py COMMAND WORD..
 """
@@ -10,5 +10,5 @@ import time
 begin = time.perf_counter()
 status = subprocess.run(sys.argv[1:]).returncode
 seconds = time.perf_counter() - begin
-peak = resource.getrusage(resource.RUSAGE_CHILDREN).ru_maxrss * 1024
-print(status, f"{seconds:.3f}", peak)
+used = resource.getrusage(resource.RUSAGE_CHILDREN)
+print(status, f"{seconds:.3f}", used.ru_maxrss * 1024, f"{used.ru_utime + used.ru_stime:.3f}")
