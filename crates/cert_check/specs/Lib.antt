@@ -1,3 +1,4 @@
+pub mod Dropped
 pub mod Places
 pub mod Released
 pub mod Releases

@@ -1,5 +1,5 @@
 -- A valid release: a proof file and a released file that are right for rules and records.
-use Rattle.std.specs.Prelude.{◌≡◌, ◌≢◌, ◌⊎◌, ℕ, ◌+◌, ◌==◌, ◌&&◌, nat_le, not, Bool, false, if◌then◌else◌, List, [], ◌∷◌, Option, Some, None, is_none, is_some, length, map, option_map, position}
+use Rattle.std.specs.Prelude.{◌≡◌, ◌≢◌, ◌⊎◌, ℕ, ◌+◌, ◌==◌, ◌&&◌, nat_le, not, Bool, false, if◌then◌else◌, List, [], ◌∷◌, Option, Some, None, is_none, length}
 use Rattle.std.specs.List.{AllByRecursion, filter}
 use Rattle.edit_model.specs.Parts.{SurveyParts}
 use Rattle.edit_model.specs.declared.value.Value.{Value}
@@ -14,6 +14,7 @@ use Rattle.proof_grammar.specs.FirstFaults.{IsFirstFault}
 use Rattle.proof_grammar.specs.Limits.{IsPlain}
 use Rattle.proof_grammar.specs.ProofLines.{proof_text, row_lines}
 use Rattle.proof_grammar.specs.declared.proof.Proof.{Proof}
+use Rattle.cert_check.specs.Dropped.{drop_fault, kept_flags}
 use Rattle.cert_check.specs.Places.{claims_line, records_line}
 use Rattle.cert_check.specs.RowChecks.{IsRowFault, IsValidRow, RowFiles, RowRules}
 use Rattle.cert_check.specs.declared.fault.Why.{Why}
@@ -50,10 +51,6 @@ head_fault a p =
     else if not (length p.rows == length a.sheet.rows) then Some (records_line p)
     else None
 
--- the first line that says that a line of the rules is dropped; none may be
-abbrev pub dropped_line : Proof → Option ℕ
-dropped_line p = option_map (λ place. 4 + place) (position is_some p.verdicts)
-
 -- ---- the released file
 
 -- whether a record is released: it is clean, or changed and was given values
@@ -79,7 +76,7 @@ pub record AreReleased (a : Audit) (p : Proof) (rows : List (List (List ℕ))) :
 -- by what the records are checked
 abbrev pub rules_of : Audit → Proof → RowRules
 rules_of a p =
-    record { survey = a.survey; given = normal_lines_of a.survey; usable = map is_none p.verdicts; columns = a.sheet.columns; budget = p.budget }
+    record { survey = a.survey; given = normal_lines_of a.survey; usable = kept_flags p; columns = a.sheet.columns; budget = p.budget }
 
 -- the next of the released rows, if the record is released
 abbrev pub next_texts : RowProof → List (List (List ℕ)) → Option (List (List ℕ))
@@ -110,11 +107,11 @@ IsFaultAmong r _ _ _ released offset why = ⊥
 
 -- ---- a valid release
 
--- the proof fits the rules and the records: its limits and counts do, and no line is dropped
+-- the proof fits the rules and the records: its limits and counts do, and each line of the rules that it drops is refuted
 pub record Fits (a : Audit) (p : Proof) : Type 0 where
   pub spelled : Spells a.proof p
   pub head : head_fault a p ≡ None
-  pub kept : dropped_line p ≡ None
+  pub dropped : drop_fault a.survey p ≡ None
 
 -- the files are a valid release: the proof fits, the released rows are those that it tells of, what it says of each record is right, and no donor is claimed
 pub record IsValidRelease (a : Audit) : Type 0 where
@@ -151,7 +148,7 @@ IsNotReleased a line = ((p : Proof) × Fits a p × ((rows : List (List (List ℕ
 abbrev pub IsFirstFailure : Audit → ℕ → Why → Type 0
 IsFirstFailure a line why.Grammar = IsFirstFault a.proof line
 IsFirstFailure a line why.Head = OfProof a (λ p. head_fault a p ≡ Some line)
-IsFirstFailure a line why.Drop = OfProof a (λ p. (head_fault a p ≡ None) × (dropped_line p ≡ Some line))
+IsFirstFailure a line why.Drop = OfProof a (λ p. (head_fault a p ≡ None) × (drop_fault a.survey p ≡ Some line))
 IsFirstFailure a line why.Cert = IsRecordFault a line why.Cert
 IsFirstFailure a line why.RowText = IsNotReleased a line ⊎ IsRecordFault a line why.RowText
 IsFirstFailure a line why.Claims =

@@ -5,11 +5,16 @@ use Rattle.edit_model.specs.Parts.{SurveyParts}
 use Rattle.edit_model.specs.Points.{Point}
 use Rattle.edit_model.specs.RowPoints.{Agrees}
 use Rattle.edit_model.specs.declared.value.Value.{Value}
+use Rattle.edit_line.specs.Lines.{Follows, LineParts}
+use Rattle.edit_line.specs.Reductions.{IsIn}
+use Rattle.edit_normal.specs.RuleLines.{normal_lines_of}
+use Rattle.derivation.specs.Premises.{usable_lines}
 use Rattle.bound_cert.specs.Paths.{changes}
 use Rattle.bound_cert.specs.declared.outcome.GiftFault.{GiftFault}
 use Rattle.bound_cert.specs.declared.outcome.Outcome.{Outcome}
 use Rattle.bound_cert.specs.declared.outcome.Outcome.TheVariants.{Change, Contradictory}
 use Rattle.bound_cert.specs.declared.outcome.RowProof.{RowProof}
+use Rattle.cert_check.specs.Dropped.{kept_flags}
 use Rattle.cert_check.specs.Released.{AreValuesFrom, text_at}
 use Rattle.cert_check.specs.Releases.{Audit, AreReleased, Spells, behind, files_of}
 use Rattle.cert_check.specs.RowChecks.{RowFiles}
@@ -43,10 +48,11 @@ ShowAll survey columns (said ∷ saids) (reads ∷ raws) (row ∷ rows) released
     ShowsSaid survey columns (files_of said reads row released) said.outcome said.gift × ShowAll survey columns saids raws rows (behind said released)
 ShowAll survey columns _ _ _ released = ⊥
 
--- what the files show: the released rows are corrections of least weight, and contradictions are none
+-- what the files show: each line of the rules follows from those that are kept, the released rows are corrections of least weight, and contradictions are none
 pub record Shows (a : Audit) : Type 0 where
   pub proof : Proof
   pub spelled : Spells a.proof proof
+  pub follow : (line : LineParts) → IsIn line (normal_lines_of a.survey) → Follows (usable_lines (normal_lines_of a.survey) (kept_flags proof)) line
   pub rows : List (List (List ℕ))
   pub released : AreReleased a proof rows
   pub each : ShowAll a.survey a.sheet.columns proof.rows a.sheet.raws a.sheet.rows rows

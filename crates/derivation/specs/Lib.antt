@@ -1,4 +1,5 @@
 pub mod Premises
+pub mod Refutations
 pub mod Shown
 pub mod Texts
 pub mod ValidSteps

@@ -1,11 +1,11 @@
 -- What an edit makes of the records of a survey.
-use Rattle.std.specs.Prelude.{◌≡◌, ⊤, ℕ, zero, Bool, true, List, [], Option, Some, None, map}
+use Rattle.std.specs.Prelude.{◌≡◌, ⊤, ℕ, zero, Bool, List, [], Option, Some, None, map}
 use Rattle.std.specs.List.{AllZip}
 use Rattle.derivation.specs.declared.step.Step.{Step}
-use Rattle.edit_line.specs.Lines.{LineParts}
+use Rattle.edit_line.specs.Lines.{Follows, LineParts}
+use Rattle.edit_line.specs.Reductions.{IsIn}
 use Rattle.edit_model.specs.Parts.{SurveyParts}
 use Rattle.edit_model.specs.declared.value.Value.{Value}
-use Rattle.edit_normal.specs.RuleEdits.{rule_edits}
 use Rattle.edit_normal.specs.RuleLines.{normal_lines_of}
 use Rattle.bound_cert.specs.ValidTrees.{IsValidTree, tree_case}
 use Rattle.bound_cert.specs.declared.cert.Cert.{Cert}
@@ -23,6 +23,10 @@ use Rattle.edit_report.specs.Summaries.{summary_of}
 use Rattle.edit_report.specs.declared.end.RowEnd.{RowEnd}
 use Rattle.record_workers.specs.Ends.{IsEndOf}
 use Rattle.record_workers.specs.Said.{Says}
+use Rattle.redundancy.specs.Verdicts.{kept_lines}
+use Rattle.redundancy.specs.declared.verdict.Verdict.{Verdict}
+use Rattle.redundancy.specs.declared.verdict.Verdict.TheVariants.{Dropped, Kept}
+use Rattle.pruned_rules.specs.Pruned.{kept_edits, rule_flags, rule_verdicts}
 
 -- ---- the proof
 
@@ -35,24 +39,21 @@ said_of outcome gift = record { outcome = outcome; gift = gift }
 abbrev pub said : RowEnd → RowProof
 said end = said_of end.proof.outcome end.proof.gift
 
--- each line of the rules is kept
-abbrev pub all_kept : List LineParts → List (Option (List Step))
-all_kept lines = map (λ (line : LineParts). None) lines
+-- what the proof says of a line of the rules: nothing where it is kept, and else the steps that refute its negation
+abbrev pub refutation_by : Verdict → Option (List Step)
+refutation_by (Kept why) = None
+refutation_by (Dropped steps) = Some steps
 
 -- the proof of an edit: no donor is given more than once, and none is claimed
 abbrev pub proof_of : SurveyParts → ℕ → List RowEnd → Proof
 proof_of survey budget ends =
-    record { limit = 1; near = 5; budget = budget; verdicts = all_kept (normal_lines_of survey); rows = map said ends; claims = [] }
+    record { limit = 1; near = 5; budget = budget; verdicts = map refutation_by (rule_verdicts survey); rows = map said ends; claims = [] }
 
 -- ---- proof trees
 
--- every line may be used
-abbrev pub all_usable : List LineParts → List Bool
-all_usable lines = map (λ (line : LineParts). true) lines
-
--- the tree of a record is valid over the lines of the rules, with this weight or with none
+-- the tree of a record is valid over the lines of the rules that are kept, with this weight or with none
 abbrev pub IsTreeOf : SurveyParts → List Value → Option ℕ → Cert → Type 0
-IsTreeOf survey row weight cert = IsValidTree (tree_case survey (normal_lines_of survey) (all_usable (normal_lines_of survey)) row weight) cert.leaves
+IsTreeOf survey row weight cert = IsValidTree (tree_case survey (normal_lines_of survey) (rule_flags survey) row weight) cert.leaves
 
 -- a change is shown by a valid tree of its weight, and a contradiction by one without a weight
 abbrev pub HasTree : SurveyParts → List Value → Outcome → Type 0
@@ -72,10 +73,15 @@ pub record Written : Type 0 where
   pub released : List ℕ
   pub summary : List ℕ
 
--- the edit of a sheet within a budget: what becomes of each record, what this says of it in terms of corrections, and the tree that shows it; what is written and printed of all; and that the files are a valid release
+-- each line of the rules that is dropped follows from those that are kept
+abbrev pub DroppedFollow : SurveyParts → Type 0
+DroppedFollow survey = (line : LineParts) → IsIn line (normal_lines_of survey) → Follows (kept_lines (normal_lines_of survey) (rule_verdicts survey)) line
+
+-- the edit of a sheet within a budget: each dropped line of the rules follows from the kept ones; what becomes of each record, what this says of it in terms of corrections, and the tree that shows it; what is written and printed of all; and that the files are a valid release
 pub record IsEditOf (survey : SurveyParts) (sheet : SheetParts) (budget : ℕ) (ends : List RowEnd) (written : Written) : Type 0 where
-  pub each : AllZip (IsEndOf survey (rule_edits survey) budget) sheet.rows ends
-  pub say : AllZip (Says survey (rule_edits survey) budget) sheet.rows ends
+  pub dropped : DroppedFollow survey
+  pub each : AllZip (IsEndOf survey (kept_edits survey) budget) sheet.rows ends
+  pub say : AllZip (Says survey (kept_edits survey) budget) sheet.rows ends
   pub shown : AllZip (IsShown survey) sheet.rows ends
   pub proof : written.proof ≡ proof_text (proof_of survey budget ends)
   pub reasons : written.reasons ≡ reasons_text_of survey sheet ends

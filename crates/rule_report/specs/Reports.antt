@@ -1,0 +1,49 @@
+-- What is printed of the lines of a survey's rules.
+use Rattle.std.specs.Prelude.{ℕ, suc, ◌++◌, List, [], ◌∷◌, codes, map}
+use Rattle.std.specs.Fmt.{decimal}
+use Rattle.edit_model.specs.Parts.{SurveyParts}
+use Rattle.edit_model.specs.declared.field.Field.{Field}
+use Rattle.edit_line.specs.Lines.{LineParts}
+use Rattle.edit_normal.specs.RuleLines.{normal_lines_of}
+use Rattle.derivation.specs.declared.step.Step.{Step}
+use Rattle.proof_grammar.specs.ProofLines.{step_line, words_text}
+use Rattle.redundancy.specs.declared.verdict.Verdict.{Verdict}
+use Rattle.redundancy.specs.declared.verdict.Verdict.TheVariants.{Dropped, Kept}
+use Rattle.redundancy.specs.declared.verdict.Why.{Why}
+use Rattle.redundancy.specs.declared.verdict.Why.TheVariants.{Budget, Needed, Overflow}
+use Rattle.pruned_rules.specs.Pruned.{rule_verdicts}
+use Rattle.rule_report.specs.LineTexts.{line_text}
+
+-- why a line is kept
+abbrev pub why_text : Why → List ℕ
+why_text Needed = codes "needed"
+why_text Budget = codes "budget"
+why_text Overflow = codes "overflow"
+
+-- what becomes of a line
+abbrev pub verdict_text : Verdict → List ℕ
+verdict_text (Kept why) = codes "kept " ++ why_text why
+verdict_text (Dropped steps) = codes "dropped"
+
+-- the step of a refutation, as in a proof file, behind two spaces
+abbrev pub step_text : Step → List ℕ
+step_text step = codes "  " ++ words_text (step_line step)
+
+-- the steps that refute the negation of a dropped line
+abbrev pub steps_of : Verdict → List Step
+steps_of (Kept why) = []
+steps_of (Dropped steps) = steps
+
+-- of one line: its number, what becomes of it and what it says; and then the steps, if it is dropped
+abbrev pub texts_of : List Field → ℕ → LineParts → Verdict → List (List ℕ)
+texts_of fields number line verdict =
+    (decimal number ++ codes " " ++ verdict_text verdict ++ codes " " ++ line_text fields line) ∷ map step_text (steps_of verdict)
+
+-- of the lines from this number on
+abbrev pub texts_from : List Field → ℕ → List LineParts → List Verdict → List (List ℕ)
+texts_from fields number (line ∷ lines) (verdict ∷ verdicts) = texts_of fields number line verdict ++ texts_from fields (suc number) lines verdicts
+texts_from fields number _ _ = []
+
+-- of all lines of a survey's rules, numbered from 1
+abbrev pub report_of : SurveyParts → List (List ℕ)
+report_of survey = texts_from survey.fields 1 (normal_lines_of survey) (rule_verdicts survey)
