@@ -1,10 +1,10 @@
 pub mod CaseLaws
 pub mod CoherentLaws
 pub mod ColumnTexts
+pub mod DroppedLaws
 pub mod EventLaws
 pub mod GiftFaults
 pub mod GivenValues
-pub mod NormalLines
 pub mod OutcomeLaws
 pub mod ReadBackLaws
 pub mod ReleaseLaws
