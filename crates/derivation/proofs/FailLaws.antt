@@ -1,6 +1,4 @@
-use Rattle.std.proofs.Common.{◌≡◌, ◌≢◌, ℕ, ◌||◌, not, Bool, true, false, List, [], ◌∷◌, Result, Ok, Err, ℤ, pos, refl, ap, ◌∙◌}
-use Rattle.std.specs.Ordering.{int_eq}
-use Rattle.std.proofs.lemmas.Bool.Decides.{Decides-int_eq}
+use Rattle.std.proofs.Common.{◌≡◌, ◌≢◌, ℕ, not, Bool, true, List, Result, Ok, Err, ap, ◌∙◌}
 use Rattle.edit_model.specs.FieldSets.{has_number}
 use Rattle.edit_model.specs.Points.{Point}
 use Rattle.edit_model.specs.RowPoints.{Agrees}
@@ -14,7 +12,6 @@ use Rattle.edit_line.specs.Shapes.{codes_at, number_fields, shape_of}
 use Rattle.edit_line.specs.Sums.{AtFactors, HasNumbers, fails_at, stands_only}
 use Rattle.edit_line.proofs.FactorLaws.{AtFactors-map, AtFactors-only}
 use Rattle.edit_line.proofs.Enough.{is_enough-Decides}
-use Rattle.edit_line.proofs.BoolLaws.{both_true}
 use Rattle.edit_line.proofs.SumCallers.{numbers-held}
 use Rattle.edit_line.proofs.SumLaws.{fails_at-truth}
 use Rattle.derivation.specs.Premises.{AgreesAt, HasKept}

@@ -1,9 +1,8 @@
-use Rattle.std.proofs.Common.{◌≡◌, ℕ, ◌<◌, ◌≤◌, Bool, true, not, List, All, length, ap, ◌∙◌, sym, arith}
+use Rattle.std.proofs.Common.{◌≡◌, ℕ, ◌<◌, ◌≤◌, true, not, List, length, ap, ◌∙◌, sym, arith}
 use Rattle.edit_model.specs.Corrections as corrections
 use Rattle.edit_model.specs.Corrections.{is_numerical}
 use Rattle.edit_model.specs.Rows.{IsRow}
 use Rattle.edit_model.specs.declared.field.Field.{Field}
-use Rattle.edit_model.specs.declared.field.Kind.{Kind}
 use Rattle.edit_model.specs.declared.value.Value.{Value}
 use Rattle.edit_model.proofs.OrderLaws.{field-below}
 use Rattle.edit_model.proofs.RowLaws as rows

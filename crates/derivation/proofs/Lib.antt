@@ -4,7 +4,9 @@ pub mod CoverLaws
 pub mod FailLaws
 pub mod FieldNumbers
 pub mod FourFields
+pub mod NegationShapes
 pub mod Places
+pub mod RefutationLaws
 pub mod Soundness
 pub mod StepLoop
 pub mod WholeBoxes

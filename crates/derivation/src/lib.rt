@@ -2,6 +2,7 @@
 //! given line, combines two lines, turns a line that fails at a record into a box of codes that are
 //! forbidden, or makes a box from boxes. Begin with [`check_steps`]: it accepts a list exactly where each
 //! step is valid (`specs/ValidSteps.antt`), and what the last step proves then follows (`specs/Shown.antt`).
+//! Steps that refute the negation of a line show the line (`specs/Refutations.antt`).
 #![tactic(auto)]
 
 mod basis;
@@ -15,10 +16,12 @@ mod fixing;
 mod given;
 mod known;
 mod proved;
+mod refuting;
 mod step;
 
 pub use check::check_steps;
 pub use failing::fails_at_kept;
 pub use fault::StepsFault;
 pub use proved::Proved;
+pub use refuting::{is_false, record_without_values};
 pub use step::Step;

@@ -1,6 +1,7 @@
 pub mod LineSteps
 pub mod MeaningLaws
 pub mod NormalLaws
+pub mod NormalLines
 pub mod Pushes
 pub mod RuleEditLaws
 pub mod RuleForms

@@ -14,5 +14,5 @@ mod side;
 
 pub use edits::rule_edits;
 pub use meaning::normal_form_law;
-pub use normal::normal_lines;
+pub use normal::{lines_of_rules, normal_lines};
 pub use rule_line::RuleLine;

@@ -8,6 +8,7 @@ ghost use Rattle.edit_normal.specs.RuleLines.{LinesHold, lines_from, normal_line
 use crate::layout::Layout;
 use crate::rule_line::RuleLine;
 use crate::rule_lines::push_rule;
+use edit_line::Line;
 use edit_model::Survey;
 use foundation::OutOfMemory;
 use std::alloc::Global;
@@ -30,6 +31,21 @@ pub fn normal_lines(alloc: Global, survey: &Survey) -> Result<Vec<RuleLine>, Out
     let mut lines = Vec::new(alloc);
     for (number, rule) in survey.rules().iter().enumerate() {
         push_rule(alloc, &layout, number as u32, rule, &mut lines)?;
+    }
+    Ok(lines)
+}
+
+/// The lines of all rules, in order, without the numbers of their rules; at most 1000.
+pub fn lines_of_rules(alloc: Global, survey: &Survey) -> Result<Vec<Line>, OutOfMemory>
+    ensures lines { IfOk result (λ lines. lines.items ≡ normal_lines_of survey.now) }
+    ensures over { IfOk result (λ lines. AreOver (shape_of survey.now.fields) lines.items) }
+    ensures few { IfOk result (λ lines. length lines.items ≤ 1000) }
+{
+    let _few = survey.rules(); // read for what it says: there are at most 500
+    let numbered = normal_lines(alloc, survey)?;
+    let mut lines = Vec::with_capacity(alloc, numbered.len())?;
+    for rule_line in numbered {
+        lines.push(rule_line.line)?;
     }
     Ok(lines)
 }

@@ -15,7 +15,7 @@ use Rattle.edit_normal.proofs.RuleEditLaws.{placed-edits, placed-lines}
 use Rattle.linear_elim.proofs.ResultLaws.{base-plain}
 use Rattle.edit_paths.specs.Cases.{AreGiven, IsCase, case_of}
 use Rattle.edit_release.specs.Edits.{all_usable}
-use Rattle.edit_release.proofs.NormalLines.{normal-lines, normal-over}
+use Rattle.edit_normal.proofs.NormalLines.{normal-lines, normal-over}
 
 -- A survey's rules, as edits, and one of its records.
 

@@ -4,7 +4,6 @@ pub mod ColumnTexts
 pub mod EventLaws
 pub mod GiftFaults
 pub mod GivenValues
-pub mod NormalLines
 pub mod OutcomeLaws
 pub mod ReadBackLaws
 pub mod ReleaseLaws

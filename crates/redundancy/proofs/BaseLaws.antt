@@ -20,12 +20,12 @@ use Rattle.edit_line.proofs.NegationLines.{negation-lines}
 use Rattle.edit_line.proofs.ReductionLaws.{all-reduced}
 use Rattle.linear_elim.proofs.ResultLaws.{base-plain}
 use Rattle.linear_elim.proofs.ShapeLaws.{HaveShape-lines}
+use Rattle.derivation.specs.Refutations.{given_lines, no_values, trues, usable_flags}
+use Rattle.derivation.proofs.RefutationLaws.{given-over, row-no_values}
 use Rattle.edit_paths.specs.Cases.{IsCase}
-use Rattle.redundancy.specs.Negations.{given_lines, usable_flags}
-use Rattle.redundancy.specs.Verdicts.{is_kept, left_at, negation_case, no_values, trues, usable_from, verdict_of, verdicts_from}
+use Rattle.redundancy.specs.Verdicts.{is_kept, left_at, negation_case, usable_from, verdict_of, verdicts_from}
 use Rattle.redundancy.specs.declared.verdict.Verdict.{Verdict}
 use Rattle.redundancy.specs.inner.Turns.{lines_verdict}
-use Rattle.redundancy.proofs.NegationShapes.{negation-over}
 use Rattle.redundancy.proofs.WalkLaws.{verdict-walk}
 
 -- The lines that the walk of a line's negation begins with.
@@ -77,14 +77,6 @@ pub flags-are : (lines : List LineParts) → replicate (length lines) true ≡ m
 flags-are [] = refl
 flags-are (l ∷ lines) = ap (λ (bs : List Bool). true ∷ bs) (flags-are lines)
 
-pub values-are : (fields : List Field) → replicate (length fields) Bad ≡ no_values fields
-values-are [] = refl
-values-are (f ∷ fields) = ap (λ (vs : List Value). Bad ∷ vs) (values-are fields)
-
-pub row-no_values : (fields : List Field) → IsRow fields (no_values fields)
-row-no_values [] = tt
-row-no_values (f ∷ fields) = (tt, row-no_values fields)
-
 pub verdicts-count : (survey : SurveyParts) (lines : List LineParts) (budget place : ℕ) (later : List LineParts) → length (verdicts_from survey lines budget place later) ≡ length later
 verdicts-count survey lines budget place [] = refl
 verdicts-count survey lines budget place (l ∷ later) = ap suc (verdicts-count survey lines budget (suc place) later)
@@ -133,10 +125,8 @@ module _ (survey : SurveyParts) (are_fields : All IsField survey.fields) (lines 
   edits = usable_from 0 (given_lines lines line) (usable_flags left line)
 
   edits-over : (e : ℕ × LineParts) → IsIn e edits → e.1.shape ≡ shape_of survey.fields
-  edits-over e there = elim (in-either e.1 lines (negation_of line) (usable-given 0 (given_lines lines line) (usable_flags left line) e there).0) [
-    | inl given ↦ in-all (λ (l : LineParts). l.shape ≡ shape_of survey.fields) e.1 lines over given
-    | inr negated ↦ negation-over line e.1 negated ∙ in-all (λ (l : LineParts). l.shape ≡ shape_of survey.fields) line lines over at
-  ]
+  edits-over e there =
+      in-all (λ (l : LineParts). l.shape ≡ shape_of survey.fields) e.1 (given_lines lines line) (given-over survey.fields lines line over at) (usable-given 0 (given_lines lines line) (usable_flags left line) e there).0
 
   module _ (base : List Derived) (is : base ≡ base_lines edits) (are : All IsLine (lines_of base)) where
     pub base-shape : HaveShape (shape_of survey.fields) (lines_of base)

@@ -1,6 +1,4 @@
 pub mod BaseLaws
-pub mod DroppedLaws
-pub mod NegationShapes
 pub mod ProvingLaws
 pub mod PruneLaws
 pub mod TurnLaws

@@ -1,5 +1,5 @@
-use Rattle.std.proofs.Common.{◌≡◌, ◌&&◌, ◌⊎◌, inl, inr, ℕ, zero, suc, ◌+◌, Bool, true, false, not, if◌then◌else◌, nat_lt, List, [], ◌∷◌, ◌++◌, All, IsTrue, Option, Some, None, Result, Ok, drop, length, map, slice_get, slice_index_or, refl, sym, ap, ◌∙◌, subst, arith}
-use Rattle.std.specs.Cmp.Lexicographic.{same_text}
+use Rattle.std.proofs.Common.{◌≡◌, ◌&&◌, ◌⊎◌, inl, inr, ℕ, zero, suc, ◌+◌, ◌<◌, Bool, true, false, not, if◌then◌else◌, nat_lt, List, [], ◌∷◌, ◌++◌, All, IsTrue, Option, Some, None, Result, Ok, drop, length, map, slice_get, slice_index_or, refl, sym, ap, ◌∙◌, subst, arith}
+use Rattle.std.proofs.lemmas.List.{drop-map, length-map}
 use Rattle.fraction128.specs.Formulas.{then_some}
 use Rattle.edit_model.specs.FieldSets.{has_number}
 use Rattle.edit_model.specs.Parts.{SurveyParts}
@@ -14,15 +14,17 @@ use Rattle.edit_line.specs.Reductions.{IsIn}
 use Rattle.edit_line.specs.Shapes.{Domain, HasCodes, number_fields, shape_of, whole_sets}
 use Rattle.edit_line.specs.Subsumption.{has_no_factor, is_enough, is_false}
 use Rattle.edit_line.specs.Sums.{fails_at, stands_only}
-use Rattle.edit_line.proofs.BoolLaws.{both_true}
+use Rattle.edit_line.proofs.BoolLaws.{both_true, true-both}
 use Rattle.edit_line.proofs.Members.{all-in, in-all, in-get, in-left, in-right}
 use Rattle.edit_line.proofs.NegationLaws.{negation-fails}
 use Rattle.edit_line.proofs.ShapeLaws.{HasCodes-shape}
 use Rattle.derivation.specs.Premises.{Premises, usable_lines}
+use Rattle.derivation.specs.Refutations.{RefutedBy, given_lines, is_absurd, left_before, no_values, refutation_of, usable_flags}
 use Rattle.derivation.specs.ValidSteps.{AreValidSteps, given_line, steps_result}
 use Rattle.derivation.specs.declared.proved.Proved.{Proved}
 use Rattle.derivation.specs.declared.proved.Proved.TheVariants as proved
 use Rattle.derivation.specs.declared.step.Step.{Step}
+use Rattle.derivation.proofs.RefutationLaws.{get-below, kept-follow, length-left, row-no_values}
 use Rattle.bound_cert.specs.Paths.{keeps}
 use Rattle.edit_paths.specs.Cases.{Case, IsCase}
 use Rattle.edit_paths.specs.Histories.{steps_to}
@@ -36,14 +38,12 @@ use Rattle.edit_paths.proofs.BadFields.{is-bad}
 use Rattle.edit_paths.proofs.ClosingSteps.{closing-box, closing-line}
 use Rattle.edit_paths.proofs.LineHistories.{AreUsable}
 use Rattle.edit_paths.proofs.OpenPaths.{open-point}
-use Rattle.redundancy.specs.Negations.{given_lines, refutation_of, usable_flags}
-use Rattle.redundancy.specs.Refutations.{CanFail, IsAbsurdOver, RefutedBy}
-use Rattle.redundancy.specs.Verdicts.{changing, kept_lines, left_at, negation_case, no_values, usable_from, verdict_by, verdict_from, verdict_of, verdicts_from, within}
+use Rattle.redundancy.specs.NeededLines.{CanFail}
+use Rattle.redundancy.specs.Verdicts.{changing, is_kept, kept_lines, left_at, negation_case, usable_from, verdict_by, verdict_from, verdict_of, verdicts_from, within}
 use Rattle.redundancy.specs.declared.verdict.Verdict.{Verdict}
 use Rattle.redundancy.specs.declared.verdict.Verdict.TheVariants.{Dropped, Kept}
 use Rattle.redundancy.specs.declared.verdict.Why.TheVariants.{Budget, Needed}
-use Rattle.redundancy.proofs.BaseLaws.{IsTried, line-is_case, row-no_values, verdicts-count}
-use Rattle.redundancy.proofs.DroppedLaws.{get-below, kept-follow, length-left}
+use Rattle.redundancy.proofs.BaseLaws.{IsTried, line-is_case, verdicts-count}
 use Rattle.redundancy.proofs.WalkPaths.{keeps-no_bad, keeps-none, length-changing, no-factor, stands-none}
 
 -- What the verdicts show.
@@ -147,21 +147,21 @@ module _ (survey : SurveyParts) (lines : List LineParts) (left : List Bool) (lin
   none_kept n f = has-none f ∙ sym (keeps-none c n f)
 
   -- the steps of a line that is dropped prove something absurd
-  pub dropped-steps : (budget : ℕ) (steps : List Step) → verdict_of c budget ≡ Dropped steps → (x : Proved) × AreValidSteps p steps x × IsAbsurdOver (shape_of survey.fields) x
+  pub dropped-steps : (budget : ℕ) (steps : List Step) → verdict_of c budget ≡ Dropped steps → (x : Proved) × AreValidSteps p steps x × IsTrue (is_absurd (shape_of survey.fields) x)
   dropped-steps budget steps e = by (dropped-from c budget steps (field_count c) 0 0 e)
     where
-      by : (m : ℕ) × IsClosedWith c steps m → (x : Proved) × AreValidSteps p steps x × IsAbsurdOver (shape_of survey.fields) x
+      by : (m : ℕ) × IsClosedWith c steps m → (x : Proved) × AreValidSteps p steps x × IsTrue (is_absurd (shape_of survey.fields) x)
       by (n, (k, inl (state, same))) =
           let (l, closing) = closing-line c is (changing n) (keeps-no_bad c n) (given_lines lines line) (usable_flags left line) 0 (λ f there. none_kept n f) are_usable k state in
           let (whole, stands) = both_true (are_whole (shape_of c.survey.fields) l.sets) (stands_only (keeps c.survey.fields (changing n)) (number_fields l.shape) l.factors) closing.asks in
           let none : has_no_factor l ≡ true = sym (stands-none c n (number_fields l.shape) l.factors (closing.over.factors ∙ ap (λ (s : List Domain). length (number_fields s)) (sym closing.over.same))) ∙ stands in (
             proved.Line l,
             ap (λ (s : List Step). steps_result p s) same ∙ closing.valid,
-            (closing.over.same, same_text l.sets (whole_sets (shape_of survey.fields)) (sym whole), false-line l (no_values survey.fields) none closing.fails),
+            true-both (are_whole (shape_of survey.fields) l.sets) (is_false l) whole (false-line l (no_values survey.fields) none closing.fails),
           )
       by (n, (k, inr (state, same))) =
           let (b, closing) = closing-box c is (changing n) (keeps-no_bad c n) (given_lines lines line) (usable_flags left line) 0 (λ f there. none_kept n f) are_usable k state in
-          (proved.Box b.code_box, ap (λ (s : List Step). steps_result p s) same ∙ closing.valid, same_text b.code_box.sets (whole_sets (shape_of survey.fields)) (sym closing.whole))
+          (proved.Box b.code_box, ap (λ (s : List Step). steps_result p s) same ∙ closing.valid, closing.whole)
 
   nothing-first : (n : ℕ) → 0 + n ≡ n
   nothing-first n = omega arith
@@ -184,6 +184,13 @@ usable-join (l ∷ lines) more (false ∷ left) flags same = usable-join lines m
 usable-all : (lines : List LineParts) → usable_lines lines (map (λ l. true) lines) ≡ lines
 usable-all [] = refl
 usable-all (l ∷ lines) = ap (λ (ls : List LineParts). l ∷ ls) (usable-all lines)
+
+-- a line is kept, or dropped with steps
+kept-or : (verdicts : List Verdict) (place : ℕ) → place < length verdicts → (slice_index_or (map is_kept verdicts) place false ≡ true) ⊎ ((steps : List Step) × (slice_get verdicts place ≡ Some (Dropped steps)))
+kept-or [] place below = absurd (omega arith)
+kept-or (Dropped steps ∷ verdicts) zero below = inr (steps, refl)
+kept-or (Kept why ∷ verdicts) zero below = inl refl
+kept-or (v ∷ verdicts) (suc place) below = kept-or verdicts place (omega arith)
 
 module _ (survey : SurveyParts) (are_fields : All IsField survey.fields) (lines : List LineParts) (over : AreOver (shape_of survey.fields) lines) (are : All IsLine lines) (budget : ℕ) where
   abbrev verdicts : List Verdict
@@ -224,7 +231,10 @@ module _ (survey : SurveyParts) (are_fields : All IsField survey.fields) (lines 
     case_is = line-is_case survey are_fields lines over are left line (in-get line lines j at)
 
     size : length left ≡ length lines
-    size = length-left j verdicts (omega (arith, get-below lines j line at, verdicts-count survey lines budget 0 lines)) ∙ verdicts-count survey lines budget 0 lines
+    size =
+        ap (λ (bs : List Bool). length (left_before j bs)) (sym (drop-map is_kept (suc j) verdicts))
+        ∙ length-left j (map is_kept verdicts) (omega (arith, get-below lines j line at, verdicts-count survey lines budget 0 lines, length-map verdicts is_kept)) ∙ length-map verdicts is_kept
+        ∙ verdicts-count survey lines budget 0 lines
 
     own : IsLine line
     own = in-all IsLine line lines are (in-get line lines j at)
@@ -252,7 +262,17 @@ module _ (survey : SurveyParts) (are_fields : All IsField survey.fields) (lines 
   -- each line follows from the kept ones
   pub lines-follow : (line : LineParts) → IsIn line lines → Follows (kept_lines lines verdicts) line
   lines-follow line there =
-      kept-follow survey.fields lines verdicts (no_values survey.fields) (row-no_values survey.fields) (sym (verdicts-count survey lines budget 0 lines)) over are (λ j l steps at told. dropped-valid j l at steps told) line there
+      kept-follow survey.fields lines (map is_kept verdicts) (no_values survey.fields) (row-no_values survey.fields) (sym (verdicts-count survey lines budget 0 lines) ∙ sym (length-map verdicts is_kept)) over are refuted line there
+    where
+      refuted : (j : ℕ) (l : LineParts) → slice_get lines j ≡ Some l → slice_index_or (map is_kept verdicts) j false ≡ false
+          → (steps : List Step) × RefutedBy (refutation_of (shape_of survey.fields) lines (left_before j (drop (suc j) (map is_kept verdicts))) l (no_values survey.fields)) steps
+      refuted j l at flag = elim (kept-or verdicts j (omega (arith, get-below lines j l at, verdicts-count survey lines budget 0 lines))) [
+        | inl kept ↦ absurd (cc (sym kept ∙ flag))
+        | inr gone ↦ (
+            gone.0,
+            subst (λ (bs : List Bool). RefutedBy (refutation_of (shape_of survey.fields) lines (left_before j bs) l (no_values survey.fields)) gone.0) (sym (drop-map is_kept (suc j) verdicts)) (dropped-valid j l at gone.0 gone.1),
+          )
+      ]
 
 -- ---- what the call tells
 

@@ -1,4 +1,3 @@
-pub mod Negations
-pub mod Refutations
+pub mod NeededLines
 pub mod Verdicts
 pub mod inner

@@ -1,10 +1,8 @@
 use Rattle.std.specs.Prelude.{ℕ, zero, suc, ◌+◌, ◌++◌, Bool, true, false, List, [], ◌∷◌, if◌then◌else◌, map, nat_lt}
 use Rattle.edit_model.specs.Parts.{SurveyParts}
-use Rattle.edit_model.specs.declared.field.Field.{Field}
-use Rattle.edit_model.specs.declared.value.Value.{Value}
-use Rattle.edit_model.specs.declared.value.Value.TheVariants.{Bad}
 use Rattle.edit_line.specs.Lines.{LineParts}
 use Rattle.derivation.specs.Premises.{usable_lines}
+use Rattle.derivation.specs.Refutations.{given_lines, left_before, no_values, usable_flags}
 use Rattle.edit_paths.specs.Cases.{Case}
 use Rattle.edit_paths.specs.Histories.{steps_to}
 use Rattle.edit_paths.specs.PathHistories.{box_history, line_history}
@@ -13,7 +11,6 @@ use Rattle.edit_paths.specs.States.{state_of}
 use Rattle.edit_paths.specs.Works.{work_of}
 use Rattle.edit_paths.specs.declared.state.PathState.{PathState}
 use Rattle.edit_paths.specs.declared.state.PathState.TheVariants.{ClosedBad, ClosedBox, ClosedLine, Open, Overflows}
-use Rattle.redundancy.specs.Negations.{given_lines, usable_flags}
 use Rattle.redundancy.specs.declared.verdict.Verdict.{Verdict}
 use Rattle.redundancy.specs.declared.verdict.Verdict.TheVariants.{Dropped, Kept}
 use Rattle.redundancy.specs.declared.verdict.Why.TheVariants.{Budget, Needed, Overflow}
@@ -56,18 +53,9 @@ abbrev pub is_kept : Verdict → Bool
 is_kept (Kept why) = true
 is_kept (Dropped steps) = false
 
--- true, so many times
-abbrev pub trues : ℕ → List Bool
-trues zero = []
-trues (suc n) = true ∷ trues n
-
 -- which lines are left when the one at a place is tried, from the verdicts on the later ones: those before it, and the later ones that are kept
 abbrev pub left_at : ℕ → List Verdict → List Bool
-left_at place later = trues place ++ false ∷ map is_kept later
-
--- the record without values
-abbrev pub no_values : List Field → List Value
-no_values fields = map (λ f. Bad) fields
+left_at place later = left_before place (map is_kept later)
 
 -- the usable lines, each with its place among the given ones, from i on
 abbrev pub usable_from : ℕ → List LineParts → List Bool → List (ℕ × LineParts)

@@ -1,9 +1,9 @@
 //! The lines that the walk of a line's negation begins with.
 ghost use Rattle.std.specs.Prelude.{◌≡◌, ◌≤◌, ◌^◌, ◌++◌, ◌∷◌, [], All, IfOk, OnOk, if◌then◌else◌, length};
+ghost use Rattle.derivation.specs.Refutations.{given_lines, usable_flags};
 ghost use Rattle.edit_line.specs.EditSets.{base_lines};
 ghost use Rattle.edit_line.specs.Lines.{IsLine};
 ghost use Rattle.edit_line.specs.Reductions.{lines_of};
-ghost use Rattle.redundancy.specs.Negations.{given_lines, usable_flags};
 ghost use Rattle.redundancy.specs.Verdicts.{usable_from};
 
 use edit_line::{Derived, Line, Origin};

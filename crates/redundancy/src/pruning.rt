@@ -1,21 +1,22 @@
 ghost use Rattle.std.specs.Prelude.{◌≡◌, ◌<◌, ℕ, suc, All, IfOk, List, Some, drop, false, length, slice_get, slice_set};
 ghost use Rattle.edit_model.specs.Rows.{IsRow};
 ghost use Rattle.derivation.specs.Premises.{usable_lines};
+ghost use Rattle.derivation.specs.Refutations.{RefutedBy, no_values, refutation_of};
 ghost use Rattle.derivation.specs.declared.step.Step.{Step as Proofstep};
 ghost use Rattle.edit_line.specs.Lines.{AreOver, Follows, IsLine, LineParts};
 ghost use Rattle.edit_line.specs.Reductions.{IsIn};
 ghost use Rattle.edit_line.specs.Shapes.{shape_of};
-ghost use Rattle.redundancy.specs.Negations.{refutation_of};
-ghost use Rattle.redundancy.specs.Refutations.{CanFail, RefutedBy};
-ghost use Rattle.redundancy.specs.Verdicts.{is_kept, kept_lines, left_at, negation_case, no_values, verdict_of, verdicts_of};
+ghost use Rattle.redundancy.specs.NeededLines.{CanFail};
+ghost use Rattle.redundancy.specs.Verdicts.{is_kept, kept_lines, left_at, negation_case, verdict_of, verdicts_of};
 ghost use Rattle.redundancy.specs.declared.verdict.Verdict.TheVariants.{Dropped, Kept};
 ghost use Rattle.redundancy.specs.declared.verdict.Why.TheVariants.{Needed};
 
 use crate::base::base_of;
 use crate::verdict::Verdict;
 use crate::walk::verdict_of;
+use derivation::record_without_values;
 use edit_line::Line;
-use edit_model::{Row, Survey, Value};
+use edit_model::{Row, Survey};
 use foundation::OutOfMemory;
 use std::alloc::Global;
 
@@ -59,15 +60,6 @@ fn read_lines(lines: &[Line])
     for line in lines {
         let _in_form = line.sets();
     }
-}
-
-// The record without values.
-fn record_without_values(alloc: Global, survey: &Survey) -> Result<Row, OutOfMemory>
-    ensures values { IfOk result (λ row. row ≡ no_values survey.now.fields) }
-    ensures row { IfOk result (λ row. IsRow survey.now.fields row) }
-{
-    let values = vec![in alloc; Value::Bad; survey.fields().len()]?;
-    Ok(Row::new(survey, values))
 }
 
 // The verdict on the line at the place, from the lines that are left but for itself; if it is dropped, it is

@@ -7,7 +7,6 @@ ghost use Rattle.edit_line.specs.CodeFields.{TakesCodes};
 ghost use Rattle.edit_line.specs.Lines.{HaveShape};
 ghost use Rattle.edit_line.specs.Reductions.{lines_of, reduce_derived};
 ghost use Rattle.edit_line.specs.Shapes.{Domain, code_fields, shape_of, whole_sets};
-ghost use Rattle.edit_line.specs.Subsumption.{has_no_factor, is_enough, is_false};
 ghost use Rattle.linear_elim.specs.Steps.{OneShape, pairs_count, step_result};
 ghost use Rattle.categ_combine.specs.BoxLists.{AreBoxesOver, HaveCodeField, sets_of};
 ghost use Rattle.categ_combine.specs.Covers.{cover_count, covered_from};
@@ -20,7 +19,8 @@ use crate::history::History;
 use crate::proving::write_steps;
 use crate::verdict::{Verdict, Why};
 use categ_combine::{BoxFault, BoxFrom, Covered, boxes_of, cat_step};
-use edit_line::{Derived, Line, Shape, reduce};
+use derivation::is_false;
+use edit_line::{Derived, Shape, reduce};
 use edit_model::{Row, Survey};
 use foundation::OutOfMemory;
 use linear_elim::{StepFault, pairs, step};
@@ -123,27 +123,6 @@ fn closing_line(wholes: &[u64], lines: &[Derived]) -> Option<usize>
     ensures { result ≡ closing_line wholes.now lines.now }
 {
     lines.iter().position(|derived| derived.line.sets() == wholes && is_false(&derived.line))
-}
-
-// Whether no numerical field stands in the line, and it does not hold.
-fn is_false(line: &Line) -> bool
-    ensures { result ≡ is_false line.now }
-{
-    !is_enough(line.strict(), line.constant()) && has_no_factor(line)
-}
-
-// Whether no numerical field stands in the line.
-fn has_no_factor(line: &Line) -> bool
-    ensures { result ≡ has_no_factor line.now }
-{
-    line.factors().iter().all(|factor| *factor == 0)
-}
-
-// Whether a number is above 0, or, where it need not be strictly, at least 0.
-fn is_enough(strict: bool, number: i128) -> bool
-    ensures { result ≡ is_enough strict number }
-{
-    if strict { number > 0 } else { number >= 0 }
 }
 
 // The verdict of the walk where all numerical fields are eliminated.

@@ -1,4 +1,4 @@
-use Rattle.std.proofs.Common.{arith, ◌≡◌, ◌∙◌, ap, length, length-append, map, map-id, rules, sym, List}
+use Rattle.std.proofs.Common.{arith, ◌∙◌, ap, length-append, map, map-id, rules, sym, List}
 use Rattle.std.proofs.lemmas.Iterator.Adapters.{YieldsList-from_vec}
 use Rattle.std.proofs.lemmas.Iterator.Consumers.{YieldsList-end, YieldsList-turn}
 use Rattle.edit_normal.specs.RuleEdits.{placed_from}

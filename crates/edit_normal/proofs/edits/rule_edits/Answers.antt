@@ -1,4 +1,4 @@
-use Rattle.std.proofs.Common.{arith, ℕ, ◌≡◌, ◌∙◌, List, ap, map, subst, sym}
+use Rattle.std.proofs.Common.{arith, ℕ, ◌∙◌, List, ap, map, subst, sym}
 use Rattle.edit_line.specs.EditSets.{AreEdits, EditsParts}
 use Rattle.edit_line.specs.Lines.{LineParts}
 use Rattle.edit_line.specs.Shapes.{shape_of}

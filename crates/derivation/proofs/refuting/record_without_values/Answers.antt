@@ -4,8 +4,8 @@ use Rattle.edit_model.specs.Rows.{IsRow}
 use Rattle.edit_model.specs.declared.field.Field.{Field}
 use Rattle.edit_model.specs.declared.value.Value.{Value}
 use Rattle.edit_model.specs.declared.value.Value.TheVariants.{Bad}
-use Rattle.redundancy.proofs.BaseLaws.{row-no_values, values-are}
-use Rattle.redundancy.proofs.pruning.record_without_values.Goals as goal
+use Rattle.derivation.proofs.RefutationLaws.{row-no_values, values-are}
+use Rattle.derivation.proofs.refuting.record_without_values.Goals as goal
 
 pub new-requires : goal.new-requires
 new-requires c =

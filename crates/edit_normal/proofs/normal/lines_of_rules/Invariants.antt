@@ -1,6 +1,6 @@
 use Rattle.std.proofs.Common.{◌≡◌, map}
 use Rattle.edit_normal.specs.declared.rule_line.RuleLine.{RuleLine}
-use Rattle.cert_check.proofs.said_check.rule_lines.Given as goal
+use Rattle.edit_normal.proofs.normal.lines_of_rules.Given as goal
 
 abbrev pub invariant-loop-rule_line : goal.invariant-loop-rule_line
 invariant-loop-rule_line l =

@@ -1,0 +1,55 @@
+//! What the refutation of a line's negation begins with, and what it ends in.
+ghost use Rattle.std.specs.Prelude.{◌≡◌, IfOk, List};
+ghost use Rattle.edit_model.specs.Rows.{IsRow};
+ghost use Rattle.edit_line.specs.Shapes.{Domain};
+ghost use Rattle.edit_line.specs.Subsumption.{has_no_factor, is_enough, is_false};
+ghost use Rattle.derivation.specs.Refutations.{is_absurd, no_values};
+ghost use Rattle.derivation.specs.Shown.{IsOver};
+
+use crate::proved::Proved;
+use edit_line::Line;
+use edit_model::{Row, Survey, Value};
+use foundation::OutOfMemory;
+use std::alloc::Global;
+
+/// The record without values, of which a refutation keeps no field.
+pub fn record_without_values(alloc: Global, survey: &Survey) -> Result<Row, OutOfMemory>
+    ensures values { IfOk result (λ row. row ≡ no_values survey.now.fields) }
+    ensures row { IfOk result (λ row. IsRow survey.now.fields row) }
+{
+    let values = vec![in alloc; Value::Bad; survey.fields().len()]?;
+    Ok(Row::new(survey, values))
+}
+
+impl Proved {
+    /// Whether this is what no point meets: a false line of all codes, or the box of all codes. No memory.
+    pub fn is_absurd(&self) -> bool
+        ensures { (shape : List Domain) → IsOver shape self.now → result ≡ is_absurd shape self.now }
+    {
+        match self {
+            Proved::Line(line) => line.is_full() && is_false(line),
+            Proved::Box(code_box) => code_box.is_full(),
+        }
+    }
+}
+
+/// Whether no numerical field stands in the line, and it never holds where its codes are. No memory.
+pub fn is_false(line: &Line) -> bool
+    ensures { result ≡ is_false line.now }
+{
+    !is_enough(line.strict(), line.constant()) && has_no_factor(line)
+}
+
+// Whether no numerical field stands in the line.
+fn has_no_factor(line: &Line) -> bool
+    ensures { result ≡ has_no_factor line.now }
+{
+    line.factors().iter().all(|factor| *factor == 0)
+}
+
+// Whether a number is above 0, or, where it need not be strictly, at least 0.
+fn is_enough(strict: bool, number: i128) -> bool
+    ensures { result ≡ is_enough strict number }
+{
+    if strict { number > 0 } else { number >= 0 }
+}
