@@ -1,4 +1,4 @@
-use Rattle.std.proofs.Common.{◌≡◌, ◌++◌, map, take, ℕ}
+use Rattle.std.proofs.Common.{◌≡◌, ◌++◌, map, take}
 use Rattle.rule_report.specs.Reports.{step_text}
 use Rattle.rule_report.proofs.reports.push_steps.Given as goal
 

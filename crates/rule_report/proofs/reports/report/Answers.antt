@@ -1,4 +1,4 @@
-use Rattle.std.proofs.Common.{◌+◌, ◌∙◌, arith, sym}
+use Rattle.std.proofs.Common.{◌+◌, arith}
 use Rattle.rule_report.proofs.ReportLaws.{texts-end}
 use Rattle.rule_report.proofs.reports.report.Goals as goal
 
