@@ -6,6 +6,7 @@ pub mod Faults
 pub mod Laws
 pub mod Options
 pub mod Readings
+pub mod RulesRun
 pub mod Run
 pub mod Status
 pub mod inner
