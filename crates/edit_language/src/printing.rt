@@ -11,8 +11,10 @@ mod sums;
 use edit_model::{Field, Rule, Survey};
 use fields::write_field;
 use foundation::OutOfMemory;
+pub use rules::write_conditions;
 use rules::write_rule;
 use std::alloc::Global;
+pub use sums::{compare_text, write_constant, write_term};
 
 /// The survey as a rule text: its declarations and then its rules, a line each. What it prints is read
 /// again as the same survey.

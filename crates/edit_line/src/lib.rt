@@ -35,5 +35,5 @@ pub use overflow::LineOverflow;
 pub use place::Place;
 pub use reduction::reduce;
 pub use shape::Shape;
-pub use subsumption::subsumes;
+pub use subsumption::{is_false, subsumes};
 pub use sum::{fails, value_at};

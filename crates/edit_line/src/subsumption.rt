@@ -30,8 +30,8 @@ pub(crate) fn is_enough(strict: bool, number: i128) -> bool
     if strict { number > 0 } else { number >= 0 }
 }
 
-// Whether the line has no factor, and never holds where its codes are.
-fn is_false(line: &Line) -> bool
+/// Whether the line has no factor, and never holds where its codes are in its sets. No memory.
+pub fn is_false(line: &Line) -> bool
     ensures { result ≡ is_false line.now }
 {
     !is_enough(line.strict(), line.constant()) && has_no_factor(line)

@@ -4,10 +4,9 @@ ghost use Rattle.edit_desk.specs.Desk.{PutsOnRecord};
 ghost use Rattle.edit_release.specs.Edits.{DroppedFollow};
 ghost use Rattle.edit_program.specs.Faults.{IsOfRulesCommand};
 ghost use Rattle.edit_program.specs.Readings.{AnswersDue, IsRulesDue, RefusesRulesCommand};
-ghost use Rattle.edit_program.specs.RulesRun.{DroppedRefuted, IsReport, IsRuled, IsRulesComplete, IsRulesStopped, NeededCanFail, rules_calls};
+ghost use Rattle.edit_program.specs.RulesRun.{DroppedRefuted, IsReport, IsRuled, IsRulesComplete, IsRulesStopped, NeededCanFail, report_of, rules_calls};
 ghost use Rattle.edit_program.specs.Run.{seen};
 ghost use Rattle.edit_program.specs.inner.Parts.{AreCallsOf, done_end, faults_after};
-ghost use Rattle.rule_report.specs.Reports.{report_of};
 
 use crate::reading::fetch_survey;
 use crate::refusal::Refusal;

@@ -20,6 +20,7 @@ use foundation::{OutOfMemory, Sequence};
 use proof_grammar::Proof;
 use rows::write_row;
 use std::alloc::Global;
+pub use steps::write_step;
 use steps::write_steps;
 use words::{write_count, write_number};
 

@@ -1,5 +1,5 @@
 -- A line as a text: IF the codes are in its sets THEN its sum compares with 0.
-use Rattle.std.specs.Prelude.{ℕ, ℤ, pos, ◌==◌, ◌++◌, List, [], ◌∷◌, codes, if◌then◌else◌}
+use Rattle.std.specs.Prelude.{ℕ, ℤ, pos, false, ◌==◌, ◌++◌, List, [], ◌∷◌, codes, if◌then◌else◌}
 use Rattle.std.specs.Ordering.{int_eq}
 use Rattle.edit_model.specs.declared.field.Field.{Field}
 use Rattle.edit_model.specs.declared.rule.Compare.TheVariants.{Ge, Gt}

@@ -1,17 +1,14 @@
--- What is printed of the lines of a survey's rules.
+-- What is printed of lines and the verdicts on them.
 use Rattle.std.specs.Prelude.{ℕ, suc, ◌++◌, List, [], ◌∷◌, codes, map}
 use Rattle.std.specs.Fmt.{decimal}
-use Rattle.edit_model.specs.Parts.{SurveyParts}
 use Rattle.edit_model.specs.declared.field.Field.{Field}
 use Rattle.edit_line.specs.Lines.{LineParts}
-use Rattle.edit_normal.specs.RuleLines.{normal_lines_of}
 use Rattle.derivation.specs.declared.step.Step.{Step}
 use Rattle.proof_grammar.specs.ProofLines.{step_line, words_text}
 use Rattle.redundancy.specs.declared.verdict.Verdict.{Verdict}
 use Rattle.redundancy.specs.declared.verdict.Verdict.TheVariants.{Dropped, Kept}
 use Rattle.redundancy.specs.declared.verdict.Why.{Why}
 use Rattle.redundancy.specs.declared.verdict.Why.TheVariants.{Budget, Needed, Overflow}
-use Rattle.pruned_rules.specs.Pruned.{rule_verdicts}
 use Rattle.rule_report.specs.LineTexts.{line_text}
 
 -- why a line is kept
@@ -43,7 +40,3 @@ texts_of fields number line verdict =
 abbrev pub texts_from : List Field → ℕ → List LineParts → List Verdict → List (List ℕ)
 texts_from fields number (line ∷ lines) (verdict ∷ verdicts) = texts_of fields number line verdict ++ texts_from fields (suc number) lines verdicts
 texts_from fields number _ _ = []
-
--- of all lines of a survey's rules, numbered from 1
-abbrev pub report_of : SurveyParts → List (List ℕ)
-report_of survey = texts_from survey.fields 1 (normal_lines_of survey) (rule_verdicts survey)

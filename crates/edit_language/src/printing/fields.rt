@@ -14,7 +14,7 @@ pub(super) fn write_field(text: &mut Vec<u8>, field: &Field) -> Result<(), OutOf
     text.extend_from_slice(kind_word(&field.kind))?;
     text.extend_from_slice(field.name.as_bytes())?;
     text.extend_from_slice(b" weight ")?;
-    write_number(text, u64::from(field.weight))?;
+    write_number(text, u128::from(field.weight))?;
     write_kind(text, &field.kind)
 }
 
@@ -35,7 +35,7 @@ fn write_kind(text: &mut Vec<u8>, kind: &Kind) -> Result<(), OutOfMemory>
     match kind {
         Kind::Number { scale } => {
             text.extend_from_slice(b" scale ")?;
-            write_number(text, *scale)
+            write_number(text, u128::from(*scale))
         }
         Kind::Code { codes } => {
             text.extend_from_slice(b" in ")?;

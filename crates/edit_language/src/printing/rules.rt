@@ -20,8 +20,8 @@ pub(super) fn write_rule(
     write_test(text, fields, &rule.conclusion)
 }
 
-// Appends the conditions, between `if` and `then`; nothing where there is none.
-fn write_conditions(
+/// Appends the conditions of a rule over these fields, between `if` and `then`; nothing where there is none.
+pub fn write_conditions(
     text: &mut Vec<u8>,
     fields: &[Field],
     conditions: &[Test],

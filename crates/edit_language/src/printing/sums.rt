@@ -1,7 +1,7 @@
 //! Sums of terms and their comparison with 0.
-ghost use Rattle.std.specs.Prelude.{◌≡◌, ◌++◌, OnOk};
-ghost use Rattle.std.specs.Fmt.{decimal};
-ghost use Rattle.edit_language.specs.Printing.{compare_text, joint_text, later_constant_text, later_terms_text, linear_text, name_at, sign_text, sum_text, term_text, terms_text};
+ghost use Rattle.std.specs.Prelude.{◌≡◌, ◌++◌, OnOk, if◌then◌else◌, unsigned_abs};
+ghost use Rattle.std.specs.Fmt.{decimal, signed_decimal};
+ghost use Rattle.edit_language.specs.Printing.{compare_text, joint_text, later_constant_text, later_terms_text, linear_text, name_at, product_text, sign_text, sum_text, terms_text};
 
 use edit_model::{Compare, Field, Linear, Term};
 use foundation::OutOfMemory;
@@ -20,8 +20,51 @@ pub(super) fn write_linear(
     Ok(())
 }
 
+/// Appends a term of a sum: the sign of its factor, the factor where it is not 1 or -1, and the name of the
+/// field with this number. The sign of the first term is a minus or nothing; that of a later one joins it to
+/// the term before.
+pub fn write_term(
+    text: &mut Vec<u8>,
+    first: bool,
+    fields: &[Field],
+    field: u32,
+    factor: i128,
+) -> Result<(), OutOfMemory>
+    ensures { OnOk result (text.new.items ≡ text.old.items ++ (if first then sign_text factor else joint_text factor) ++ product_text (unsigned_abs factor) (name_at fields.now field)) }
+{
+    text.extend_from_slice(lead_text(first, factor))?;
+    write_product(text, factor.unsigned_abs(), name_at(fields, field))
+}
+
+/// Appends the constant of a sum: with its sign where it stands alone, and else behind the terms, where it is
+/// not 0.
+pub fn write_constant(text: &mut Vec<u8>, alone: bool, constant: i128) -> Result<(), OutOfMemory>
+    ensures { OnOk result (text.new.items ≡ text.old.items ++ (if alone then signed_decimal constant else later_constant_text constant)) }
+{
+    if alone {
+        let mut buffer = Buffer::new();
+        text.extend_from_slice(buffer.format(constant).as_bytes())?;
+        Ok(())
+    } else {
+        write_later_constant(text, constant)
+    }
+}
+
+/// The comparison of a sum with 0.
+pub fn compare_text(compare: Compare) -> &'static [u8]
+    ensures { result.now ≡ compare_text compare }
+{
+    match compare {
+        Compare::Ge => b" >= 0",
+        Compare::Gt => b" > 0",
+        Compare::Le => b" <= 0",
+        Compare::Lt => b" < 0",
+        Compare::Eq => b" = 0",
+    }
+}
+
 // Appends the number in decimal.
-pub(super) fn write_number(text: &mut Vec<u8>, number: u64) -> Result<(), OutOfMemory>
+pub(super) fn write_number(text: &mut Vec<u8>, number: u128) -> Result<(), OutOfMemory>
     ensures { OnOk result (text.new.items ≡ text.old.items ++ decimal number) }
 {
     let mut buffer = Buffer::new();
@@ -49,14 +92,10 @@ fn write_sum(
     ensures { OnOk result (text.new.items ≡ text.old.items ++ sum_text fields.now terms.now constant) }
 {
     match terms.split_first() {
-        None => {
-            let mut buffer = Buffer::new();
-            text.extend_from_slice(buffer.format(constant).as_bytes())?;
-            Ok(())
-        }
+        None => write_constant(text, true, i128::from(constant)),
         Some((first, rest)) => {
             write_terms(text, fields, first, rest)?;
-            write_later_constant(text, constant)
+            write_constant(text, false, i128::from(constant))
         }
     }
 }
@@ -70,8 +109,7 @@ fn write_terms(
 ) -> Result<(), OutOfMemory>
     ensures { OnOk result (text.new.items ≡ text.old.items ++ terms_text fields.now first.now rest.now) }
 {
-    text.extend_from_slice(sign_text(first.factor))?;
-    write_product(text, fields, first)?;
+    write_term(text, true, fields, first.field, i128::from(first.factor))?;
     write_later_terms(text, fields, rest)
 }
 
@@ -84,14 +122,13 @@ fn write_later_terms(
     ensures { OnOk result (text.new.items ≡ text.old.items ++ later_terms_text fields.now terms.now) }
 {
     for term in terms {
-        text.extend_from_slice(joint_text(term.factor))?;
-        write_product(text, fields, term)?;
+        write_term(text, false, fields, term.field, i128::from(term.factor))?;
     }
     Ok(())
 }
 
 // Appends a constant behind terms, where it is not 0.
-fn write_later_constant(text: &mut Vec<u8>, constant: i64) -> Result<(), OutOfMemory>
+fn write_later_constant(text: &mut Vec<u8>, constant: i128) -> Result<(), OutOfMemory>
     ensures { OnOk result (text.new.items ≡ text.old.items ++ later_constant_text constant) }
 {
     if constant != 0 {
@@ -101,42 +138,39 @@ fn write_later_constant(text: &mut Vec<u8>, constant: i64) -> Result<(), OutOfMe
     Ok(())
 }
 
-// Appends the factor of a term without its sign, and its field; the factor 1 is not written.
-fn write_product(text: &mut Vec<u8>, fields: &[Field], term: &Term) -> Result<(), OutOfMemory>
-    ensures { OnOk result (text.new.items ≡ text.old.items ++ term_text fields.now term.now) }
+// Appends the factor of a term without its sign, and the name of its field; the factor 1 is not written.
+fn write_product(text: &mut Vec<u8>, factor: u128, name: &[u8]) -> Result<(), OutOfMemory>
+    ensures { OnOk result (text.new.items ≡ text.old.items ++ product_text factor name.now) }
 {
-    let factor = term.factor.unsigned_abs();
     if factor != 1 {
         write_number(text, factor)?;
         text.push(b' ')?;
     }
-    text.extend_from_slice(name_at(fields, term.field))?;
+    text.extend_from_slice(name)?;
     Ok(())
 }
 
+// What stands before a number: its sign, or what joins it to the terms before it.
+fn lead_text(first: bool, number: i128) -> &'static [u8]
+    ensures { result.now ≡ (if first then sign_text number else joint_text number) }
+{
+    if first {
+        sign_text(number)
+    } else {
+        joint_text(number)
+    }
+}
+
 // The sign in front of a number.
-fn sign_text(number: i64) -> &'static [u8]
+fn sign_text(number: i128) -> &'static [u8]
     ensures { result.now ≡ sign_text number }
 {
     if number < 0 { b"-" } else { b"" }
 }
 
 // What joins a number to the terms before it.
-fn joint_text(number: i64) -> &'static [u8]
+fn joint_text(number: i128) -> &'static [u8]
     ensures { result.now ≡ joint_text number }
 {
     if number < 0 { b" - " } else { b" + " }
-}
-
-// The comparison with 0.
-fn compare_text(compare: Compare) -> &'static [u8]
-    ensures { result.now ≡ compare_text compare }
-{
-    match compare {
-        Compare::Ge => b" >= 0",
-        Compare::Gt => b" > 0",
-        Compare::Le => b" <= 0",
-        Compare::Lt => b" < 0",
-        Compare::Eq => b" = 0",
-    }
 }

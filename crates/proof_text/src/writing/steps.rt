@@ -24,8 +24,8 @@ pub(super) fn write_steps(text: &mut Vec<u8>, steps: &[Step]) -> Result<(), OutO
     Ok(())
 }
 
-// Appends the words of a step.
-fn write_step(text: &mut Vec<u8>, step: &Step) -> Result<(), OutOfMemory>
+/// Appends the words of a step, as in a proof file.
+pub fn write_step(text: &mut Vec<u8>, step: &Step) -> Result<(), OutOfMemory>
     ensures text { OnOk result (text.new.items ≡ text.old.items ++ words_text (step_line step.now)) }
     ensures sized { OnOk result (IsSizedStep step.now) }
 {

@@ -1,0 +1,12 @@
+//! What is printed of the lines of a survey's rules: their numbers and texts, what becomes of each, and the
+//! steps that show a dropped one needless. Begin with [`report`] and `specs/Reports.antt`; the text of a line
+//! is in `specs/LineTexts.antt`.
+#![tactic(auto)]
+
+mod conditions;
+mod lines;
+mod reports;
+mod sums;
+
+pub use lines::line_text;
+pub use reports::report;

@@ -1,0 +1,108 @@
+//! The lines of a report.
+ghost use Rattle.std.specs.Prelude.{◌≡◌, ◌++◌, ◌∷◌, IfOk, OnOk, codes, map};
+ghost use Rattle.std.specs.Fmt.{decimal};
+ghost use Rattle.edit_line.specs.Lines.{AreOver};
+ghost use Rattle.edit_line.specs.Shapes.{shape_of};
+ghost use Rattle.rule_report.specs.LineTexts.{line_text};
+ghost use Rattle.rule_report.specs.Reports.{step_text, texts_from, texts_of, verdict_text};
+
+use crate::lines::line_text;
+use derivation::Step;
+use edit_line::Line;
+use edit_model::Survey;
+use foundation::OutOfMemory;
+use itoa::Buffer;
+use proof_text::write_step;
+use redundancy::{Verdict, Why};
+use std::alloc::Global;
+
+/// What is printed of lines over the survey's fields and the verdicts on them: of each line its number, from
+/// 1, what becomes of it and its text, and behind a dropped one the steps that refute its negation.
+pub fn report(
+    alloc: Global,
+    survey: &Survey,
+    lines: &[Line],
+    verdicts: &[Verdict],
+) -> Result<Vec<Vec<u8>>, OutOfMemory>
+    requires over { AreOver (shape_of survey.now.fields) lines.now }
+    ensures texts { IfOk result (λ texts. map (λ t. t.items) texts.items ≡ texts_from survey.now.fields 1 lines.now verdicts.now) }
+{
+    let mut texts = Vec::new(alloc);
+    for place in 0..lines.len().min(verdicts.len()) {
+        let (line, verdict) = (&lines[place], &verdicts[place]);
+        push_texts(alloc, &mut texts, survey, place + 1, line, verdict)?;
+    }
+    Ok(texts)
+}
+
+// Puts the texts of a line last.
+fn push_texts(
+    alloc: Global,
+    texts: &mut Vec<Vec<u8>>,
+    survey: &Survey,
+    number: usize,
+    line: &Line,
+    verdict: &Verdict,
+) -> Result<(), OutOfMemory>
+    requires { line.now.shape ≡ shape_of survey.now.fields }
+    ensures { OnOk result (map (λ t. t.items) texts.new.items ≡ map (λ t. t.items) texts.old.items ++ texts_of survey.now.fields number line.now verdict.now) }
+{
+    texts.push(head_text(alloc, survey, number, line, verdict)?)?;
+    match verdict {
+        Verdict::Kept(_) => Ok(()),
+        Verdict::Dropped(steps) => push_steps(alloc, texts, steps.as_slice()),
+    }
+}
+
+// The number of a line, what becomes of it, and its text.
+fn head_text(
+    alloc: Global,
+    survey: &Survey,
+    number: usize,
+    line: &Line,
+    verdict: &Verdict,
+) -> Result<Vec<u8>, OutOfMemory>
+    requires { line.now.shape ≡ shape_of survey.now.fields }
+    ensures { IfOk result (λ text. text.items ≡ decimal number ++ codes " " ++ verdict_text verdict.now ++ codes " " ++ line_text survey.now.fields line.now) }
+{
+    let mut text = Vec::new(alloc);
+    let mut buffer = Buffer::new();
+    text.extend_from_slice(buffer.format(number).as_bytes())?;
+    text.push(b' ')?;
+    text.extend_from_slice(verdict_text(verdict))?;
+    text.push(b' ')?;
+    text.extend_from_slice(&line_text(alloc, survey, line)?)?;
+    Ok(text)
+}
+
+// What becomes of a line, and why a line is kept.
+fn verdict_text(verdict: &Verdict) -> &'static [u8]
+    ensures { result.now ≡ verdict_text verdict.now }
+{
+    match verdict {
+        Verdict::Kept(Why::Needed) => b"kept needed",
+        Verdict::Kept(Why::Budget) => b"kept budget",
+        Verdict::Kept(Why::Overflow) => b"kept overflow",
+        Verdict::Dropped(_) => b"dropped",
+    }
+}
+
+// Puts the texts of the steps last.
+fn push_steps(alloc: Global, texts: &mut Vec<Vec<u8>>, steps: &[Step]) -> Result<(), OutOfMemory>
+    ensures { OnOk result (map (λ t. t.items) texts.new.items ≡ map (λ t. t.items) texts.old.items ++ map step_text steps.now) }
+{
+    for step in steps {
+        texts.push(step_text(alloc, step)?)?;
+    }
+    Ok(())
+}
+
+// A step behind two spaces.
+fn step_text(alloc: Global, step: &Step) -> Result<Vec<u8>, OutOfMemory>
+    ensures { IfOk result (λ text. text.items ≡ step_text step.now) }
+{
+    let mut text = Vec::new(alloc);
+    text.extend_from_slice(b"  ")?;
+    write_step(&mut text, step)?;
+    Ok(text)
+}

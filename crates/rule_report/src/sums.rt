@@ -1,0 +1,75 @@
+//! The linear part of a line.
+ghost use Rattle.std.specs.Prelude.{◌≡◌, ◌++◌, [], ◌&&◌, IfOk, OnOk, if◌then◌else◌, length, pos, unsigned_abs};
+ghost use Rattle.std.specs.Ordering.{int_eq};
+ghost use Rattle.edit_model.specs.declared.rule.Compare.TheVariants.{Ge, Gt};
+ghost use Rattle.edit_language.specs.Printing.{joint_text, linear_text, name_at, product_text, sign_text, sum_text};
+ghost use Rattle.edit_line.specs.Shapes.{shape_of};
+ghost use Rattle.rule_report.specs.LineTexts.{linear_of, terms_of};
+
+use edit_language::{compare_text, write_constant, write_term};
+use edit_line::Line;
+use edit_model::{Compare, Field, Survey};
+use foundation::OutOfMemory;
+
+/// Appends the sum of the line, and its comparison with 0.
+pub(crate) fn write_linear(
+    text: &mut Vec<u8>,
+    survey: &Survey,
+    line: &Line,
+) -> Result<(), OutOfMemory>
+    requires { line.now.shape ≡ shape_of survey.now.fields }
+    ensures { OnOk result (text.new.items ≡ text.old.items ++ linear_text survey.now.fields (linear_of line.now)) }
+{
+    write_sum(
+        text,
+        survey.fields(),
+        survey.numbers(),
+        line.factors(),
+        line.constant(),
+    )?;
+    text.extend_from_slice(compare_text(comparison(line.strict())))?;
+    Ok(())
+}
+
+// How the sum of a line is compared with 0.
+fn comparison(strict: bool) -> Compare
+    ensures { result ≡ (if strict then Gt else Ge) }
+{
+    if strict { Compare::Gt } else { Compare::Ge }
+}
+
+// Appends the terms of the fields with these numbers whose factors are not 0, and the constant.
+fn write_sum(
+    text: &mut Vec<u8>,
+    fields: &[Field],
+    numbers: &[u32],
+    factors: &[i128],
+    constant: i128,
+) -> Result<(), OutOfMemory>
+    requires { length factors.now ≡ length numbers.now }
+    ensures { OnOk result (text.new.items ≡ text.old.items ++ sum_text fields.now (terms_of numbers.now factors.now) constant) }
+{
+    let mut first = true;
+    for (place, number) in numbers.iter().enumerate() {
+        first = write_factor(text, first, fields, *number, factors[place])?;
+    }
+    write_constant(text, first, constant)
+}
+
+// Appends the term of a field whose factor is not 0. Whether the next term is still the first.
+fn write_factor(
+    text: &mut Vec<u8>,
+    first: bool,
+    fields: &[Field],
+    field: u32,
+    factor: i128,
+) -> Result<bool, OutOfMemory>
+    ensures text { OnOk result (text.new.items ≡ text.old.items ++ (if int_eq factor (pos 0) then [] else (if first then sign_text factor else joint_text factor) ++ product_text (unsigned_abs factor) (name_at fields.now field))) }
+    ensures first { IfOk result (λ next. next ≡ (first && int_eq factor (pos 0))) }
+{
+    if factor == 0 {
+        return Ok(first);
+    }
+    write_term(text, first, fields, field, factor)?;
+    Ok(false)
+}
