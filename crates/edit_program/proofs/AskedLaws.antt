@@ -2,7 +2,7 @@
 use Rattle.std.proofs.Common.{◌≡◌, ◌∙◌, ◌/◌, ◌%◌, ◌≤◌, ℕ, Bool, true, false, not, Option, Some, None, refl, List, [], ◌∷◌, String, Global, ap, arith, length, map, string_bytes, subst, sym}
 use Rattle.std.proofs.lemmas.List.{length-map}
 use Rattle.std.specs.Prelude.{codes, IfNone, IfSome}
-use Rattle.edit_program.specs.Asked.{CheckAsked, EditAsked, GiveCheck, GiveEdit, IsCheck, IsEdit}
+use Rattle.edit_program.specs.Asked.{CheckAsked, EditAsked, GiveCheck, GiveEdit, GiveRules, IsCheck, IsEdit, IsRules, RulesAsked}
 use Rattle.edit_program.specs.Options.{GivesNumber, Pairs, words_of}
 use Rattle.edit_program.specs.inner.Pairs.{pairs_of}
 use Rattle.edit_program.proofs.PairLaws.{pairs_back, words_back, words_long}
@@ -46,6 +46,14 @@ same_check r c d p r' c' d' p' er ec ed ep = cc
 pub one_check : (pairs : Pairs) (a b : CheckAsked) → GiveCheck pairs a → GiveCheck pairs b → a ≡ b
 one_check pairs a b p q = same_check _ _ _ _ _ _ _ _ (one_value _ _ _ p.rules q.rules) (one_value _ _ _ p.records q.records) (one_value _ _ _ p.released q.released) (one_value _ _ _ p.proof q.proof)
 
+-- a question about the rules of this file
+abbrev pub rules_of : List ℕ → RulesAsked
+rules_of r = record { rules = r }
+
+-- and one such question
+pub one_rules : (pairs : Pairs) (a b : RulesAsked) → GiveRules pairs a → GiveRules pairs b → a ≡ b
+one_rules pairs a b p q = ap rules_of (one_value _ _ _ p.rules q.rules)
+
 -- ---- a command and its pairs
 
 -- the words are this command and, behind it, pairs of which this holds
@@ -54,7 +62,7 @@ pub record IsCommand (name : List ℕ) (words : List (List ℕ)) (P : Pairs → 
   pub form : words ≡ name ∷ words_of pairs
   pub options : P pairs
 
--- both commands are such
+-- the commands are such
 pub edit_command : (words : List (List ℕ)) (asked : EditAsked) → IsEdit words asked → IsCommand (codes "edit") words (λ pairs. GiveEdit pairs asked)
 edit_command words asked is = record { pairs = is.pairs; form = is.form; options = is.options }
 
@@ -66,6 +74,12 @@ check_command words asked is = record { pairs = is.pairs; form = is.form; option
 
 pub command_check : (words : List (List ℕ)) (asked : CheckAsked) → IsCommand (codes "check") words (λ pairs. GiveCheck pairs asked) → IsCheck words asked
 command_check words asked is = record { pairs = is.pairs; form = is.form; options = is.options }
+
+pub rules_command : (words : List (List ℕ)) (asked : RulesAsked) → IsRules words asked → IsCommand (codes "rules") words (λ pairs. GiveRules pairs asked)
+rules_command words asked is = record { pairs = is.pairs; form = is.form; options = is.options }
+
+pub command_rules : (words : List (List ℕ)) (asked : RulesAsked) → IsCommand (codes "rules") words (λ pairs. GiveRules pairs asked) → IsRules words asked
+command_rules words asked is = record { pairs = is.pairs; form = is.form; options = is.options }
 
 -- words apart into the first and the others
 module _ (words : List (String Global)) (first : String Global) (others : List (String Global)) (apart : words ≡ first ∷ others) (name : List ℕ) (P : Pairs → Type 0) where

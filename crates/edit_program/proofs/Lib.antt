@@ -7,7 +7,9 @@ pub mod HeldLaws
 pub mod InputLaws
 mod PairLaws
 pub mod ReadingLaws
+pub mod RulesLaws
 pub mod RunLaws
 pub mod StoreLaws
+mod TellingLaws
 pub mod ToldLaws
 pub mod WholeLaws

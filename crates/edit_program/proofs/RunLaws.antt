@@ -1,14 +1,15 @@
 -- How whole runs end.
-use Rattle.std.proofs.Common.{◌≡◌, ◌∙◌, ℕ, List, IfSome, inl, inr, refl, subst, sym}
+use Rattle.std.proofs.Common.{◌≡◌, ◌∙◌, ℕ, List, [], ◌∷◌, IfSome, inl, inr, refl, subst, sym}
 use Rattle.edit_desk.specs.Desk.{PutsOnRecord, Told}
 use Rattle.edit_release.specs.Releases.{written_in}
 use Rattle.edit_release.specs.declared.release.Release.{Release}
-use Rattle.edit_program.specs.Asked.{CheckAsked, EditAsked}
+use Rattle.edit_program.specs.Asked.{CheckAsked, EditAsked, RulesAsked}
 use Rattle.edit_program.specs.CheckRun.{IsCheckComplete, IsCheckStopped, IsChecked, IsRead, check_calls}
 use Rattle.edit_program.specs.EditRun.{AreWritten, IsEditComplete, IsEditStopped, IsEdited, IsMade, IsStored, edit_calls}
 use Rattle.edit_program.specs.Edits.{HasReleased}
 use Rattle.edit_program.specs.Faults.{fault_status}
-use Rattle.edit_program.specs.Readings.{RefusesCheck, Refuses}
+use Rattle.edit_program.specs.Readings.{Refuses, RefusesCheck, RefusesRulesCommand}
+use Rattle.edit_program.specs.RulesRun.{IsReport, IsReported, IsRuled, IsRulesComplete, IsRulesStopped, rules_calls}
 use Rattle.edit_program.specs.Run.{Seen, faults_by}
 use Rattle.edit_program.specs.inner.CheckParts.{Accepts}
 use Rattle.edit_program.specs.inner.EditParts.{edit_status}
@@ -19,12 +20,13 @@ use Rattle.edit_program.specs.declared.status.Status.TheVariants as status
 use Rattle.edit_program.proofs.AuditLaws.{valid-beside}
 use Rattle.edit_program.proofs.EndLaws.{has-released, memory-left}
 use Rattle.edit_program.proofs.InputLaws.{read-beside}
+use Rattle.edit_program.proofs.RulesLaws.{rules-beside}
 use Rattle.edit_program.proofs.ToldLaws.{each-told, from-told, same-told}
 
 -- ---- edits
 
 module _ (asked : EditAsked) (before after : Seen) where
-  module _ (release : Release) (answer : Status) (telling : IsTelling (edit_status release) release.summary.items answer before.printed after.printed before.unprinted after.unprinted)
+  module _ (release : Release) (answer : Status) (telling : IsTelling (edit_status release) (release.summary.items ∷ []) answer before.printed after.printed before.unprinted after.unprinted)
       (files : Told before.files after.files (λ old new. IsMade asked (edit_status release) old (written_in release) × AreWritten asked (written_in release) old new))
       (calls : PutsOnRecord before.calls after.calls (λ calls. calls ≡ edit_calls asked)) (faults : after.faults ≡ before.faults) where
     stored : IsStored asked (edit_status release) (written_in release) before after
@@ -34,7 +36,7 @@ module _ (asked : EditAsked) (before after : Seen) where
     pub edited-by : HasReleased answer → IsEdited asked answer before after
     edited-by ended = by telling
       where
-        by : IsTelling (edit_status release) release.summary.items answer before.printed after.printed before.unprinted after.unprinted → IsEdited asked answer before after
+        by : IsTelling (edit_status release) (release.summary.items ∷ []) answer before.printed after.printed before.unprinted after.unprinted → IsEdited asked answer before after
         by (inl (is, printed, told)) = record {
           written = written_in release;
           stored = subst (λ (s : Status). IsStored asked s (written_in release) before after) (sym is) stored;
@@ -50,7 +52,7 @@ module _ (asked : EditAsked) (before after : Seen) where
     pub untold-by : (¬ HasReleased answer) → IsEditStopped asked answer before after
     untold-by not = by telling
       where
-        by : IsTelling (edit_status release) release.summary.items answer before.printed after.printed before.unprinted after.unprinted → IsEditStopped asked answer before after
+        by : IsTelling (edit_status release) (release.summary.items ∷ []) answer before.printed after.printed before.unprinted after.unprinted → IsEditStopped asked answer before after
         by (inl (is, printed, told)) = absurd (not (subst HasReleased (sym is) (has-released release)))
         by (inr (is, printed, told)) = inr (
           is,
@@ -70,7 +72,7 @@ module _ (asked : EditAsked) (before after : Seen) where
 -- ---- checks
 
 module _ (asked : CheckAsked) (before after : Seen) where
-  module _ (line : List ℕ) (answer : Status) (telling : IsTelling status.Done line answer before.printed after.printed before.unprinted after.unprinted)
+  module _ (line : List ℕ) (answer : Status) (telling : IsTelling status.Done (line ∷ []) answer before.printed after.printed before.unprinted after.unprinted)
       (accepts : Accepts asked before.files line) (files : after.files ≡ before.files) (calls : PutsOnRecord before.calls after.calls (λ calls. calls ≡ check_calls asked)) (faults : after.faults ≡ before.faults) where
     read : IsRead asked accepts.0 accepts.1 before after
     read = record { files = from-told before.files after.files (λ old new h same. (same, h)) accepts.3 (same-told before.files after.files (λ old new. new ≡ old) files (λ o. refl)); calls = calls; faultless = faults }
@@ -79,7 +81,7 @@ module _ (asked : CheckAsked) (before after : Seen) where
     pub checked-by : answer ≡ status.Done → IsChecked asked before after
     checked-by done = by telling
       where
-        by : IsTelling status.Done line answer before.printed after.printed before.unprinted after.unprinted → IsChecked asked before after
+        by : IsTelling status.Done (line ∷ []) answer before.printed after.printed before.unprinted after.unprinted → IsChecked asked before after
         by (inl (is, printed, told)) = record { records = accepts.0; released = accepts.1; read = read; told = rw (← accepts.2) (record { printed = printed; unprinted = told }) }
         by (inr (is, printed, told)) = absurd (cc (sym done ∙ is))
 
@@ -87,7 +89,7 @@ module _ (asked : CheckAsked) (before after : Seen) where
     pub unchecked-by : (answer ≡ status.Done → ⊥) → IsCheckStopped asked answer before after
     unchecked-by not = by telling
       where
-        by : IsTelling status.Done line answer before.printed after.printed before.unprinted after.unprinted → IsCheckStopped asked answer before after
+        by : IsTelling status.Done (line ∷ []) answer before.printed after.printed before.unprinted after.unprinted → IsCheckStopped asked answer before after
         by (inl (is, printed, told)) = absurd (not is)
         by (inr (is, printed, told)) = inr (is, record { records = accepts.0; released = accepts.1; read = read; untold = rw (← accepts.2) (record { printed = printed; unprinted = told }) })
 
@@ -95,3 +97,32 @@ module _ (asked : CheckAsked) (before after : Seen) where
   pub check-refused : (f : Fault) (answer : Status) → answer ≡ fault_status f → IfSome before.files (λ o. RefusesCheck asked o f) → after.faults ≡ faults_by f before.faults → IsCheckComplete asked answer before after
   check-refused f answer is cause faults =
       each-told before.files (λ o why audit held valid none. inr (is ∙ memory-left before after f (valid-beside asked o audit held f valid why) faults none)) cause
+
+-- ---- the command `rules`
+
+module _ (asked : RulesAsked) (before after : Seen) where
+  module _ (texts : List (List ℕ)) (answer : Status) (telling : IsTelling status.Done texts answer before.printed after.printed before.unprinted after.unprinted)
+      (report : IfSome before.files (λ o. IsReport asked o texts)) (files : after.files ≡ before.files) (calls : PutsOnRecord before.calls after.calls (λ calls. calls ≡ rules_calls asked)) (faults : after.faults ≡ before.faults) where
+    reported : IsReported asked texts before after
+    reported = record { files = from-told before.files after.files (λ old new h same. (same, h)) report (same-told before.files after.files (λ old new. new ≡ old) files (λ o. refl)); calls = calls; faultless = faults }
+
+    -- the lines were printed
+    pub ruled-by : answer ≡ status.Done → IsRuled asked before after
+    ruled-by done = by telling
+      where
+        by : IsTelling status.Done texts answer before.printed after.printed before.unprinted after.unprinted → IsRuled asked before after
+        by (inl (is, printed, told)) = record { texts = texts; reported = reported; told = record { printed = printed; unprinted = told } }
+        by (inr (is, printed, told)) = absurd (cc (sym done ∙ is))
+
+    -- or one was not
+    pub unruled-by : (answer ≡ status.Done → ⊥) → IsRulesStopped asked answer before after
+    unruled-by not = by telling
+      where
+        by : IsTelling status.Done texts answer before.printed after.printed before.unprinted after.unprinted → IsRulesStopped asked answer before after
+        by (inl (is, printed, told)) = absurd (not is)
+        by (inr (is, printed, told)) = inr (is, record { texts = texts; reported = reported; untold = record { printed = printed; unprinted = told } })
+
+  -- a refusal of rules that have a reading, in a run without a fault, is want of memory
+  pub rules-refused : (f : Fault) (answer : Status) → answer ≡ fault_status f → IfSome before.files (λ o. RefusesRulesCommand asked o f) → after.faults ≡ faults_by f before.faults → IsRulesComplete asked answer before after
+  rules-refused f answer is cause faults =
+      each-told before.files (λ o why survey held none. inr (is ∙ memory-left before after f (rules-beside asked o survey held f why) faults none)) cause

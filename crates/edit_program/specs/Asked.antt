@@ -75,12 +75,34 @@ pub record IsCheck (words : List (List ℕ)) (asked : CheckAsked) : Type 0 where
   pub form : words ≡ codes "check" ∷ words_of pairs
   pub options : GiveCheck pairs asked
 
+-- ---- rules
+
+-- the file that the command `rules` names
+pub record RulesAsked : Type 0 where
+  pub rules : List ℕ
+
+-- the one option of the command
+abbrev pub rules_options : List (List ℕ)
+rules_options = codes "--rules" ∷ []
+
+-- the pairs give this option, once
+pub record GiveRules (pairs : Pairs) (asked : RulesAsked) : Type 0 where
+  pub given : AreGiven rules_options pairs
+  pub rules : values_of (codes "--rules") pairs ≡ asked.rules ∷ []
+
+-- the words ask what becomes of the lines of rules: the command, and behind it the pair that gives its option
+pub record IsRules (words : List (List ℕ)) (asked : RulesAsked) : Type 0 where
+  pub pairs : Pairs
+  pub form : words ≡ codes "rules" ∷ words_of pairs
+  pub options : GiveRules pairs asked
+
 -- ---- any words
 
--- the words ask for no edit and for no check
+-- the words ask for none of these
 pub record IsNoCommand (words : List (String Global)) : Type 0 where
   pub no_edit : (asked : EditAsked) → ¬ IsEdit (map string_bytes words) asked
   pub no_check : (asked : CheckAsked) → ¬ IsCheck (map string_bytes words) asked
+  pub no_rules : (asked : RulesAsked) → ¬ IsRules (map string_bytes words) asked
 
 -- whatever edit the words ask for, the claim holds of it
 abbrev pub ForEdit : List (String Global) → (EditAsked → Type 0) → Type 0
@@ -89,3 +111,7 @@ ForEdit words P = (asked : EditAsked) → IsEdit (map string_bytes words) asked 
 -- the same of a check
 abbrev pub ForCheck : List (String Global) → (CheckAsked → Type 0) → Type 0
 ForCheck words P = (asked : CheckAsked) → IsCheck (map string_bytes words) asked → P asked
+
+-- the same of the command `rules`
+abbrev pub ForRules : List (String Global) → (RulesAsked → Type 0) → Type 0
+ForRules words P = (asked : RulesAsked) → IsRules (map string_bytes words) asked → P asked

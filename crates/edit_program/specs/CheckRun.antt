@@ -6,8 +6,7 @@ use Rattle.cert_check.specs.Shown.{Shows}
 use Rattle.edit_program.specs.Asked.{CheckAsked}
 use Rattle.edit_program.specs.Faults.{IsOfCheck}
 use Rattle.edit_program.specs.Readings.{HoldsRelease, RefusesCheck}
-use Rattle.edit_program.specs.Run.{IsFaultless, IsRefused, IsTold, IsUntold, Seen}
-use Rattle.edit_program.specs.declared.fault.Fault.{Fault}
+use Rattle.edit_program.specs.Run.{AreTold, AreUntold, IsFaultless, IsRefused, LeavesAll, Seen}
 use Rattle.edit_program.specs.declared.status.Status.{Status}
 use Rattle.edit_program.specs.declared.status.Status.TheVariants as status
 
@@ -28,10 +27,6 @@ pub record IsAccepted (asked : CheckAsked) (files : Files) (total given : ℕ) :
 abbrev pub valid_text : ℕ → ℕ → List ℕ
 valid_text records released = codes "valid records " ++ (decimal records ++ (codes " released " ++ decimal released))
 
--- the files of a check are as they were
-abbrev pub LeavesAll : Fault → Files → Files → Type 0
-LeavesAll fault before after = after ≡ before
-
 -- a check did all that it does on the desk, and found a valid release
 pub record IsRead (asked : CheckAsked) (records released : ℕ) (before after : Seen) : Type 0 where
   pub files : Told before.files after.files (λ old new. (new ≡ old) × IsAccepted asked old records released)
@@ -43,14 +38,14 @@ pub record IsChecked (asked : CheckAsked) (before after : Seen) : Type 0 where
   pub records : ℕ
   pub released : ℕ
   pub read : IsRead asked records released before after
-  pub told : IsTold (valid_text records released) before after
+  pub told : AreTold (valid_text records released ∷ []) before after
 
 -- a check whose line was not printed whole
 pub record IsCheckUntold (asked : CheckAsked) (before after : Seen) : Type 0 where
   pub records : ℕ
   pub released : ℕ
   pub read : IsRead asked records released before after
-  pub untold : IsUntold (valid_text records released) before after
+  pub untold : AreUntold (valid_text records released ∷ []) before after
 
 -- a check that did not do all: it is refused for a fault, or its line was not printed
 abbrev pub IsCheckStopped : CheckAsked → Status → Seen → Seen → Type 0

@@ -8,7 +8,7 @@ use Rattle.edit_program.specs.Asked.{EditAsked}
 use Rattle.edit_program.specs.Edits.{HasReleased, IsEditWith}
 use Rattle.edit_program.specs.Faults.{IsOfEdit}
 use Rattle.edit_program.specs.Readings.{HoldsRecords, HoldsRules, Refuses}
-use Rattle.edit_program.specs.Run.{IsFaultless, IsRefused, IsTold, IsUntold, LeavesOf, Seen}
+use Rattle.edit_program.specs.Run.{AreTold, AreUntold, IsFaultless, IsRefused, LeavesOf, Seen}
 use Rattle.edit_program.specs.declared.fault.Fault.{Fault}
 use Rattle.edit_program.specs.declared.fault.Fault.TheVariants as fault
 use Rattle.edit_program.specs.declared.status.Status.{Status}
@@ -56,14 +56,14 @@ pub record IsStored (asked : EditAsked) (answer : Status) (written : Written) (b
 pub record IsEdited (asked : EditAsked) (answer : Status) (before after : Seen) : Type 0 where
   pub written : Written
   pub stored : IsStored asked answer written before after
-  pub told : IsTold written.summary before after
+  pub told : AreTold (written.summary ∷ []) before after
 
 -- an edit whose summary was not printed whole
 pub record IsEditUntold (asked : EditAsked) (before after : Seen) : Type 0 where
   pub answer : Status
   pub written : Written
   pub stored : IsStored asked answer written before after
-  pub untold : IsUntold written.summary before after
+  pub untold : AreUntold (written.summary ∷ []) before after
 
 -- an edit that did not do all: it is refused for a fault, or its summary was not printed
 abbrev pub IsEditStopped : EditAsked → Status → Seen → Seen → Type 0

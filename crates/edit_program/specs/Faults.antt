@@ -60,6 +60,14 @@ IsOfCheck Usage = ⊥
 IsOfCheck (Write name) = ⊥
 IsOfCheck fault = ⊤
 
+-- a fault that the command `rules` may be refused for: it fetches the rules, and nothing else
+abbrev pub IsOfRulesCommand : Fault → Type 0
+IsOfRulesCommand (Rules line kind) = ⊤
+IsOfRulesCommand (Read name) = ⊤
+IsOfRulesCommand (TooLong name) = ⊤
+IsOfRulesCommand OutOfMemory = ⊤
+IsOfRulesCommand fault = ⊥
+
 -- the refusal for rules that were not read
 abbrev pub rules_fault : RulesFault → Fault
 rules_fault (rules.At line kind) = Rules line kind

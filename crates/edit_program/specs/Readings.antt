@@ -8,7 +8,7 @@ use Rattle.edit_model.specs.declared.field.Field.{Field}
 use Rattle.record_text.specs.Sheets.{IsSheet, IsSheetFault, SheetParts}
 use Rattle.record_text.specs.declared.fault.SheetFault.{SheetFault}
 use Rattle.cert_check.specs.Releases.{Audit, IsFirstFailure, IsValidRelease}
-use Rattle.edit_program.specs.Asked.{CheckAsked, EditAsked}
+use Rattle.edit_program.specs.Asked.{CheckAsked, EditAsked, RulesAsked}
 use Rattle.edit_program.specs.Faults.{sheet_fault}
 use Rattle.edit_program.specs.declared.fault.Fault.{Fault}
 use Rattle.edit_program.specs.declared.fault.Fault.TheVariants as fault
@@ -104,6 +104,14 @@ RefusesCheck asked files (fault.TooLong name) = RefusesInput asked.rules asked.r
 RefusesCheck asked files (fault.Rejected line why) = (audit : Audit) × HoldsRelease files asked audit × ¬ IsValidRelease audit × IsFirstFailure audit line why
 RefusesCheck asked files fault = RefusesInput asked.rules asked.records files fault
 
+-- why the file of the command `rules` is refused: it is too long, or holds no rules
+abbrev pub RefusesRulesCommand : RulesAsked → Files → Fault → Type 0
+RefusesRulesCommand asked files (fault.Rules line kind) = HoldsText files asked.rules (AreNoRules line kind)
+RefusesRulesCommand asked files (fault.TooLong name) = (name ≡ asked.rules) × IsLonger files name most_bytes
+RefusesRulesCommand asked files (fault.Read name) = ⊤
+RefusesRulesCommand asked files fault.OutOfMemory = ⊤
+RefusesRulesCommand asked files fault = ⊥
+
 -- ---- what is due
 
 -- the rules and the records are to be refused with this status: a file is too long, or has no reading
@@ -122,6 +130,12 @@ abbrev pub IsCheckDue : CheckAsked → Files → Status → Type 0
 IsCheckDue asked files status.TooLong = IsInputDue asked.rules asked.records files status.TooLong ⊎ ((name : List ℕ) × IsTooLong asked files name)
 IsCheckDue asked files status.Rejected = (audit : Audit) × HoldsRelease files asked audit × ¬ IsValidRelease audit
 IsCheckDue asked files answer = IsInputDue asked.rules asked.records files answer
+
+-- the file of the command `rules` is
+abbrev pub IsRulesDue : RulesAsked → Files → Status → Type 0
+IsRulesDue asked files status.TooLong = IsLonger files asked.rules most_bytes
+IsRulesDue asked files status.Rules = HoldsText files asked.rules (λ bytes. (survey : SurveyParts) → ¬ IsRuleText bytes survey)
+IsRulesDue asked files answer = ⊥
 
 -- a status that is due is answered, unless a file could not be read or memory was refused
 abbrev pub AnswersDue : (Status → Type 0) → Status → Type 0

@@ -1,10 +1,82 @@
--- What is printed of the lines of a survey's rules.
-use Rattle.std.specs.Prelude.{ℕ, List}
+-- What a run of the command `rules` does.
+use Rattle.std.specs.Prelude.{◌≡◌, ◌⊎◌, ℕ, suc, List, [], ◌∷◌, Some, IfSome, drop, slice_get}
+use Rattle.edit_desk.specs.Desk.{Asked, Files, PutsOnRecord, Told, fetched}
 use Rattle.edit_model.specs.Parts.{SurveyParts}
+use Rattle.edit_line.specs.Lines.{LineParts}
+use Rattle.edit_line.specs.Shapes.{shape_of}
 use Rattle.edit_normal.specs.RuleLines.{normal_lines_of}
+use Rattle.derivation.specs.Premises.{usable_lines}
+use Rattle.derivation.specs.declared.step.Step.{Step}
+use Rattle.redundancy.specs.Negations.{refutation_of}
+use Rattle.redundancy.specs.Refutations.{CanFail, RefutedBy}
+use Rattle.redundancy.specs.Verdicts.{left_at, no_values}
+use Rattle.redundancy.specs.declared.verdict.Verdict.TheVariants.{Dropped, Kept}
+use Rattle.redundancy.specs.declared.verdict.Why.TheVariants.{Needed}
 use Rattle.pruned_rules.specs.Pruned.{rule_verdicts}
-use Rattle.rule_report.specs.Reports.{texts_from}
+use Rattle.rule_report.specs.Reports.{report_of}
+use Rattle.edit_release.specs.Edits.{DroppedFollow}
+use Rattle.edit_program.specs.Asked.{RulesAsked}
+use Rattle.edit_program.specs.Faults.{IsOfRulesCommand}
+use Rattle.edit_program.specs.Readings.{HoldsRules, RefusesRulesCommand}
+use Rattle.edit_program.specs.Run.{AreTold, AreUntold, IsFaultless, IsRefused, LeavesAll, Seen}
+use Rattle.edit_program.specs.declared.status.Status.{Status}
+use Rattle.edit_program.specs.declared.status.Status.TheVariants as status
 
--- of all lines of a survey's rules, numbered from 1
-abbrev pub report_of : SurveyParts → List (List ℕ)
-report_of survey = texts_from survey.fields 1 (normal_lines_of survey) (rule_verdicts survey)
+-- all calls of the command
+abbrev pub rules_calls : RulesAsked → List Asked
+rules_calls asked = fetched asked.rules ∷ []
+
+-- ---- what the verdicts mean
+
+-- the lines that are left when the line at a place is tried: those before it, and of the later ones those that are kept
+abbrev pub lines_left : SurveyParts → ℕ → List LineParts
+lines_left survey place = usable_lines (normal_lines_of survey) (left_at place (drop (suc place) (rule_verdicts survey)))
+
+-- a line that is needed does not follow from those that are left: some point meets them and not it
+abbrev pub NeededCanFail : SurveyParts → Type 0
+NeededCanFail survey = (place : ℕ) (line : LineParts) → slice_get (normal_lines_of survey) place ≡ Some line → slice_get (rule_verdicts survey) place ≡ Some (Kept Needed)
+    → CanFail survey.fields (lines_left survey place) line
+
+-- the steps of a dropped line refute its negation, from the lines that are left
+abbrev pub DroppedRefuted : SurveyParts → Type 0
+DroppedRefuted survey = (place : ℕ) (line : LineParts) (steps : List Step) → slice_get (normal_lines_of survey) place ≡ Some line → slice_get (rule_verdicts survey) place ≡ Some (Dropped steps)
+    → RefutedBy (refutation_of (shape_of survey.fields) (normal_lines_of survey) (left_at place (drop (suc place) (rule_verdicts survey))) line (no_values survey.fields)) steps
+
+-- the rules that the desk held read as a survey; these are the lines to be printed of it; and what they say is so
+pub record IsReport (asked : RulesAsked) (files : Files) (texts : List (List ℕ)) : Type 0 where
+  pub survey : SurveyParts
+  pub held : HoldsRules files asked.rules survey
+  pub listed : texts ≡ report_of survey
+  pub dropped : DroppedFollow survey
+  pub needed : NeededCanFail survey
+  pub refuted : DroppedRefuted survey
+
+-- ---- runs
+
+-- the command did all that it does on the desk, and these are the lines to be printed
+pub record IsReported (asked : RulesAsked) (texts : List (List ℕ)) (before after : Seen) : Type 0 where
+  pub files : Told before.files after.files (λ old new. (new ≡ old) × IsReport asked old texts)
+  pub calls : PutsOnRecord before.calls after.calls (λ calls. calls ≡ rules_calls asked)
+  pub faultless : after.faults ≡ before.faults
+
+-- a whole run: the lines were printed
+pub record IsRuled (asked : RulesAsked) (before after : Seen) : Type 0 where
+  pub texts : List (List ℕ)
+  pub reported : IsReported asked texts before after
+  pub told : AreTold texts before after
+
+-- a run of whose lines one was not printed whole
+pub record IsRulesUntold (asked : RulesAsked) (before after : Seen) : Type 0 where
+  pub texts : List (List ℕ)
+  pub reported : IsReported asked texts before after
+  pub untold : AreUntold texts before after
+
+-- a run that did not do all: it is refused for a fault, or one of its lines was not printed
+abbrev pub IsRulesStopped : RulesAsked → Status → Seen → Seen → Type 0
+IsRulesStopped asked answer before after =
+    IsRefused IsOfRulesCommand (RefusesRulesCommand asked) (rules_calls asked) LeavesAll answer before after ⊎ ((answer ≡ status.WriteFault) × IsRulesUntold asked before after)
+
+-- where the rules that the desk held have a reading, and no fault is met, the command is done, but for want of memory
+abbrev pub IsRulesComplete : RulesAsked → Status → Seen → Seen → Type 0
+IsRulesComplete asked answer before after = IfSome before.files (λ files. (survey : SurveyParts) → HoldsRules files asked.rules survey → IsFaultless before after
+    → (answer ≡ status.Done) ⊎ (answer ≡ status.OutOfMemory))

@@ -78,6 +78,10 @@ LeavesOf files (fault.Write name) before after = IsLeft files name before after
 LeavesOf files fault.OutOfMemory before after = (count : ℕ) × AreStored (take count files) before after
 LeavesOf files fault before after = after ≡ before
 
+-- the files of a command that stores none are as they were
+abbrev pub LeavesAll : Fault → Files → Files → Type 0
+LeavesAll fault before after = after ≡ before
+
 -- ---- what is printed
 
 -- of what was printed before and after, and of the counts of lines that failed: one line with this text was printed, or failed with some first bytes of it printed
@@ -89,14 +93,28 @@ AreBytesOf text printed now failed failed_now =
 abbrev pub IsLinePrinted : List ℕ → Seen → Seen → Type 0
 IsLinePrinted text before after = AreBytesOf text before.printed after.printed before.unprinted after.unprinted
 
--- the line was printed whole
-pub record IsTold (text : List ℕ) (before after : Seen) : Type 0 where
-  pub printed : Told before.printed after.printed (λ old new. new ≡ old ++ line_of text)
+-- the bytes of lines, one after the other
+abbrev pub bytes_of_lines : List (List ℕ) → List ℕ
+bytes_of_lines [] = []
+bytes_of_lines (text ∷ texts) = line_of text ++ bytes_of_lines texts
+
+-- lines are appended in order until one fails: those before it whole, of it some first bytes or none, and of the later ones nothing
+pub record AreCutShort (texts : List (List ℕ)) (old new : List ℕ) : Type 0 where
+  pub front : List (List ℕ)
+  pub text : List ℕ
+  pub rest : List (List ℕ)
+  pub stands : texts ≡ front ++ text ∷ rest
+  pub kept : ℕ
+  pub printed : new ≡ old ++ (bytes_of_lines front ++ take kept (line_of text))
+
+-- all lines were printed whole, in order
+pub record AreTold (texts : List (List ℕ)) (before after : Seen) : Type 0 where
+  pub printed : Told before.printed after.printed (λ old new. new ≡ old ++ bytes_of_lines texts)
   pub unprinted : after.unprinted ≡ before.unprinted
 
--- the line was not printed whole
-pub record IsUntold (text : List ℕ) (before after : Seen) : Type 0 where
-  pub printed : Told before.printed after.printed (λ old new. (kept : ℕ) × (new ≡ old ++ take kept (line_of text)))
+-- one of the lines was not printed whole, and no later one was tried
+pub record AreUntold (texts : List (List ℕ)) (before after : Seen) : Type 0 where
+  pub printed : Told before.printed after.printed (AreCutShort texts)
   pub unprinted : after.unprinted ≡ raised before.unprinted
 
 -- ---- refused runs

@@ -6,8 +6,8 @@ ghost use Rattle.edit_program.specs.Faults.{IsOfCheck};
 ghost use Rattle.edit_program.specs.Readings.{AnswersDue, IsCheckDue, RefusesCheck};
 ghost use Rattle.edit_program.specs.Run.{seen};
 ghost use Rattle.edit_program.specs.declared.fault.Fault.TheVariants as faults;
-ghost use Rattle.edit_program.specs.inner.CheckParts.{Accepts, check_end};
-ghost use Rattle.edit_program.specs.inner.Parts.{AreCallsOf, faults_after};
+ghost use Rattle.edit_program.specs.inner.CheckParts.{Accepts};
+ghost use Rattle.edit_program.specs.inner.Parts.{AreCallsOf, done_end, faults_after};
 
 use crate::check_asked::CheckWords;
 use crate::fault::Fault;
@@ -53,7 +53,7 @@ fn check<'a, D: Desk>(
     ensures kind { IfErr result IsOfCheck }
     ensures accepted { IfOk result (λ line. Accepts asked.now (D.files desk.old) line.items) }
     ensures cause { IfErr result (λ fault. IfSome (D.files desk.old) (λ files. RefusesCheck asked.now files fault)) }
-    ensures due { IfSome (D.files desk.old) (λ files. AnswersDue (IsCheckDue asked.now files) (check_end result)) }
+    ensures due { IfSome (D.files desk.old) (λ files. AnswersDue (IsCheckDue asked.now files) (done_end result)) }
     ensures asked { PutsOnRecord (D.calls desk.old) (D.calls desk.new) (AreCallsOf (check_calls asked.now) result) }
     ensures faults { D.faults desk.new ≡ faults_after result (D.faults desk.old) }
     ensures unchanged { D.files desk.new ≡ D.files desk.old }

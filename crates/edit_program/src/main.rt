@@ -1,5 +1,5 @@
-//! The program: it reads the words of the command line, fetches the files that they name, and edits the records or
-//! checks what was released of them. Begin with [`run::fh_main`].
+//! The program: it reads the words of the command line, fetches the files that they name, and edits the records,
+//! checks what was released of them, or says which rules follow from the others. Begin with [`run::fh_main`].
 #![tactic(auto)]
 
 mod check_asked;
@@ -11,6 +11,8 @@ pub mod laws;
 mod options;
 mod reading;
 mod refusal;
+mod rules_asked;
+mod rules_run;
 pub mod run;
 pub mod status;
 mod storing;

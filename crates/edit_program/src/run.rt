@@ -1,9 +1,10 @@
 ghost use Rattle.std.specs.Prelude.{◌≡◌, ◌≢◌, ◌↔◌, IfSome};
-ghost use Rattle.edit_program.specs.Asked.{ForCheck, ForEdit, IsNoCommand};
+ghost use Rattle.edit_program.specs.Asked.{ForCheck, ForEdit, ForRules, IsNoCommand};
 ghost use Rattle.edit_program.specs.CheckRun.{IsCheckComplete, IsCheckStopped, IsChecked};
 ghost use Rattle.edit_program.specs.EditRun.{IsEditComplete, IsEditStopped, IsEdited};
 ghost use Rattle.edit_program.specs.Edits.{HasReleased};
-ghost use Rattle.edit_program.specs.Readings.{AnswersDue, IsCheckDue, IsDue};
+ghost use Rattle.edit_program.specs.Readings.{AnswersDue, IsCheckDue, IsDue, IsRulesDue};
+ghost use Rattle.edit_program.specs.RulesRun.{IsRuled, IsRulesComplete, IsRulesStopped};
 ghost use Rattle.edit_program.specs.Run.{IsUsage, seen};
 
 use crate::check_asked::check_asked;
@@ -11,6 +12,8 @@ use crate::check_run::run_check;
 use crate::edit_asked::edit_asked;
 use crate::edit_run::run_edit;
 use crate::fault::USAGE;
+use crate::rules_asked::rules_asked;
+use crate::rules_run::run_rules;
 use crate::status::Status;
 use crate::telling::refuse;
 use edit_desk::{Desk, Printer};
@@ -19,7 +22,8 @@ use std::alloc::Global;
 /// Serves the words after the program's name, over a desk and a printer. `edit` fetches and reads the rules, then
 /// the records, corrects each record at the least weight, stores the proof, the reasons and the released file, and
 /// prints a summary. `check` fetches and reads the rules, then the records, fetches the released file, then the proof,
-/// and prints whether they are a valid release. The first refusal in this order ends the call, and is printed.
+/// and prints whether they are a valid release. `rules` fetches and reads the rules, and prints what becomes of each of
+/// their lines. The first refusal in this order ends the call, and is printed.
 pub fn fh_main<D: Desk, P: Printer>(
     alloc: Global,
     words: &[String],
@@ -67,12 +71,33 @@ pub fn fh_main<D: Desk, P: Printer>(
 
     // Files that are too long, have no reading or are no valid release are told exactly where they are so.
     ensures check_due { ForCheck words.now (λ asked. IfSome (D.files desk.old) (λ files. AnswersDue (IsCheckDue asked files) result)) }
+
+    // Redundant rules: what is printed of the lines, and what it means, where `rules` ends with 0.
+    ensures ruled { result ≡ Status.Done → ForRules words.now (λ asked. IsRuled asked
+        (seen (D.files desk.old) (D.calls desk.old) (D.faults desk.old) (P.printed printer.old) (P.faults printer.old))
+        (seen (D.files desk.new) (D.calls desk.new) (D.faults desk.new) (P.printed printer.new) (P.faults printer.new))) }
+
+    // Where it ends otherwise: the fault that ended it, where it ended, and what was printed; no file is changed.
+    ensures rules_stopped { result ≢ Status.Done → ForRules words.now (λ asked. IsRulesStopped asked result
+        (seen (D.files desk.old) (D.calls desk.old) (D.faults desk.old) (P.printed printer.old) (P.faults printer.old))
+        (seen (D.files desk.new) (D.calls desk.new) (D.faults desk.new) (P.printed printer.new) (P.faults printer.new))) }
+
+    // Where the rules have a reading and no fault is met, `rules` is done, but for want of memory.
+    ensures rules_complete { ForRules words.now (λ asked. IsRulesComplete asked result
+        (seen (D.files desk.old) (D.calls desk.old) (D.faults desk.old) (P.printed printer.old) (P.faults printer.old))
+        (seen (D.files desk.new) (D.calls desk.new) (D.faults desk.new) (P.printed printer.new) (P.faults printer.new))) }
+
+    // Rules that are too long or have no reading are told exactly where they are so.
+    ensures rules_due { ForRules words.now (λ asked. IfSome (D.files desk.old) (λ files. AnswersDue (IsRulesDue asked files) result)) }
 {
     if let Some(asked) = edit_asked(words) {
         return run_edit(alloc, &asked, desk, printer);
     }
     if let Some(asked) = check_asked(words) {
         return run_check(alloc, &asked, desk, printer);
+    }
+    if let Some(asked) = rules_asked(words) {
+        return run_rules(alloc, &asked, desk, printer);
     }
     refuse(printer, USAGE, Status::Usage)
 }

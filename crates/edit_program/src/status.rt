@@ -3,7 +3,7 @@ ghost use Rattle.std.specs.Prelude.{◌≡◌};
 /// How a run of the program ended.
 #[derive(Clone, Copy, Debug, PartialEq, Eq)]
 pub enum Status {
-    /// Every record was released, or the files are a valid release.
+    /// Every record was released, or the files are a valid release, or all lines were printed.
     Done,
     /// Some record is unresolved, and was left out.
     SomeUnresolved,
@@ -15,7 +15,7 @@ pub enum Status {
     Records,
     /// A file could not be read.
     ReadFault,
-    /// A file could not be written.
+    /// A file could not be written, or a line not printed.
     WriteFault,
     /// Memory was refused.
     OutOfMemory,

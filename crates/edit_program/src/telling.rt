@@ -1,5 +1,5 @@
 //! What a run prints.
-ghost use Rattle.std.specs.Prelude.{◌≡◌, ◌≢◌};
+ghost use Rattle.std.specs.Prelude.{◌≡◌, ◌≢◌, [], ◌∷◌, map};
 ghost use Rattle.edit_program.specs.Faults.{fault_text};
 ghost use Rattle.edit_program.specs.Run.{AreBytesOf};
 ghost use Rattle.edit_program.specs.declared.fault.Fault.TheVariants as faults;
@@ -21,9 +21,23 @@ pub fn refuse_words<P: Printer>(printer: &mut P, status: Status) -> Status
     }
 }
 
-/// Prints the line of a run that did all on the desk: where that fails, the run ends as if a file could not be written.
+/// Prints the lines of a run that did all on the desk, in order: where one fails, the run ends as if a file could not be
+/// written, and no later one is tried.
+pub(crate) fn tell_all<P: Printer>(printer: &mut P, lines: &[Vec<u8>], status: Status) -> Status
+    ensures { IsTelling status (map (λ line. line.items) lines.now) result (P.printed printer.old) (P.printed printer.new) (P.faults printer.old) (P.faults printer.new) }
+{
+    for line in lines {
+        match printer.line(line) {
+            Ok(()) => {}
+            Err(PrintFailed) => return Status::WriteFault,
+        }
+    }
+    status
+}
+
+/// The same of one line.
 pub(crate) fn tell<P: Printer>(printer: &mut P, line: &[u8], status: Status) -> Status
-    ensures { IsTelling status line.now result (P.printed printer.old) (P.printed printer.new) (P.faults printer.old) (P.faults printer.new) }
+    ensures { IsTelling status (line.now ∷ []) result (P.printed printer.old) (P.printed printer.new) (P.faults printer.old) (P.faults printer.new) }
 {
     match printer.line(line) {
         Ok(()) => status,

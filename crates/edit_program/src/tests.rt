@@ -1,6 +1,7 @@
 //! Whole runs, over files and lines in memory. What is expected was worked out by hand.
 mod checks;
 mod refusals;
+mod rules;
 mod worked;
 
 use crate::run::fh_main;

@@ -18,7 +18,8 @@ flat-own f lines own = reduce-own (flat_from f 0 lines) (subst (λ (ls : List Li
 pub own-start : (base start : List Derived) → start ≡ reduce_derived base → AreOwn (lines_of start)
 own-start base start is = subst (λ (ls : List Derived). AreOwn (lines_of ls)) (sym is) (own-reduced base)
 
-own-step : (lines : List Derived) (f : ℕ) (next : List Derived) → step_result lines f ≡ Ok next → AreOwn (lines_of next)
+-- and those of a step
+pub own-step : (lines : List Derived) (f : ℕ) (next : List Derived) → step_result lines f ≡ Ok next → AreOwn (lines_of next)
 own-step lines f next = by (eliminated_result lines f)
   where
     by : (r : Result (List Derived) StepOverflow) → reduced_result r ≡ Ok next → AreOwn (lines_of next)

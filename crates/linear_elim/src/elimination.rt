@@ -85,9 +85,10 @@ fn counted_step<L: Ledger>(
     combined_step(alloc, &column, lines, flat, steps)
 }
 
-/// The step over reduced lines, with one step counted for each pair that is combined. The lines without the
-/// field are not compared, since a part of a reduced list is reduced.
-pub(crate) fn reduced_step<L: Ledger>(
+/// The same step over reduced lines, of which none says what another says: it answers as [`step`] does, and
+/// counts one step for each pair that is combined. The lines without the field are not compared with one
+/// another, since a part of a reduced list is reduced.
+pub fn reduced_step<L: Ledger>(
     alloc: Global,
     lines: &[Derived],
     field: u32,

@@ -16,7 +16,7 @@ mod pair_count;
 mod system;
 mod systems;
 
-pub use elimination::step;
+pub use elimination::{reduced_step, step};
 pub use fault::{StepFault, SystemFault};
 pub use fold::fold_system;
 pub use held::Held;

@@ -5,13 +5,14 @@ use Rattle.edit_model.specs.declared.field.Field.{Field}
 use Rattle.edit_model.specs.declared.value.Value.{Value}
 use Rattle.edit_line.specs.CodeFields.{TakesCodes}
 use Rattle.edit_line.specs.Lines.{HasShape, HaveShape, LineParts}
-use Rattle.edit_line.specs.Reductions.{IsIn, lines_of, reduce_derived}
+use Rattle.edit_line.specs.Reductions.{AreOwn, IsIn, lines_of, reduce_derived}
 use Rattle.edit_line.specs.Shapes.{Domain, code_fields, has_field, number_fields, shape_of, whole_sets}
 use Rattle.edit_line.specs.declared.derived.Derived.{Derived}
 use Rattle.edit_line.proofs.FieldLists.{there-has}
 use Rattle.edit_line.proofs.PointCodes.{takes-codes}
 use Rattle.edit_line.proofs.ReductionLaws.{all-reduced}
 use Rattle.linear_elim.specs.Steps.{pairs_count, step_result}
+use Rattle.linear_elim.proofs.OwnLoops.{own-step}
 use Rattle.linear_elim.proofs.ResultLaws.{HaveShape-result}
 use Rattle.categ_combine.specs.BoxLists.{AreBoxesOver, sets_of}
 use Rattle.categ_combine.specs.Covers.{cover_count, covered_from}
@@ -39,13 +40,15 @@ within-budget budget work v few = ap (λ b. if b then Kept Budget else v) low
 -- before the field at place i is eliminated
 pub record IsWalking (shape : List Domain) (row : List Value) (budget : ℕ) (start : List Derived) (numbers : List ℕ) (i : ℕ) (spent : ℕ) (history : History) (lines : List Derived) : Type 0 where
   pub over : HaveShape shape (lines_of lines)
+  pub own : AreOwn (lines_of lines)
   pub rest : number_walk shape row budget spent history lines (drop i numbers) ≡ number_walk shape row budget 1 (with_lines [] start) start numbers
   pub few : spent ≤ budget
 
 module _ (shape : List Domain) (row : List Value) (budget : ℕ) (start : List Derived) where
-  pub walking-start : (spent : ℕ) (history : History) (lines : List Derived) (numbers : List ℕ) → 1 ≤ budget → HaveShape shape (lines_of start) → lines ≡ start → history ≡ with_lines [] start → spent ≡ 1 → IsWalking shape row budget start numbers 0 spent history lines
-  walking-start spent history lines numbers some over same made one = record {
+  pub walking-start : (spent : ℕ) (history : History) (lines : List Derived) (numbers : List ℕ) → 1 ≤ budget → HaveShape shape (lines_of start) → AreOwn (lines_of start) → lines ≡ start → history ≡ with_lines [] start → spent ≡ 1 → IsWalking shape row budget start numbers 0 spent history lines
+  walking-start spent history lines numbers some over own same made one = record {
     over = subst (λ (ls : List Derived). HaveShape shape (lines_of ls)) (sym same) over;
+    own = subst (λ (ls : List Derived). AreOwn (lines_of ls)) (sym same) own;
     rest =
         ap (λ (ls : List Derived). number_walk shape row budget spent history ls numbers) same ∙ ap (λ (h : History). number_walk shape row budget spent h start numbers) made
         ∙ ap (λ n. number_walk shape row budget n (with_lines [] start) start numbers) one;
@@ -69,6 +72,7 @@ module _ (shape : List Domain) (row : List Value) (budget : ℕ) (start : List D
         → later ≡ with_lines history next → more ≡ spent + (1 + pairs_count lines (get_or numbers i 0)) → more ≤ budget → IsWalking shape row budget start numbers (i + 1) more later next
     walking-turn more later next none stepped later_is more_is few = record {
       over = HaveShape-result shape lines (get_or numbers i 0) next stepped before.over;
+      own = own-step lines (get_or numbers i 0) next stepped;
       rest =
           ap (λ n. number_walk shape row budget n later next (drop (i + 1) numbers)) more_is
           ∙ ap (λ (h : History). number_walk shape row budget (spent + (1 + pairs_count lines (get_or numbers i 0))) h next (drop (i + 1) numbers)) later_is

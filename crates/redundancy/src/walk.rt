@@ -1,13 +1,15 @@
 //! The walk along the path that changes every field: the numerical fields are eliminated in declared
 //! order, and then the categorical ones, until something absurd is left, or nothing, or the budget is
 //! passed.
-ghost use Rattle.std.specs.Prelude.{◌≡◌, ◌≤◌, ◌+◌, [], All, IfNone, IfOk, List, None, Ok};
+ghost use Rattle.std.specs.Prelude.{◌≡◌, ◌≤◌, ◌<◌, ◌+◌, [], All, IfNone, IfOk, List, None, Ok};
 ghost use Rattle.edit_model.specs.Rows.{IsRow};
 ghost use Rattle.edit_line.specs.CodeFields.{TakesCodes};
 ghost use Rattle.edit_line.specs.Lines.{HaveShape};
-ghost use Rattle.edit_line.specs.Reductions.{lines_of, reduce_derived};
+ghost use Rattle.edit_line.specs.Reductions.{AreOwn, lines_of, reduce_derived};
 ghost use Rattle.edit_line.specs.Shapes.{Domain, code_fields, shape_of, whole_sets};
+ghost use Rattle.linear_elim.specs.Answers.{Answers};
 ghost use Rattle.linear_elim.specs.Steps.{OneShape, pairs_count, step_result};
+ghost use Rattle.linear_elim.specs.Told.{told_step};
 ghost use Rattle.categ_combine.specs.BoxLists.{AreBoxesOver, HaveCodeField, sets_of};
 ghost use Rattle.categ_combine.specs.Covers.{cover_count, covered_from};
 ghost use Rattle.categ_combine.specs.FailingBoxes.{failing_from};
@@ -22,9 +24,11 @@ use categ_combine::{BoxFault, BoxFrom, Covered, boxes_of, cat_step};
 use derivation::is_false;
 use edit_line::{Derived, Shape, reduce};
 use edit_model::{Row, Survey};
-use foundation::OutOfMemory;
-use linear_elim::{StepFault, pairs, step};
+use foundation::{OutOfMemory, Steps};
+use linear_elim::{StepFault, pairs, reduced_step};
 use std::alloc::Global;
+use std::marker::Brand;
+use std::sync::ledger::{Blank, Ledger};
 
 // The walk over the numerical fields: the lines that are left, how they were made, and the work so far.
 #[derive(Drop)]
@@ -92,6 +96,7 @@ fn number_turn(
     budget: u64,
 ) -> Result<Option<Verdict>, OutOfMemory>
     requires shape { OneShape walk.old.lines.items }
+    requires own { AreOwn (lines_of walk.old.lines.items) }
     requires spent { walk.old.spent ≤ budget }
     ensures ended { IfOk result (λ told. told ≡ number_end wholes.now budget walk.old.spent walk.old.history walk.old.lines.items field) }
     ensures lines { IfOk result (λ told. IfNone told (step_result walk.old.lines.items field ≡ Ok walk.new.lines.items)) }
@@ -106,7 +111,7 @@ fn number_turn(
     if pairs >= u128::from(budget - walk.spent) {
         return Ok(Some(Verdict::Kept(Why::Budget)));
     }
-    match step(alloc, &walk.lines, field) {
+    match next_lines::<Brand>(alloc, &walk.lines, field, Blank::new(1)) {
         Ok(lines) => {
             walk.history.add_lines(alloc, &lines)?;
             walk.lines = lines;
@@ -116,6 +121,25 @@ fn number_turn(
         Err(StepFault::Overflow { .. }) => Ok(Some(Verdict::Kept(Why::Overflow))),
         Err(StepFault::OutOfMemory) => Err(OutOfMemory),
     }
+}
+
+// The lines without the field. Those of the walk are reduced, as each list that a step makes; its steps are
+// not counted.
+fn next_lines<L: Ledger>(
+    alloc: Global,
+    lines: &[Derived],
+    field: u32,
+    blank: Blank,
+) -> Result<Vec<Derived>, StepFault>
+    requires name { blank.name ≡ L.name }
+    requires parts { blank.parts ≡ L.parts }
+    requires counts { 0 < blank.parts }
+    requires shape { OneShape lines.now }
+    requires own { AreOwn (lines_of lines.now) }
+    ensures exact { Answers (λ v. v.items) told_step result (step_result lines.now field) }
+{
+    let mut steps = Steps::<L>::start(blank);
+    reduced_step(alloc, lines, field, &mut steps)
 }
 
 // The place of the first false line of all codes.

@@ -1,10 +1,10 @@
 -- What the parts of a run do.
-use Rattle.std.specs.Prelude.{◌≡◌, ◌⊎◌, ⊤, ℕ, List, ◌++◌, Option, Result, Ok, Err, map, take}
+use Rattle.std.specs.Prelude.{◌≡◌, ◌⊎◌, ⊤, ℕ, List, ◌++◌, Option, Result, Ok, Err, map}
 use Rattle.edit_desk.specs.Desk.{Asked, Files, IsLonger, Told, raised, stored}
-use Rattle.edit_desk.specs.Printer.{line_of}
 use Rattle.edit_model.specs.declared.field.Field.{Field}
+use Rattle.edit_program.specs.Faults.{fault_status}
 use Rattle.edit_program.specs.Readings.{AreNoRecords, AreNoRules, HoldsText, most_bytes}
-use Rattle.edit_program.specs.Run.{AreCallsTo, AreStored, LeavesOf, faults_by}
+use Rattle.edit_program.specs.Run.{AreCallsTo, AreCutShort, AreStored, LeavesOf, bytes_of_lines, faults_by}
 use Rattle.edit_program.specs.declared.fault.Fault.{Fault}
 use Rattle.edit_program.specs.declared.fault.Fault.TheVariants as fault
 use Rattle.edit_program.specs.declared.status.Status.{Status}
@@ -19,6 +19,11 @@ faults_after (Err fault) faults = faults_by fault faults
 abbrev pub AreCallsOf : {A : Type 0} → List Asked → Result A Fault → List Asked → Type 0
 AreCallsOf order (Ok done) calls = calls ≡ order
 AreCallsOf order (Err fault) calls = AreCallsTo order fault calls
+
+-- the status of a command that did all on the desk, or was refused
+abbrev pub done_end : {A : Type 0} → Result A Fault → Status
+done_end (Ok done) = status.Done
+done_end (Err fault) = fault_status fault
 
 -- ---- one fetch, and the reading of what it gave
 
@@ -73,8 +78,8 @@ store_calls files = map (λ file. stored file.0) files
 
 -- ---- what is printed
 
--- the line was printed, and the run ends with its status; or it was not, and the run ends as if a file could not be written
-abbrev pub IsTelling : Status → List ℕ → Status → Option (List ℕ) → Option (List ℕ) → ℕ → ℕ → Type 0
-IsTelling ended text answer printed now failed failed_now =
-    ((answer ≡ ended) × Told printed now (λ old new. new ≡ old ++ line_of text) × (failed_now ≡ failed))
-    ⊎ ((answer ≡ status.WriteFault) × Told printed now (λ old new. (kept : ℕ) × (new ≡ old ++ take kept (line_of text))) × (failed_now ≡ raised failed))
+-- the lines were printed, and the run ends with its status; or one was not, and the run ends as if a file could not be written
+abbrev pub IsTelling : Status → List (List ℕ) → Status → Option (List ℕ) → Option (List ℕ) → ℕ → ℕ → Type 0
+IsTelling ended texts answer printed now failed failed_now =
+    ((answer ≡ ended) × Told printed now (λ old new. new ≡ old ++ bytes_of_lines texts) × (failed_now ≡ failed))
+    ⊎ ((answer ≡ status.WriteFault) × Told printed now (AreCutShort texts) × (failed_now ≡ raised failed))

@@ -24,7 +24,7 @@ const RUNS: &[Run] = &[
         unprinted: 0,
         status: Status::Done,
         proof: Some(
-            "fh-proof 1\nlimit 1 near 5 budget 1000000\nlines 5\nkeep\nkeep\nkeep\nkeep\nkeep\nrecords 1\nclean\nclaims 0\nend\n",
+            "fh-proof 1\nlimit 1 near 5 budget 1000000\nlines 5\nkeep\ndrop 9\ngiven 1\ngiven 4\ncombine 1 1 2 1 1\ngiven 6\ncombine 3 1 4 1 1\ngiven 5\ncombine 6 1 2 3 1\ncombine 7 1 4 3 2\ncombine 5 1 8 1 1\nkeep\nkeep\nkeep\nrecords 1\nclean\nclaims 0\nend\n",
         ),
         reasons: Some("record,cause,field,before,after,donor,detail\n"),
         released: Some("Turnover,Costs,Profit\n100,60,40\n"),
@@ -40,7 +40,7 @@ const RUNS: &[Run] = &[
         unprinted: 0,
         status: Status::Done,
         proof: Some(
-            "fh-proof 1\nlimit 1 near 5 budget 1000000\nlines 5\nkeep\nkeep\nkeep\nkeep\nkeep\nrecords 1\nchange 1 KKC 4\nline KKK 1\ngiven 3\nbound KKC\nbound KC\nbound C\nclaims 0\nend\n",
+            "fh-proof 1\nlimit 1 near 5 budget 1000000\nlines 5\nkeep\ndrop 9\ngiven 1\ngiven 4\ncombine 1 1 2 1 1\ngiven 6\ncombine 3 1 4 1 1\ngiven 5\ncombine 6 1 2 3 1\ncombine 7 1 4 3 2\ncombine 5 1 8 1 1\nkeep\nkeep\nkeep\nrecords 1\nchange 1 KKC 4\nline KKK 1\ngiven 3\nbound KKC\nbound KC\nbound C\nclaims 0\nend\n",
         ),
         reasons: Some(
             "record,cause,field,before,after,donor,detail\n1,changed,Profit,400,40,,nearest\n",
@@ -58,7 +58,7 @@ const RUNS: &[Run] = &[
         unprinted: 0,
         status: Status::Done,
         proof: Some(
-            "fh-proof 1\nlimit 1 near 5 budget 1000000\nlines 5\nkeep\nkeep\nkeep\nkeep\nkeep\nrecords 1\nchange 2 KCC 5\nline KKK 1\ngiven 5\nline KKC 3\ngiven 4\ngiven 5\ncombine 1 5 2 1 1\nline KCK 1\ngiven 5\nbound KCC\nbound C\nclaims 0\nend\n",
+            "fh-proof 1\nlimit 1 near 5 budget 1000000\nlines 5\nkeep\ndrop 9\ngiven 1\ngiven 4\ncombine 1 1 2 1 1\ngiven 6\ncombine 3 1 4 1 1\ngiven 5\ncombine 6 1 2 3 1\ncombine 7 1 4 3 2\ncombine 5 1 8 1 1\nkeep\nkeep\nkeep\nrecords 1\nchange 2 KCC 5\nline KKK 1\ngiven 5\nline KKC 3\ngiven 4\ngiven 5\ncombine 1 5 2 1 1\nline KCK 1\ngiven 5\nbound KCC\nbound C\nclaims 0\nend\n",
         ),
         reasons: Some(
             "record,cause,field,before,after,donor,detail\n1,changed,Costs,30,100,,nearest\n1,changed,Profit,70,0,,default\n",
@@ -76,7 +76,7 @@ const RUNS: &[Run] = &[
         unprinted: 0,
         status: Status::Done,
         proof: Some(
-            "fh-proof 1\nlimit 1 near 5 budget 1000000\nlines 5\nkeep\nkeep\nkeep\nkeep\nkeep\nrecords 1\nchange 2 KCC 4\nbad KK\nbad KCK\nbound KCC\nbound C\nclaims 0\nend\n",
+            "fh-proof 1\nlimit 1 near 5 budget 1000000\nlines 5\nkeep\ndrop 9\ngiven 1\ngiven 4\ncombine 1 1 2 1 1\ngiven 6\ncombine 3 1 4 1 1\ngiven 5\ncombine 6 1 2 3 1\ncombine 7 1 4 3 2\ncombine 5 1 8 1 1\nkeep\nkeep\nkeep\nrecords 1\nchange 2 KCC 4\nbad KK\nbad KCK\nbound KCC\nbound C\nclaims 0\nend\n",
         ),
         reasons: Some(
             "record,cause,field,before,after,donor,detail\n1,changed,Costs,,100,,nearest\n1,changed,Profit,,0,,default\n",

@@ -7,8 +7,8 @@ use Rattle.edit_program.specs.CheckRun.{check_calls}
 use Rattle.edit_program.specs.Faults.{fault_status}
 use Rattle.edit_program.specs.Readings.{AnswersDue, IsCheckDue, RefusesCheck}
 use Rattle.edit_program.specs.Run.{AreCallsTo}
-use Rattle.edit_program.specs.inner.CheckParts.{Accepts, check_end}
-use Rattle.edit_program.specs.inner.Parts.{AreCallsOf}
+use Rattle.edit_program.specs.inner.CheckParts.{Accepts}
+use Rattle.edit_program.specs.inner.Parts.{AreCallsOf, done_end}
 use Rattle.edit_program.proofs.AskedLaws.{check_of}
 use Rattle.edit_program.proofs.AuditLaws.{accepted, check-due, check-refuse, input-check-due, memory-kind, memory-refused, proof-due, proof-refuse, released-due, released-refuse, told-held, valid-due}
 use Rattle.edit_program.proofs.CallLaws.{all-calls, memory-calls, memory-faults, told-calls, behind-calls, less-calls, of-fetch, records-calls, rules-calls, then-calls}
@@ -100,8 +100,8 @@ pub returns-in-Ok-clause-due : goal.returns-in-Ok-clause-due
 returns-in-Ok-clause-due g c =
     let audit : Audit = audit_of c.in_ok-survey.survey c.in_ok-sheet.sheet c.in_ok-released.released.items c.in_ok-proof.proof.items in
     let held = told-held (check_of c.asked.inside.rules.now c.asked.inside.records.now c.asked.inside.released.now c.asked.inside.proof.now) (g.D.Desk.files c.args.desk.now) audit c.in_ok-survey.ensures.read (rw c.in_ok-survey.ensures.unchanged at c.in_ok-sheet.ensures.read) (rw (c.in_ok-sheet.ensures.unchanged, c.in_ok-survey.ensures.unchanged) at c.in_ok-released.ensures.bytes) (rw (c.in_ok-released.ensures.unchanged, c.in_ok-sheet.ensures.unchanged, c.in_ok-survey.ensures.unchanged) at c.in_ok-proof.ensures.bytes) in
-    subst (λ (a : CheckAsked). IfSome (g.D.Desk.files c.args.desk.now) (λ o. AnswersDue (IsCheckDue a o) (check_end c.valid_line.result))) c.asked.view_is
-    (each-told (g.D.Desk.files c.args.desk.now) (λ o h. valid-due (check_of c.asked.inside.rules.now c.asked.inside.records.now c.asked.inside.released.now c.asked.inside.proof.now) o audit h (rw (c.deref.ensures.value, c.deref-2.ensures.value) at c.in-Ok.ensures.valid) (check_end c.valid_line.result)) held)
+    subst (λ (a : CheckAsked). IfSome (g.D.Desk.files c.args.desk.now) (λ o. AnswersDue (IsCheckDue a o) (done_end c.valid_line.result))) c.asked.view_is
+    (each-told (g.D.Desk.files c.args.desk.now) (λ o h. valid-due (check_of c.asked.inside.rules.now c.asked.inside.records.now c.asked.inside.released.now c.asked.inside.proof.now) o audit h (rw (c.deref.ensures.value, c.deref-2.ensures.value) at c.in-Ok.ensures.valid) (done_end c.valid_line.result)) held)
 
 pub returns-in-Ok-clause-asked : goal.returns-in-Ok-clause-asked
 returns-in-Ok-clause-asked g c =

@@ -1,5 +1,5 @@
 use Rattle.std.proofs.Common.{◌∙◌, inl, refl}
-use Rattle.edit_program.specs.CheckRun.{LeavesAll}
+use Rattle.edit_program.specs.Run.{LeavesAll}
 use Rattle.edit_program.proofs.RunLaws.{check-refused, checked-by, unchecked-by}
 use Rattle.edit_program.proofs.ToldLaws.{same-told}
 use Rattle.edit_program.proofs.check_run.run_check.Goals as goal

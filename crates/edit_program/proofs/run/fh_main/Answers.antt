@@ -41,3 +41,24 @@ returns-clause-check_complete g c = λ asked is. absurd (c.in_default-check_aske
 
 pub returns-clause-check_due : goal.returns-clause-check_due
 returns-clause-check_due g c = λ asked is. absurd (c.in_default-check_asked.ensures.none asked is)
+
+pub returns-in-Some-rules_asked-clause-ruled : goal.returns-in-Some-rules_asked-clause-ruled
+returns-in-Some-rules_asked-clause-ruled g c = λ done asked is. rw (c.in-Some-rules_asked.ensures.only asked is) (c.run_rules.ensures.ruled done)
+
+pub returns-in-Some-rules_asked-clause-rules_stopped : goal.returns-in-Some-rules_asked-clause-rules_stopped
+returns-in-Some-rules_asked-clause-rules_stopped g c = λ not asked is. rw (c.in-Some-rules_asked.ensures.only asked is) (c.run_rules.ensures.stopped not)
+
+pub returns-in-Some-rules_asked-clause-rules_complete : goal.returns-in-Some-rules_asked-clause-rules_complete
+returns-in-Some-rules_asked-clause-rules_complete g c = λ asked is. rw (c.in-Some-rules_asked.ensures.only asked is) c.run_rules.ensures.complete
+
+pub returns-in-Some-rules_asked-clause-rules_due : goal.returns-in-Some-rules_asked-clause-rules_due
+returns-in-Some-rules_asked-clause-rules_due g c = λ asked is. rw (c.in-Some-rules_asked.ensures.only asked is) c.run_rules.ensures.due
+
+pub returns-clause-rules_stopped : goal.returns-clause-rules_stopped
+returns-clause-rules_stopped g c = λ not asked is. absurd (c.in_default-rules_asked.ensures.none asked is)
+
+pub returns-clause-rules_complete : goal.returns-clause-rules_complete
+returns-clause-rules_complete g c = λ asked is. absurd (c.in_default-rules_asked.ensures.none asked is)
+
+pub returns-clause-rules_due : goal.returns-clause-rules_due
+returns-clause-rules_due g c = λ asked is. absurd (c.in_default-rules_asked.ensures.none asked is)

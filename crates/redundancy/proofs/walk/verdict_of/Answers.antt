@@ -1,6 +1,7 @@
 use Rattle.std.proofs.Common.{List, ℕ, get_or, sym, ap, ◌∙◌, arith}
 use Rattle.edit_line.specs.Reductions.{reduce_derived}
 use Rattle.edit_line.specs.Shapes.{shape_of, whole_sets}
+use Rattle.edit_line.proofs.OwnLaws.{own-reduced}
 use Rattle.edit_line.proofs.ShapeLaws.{number_fields-same}
 use Rattle.linear_elim.proofs.ShapeLaws.{OneShape-have, derived-shape}
 use Rattle.redundancy.specs.inner.Turns.{number_end}
@@ -10,10 +11,13 @@ use Rattle.redundancy.proofs.walk.verdict_of.Goals as goal
 pub loop-field-init : goal.loop-field-init
 loop-field-init c =
     walking-start (shape_of c.args.survey.now.fields) c.args.row.now c.args.budget (reduce_derived c.args.base.items) c.in_ok-walk.walk.spent c.in_ok-walk.walk.history c.in_ok-walk.walk.lines.items c.numbers-field-items.result.now
-    (omega (arith, c.if-budget-eq0.false)) (have-reduced (shape_of c.args.survey.now.fields) c.args.base.items c.requires.over) c.in_ok-walk.ensures.lines c.in_ok-walk.ensures.history c.in_ok-walk.ensures.spent
+    (omega (arith, c.if-budget-eq0.false)) (have-reduced (shape_of c.args.survey.now.fields) c.args.base.items c.requires.over) (own-reduced c.args.base.items) c.in_ok-walk.ensures.lines c.in_ok-walk.ensures.history c.in_ok-walk.ensures.spent
 
 pub number_turn-requires-clause-shape : goal.number_turn-requires-clause-shape
 number_turn-requires-clause-shape c = OneShape-have (shape_of c.args.survey.now.fields) c.loop-field.walk.lines.items c.loop-field.invariant.over
+
+pub number_turn-requires-clause-own : goal.number_turn-requires-clause-own
+number_turn-requires-clause-own c = c.loop-field.invariant.own
 
 pub returns-in-Some : goal.returns-in-Some
 returns-in-Some c =

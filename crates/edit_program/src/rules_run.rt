@@ -1,0 +1,79 @@
+//! A run of `rules`.
+ghost use Rattle.std.specs.Prelude.{◌≡◌, ◌≢◌, IfErr, IfOk, IfSome, map};
+ghost use Rattle.edit_desk.specs.Desk.{PutsOnRecord};
+ghost use Rattle.edit_release.specs.Edits.{DroppedFollow};
+ghost use Rattle.edit_program.specs.Faults.{IsOfRulesCommand};
+ghost use Rattle.edit_program.specs.Readings.{AnswersDue, IsRulesDue, RefusesRulesCommand};
+ghost use Rattle.edit_program.specs.RulesRun.{DroppedRefuted, IsReport, IsRuled, IsRulesComplete, IsRulesStopped, NeededCanFail, rules_calls};
+ghost use Rattle.edit_program.specs.Run.{seen};
+ghost use Rattle.edit_program.specs.inner.Parts.{AreCallsOf, done_end, faults_after};
+ghost use Rattle.rule_report.specs.Reports.{report_of};
+
+use crate::reading::fetch_survey;
+use crate::refusal::Refusal;
+use crate::rules_asked::RulesWords;
+use crate::status::Status;
+use crate::telling::{refuse, tell_all};
+use edit_desk::{Desk, Printer};
+use edit_model::Survey;
+use foundation::OutOfMemory;
+use pruned_rules::prune_rules;
+use rule_report::report;
+use std::alloc::Global;
+
+/// Prints what becomes of each line of the rules that the words name, or why the run is refused.
+pub(crate) fn run_rules<D: Desk, P: Printer>(
+    alloc: Global,
+    asked: &RulesWords,
+    desk: &mut D,
+    printer: &mut P,
+) -> Status
+    ensures command { result ≢ Status.Usage }
+    ensures ruled { result ≡ Status.Done → IsRuled asked.now
+        (seen (D.files desk.old) (D.calls desk.old) (D.faults desk.old) (P.printed printer.old) (P.faults printer.old))
+        (seen (D.files desk.new) (D.calls desk.new) (D.faults desk.new) (P.printed printer.new) (P.faults printer.new)) }
+    ensures stopped { result ≢ Status.Done → IsRulesStopped asked.now result
+        (seen (D.files desk.old) (D.calls desk.old) (D.faults desk.old) (P.printed printer.old) (P.faults printer.old))
+        (seen (D.files desk.new) (D.calls desk.new) (D.faults desk.new) (P.printed printer.new) (P.faults printer.new)) }
+    ensures complete { IsRulesComplete asked.now result
+        (seen (D.files desk.old) (D.calls desk.old) (D.faults desk.old) (P.printed printer.old) (P.faults printer.old))
+        (seen (D.files desk.new) (D.calls desk.new) (D.faults desk.new) (P.printed printer.new) (P.faults printer.new)) }
+    ensures due { IfSome (D.files desk.old) (λ files. AnswersDue (IsRulesDue asked.now files) result) }
+{
+    match rules(alloc, asked, desk) {
+        Ok(lines) => tell_all(printer, &lines, Status::Done),
+        Err(refusal) => refuse(printer, refusal.line(), refusal.status()),
+    }
+}
+
+// Does on the desk all that the command does there, up to the first fault, and gives the lines that are printed.
+fn rules<'a, D: Desk>(
+    alloc: Global,
+    asked: &RulesWords<'a>,
+    desk: &mut D,
+) -> Result<Vec<Vec<u8>>, Refusal<'a>>
+    ensures kind { IfErr result IsOfRulesCommand }
+    ensures reported { IfOk result (λ lines. IfSome (D.files desk.old) (λ files. IsReport asked.now files (map (λ line. line.items) lines.items))) }
+    ensures cause { IfErr result (λ fault. IfSome (D.files desk.old) (λ files. RefusesRulesCommand asked.now files fault)) }
+    ensures due { IfSome (D.files desk.old) (λ files. AnswersDue (IsRulesDue asked.now files) (done_end result)) }
+    ensures asked { PutsOnRecord (D.calls desk.old) (D.calls desk.new) (AreCallsOf (rules_calls asked.now) result) }
+    ensures faults { D.faults desk.new ≡ faults_after result (D.faults desk.old) }
+    ensures unchanged { D.files desk.new ≡ D.files desk.old }
+{
+    let survey = fetch_survey(alloc, asked.rules, desk)?;
+    let Ok(lines) = lines_of(alloc, &survey) else {
+        return Err(Refusal::out_of_memory());
+    };
+    Ok(lines)
+}
+
+// The lines that are printed of the survey's rules.
+fn lines_of(alloc: Global, survey: &Survey) -> Result<Vec<Vec<u8>>, OutOfMemory>
+    ensures texts { IfOk result (λ lines. map (λ line. line.items) lines.items ≡ report_of survey.now) }
+    ensures dropped { IfOk result (λ lines. DroppedFollow survey.now) }
+    ensures needed { IfOk result (λ lines. NeededCanFail survey.now) }
+    ensures refuted { IfOk result (λ lines. DroppedRefuted survey.now) }
+{
+    let pruned = prune_rules(alloc, survey)?;
+    report(alloc, survey, &pruned.lines, &pruned.verdicts)
+}
