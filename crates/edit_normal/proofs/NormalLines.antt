@@ -1,4 +1,4 @@
-use Rattle.std.proofs.Common.{◌≡◌, ◌≤◌, ◌^◌, ◌==◌, not, ℕ, zero, suc, Bool, true, false, if◌then◌else◌, inl, inr, List, [], ◌∷◌, All, map, unsigned_abs, ℤ, pos, ◌<ℤ◌, refl, sym, subst, arith}
+use Rattle.std.proofs.Common.{◌≡◌, ◌≤◌, ◌^◌, ◌==◌, not, ℕ, zero, suc, Bool, true, false, if◌then◌else◌, inl, inr, List, [], ◌∷◌, All, length, map, unsigned_abs, ℤ, pos, ◌<ℤ◌, refl, sym, ap, subst, arith}
 use lib.IntN.{neg_ℤ}
 use Rattle.std.proofs.lemmas.Int.{ints}
 use Rattle.std.proofs.lemmas.List.{length-map}
@@ -26,7 +26,9 @@ use Rattle.edit_line.proofs.NegationLines.{negative-in, never-is}
 use Rattle.edit_line.proofs.SetLaws.{AreSets-within, AreWithin-set, AreWithin-wholes}
 use Rattle.edit_normal.specs.NormalForm.{compare_lines, contrary_lines, implied_lines, line_of, narrowed, negative_line_of, rule_lines_of, term_factor}
 use Rattle.edit_normal.specs.RuleLines.{lines_from, normal_lines_of}
+use Rattle.edit_normal.specs.declared.rule_line.RuleLine.{RuleLine}
 use Rattle.edit_normal.proofs.MeaningLaws.{lines-all, lines-over}
+use Rattle.edit_normal.proofs.NormalLaws.{lines-most}
 
 -- The normal lines of a survey's rules are lines over its fields.
 
@@ -131,3 +133,13 @@ normal-lines survey formed = all-in IsLine (normal_lines_of survey) (λ line the
 
 pub normal-over : (survey : SurveyParts) → AreOver (shape_of survey.fields) (normal_lines_of survey)
 normal-over survey = subst (λ (ls : List LineParts). AreOver (shape_of survey.fields) ls) (lines-all survey _ refl) (lines-over survey (lines_from (shape_of survey.fields) 0 survey.rules) refl)
+
+-- there are at most two for each rule
+pub normal-few : (survey : SurveyParts) → IsWellFormed survey → length (normal_lines_of survey) ≤ 1000
+normal-few survey formed =
+    let numbered = lines_from (shape_of survey.fields) 0 survey.rules in
+    let same = ap (λ (ls : List LineParts). length ls) (lines-all survey numbered refl) in
+    let long = length-map {B = LineParts} numbered (λ (l : RuleLine). l.line) in
+    let most = lines-most (shape_of survey.fields) 0 survey.rules in
+    let rules = formed.few_rules in
+    omega (arith, same, long, most, rules)

@@ -1,6 +1,7 @@
 pub mod CaseLaws
 pub mod CoherentLaws
 pub mod ColumnTexts
+pub mod DroppedLaws
 pub mod EventLaws
 pub mod GiftFaults
 pub mod GivenValues

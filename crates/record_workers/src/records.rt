@@ -2,9 +2,9 @@ ghost use Rattle.std.specs.Prelude.{◌≡◌, ◌↔◌, ◌<◌, IfOk, map};
 ghost use Rattle.std.specs.Arc.{arc_value};
 ghost use Rattle.std.specs.List.{AllByRecursion, AllZip};
 ghost use Rattle.edit_line.specs.Lines.{AllHold};
+ghost use Rattle.edit_line.specs.Shapes.{shape_of};
 ghost use Rattle.edit_model.specs.Points.{HasCodesFrom, IsConsistent, Point};
 ghost use Rattle.edit_model.specs.Rows.{IsRow};
-ghost use Rattle.edit_normal.specs.RuleEdits.{rule_edits};
 ghost use Rattle.record_workers.specs.Ends.{IsEndOf};
 ghost use Rattle.record_workers.specs.Said.{Says};
 ghost use Rattle.record_workers.specs.inner.Editings.{IsEditing, edits_in};
@@ -13,7 +13,6 @@ use crate::known_systems::KnownSystems;
 use crate::row_ends::{Editing, edit_record};
 use edit_line::Edits;
 use edit_model::Survey;
-use edit_normal::rule_edits;
 use edit_report::RowEnd;
 use foundation::{OutOfMemory, Steps};
 use linear_elim::Systems;
@@ -23,25 +22,30 @@ use std::marker::Brand;
 use std::sync::Arc;
 use std::sync::ledger::{Blank, Ledger};
 
-/// What becomes of each record of a sheet, in order, without donors: the outcome of its search within the
-/// budget (the most paths and pairs that may be looked at), and the values of its changed fields.
+/// What becomes of each record of a sheet, in order, without donors: the outcome of its search by the edits within
+/// the budget (the most paths and pairs that may be looked at), and the values of its changed fields. The edits are
+/// over the survey's fields, and they say of a point with codes of these what the rules say.
 pub fn edit_records(
     alloc: Global,
     survey: &Survey,
+    edits: Edits,
     sheet: &Sheet,
     budget: u64,
 ) -> Result<Vec<RowEnd>, OutOfMemory>
-    requires { AllByRecursion (IsRow survey.now.fields) sheet.now.rows }
-    ensures ends { IfOk result (λ ends. AllZip (IsEndOf survey.now (rule_edits survey.now) budget) sheet.now.rows ends.items) }
-    ensures say { IfOk result (λ ends. AllZip (Says survey.now (rule_edits survey.now) budget) sheet.now.rows ends.items) }
+    requires over { edits.shape ≡ shape_of survey.now.fields }
+    requires same { (p : Point) → (HasCodesFrom 0 survey.now.fields p × AllHold (map (λ e. e.1) edits.lines) p) ↔ IsConsistent survey.now p }
+    requires rows { AllByRecursion (IsRow survey.now.fields) sheet.now.rows }
+    ensures ends { IfOk result (λ ends. AllZip (IsEndOf survey.now edits budget) sheet.now.rows ends.items) }
+    ensures say { IfOk result (λ ends. AllZip (Says survey.now edits budget) sheet.now.rows ends.items) }
 {
-    ends_of::<Brand>(alloc, survey, sheet, budget, Blank::new(1))
+    ends_of::<Brand>(alloc, survey, edits, sheet, budget, Blank::new(1))
 }
 
 // The same, with a counter of its own.
 fn ends_of<L: Ledger>(
     alloc: Global,
     survey: &Survey,
+    edits: Edits,
     sheet: &Sheet,
     budget: u64,
     blank: Blank,
@@ -49,24 +53,26 @@ fn ends_of<L: Ledger>(
     requires name { blank.name ≡ L.name }
     requires parts { blank.parts ≡ L.parts }
     requires counts { 0 < blank.parts }
+    requires over { edits.shape ≡ shape_of survey.now.fields }
+    requires same { (p : Point) → (HasCodesFrom 0 survey.now.fields p × AllHold (map (λ e. e.1) edits.lines) p) ↔ IsConsistent survey.now p }
     requires rows { AllByRecursion (IsRow survey.now.fields) sheet.now.rows }
-    ensures ends { IfOk result (λ ends. AllZip (IsEndOf survey.now (rule_edits survey.now) budget) sheet.now.rows ends.items) }
-    ensures say { IfOk result (λ ends. AllZip (Says survey.now (rule_edits survey.now) budget) sheet.now.rows ends.items) }
+    ensures ends { IfOk result (λ ends. AllZip (IsEndOf survey.now edits budget) sheet.now.rows ends.items) }
+    ensures say { IfOk result (λ ends. AllZip (Says survey.now edits budget) sheet.now.rows ends.items) }
 {
-    let edits = Arc::new(alloc, rule_edits(alloc, survey)?)?;
+    let edits = Arc::new(alloc, edits)?;
     let mut steps = Steps::<L>::start(blank);
     let editing = editing_of(survey, &edits, budget);
     let mut source = KnownSystems::new(alloc, Arc::try_clone(&edits)?);
     edit_all(alloc, &mut source, &editing, sheet, &mut steps)
 }
 
-// By what the survey's records are edited: its edits.
+// By what the survey's records are edited: edits that say what its rules say.
 fn editing_of<'a>(survey: &'a Survey, edits: &'a Arc<Edits>, budget: u64) -> Editing<'a>
-    requires edits { arc_value edits.now ≡ rule_edits survey.now }
+    requires over { (arc_value edits.now).shape ≡ shape_of survey.now.fields }
     requires same { (p : Point) → (HasCodesFrom 0 survey.now.fields p × AllHold (map (λ e. e.1) (arc_value edits.now).lines) p) ↔ IsConsistent survey.now p }
     ensures editing { IsEditing result }
     ensures survey { result.survey.now ≡ survey.now }
-    ensures edits { edits_in result ≡ rule_edits survey.now }
+    ensures edits { edits_in result ≡ arc_value edits.now }
     ensures budget { result.budget ≡ budget }
 {
     Editing {

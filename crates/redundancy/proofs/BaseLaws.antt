@@ -100,7 +100,7 @@ lines-more lines i line below at is before =
 -- ---- the case of a line's negation
 
 -- each usable line is a given one, with a number from i on
-usable-given : (i : ℕ) (given : List LineParts) (usable : List Bool) (e : ℕ × LineParts) → IsIn e (usable_from i given usable) → IsIn e.1 given × (i ≤ e.0)
+pub usable-given : (i : ℕ) (given : List LineParts) (usable : List Bool) (e : ℕ × LineParts) → IsIn e (usable_from i given usable) → IsIn e.1 given × (i ≤ e.0)
 usable-given i [] usable e there = absurd there
 usable-given i (l ∷ given) [] e there = absurd there
 usable-given i (l ∷ given) (true ∷ usable) e (inl is) = (inl (ap (λ (e : ℕ × LineParts). e.1) is), omega (arith, ap (λ (e : ℕ × LineParts). e.0) is))
@@ -112,7 +112,7 @@ rising_cons i [] late rising k below = absurd (omega (arith, below))
 rising_cons i (n ∷ ns) late rising zero below = late 0 n (omega arith)
 rising_cons i (n ∷ ns) late rising (suc k) below = let next : suc k + 1 ≡ suc (k + 1) = omega arith in rw next (rising k (omega (arith, below)))
 
-usable-rising : (i : ℕ) (given : List LineParts) (usable : List Bool) → IsStrictlyIncreasing (map (λ (e : ℕ × LineParts). e.0) (usable_from i given usable))
+pub usable-rising : (i : ℕ) (given : List LineParts) (usable : List Bool) → IsStrictlyIncreasing (map (λ (e : ℕ × LineParts). e.0) (usable_from i given usable))
 usable-rising i [] usable = λ k below. absurd (omega (arith, below))
 usable-rising i (l ∷ given) [] = λ k below. absurd (omega (arith, below))
 usable-rising i (l ∷ given) (true ∷ usable) =

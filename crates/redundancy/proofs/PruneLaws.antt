@@ -117,14 +117,14 @@ false-line l row none fails = ap (λ b. b && not (is_enough l.strict l.constant)
     inside : (b : Bool) → (let answer : Result Bool ℕ = Ok b in answer ≡ Ok true) → b ≡ true
     inside b e = cc
 
-usable-place : (i : ℕ) (given : List LineParts) (usable : List Bool) (e : ℕ × LineParts) → IsIn e (usable_from i given usable) → (k : ℕ) × (e.0 ≡ i + k) × (slice_get given k ≡ Some e.1) × (slice_index_or usable k false ≡ true)
+pub usable-place : (i : ℕ) (given : List LineParts) (usable : List Bool) (e : ℕ × LineParts) → IsIn e (usable_from i given usable) → (k : ℕ) × (e.0 ≡ i + k) × (slice_get given k ≡ Some e.1) × (slice_index_or usable k false ≡ true)
 usable-place i [] usable e there = absurd there
 usable-place i (l ∷ given) [] e there = absurd there
 usable-place i (l ∷ given) (true ∷ usable) e (inl is) = (0, ap (λ (e : ℕ × LineParts). e.0) is ∙ omega arith, ap (λ (e : ℕ × LineParts). Some e.1) (sym is), refl)
 usable-place i (l ∷ given) (true ∷ usable) e (inr there) = let (k, number, at, used) = usable-place (suc i) given usable e there in (suc k, number ∙ omega arith, at, used)
 usable-place i (l ∷ given) (false ∷ usable) e there = let (k, number, at, used) = usable-place (suc i) given usable e there in (suc k, number ∙ omega arith, at, used)
 
-usable-plain : (i : ℕ) (given : List LineParts) (usable : List Bool) → map (λ (e : ℕ × LineParts). e.1) (usable_from i given usable) ≡ usable_lines given usable
+pub usable-plain : (i : ℕ) (given : List LineParts) (usable : List Bool) → map (λ (e : ℕ × LineParts). e.1) (usable_from i given usable) ≡ usable_lines given usable
 usable-plain i [] usable = refl
 usable-plain i (l ∷ given) [] = refl
 usable-plain i (l ∷ given) (true ∷ usable) = ap (λ (ls : List LineParts). l ∷ ls) (usable-plain (suc i) given usable)

@@ -1,0 +1,101 @@
+ghost use Rattle.std.specs.Prelude.{◌≡◌, ◌≤◌, ◌↔◌, ◌++◌, ◌∷◌, ℕ, suc, [], IfOk, List, OnOk, Some, drop, if◌then◌else◌, length, map, slice_get};
+ghost use Rattle.edit_model.specs.Points.{HasCodesFrom, IsConsistent, Point};
+ghost use Rattle.edit_line.specs.Lines.{AllHold, Follows, LineParts};
+ghost use Rattle.edit_line.specs.Reductions.{IsIn};
+ghost use Rattle.edit_line.specs.Shapes.{shape_of};
+ghost use Rattle.edit_normal.specs.RuleLines.{normal_lines_of};
+ghost use Rattle.derivation.specs.Premises.{usable_lines};
+ghost use Rattle.derivation.specs.Refutations.{RefutedBy, no_values, refutation_of};
+ghost use Rattle.derivation.specs.declared.step.Step.{Step as Proofstep};
+ghost use Rattle.redundancy.specs.NeededLines.{CanFail};
+ghost use Rattle.redundancy.specs.Verdicts.{is_kept, kept_lines, left_at, usable_from};
+ghost use Rattle.redundancy.specs.declared.verdict.Verdict.TheVariants.{Dropped, Kept};
+ghost use Rattle.redundancy.specs.declared.verdict.Why.TheVariants.{Needed};
+ghost use Rattle.pruned_rules.specs.Pruned.{kept_edits, rule_verdicts};
+
+use edit_line::{Edits, Line};
+use edit_model::Survey;
+use edit_normal::lines_of_rules;
+use foundation::OutOfMemory;
+use redundancy::{Verdict, prune};
+use std::alloc::Global;
+
+/// The most work that is done to find whether one line may be dropped.
+pub const PRUNING_BUDGET: u64 = 2000;
+
+/// The lines of a survey's rules in order, and for each of them whether it is kept.
+#[derive(Debug, Drop)]
+pub struct PrunedRules {
+    /// All lines, in normal form.
+    pub lines: Vec<Line>,
+    /// What becomes of each line.
+    pub verdicts: Vec<Verdict>,
+}
+
+/// The lines of the survey's rules, and which of them may be dropped, since they follow from those that are kept.
+pub fn prune_rules(alloc: Global, survey: &Survey) -> Result<PrunedRules, OutOfMemory>
+    ensures lines { IfOk result (λ pruned. pruned.lines.items ≡ normal_lines_of survey.now) }
+    ensures verdicts { IfOk result (λ pruned. pruned.verdicts.items ≡ rule_verdicts survey.now) }
+    ensures needed { IfOk result (λ pruned. (j : ℕ) (line : LineParts)
+        → slice_get pruned.lines.items j ≡ Some line → slice_get pruned.verdicts.items j ≡ Some (Kept Needed)
+        → CanFail survey.now.fields (usable_lines pruned.lines.items (left_at j (drop (suc j) pruned.verdicts.items))) line) }
+    ensures steps { IfOk result (λ pruned. (j : ℕ) (line : LineParts) (steps : List Proofstep)
+        → slice_get pruned.lines.items j ≡ Some line → slice_get pruned.verdicts.items j ≡ Some (Dropped steps)
+        → RefutedBy (refutation_of (shape_of survey.now.fields) pruned.lines.items (left_at j (drop (suc j) pruned.verdicts.items)) line (no_values survey.now.fields)) steps) }
+    ensures follow { IfOk result (λ pruned. (line : LineParts) → IsIn line (normal_lines_of survey.now)
+        → Follows (kept_lines (normal_lines_of survey.now) (rule_verdicts survey.now)) line) }
+{
+    let lines = lines_of_rules(alloc, survey)?;
+    let verdicts = prune(alloc, survey, &lines, PRUNING_BUDGET)?;
+    Ok(PrunedRules { lines, verdicts })
+}
+
+impl PrunedRules {
+    /// The edits that the survey's records are searched by: the lines that are kept, each numbered by its place among
+    /// all, from 0. A point with codes of the survey meets them exactly where it meets all rules.
+    pub fn kept_edits(&self, alloc: Global, survey: &Survey) -> Result<Edits, OutOfMemory>
+        requires lines { self.now.lines.items ≡ normal_lines_of survey.now }
+        requires verdicts { self.now.verdicts.items ≡ rule_verdicts survey.now }
+        ensures edits { IfOk result (λ edits. edits ≡ kept_edits survey.now) }
+        ensures same { IfOk result (λ edits. (p : Point)
+            → (HasCodesFrom 0 survey.now.fields p × AllHold (map (λ e. e.1) edits.lines) p) ↔ IsConsistent survey.now p) }
+    {
+        let _rules = survey.rules(); // read for what it says: they are in form, and at most 500
+        let kept = kept_of(alloc, &self.lines, &self.verdicts)?;
+        let edits = Edits::new(alloc, survey, kept)?;
+        Ok(edits)
+    }
+}
+
+// The lines that are kept, each with its place.
+fn kept_of(
+    alloc: Global,
+    lines: &[Line],
+    verdicts: &[Verdict],
+) -> Result<Vec<(u32, Line)>, OutOfMemory>
+    requires count { length verdicts.now ≡ length lines.now }
+    requires few { length lines.now ≤ 1000 }
+    ensures { IfOk result (λ kept. kept.items ≡ usable_from 0 lines.now (map is_kept verdicts.now)) }
+{
+    let mut kept = Vec::new(alloc);
+    for (place, line) in lines.iter().enumerate() {
+        push_kept(alloc, &mut kept, place as u32, line, &verdicts[place])?;
+    }
+    Ok(kept)
+}
+
+// Puts the line last with its number, if it is kept.
+fn push_kept(
+    alloc: Global,
+    kept: &mut Vec<(u32, Line)>,
+    number: u32,
+    line: &Line,
+    verdict: &Verdict,
+) -> Result<(), OutOfMemory>
+    ensures { OnOk result (kept.new.items ≡ kept.old.items ++ (if is_kept verdict.now then (number, line.now) ∷ [] else [])) }
+{
+    if let Verdict::Kept(_) = verdict {
+        kept.push((number, line.copy(alloc)?))?;
+    }
+    Ok(())
+}
