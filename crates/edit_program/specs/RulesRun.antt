@@ -7,13 +7,13 @@ use Rattle.edit_line.specs.Shapes.{shape_of}
 use Rattle.edit_normal.specs.RuleLines.{normal_lines_of}
 use Rattle.derivation.specs.Premises.{usable_lines}
 use Rattle.derivation.specs.declared.step.Step.{Step}
-use Rattle.redundancy.specs.Negations.{refutation_of}
-use Rattle.redundancy.specs.Refutations.{CanFail, RefutedBy}
-use Rattle.redundancy.specs.Verdicts.{left_at, no_values}
+use Rattle.derivation.specs.Refutations.{RefutedBy, no_values, refutation_of}
+use Rattle.redundancy.specs.NeededLines.{CanFail}
+use Rattle.redundancy.specs.Verdicts.{left_at}
 use Rattle.redundancy.specs.declared.verdict.Verdict.TheVariants.{Dropped, Kept}
 use Rattle.redundancy.specs.declared.verdict.Why.TheVariants.{Needed}
 use Rattle.pruned_rules.specs.Pruned.{rule_verdicts}
-use Rattle.rule_report.specs.Reports.{report_of}
+use Rattle.rule_report.specs.Reports.{texts_from}
 use Rattle.edit_release.specs.Edits.{DroppedFollow}
 use Rattle.edit_program.specs.Asked.{RulesAsked}
 use Rattle.edit_program.specs.Faults.{IsOfRulesCommand}
@@ -25,6 +25,10 @@ use Rattle.edit_program.specs.declared.status.Status.TheVariants as status
 -- all calls of the command
 abbrev pub rules_calls : RulesAsked → List Asked
 rules_calls asked = fetched asked.rules ∷ []
+
+-- what is printed: of all lines of the rules, numbered from 1
+abbrev pub report_of : SurveyParts → List (List ℕ)
+report_of survey = texts_from survey.fields 1 (normal_lines_of survey) (rule_verdicts survey)
 
 -- ---- what the verdicts mean
 
