@@ -1,4 +1,4 @@
-use Rattle.std.proofs.Common.{◌≡◌, ℕ, zero, suc, ◌≤◌, Bool, true, List, [], ◌∷◌, Option, Some, None, IsSomeAnd, refl, sym, ap, ◌∙◌, subst, arith}
+use Rattle.std.proofs.Common.{◌≡◌, ℕ, zero, suc, ◌≤◌, Bool, true, List, [], ◌∷◌, Option, Some, None, IsSomeAnd, ap, ◌∙◌, arith}
 use Rattle.std.specs.List.{AllByRecursion}
 use Rattle.std.proofs.lemmas.Bool.Decides.{Decides-eqb}
 use Rattle.edit_model.specs.Corrections.{IsCorrection, change_weight}
@@ -9,7 +9,6 @@ use Rattle.edit_model.specs.declared.value.Value.{Value}
 use Rattle.edit_model.proofs.RowPointLaws.{point_of}
 use Rattle.edit_line.specs.Lines.{AreOver, LineParts}
 use Rattle.edit_line.specs.Lines as lines
-use Rattle.edit_line.specs.Shapes.{shape_of}
 use Rattle.edit_line.proofs.BoolLaws.{both_true}
 use Rattle.edit_line.proofs.Members.{all-in, in-all}
 use Rattle.edit_normal.specs.RuleLines.{normal_lines_of}

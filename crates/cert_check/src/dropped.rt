@@ -62,7 +62,9 @@ fn verdicts_fault(
     let mut left = kept_flags(alloc, verdicts)?;
     let mut offset = 0;
     for (place, verdict) in verdicts.iter().enumerate() {
-        if let Some(behind) = verdict_fault(alloc, survey, &row, lines, &mut left, place, verdict)? {
+        if let Some(behind) = verdict_fault(
+            alloc, survey, &row, lines, &mut left, place, verdict,
+        )? {
             return Ok(Some(offset + behind));
         }
         left[place] = true;

@@ -23,5 +23,5 @@ pub use check::check_steps;
 pub use failing::fails_at_kept;
 pub use fault::StepsFault;
 pub use proved::Proved;
-pub use refuting::{is_false, record_without_values};
+pub use refuting::record_without_values;
 pub use step::Step;

@@ -2,12 +2,11 @@
 ghost use Rattle.std.specs.Prelude.{◌≡◌, IfOk, List};
 ghost use Rattle.edit_model.specs.Rows.{IsRow};
 ghost use Rattle.edit_line.specs.Shapes.{Domain};
-ghost use Rattle.edit_line.specs.Subsumption.{has_no_factor, is_enough, is_false};
 ghost use Rattle.derivation.specs.Refutations.{is_absurd, no_values};
 ghost use Rattle.derivation.specs.Shown.{IsOver};
 
 use crate::proved::Proved;
-use edit_line::Line;
+use edit_line::is_false;
 use edit_model::{Row, Survey, Value};
 use foundation::OutOfMemory;
 use std::alloc::Global;
@@ -31,25 +30,4 @@ impl Proved {
             Proved::Box(code_box) => code_box.is_full(),
         }
     }
-}
-
-/// Whether no numerical field stands in the line, and it never holds where its codes are. No memory.
-pub fn is_false(line: &Line) -> bool
-    ensures { result ≡ is_false line.now }
-{
-    !is_enough(line.strict(), line.constant()) && has_no_factor(line)
-}
-
-// Whether no numerical field stands in the line.
-fn has_no_factor(line: &Line) -> bool
-    ensures { result ≡ has_no_factor line.now }
-{
-    line.factors().iter().all(|factor| *factor == 0)
-}
-
-// Whether a number is above 0, or, where it need not be strictly, at least 0.
-fn is_enough(strict: bool, number: i128) -> bool
-    ensures { result ≡ is_enough strict number }
-{
-    if strict { number > 0 } else { number >= 0 }
 }

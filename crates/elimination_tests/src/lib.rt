@@ -1,4 +1,4 @@
-//! Tests over the crates of linear edits, elimination and certificates: what their clauses mean in numbers, and that memory
+//! Tests over the crates of linear edits, elimination, certificates and redundancy: what their clauses mean in numbers, and that memory
 //! suffices for each call. They stand in a crate of their own, since a crate with tests is proved twice.
 #![tactic(auto)]
 
@@ -14,5 +14,7 @@ mod lines;
 mod reading;
 #[cfg(test)]
 mod records;
+#[cfg(test)]
+mod redundant_lines;
 #[cfg(test)]
 mod systems;

@@ -1,5 +1,5 @@
 //! What is printed of the lines of a survey's rules: their numbers and texts, what becomes of each, and the
-//! steps that show a dropped one needless. Begin with [`report`] and `specs/Reports.antt`; the text of a line
+//! steps that show that a dropped one says nothing new. Begin with [`report`] and `specs/Reports.antt`; the text of a line
 //! is in `specs/LineTexts.antt`.
 #![tactic(auto)]
 

@@ -1,4 +1,4 @@
-use Rattle.std.proofs.Common.{◌≡◌, ◌+◌, ◌<◌, ◌≤◌, ◌∙◌, ℕ, suc, true, ap, arith, length, slice_set, sym, take}
+use Rattle.std.proofs.Common.{◌+◌, ◌<◌, ◌∙◌, true, ap, arith, length, slice_set}
 use Rattle.std.specs.List.{flat_map}
 use Rattle.std.proofs.lemmas.List.{length-set}
 use Rattle.proof_grammar.specs.ProofLines.{verdict_lines}
