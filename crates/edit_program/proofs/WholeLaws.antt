@@ -5,7 +5,7 @@ use Rattle.edit_model.specs.Corrections.{IsCorrection}
 use Rattle.edit_model.specs.Parts.{SurveyParts}
 use Rattle.edit_model.specs.Points.{Point}
 use Rattle.edit_model.specs.declared.value.Value.{Value}
-use Rattle.edit_normal.specs.RuleEdits.{rule_edits}
+use Rattle.pruned_rules.specs.Pruned.{kept_edits}
 use Rattle.bound_cert.specs.declared.outcome.GiftFault.{GiftFault}
 use Rattle.bound_cert.specs.declared.outcome.Outcome.{Outcome}
 use Rattle.bound_cert.specs.declared.outcome.Outcome.TheVariants.{Budget, Change, Contradictory, Overflow}
@@ -22,8 +22,8 @@ use Rattle.edit_program.specs.declared.status.Status.{Status}
 use Rattle.edit_program.specs.declared.status.Status.TheVariants.{Done}
 
 module _ (survey : SurveyParts) (budget : ℕ) (p : Point) (correction : IsCorrection survey p) where
-  given : (row : List Value) (o : Outcome) (stop : Option GiftFault) (gift : Option Gift) → IsInReach survey budget row → o ≡ outcome_of (case_of survey (rule_edits survey) row) budget
-      → Follows survey (rule_edits survey) row o stop gift → OutcomeSays survey (rule_edits survey) budget row o gift → IsSome gift
+  given : (row : List Value) (o : Outcome) (stop : Option GiftFault) (gift : Option Gift) → IsInReach survey budget row → o ≡ outcome_of (case_of survey (kept_edits survey) row) budget
+      → Follows survey (kept_edits survey) row o stop gift → OutcomeSays survey (kept_edits survey) budget row o gift → IsSome gift
   given row o stop (Some gift) reach e follows says = refl
   given row (Change path weight cert) None None reach e follows says = absurd follows
   given row (Change path weight cert) (Some stop) None reach e follows says = absurd (reach.values_fit path stop follows)
@@ -31,7 +31,7 @@ module _ (survey : SurveyParts) (budget : ℕ) (p : Point) (correction : IsCorre
   given row (Overflow path event) stop None reach e follows says = absurd (reach.search_fits path event (sym e))
   given row (Contradictory cert) stop None reach e follows says = absurd (says p correction)
 
-  all-given : (rows : List (List Value)) (ends : List RowEnd) → AllByRecursion (IsInReach survey budget) rows → AllZip (IsEndOf survey (rule_edits survey) budget) rows ends → AllZip (Says survey (rule_edits survey) budget) rows ends → AllGiven ends
+  all-given : (rows : List (List Value)) (ends : List RowEnd) → AllByRecursion (IsInReach survey budget) rows → AllZip (IsEndOf survey (kept_edits survey) budget) rows ends → AllZip (Says survey (kept_edits survey) budget) rows ends → AllGiven ends
   all-given [] [] reach each say = tt
   all-given [] (end ∷ ends) reach each say = absurd each
   all-given (row ∷ rows) [] reach each say = absurd each
