@@ -16,8 +16,9 @@ use Rattle.record_text.proofs.HeaderLaws.{header_length}
 use Rattle.record_text.proofs.SheetLaws.{few_sheet_rows}
 use Rattle.proof_grammar.specs.declared.proof.Proof.{Proof}
 use Rattle.proof_grammar.proofs.ProofWords.{text-once}
+use Rattle.cert_check.specs.Dropped.{drop_fault}
 use Rattle.cert_check.specs.Places.{claims_line, records_line}
-use Rattle.cert_check.specs.Releases.{Audit, AreReleased, AreValidRows, Fits, IsFaultAmong, IsFirstFailure, IsValidRelease, Spells, behind, dropped_line, files_of, head_fault, is_released, limits_fit, rules_of}
+use Rattle.cert_check.specs.Releases.{Audit, AreReleased, AreValidRows, Fits, IsFaultAmong, IsFirstFailure, IsValidRelease, Spells, behind, files_of, head_fault, is_released, limits_fit, rules_of}
 use Rattle.cert_check.specs.RowChecks.{IsChangeFault, IsGiftFault, IsSaidFault, RowFiles, RowRules}
 use Rattle.cert_check.specs.declared.fault.CheckFault.TheVariants as fault
 use Rattle.cert_check.specs.declared.fault.Why.{Why}
@@ -126,16 +127,16 @@ module _ (a : Audit) (p : Proof) (spelled : Spells a.proof p) where
       some-none : (o : Option ℕ) (n : ℕ) → o ≡ Some n → o ≡ None → ⊥
       some-none o n some none = cc
 
-  -- a line of the rules that is dropped
-  pub drop-answers : (line : ℕ) → head_fault a p ≡ None → dropped_line p ≡ Some line → Answers a (Err (fault.Rejected line why.Drop))
-  drop-answers line head found = ((p, spelled, (head, found)), λ valid. absurd (some-none (dropped_line p) line found (valid-fits valid).kept))
+  -- a line of the rules that is dropped and not refuted
+  pub drop-answers : (line : ℕ) → head_fault a p ≡ None → drop_fault a.survey p ≡ Some line → Answers a (Err (fault.Rejected line why.Drop))
+  drop-answers line head found = ((p, spelled, (head, found)), λ valid. absurd (some-none (drop_fault a.survey p) line found (valid-fits valid).dropped))
     where
       some-none : (o : Option ℕ) (n : ℕ) → o ≡ Some n → o ≡ None → ⊥
       some-none o n some none = cc
 
-  module _ (head : head_fault a p ≡ None) (kept : dropped_line p ≡ None) (bytes : List ℕ) (sheet : IsSheet a.survey.fields bytes a.sheet) where
+  module _ (head : head_fault a p ≡ None) (dropped : drop_fault a.survey p ≡ None) (bytes : List ℕ) (sheet : IsSheet a.survey.fields bytes a.sheet) where
     fits : Fits a p
-    fits = record { spelled = spelled; head = head; kept = kept }
+    fits = record { spelled = spelled; head = head; dropped = dropped }
 
     pub as-released : (rows : List (List (List ℕ))) → AreRowsOf a.sheet.header a.released (length (filter is_released p.rows)) rows → AreReleased a p rows
     as-released rows are = record { first = are.first; given = are.given; header = are.same; long = are.long; one_each = are.counted }

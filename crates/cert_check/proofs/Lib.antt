@@ -2,6 +2,7 @@ pub mod AnswerLaws
 pub mod AuditLaws
 pub mod ChangeLaws
 pub mod CountLaws
+pub mod DroppedLaws
 pub mod LineCounts
 pub mod LineNumbers
 pub mod NewRowLaws
@@ -11,6 +12,6 @@ pub mod ReleasedLaws
 pub mod RowsLoop
 pub mod RuleLoop
 pub mod ShownLaws
-pub mod UsableLaws
 pub mod ValueLaws
 pub mod ValueLoop
+pub mod VerdictsLoop

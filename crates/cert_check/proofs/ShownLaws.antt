@@ -1,4 +1,4 @@
-use Rattle.std.proofs.Common.{◌≡◌, ℕ, zero, suc, ◌≤◌, Bool, true, List, [], ◌∷◌, Option, Some, None, IsSomeAnd, refl, sym, ap, ◌∙◌, subst, arith}
+use Rattle.std.proofs.Common.{◌≡◌, ℕ, zero, suc, ◌≤◌, Bool, true, List, [], ◌∷◌, Option, Some, None, IsSomeAnd, ap, ◌∙◌, arith}
 use Rattle.std.specs.List.{AllByRecursion}
 use Rattle.std.proofs.lemmas.Bool.Decides.{Decides-eqb}
 use Rattle.edit_model.specs.Corrections.{IsCorrection, change_weight}
@@ -9,10 +9,13 @@ use Rattle.edit_model.specs.declared.value.Value.{Value}
 use Rattle.edit_model.proofs.RowPointLaws.{point_of}
 use Rattle.edit_line.specs.Lines.{AreOver, LineParts}
 use Rattle.edit_line.specs.Lines as lines
-use Rattle.edit_line.specs.Shapes.{shape_of}
 use Rattle.edit_line.proofs.BoolLaws.{both_true}
-use Rattle.edit_normal.specs.RuleLines.{lines_from, normal_lines_of}
-use Rattle.edit_normal.proofs.MeaningLaws.{lines-all, lines-mean, lines-over}
+use Rattle.edit_line.proofs.Members.{all-in, in-all}
+use Rattle.edit_normal.specs.RuleLines.{normal_lines_of}
+use Rattle.edit_normal.proofs.MeaningLaws.{lines-mean}
+use Rattle.edit_normal.proofs.NormalLines.{normal-over}
+use Rattle.derivation.specs.Premises.{usable_lines}
+use Rattle.derivation.proofs.RefutationLaws.{usable-among}
 use Rattle.record_text.specs.Sheets.{IsSheet}
 use Rattle.record_text.proofs.SheetLaws.{rows_are_records}
 use Rattle.bound_cert.specs.Paths.{changes, path_weight}
@@ -25,20 +28,15 @@ use Rattle.bound_cert.specs.declared.outcome.RowProof.{RowProof}
 use Rattle.bound_cert.proofs.CertLaws.{tree-shows}
 use Rattle.proof_grammar.specs.Limits.{IsChange, IsOutcome, IsRowProof}
 use Rattle.proof_grammar.specs.declared.proof.Proof.{Proof}
+use Rattle.cert_check.specs.Dropped.{kept_flags}
 use Rattle.cert_check.specs.Released.{IsReleasedAs, text_at}
 use Rattle.cert_check.specs.Releases.{AreValidRows, Audit, Fits, IsValidRelease, behind, files_of, rules_of}
 use Rattle.cert_check.specs.RowChecks.{IsReleased, IsValidChange, IsValidSaid, RowFiles, is_change, tree_of}
 use Rattle.cert_check.specs.Shown.{IsLeastRelease, ShowAll, Shows, ShowsSaid}
+use Rattle.cert_check.proofs.DroppedLaws.{rules-follow}
 use Rattle.cert_check.proofs.NewRowLaws.{differing-weighs, empty-weighs, row-differs, values-row, whole-agrees, whole-corrects}
-use Rattle.cert_check.proofs.UsableLaws.{normal-usable}
 
 -- What a valid release shows, whoever wrote it.
-
--- the lines of a survey are over its fields
-normal-over : (a : Audit) → AreOver (shape_of a.survey.fields) (normal_lines_of a.survey)
-normal-over a =
-    let numbered = lines_from (shape_of a.survey.fields) 0 a.survey.rules in
-    subst (λ (ls : List LineParts). AreOver (shape_of a.survey.fields) ls) (lines-all a.survey numbered refl) (lines-over a.survey numbered refl)
 
 -- what holds of the texts that are released, if some are
 some-then : {X : Type 0} (o : Option X) (P Q : X → Type 0) → ((x : X) → P x → Q x) → IsSomeAnd o P → IsSomeAnd o Q
@@ -49,8 +47,9 @@ module _ (a : Audit) (p : Proof) (well : IsWellFormed a.survey) (fits : Fits a p
   -- no correction is lighter than a valid tree says
   none-lighter : (weight : Option ℕ) (leaves : List Leaf) → IsValidTree (tree_of (rules_of a p) f weight) leaves → (q : Point) → IsCorrection a.survey q → IsSomeAnd weight (λ w. w ≤ change_weight a.survey f.row q)
   none-lighter weight leaves valid q correction =
-      tree-shows (tree_of (rules_of a p) f weight) are (normal-over a) leaves valid q correction.codes
-      (subst (λ (ls : List LineParts). lines.AllHold ls q) (sym (normal-usable a p fits)) ((lines-mean a.survey q well correction.codes).1 correction.rules))
+      tree-shows (tree_of (rules_of a p) f weight) are (normal-over a.survey) leaves valid q correction.codes
+      (all-in (λ l. lines.LineHolds l q) (usable_lines (normal_lines_of a.survey) (kept_flags p)) (λ l there.
+      in-all (λ l. lines.LineHolds l q) l (normal_lines_of a.survey) ((lines-mean a.survey q well correction.codes).1 correction.rules) (usable-among (normal_lines_of a.survey) (kept_flags p) l there)))
 
   -- the weight of a path that is right
   right-weight : (path : List Bool) (weight : ℕ) → is_change a.survey.fields f.row path weight ≡ true → path_weight a.survey.fields path ≡ weight
@@ -111,11 +110,12 @@ module _ (a : Audit) (p : Proof) (well : IsWellFormed a.survey) (fits : Fits a p
       row-is [] = are.0
       row-is (texts ∷ later) = are.0
 
--- a valid release of a sheet shows that its rows are corrections of least weight, and that its contradictions are none
+-- a valid release of a sheet shows that each line of the rules follows from those that are kept, that its rows are corrections of least weight, and that its contradictions are none
 pub release-shows : (a : Audit) → IsWellFormed a.survey → (bytes : List ℕ) → IsSheet a.survey.fields bytes a.sheet → IsValidRelease a → Shows a
 release-shows a well bytes sheet valid = record {
   proof = valid.proof;
   spelled = valid.fits.spelled;
+  follow = rules-follow a valid.proof well valid.fits;
   rows = valid.rows;
   released = valid.released;
   each = rows-show a valid.proof well valid.fits valid.proof.rows a.sheet.raws a.sheet.rows valid.rows valid.fits.spelled.plain.rows.1 (rows_are_records a.survey.fields bytes a.sheet sheet) valid.each;

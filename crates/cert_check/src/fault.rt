@@ -8,7 +8,8 @@ pub enum Why {
     Grammar,
     /// The limits, or the counts of lines or of records, do not fit the rules and the records.
     Head,
-    /// A line of the rules is dropped.
+    /// A line of the rules is dropped, and the steps do not refute its negation: the line is the first step that is
+    /// not valid, or the one that drops the line.
     Drop,
     /// What is said of a record is not right: its path, its weight, or its tree.
     Cert,

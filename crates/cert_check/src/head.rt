@@ -1,13 +1,11 @@
 //! Whether a proof fits the rules and the records.
-ghost use Rattle.std.specs.Prelude.{◌≡◌, is_some, length, position};
-ghost use Rattle.cert_check.specs.Releases.{dropped_line, limits_fit};
+ghost use Rattle.std.specs.Prelude.{◌≡◌, length};
+ghost use Rattle.cert_check.specs.Releases.{limits_fit};
 ghost use Rattle.cert_check.specs.inner.Counts.{IsCounted};
 ghost use Rattle.cert_check.specs.inner.Parts.{head_fault_of};
 
 use crate::line_counts::records_line;
-use derivation::Step;
 use edit_line::Line;
-use foundation::Sequence;
 use proof_text::Proof;
 
 /// The first line that does not fit: the limits, the count of the lines of the rules, or the count of the records.
@@ -34,22 +32,4 @@ fn limits_fit(proof: &Proof) -> bool
     (1 <= proof.limit && proof.limit <= 1000)
         && ((1 <= proof.near && proof.near <= 64)
             && (1 <= proof.budget && proof.budget <= 1_000_000_000))
-}
-
-/// The first line that says that a line of the rules is dropped.
-pub(crate) fn dropped_line(proof: &Proof) -> Option<u64>
-    requires { IsCounted proof.now }
-    ensures { result ≡ dropped_line proof.now }
-{
-    match first_dropped(proof.verdicts.as_slice()) {
-        Some(place) => Some(4 + place as u64),
-        None => None,
-    }
-}
-
-// The place of the first verdict that drops its line.
-fn first_dropped(verdicts: &[Option<Sequence<Step>>]) -> Option<usize>
-    ensures { result ≡ position is_some verdicts.now }
-{
-    verdicts.iter().position(|verdict| verdict.is_some())
 }

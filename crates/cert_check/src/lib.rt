@@ -6,6 +6,7 @@
 mod changed_fields;
 mod check;
 mod checking;
+mod dropped;
 mod fault;
 mod head;
 mod line_counts;

@@ -59,8 +59,8 @@ fn rows_line_count(rows: &[RowProof]) -> u64
     count
 }
 
-// How many lines a verdict takes.
-fn verdict_line_count(verdict: &Option<Sequence<Step>>) -> u64
+/// How many lines a verdict takes. No memory.
+pub(crate) fn verdict_line_count(verdict: &Option<Sequence<Step>>) -> u64
     requires { length (verdict_lines verdict.now) < 2 ^ 64 }
     ensures { result ≡ length (verdict_lines verdict.now) }
 {

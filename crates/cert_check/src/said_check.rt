@@ -1,27 +1,27 @@
 //! Whether a proof, as it was read, is right for rules, records and released bytes.
-ghost use Rattle.std.specs.Prelude.{◌≡◌, ◌≤◌, ℕ, List, IfOk, None, is_none, length, map};
+ghost use Rattle.std.specs.Prelude.{◌≡◌, ◌≤◌, ℕ, List, None, length};
 ghost use Rattle.std.specs.List.{filter};
 ghost use Rattle.edit_line.specs.Lines.{AreOver};
 ghost use Rattle.edit_line.specs.Shapes.{shape_of};
 ghost use Rattle.edit_normal.specs.RuleLines.{normal_lines_of};
-ghost use Rattle.cert_check.specs.Releases.{Spells, dropped_line, head_fault, is_released};
+ghost use Rattle.cert_check.specs.Dropped.{drop_fault};
+ghost use Rattle.cert_check.specs.Releases.{Spells, head_fault, is_released};
 ghost use Rattle.cert_check.specs.inner.Answers.{Answers, IsOfSheet, audit_in};
 ghost use Rattle.cert_check.specs.inner.Counts.{IsCounted};
 ghost use Rattle.proof_grammar.specs.ProofLines.{proof_lines};
 ghost use Rattle.cert_check.specs.declared.fault.CheckFault.TheVariants as faults;
 
 use crate::checking::Checking;
+use crate::dropped::{drop_fault, kept_flags};
 use crate::fault::{CheckFault, Why};
-use crate::head::{dropped_line, head_fault};
+use crate::head::head_fault;
 use crate::line_counts::{claims_line, records_line};
 use crate::released_file::released_rows;
 use crate::rows_check::{is_released, rows_fault};
 use bound_cert::RowProof;
-use derivation::Step;
 use edit_line::Line;
 use edit_model::Survey;
-use edit_normal::normal_lines;
-use foundation::{OutOfMemory, Sequence};
+use edit_normal::lines_of_rules;
 use proof_text::Proof;
 use record_text::Sheet;
 use std::alloc::Global;
@@ -47,17 +47,17 @@ pub(crate) fn check_said(
     ensures { (text : List ℕ) → Spells text said.now → Answers (audit_in audit.now text) result }
 {
     let _ = bytes; // no proof has more lines than 64 bits count
-    let lines = rule_lines(alloc, audit.rules)?;
+    let mut lines = lines_of_rules(alloc, audit.rules)?;
     if let Some(line) = head_fault(said, &lines, audit.records.len()) {
         return Err(rejected(line, Why::Head));
     }
-    if let Some(line) = dropped_line(said) {
+    if let Some(line) = drop_fault(alloc, audit.rules, &mut lines, said)? {
         return Err(rejected(line, Why::Drop));
     }
     check_records(alloc, audit, &lines, said)
 }
 
-// The same of a proof whose limits and counts fit, and which drops no line of the rules.
+// The same of a proof whose limits and counts fit, and which refutes each line of the rules that it drops.
 fn check_records(
     alloc: Global,
     audit: &Audit,
@@ -69,7 +69,7 @@ fn check_records(
     requires lines { lines.now ≡ normal_lines_of audit.now.rules.now }
     requires over { AreOver (shape_of audit.now.rules.now.fields) lines.now }
     requires head { (bytes : List ℕ) → head_fault (audit_in audit.now bytes) said.now ≡ None }
-    requires kept { dropped_line said.now ≡ None }
+    requires dropped { drop_fault audit.now.rules.now said.now ≡ None }
     ensures { (bytes : List ℕ) → Spells bytes said.now → Answers (audit_in audit.now bytes) result }
 {
     let saids = said.rows.as_slice();
@@ -99,30 +99,6 @@ pub(crate) fn rejected(line: u64, why: Why) -> CheckFault
     ensures { result ≡ faults.Rejected line why }
 {
     CheckFault::Rejected { line, why }
-}
-
-// The lines of all rules.
-fn rule_lines(alloc: Global, rules: &Survey) -> Result<Vec<Line>, OutOfMemory>
-    ensures lines { IfOk result (λ lines. lines.items ≡ normal_lines_of rules.now) }
-    ensures over { IfOk result (λ lines. AreOver (shape_of rules.now.fields) lines.items) }
-{
-    let numbered = normal_lines(alloc, rules)?;
-    let mut lines = Vec::with_capacity(alloc, numbered.len())?;
-    for rule_line in numbered {
-        lines.push(rule_line.line)?;
-    }
-    Ok(lines)
-}
-
-// For each line of the rules whether it is kept.
-fn kept_flags(alloc: Global, verdicts: &[Option<Sequence<Step>>]) -> Result<Vec<bool>, OutOfMemory>
-    ensures { IfOk result (λ flags. flags.items ≡ map is_none verdicts.now) }
-{
-    let mut flags = Vec::with_capacity(alloc, verdicts.len())?;
-    for verdict in verdicts {
-        flags.push(verdict.is_none())?;
-    }
-    Ok(flags)
 }
 
 // How many records are released.

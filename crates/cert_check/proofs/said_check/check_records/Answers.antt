@@ -21,7 +21,7 @@ pub returns-in_default : goal.returns-in_default
 returns-in_default c = λ bytes spelled.
     let a = audit_in c.args.audit.now bytes in
     let none = rw (c.in_default.is, c.header.ensures, c.released_count-count.ensures, c.as_slice-saids.ensures) at c.in_ok-released.ensures.none in
-    rw c.rejected.ensures (file-answers a c.args.said.now spelled (c.requires.head bytes) c.requires.kept c.requires.sheet.0 c.requires.sheet.1 none)
+    rw c.rejected.ensures (file-answers a c.args.said.now spelled (c.requires.head bytes) c.requires.dropped c.requires.sheet.0 c.requires.sheet.1 none)
 
 pub rows_fault-requires-clause-checking : goal.rows_fault-requires-clause-checking
 rows_fault-requires-clause-checking c =
@@ -57,7 +57,7 @@ returns-in-Some-2 c = λ bytes spelled.
     let usable = c.deref.ensures.value ∙ c.in_ok-usable.ensures ∙ ap (map is_none) c.as_slice.ensures in
     let found = rw (c.in-Some-2.is, c.as_slice-saids.ensures, c.requires.lines, usable, c.columns.ensures) at c.in_ok-fault.ensures in
     rw (c.rejected-in-Some-2.ensures, c.records_line.ensures)
-    (record-answers a c.args.said.now spelled (c.requires.head bytes) c.requires.kept c.requires.sheet.0 c.requires.sheet.1 c.in-Some.released.raws are c.in-Some-2.fault.offset c.in-Some-2.fault.why found.0 found.1)
+    (record-answers a c.args.said.now spelled (c.requires.head bytes) c.requires.dropped c.requires.sheet.0 c.requires.sheet.1 c.in-Some.released.raws are c.in-Some-2.fault.offset c.in-Some-2.fault.why found.0 found.1)
 
 pub returns-then-not-is_empty : goal.returns-then-not-is_empty
 returns-then-not-is_empty c = λ bytes spelled.
@@ -66,7 +66,7 @@ returns-then-not-is_empty c = λ bytes spelled.
     let usable = c.deref.ensures.value ∙ c.in_ok-usable.ensures ∙ ap (map is_none) c.as_slice.ensures in
     let valid = rw (c.in_default-2.is, c.as_slice-saids.ensures, c.requires.lines, usable, c.columns.ensures) at c.in_ok-fault.ensures in
     rw (c.rejected-then-not-is_empty.ensures, c.claims_line.ensures)
-    (claims-answers a c.args.said.now spelled (c.requires.head bytes) c.requires.kept c.requires.sheet.0 c.requires.sheet.1 c.in-Some.released.raws are valid (some-elements _ (sym c.is_empty.ensures ∙ c.if-not-is_empty.true)))
+    (claims-answers a c.args.said.now spelled (c.requires.head bytes) c.requires.dropped c.requires.sheet.0 c.requires.sheet.1 c.in-Some.released.raws are valid (some-elements _ (sym c.is_empty.ensures ∙ c.if-not-is_empty.true)))
 
 pub returns : goal.returns
 returns c = λ bytes spelled.
@@ -75,4 +75,4 @@ returns c = λ bytes spelled.
     let usable = c.deref.ensures.value ∙ c.in_ok-usable.ensures ∙ ap (map is_none) c.as_slice.ensures in
     let valid = rw (c.in_default-2.is, c.as_slice-saids.ensures, c.requires.lines, usable, c.columns.ensures) at c.in_ok-fault.ensures in
     rw (c.released_count-count.ensures, c.as_slice-saids.ensures)
-    (valid-answers a c.args.said.now spelled (c.requires.head bytes) c.requires.kept c.requires.sheet.0 c.requires.sheet.1 c.in-Some.released.raws are valid (no-elements _ (sym c.is_empty.ensures ∙ c.if-not-is_empty.false)))
+    (valid-answers a c.args.said.now spelled (c.requires.head bytes) c.requires.dropped c.requires.sheet.0 c.requires.sheet.1 c.in-Some.released.raws are valid (no-elements _ (sym c.is_empty.ensures ∙ c.if-not-is_empty.false)))

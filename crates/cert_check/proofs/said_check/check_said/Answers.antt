@@ -9,9 +9,8 @@ returns-in-Some c = λ bytes spelled.
     let head = rw (lines, c.len.ensures.rows) at (sym c.head_fault.ensures ∙ c.in-Some.is) in
     rw c.rejected.ensures (head-answers (audit_in c.args.audit.now bytes) c.args.said.now spelled c.in-Some.line head)
 
-pub returns-in-Some-dropped_line : goal.returns-in-Some-dropped_line
-returns-in-Some-dropped_line c = λ bytes spelled.
+pub returns-in-Some-2 : goal.returns-in-Some-2
+returns-in-Some-2 c = λ bytes spelled.
     let lines = ap length (c.deref.ensures.value ∙ c.in_ok-lines.ensures.lines) in
     let head = rw (lines, c.len.ensures.rows) at (sym c.head_fault.ensures ∙ c.in_default.is) in
-    rw c.rejected-in-Some-dropped_line.ensures
-    (drop-answers (audit_in c.args.audit.now bytes) c.args.said.now spelled c.in-Some-dropped_line.line head (sym c.dropped_line.ensures ∙ c.in-Some-dropped_line.is))
+    rw c.rejected-in-Some-2.ensures (drop-answers (audit_in c.args.audit.now bytes) c.args.said.now spelled c.in-Some-2.line head (sym c.in_ok-line.ensures.found ∙ c.in-Some-2.is))

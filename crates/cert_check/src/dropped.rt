@@ -1,0 +1,171 @@
+//! Whether what a proof says of the lines of the rules is right: each line that it drops is refuted.
+ghost use Rattle.std.specs.Prelude.{◌≡◌, ◌<◌, ◌+◌, ◌^◌, IfOk, OnOk, Some, is_none, length, map, slice_get};
+ghost use Rattle.std.specs.List.{flat_map};
+ghost use Rattle.edit_model.specs.Rows.{IsRow};
+ghost use Rattle.edit_line.specs.Lines.{AreOver, LineParts};
+ghost use Rattle.edit_line.specs.Shapes.{shape_of};
+ghost use Rattle.edit_normal.specs.RuleLines.{normal_lines_of};
+ghost use Rattle.derivation.specs.Premises.{premises_of};
+ghost use Rattle.derivation.specs.Refutations.{refutation_of};
+ghost use Rattle.proof_grammar.specs.ProofLines.{verdict_lines};
+ghost use Rattle.cert_check.specs.Dropped.{drop_fault, refutation_fault, verdicts_fault};
+ghost use Rattle.cert_check.specs.inner.Counts.{IsCounted};
+ghost use Rattle.cert_check.specs.inner.Parts.{fault_of};
+ghost use Rattle.cert_check.specs.inner.RowFaults.{IsAmong};
+
+use crate::line_counts::verdict_line_count;
+use derivation::{Step, StepsFault, check_steps, record_without_values};
+use edit_line::Line;
+use edit_model::{FieldSet, Row, Survey};
+use foundation::{OutOfMemory, Sequence};
+use proof_text::Proof;
+use std::alloc::Global;
+
+/// The first line of the proof at which what it says of the lines of the rules is not right. The lines are lent
+/// for writing, so that none is copied for each line that is dropped; they are the same afterwards.
+pub(crate) fn drop_fault(
+    alloc: Global,
+    survey: &Survey,
+    lines: &mut Vec<Line>,
+    proof: &Proof,
+) -> Result<Option<u64>, OutOfMemory>
+    requires counted { IsCounted proof.now }
+    requires lines { lines.old.items ≡ normal_lines_of survey.now }
+    requires over { AreOver (shape_of survey.now.fields) lines.old.items }
+    requires each { length proof.now.verdicts ≡ length lines.old.items }
+    ensures found { IfOk result (λ found. found ≡ drop_fault survey.now proof.now) }
+    ensures lines { OnOk result (lines.new.items ≡ lines.old.items) }
+{
+    match verdicts_fault(alloc, survey, lines, proof.verdicts.as_slice())? {
+        Some(offset) => Ok(Some(4 + offset)),
+        None => Ok(None),
+    }
+}
+
+// How many lines behind the first verdict the first fault is, if there is one. When a line is looked at, the
+// ones before it are left, and of the later ones those that are kept.
+fn verdicts_fault(
+    alloc: Global,
+    survey: &Survey,
+    lines: &mut Vec<Line>,
+    verdicts: &[Option<Sequence<Step>>],
+) -> Result<Option<u64>, OutOfMemory>
+    requires few { length (flat_map verdict_lines verdicts.now) < 2 ^ 64 }
+    requires lines { lines.old.items ≡ normal_lines_of survey.now }
+    requires over { AreOver (shape_of survey.now.fields) lines.old.items }
+    requires each { length verdicts.now ≡ length lines.old.items }
+    ensures found { IfOk result (λ found. found ≡ verdicts_fault survey.now (map is_none verdicts.now) 0 (normal_lines_of survey.now) verdicts.now) }
+    ensures within { IfOk result (IsAmong (length (flat_map verdict_lines verdicts.now))) }
+    ensures lines { OnOk result (lines.new.items ≡ lines.old.items) }
+{
+    let row = record_without_values(alloc, survey)?;
+    let mut left = kept_flags(alloc, verdicts)?;
+    let mut offset = 0;
+    for (place, verdict) in verdicts.iter().enumerate() {
+        if let Some(behind) = verdict_fault(
+            alloc, survey, &row, lines, &mut left, place, verdict,
+        )? {
+            return Ok(Some(offset + behind));
+        }
+        left[place] = true;
+        offset += verdict_line_count(verdict);
+    }
+    Ok(None)
+}
+
+/// For each line of the rules whether it is kept.
+pub(crate) fn kept_flags(
+    alloc: Global,
+    verdicts: &[Option<Sequence<Step>>],
+) -> Result<Vec<bool>, OutOfMemory>
+    ensures { IfOk result (λ flags. flags.items ≡ map is_none verdicts.now) }
+{
+    let mut flags = Vec::with_capacity(alloc, verdicts.len())?;
+    for verdict in verdicts {
+        flags.push(verdict.is_none())?;
+    }
+    Ok(flags)
+}
+
+// How many lines behind its first line the fault of what is said of the line at the place is, if there is one.
+fn verdict_fault(
+    alloc: Global,
+    survey: &Survey,
+    row: &Row,
+    lines: &mut Vec<Line>,
+    left: &mut Vec<bool>,
+    place: usize,
+    verdict: &Option<Sequence<Step>>,
+) -> Result<Option<u64>, OutOfMemory>
+    requires row { IsRow survey.now.fields row.now }
+    requires over { AreOver (shape_of survey.now.fields) lines.old.items }
+    requires each { length left.old.items ≡ length lines.old.items }
+    requires place { place < length lines.old.items }
+    ensures found { IfOk result (λ found. (line : LineParts) → slice_get lines.old.items place ≡ Some line
+        → found ≡ fault_of (shape_of survey.now.fields) lines.old.items left.old.items line row.now verdict.now) }
+    ensures within { IfOk result (IsAmong (length (verdict_lines verdict.now))) }
+    ensures lines { OnOk result (lines.new.items ≡ lines.old.items) }
+    ensures left { OnOk result (left.new.items ≡ left.old.items) }
+{
+    match verdict {
+        None => Ok(None),
+        Some(steps) => refutation_fault(alloc, survey, row, lines, left, place, steps.as_slice()),
+    }
+}
+
+// The same of a line that is dropped: its negation stands behind the lines while the steps are checked.
+fn refutation_fault(
+    alloc: Global,
+    survey: &Survey,
+    row: &Row,
+    lines: &mut Vec<Line>,
+    left: &mut Vec<bool>,
+    place: usize,
+    steps: &[Step],
+) -> Result<Option<u64>, OutOfMemory>
+    requires row { IsRow survey.now.fields row.now }
+    requires over { AreOver (shape_of survey.now.fields) lines.old.items }
+    requires each { length left.old.items ≡ length lines.old.items }
+    requires place { place < length lines.old.items }
+    ensures found { IfOk result (λ found. (line : LineParts) → slice_get lines.old.items place ≡ Some line
+        → found ≡ refutation_fault (refutation_of (shape_of survey.now.fields) lines.old.items left.old.items line row.now) steps.now) }
+    ensures within { IfOk result (IsAmong (1 + length steps.now)) }
+    ensures lines { OnOk result (lines.new.items ≡ lines.old.items) }
+    ensures left { OnOk result (left.new.items ≡ left.old.items) }
+{
+    let count = lines.len();
+    let mut negation = lines[place].negation(alloc)?;
+    lines.append(&mut negation)?;
+    left.resize(lines.len(), true)?;
+    let found = steps_fault(alloc, survey, row, lines, left, steps)?;
+    lines.truncate(count);
+    left.truncate(count);
+    Ok(found)
+}
+
+// How many lines behind the one that drops a line the first fault of these steps is, if there is one: that line
+// itself where there are no steps, or where they prove what some point meets.
+fn steps_fault(
+    alloc: Global,
+    survey: &Survey,
+    row: &Row,
+    given: &[Line],
+    usable: &[bool],
+    steps: &[Step],
+) -> Result<Option<u64>, OutOfMemory>
+    requires row { IsRow survey.now.fields row.now }
+    requires over { AreOver (shape_of survey.now.fields) given.now }
+    requires lists { length given.now ≡ length usable.now }
+    ensures found { IfOk result (λ found. found ≡ refutation_fault (premises_of (shape_of survey.now.fields) given.now usable.now row.now 0) steps.now) }
+    ensures within { IfOk result (IsAmong (1 + length steps.now)) }
+{
+    if steps.is_empty() {
+        return Ok(Some(0));
+    }
+    let kept = FieldSet::empty();
+    match check_steps(alloc, survey, given, usable, row, kept, steps) {
+        Ok(proved) => Ok(if proved.is_absurd() { None } else { Some(0) }),
+        Err(StepsFault::Bad { place }) => Ok(Some(place + 1)),
+        Err(StepsFault::OutOfMemory) => Err(OutOfMemory),
+    }
+}
