@@ -1,4 +1,4 @@
-use Rattle.std.proofs.Common.{◌≡◌, ℕ, List, All, refl, sym, subst}
+use Rattle.std.proofs.Common.{ℕ, List, All, refl, sym, subst}
 use Rattle.edit_model.specs.Parts.{SurveyParts}
 use Rattle.edit_model.specs.Rows.{IsRow}
 use Rattle.edit_model.specs.Surveys.{IsWellFormed}
