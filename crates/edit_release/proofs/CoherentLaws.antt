@@ -9,7 +9,6 @@ use Rattle.edit_line.specs.Combinations.{may_combine, sum_of}
 use Rattle.edit_line.specs.Divisors.{divided_by}
 use Rattle.edit_line.proofs.BoolLaws.{both_true}
 use Rattle.edit_line.proofs.Enough.{is_enough-Decides}
-use Rattle.edit_normal.specs.RuleEdits.{rule_edits}
 use Rattle.derivation.specs.Premises.{Premises}
 use Rattle.derivation.specs.ValidSteps.{AreValidSteps, as_line, combined_line, last_proved, or_place, proved_by, proved_from}
 use Rattle.derivation.specs.declared.proved.Proved.{Proved}
@@ -30,6 +29,7 @@ use Rattle.back_subst.specs.declared.gift.Gift.{Gift}
 use Rattle.proof_text.specs.Sizes.{ArePositiveLeaves, ArePositiveSteps, IsCoherentRow, IsPositiveReason, IsPositiveStep}
 use Rattle.edit_report.specs.declared.end.RowEnd.{RowEnd}
 use Rattle.record_workers.specs.Ends.{Follows, IsEndOf}
+use Rattle.pruned_rules.specs.Pruned.{kept_edits}
 use Rattle.edit_release.specs.Edits.{said, said_of}
 use Rattle.edit_release.proofs.OutcomeLaws.{change-clean}
 use Rattle.edit_release.proofs.SaidLaws.{has-tree}
@@ -68,7 +68,7 @@ module _ (p : Premises) where
       by None is rest h = absurd (cc)
       by (Some x) is rest h = (step-positive earlier one x is, rest x h)
 
-  valid-positive : (steps : List Step) (x : Proved) → AreValidSteps p steps x → ArePositiveSteps steps
+  pub valid-positive : (steps : List Step) (x : Proved) → AreValidSteps p steps x → ArePositiveSteps steps
   valid-positive steps x valid = by (proved_from p [] steps) refl valid
     where
       by : (r : Result (List Proved) ℕ) → proved_from p [] steps ≡ r → last_proved r ≡ Ok x → ArePositiveSteps steps
@@ -94,8 +94,8 @@ module _ (c : TreeCase) where
 -- ---- what is said of a record
 
 module _ (survey : SurveyParts) (row : List Value) (budget : ℕ) (formed : IsWellFormed survey) (is : IsRow survey.fields row) where
-  coherent-of : (o : Outcome) (stop : Option GiftFault) (gift : Option Gift) → outcome_of (case_of survey (rule_edits survey) row) budget ≡ o → Follows survey (rule_edits survey) row o stop gift → IsCoherentRow (said_of o stop)
-  coherent-of (outcome.Change path zero cert) None gift e follows = (refl, change-clean (case_of survey (rule_edits survey) row) budget path zero cert e refl)
+  coherent-of : (o : Outcome) (stop : Option GiftFault) (gift : Option Gift) → outcome_of (case_of survey (kept_edits survey) row) budget ≡ o → Follows survey (kept_edits survey) row o stop gift → IsCoherentRow (said_of o stop)
+  coherent-of (outcome.Change path zero cert) None gift e follows = (refl, change-clean (case_of survey (kept_edits survey) row) budget path zero cert e refl)
   coherent-of (outcome.Change path (suc w) cert) None gift e follows = tree-positive _ cert.leaves (has-tree survey row budget formed is _ e)
   coherent-of (outcome.Change path zero cert) (Some stop) gift e follows = tree-positive _ cert.leaves (has-tree survey row budget formed is _ e)
   coherent-of (outcome.Change path (suc w) cert) (Some stop) gift e follows = tree-positive _ cert.leaves (has-tree survey row budget formed is _ e)
@@ -109,5 +109,5 @@ module _ (survey : SurveyParts) (row : List Value) (budget : ℕ) (formed : IsWe
   coherent-of (outcome.Contradictory cert) (Some stop) None e follows = absurd follows
   coherent-of (outcome.Contradictory cert) (Some stop) (Some gift) e follows = absurd follows
 
-  pub said-coherent : (end : RowEnd) → IsEndOf survey (rule_edits survey) budget row end → IsCoherentRow (said end)
+  pub said-coherent : (end : RowEnd) → IsEndOf survey (kept_edits survey) budget row end → IsCoherentRow (said end)
   said-coherent end ends = coherent-of end.proof.outcome end.proof.gift end.gift (sym ends.outcome) ends.follows

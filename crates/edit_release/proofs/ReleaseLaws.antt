@@ -1,17 +1,15 @@
 -- The files of an edit are a valid release.
-use Rattle.std.proofs.Common.{◌≡◌, ◌≤◌, ◌<◌, ◌∙◌, nat_lt, cond, sym, ap, refl, ℕ, ◌+◌, ◌==◌, Bool, true, List, [], ◌∷◌, length, map, All, IsSome, IfSome, IsTrue, ◌↔◌, Option, Some, None, false, subst, arith}
-use Rattle.std.specs.Prelude.{is_some, option_map, position}
-use Rattle.std.specs.List.{AllByRecursion, AllZip, position_or_len}
+use Rattle.std.proofs.Common.{◌≡◌, ◌≤◌, ◌<◌, ◌∙◌, sym, ap, refl, ℕ, ◌==◌, true, List, [], ◌∷◌, length, map, All, IsSome, IsTrue, ◌↔◌, Option, Some, None, subst}
+use Rattle.std.specs.Prelude.{is_some}
+use Rattle.std.specs.List.{AllByRecursion, AllZip}
 use Rattle.std.proofs.lemmas.Bool.{le-leb}
-use Rattle.std.proofs.lemmas.Bool.Decides.{Decides-eqb, nat_tests}
+use Rattle.std.proofs.lemmas.Bool.Decides.{Decides-eqb}
 use Rattle.std.proofs.lemmas.List.{length-map}
 use Rattle.std.proofs.lemmas.Slice.Zip.{AllZip-long}
 use Rattle.edit_model.specs.Parts.{SurveyParts}
 use Rattle.edit_model.specs.Rows.{IsRow}
 use Rattle.edit_model.specs.Surveys.{IsWellFormed}
 use Rattle.edit_model.specs.declared.value.Value.{Value}
-use Rattle.edit_line.specs.Lines.{LineParts}
-use Rattle.edit_normal.specs.RuleEdits.{rule_edits}
 use Rattle.edit_normal.specs.RuleLines.{normal_lines_of}
 use Rattle.bound_cert.specs.declared.outcome.GiftFault.{GiftFault}
 use Rattle.bound_cert.specs.declared.outcome.Outcome.{Outcome}
@@ -24,7 +22,7 @@ use Rattle.record_text.proofs.ValueLaws.{values_are_row}
 use Rattle.proof_grammar.specs.Limits.{IsPlain}
 use Rattle.proof_grammar.specs.ProofLines.{proof_text}
 use Rattle.proof_grammar.specs.declared.proof.Proof.{Proof}
-use Rattle.proof_text.specs.Sizes.{ArePositiveSteps, IsCoherent, IsCoherentRow, IsSized}
+use Rattle.proof_text.specs.Sizes.{IsCoherent, IsCoherentRow, IsSized}
 use Rattle.proof_text.proofs.SizeLaws.{plain-if}
 use Rattle.edit_report.specs.Ends.{path_found}
 use Rattle.edit_report.specs.Reasons.{reasons_text_of}
@@ -35,26 +33,19 @@ use Rattle.record_workers.specs.Ends.{IsEndOf}
 use Rattle.record_workers.specs.Said.{Says}
 use Rattle.cert_check.specs.Releases.{Audit, IsValidRelease, audit_of, head_fault, is_released, limits_fit, rules_of}
 use Rattle.cert_check.specs.RowChecks.{IsReleased, RowFiles, RowRules}
-use Rattle.edit_release.specs.Edits.{IsShown, all_kept, proof_of, said}
+use Rattle.redundancy.proofs.BaseLaws.{verdicts-count}
+use Rattle.pruned_rules.specs.Pruned.{kept_edits, pruning_budget, rule_verdicts}
+use Rattle.pruned_rules.proofs.KeptLaws.{rules-follow}
+use Rattle.edit_release.specs.Edits.{IsShown, proof_of, refutation_by, said}
 use Rattle.edit_release.specs.Releases.{AllGiven, IsReleaseOf}
 use Rattle.edit_release.specs.declared.release.Release.{Release}
 use Rattle.edit_release.proofs.CoherentLaws.{said-coherent}
+use Rattle.edit_release.proofs.DroppedLaws.{none-faulty, verdicts-coherent}
 use Rattle.edit_release.proofs.ReleasedLaws.{IsSaidReleased, are-released, end-said, ends-said}
 use Rattle.edit_release.proofs.RowsLaws.{IsValidEnd, each-follows, end-released, own_files, rows-valid}
 use Rattle.edit_release.proofs.SaidLaws.{IsReleasedSaid, rules-are, said-valid, tree-shown}
 
 -- ---- the head of the proof
-
--- no line of the rules is dropped
-none-dropped : (lines : List LineParts) → position is_some (all_kept lines) ≡ None
-none-dropped lines = ap (λ (n : ℕ). cond (nat_lt n (length (all_kept lines))) (Some n) None) (past lines) ∙ ap (λ (b : Bool). cond b (Some (length (all_kept lines))) None) (no-less (length (all_kept lines)))
-  where
-    past : (lines : List LineParts) → position_or_len is_some (all_kept lines) ≡ length (all_kept lines)
-    past [] = refl
-    past (line ∷ lines) = let later = past lines in omega (arith, later)
-
-    no-less : (n : ℕ) → nat_lt n n ≡ false
-    no-less n = grind (arith, nat_tests)
 
 counts-agree : (m n : ℕ) → m ≡ n → (m == n) ≡ true
 counts-agree m n e = (Decides-eqb m n).1 e
@@ -70,7 +61,7 @@ module _ (survey : SurveyParts) (sheet : SheetParts) (released proof : List ℕ)
   limits-fit = rw (le-leb 1 budget least, le-leb budget 1000000000 most) refl
 
   lines-many : (length p.verdicts == length (normal_lines_of survey)) ≡ true
-  lines-many = counts-agree _ _ (length-map (normal_lines_of survey) (λ (line : LineParts). None))
+  lines-many = counts-agree _ _ (length-map (rule_verdicts survey) refutation_by ∙ verdicts-count survey (normal_lines_of survey) pruning_budget 0 (normal_lines_of survey))
 
   rows-many : (length p.rows == length sheet.rows) ≡ true
   rows-many = counts-agree _ _ (length-map ends said ∙ many)
@@ -82,26 +73,22 @@ module _ (survey : SurveyParts) (sheet : SheetParts) (released proof : List ℕ)
 
 module _ (survey : SurveyParts) (formed : IsWellFormed survey) (budget : ℕ) where
   -- the trees of all records are valid
-  pub all-shown : (rows : List (List Value)) (ends : List RowEnd) → AllByRecursion (IsRow survey.fields) rows → AllZip (IsEndOf survey (rule_edits survey) budget) rows ends → AllZip (IsShown survey) rows ends
+  pub all-shown : (rows : List (List Value)) (ends : List RowEnd) → AllByRecursion (IsRow survey.fields) rows → AllZip (IsEndOf survey (kept_edits survey) budget) rows ends → AllZip (IsShown survey) rows ends
   all-shown [] [] are each = tt
   all-shown [] (end ∷ ends) are each = absurd each
   all-shown (row ∷ rows) [] are each = absurd each
   all-shown (row ∷ rows) (end ∷ ends) are each = (tree-shown survey row budget formed are.0 end each.0, all-shown rows ends are.1 each.1)
 
   -- what is said of all records is coherent
-  all-coherent : (rows : List (List Value)) (ends : List RowEnd) → AllByRecursion (IsRow survey.fields) rows → AllZip (IsEndOf survey (rule_edits survey) budget) rows ends → AllByRecursion IsCoherentRow (map said ends)
+  all-coherent : (rows : List (List Value)) (ends : List RowEnd) → AllByRecursion (IsRow survey.fields) rows → AllZip (IsEndOf survey (kept_edits survey) budget) rows ends → AllByRecursion IsCoherentRow (map said ends)
   all-coherent [] [] are each = tt
   all-coherent [] (end ∷ ends) are each = absurd each
   all-coherent (row ∷ rows) [] are each = absurd each
   all-coherent (row ∷ rows) (end ∷ ends) are each = (said-coherent survey row budget formed are.0 end each.0, all-coherent rows ends are.1 each.1)
 
   -- the proof is coherent
-  pub proof-coherent : (rows : List (List Value)) (ends : List RowEnd) → AllByRecursion (IsRow survey.fields) rows → AllZip (IsEndOf survey (rule_edits survey) budget) rows ends → IsCoherent (proof_of survey budget ends)
-  proof-coherent rows ends are each = record { verdicts = none-said (normal_lines_of survey); rows = all-coherent rows ends are each }
-    where
-      none-said : (lines : List LineParts) → AllByRecursion (λ v. IfSome v ArePositiveSteps) (all_kept lines)
-      none-said [] = tt
-      none-said (line ∷ lines) = (tt, none-said lines)
+  pub proof-coherent : (rows : List (List Value)) (ends : List RowEnd) → AllByRecursion (IsRow survey.fields) rows → AllZip (IsEndOf survey (kept_edits survey) budget) rows ends → IsCoherent (proof_of survey budget ends)
+  proof-coherent rows ends are each = record { verdicts = verdicts-coherent survey formed; rows = all-coherent rows ends are each }
 
 -- texts are released of a record that is told to be released
 released-told : (r : RowRules) (f : RowFiles) (o : Outcome) (stop : Option GiftFault) (gift : Option Gift) → is_released (record { outcome = o; gift = stop }) ≡ is_some gift → (IsSome gift → IsReleased r f (path_found o)) → IsReleasedSaid r f o stop
@@ -115,7 +102,7 @@ released-told r f (Contradictory cert) stop gift told released = tt
 -- ---- the release
 
 module _ (survey : SurveyParts) (sheet : SheetParts) (bytes : List ℕ) (budget : ℕ) (ends : List RowEnd) (formed : IsWellFormed survey) (read : IsSheet survey.fields bytes sheet) (least : 1 ≤ budget) (most : budget ≤ 1000000000)
-    (each : AllZip (IsEndOf survey (rule_edits survey) budget) sheet.rows ends) (say : AllZip (Says survey (rule_edits survey) budget) sheet.rows ends) where
+    (each : AllZip (IsEndOf survey (kept_edits survey) budget) sheet.rows ends) (say : AllZip (Says survey (kept_edits survey) budget) sheet.rows ends) where
   abbrev audit : Audit
   audit = audit_of survey sheet (released_text_of survey sheet ends) (proof_text (proof_of survey budget ends))
 
@@ -126,20 +113,20 @@ module _ (survey : SurveyParts) (sheet : SheetParts) (bytes : List ℕ) (budget 
   abbrev r : RowRules
   r = rules_of audit (proof_of survey budget ends)
 
-  row-valid : (reads : List (List ℕ)) (row : List Value) (end : RowEnd) → AreValues survey.fields sheet.columns reads row → length reads ≡ length sheet.header → IsEndOf survey (rule_edits survey) budget row end
-      → Says survey (rule_edits survey) budget row end → IsShown survey row end → IsValidEnd r survey.fields sheet.columns reads row end
+  row-valid : (reads : List (List ℕ)) (row : List Value) (end : RowEnd) → AreValues survey.fields sheet.columns reads row → length reads ≡ length sheet.header → IsEndOf survey (kept_edits survey) budget row end
+      → Says survey (kept_edits survey) budget row end → IsShown survey row end → IsValidEnd r survey.fields sheet.columns reads row end
   row-valid reads row end values long is says shown = (
     told,
     said-valid survey row budget formed is_row r (own_files survey.fields sheet.columns reads row end) end (rules-are survey sheet audit.released audit.proof budget ends) refl is
         (released-told r (own_files survey.fields sheet.columns reads row end) (said end).outcome (said end).gift end.gift told
-        (end-released r (rule_edits survey) budget reads row formed is_row (one_column_a_field survey.fields bytes sheet read) (distinct_columns survey.fields bytes sheet read formed.names) within end.proof.outcome end.proof.gift end.gift is.follows says)),
+        (end-released r (kept_edits survey) budget reads row formed is_row (one_column_a_field survey.fields bytes sheet read) (distinct_columns survey.fields bytes sheet read formed.names) within end.proof.outcome end.proof.gift end.gift is.follows says)),
   )
     where
       is_row : IsRow survey.fields row
       is_row = values_are_row survey.fields sheet.columns reads row values
 
       told : IsSaidReleased end
-      told = end-said survey (rule_edits survey) budget row end is
+      told = end-said survey (kept_edits survey) budget row end is
 
       within : All (λ (c : ℕ). c < length reads) sheet.columns
       within = subst (λ (n : ℕ). All (λ (c : ℕ). c < n) sheet.columns) (sym long) (columns_in_header survey.fields bytes sheet read)
@@ -149,13 +136,13 @@ module _ (survey : SurveyParts) (sheet : SheetParts) (bytes : List ℕ) (budget 
     proof = proof_of survey budget ends;
     fits = record {
       spelled = record { plain = plain; text = refl };
-      head = head-fits survey sheet audit.released audit.proof budget ends least most (AllZip-long (IsEndOf survey (rule_edits survey) budget) sheet.rows ends each);
-      kept = ap (λ (o : Option ℕ). option_map (λ place. 4 + place) o) (none-dropped (normal_lines_of survey));
+      head = head-fits survey sheet audit.released audit.proof budget ends least most (AllZip-long (IsEndOf survey (kept_edits survey) budget) sheet.rows ends each);
+      dropped = none-faulty survey formed budget ends;
     };
     rows = released_rows survey.fields sheet.columns sheet.raws ends;
-    released = are-released survey bytes sheet budget ends audit.proof read each (ends-said survey (rule_edits survey) budget sheet.rows ends each);
+    released = are-released survey bytes sheet budget ends audit.proof read each (ends-said survey (kept_edits survey) budget sheet.rows ends each);
     each = rows-valid r survey.fields sheet.columns sheet.raws sheet.rows ends
-        (each-follows (IsValidEnd r survey.fields sheet.columns) survey (rule_edits survey) sheet.columns (length sheet.header) budget sheet.raws sheet.rows ends read.values (raws_as_long_as_header survey.fields bytes sheet read) each say
+        (each-follows (IsValidEnd r survey.fields sheet.columns) survey (kept_edits survey) sheet.columns (length sheet.header) budget sheet.raws sheet.rows ends read.values (raws_as_long_as_header survey.fields bytes sheet read) each say
         (all-shown survey formed budget sheet.rows ends are each) row-valid);
     claims = refl;
   }
@@ -166,6 +153,7 @@ module _ (survey : SurveyParts) (sheet : SheetParts) (bytes : List ℕ) (budget 
   release-of release p same sized proof reasons released summary whole = record {
     ends = ends;
     edit = record {
+      dropped = rules-follow survey formed;
       each = each;
       say = say;
       shown = all-shown survey formed budget sheet.rows ends are each;

@@ -15,7 +15,6 @@ use Rattle.edit_model.specs.declared.field.Field.{Field}
 use Rattle.edit_model.specs.declared.value.Value.{Value}
 use Rattle.edit_model.proofs.RowLaws.{row-length, value-held}
 use Rattle.edit_line.specs.EditSets.{EditsParts}
-use Rattle.edit_normal.specs.RuleEdits.{rule_edits}
 use Rattle.bound_cert.specs.Paths.{changes, path_place}
 use Rattle.bound_cert.specs.declared.outcome.GiftFault.{GiftFault}
 use Rattle.bound_cert.specs.declared.outcome.Outcome.{Outcome}
@@ -34,6 +33,7 @@ use Rattle.record_workers.specs.Said.{IsCorrected}
 use Rattle.cert_check.specs.Released as checked
 use Rattle.cert_check.specs.Released.{IsGivenText, IsReleasedAs, IsValueOf}
 use Rattle.cert_check.specs.Releases.{AreReleased, audit_of, is_released}
+use Rattle.pruned_rules.specs.Pruned.{kept_edits}
 use Rattle.edit_release.specs.Edits.{proof_of, said, said_of}
 use Rattle.edit_release.proofs.ColumnTexts.{changed-text, same-elsewhere}
 use Rattle.edit_release.proofs.GivenValues.{all-hold, field-ordered, given-text, none-bad, none-differs, other-value, values-from}
@@ -111,7 +111,7 @@ rows-long fields columns width (texts ∷ raws) (end ∷ ends) long = first (pat
 -- ---- the released file
 
 -- the released file has a row of each record that the proof says is released, behind the header
-pub are-released : (survey : SurveyParts) (bytes : List ℕ) (sheet : SheetParts) (budget : ℕ) (ends : List RowEnd) (proof : List ℕ) → IsSheet survey.fields bytes sheet → AllZip (IsEndOf survey (rule_edits survey) budget) sheet.rows ends
+pub are-released : (survey : SurveyParts) (bytes : List ℕ) (sheet : SheetParts) (budget : ℕ) (ends : List RowEnd) (proof : List ℕ) → IsSheet survey.fields bytes sheet → AllZip (IsEndOf survey (kept_edits survey) budget) sheet.rows ends
     → AllByRecursion IsSaidReleased ends
     → AreReleased (audit_of survey sheet (released_text_of survey sheet ends) proof) (proof_of survey budget ends) (released_rows survey.fields sheet.columns sheet.raws ends)
 are-released survey bytes sheet budget ends proof is each told = record {
@@ -119,7 +119,7 @@ are-released survey bytes sheet budget ends proof is each told = record {
   given = written-read sheet.header (released_rows survey.fields sheet.columns sheet.raws ends) (header_has_text survey.fields bytes sheet is) (sheet_header_kept survey.fields bytes sheet is) long;
   header = sheet_header_kept survey.fields bytes sheet is;
   long = long;
-  one_each = released-count survey.fields sheet.columns sheet.raws ends (as_many_raws_as_rows survey.fields bytes sheet is ∙ sym (AllZip-long (IsEndOf survey (rule_edits survey) budget) sheet.rows ends each)) ∙ said-count ends told;
+  one_each = released-count survey.fields sheet.columns sheet.raws ends (as_many_raws_as_rows survey.fields bytes sheet is ∙ sym (AllZip-long (IsEndOf survey (kept_edits survey) budget) sheet.rows ends each)) ∙ said-count ends told;
 }
   where
     long : AllByRecursion (λ (texts : List (List ℕ)). length texts ≡ length sheet.header) (released_rows survey.fields sheet.columns sheet.raws ends)

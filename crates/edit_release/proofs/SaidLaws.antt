@@ -1,10 +1,8 @@
-use Rattle.std.proofs.Common.{◌≡◌, ℕ, zero, suc, Bool, true, List, [], ◌∷◌, map, is_none, Option, Some, None, refl, sym, ap, subst}
+use Rattle.std.proofs.Common.{◌≡◌, ℕ, zero, suc, Bool, true, false, List, [], ◌∷◌, map, is_none, Option, Some, None, refl, sym, ap, subst}
 use Rattle.edit_model.specs.Parts.{SurveyParts}
 use Rattle.edit_model.specs.Rows.{IsRow}
 use Rattle.edit_model.specs.Surveys.{IsWellFormed}
 use Rattle.edit_model.specs.declared.value.Value.{Value}
-use Rattle.edit_line.specs.Lines.{LineParts}
-use Rattle.edit_normal.specs.RuleEdits.{rule_edits}
 use Rattle.edit_normal.specs.RuleLines.{normal_lines_of}
 use Rattle.bound_cert.specs.declared.cert.Cert.{Cert}
 use Rattle.bound_cert.specs.declared.outcome.GiftFault.{GiftFault}
@@ -20,7 +18,11 @@ use Rattle.edit_report.specs.declared.end.RowEnd.{RowEnd}
 use Rattle.record_workers.specs.Ends.{Follows, IsEndOf}
 use Rattle.cert_check.specs.Releases.{audit_of, rules_of}
 use Rattle.cert_check.specs.RowChecks.{IsReleased, IsValidGift, IsValidRow, RowFiles, RowRules}
-use Rattle.edit_release.specs.Edits.{HasTree, IsShown, all_kept, all_usable, proof_of, said, said_of}
+use Rattle.redundancy.specs.Verdicts.{is_kept}
+use Rattle.redundancy.specs.declared.verdict.Verdict.{Verdict}
+use Rattle.redundancy.specs.declared.verdict.Verdict.TheVariants.{Dropped, Kept}
+use Rattle.pruned_rules.specs.Pruned.{kept_edits, rule_flags, rule_verdicts}
+use Rattle.edit_release.specs.Edits.{HasTree, IsShown, proof_of, refutation_by, said, said_of}
 use Rattle.edit_release.proofs.CaseLaws.{rule-case, rules-given}
 use Rattle.edit_release.proofs.EventLaws.{event-there}
 use Rattle.edit_release.proofs.GiftFaults.{stop-there}
@@ -30,16 +32,18 @@ use Rattle.edit_release.proofs.OutcomeLaws.{change-is, work-within}
 
 -- by what the records of an edit are checked, whatever the columns are
 abbrev pub edit_rules : SurveyParts → List ℕ → ℕ → RowRules
-edit_rules survey columns budget = record { survey = survey; given = normal_lines_of survey; usable = all_usable (normal_lines_of survey); columns = columns; budget = budget }
+edit_rules survey columns budget = record { survey = survey; given = normal_lines_of survey; usable = rule_flags survey; columns = columns; budget = budget }
+
+-- what the proof says of each line tells whether it is kept
+pub flags-said : (verdicts : List Verdict) → map is_none (map refutation_by verdicts) ≡ map is_kept verdicts
+flags-said [] = refl
+flags-said (Kept why ∷ verdicts) = ap (λ (kept : List Bool). true ∷ kept) (flags-said verdicts)
+flags-said (Dropped steps ∷ verdicts) = ap (λ (kept : List Bool). false ∷ kept) (flags-said verdicts)
 
 -- the checks of its proof are made by them
 pub rules-are : (survey : SurveyParts) (sheet : SheetParts) (released proof : List ℕ) (budget : ℕ) (ends : List RowEnd) → rules_of (audit_of survey sheet released proof) (proof_of survey budget ends) ≡ edit_rules survey sheet.columns budget
 rules-are survey sheet released proof budget ends =
-    ap (λ (usable : List Bool). record { survey = survey; given = normal_lines_of survey; usable = usable; columns = sheet.columns; budget = budget }) (none-dropped (normal_lines_of survey))
-  where
-    none-dropped : (lines : List LineParts) → map is_none (all_kept lines) ≡ all_usable lines
-    none-dropped [] = refl
-    none-dropped (line ∷ lines) = ap (λ (usable : List Bool). true ∷ usable) (none-dropped lines)
+    ap (λ (usable : List Bool). record { survey = survey; given = normal_lines_of survey; usable = usable; columns = sheet.columns; budget = budget }) (flags-said (rule_verdicts survey))
 
 -- texts are released for a record that is changed and was given values
 abbrev pub IsReleasedSaid : RowRules → RowFiles → Outcome → Option GiftFault → Type 0
@@ -48,13 +52,13 @@ IsReleasedSaid r f o stop = Unit {0}
 
 module _ (survey : SurveyParts) (row : List Value) (budget : ℕ) (formed : IsWellFormed survey) (is : IsRow survey.fields row) where
   -- the tree of an outcome is valid
-  pub has-tree : (o : Outcome) → outcome_of (case_of survey (rule_edits survey) row) budget ≡ o → HasTree survey row o
-  has-tree (outcome.Change path weight cert) e = change-tree (case_of survey (rule_edits survey) row) (rule-case survey row formed is) (normal_lines_of survey) (all_usable (normal_lines_of survey)) (rules-given survey) budget path weight cert e
+  pub has-tree : (o : Outcome) → outcome_of (case_of survey (kept_edits survey) row) budget ≡ o → HasTree survey row o
+  has-tree (outcome.Change path weight cert) e = change-tree (case_of survey (kept_edits survey) row) (rule-case survey row formed is) (normal_lines_of survey) (rule_flags survey) (rules-given survey) budget path weight cert e
   has-tree (outcome.Budget path work) e = tt
   has-tree (outcome.Overflow path event) e = tt
-  has-tree (outcome.Contradictory cert) e = contradiction-tree (case_of survey (rule_edits survey) row) (rule-case survey row formed is) (normal_lines_of survey) (all_usable (normal_lines_of survey)) (rules-given survey) budget cert e
+  has-tree (outcome.Contradictory cert) e = contradiction-tree (case_of survey (kept_edits survey) row) (rule-case survey row formed is) (normal_lines_of survey) (rule_flags survey) (rules-given survey) budget cert e
 
-  pub tree-shown : (end : RowEnd) → IsEndOf survey (rule_edits survey) budget row end → IsShown survey row end
+  pub tree-shown : (end : RowEnd) → IsEndOf survey (kept_edits survey) budget row end → IsShown survey row end
   tree-shown end ends = has-tree end.proof.outcome (sym ends.outcome)
 
   module _ (columns : List ℕ) (reads : List (List ℕ)) (texts : Option (List (List ℕ))) where
@@ -68,23 +72,23 @@ module _ (survey : SurveyParts) (row : List Value) (budget : ℕ) (formed : IsWe
     abbrev IsRight : RowProof → Type 0
     IsRight said = IsReleasedSaid r f said.outcome said.gift → IsValidRow r f said
 
-    stopped : (path : List Bool) (weight : ℕ) (cert : Cert) (stop : GiftFault) (gift : Option Gift) → outcome_of (case_of survey (rule_edits survey) row) budget ≡ outcome.Change path weight cert
-        → Follows survey (rule_edits survey) row (outcome.Change path weight cert) (Some stop) gift → IsValidGift r f path weight cert.leaves stop
+    stopped : (path : List Bool) (weight : ℕ) (cert : Cert) (stop : GiftFault) (gift : Option Gift) → outcome_of (case_of survey (kept_edits survey) row) budget ≡ outcome.Change path weight cert
+        → Follows survey (kept_edits survey) row (outcome.Change path weight cert) (Some stop) gift → IsValidGift r f path weight cert.leaves stop
     stopped path weight cert stop None e follows =
-        (change-is (case_of survey (rule_edits survey) row) budget path weight cert e, has-tree _ e, stop-there survey (rule_edits survey) row follows.changed None stop follows.stops)
+        (change-is (case_of survey (kept_edits survey) row) budget path weight cert e, has-tree _ e, stop-there survey (kept_edits survey) row follows.changed None stop follows.stops)
     stopped path weight cert stop (Some gift) e follows = absurd follows
 
-    right-said : (o : Outcome) (stop : Option GiftFault) (gift : Option Gift) → outcome_of (case_of survey (rule_edits survey) row) budget ≡ o → Follows survey (rule_edits survey) row o stop gift → IsRight (said_of o stop)
+    right-said : (o : Outcome) (stop : Option GiftFault) (gift : Option Gift) → outcome_of (case_of survey (kept_edits survey) row) budget ≡ o → Follows survey (kept_edits survey) row o stop gift → IsRight (said_of o stop)
     right-said (outcome.Change path zero cert) None gift e follows released = released
-    right-said (outcome.Change path (suc w) cert) None gift e follows released = (change-is (case_of survey (rule_edits survey) row) budget path (suc w) cert e, has-tree _ e, released)
+    right-said (outcome.Change path (suc w) cert) None gift e follows released = (change-is (case_of survey (kept_edits survey) row) budget path (suc w) cert e, has-tree _ e, released)
     right-said (outcome.Change path zero cert) (Some stop) gift e follows released = stopped path zero cert stop gift e follows
     right-said (outcome.Change path (suc w) cert) (Some stop) gift e follows released = stopped path (suc w) cert stop gift e follows
-    right-said (outcome.Budget path work) stop gift e follows released = work-within (case_of survey (rule_edits survey) row) budget path work e
-    right-said (outcome.Overflow path event) stop gift e follows released = event-there (case_of survey (rule_edits survey) row) (rule-case survey row formed is) budget path event e
+    right-said (outcome.Budget path work) stop gift e follows released = work-within (case_of survey (kept_edits survey) row) budget path work e
+    right-said (outcome.Overflow path event) stop gift e follows released = event-there (case_of survey (kept_edits survey) row) (rule-case survey row formed is) budget path event e
     right-said (outcome.Contradictory cert) stop gift e follows released = has-tree _ e
 
   -- the proof of an edit is right of a record
-  pub said-valid : (r : RowRules) (f : RowFiles) (end : RowEnd) → r ≡ edit_rules survey r.columns budget → f.row ≡ row → IsEndOf survey (rule_edits survey) budget row end
+  pub said-valid : (r : RowRules) (f : RowFiles) (end : RowEnd) → r ≡ edit_rules survey r.columns budget → f.row ≡ row → IsEndOf survey (kept_edits survey) budget row end
       → IsReleasedSaid r f (said end).outcome (said end).gift → IsValidRow r f (said end)
   said-valid r f end rules_are row_is ends =
       subst (λ (s : RowRules). IsReleasedSaid s f (said end).outcome (said end).gift → IsValidRow s f (said end)) (sym rules_are)

@@ -1,5 +1,5 @@
 -- What an edit makes of the records of a survey.
-use Rattle.std.specs.Prelude.{◌≡◌, ⊤, ℕ, zero, Bool, List, [], Option, Some, None, map}
+use Rattle.std.specs.Prelude.{◌≡◌, ⊤, ℕ, zero, List, [], Option, Some, None, map}
 use Rattle.std.specs.List.{AllZip}
 use Rattle.derivation.specs.declared.step.Step.{Step}
 use Rattle.edit_line.specs.Lines.{Follows, LineParts}

@@ -8,12 +8,14 @@ use edit_model::Survey;
 use edit_report::{RowEnd, reasons_text, released_text, summary_text};
 use foundation::OutOfMemory;
 use proof_text::write_proof;
+use pruned_rules::prune_rules;
 use record_text::Sheet;
 use record_workers::edit_records;
 use std::alloc::Global;
 
 /// The edit of a sheet of the survey's records within a budget, the most work that may be spent on one record, from 1
-/// to 1,000,000,000.
+/// to 1,000,000,000. Lines of the rules that follow from the others are dropped first, and the records are searched by
+/// those that are kept.
 pub fn edit_sheet(
     alloc: Global,
     survey: &Survey,
@@ -26,12 +28,14 @@ pub fn edit_sheet(
     ensures edit { IfOk result (IsReleaseOf survey.now sheet.now budget) }
 {
     let _fields = survey.fields(); // read for what it says: the survey is well formed
-    let ends = edit_records(alloc, survey, sheet, budget)?;
+    let pruned = prune_rules(alloc, survey)?;
+    let edits = pruned.kept_edits(alloc, survey)?;
+    let ends = edit_records(alloc, survey, edits, sheet, budget)?;
     let reasons = reasons_text(alloc, sheet, survey, &ends)?;
     let released = released_text(alloc, sheet, survey, &ends)?;
     let summary = summary_text(alloc, survey, &ends)?;
     let whole = are_given(&ends);
-    let proof = write_proof(alloc, &proof_of(alloc, survey, budget, ends)?)?;
+    let proof = write_proof(alloc, &proof_of(alloc, pruned.verdicts, budget, ends)?)?;
     Ok(Release {
         proof,
         reasons,

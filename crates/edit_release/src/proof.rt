@@ -1,47 +1,55 @@
 //! The proof of an edit.
 ghost use Rattle.std.specs.Prelude.{◌≡◌, [], IfOk, None, map};
 ghost use Rattle.bound_cert.specs.declared.outcome.Outcome.TheVariants.{Change};
-ghost use Rattle.edit_normal.specs.RuleLines.{normal_lines_of};
-ghost use Rattle.edit_release.specs.Edits.{all_kept, proof_of, said, said_of};
+ghost use Rattle.edit_model.specs.Parts.{SurveyParts};
+ghost use Rattle.pruned_rules.specs.Pruned.{rule_verdicts};
+ghost use Rattle.edit_release.specs.Edits.{proof_of, refutation_by, said, said_of};
 
 use bound_cert::{Cert, Outcome, Path, RowProof};
 use derivation::Step;
-use edit_model::Survey;
-use edit_normal::normal_lines;
 use edit_report::RowEnd;
 use foundation::{OutOfMemory, Sequence};
 use proof_text::Proof;
+use redundancy::Verdict;
 use std::alloc::Global;
 
-/// The proof of an edit that ended so: every line of the rules is kept, and no donor is claimed.
+/// The proof of an edit in which the lines of the rules were dropped so and the records ended so; no donor is claimed.
 pub(crate) fn proof_of(
     alloc: Global,
-    survey: &Survey,
+    verdicts: Vec<Verdict>,
     budget: u64,
     ends: Vec<RowEnd>,
 ) -> Result<Proof, OutOfMemory>
-    ensures { IfOk result (λ proof. proof ≡ proof_of survey.now budget ends.items) }
+    ensures { IfOk result (λ proof. (survey : SurveyParts) → verdicts.items ≡ rule_verdicts survey → proof ≡ proof_of survey budget ends.items) }
 {
     Ok(Proof {
         limit: 1,
         near: 5,
         budget,
-        verdicts: Sequence::from_vec(all_kept(alloc, survey)?),
+        verdicts: Sequence::from_vec(all_refuted(alloc, verdicts)?),
         rows: Sequence::from_vec(all_said(alloc, ends)?),
         claims: Sequence::from_vec(Vec::new(alloc)),
     })
 }
 
-// For each line of the rules that it is kept.
-fn all_kept(alloc: Global, survey: &Survey) -> Result<Vec<Option<Sequence<Step>>>, OutOfMemory>
-    ensures { IfOk result (λ verdicts. verdicts.items ≡ all_kept (normal_lines_of survey.now)) }
+// What is said of each line of the rules.
+fn all_refuted(
+    alloc: Global,
+    verdicts: Vec<Verdict>,
+) -> Result<Vec<Option<Sequence<Step>>>, OutOfMemory>
+    ensures { IfOk result (λ said. said.items ≡ map refutation_by verdicts.items) }
 {
-    let lines = normal_lines(alloc, survey)?;
-    let mut verdicts = Vec::new(alloc);
-    for _line in &lines {
-        verdicts.push(None)?;
+    Ok(verdicts.into_iter().map(refutation_by).collect(alloc)?)
+}
+
+// What is said of a line: the steps that refute its negation, if it is dropped.
+fn refutation_by(verdict: Verdict) -> Option<Sequence<Step>>
+    ensures { result ≡ refutation_by verdict }
+{
+    match verdict {
+        Verdict::Kept(_) => None,
+        Verdict::Dropped(steps) => Some(steps),
     }
-    Ok(verdicts)
 }
 
 // What is said of each record.
