@@ -1,5 +1,5 @@
-use Rattle.std.proofs.Common.{Option, [], ◌≡◌, ◌<◌, not, ℕ, Bool, true, false, List, ◌||◌, length, refl, sym, ap, ◌∙◌, subst, arith}
-use Rattle.edit_model.specs.Corrections.{Differs, IsFirstLeast, IsLeastWeight, change_weight, code_fields, differs_from, is_numerical, number_fields, path_order, word_of}
+use Rattle.std.proofs.Common.{Option, [], ◌≡◌, ◌<◌, not, ℕ, Bool, true, false, List, ◌||◌, length, refl, sym, ap, ◌∙◌, arith}
+use Rattle.edit_model.specs.Corrections.{Differs, IsFirstLeast, IsLeastWeight, code_fields, differs_from, is_numerical, number_fields, path_order, word_of}
 use Rattle.edit_model.specs.FieldSets.{has_number}
 use Rattle.edit_model.specs.Parts.{SurveyParts}
 use Rattle.edit_model.specs.Points.{Point}

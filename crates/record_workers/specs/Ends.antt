@@ -6,7 +6,7 @@ use Rattle.edit_line.specs.EditSets.{EditsParts}
 use Rattle.bound_cert.specs.declared.outcome.GiftFault.{GiftFault}
 use Rattle.bound_cert.specs.declared.outcome.GiftFault.TheVariants as fault
 use Rattle.bound_cert.specs.declared.outcome.Outcome.{Outcome}
-use Rattle.bound_cert.specs.declared.outcome.Outcome.TheVariants.{Budget, Change, Contradictory, Overflow}
+use Rattle.bound_cert.specs.declared.outcome.Outcome.TheVariants.{Change}
 use Rattle.edit_paths.specs.Cases.{case_of}
 use Rattle.edit_paths.specs.Outcomes.{outcome_of}
 use Rattle.back_subst.specs.Gifts.{hows_of, path_of}

@@ -1,4 +1,4 @@
-use Rattle.std.proofs.Common.{◌≡◌, ◌≤◌, length, take}
+use Rattle.std.proofs.Common.{take}
 use Rattle.std.specs.List.{AllZip}
 use Rattle.record_workers.specs.Ends.{IsEndOf}
 use Rattle.record_workers.specs.Said.{Says}

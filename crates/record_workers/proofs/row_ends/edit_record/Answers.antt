@@ -1,7 +1,5 @@
-use Rattle.std.proofs.Common.{◌≡◌, ◌∙◌, sym, None, refl}
+use Rattle.std.proofs.Common.{◌∙◌}
 use Rattle.std.specs.Arc.{arc_value}
-use Rattle.record_workers.specs.Ends.{Follows}
-use Rattle.record_workers.specs.Said.{OutcomeSays}
 use Rattle.record_workers.proofs.EndLaws.{IsNoChange, no-change-follows, no-change-says}
 use Rattle.record_workers.proofs.row_ends.edit_record.Goals as goal
 

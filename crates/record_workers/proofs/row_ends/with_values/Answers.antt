@@ -1,12 +1,9 @@
-use Rattle.std.proofs.Common.{length, sym, ◌∙◌, ◌≡◌, List, subst}
+use Rattle.std.proofs.Common.{sym, ◌∙◌, subst}
 use Rattle.std.specs.Arc.{arc_value}
-use Rattle.edit_line.specs.Shapes.{shape_of}
 use Rattle.edit_paths.proofs.ChoiceLaws.{change-choice}
 use Rattle.edit_paths.proofs.LeastLaws.{choice-first, choice-least}
-use Rattle.bound_cert.specs.Paths.{path_weight}
 use Rattle.edit_model.specs.Corrections.{IsLeastWeight}
 use Rattle.edit_paths.specs.Cases.{case_of}
-use Rattle.back_subst.specs.Gifts.{path_of}
 use Rattle.back_subst.proofs.ChangeLaws.{change-given, change-needed, change-whole}
 use Rattle.record_workers.proofs.CorrectedLaws.{corrected}
 use Rattle.record_workers.proofs.row_ends.with_values.Goals as goal
