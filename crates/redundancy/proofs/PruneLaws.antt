@@ -269,9 +269,9 @@ module _ (survey : SurveyParts) (are_fields : All IsField survey.fields) (lines 
       refuted j l at flag = elim (kept-or verdicts j (omega (arith, get-below lines j l at, verdicts-count survey lines budget 0 lines))) [
         | inl kept ↦ absurd (cc (sym kept ∙ flag))
         | inr gone ↦ (
-            gone.0,
-            subst (λ (bs : List Bool). RefutedBy (refutation_of (shape_of survey.fields) lines (left_before j bs) l (no_values survey.fields)) gone.0) (sym (drop-map is_kept (suc j) verdicts)) (dropped-valid j l at gone.0 gone.1),
-          )
+          gone.0,
+          subst (λ (bs : List Bool). RefutedBy (refutation_of (shape_of survey.fields) lines (left_before j bs) l (no_values survey.fields)) gone.0) (sym (drop-map is_kept (suc j) verdicts)) (dropped-valid j l at gone.0 gone.1),
+        )
       ]
 
 -- ---- what the call tells
