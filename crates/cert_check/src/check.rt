@@ -12,9 +12,9 @@ use record_text::Sheet;
 use std::alloc::Global;
 
 /// Ok exactly where the bytes of the released file and of the proof are a valid release of the records, which are a
-/// sheet of the rules; it tells how many records are released. Then each released row is a correction of least weight,
-/// whoever wrote the files. Rejected comes with the first condition that fails and its line in the proof. The time is
-/// in proportion to the files and to the rules.
+/// sheet of the rules; it tells how many records are released. Then each line of the rules follows from those that the
+/// proof keeps, and each released row is a correction of least weight, whoever wrote the files. Rejected comes with the
+/// first condition that fails and its line in the proof. The time is in proportion to the files and to the rules.
 pub fn check_all(
     alloc: Global,
     rules: &Survey,
