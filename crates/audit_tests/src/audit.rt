@@ -41,6 +41,42 @@ fn push_line(
     Ok(())
 }
 
+/// A release: the bytes of its files, those of the proof line by line.
+#[derive(Clone, Copy)]
+pub(crate) struct Release {
+    pub(crate) rules: &'static [u8],
+    pub(crate) records: &'static [u8],
+    pub(crate) released: &'static [u8],
+    pub(crate) proof: &'static [&'static [u8]],
+}
+
+/// Lines of a proof by their numbers, and what is answered where these stand in it.
+pub(crate) type Change = (&'static [(usize, &'static [u8])], Answer);
+
+/// The place of the first change that is answered otherwise, or how many there are.
+pub(crate) fn first_other(
+    alloc: Global,
+    release: &Release,
+    changes: &[Change],
+) -> Result<usize, Fail>
+    requires { length release.now.rules.now < 4294967296 }
+{
+    for (place, (lines, expected)) in changes.iter().enumerate() {
+        let proof = with_lines(alloc, release.proof, lines)?;
+        let told = answer(
+            alloc,
+            release.rules,
+            release.records,
+            release.released,
+            &proof,
+        )?;
+        if told != *expected {
+            return Ok(place);
+        }
+    }
+    Ok(changes.len())
+}
+
 /// What the audit answers.
 pub(crate) fn answer(
     alloc: Global,

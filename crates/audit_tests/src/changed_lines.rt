@@ -1,7 +1,6 @@
 //! A release of two fields whose sum is at most 6, and what the audit answers where lines of its proof are others.
-use crate::audit::{Answer, answer, with_lines};
+use crate::audit::{Change, Release, first_other};
 use cert_check::Why;
-use std::alloc::Global;
 use std::test::Fail;
 
 const RULES: &[u8] = b"number A\nnumber B\nA + B <= 6\n";
@@ -23,9 +22,7 @@ const PROOF: &[&[u8]] = &[
     b"end\n",
 ];
 
-/// Lines of the proof by their numbers, and what is answered; the released row is `3,0`.
-type Change = (&'static [(usize, &'static [u8])], Answer);
-
+/// What is answered where the released row is `3,0`.
 const CHANGES: &[Change] = &[
     (&[], Ok(1)),
     // no line, a missing one, and counts of lines that are not there
@@ -211,25 +208,23 @@ const LEFT_OUT: &[Change] = &[
     ),
 ];
 
-// The place of the first change that is answered otherwise, or how many there are.
-fn first_other(alloc: Global, released: &[u8], changes: &[Change]) -> Result<usize, Fail> {
-    for (place, (lines, expected)) in changes.iter().enumerate() {
-        let proof = with_lines(alloc, PROOF, lines)?;
-        if answer(alloc, RULES, RECORDS, released, &proof)? != *expected {
-            return Ok(place);
-        }
-    }
-    Ok(changes.len())
-}
-
 #[test]
 fn the_first_condition_that_fails_is_told(rt: HostRuntime) -> Result<(), Fail> {
+    let changed = Release {
+        rules: RULES,
+        records: RECORDS,
+        released: b"A,B\n3,0\n",
+        proof: PROOF,
+    };
+    assert_eq!(rt; first_other(rt.alloc(), &changed, CHANGES)?, CHANGES.len());
+    let left_out = Release {
+        rules: RULES,
+        records: RECORDS,
+        released: b"A,B\n",
+        proof: PROOF,
+    };
     assert_eq!(rt;
-        first_other(rt.alloc(), b"A,B\n3,0\n", CHANGES)?,
-        CHANGES.len()
-    );
-    assert_eq!(rt;
-        first_other(rt.alloc(), b"A,B\n", LEFT_OUT)?,
+        first_other(rt.alloc(), &left_out, LEFT_OUT)?,
         LEFT_OUT.len()
     );
     Ok(())

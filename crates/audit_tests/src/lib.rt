@@ -9,4 +9,6 @@ mod changed_lines;
 #[cfg(test)]
 mod contradictions;
 #[cfg(test)]
+mod dropped_lines;
+#[cfg(test)]
 mod released_files;
