@@ -5,6 +5,7 @@ pub mod Faults
 pub mod FieldSets
 pub mod inner
 pub mod Parts
+pub mod PlainNumbers
 pub mod Points
 pub mod RowPoints
 pub mod Rows

@@ -5,6 +5,7 @@ pub mod FaultLaws
 pub mod FieldCount
 pub mod HeaderLaws
 pub mod NumeralLaws
+pub mod PlainLaws
 pub mod RecordLaws
 pub mod RowsRead
 pub mod SheetLaws

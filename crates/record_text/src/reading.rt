@@ -1,4 +1,6 @@
 ghost use Rattle.std.specs.Prelude.{◌≡◌, ◌≢◌, ◌<◌, All, IfErr, IfOk, length};
+ghost use Rattle.std.specs.List.{AllByRecursion};
+ghost use Rattle.edit_model.specs.PlainNumbers.{HasPlain};
 ghost use Rattle.edit_model.specs.Surveys.{IsKind};
 ghost use Rattle.record_text.specs.inner.Places.{AreRowsFrom, IsAt, IsRowFault, Place};
 ghost use Rattle.record_text.specs.Sheets.{IsSheet, IsSheetFault, SheetParts};
@@ -22,9 +24,11 @@ const MOST_ROWS: u32 = 200_000;
 /// Reads a record file: the first record is the header, in which each field of the survey stands in one
 /// column, and the others are the rows. Columns stand in any order, and further ones are kept. A field's
 /// text that is no numeral or no code of the field is Bad. The fault is the first in the order of
-/// [`SheetFault`]. The bytes have no other sheet, and no other fault.
+/// [`SheetFault`]. The bytes have no other sheet, and no other fault. Numbers have numerators below 10^21
+/// and denominators of at most 10^6.
 pub fn read_records(alloc: Global, survey: &Survey, bytes: &[u8]) -> Result<Sheet, SheetFault>
     ensures sheet { IfOk result (λ sheet. IsSheet survey.now.fields bytes.now sheet) }
+    ensures plain { IfOk result (λ sheet. AllByRecursion HasPlain sheet.rows) }
     ensures fault { IfErr result (λ e. e ≢ SheetFault.OutOfMemory → IsSheetFault survey.now.fields bytes.now e) }
     ensures only { IfOk result (λ sheet. (other : SheetParts) → IsSheet survey.now.fields bytes.now other → other ≡ sheet) }
     ensures first { IfErr result (λ e. e ≢ SheetFault.OutOfMemory → (other : SheetFault) → IsSheetFault survey.now.fields bytes.now other → other ≡ e) }

@@ -1,0 +1,96 @@
+ghost use Rattle.std.specs.Prelude.{◌≡◌, ◌<◌, ◌≤◌, ◌*◌, All, IfNone, IfSome, if◌then◌else◌, length};
+ghost use Rattle.edit_model.specs.FieldSets.{has_number};
+ghost use Rattle.edit_model.specs.Rows.{value_of};
+ghost use Rattle.donor_measure.specs.Distances.{distance, field_distance};
+ghost use Rattle.donor_measure.specs.Measures.{HasKept, Measures};
+ghost use Rattle.donor_measure.specs.Yardsticks.{IsYardstick, yardstick_at, yardsticks_of};
+
+use crate::yardstick::Yardsticks;
+use edit_model::{FieldSet, Row, Survey, Value};
+
+/// How far apart two records of a survey are at the fields that are kept: a closure that answers the
+/// distance of two values of a field, beside the weights and scales that it answers by. Contracts say
+/// by `Measures` what is known of the closure.
+#[derive(Drop)]
+pub struct Measure<F> {
+    pub closure: F,
+    pub yardsticks: Yardsticks,
+}
+
+impl<F: Fn(u32, &Value, &Value) -> u64> Measure<F> {
+    /// The measure of the survey's fields by this closure. At a field of the survey and two values of
+    /// it that are not Bad, numbers with numerators below 10^21 and denominators of at most 10^6, the
+    /// closure may be called and answers the distance of the values, which is at least their bucket gap.
+    /// No memory.
+    pub fn new(survey: &Survey, closure: F) -> Measure<F>
+        requires { Measures F.Fn closure (yardsticks_of survey.now.fields) }
+        ensures measures { Measures F.Fn result.closure result.yardsticks }
+        ensures yardsticks { result.yardsticks ≡ yardsticks_of survey.now.fields }
+    {
+        Measure {
+            closure,
+            yardsticks: Yardsticks::of(survey),
+        }
+    }
+
+    /// The distance of two records, which have codes or numbers at the kept fields, numbers as above.
+    /// No memory.
+    pub fn between(&self, a: &Row, b: &Row, kept: FieldSet) -> u64
+        requires measures { Measures F.Fn self.now.closure self.now.yardsticks }
+        requires first { HasKept self.now.yardsticks kept a.now }
+        requires second { HasKept self.now.yardsticks kept b.now }
+        ensures { result ≡ distance self.now.yardsticks kept a.now b.now }
+    {
+        self.sum_within(a, b, kept, u64::MAX)
+    }
+
+    /// The distance of two records as above where it is at most `most`, and None exactly where it is more:
+    /// then the fields behind the first at which this shows are not looked at. No memory.
+    pub fn between_within(&self, a: &Row, b: &Row, kept: FieldSet, most: u64) -> Option<u64>
+        requires measures { Measures F.Fn self.now.closure self.now.yardsticks }
+        requires first { HasKept self.now.yardsticks kept a.now }
+        requires second { HasKept self.now.yardsticks kept b.now }
+        ensures some { IfSome result (λ sum. (sum ≡ distance self.now.yardsticks kept a.now b.now) × (sum ≤ most)) }
+        ensures none { IfNone result (most < distance self.now.yardsticks kept a.now b.now) }
+    {
+        let sum = self.sum_within(a, b, kept, most);
+        if sum <= most { Some(sum) } else { None }
+    }
+
+    // The distance of two records, or where it is more than `most` that of the first kept fields, as many
+    // as make it more.
+    fn sum_within(&self, a: &Row, b: &Row, kept: FieldSet, most: u64) -> u64
+        requires measures { Measures F.Fn self.now.closure self.now.yardsticks }
+        requires first { HasKept self.now.yardsticks kept a.now }
+        requires second { HasKept self.now.yardsticks kept b.now }
+        ensures whole { result ≤ most → result ≡ distance self.now.yardsticks kept a.now b.now }
+        ensures more { most < result → most < distance self.now.yardsticks kept a.now b.now }
+    {
+        let mut sum = 0;
+        for field in 0..self.yardsticks.count() {
+            sum += self.distance_at(field, a, b, kept);
+            if sum > most {
+                return sum;
+            }
+        }
+        sum
+    }
+
+    // The distance at a field, 0 where it is not kept.
+    fn distance_at(&self, field: u32, a: &Row, b: &Row, kept: FieldSet) -> u64
+        requires measures { Measures F.Fn self.now.closure self.now.yardsticks }
+        requires field { field < length self.now.yardsticks }
+        requires small { field < 64 }
+        requires fit { All IsYardstick self.now.yardsticks }
+        requires first { HasKept self.now.yardsticks kept a.now }
+        requires second { HasKept self.now.yardsticks kept b.now }
+        ensures distance { result ≡ (if has_number kept field then field_distance (yardstick_at self.now.yardsticks field) (value_of a.now field) (value_of b.now field) else 0) }
+        ensures few { result ≤ 1000 * 1000 }
+    {
+        if kept.has(field) {
+            (self.closure)(field, a.value(field), b.value(field))
+        } else {
+            0
+        }
+    }
+}

@@ -1,0 +1,76 @@
+use Rattle.std.proofs.Common.{◌≡◌, ◌≢◌, ℕ, zero, suc, ◌+◌, ◌<◌, Bool, true, false, if◌then◌else◌, List, [], ◌∷◌, length, All, refl, subst, arith}
+use Rattle.std.specs.List.{AllByRecursion, list_all}
+use Rattle.std.proofs.lemmas.Bool.{and_parts}
+use Rattle.std.proofs.lemmas.List.{length-map}
+use Rattle.std.proofs.lemmas.List.Elements.{All-append, All-cons, All-from_recursion, All-nil}
+use Rattle.edit_model.specs.FieldSets.{has_number}
+use Rattle.edit_model.specs.Parts.{SurveyParts}
+use Rattle.edit_model.specs.PlainNumbers.{HasPlain, IsPlainValue}
+use Rattle.edit_model.specs.Rows.{IsOfKind, IsRow, value_of}
+use Rattle.edit_model.specs.declared.field.Field.{Field}
+use Rattle.edit_model.specs.declared.field.Kind.{Kind}
+use Rattle.edit_model.specs.declared.field.Kind.TheVariants as kind
+use Rattle.edit_model.specs.declared.value.Value.{Value}
+use Rattle.edit_model.specs.declared.value.Value.TheVariants.{Code, Number, Bad}
+use Rattle.donor_measure.specs.Measures.{HasKept, IsMeasurable}
+use Rattle.donor_measure.specs.Yardsticks.{scale_of, yardstick_at, yardstick_of, yardsticks_of}
+use Rattle.donor_search.specs.CleanRows.{CanGive, clean_from, donors_of, is_clean, is_filled, row_at}
+use Rattle.donor_search.proofs.CleanLaws.{filled_held, is_row_at}
+
+-- Each donor can be measured at every field.
+
+measurable_here : (k : Kind) (v : Value) → IsOfKind k v → v ≢ Bad → IsPlainValue v → IsMeasurable (scale_of k) v
+measurable_here k Bad is held plain = absurd (held refl)
+measurable_here (kind.Number scale) (Number x) is held plain = plain
+measurable_here (kind.Number scale) (Code c) is held plain = absurd is
+measurable_here (kind.Code codes) (Number x) is held plain = absurd is
+measurable_here (kind.Code codes) (Code c) is held plain = tt
+
+measurable_at : (fields : List Field) (row : List Value) → IsRow fields row → HasPlain row → (f : ℕ) → f < length fields → value_of row f ≢ Bad → IsMeasurable (yardstick_at (yardsticks_of fields) f).scale (value_of row f)
+measurable_at [] row is plain f below held = absurd (omega (arith, below))
+measurable_at (field ∷ fields) [] is plain f below held = absurd is
+measurable_at (field ∷ fields) (v ∷ row) is plain zero below held = measurable_here field.kind v is.0 held plain.0
+measurable_at (field ∷ fields) (v ∷ row) is plain (suc f) below held = measurable_at fields row is.1 plain.1 f (omega (arith, below)) held
+
+-- a record with plain numbers that has a value at each kept field
+pub has_kept : (fields : List Field) (row : List Value) (kept : ℕ) → IsRow fields row → HasPlain row → ((f : ℕ) → f < length fields → has_number kept f ≡ true → value_of row f ≢ Bad) → HasKept (yardsticks_of fields) kept row
+has_kept fields row kept is plain held f below has =
+    let within : f < length fields = (let l = length-map fields yardstick_of in omega (arith, l, below)) in
+    measurable_at fields row is plain f within (held f within has)
+
+as_many : (fields : List Field) (row : List Value) → IsRow fields row → length row ≡ length fields
+as_many [] [] is = refl
+as_many [] (v ∷ row) is = absurd is
+as_many (field ∷ fields) [] is = absurd is
+as_many (field ∷ fields) (v ∷ row) is = let rest = as_many fields row is.1 in omega (arith, rest)
+
+-- what holds of the number of each clean row holds of each donor
+each_clean : (P : ℕ → Type 0) (survey : SurveyParts) (i : ℕ) (rows : List (List Value)) → ((k : ℕ) → k < length rows → is_clean survey (row_at rows k) ≡ true → P (i + k)) → All P (clean_from i survey rows)
+each_clean P survey i [] each = All-nil P
+each_clean P survey i (row ∷ rows) each =
+    All-append P (if is_clean survey row then i ∷ [] else []) (clean_from (suc i) survey rows) (by (is_clean survey row) (λ clean. subst P (first i) (each 0 (omega arith) clean)))
+    (each_clean P survey (suc i) rows (λ k below clean. subst P (next i k) (each (suc k) (omega (arith, below)) clean)))
+  where
+    by : (b : Bool) → (b ≡ true → P i) → All P (if b then i ∷ [] else [])
+    by true holds = All-cons P i [] (holds refl) (All-nil P)
+    by false holds = All-nil P
+
+    first : (i : ℕ) → i + 0 ≡ i
+    first i = omega arith
+
+    next : (i k : ℕ) → i + suc k ≡ suc i + k
+    next i k = omega arith
+
+pub donors_give : (survey : SurveyParts) (rows : List (List Value)) → AllByRecursion (IsRow survey.fields) rows → AllByRecursion HasPlain rows → (kept : ℕ) → All (CanGive (yardsticks_of survey.fields) rows kept) (donors_of survey rows)
+donors_give survey rows are plain kept = each_clean (CanGive (yardsticks_of survey.fields) rows kept) survey 0 rows
+    (λ k below clean. subst (CanGive (yardsticks_of survey.fields) rows kept) (from_zero k) (below, gives k below clean))
+  where
+    from_zero : (k : ℕ) → k ≡ 0 + k
+    from_zero k = omega arith
+
+    gives : (k : ℕ) → k < length rows → is_clean survey (row_at rows k) ≡ true → HasKept (yardsticks_of survey.fields) kept (row_at rows k)
+    gives k below clean =
+        let is = is_row_at survey.fields rows k are below in
+        let filled = (and_parts (list_all is_filled (row_at rows k)) _ clean).0 in
+        has_kept survey.fields (row_at rows k) kept is (All-from_recursion HasPlain rows plain k [] below)
+        (λ f within has. filled_held (row_at rows k) filled f (let l = as_many survey.fields (row_at rows k) is in omega (arith, l, within)))

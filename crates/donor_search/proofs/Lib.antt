@@ -1,0 +1,4 @@
+pub mod CleanLaws
+pub mod DonorLaws
+pub mod OrderLaws
+pub mod RankingLaws

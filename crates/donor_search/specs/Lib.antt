@@ -1,0 +1,3 @@
+pub mod CleanRows
+pub mod inner
+pub mod Rankings

@@ -1,0 +1,75 @@
+ghost use Rattle.std.specs.Prelude.{◌≡◌, ◌<◌, ◌≤◌, length, take, IfSome, OnOk};
+ghost use Rattle.std.specs.List.{position, position_or_len};
+ghost use Rattle.donor_search.specs.Rankings.{IsInOrder, placed};
+ghost use Rattle.donor_search.specs.declared.candidate.Candidate.{Candidate as AnyCandidate};
+ghost use Rattle.donor_search.specs.inner.Candidates.{is_before};
+
+use foundation::OutOfMemory;
+
+/// A donor with its distance from the record that is ranked for.
+#[derive(Clone, Copy, Debug, PartialEq, Eq)]
+pub(crate) struct Candidate {
+    pub distance: u64,
+    pub donor: u32,
+}
+
+impl Candidate {
+    /// Whether it is nearer than the other, or as near and of the lesser number.
+    fn is_before(self, other: &Candidate) -> bool
+        ensures { result ≡ is_before self other.now }
+    {
+        self.distance < other.distance
+            || (self.distance == other.distance && self.donor < other.donor)
+    }
+}
+
+/// Puts the candidate at its place among at most `near`, of which no more than that stay.
+pub(crate) fn put(
+    nearest: &mut Vec<Candidate>,
+    candidate: Candidate,
+    near: usize,
+) -> Result<(), OutOfMemory>
+    requires { length nearest.old.items ≤ near }
+    ensures { OnOk result (nearest.new.items ≡ take near (placed is_before candidate nearest.old.items)) }
+{
+    let place = place_of(nearest, candidate);
+    if place < near {
+        nearest.insert(place, candidate)?;
+        nearest.truncate(near);
+    }
+    Ok(())
+}
+
+/// The distance of the last of `near` candidates; None where there are fewer. A candidate that is farther
+/// has no place among them.
+pub(crate) fn farthest(nearest: &[Candidate], near: usize) -> Option<u64>
+    requires few { length nearest.now ≤ near }
+    requires order { IsInOrder is_before nearest.now }
+    ensures { IfSome result (λ most. (x : AnyCandidate) → most < x.distance → nearest.now ≡ take near (placed is_before x nearest.now)) }
+{
+    if nearest.len() < near {
+        return None;
+    }
+    match nearest.last() {
+        Some(last) => Some(last.distance),
+        None => None,
+    }
+}
+
+// The place of the first that the candidate comes before, or the end.
+fn place_of(nearest: &[Candidate], candidate: Candidate) -> usize
+    ensures place { result ≡ position_or_len (is_before candidate) nearest.now }
+    ensures bound { result ≤ length nearest.now }
+{
+    match first_behind(nearest, candidate) {
+        Some(place) => place,
+        None => nearest.len(),
+    }
+}
+
+// The place of the first that the candidate comes before.
+fn first_behind(nearest: &[Candidate], candidate: Candidate) -> Option<usize>
+    ensures { result ≡ position (is_before candidate) nearest.now }
+{
+    nearest.iter().position(|other| candidate.is_before(other))
+}

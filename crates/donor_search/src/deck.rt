@@ -1,0 +1,68 @@
+ghost use Rattle.std.specs.Prelude.{◌≡◌, ℕ, ◌<◌, ◌++◌, [], ◌∷◌, if◌then◌else◌, length, All, IfOk, OnOk};
+ghost use Rattle.std.specs.List.{AllByRecursion};
+ghost use Rattle.edit_model.specs.Rows.{IsRow};
+ghost use Rattle.edit_model.specs.PlainNumbers.{HasPlain};
+ghost use Rattle.donor_measure.specs.Yardsticks.{yardsticks_of};
+ghost use Rattle.donor_search.specs.CleanRows.{CanGive, donors_of, is_clean, row_at};
+
+use crate::clean::is_clean;
+use edit_model::Survey;
+use foundation::OutOfMemory;
+use record_text::Sheet;
+use std::alloc::Global;
+use std::marker::Model;
+
+/// The donors of a sheet: the numbers of its clean rows, in order. Contracts see the list.
+#[derive(Debug, Drop)]
+pub struct Deck {
+    rows: Vec<u32>,
+}
+
+impl Model for Deck {
+    ghost use Rattle.std.specs.Prelude.{ℕ, List};
+
+    ghost Value = { List ℕ };
+
+    ghost view = { λ d. d.rows.items };
+}
+
+impl Deck {
+    /// The clean rows of the sheet: those without a Bad field at which every rule of the survey holds.
+    /// The sheet is one of the survey. Where its numbers have numerators below 10^21 and denominators of
+    /// at most 10^6, a ranking for any kept fields may be asked of the donors.
+    pub fn new(alloc: Global, survey: &Survey, sheet: &Sheet) -> Result<Deck, OutOfMemory>
+        requires { AllByRecursion (IsRow survey.now.fields) sheet.now.rows }
+        ensures clean { IfOk result (λ deck. deck ≡ donors_of survey.now sheet.now.rows) }
+        ensures measurable { IfOk result (λ deck. AllByRecursion HasPlain sheet.now.rows → (kept : ℕ) → All (CanGive (yardsticks_of survey.now.fields) sheet.now.rows kept) deck) }
+    {
+        let mut rows = Vec::new(alloc);
+        for row_no in 0..sheet.len() {
+            push_clean(&mut rows, survey, sheet, row_no)?;
+        }
+        Ok(Deck { rows })
+    }
+
+    /// The numbers of the clean rows, in order. No memory.
+    pub fn rows(&self) -> &[u32]
+        ensures { result.now ≡ self.now }
+    {
+        self.rows.as_slice()
+    }
+}
+
+// Puts the row's number last where the row is clean.
+fn push_clean(
+    rows: &mut Vec<u32>,
+    survey: &Survey,
+    sheet: &Sheet,
+    row_no: u32,
+) -> Result<(), OutOfMemory>
+    requires row { row_no < length sheet.now.rows }
+    requires fits { AllByRecursion (IsRow survey.now.fields) sheet.now.rows }
+    ensures { OnOk result (rows.new.items ≡ rows.old.items ++ (if is_clean survey.now (row_at sheet.now.rows row_no) then row_no ∷ [] else [])) }
+{
+    if is_clean(survey, sheet.row(row_no)) {
+        rows.push(row_no)?;
+    }
+    Ok(())
+}
