@@ -1,0 +1,3 @@
+mod AnswerLaws
+pub mod IndexLaws
+pub mod LegalLaws
