@@ -58,7 +58,8 @@ no_row (w ∷ history) row none =
     let here : eqb row w.row_no ≡ false = other_way w.row_no row apart.0 in
     rw here (no_row history row apart.1)
 
-any_below : (n q : ℕ) (xs : List ℕ) → All (λ x. x < n) xs → list_any (eqb q) xs ≡ true → q < n
+-- what is one of a list of numbers below n is below n
+pub any_below : (n q : ℕ) (xs : List ℕ) → All (λ x. x < n) xs → list_any (eqb q) xs ≡ true → q < n
 any_below n q xs all any =
     let a = Any-from_list_any (eqb q) xs any in
     let lt : get_or xs a.0 a.1 < n = all a.0 a.1 a.2 in
