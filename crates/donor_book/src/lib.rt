@@ -1,6 +1,17 @@
-//! Claims of donors: the rows that claim, the donors that they rank, and what they are given.
+//! Claims of donors: each row claims a donor once, and no donor is given more often than a limit allows. What a row
+//! is answered after a history is defined in `specs/Claims.antt`, and a legal history in `specs/Entries.antt`.
+//! Begin with [`Book`], the book of one thread. A [`SharedBook`] is one that threads share, without a lock.
 #![tactic(auto)]
 
+mod book;
 mod claim;
+mod indexes;
+mod rule;
+mod shared;
+#[cfg(test)]
+mod tests;
+mod words;
 
-pub use claim::Entry;
+pub use book::Book;
+pub use claim::{Claim, Entry, Won};
+pub use shared::{Pass, SharedBook};

@@ -1,4 +1,3 @@
 mod Moves
 mod Rising
 mod Taking
-pub mod Totals

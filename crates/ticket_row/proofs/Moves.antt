@@ -12,7 +12,7 @@ use Rattle.ticket_row.specs.declared.rule.Terms.{Terms}
 use Rattle.ticket_row.specs.Tickets.{times}
 use Rattle.ticket_row.specs.inner.Rule.{hand_with, once_below, IsFair, EachOnce, AreTickets, first_hand, drew, HasDrawn, without_a_seat, new_hand, both_hands, spent_hand}
 use Rattle.ticket_row.proofs.Rising.{all_by_times}
-use Rattle.ticket_row.proofs.Totals.{sum_by_set, term_within, sums_apart, sum_of_one}
+use Rattle.foundation.proofs.Totals.{sum_by_set, term_within, sums_apart, sum_of_one}
 
 -- every hand is fair
 abbrev AllFair : ℕ → List Hand → Type 0

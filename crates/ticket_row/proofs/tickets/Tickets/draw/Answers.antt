@@ -6,7 +6,8 @@ use Rattle.atomic_table.specs.Table.{step}
 use Rattle.ticket_row.specs.declared.rule.Hand.{Hand}
 use Rattle.ticket_row.specs.inner.Rule.{hand_with, one_if}
 use Rattle.ticket_row.proofs.Moves.{draws_as, drew_below, drew_past}
-use Rattle.ticket_row.proofs.Rising.{rising_push, rising_few}
+use Rattle.foundation.proofs.Rising.{rising_push}
+use Rattle.ticket_row.proofs.Rising.{rising_few}
 use Rattle.ticket_row.proofs.tickets.Tickets.draw.Goals as goal
 
 pub fetch_add-found-requires : goal.fetch_add-found-requires

@@ -1,0 +1,9 @@
+mod AnswerLaws
+mod Collecting
+pub mod IndexLaws
+pub mod LegalLaws
+mod Moves
+mod PassLaws
+mod Reading
+mod Taking
+mod WordLaws

@@ -1,0 +1,42 @@
+-- The claims of a book, and when they are legal.
+use Rattle.std.specs.Prelude.{◌≡◌, ℕ, ◌++◌, List, [], ◌∷◌, Option, Some, None, map, take, nat_eq, slice_get}
+use Rattle.std.specs.List.{IsDistinct}
+use Rattle.donor_book.specs.declared.claim.Claim.{Claim}
+use Rattle.donor_book.specs.declared.claim.Claim.TheVariants as claim
+use Rattle.donor_book.specs.declared.claim.Entry.{Entry}
+use Rattle.donor_book.specs.declared.claim.Won.{Won}
+use Rattle.donor_book.specs.Claims.{first_free}
+
+-- an entry without its ranking
+abbrev pub won_of : Entry → Won
+won_of entry = record { row_no = entry.row_no; reply = entry.reply }
+
+-- the rows of a history, with what each was given
+abbrev pub wins_of : List Entry → List Won
+wins_of history = map won_of history
+
+-- a legal history: each entry has the reply that the entries before it leave to its ranking, and no row stands twice
+pub record IsLegalHistory (limit : ℕ) (history : List Entry) : Type 0 where
+  pub replies : (place : ℕ) (entry : Entry) → slice_get history place ≡ Some entry → entry.reply ≡ first_free limit (take place (wins_of history)) entry.ranking
+  pub once : IsDistinct nat_eq (map (λ (w : Won). w.row_no) (wins_of history))
+
+-- the entry of a first claim
+abbrev pub entry_of : ℕ → List ℕ → Option ℕ → Entry
+entry_of row ranking reply = record { row_no = row; ranking = ranking; reply = reply }
+
+-- the history after a claim: as before where the row had claimed, and else with the row, its ranking and the reply at the end
+abbrev pub history_after : List Entry → ℕ → List ℕ → Claim → List Entry
+history_after history row ranking (claim.Had reply) = history
+history_after history row ranking claim.Nobody = history ++ entry_of row ranking None ∷ []
+history_after history row ranking (claim.Given donor) = history ++ entry_of row ranking (Some donor) ∷ []
+
+-- what a book holds: how often a donor is given at most, how many donors and rows there are, and the history
+pub record BookParts : Type 0 where
+  pub limit : ℕ
+  pub donors : ℕ
+  pub rows : ℕ
+  pub history : List Entry
+
+-- the same book with another history
+abbrev pub with_history : BookParts → List Entry → BookParts
+with_history book history = record { limit = book.limit; donors = book.donors; rows = book.rows; history = history }

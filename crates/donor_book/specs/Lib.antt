@@ -1,0 +1,4 @@
+pub mod Claims
+pub mod Entries
+pub mod Passes
+pub mod inner

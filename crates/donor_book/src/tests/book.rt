@@ -1,0 +1,45 @@
+//! Claims in a book of one thread.
+ghost use Rattle.std.specs.Prelude.{◌≡◌, IfOk};
+
+use crate::{Book, Claim};
+use std::alloc::Global;
+use std::test::Fail;
+
+fn donors(alloc: Global, numbers: &[u32]) -> Result<Vec<u32>, Fail>
+    ensures { IfOk result (λ donors. donors.items ≡ numbers.now) }
+{
+    Ok(Vec::from_slice(alloc, numbers)?)
+}
+
+#[test]
+fn a_row_is_given_the_first_donor_with_uses_left(rt: HostRuntime) -> Result<(), Fail> {
+    let alloc = rt.alloc();
+    let mut book = Book::start(alloc, 2, 1, 4)?;
+    let first = book.claim_on(3, donors(alloc, &[1, 0])?);
+    let second = book.claim_on(0, donors(alloc, &[1, 0])?);
+    let third = book.claim_on(1, donors(alloc, &[1, 0])?);
+    let again = book.claim_on(3, donors(alloc, &[0])?);
+    assert_eq!(rt; first, Claim::Given(1));
+    assert_eq!(rt; second, Claim::Given(0));
+    assert_eq!(rt; third, Claim::Nobody);
+    assert_eq!(rt; again, Claim::Had(Some(1)));
+    assert_eq!(rt; book.history().len(), 3);
+    assert_eq!(rt; book.limit(), 1);
+    Ok(())
+}
+
+#[test]
+fn a_donor_is_given_as_often_as_the_limit(rt: HostRuntime) -> Result<(), Fail> {
+    let alloc = rt.alloc();
+    let mut book = Book::start(alloc, 1, 2, 4)?;
+    let nobody = book.claim_on(2, donors(alloc, &[])?);
+    let first = book.claim_on(0, donors(alloc, &[0])?);
+    let second = book.claim_on(1, donors(alloc, &[0])?);
+    let third = book.claim_on(3, donors(alloc, &[0])?);
+    assert_eq!(rt; nobody, Claim::Nobody);
+    assert_eq!(rt; first, Claim::Given(0));
+    assert_eq!(rt; second, Claim::Given(0));
+    assert_eq!(rt; third, Claim::Nobody);
+    assert_eq!(rt; book.history().len(), 4);
+    Ok(())
+}
