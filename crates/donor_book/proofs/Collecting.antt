@@ -1,7 +1,7 @@
 -- The claims of the passes, each at its place, are a legal history.
 use Rattle.std.proofs.Common.{◌≡◌, ℕ, zero, suc, ◌+◌, ◌<◌, ◌≤◌, Bool, true, false, cond, List, [], ◌∷◌, map, length, take, Some, None, Option, refl, sym, ap, ◌∙◌, subst, nat_eq, eqb, arith}
 use Rattle.std.specs.Prelude.{slice_get}
-use Rattle.std.specs.List.{All, IsDistinct, find, sum_by}
+use Rattle.std.specs.List.{All, IsDistinct, find}
 use Rattle.std.proofs.lemmas.Bool.{eq-eqb, eqb-true}
 use Rattle.std.proofs.lemmas.List.{length-map}
 use Rattle.std.proofs.lemmas.List.Elements.{All-head, All-tail}
@@ -13,7 +13,7 @@ use Rattle.donor_book.specs.declared.claim.Won.{Won}
 use Rattle.donor_book.specs.declared.rule.Placed.{Placed}
 use Rattle.donor_book.specs.Claims.{first_free}
 use Rattle.donor_book.specs.Entries.{IsLegalHistory, won_of, wins_of}
-use Rattle.donor_book.specs.Passes.{AreCollected, IsClaim, IsWhole, PassState, claimed_at, claims_at}
+use Rattle.donor_book.specs.Passes.{AreCollected, IsClaim, IsWhole, PassState, claims_at}
 use Rattle.donor_book.specs.inner.Rule.{no_entry}
 use Rattle.donor_book.proofs.Taking.{all_claims, all_mine, claims_of, places_of}
 use Rattle.donor_book.proofs.WordLaws.{some_same}

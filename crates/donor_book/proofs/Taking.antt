@@ -1,12 +1,12 @@
 -- One pass takes in the others.
-use Rattle.std.proofs.Common.{◌≡◌, ℕ, ◌+◌, ◌<◌, ◌≤◌, List, [], ◌∷◌, ◌++◌, map, length, cond, refl, sym, ap, ◌∙◌, subst, nat_eq, arith, append_assoc, append-nil, length-append}
+use Rattle.std.proofs.Common.{◌≡◌, ℕ, ◌+◌, ◌<◌, List, [], ◌∷◌, ◌++◌, map, length, cond, refl, sym, ap, ◌∙◌, subst, nat_eq, arith, append_assoc, append-nil, length-append}
 use Rattle.std.specs.List.{sum_by, All}
 use Rattle.std.proofs.lemmas.List.{map-append, get_or-append-add}
 use Rattle.std.proofs.lemmas.List.Sums.{sum_by-cons, sum_by-append}
 use Rattle.std.proofs.lemmas.List.Elements.{All-append, All-nil, All-head, All-tail, All-cons}
 use Rattle.std.proofs.Math.ListN.{get_or-append}
 use mathlib.Core.Option.{some}
-use lib.ListN.{get_elem?, get_or}
+use lib.ListN.{get_elem?}
 use Rattle.donor_book.specs.declared.claim.Won.{Won}
 use Rattle.donor_book.specs.declared.rule.Known.{Known}
 use Rattle.donor_book.specs.declared.rule.Placed.{Placed}

@@ -1,5 +1,5 @@
 -- A shared book and its passes, as callers see them.
-use Rattle.std.specs.Prelude.{◌≡◌, ℕ, ◌<◌, ◌≤◌, ◌==◌, ◌++◌, Option, Some, None, List, [], ◌∷◌, length, map, take, nat_eq, slice_get}
+use Rattle.std.specs.Prelude.{◌≡◌, ℕ, ◌<◌, ◌≤◌, ◌==◌, ◌++◌, Some, None, List, [], ◌∷◌, length, map, take, nat_eq, slice_get}
 use Rattle.std.specs.List.{All, IsDistinct, count_by, sum_by}
 use Rattle.std.specs.List.Sorted.{IsStrictlyIncreasing}
 use Rattle.atomic_table.specs.Seated.{TableId}

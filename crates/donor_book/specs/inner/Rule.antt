@@ -1,5 +1,5 @@
 -- The rule of a row of claims: its words are one history, and each claim in it is of one pass.
-use Rattle.std.specs.Prelude.{◌≡◌, ℕ, ◌+◌, ◌-◌, ◌*◌, ◌^◌, ◌<◌, ◌≤◌, ◌==◌, Option, Some, None, List, [], ◌∷◌, ◌++◌, min, length, map, replicate, nat_eq, MatchBool}
+use Rattle.std.specs.Prelude.{◌≡◌, ℕ, ◌+◌, ◌-◌, ◌*◌, ◌^◌, ◌<◌, ◌==◌, Option, Some, None, List, [], ◌∷◌, ◌++◌, min, length, map, replicate, nat_eq, MatchBool}
 use Rattle.std.specs.List.{All, IsDistinct, sum_by}
 use mathlib.Core.Option.{some}
 use lib.ListN.{get_elem?}

@@ -1,5 +1,5 @@
 -- One try to enter a claim, and the words that are read.
-use Rattle.std.specs.Prelude.{◌≡◌, ℕ, ◌++◌, ◌-◌, ◌==◌, ◌^◌, List, [], ◌∷◌, length, MatchBool}
+use Rattle.std.specs.Prelude.{◌≡◌, ℕ, ◌++◌, ◌-◌, ◌==◌, ◌^◌, List, [], ◌∷◌, MatchBool}
 use mathlib.Core.Option.{none}
 use Rattle.atomic_table.specs.Table.{Me, step}
 use Rattle.donor_book.specs.declared.claim.Entry.{Entry}

@@ -1,4 +1,4 @@
-use Rattle.std.proofs.Common.{rules, arith, ℕ, ◌≡◌, ◌+◌, ◌<◌, [], ◌∷◌, length, length-append, ap, ◌∙◌, sym, subst}
+use Rattle.std.proofs.Common.{rules, arith, ℕ, [], ◌∷◌, length, length-append, ap, ◌∙◌, sym, subst}
 use Rattle.std.specs.List.{All}
 use Rattle.std.proofs.lemmas.List.Elements.{All-push}
 use Rattle.atomic_table.specs.Seated.{TableId}

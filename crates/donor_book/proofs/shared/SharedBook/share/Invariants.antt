@@ -1,6 +1,5 @@
-use Rattle.std.proofs.Common.{◌≡◌, ◌+◌, ◌≤◌, ◌<◌, ◌^◌, [], length}
+use Rattle.std.proofs.Common.{◌≡◌, ◌+◌, [], length}
 use Rattle.std.specs.List.{All}
-use Rattle.donor_book.specs.declared.rule.Terms.{Terms}
 use Rattle.donor_book.specs.Passes.{IsFresh}
 use Rattle.donor_book.proofs.shared.SharedBook.share.Given as goal
 
