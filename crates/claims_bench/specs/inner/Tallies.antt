@@ -1,7 +1,6 @@
 -- What is told of the closes' answers.
 use Rattle.std.specs.Prelude.{◌≡◌, ℕ, List}
 use Rattle.donor_book.specs.declared.claim.Entry.{Entry}
-use Rattle.donor_book.specs.declared.claim.Won.{Won}
 use Rattle.donor_book.specs.declared.rule.Terms.{Terms}
 use Rattle.donor_book.specs.Entries.{IsLegalHistory, wins_of}
 use Rattle.donor_book.specs.Passes.{IsSound}
