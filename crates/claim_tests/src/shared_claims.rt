@@ -1,0 +1,139 @@
+//! Four threads claim a donor for each of 10,000 rows, each thread in an order of its own. A book of one thread, for which the
+//! rows claim again in the order of the history, answers the same.
+ghost use Rattle.std.specs.Prelude.{◌≡◌, ◌<◌};
+ghost use Rattle.std.specs.List.{All};
+
+use donor_book::{Book, Claim, Pass, SharedBook, Won};
+use foundation::OutOfMemory;
+use std::alloc::Global;
+use std::sync::atomic::{AtomicU64, Ordering};
+use std::test::Fail;
+use std::thread;
+use std::thread::Threads;
+
+const ROWS: u32 = 10_000;
+
+const DONORS: u32 = 3_000;
+
+const LIMIT: u32 = 2;
+
+const THREADS: u32 = 4;
+
+/// How many threads have begun, and how many claims of all threads were answered by a donor, and by nobody.
+#[derive(Drop)]
+struct Told {
+    begun: AtomicU64,
+    given: AtomicU64,
+    nobody: AtomicU64,
+}
+
+// The donors that a row ranks.
+fn ranking_of(row_no: u32) -> [u32; 4]
+    requires { row_no < 10000 }
+    ensures { All (λ donor. donor < 3000) result }
+{
+    [
+        row_no * 7 % DONORS,
+        row_no * 11 % DONORS,
+        row_no * 13 % DONORS,
+        row_no * 17 % DONORS,
+    ]
+}
+
+// Claims a donor for each row, from this one on and then from the first.
+fn claim_all(book: &SharedBook, mut pass: Pass, first: u32, told: &Told) -> Pass
+    requires book { pass.book ≡ book.now }
+    requires terms { (book.now.terms.rows ≡ 10000) × (book.now.terms.donors ≡ 3000) }
+    requires first { first < 10000 }
+    ensures { result.book ≡ pass.book }
+{
+    for i in 0..ROWS {
+        let row_no = (first + i) % ROWS;
+        match book.claim(&mut pass, row_no, &ranking_of(row_no)) {
+            Claim::Given(_) => told.given.fetch_add(1, Ordering::SeqCst),
+            Claim::Nobody => told.nobody.fetch_add(1, Ordering::SeqCst),
+            Claim::Had(_) => 0,
+        };
+    }
+    pass
+}
+
+// The history of the book for which four threads claim.
+fn claims_by_four<R: Threads + Sync>(
+    rt: &R,
+    alloc: Global,
+    told: &Told,
+) -> Result<Vec<Won>, OutOfMemory> {
+    let (book, passes) = SharedBook::share(alloc, DONORS, LIMIT, ROWS, THREADS)?;
+    let shared = &book;
+    let passes = thread::map_vec(
+        rt,
+        passes,
+        &|pass: Pass| -> Pass
+            requires { (pass.book ≡ shared.now) × (shared.now.terms.rows ≡ 10000) × (shared.now.terms.donors ≡ 3000) }
+            ensures { result.book ≡ shared.entry.now }
+        {
+            let begun = told.begun.fetch_add(1, Ordering::SeqCst);
+            claim_all(shared, pass, (begun % 4) as u32 * 2500, told)
+        },
+    )?;
+    Ok(book.close(passes))
+}
+
+fn answer_of(reply: Option<u32>) -> Claim {
+    match reply {
+        Some(donor) => Claim::Given(donor),
+        None => Claim::Nobody,
+    }
+}
+
+// Whether a book of one thread answers each claim as it was answered, in this order.
+fn is_answered_again(alloc: Global, history: &[Won]) -> Result<bool, OutOfMemory> {
+    let mut book = Book::start(alloc, DONORS, LIMIT, ROWS)?;
+    for won in history {
+        if won.row_no >= ROWS {
+            return Ok(false);
+        }
+        let ranking = Vec::from_slice(alloc, &ranking_of(won.row_no))?;
+        if book.claim_on(won.row_no, ranking) != answer_of(won.reply) {
+            return Ok(false);
+        }
+    }
+    Ok(true)
+}
+
+// How often the donor was given that was given most.
+fn most_given(alloc: Global, history: &[Won]) -> Result<u32, OutOfMemory> {
+    let mut uses = vec![in alloc; 0u32; DONORS as usize]?;
+    let mut most = 0;
+    for won in history {
+        let Some(donor) = won.reply else {
+            continue;
+        };
+        if let Some(count) = uses.get_mut(donor as usize) {
+            *count = count.saturating_add(1);
+            most = most.max(*count);
+        }
+    }
+    Ok(most)
+}
+
+#[test]
+fn four_threads_are_answered_as_one(rt: HostRuntime) -> Result<(), Fail> {
+    let told = Told {
+        begun: AtomicU64::new(0),
+        given: AtomicU64::new(0),
+        nobody: AtomicU64::new(0),
+    };
+    let history = claims_by_four(&rt, rt.alloc(), &told)?;
+    let given = history.iter().filter(|won| won.reply.is_some()).count() as u64;
+    assert_eq!(rt; history.len(), 10_000);
+    assert!(rt; is_answered_again(rt.alloc(), &history)?);
+    assert_eq!(rt; most_given(rt.alloc(), &history)?, LIMIT);
+    assert_eq!(rt; told.given.load(Ordering::SeqCst), given);
+    assert_eq!(rt;
+        told.nobody.load(Ordering::SeqCst),
+        10_000u64.saturating_sub(given)
+    );
+    Ok(())
+}

@@ -1,0 +1,67 @@
+//! A program that draws tickets and claims donors with some threads, so that a draw and a claim can be timed. What a
+//! thread does is in `worker`; the threads are run, and what they did is counted, in `tally`.
+#![tactic(auto)]
+
+ghost use Rattle.std.specs.Prelude.{◌≡◌, IfErr, IfOk, string_bytes};
+ghost use Rattle.claims_bench.specs.inner.Plans.{IsServed};
+ghost use Rattle.claims_bench.specs.inner.Tallies.{IsTold};
+ghost use Rattle.claims_bench.specs.inner.Texts.{counts_text};
+
+mod fault;
+mod tally;
+mod words;
+mod worker;
+
+use donor_book::Won;
+use fault::Fault;
+use foundation::OutOfMemory;
+use std::alloc::Global;
+use std::process::ExitCode;
+use std::thread::Threads;
+use tally::{Plan, carry_out};
+
+fn main(rt: HostRuntime) -> ExitCode {
+    let (text, status) = match told(&rt, rt.alloc()) {
+        Ok(text) => (text, 0),
+        Err(fault) => match format!(in rt.alloc(); "{fault}\n") {
+            Ok(text) => (text, fault.status()),
+            Err(_) => return ExitCode::from(Fault::OutOfMemory.status()),
+        },
+    };
+    match rt.print(text.as_str()) {
+        Ok(()) => ExitCode::from(status),
+        Err(_) => ExitCode::from(6),
+    }
+}
+
+// What is printed of the words after the program's name.
+fn told<R: std::rt::Env + AllocGlobal + Threads + Sync>(
+    rt: &R,
+    alloc: Global,
+) -> Result<String, Fault> {
+    let words = words::after_program_name(rt)?;
+    match words::plan_of(&words) {
+        None => Err(Fault::Usage),
+        Some(plan) => text_of(rt, alloc, plan),
+    }
+}
+
+// What is printed of this plan: the counts of what was drawn and claimed.
+fn text_of<R: Threads + Sync>(rt: &R, alloc: Global, plan: Plan) -> Result<String, Fault>
+    requires { IsServed plan }
+    ensures text { IfOk result (λ text. IsTold plan (string_bytes text)) }
+    ensures refused { IfErr result (λ fault. fault ≡ Fault.OutOfMemory) }
+{
+    let tally = carry_out(rt, alloc, plan)?;
+    Ok(counts_text(alloc, tally.drawn, &tally.history)?)
+}
+
+// How many numbers were drawn, how many rows have claimed, and how many of these were given a donor, and nobody.
+fn counts_text(alloc: Global, drawn: u32, history: &[Won]) -> Result<String, OutOfMemory>
+    ensures { IfOk result (λ text. string_bytes text ≡ counts_text drawn history.now) }
+{
+    let claimed = history.len();
+    let given = history.iter().filter(|won| won.reply.is_some()).count();
+    let nobody = history.iter().filter(|won| won.reply.is_none()).count();
+    Ok(format!(in alloc; "drawn {drawn} claimed {claimed} given {given} nobody {nobody}\n")?)
+}

@@ -1,0 +1,112 @@
+ghost use Rattle.std.specs.Prelude.{◌≡◌, IfOk, length};
+ghost use Rattle.std.specs.List.{All};
+ghost use Rattle.claims_bench.specs.inner.Plans.{IsServed};
+ghost use Rattle.claims_bench.specs.inner.Tallies.{IsTally};
+ghost use Rattle.claims_bench.specs.inner.Workers.{Fits, HasRun, IsReady, passes_of, seats_of};
+
+use crate::worker::{Worker, donors_for};
+use donor_book::{Pass, SharedBook, Won};
+use foundation::OutOfMemory;
+use std::alloc::Global;
+use std::thread;
+use std::thread::Threads;
+use ticket_row::{Seat, Tickets};
+
+/// How often a donor is given at most.
+const LIMIT: u32 = 1;
+
+/// How many tickets there are, and rows that claim, and how many threads draw and claim them.
+#[derive(Clone, Copy, Debug, PartialEq, Eq)]
+pub struct Plan {
+    pub count: u32,
+    pub threads: u32,
+}
+
+/// How many numbers were drawn, and the claims in order.
+#[derive(Drop)]
+pub struct Tally {
+    pub drawn: u32,
+    pub history: Vec<Won>,
+}
+
+/// Draws the tickets and claims for their rows with so many threads, and tells what was drawn and claimed.
+pub fn carry_out<R: Threads + Sync>(rt: &R, alloc: Global, plan: Plan) -> Result<Tally, OutOfMemory>
+    requires { IsServed plan }
+    ensures { IfOk result (IsTally plan) }
+{
+    let (tickets, seats) = Tickets::new(alloc, plan.count, plan.threads)?;
+    let (book, passes) = SharedBook::share(
+        alloc,
+        donors_for(plan.count),
+        LIMIT,
+        plan.count,
+        plan.threads,
+    )?;
+    let ran = run_all(rt, &tickets, &book, workers_of(alloc, seats, passes)?)?;
+    let (seats, passes) = taken_apart(alloc, ran)?;
+    Ok(Tally {
+        drawn: tickets.close(seats),
+        history: book.close(passes),
+    })
+}
+
+// Each worker draws and claims in a thread of its own, to the end.
+fn run_all<R: Threads + Sync>(
+    rt: &R,
+    tickets: &Tickets,
+    book: &SharedBook,
+    workers: Vec<Worker>,
+) -> Result<Vec<Worker>, OutOfMemory>
+    requires fits { Fits tickets.now.row book.now }
+    requires ready { All (IsReady tickets.now.row book.now) workers.items }
+    ensures all { IfOk result (λ ran. length ran.items ≡ length workers.items) }
+    ensures ran { IfOk result (λ ran. All (HasRun tickets.now.row book.now) ran.items) }
+{
+    Ok(thread::map_vec(
+        rt,
+        workers,
+        &|worker: Worker| -> Worker
+            requires { Fits tickets.now.row book.now × IsReady tickets.now.row book.now worker }
+            ensures { HasRun tickets.entry.now.row book.entry.now result }
+        {
+            let mut worker = worker;
+            worker.run(tickets, book);
+            worker
+        },
+    )?)
+}
+
+// A worker for each seat, with the pass at its place.
+fn workers_of(
+    alloc: Global,
+    seats: Vec<Seat>,
+    passes: Vec<Pass>,
+) -> Result<Vec<Worker>, OutOfMemory>
+    requires { length seats.items ≡ length passes.items }
+    ensures seats { IfOk result (λ workers. seats_of workers.items ≡ seats.items) }
+    ensures passes { IfOk result (λ workers. passes_of workers.items ≡ passes.items) }
+{
+    let mut workers = Vec::with_capacity(alloc, seats.len())?;
+    let mut rest = passes.into_iter();
+    for seat in seats {
+        let Some(pass) = rest.next() else {
+            unreachable!()
+        };
+        workers.push_reserved(Worker { seat, pass });
+    }
+    Ok(workers)
+}
+
+// The seats and the passes of the workers.
+fn taken_apart(alloc: Global, workers: Vec<Worker>) -> Result<(Vec<Seat>, Vec<Pass>), OutOfMemory>
+    ensures seats { IfOk result (λ parts. parts.0.items ≡ seats_of workers.items) }
+    ensures passes { IfOk result (λ parts. parts.1.items ≡ passes_of workers.items) }
+{
+    let mut seats = Vec::with_capacity(alloc, workers.len())?;
+    let mut passes = Vec::with_capacity(alloc, workers.len())?;
+    for worker in workers {
+        seats.push_reserved(worker.seat);
+        passes.push_reserved(worker.pass);
+    }
+    Ok((seats, passes))
+}

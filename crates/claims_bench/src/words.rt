@@ -1,0 +1,57 @@
+ghost use Rattle.std.specs.Prelude.{◌≡◌, ◌⊎◌, ◌≤◌, IfErr, IfSome, map, string_bytes};
+ghost use Rattle.claims_bench.specs.inner.Plans.{IsAsked, IsNumber, IsServed};
+
+use crate::fault::Fault;
+use crate::tally::Plan;
+use std::env;
+use std::io::ErrorKind;
+use std::rt::Env;
+
+/// What is done where no words say otherwise.
+const SMALL: Plan = Plan {
+    count: 60,
+    threads: 4,
+};
+
+/// The most tickets.
+const MOST_COUNT: u32 = 10_000_000;
+
+/// The most threads.
+const MOST_THREADS: u32 = 64;
+
+/// The words after the program's name.
+pub fn after_program_name<R: Env + AllocGlobal>(rt: &R) -> Result<Vec<String>, Fault>
+    ensures { IfErr result (λ fault. (fault ≡ Fault.Usage) ⊎ (fault ≡ Fault.OutOfMemory)) }
+{
+    match env::args(rt) {
+        Ok(all) => Ok(all.skip(1).collect(rt.alloc())?),
+        Err(error) if error.kind() == ErrorKind::OutOfMemory => Err(Fault::OutOfMemory),
+        Err(_) => Err(Fault::Usage),
+    }
+}
+
+/// What the words `COUNT THREADS` ask for, and something small where there are none.
+pub fn plan_of(words: &[String]) -> Option<Plan>
+    ensures asked { IfSome result (IsAsked (map string_bytes words.now)) }
+    ensures served { IfSome result IsServed }
+{
+    match words {
+        [] => Some(SMALL),
+        [count, threads] => Some(Plan {
+            count: number_in(count.as_str(), MOST_COUNT)?,
+            threads: number_in(threads.as_str(), MOST_THREADS)?,
+        }),
+        _ => None,
+    }
+}
+
+// The number that is written in digits, if it is at least 1 and at most so much.
+fn number_in(text: &str, most: u32) -> Option<u32>
+    ensures number { IfSome result (IsNumber text.now) }
+    ensures within { IfSome result (λ number. (1 ≤ number) × (number ≤ most)) }
+{
+    match text.parse::<u32>() {
+        Ok(number) if 1 <= number && number <= most => Some(number),
+        _ => None,
+    }
+}
