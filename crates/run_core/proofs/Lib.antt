@@ -1,0 +1,3 @@
+mod ClaimLaws
+mod DrawLaws
+mod PublishLaws

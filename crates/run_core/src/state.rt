@@ -1,0 +1,112 @@
+ghost use Rattle.std.specs.Prelude.{◌≡◌, ◌+◌, ◌-◌, ◌<◌, ◌^◌, ◌++◌, [], ◌∷◌, length, IfOk, IsOk, OnOk, OnErr};
+ghost use Rattle.std.specs.Arc.{arc_value};
+ghost use Rattle.run_core.specs.States.{start_of};
+ghost use Rattle.run_core.specs.Steps.{HasTermsOf, IsClaim, IsDue, after, after_draw, drawn_by, reply_to, with_published};
+
+use crate::event::{CoreEvent, CoreReply};
+use crate::worker::{Worker, idle_workers};
+use donor_book::Book;
+use edit_line::Edits;
+use foundation::OutOfMemory;
+use linear_elim::System;
+use std::alloc::Global;
+use std::marker::Model;
+use std::sync::Arc;
+
+/// What workers that run side by side share: the next row number, the numbers that each drew, the derived systems that
+/// they published, and the book of donors.
+#[derive(Drop)]
+pub struct CoreState {
+    rows: u32,
+    next: u64,
+    workers: Vec<Worker>,
+    edits: Arc<Edits>,
+    published: Vec<System>,
+    book: Book,
+}
+
+impl Model for CoreState {
+    ghost use Rattle.std.specs.Prelude.{◌<◌, ◌^◌, length};
+    ghost use Rattle.std.specs.Arc.{arc_value};
+    ghost use Rattle.run_core.specs.States.{CoreParts};
+    ghost use Rattle.run_core.specs.inner.Counts.{AreCounted};
+
+    ghost Value = { CoreParts };
+
+    ghost view = { λ c. record { rows = c.rows; next = c.next; workers = c.workers.items; edits = arc_value c.edits; published = c.published.items; book = c.book } };
+
+    ghost invariant = { λ c. AreCounted c.rows c.next c.workers.items × (length c.workers.items < 2 ^ 32) };
+}
+
+impl CoreState {
+    /// Nothing is drawn, published or claimed yet.
+    pub fn start(
+        alloc: Global,
+        rows: u32,
+        workers: u32,
+        edits: Arc<Edits>,
+        book: Book,
+    ) -> Result<CoreState, OutOfMemory>
+        requires { book.history ≡ [] }
+        ensures { IfOk result (λ state. state ≡ start_of rows workers (arc_value edits) book) }
+    {
+        Ok(CoreState {
+            rows,
+            next: 0,
+            workers: idle_workers(alloc, workers)?,
+            edits,
+            published: Vec::new(alloc),
+            book,
+        })
+    }
+
+    /// One event. A draw is answered the next number where it is below the count of rows, and else None; None again from
+    /// then on. A system is put at the end of the list, and answered its place there. A claim is answered as the book
+    /// answers it, and takes no memory.
+    pub fn step(&mut self, event: CoreEvent) -> Result<CoreReply, OutOfMemory>
+        requires { IsDue self.old event }
+        ensures reply { IfOk result (λ reply. reply ≡ reply_to self.old event) }
+        ensures state { OnOk result (self.new ≡ after self.old event) }
+        ensures unchanged { OnErr result (self.new ≡ self.old) }
+        ensures claim { IsClaim event → IsOk result }
+        ensures terms { HasTermsOf self.old self.new }
+    {
+        match event {
+            CoreEvent::Draw { worker } => Ok(CoreReply::Drew(self.draw(worker)?)),
+            CoreEvent::Publish { worker: _, system } => {
+                Ok(CoreReply::Published(self.publish(system)?))
+            }
+            CoreEvent::Claim {
+                worker: _,
+                row_no,
+                ranking,
+            } => Ok(CoreReply::Claimed(self.book.claim_on(row_no, ranking.into_vec()))),
+        }
+    }
+
+    // The worker's draw.
+    fn draw(&mut self, worker: u32) -> Result<Option<u32>, OutOfMemory>
+        requires { worker < length self.old.workers }
+        ensures number { IfOk result (λ number. number ≡ drawn_by self.old worker) }
+        ensures state { OnOk result (self.new ≡ after_draw self.old worker) }
+        ensures unchanged { OnErr result (self.new ≡ self.old) }
+    {
+        let drawer = &mut self.workers[worker as usize];
+        let step = u64::from(!drawer.has_ended());
+        let number = drawer.draw(self.next, self.rows)?;
+        self.next += step;
+        Ok(number)
+    }
+
+    // Puts the system at the end of the list, and tells its place there.
+    fn publish(&mut self, system: System) -> Result<u32, OutOfMemory>
+        requires { length self.old.published < 2 ^ 32 - 1 }
+        ensures place { IfOk result (λ place. place ≡ length self.old.published) }
+        ensures state { OnOk result (self.new ≡ with_published self.old (self.old.published ++ system ∷ [])) }
+        ensures unchanged { OnErr result (self.new ≡ self.old) }
+    {
+        let place = self.published.len() as u32;
+        self.published.push(system)?;
+        Ok(place)
+    }
+}
