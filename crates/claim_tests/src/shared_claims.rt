@@ -58,6 +58,16 @@ fn claim_all(book: &SharedBook, mut pass: Pass, first: u32, told: &Told) -> Pass
     pass
 }
 
+// Waits until all threads have begun, so that they claim side by side, but not for ever.
+fn wait_for_all(told: &Told) {
+    for _ in 0..10_000 {
+        if told.begun.load(Ordering::SeqCst) >= THREADS as u64 {
+            return;
+        }
+        thread::yield_now();
+    }
+}
+
 // The history of the book for which four threads claim.
 fn claims_by_four<R: Threads + Sync>(
     rt: &R,
@@ -74,6 +84,7 @@ fn claims_by_four<R: Threads + Sync>(
             ensures { result.book ≡ shared.entry.now }
         {
             let begun = told.begun.fetch_add(1, Ordering::SeqCst);
+            wait_for_all(told);
             claim_all(shared, pass, (begun % 4) as u32 * 2500, told)
         },
     )?;
