@@ -1,5 +1,6 @@
 pub mod Bounds
 pub mod Changes
+pub mod CleanRecords
 pub mod Corrections
 pub mod Faults
 pub mod FieldSets

@@ -4,6 +4,7 @@
 #![tactic(auto)]
 
 mod check;
+mod clean;
 mod fault;
 mod field;
 mod field_set;
@@ -16,6 +17,7 @@ mod survey;
 mod trial;
 mod value;
 
+pub use clean::is_clean;
 pub use fault::SurveyFault;
 pub use field::{Field, Kind};
 pub use field_set::FieldSet;
