@@ -1,6 +1,5 @@
 use Rattle.std.proofs.Common.{◌≡◌, ◌≢◌, ℕ, zero, suc, ◌+◌, ◌<◌, Bool, true, false, if◌then◌else◌, List, [], ◌∷◌, length, All, refl, subst, arith}
-use Rattle.std.specs.List.{AllByRecursion, list_all}
-use Rattle.std.proofs.lemmas.Bool.{and_parts}
+use Rattle.std.specs.List.{AllByRecursion}
 use Rattle.std.proofs.lemmas.List.{length-map}
 use Rattle.std.proofs.lemmas.List.Elements.{All-append, All-cons, All-from_recursion, All-nil}
 use Rattle.edit_model.specs.FieldSets.{has_number}
@@ -14,8 +13,10 @@ use Rattle.edit_model.specs.declared.value.Value.{Value}
 use Rattle.edit_model.specs.declared.value.Value.TheVariants.{Code, Number, Bad}
 use Rattle.donor_measure.specs.Measures.{HasKept, IsMeasurable}
 use Rattle.donor_measure.specs.Yardsticks.{scale_of, yardstick_at, yardstick_of, yardsticks_of}
-use Rattle.donor_search.specs.CleanRows.{CanGive, clean_from, donors_of, is_clean, is_filled, row_at}
-use Rattle.donor_search.proofs.CleanLaws.{filled_held, is_row_at}
+use Rattle.edit_model.specs.CleanRecords.{is_clean}
+use Rattle.edit_model.proofs.CleanLaws.{clean-held}
+use Rattle.donor_search.specs.CleanRows.{CanGive, clean_from, donors_of, row_at}
+use Rattle.donor_search.proofs.CleanLaws.{is_row_at}
 
 -- Each donor can be measured at every field.
 
@@ -71,6 +72,5 @@ donors_give survey rows are plain kept = each_clean (CanGive (yardsticks_of surv
     gives : (k : ℕ) → k < length rows → is_clean survey (row_at rows k) ≡ true → HasKept (yardsticks_of survey.fields) kept (row_at rows k)
     gives k below clean =
         let is = is_row_at survey.fields rows k are below in
-        let filled = (and_parts (list_all is_filled (row_at rows k)) _ clean).0 in
         has_kept survey.fields (row_at rows k) kept is (All-from_recursion HasPlain rows plain k [] below)
-        (λ f within has. filled_held (row_at rows k) filled f (let l = as_many survey.fields (row_at rows k) is in omega (arith, l, within)))
+        (λ f within has. clean-held survey (row_at rows k) clean f (let l = as_many survey.fields (row_at rows k) is in omega (arith, l, within)))

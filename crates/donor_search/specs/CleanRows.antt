@@ -1,29 +1,9 @@
-use Rattle.std.specs.Prelude.{ℕ, suc, ◌<◌, ◌++◌, ◌&&◌, not, Bool, false, if◌then◌else◌, List, [], ◌∷◌, Option, Some, None, length, slice_index_or}
-use Rattle.std.specs.List.{list_all}
+use Rattle.std.specs.Prelude.{ℕ, suc, ◌<◌, ◌++◌, if◌then◌else◌, List, [], ◌∷◌, length, slice_index_or}
+use Rattle.edit_model.specs.CleanRecords.{is_clean}
 use Rattle.edit_model.specs.Parts.{SurveyParts}
-use Rattle.edit_model.specs.Rows.{is_bad}
-use Rattle.edit_model.specs.Trials.{rule_at}
-use Rattle.edit_model.specs.declared.rule.Rule.{Rule}
 use Rattle.edit_model.specs.declared.value.Value.{Value}
 use Rattle.donor_measure.specs.Measures.{HasKept}
 use Rattle.donor_measure.specs.declared.yardstick.Yardstick.{Yardstick}
-
--- whether there is a value
-abbrev pub is_filled : Value → Bool
-is_filled v = not (is_bad v)
-
--- whether the answer is a yes
-abbrev pub is_yes : Option Bool → Bool
-is_yes None = false
-is_yes (Some b) = b
-
--- whether a rule holds at a record, and no sum that is tried leaves the range
-abbrev pub holds_at : List Value → Rule → Bool
-holds_at row rule = is_yes (rule_at rule row)
-
--- whether a record is clean: every field is filled, and every rule holds
-abbrev pub is_clean : SurveyParts → List Value → Bool
-is_clean survey row = list_all is_filled row && list_all (holds_at row) survey.rules
 
 -- the numbers of the clean rows, from number i on
 abbrev pub clean_from : ℕ → SurveyParts → List (List Value) → List ℕ

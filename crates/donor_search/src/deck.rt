@@ -1,12 +1,12 @@
 ghost use Rattle.std.specs.Prelude.{◌≡◌, ℕ, ◌<◌, ◌++◌, [], ◌∷◌, if◌then◌else◌, length, All, IfOk, OnOk};
 ghost use Rattle.std.specs.List.{AllByRecursion};
+ghost use Rattle.edit_model.specs.CleanRecords.{is_clean};
 ghost use Rattle.edit_model.specs.Rows.{IsRow};
 ghost use Rattle.edit_model.specs.PlainNumbers.{HasPlain};
 ghost use Rattle.donor_measure.specs.Yardsticks.{yardsticks_of};
-ghost use Rattle.donor_search.specs.CleanRows.{CanGive, donors_of, is_clean, row_at};
+ghost use Rattle.donor_search.specs.CleanRows.{CanGive, donors_of, row_at};
 
-use crate::clean::is_clean;
-use edit_model::Survey;
+use edit_model::{Survey, is_clean};
 use foundation::OutOfMemory;
 use record_text::Sheet;
 use std::alloc::Global;
