@@ -1,3 +1,4 @@
+pub mod Claims
 pub mod Dropped
 pub mod Places
 pub mod Released

@@ -1,16 +1,13 @@
 -- What a released row gives of the record that was read.
 use Rattle.std.specs.Prelude.{◌≡◌, ℕ, suc, ◌==◌, ◌&&◌, ◌||◌, Bool, true, false, List, [], ◌∷◌, Some, slice_index_or, ◌*ℤ◌}
-use Rattle.std.specs.List.{AllByRecursion, list_any}
 use Rattle.std.specs.Ordering.{int_eq}
 use Rattle.std.specs.Str.{bytes_eq}
 use Rattle.fraction128.specs.Spelling.{spelling}
+use Rattle.edit_model.specs.CleanRecords.{is_clean}
 use Rattle.edit_model.specs.Parts.{SurveyParts}
-use Rattle.edit_model.specs.Rows.{is_bad}
-use Rattle.edit_model.specs.Trials.{rule_at}
 use Rattle.edit_model.specs.declared.field.Field.{Field}
 use Rattle.edit_model.specs.declared.field.Kind.{Kind}
 use Rattle.edit_model.specs.declared.field.Kind.TheVariants as kind
-use Rattle.edit_model.specs.declared.rule.Rule.{Rule}
 use Rattle.edit_model.specs.declared.value.Value.{Value}
 use Rattle.edit_model.specs.declared.value.Value.TheVariants.{Code, Number}
 use Rattle.record_text.specs.Values.{code_number}
@@ -59,13 +56,8 @@ same_from changed columns j _ _ = false
 
 -- ---- a row
 
--- every rule holds at the record, and no number of its sums leaves the range
-abbrev pub AllHold : List Rule → List Value → Type 0
-AllHold rules row = AllByRecursion (λ (rule : Rule). rule_at rule row ≡ Some true) rules
-
--- the texts of a row are released for a record of which some fields are changed: these are its values, the fields that are kept have their bytes, and so has each other column; each field has a value, and all rules hold
+-- the texts of a row are released for a record of which some fields are changed: these are its values, the fields that are kept have their bytes, and so has each other column; with these values the record is clean
 pub record IsReleasedAs (survey : SurveyParts) (columns : List ℕ) (changed : ℕ → Bool) (reads : List (List ℕ)) (row : List Value) (texts : List (List ℕ)) (new : List Value) : Type 0 where
   pub values : AreValuesFrom changed (text_at columns texts) 0 survey.fields row new
   pub elsewhere : same_from changed columns 0 reads texts ≡ true
-  pub whole : list_any is_bad new ≡ false
-  pub holds : AllHold survey.rules new
+  pub clean : is_clean survey new ≡ true

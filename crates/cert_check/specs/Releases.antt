@@ -1,5 +1,5 @@
 -- A valid release: a proof file and a released file that are right for rules and records.
-use Rattle.std.specs.Prelude.{◌≡◌, ◌≢◌, ◌⊎◌, ℕ, ◌+◌, ◌==◌, ◌&&◌, nat_le, not, Bool, false, if◌then◌else◌, List, [], ◌∷◌, Option, Some, None, is_none, length}
+use Rattle.std.specs.Prelude.{◌≡◌, ◌⊎◌, ℕ, ◌+◌, ◌==◌, ◌&&◌, nat_le, not, Bool, false, if◌then◌else◌, List, [], ◌∷◌, Option, Some, None, is_none, length}
 use Rattle.std.specs.List.{AllByRecursion, filter}
 use Rattle.edit_model.specs.Parts.{SurveyParts}
 use Rattle.edit_model.specs.declared.value.Value.{Value}
@@ -14,8 +14,9 @@ use Rattle.proof_grammar.specs.FirstFaults.{IsFirstFault}
 use Rattle.proof_grammar.specs.Limits.{IsPlain}
 use Rattle.proof_grammar.specs.ProofLines.{proof_text, row_lines}
 use Rattle.proof_grammar.specs.declared.proof.Proof.{Proof}
+use Rattle.cert_check.specs.Claims.{AreValidClaims, IsClaimsFault}
 use Rattle.cert_check.specs.Dropped.{drop_fault, kept_flags}
-use Rattle.cert_check.specs.Places.{claims_line, records_line}
+use Rattle.cert_check.specs.Places.{records_line}
 use Rattle.cert_check.specs.RowChecks.{IsRowFault, IsValidRow, RowFiles, RowRules}
 use Rattle.cert_check.specs.declared.fault.Why.{Why}
 use Rattle.cert_check.specs.declared.fault.Why.TheVariants as why
@@ -113,14 +114,14 @@ pub record Fits (a : Audit) (p : Proof) : Type 0 where
   pub head : head_fault a p ≡ None
   pub dropped : drop_fault a.survey p ≡ None
 
--- the files are a valid release: the proof fits, the released rows are those that it tells of, what it says of each record is right, and no donor is claimed
+-- the files are a valid release: the proof fits, the released rows are those that it tells of, what it says of each record is right, and so are its claims of donors
 pub record IsValidRelease (a : Audit) : Type 0 where
   pub proof : Proof
   pub fits : Fits a proof
   pub rows : List (List (List ℕ))
   pub released : AreReleased a proof rows
   pub each : AreValidRows (rules_of a proof) proof.rows a.sheet.raws a.sheet.rows rows
-  pub claims : proof.claims ≡ []
+  pub claims : AreValidClaims a.survey a.sheet.rows proof
 
 -- the proof tells of so many released records
 abbrev pub IsReleasedCount : Audit → ℕ → Type 0
@@ -152,4 +153,4 @@ IsFirstFailure a line why.Drop = OfProof a (λ p. (head_fault a p ≡ None) × (
 IsFirstFailure a line why.Cert = IsRecordFault a line why.Cert
 IsFirstFailure a line why.RowText = IsNotReleased a line ⊎ IsRecordFault a line why.RowText
 IsFirstFailure a line why.Claims =
-    OfRows a (λ p rows. AreValidRows (rules_of a p) p.rows a.sheet.raws a.sheet.rows rows × (p.claims ≢ []) × (line ≡ claims_line p))
+    OfRows a (λ p rows. AreValidRows (rules_of a p) p.rows a.sheet.raws a.sheet.rows rows × IsClaimsFault a.survey a.sheet.rows p line)

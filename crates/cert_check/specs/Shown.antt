@@ -14,6 +14,8 @@ use Rattle.bound_cert.specs.declared.outcome.GiftFault.{GiftFault}
 use Rattle.bound_cert.specs.declared.outcome.Outcome.{Outcome}
 use Rattle.bound_cert.specs.declared.outcome.Outcome.TheVariants.{Change, Contradictory}
 use Rattle.bound_cert.specs.declared.outcome.RowProof.{RowProof}
+use Rattle.donor_book.specs.Claims.{uses_of}
+use Rattle.donor_book.specs.Entries.{IsLegalHistory, wins_of}
 use Rattle.cert_check.specs.Dropped.{kept_flags}
 use Rattle.cert_check.specs.Released.{AreValuesFrom, text_at}
 use Rattle.cert_check.specs.Releases.{Audit, AreReleased, Spells, behind, files_of}
@@ -48,7 +50,7 @@ ShowAll survey columns (said ∷ saids) (reads ∷ raws) (row ∷ rows) released
     ShowsSaid survey columns (files_of said reads row released) said.outcome said.gift × ShowAll survey columns saids raws rows (behind said released)
 ShowAll survey columns _ _ _ released = ⊥
 
--- what the files show: each line of the rules follows from those that are kept, the released rows are corrections of least weight, and contradictions are none
+-- what the files show: each line of the rules follows from those that are kept, the released rows are corrections of least weight, contradictions are none, and the claims are a legal history in which no donor is given more often than the limit
 pub record Shows (a : Audit) : Type 0 where
   pub proof : Proof
   pub spelled : Spells a.proof proof
@@ -56,3 +58,5 @@ pub record Shows (a : Audit) : Type 0 where
   pub rows : List (List (List ℕ))
   pub released : AreReleased a proof rows
   pub each : ShowAll a.survey a.sheet.columns proof.rows a.sheet.raws a.sheet.rows rows
+  pub legal : IsLegalHistory proof.limit proof.claims
+  pub within : (donor : ℕ) → uses_of donor (wins_of proof.claims) ≤ proof.limit
