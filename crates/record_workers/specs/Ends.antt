@@ -1,5 +1,5 @@
 -- What becomes of each record.
-use Rattle.std.specs.Prelude.{◌≡◌, ⊤, ℕ, Bool, List, Option, Some, None}
+use Rattle.std.specs.Prelude.{◌≡◌, ⊤, ℕ, Bool, List, Option, Some, None, option_map}
 use Rattle.edit_model.specs.Parts.{SurveyParts}
 use Rattle.edit_model.specs.declared.value.Value.{Value}
 use Rattle.edit_line.specs.EditSets.{EditsParts}
@@ -13,6 +13,7 @@ use Rattle.back_subst.specs.Gifts.{hows_of, path_of}
 use Rattle.back_subst.specs.GiveFaults.{AllHoldAt, StopsAtLine, StopsAtRule}
 use Rattle.back_subst.specs.Given.{IsImputed}
 use Rattle.back_subst.specs.declared.gift.Gift.{Gift}
+use Rattle.donor_search.specs.CleanRows.{row_at}
 use Rattle.edit_report.specs.declared.end.RowEnd.{RowEnd}
 
 -- the fields that the path changes are given values, and it is told how each was found; every rule holds at the record that is given, and no number of its sums leaves the range
@@ -34,17 +35,16 @@ pub record StopsGiving (survey : SurveyParts) (edits : EditsParts) (row : List V
   pub fields : path_of survey.fields changed ≡ path
   pub stops : StopsAt survey edits row changed donor stop
 
--- what follows on an outcome: on a change values, or the fault at which the giving stops; on any other outcome neither
-abbrev pub Follows : SurveyParts → EditsParts → List Value → Outcome → Option GiftFault → Option Gift → Type 0
-Follows survey edits row (Change path weight cert) None (Some gift) = IsGiftOf survey row path None gift
-Follows survey edits row (Change path weight cert) (Some stop) None = StopsGiving survey edits row path None stop
-Follows survey edits row (Change path weight cert) None None = ⊥
-Follows survey edits row (Change path weight cert) (Some stop) (Some gift) = ⊥
-Follows survey edits row outcome None None = ⊤
-Follows survey edits row outcome stop gift = ⊥
+-- what follows on an outcome, with the donor's values if there is one: on a change values, or the fault at which the giving stops; on any other outcome neither
+abbrev pub Follows : SurveyParts → EditsParts → List Value → Option (List Value) → Outcome → Option GiftFault → Option Gift → Type 0
+Follows survey edits row donor (Change path weight cert) None (Some gift) = IsGiftOf survey row path donor gift
+Follows survey edits row donor (Change path weight cert) (Some stop) None = StopsGiving survey edits row path donor stop
+Follows survey edits row donor (Change path weight cert) None None = ⊥
+Follows survey edits row donor (Change path weight cert) (Some stop) (Some gift) = ⊥
+Follows survey edits row donor outcome None None = ⊤
+Follows survey edits row donor outcome stop gift = ⊥
 
--- what becomes of a record, without a donor: the outcome of its search within the budget, and what follows on it
-pub record IsEndOf (survey : SurveyParts) (edits : EditsParts) (budget : ℕ) (row : List Value) (end : RowEnd) : Type 0 where
+-- what becomes of a record among the rows of a sheet: the outcome of its search within the budget, and what follows on it, with the values of its donor
+pub record IsEndOf (survey : SurveyParts) (edits : EditsParts) (budget : ℕ) (rows : List (List Value)) (row : List Value) (end : RowEnd) : Type 0 where
   pub outcome : end.proof.outcome ≡ outcome_of (case_of survey edits row) budget
-  pub alone : end.donor ≡ None
-  pub follows : Follows survey edits row end.proof.outcome end.proof.gift end.gift
+  pub follows : Follows survey edits row (option_map (row_at rows) end.donor) end.proof.outcome end.proof.gift end.gift

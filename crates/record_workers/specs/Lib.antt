@@ -1,3 +1,4 @@
+pub mod Donations
 pub mod Ends
 pub mod Said
 pub mod inner

@@ -22,21 +22,27 @@ use std::marker::Brand;
 use std::sync::Arc;
 use std::sync::ledger::{Blank, Ledger};
 
-/// What becomes of each record of a sheet, in order, without donors: the outcome of its search by the edits within
-/// the budget (the most paths and pairs that may be looked at), and the values of its changed fields. The edits are
-/// over the survey's fields, and they say of a point with codes of these what the rules say.
-pub fn edit_records(
+/// What becomes of each record of a sheet, in order: the outcome of its search by the edits, and the values of its
+/// changed fields, for which it claims a donor among the clean records. The edits are over the survey's fields, and
+/// they say of a point with codes of these what the rules say. The measure is one of the survey, and the numbers of
+/// the records have numerators below 10^21 and denominators of at most 10^6.
+pub fn edit_records<F: Fn(u32, &Value, &Value) -> u64>(
     alloc: Global,
     survey: &Survey,
     edits: Edits,
     sheet: &Sheet,
-    budget: u64,
-) -> Result<Vec<RowEnd>, OutOfMemory>
+    measure: &Measure<F>,
+    terms: Terms,
+) -> Result<Edited, OutOfMemory>
     requires over { edits.shape ≡ shape_of survey.now.fields }
     requires same { (p : Point) → (HasCodesFrom 0 survey.now.fields p × AllHold (map (λ e. e.1) edits.lines) p) ↔ IsConsistent survey.now p }
     requires rows { AllByRecursion (IsRow survey.now.fields) sheet.now.rows }
-    ensures ends { IfOk result (λ ends. AllZip (IsEndOf survey.now edits budget) sheet.now.rows ends.items) }
-    ensures say { IfOk result (λ ends. AllZip (Says survey.now edits budget) sheet.now.rows ends.items) }
+    requires plain { AllByRecursion HasPlain sheet.now.rows }
+    requires measures { Measures F.Fn measure.now.closure measure.now.yardsticks }
+    requires yardsticks { measure.now.yardsticks ≡ yardsticks_of survey.now.fields }
+    ensures ends { IfOk result (λ edited. AllZip (IsEndOf survey.now edits terms.budget sheet.now.rows) sheet.now.rows edited.ends.items) }
+    ensures say { IfOk result (λ edited. AllZip (Says survey.now edits terms.budget) sheet.now.rows edited.ends.items) }
+    ensures donations { IfOk result (λ edited. AreDonations survey.now sheet.now.rows terms edited.ends.items edited.history.items) }
 {
     ends_of::<Brand>(alloc, survey, edits, sheet, budget, Blank::new(1))
 }

@@ -1,0 +1,10 @@
+/// On what terms records are edited.
+#[derive(Clone, Copy, Debug, PartialEq, Eq)]
+pub struct Terms {
+    /// The most work of the search in one record: the paths and pairs that may be looked at.
+    pub budget: u64,
+    /// How often a donor is given at most.
+    pub limit: u32,
+    /// How many donors a record ranks at most.
+    pub near: u32,
+}
