@@ -8,7 +8,7 @@ use Rattle.cert_check.specs.Shown.{Shows}
 use Rattle.cert_check.specs.declared.fault.CheckFault.{CheckFault}
 use Rattle.cert_check.specs.declared.fault.CheckFault.TheVariants as check
 use Rattle.cert_check.specs.declared.fault.Why.{Why}
-use Rattle.edit_program.specs.Asked.{CheckAsked}
+use Rattle.command_words.specs.Asked.{CheckAsked}
 use Rattle.edit_program.specs.CheckRun.{valid_text}
 use Rattle.edit_program.specs.Faults.{IsOfCheck, check_fault, fault_status}
 use Rattle.edit_program.specs.Readings.{AnswersDue, HoldsBytes, HoldsRecords, HoldsRelease, HoldsRules, IsCheckDue, IsTooLong, RefusesCheck, most_bytes, most_proof_bytes}

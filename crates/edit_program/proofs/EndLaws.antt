@@ -9,7 +9,7 @@ use Rattle.edit_release.specs.Edits.{Written}
 use Rattle.edit_release.specs.Releases.{AllGiven, IsReleaseOf, written_in}
 use Rattle.edit_release.specs.declared.release.Release.{Release}
 use Rattle.edit_desk.specs.Desk.{Files, raised}
-use Rattle.edit_program.specs.Asked.{EditAsked}
+use Rattle.command_words.specs.Asked.{EditAsked}
 use Rattle.edit_program.specs.EditRun.{IsMade, Leaves, edit_files}
 use Rattle.edit_program.specs.Edits.{HasReleased, IsStatusOf}
 use Rattle.edit_program.specs.Faults.{fault_status}

@@ -7,7 +7,7 @@ use Rattle.record_text.specs.Sheets.{IsSheet, SheetParts}
 use Rattle.record_text.proofs.SheetLaws.{only_by_sheet}
 use Rattle.edit_desk.specs.Desk.{Files, IsLonger}
 use Rattle.cert_check.specs.Releases.{Audit, audit_of}
-use Rattle.edit_program.specs.Asked.{CheckAsked}
+use Rattle.command_words.specs.Asked.{CheckAsked}
 use Rattle.edit_program.specs.Readings.{HoldsBytes, HoldsRecords, HoldsRelease, HoldsRules, HoldsText, HoldsWithin}
 
 -- there is one list of bytes under a name

@@ -1,11 +1,9 @@
-pub mod AskedLaws
 pub mod AuditLaws
 pub mod CallLaws
 pub mod EndLaws
 pub mod FieldFaults
 pub mod HeldLaws
 pub mod InputLaws
-mod PairLaws
 pub mod ReadingLaws
 pub mod RulesLaws
 pub mod RunLaws

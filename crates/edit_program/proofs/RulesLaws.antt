@@ -2,7 +2,7 @@
 use Rattle.std.proofs.Common.{◌≡◌, ℕ, List, Option, IfSome, inl, inr, refl, subst}
 use Rattle.edit_model.specs.Parts.{SurveyParts}
 use Rattle.edit_desk.specs.Desk.{Files, IsLonger}
-use Rattle.edit_program.specs.Asked.{RulesAsked}
+use Rattle.command_words.specs.Asked.{RulesAsked}
 use Rattle.edit_program.specs.Faults.{IsOfRulesCommand, fault_status}
 use Rattle.edit_program.specs.Readings.{AnswersDue, HoldsRules, IsRulesDue, RefusesRulesCommand, most_bytes}
 use Rattle.edit_program.specs.inner.Parts.{IsOfRules, RefusesRules}

@@ -3,7 +3,7 @@ use Rattle.std.proofs.Common.{◌≡◌, ◌∙◌, ℕ, List, [], ◌∷◌, If
 use Rattle.edit_desk.specs.Desk.{PutsOnRecord, Told}
 use Rattle.edit_release.specs.Releases.{written_in}
 use Rattle.edit_release.specs.declared.release.Release.{Release}
-use Rattle.edit_program.specs.Asked.{CheckAsked, EditAsked, RulesAsked}
+use Rattle.command_words.specs.Asked.{CheckAsked, EditAsked, RulesAsked}
 use Rattle.edit_program.specs.CheckRun.{IsCheckComplete, IsCheckStopped, IsChecked, IsRead, check_calls}
 use Rattle.edit_program.specs.EditRun.{AreWritten, IsEditComplete, IsEditStopped, IsEdited, IsMade, IsStored, edit_calls}
 use Rattle.edit_program.specs.Edits.{HasReleased}

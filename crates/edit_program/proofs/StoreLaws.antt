@@ -2,9 +2,9 @@
 use Rattle.std.proofs.Common.{◌≡◌, ◌∙◌, ℕ, suc, List, [], ◌∷◌, ◌++◌, Option, Result, Ok, Err, IfErr, ap, append_assoc, refl, subst, sym, take}
 use Rattle.edit_desk.specs.Desk.{Files, SameElsewhere, Told}
 use Rattle.edit_release.specs.Edits.{Written}
-use Rattle.edit_program.specs.Asked.{EditAsked, names_in}
+use Rattle.command_words.specs.Asked.{EditAsked, names_in}
 use Rattle.edit_program.specs.EditRun.{AreWritten, edit_files}
-use Rattle.edit_program.specs.Options.{AreApart}
+use Rattle.command_words.specs.Options.{AreApart}
 use Rattle.edit_program.specs.Run.{AreStored, IsCutOff, LeavesOf}
 use Rattle.edit_program.specs.inner.Parts.{IsOfStores, StoresOf}
 use Rattle.edit_program.specs.declared.fault.Fault.{Fault}

@@ -3,7 +3,7 @@ use Rattle.std.specs.Prelude.{◌≡◌, ◌⊎◌, ℕ, List, [], ◌∷◌, �
 use Rattle.edit_desk.specs.Desk.{Asked, Files, PutsOnRecord, Told, fetched}
 use Rattle.cert_check.specs.Releases.{Audit, IsReleasedCount, IsValidRelease}
 use Rattle.cert_check.specs.Shown.{Shows}
-use Rattle.edit_program.specs.Asked.{CheckAsked}
+use Rattle.command_words.specs.Asked.{CheckAsked}
 use Rattle.edit_program.specs.Faults.{IsOfCheck}
 use Rattle.edit_program.specs.Readings.{HoldsRelease, RefusesCheck}
 use Rattle.edit_program.specs.Run.{AreTold, AreUntold, IsFaultless, IsRefused, LeavesAll, Seen}

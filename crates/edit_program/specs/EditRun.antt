@@ -4,8 +4,8 @@ use Rattle.edit_desk.specs.Desk.{Asked, Files, PutsOnRecord, Told, fetched, stor
 use Rattle.edit_model.specs.Parts.{SurveyParts}
 use Rattle.record_text.specs.Sheets.{SheetParts}
 use Rattle.edit_release.specs.Edits.{Written}
-use Rattle.edit_program.specs.Asked.{EditAsked}
-use Rattle.edit_program.specs.Edits.{HasReleased, IsEditWith}
+use Rattle.command_words.specs.Asked.{EditAsked}
+use Rattle.edit_program.specs.Edits.{HasReleased, IsEditWith, terms_of}
 use Rattle.edit_program.specs.Faults.{IsOfEdit}
 use Rattle.edit_program.specs.Readings.{HoldsRecords, HoldsRules, Refuses}
 use Rattle.edit_program.specs.Run.{AreTold, AreUntold, IsFaultless, IsRefused, LeavesOf, Seen}
@@ -30,7 +30,7 @@ pub record IsMade (asked : EditAsked) (answer : Status) (files : Files) (written
   pub sheet : SheetParts
   pub rules : HoldsRules files asked.names.rules survey
   pub records : HoldsRecords files asked.names.records survey.fields sheet
-  pub edit : IsEditWith survey sheet asked.budget answer written
+  pub edit : IsEditWith survey sheet (terms_of asked) answer written
 
 -- the three files of an edit stand there, and every other one is as it was
 pub record AreWritten (asked : EditAsked) (written : Written) (before after : Files) : Type 0 where
@@ -52,18 +52,18 @@ pub record IsStored (asked : EditAsked) (answer : Status) (written : Written) (b
   pub calls : PutsOnRecord before.calls after.calls (λ calls. calls ≡ edit_calls asked)
   pub faultless : after.faults ≡ before.faults
 
--- a whole edit: the three files were stored, and the summary was printed
+-- a whole edit: the three files were stored, and the two lines of the summary were printed
 pub record IsEdited (asked : EditAsked) (answer : Status) (before after : Seen) : Type 0 where
   pub written : Written
   pub stored : IsStored asked answer written before after
-  pub told : AreTold (written.summary ∷ []) before after
+  pub told : AreTold written.summary before after
 
 -- an edit whose summary was not printed whole
 pub record IsEditUntold (asked : EditAsked) (before after : Seen) : Type 0 where
   pub answer : Status
   pub written : Written
   pub stored : IsStored asked answer written before after
-  pub untold : AreUntold (written.summary ∷ []) before after
+  pub untold : AreUntold written.summary before after
 
 -- an edit that did not do all: it is refused for a fault, or its summary was not printed
 abbrev pub IsEditStopped : EditAsked → Status → Seen → Seen → Type 0

@@ -1,7 +1,10 @@
 -- How an edit ends.
-use Rattle.std.specs.Prelude.{◌≡◌, ◌⊎◌, ℕ, List}
+use Rattle.std.specs.Prelude.{◌≡◌, ◌⊎◌, List}
 use Rattle.edit_model.specs.Parts.{SurveyParts}
+use Rattle.command_words.specs.Asked.{EditAsked}
+use Rattle.donor_book.specs.declared.claim.Entry.{Entry}
 use Rattle.record_text.specs.Sheets.{SheetParts}
+use Rattle.record_workers.specs.declared.terms.Terms.{Terms}
 use Rattle.edit_report.specs.declared.end.RowEnd.{RowEnd}
 use Rattle.edit_release.specs.Edits.{IsEditOf, Written}
 use Rattle.edit_release.specs.Releases.{AllGiven}
@@ -12,11 +15,16 @@ use Rattle.edit_program.specs.declared.status.Status.TheVariants.{Done, SomeUnre
 abbrev pub IsStatusOf : List RowEnd → Status → Type 0
 IsStatusOf ends answer = ((answer ≡ Done) × AllGiven ends) ⊎ ((answer ≡ SomeUnresolved) × ¬ AllGiven ends)
 
--- the edit of a sheet within a budget, which ends so, and what it writes and prints
-pub record IsEditWith (survey : SurveyParts) (sheet : SheetParts) (budget : ℕ) (answer : Status) (written : Written) : Type 0 where
+-- the edit of a sheet on these terms, which ends so, and what it writes and prints
+pub record IsEditWith (survey : SurveyParts) (sheet : SheetParts) (terms : Terms) (answer : Status) (written : Written) : Type 0 where
   pub ends : List RowEnd
-  pub edit : IsEditOf survey sheet budget ends written
+  pub history : List Entry
+  pub edit : IsEditOf survey sheet terms ends history written
   pub ended : IsStatusOf ends answer
+
+-- the terms that an edit is asked for
+abbrev pub terms_of : EditAsked → Terms
+terms_of asked = record { budget = asked.budget; limit = asked.limit; near = asked.near }
 
 -- the statuses of an edit that did all of this
 abbrev pub HasReleased : Status → Type 0

@@ -1,10 +1,8 @@
-pub mod Asked
 pub mod CheckRun
 pub mod EditRun
 pub mod Edits
 pub mod Faults
 pub mod Laws
-pub mod Options
 pub mod Readings
 pub mod RulesRun
 pub mod Run

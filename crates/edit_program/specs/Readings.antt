@@ -8,7 +8,7 @@ use Rattle.edit_model.specs.declared.field.Field.{Field}
 use Rattle.record_text.specs.Sheets.{IsSheet, IsSheetFault, SheetParts}
 use Rattle.record_text.specs.declared.fault.SheetFault.{SheetFault}
 use Rattle.cert_check.specs.Releases.{Audit, IsFirstFailure, IsValidRelease}
-use Rattle.edit_program.specs.Asked.{CheckAsked, EditAsked, RulesAsked}
+use Rattle.command_words.specs.Asked.{CheckAsked, EditAsked, RulesAsked}
 use Rattle.edit_program.specs.Faults.{sheet_fault}
 use Rattle.edit_program.specs.declared.fault.Fault.{Fault}
 use Rattle.edit_program.specs.declared.fault.Fault.TheVariants as fault

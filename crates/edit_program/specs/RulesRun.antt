@@ -15,7 +15,7 @@ use Rattle.redundancy.specs.declared.verdict.Why.TheVariants.{Needed}
 use Rattle.pruned_rules.specs.Pruned.{rule_verdicts}
 use Rattle.rule_report.specs.Reports.{texts_from}
 use Rattle.edit_release.specs.Edits.{DroppedFollow}
-use Rattle.edit_program.specs.Asked.{RulesAsked}
+use Rattle.command_words.specs.Asked.{RulesAsked}
 use Rattle.edit_program.specs.Faults.{IsOfRulesCommand}
 use Rattle.edit_program.specs.Readings.{HoldsRules, RefusesRulesCommand}
 use Rattle.edit_program.specs.Run.{AreTold, AreUntold, IsFaultless, IsRefused, LeavesAll, Seen}

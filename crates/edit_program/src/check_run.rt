@@ -9,7 +9,7 @@ ghost use Rattle.edit_program.specs.declared.fault.Fault.TheVariants as faults;
 ghost use Rattle.edit_program.specs.inner.CheckParts.{Accepts};
 ghost use Rattle.edit_program.specs.inner.Parts.{AreCallsOf, done_end, faults_after};
 
-use crate::check_asked::CheckWords;
+use command_words::CheckWords;
 use crate::fault::Fault;
 use crate::reading::{fetch_proof, fetch_released, fetch_sheet, fetch_survey};
 use crate::refusal::Refusal;

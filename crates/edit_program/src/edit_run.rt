@@ -1,20 +1,25 @@
 //! A run of `edit`.
-ghost use Rattle.std.specs.Prelude.{◌≡◌, ◌≢◌, IfErr, IfSome};
+ghost use Rattle.std.specs.Prelude.{◌≡◌, ◌≢◌, ℕ, List, IfErr, IfOk, IfSome};
+ghost use Rattle.std.specs.List.{AllByRecursion};
 ghost use Rattle.edit_desk.specs.Desk.{PutsOnRecord, Told};
+ghost use Rattle.edit_model.specs.PlainNumbers.{HasPlain};
 ghost use Rattle.edit_program.specs.EditRun.{IsEditComplete, IsEditStopped, IsEdited, edit_calls};
-ghost use Rattle.edit_program.specs.Edits.{HasReleased};
+ghost use Rattle.edit_program.specs.Edits.{HasReleased, terms_of};
 ghost use Rattle.edit_program.specs.Faults.{IsOfEdit};
 ghost use Rattle.edit_program.specs.Readings.{AnswersDue, IsDue, Refuses};
 ghost use Rattle.edit_program.specs.Run.{seen};
 ghost use Rattle.edit_program.specs.inner.EditParts.{EditEnds, edit_end, edit_status};
 ghost use Rattle.edit_program.specs.inner.Parts.{AreCallsOf, faults_after};
+ghost use Rattle.edit_release.specs.Releases.{IsReleaseOf};
+ghost use Rattle.record_text.specs.Sheets.{IsSheet};
+ghost use Rattle.record_workers.specs.Donations.{AreTerms};
 
-use crate::edit_asked::EditWords;
+use command_words::EditWords;
 use crate::reading::{fetch_sheet, fetch_survey};
 use crate::refusal::Refusal;
 use crate::status::Status;
 use crate::storing::store_release;
-use crate::telling::{refuse, tell};
+use crate::telling::{refuse, tell_all};
 use edit_desk::{Desk, Printer};
 use edit_release::{Release, edit_sheet};
 use std::alloc::Global;
@@ -39,7 +44,7 @@ pub(crate) fn run_edit<D: Desk, P: Printer>(
     ensures due { IfSome (D.files desk.old) (λ files. AnswersDue (IsDue asked.now files) result) }
 {
     match edit(alloc, asked, desk) {
-        Ok(release) => tell(printer, &release.summary, status_of(&release)),
+        Ok(release) => tell_all(printer, &release.summary, status_of(&release)),
         Err(refusal) => refuse(printer, refusal.line(), refusal.status()),
     }
 }
@@ -70,9 +75,39 @@ fn edit<'a, D: Desk>(
 {
     let survey = fetch_survey(alloc, asked.rules, desk)?;
     let sheet = fetch_sheet(alloc, asked.records, &survey, desk)?;
-    let Ok(release) = edit_sheet(alloc, &survey, &sheet, asked.budget) else {
+    let Ok(release) = release_of(alloc, &survey, &sheet, terms_of(asked)) else {
         return Err(Refusal::out_of_memory());
     };
     store_release(alloc, asked, &release, desk)?;
     Ok(release)
+}
+
+// On what terms the records are edited.
+fn terms_of(asked: &EditWords) -> Terms
+    ensures terms { result ≡ terms_of asked.now }
+    ensures are { AreTerms result }
+{
+    Terms {
+        budget: asked.budget,
+        limit: asked.limit,
+        near: asked.near,
+    }
+}
+
+// What the edit of the sheet releases. How far records are apart is told by the distances of their fields' values.
+fn release_of(
+    alloc: Global,
+    survey: &Survey,
+    sheet: &Sheet,
+    terms: Terms,
+) -> Result<Release, OutOfMemory>
+    requires read { (bytes : List ℕ) × IsSheet survey.now.fields bytes sheet.now }
+    requires plain { AllByRecursion HasPlain sheet.now.rows }
+    requires terms { AreTerms terms }
+    ensures edit { IfOk result (IsReleaseOf survey.now sheet.now terms) }
+{
+    let measure = Measure::new(survey, |field: u32, first: &Value, second: &Value| {
+        field_distance(survey, field, first, second)
+    });
+    edit_sheet(alloc, survey, sheet, &measure, terms)
 }

@@ -2,16 +2,12 @@
 //! checks what was released of them, or says which rules follow from the others. Begin with [`run::fh_main`].
 #![tactic(auto)]
 
-mod check_asked;
 mod check_run;
-mod edit_asked;
 mod edit_run;
 mod fault;
 pub mod laws;
-mod options;
 mod reading;
 mod refusal;
-mod rules_asked;
 mod rules_run;
 pub mod run;
 pub mod status;

@@ -1,6 +1,8 @@
 //! The files of a run as they are fetched and read.
 ghost use Rattle.std.specs.Prelude.{◌≡◌, ◌≤◌, ◌∷◌, [], ℕ, List, IfErr, IfOk, IfSome, length};
+ghost use Rattle.std.specs.List.{AllByRecursion};
 ghost use Rattle.edit_desk.specs.Desk.{PutsOnRecord, fetched};
+ghost use Rattle.edit_model.specs.PlainNumbers.{HasPlain};
 ghost use Rattle.edit_model.specs.Surveys.{IsWellFormed};
 ghost use Rattle.edit_program.specs.Readings.{HoldsBytes, HoldsRecords, HoldsRules, most_bytes, most_proof_bytes};
 ghost use Rattle.edit_program.specs.declared.fault.Fault.TheVariants as faults;
@@ -52,6 +54,7 @@ pub(crate) fn fetch_sheet<'a, D: Desk>(
 ) -> Result<Sheet, Refusal<'a>>
     ensures read { IfOk result (λ sheet. IfSome (D.files desk.old) (λ files. HoldsRecords files name.now survey.now.fields sheet)) }
     ensures sheet { IfOk result (λ sheet. (bytes : List ℕ) × IsSheet survey.now.fields bytes sheet) }
+    ensures plain { IfOk result (λ sheet. AllByRecursion HasPlain sheet.rows) }
     ensures kind { IfErr result (IsOfRecords name.now) }
     ensures cause { IfErr result (λ fault. IfSome (D.files desk.old) (λ files. RefusesRecords name.now survey.now.fields files fault)) }
     ensures asked { PutsOnRecord (D.calls desk.old) (D.calls desk.new) (AreCallsOf (fetched name.now ∷ []) result) }

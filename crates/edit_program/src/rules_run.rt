@@ -10,7 +10,7 @@ ghost use Rattle.edit_program.specs.inner.Parts.{AreCallsOf, done_end, faults_af
 
 use crate::reading::fetch_survey;
 use crate::refusal::Refusal;
-use crate::rules_asked::RulesWords;
+use command_words::RulesWords;
 use crate::status::Status;
 use crate::telling::{refuse, tell_all};
 use edit_desk::{Desk, Printer};

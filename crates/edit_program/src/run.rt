@@ -1,5 +1,5 @@
 ghost use Rattle.std.specs.Prelude.{◌≡◌, ◌≢◌, ◌↔◌, IfSome};
-ghost use Rattle.edit_program.specs.Asked.{ForCheck, ForEdit, ForRules, IsNoCommand};
+ghost use Rattle.command_words.specs.Asked.{ForCheck, ForEdit, ForRules, IsNoCommand};
 ghost use Rattle.edit_program.specs.CheckRun.{IsCheckComplete, IsCheckStopped, IsChecked};
 ghost use Rattle.edit_program.specs.EditRun.{IsEditComplete, IsEditStopped, IsEdited};
 ghost use Rattle.edit_program.specs.Edits.{HasReleased};
@@ -7,15 +7,13 @@ ghost use Rattle.edit_program.specs.Readings.{AnswersDue, IsCheckDue, IsDue, IsR
 ghost use Rattle.edit_program.specs.RulesRun.{IsRuled, IsRulesComplete, IsRulesStopped};
 ghost use Rattle.edit_program.specs.Run.{IsUsage, seen};
 
-use crate::check_asked::check_asked;
 use crate::check_run::run_check;
-use crate::edit_asked::edit_asked;
 use crate::edit_run::run_edit;
 use crate::fault::USAGE;
-use crate::rules_asked::rules_asked;
 use crate::rules_run::run_rules;
 use crate::status::Status;
 use crate::telling::refuse;
+use command_words::{check_asked, edit_asked, rules_asked};
 use edit_desk::{Desk, Printer};
 use std::alloc::Global;
 

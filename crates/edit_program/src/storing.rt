@@ -5,7 +5,7 @@ ghost use Rattle.edit_program.specs.EditRun.{edit_files};
 ghost use Rattle.edit_program.specs.inner.Parts.{AreCallsOf, IsOfStores, StoresOf, faults_after, store_calls};
 ghost use Rattle.edit_release.specs.Releases.{written_in};
 
-use crate::edit_asked::EditWords;
+use command_words::EditWords;
 use crate::fault::{Fault, FileName};
 use crate::refusal::Refusal;
 use edit_desk::{Desk, StoreError};

@@ -19,10 +19,13 @@ use Rattle.proof_grammar.specs.declared.proof.Proof.{Proof}
 use Rattle.cert_check.specs.Releases.{IsValidRelease, audit_of}
 use Rattle.edit_report.specs.Reasons.{reasons_text_of}
 use Rattle.edit_report.specs.Released.{released_text_of}
-use Rattle.edit_report.specs.Summaries.{summary_of}
+use Rattle.edit_report.specs.Summaries.{summary_lines}
 use Rattle.edit_report.specs.declared.end.RowEnd.{RowEnd}
+use Rattle.donor_book.specs.declared.claim.Entry.{Entry}
+use Rattle.record_workers.specs.Donations.{AreDonations}
 use Rattle.record_workers.specs.Ends.{IsEndOf}
 use Rattle.record_workers.specs.Said.{Says}
+use Rattle.record_workers.specs.declared.terms.Terms.{Terms}
 use Rattle.redundancy.specs.Verdicts.{kept_lines}
 use Rattle.redundancy.specs.declared.verdict.Verdict.{Verdict}
 use Rattle.redundancy.specs.declared.verdict.Verdict.TheVariants.{Dropped, Kept}
@@ -44,10 +47,10 @@ abbrev pub refutation_by : Verdict → Option (List Step)
 refutation_by (Kept why) = None
 refutation_by (Dropped steps) = Some steps
 
--- the proof of an edit: no donor is given more than once, and none is claimed
-abbrev pub proof_of : SurveyParts → ℕ → List RowEnd → Proof
-proof_of survey budget ends =
-    record { limit = 1; near = 5; budget = budget; verdicts = map refutation_by (rule_verdicts survey); rows = map said ends; claims = [] }
+-- the proof of an edit on these terms
+abbrev pub proof_of : SurveyParts → Terms → List RowEnd → List Entry → Proof
+proof_of survey terms ends history =
+    record { limit = terms.limit; near = terms.near; budget = terms.budget; verdicts = map refutation_by (rule_verdicts survey); rows = map said ends; claims = history }
 
 -- ---- proof trees
 
@@ -66,25 +69,26 @@ IsShown survey row end = HasTree survey row end.proof.outcome
 
 -- ---- the edit
 
--- what an edit writes and prints: the proof, the reasons file, the released file, and the summary line
+-- what an edit writes and prints: the proof, the reasons file, the released file, and the summary lines
 pub record Written : Type 0 where
   pub proof : List ℕ
   pub reasons : List ℕ
   pub released : List ℕ
-  pub summary : List ℕ
+  pub summary : List (List ℕ)
 
 -- each line of the rules that is dropped follows from those that are kept
 abbrev pub DroppedFollow : SurveyParts → Type 0
 DroppedFollow survey = (line : LineParts) → IsIn line (normal_lines_of survey) → Follows (kept_lines (normal_lines_of survey) (rule_verdicts survey)) line
 
--- the edit of a sheet within a budget: each dropped line of the rules follows from the kept ones; what becomes of each record, what this says of it in terms of corrections, and the tree that shows it; what is written and printed of all; and that the files are a valid release
-pub record IsEditOf (survey : SurveyParts) (sheet : SheetParts) (budget : ℕ) (ends : List RowEnd) (written : Written) : Type 0 where
+-- the edit of a sheet on these terms: each dropped line of the rules follows from the kept ones; what becomes of each record, what this says of it in terms of corrections, and the tree that shows it; the claims of donors; what is written and printed of all; and that the files are a valid release
+pub record IsEditOf (survey : SurveyParts) (sheet : SheetParts) (terms : Terms) (ends : List RowEnd) (history : List Entry) (written : Written) : Type 0 where
   pub dropped : DroppedFollow survey
-  pub each : AllZip (IsEndOf survey (kept_edits survey) budget) sheet.rows ends
-  pub say : AllZip (Says survey (kept_edits survey) budget) sheet.rows ends
+  pub each : AllZip (IsEndOf survey (kept_edits survey) terms.budget sheet.rows) sheet.rows ends
+  pub say : AllZip (Says survey (kept_edits survey) terms.budget) sheet.rows ends
   pub shown : AllZip (IsShown survey) sheet.rows ends
-  pub proof : written.proof ≡ proof_text (proof_of survey budget ends)
+  pub donations : AreDonations survey sheet.rows terms ends history
+  pub proof : written.proof ≡ proof_text (proof_of survey terms ends history)
   pub reasons : written.reasons ≡ reasons_text_of survey sheet ends
   pub released : written.released ≡ released_text_of survey sheet ends
-  pub summary : written.summary ≡ summary_of survey ends
+  pub summary : written.summary ≡ summary_lines survey ends history
   pub valid : IsValidRelease (audit_of survey sheet written.released written.proof)

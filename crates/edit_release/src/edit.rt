@@ -1,41 +1,52 @@
-ghost use Rattle.std.specs.Prelude.{◌↔◌, ◌≤◌, ℕ, List, IfOk, IsTrue};
+ghost use Rattle.std.specs.Prelude.{◌≡◌, ◌↔◌, ℕ, List, IfOk, IsTrue};
+ghost use Rattle.std.specs.List.{AllByRecursion};
+ghost use Rattle.donor_measure.specs.Measures.{Measures};
+ghost use Rattle.donor_measure.specs.Yardsticks.{yardsticks_of};
+ghost use Rattle.edit_model.specs.PlainNumbers.{HasPlain};
 ghost use Rattle.record_text.specs.Sheets.{IsSheet};
+ghost use Rattle.record_workers.specs.Donations.{AreTerms};
 ghost use Rattle.edit_release.specs.Releases.{AllGiven, IsReleaseOf};
 
 use crate::proof::proof_of;
 use crate::release::Release;
-use edit_model::Survey;
+use donor_measure::Measure;
+use edit_model::{Survey, Value};
 use edit_report::{RowEnd, reasons_text, released_text, summary_text};
 use foundation::OutOfMemory;
 use proof_text::write_proof;
 use pruned_rules::prune_rules;
 use record_text::Sheet;
-use record_workers::edit_records;
+use record_workers::{Terms, edit_records};
 use std::alloc::Global;
 
-/// The edit of a sheet of the survey's records within a budget, the most work that may be spent on one record, from 1
-/// to 1,000,000,000. Lines of the rules that follow from the others are dropped first, and the records are searched by
-/// those that are kept.
-pub fn edit_sheet(
+/// The edit of a sheet of the survey's records on these terms: a budget from 1 to 1,000,000,000, a limit from 1 to
+/// 1,000, and 1 to 64 donors that a record ranks. Lines of the rules that follow from the others are dropped first, and
+/// the records are searched by those that are kept. The measure, by which the nearest donors are found, is one of the
+/// survey, and the numbers of the records have numerators below 10^21 and denominators of at most 10^6.
+pub fn edit_sheet<F: Fn(u32, &Value, &Value) -> u64>(
     alloc: Global,
     survey: &Survey,
     sheet: &Sheet,
-    budget: u64,
+    measure: &Measure<F>,
+    terms: Terms,
 ) -> Result<Release, OutOfMemory>
     requires read { (bytes : List ℕ) × IsSheet survey.now.fields bytes sheet.now }
-    requires least { 1 ≤ budget }
-    requires most { budget ≤ 1000000000 }
-    ensures edit { IfOk result (IsReleaseOf survey.now sheet.now budget) }
+    requires plain { AllByRecursion HasPlain sheet.now.rows }
+    requires measures { Measures F.Fn measure.now.closure measure.now.yardsticks }
+    requires yardsticks { measure.now.yardsticks ≡ yardsticks_of survey.now.fields }
+    requires terms { AreTerms terms }
+    ensures edit { IfOk result (IsReleaseOf survey.now sheet.now terms) }
 {
     let _fields = survey.fields(); // read for what it says: the survey is well formed
     let pruned = prune_rules(alloc, survey)?;
     let edits = pruned.kept_edits(alloc, survey)?;
-    let ends = edit_records(alloc, survey, edits, sheet, budget)?;
-    let reasons = reasons_text(alloc, sheet, survey, &ends)?;
-    let released = released_text(alloc, sheet, survey, &ends)?;
-    let summary = summary_text(alloc, survey, &ends)?;
-    let whole = are_given(&ends);
-    let proof = write_proof(alloc, &proof_of(alloc, pruned.verdicts, budget, ends)?)?;
+    let edited = edit_records(alloc, survey, edits, sheet, measure, terms)?;
+    let ends = edited.ends.as_slice();
+    let reasons = reasons_text(alloc, sheet, survey, ends)?;
+    let released = released_text(alloc, sheet, survey, ends)?;
+    let summary = summary_text(alloc, survey, ends, &edited.history)?;
+    let whole = are_given(ends);
+    let proof = write_proof(alloc, &proof_of(alloc, pruned.verdicts, terms, edited)?)?;
     Ok(Release {
         proof,
         reasons,

@@ -1,5 +1,5 @@
 //! What an edit releases of the records of a sheet: the proof, the reasons file, the released file and the summary
-//! line. Begin with [`edit_sheet`]: what it gives is a valid release, as `cert_check` states it.
+//! lines. Begin with [`edit_sheet`]: what it gives is a valid release, as `cert_check` states it.
 #![tactic(auto)]
 
 mod edit;

@@ -10,25 +10,28 @@ use derivation::Step;
 use edit_report::RowEnd;
 use foundation::{OutOfMemory, Sequence};
 use proof_text::Proof;
+use record_workers::{Edited, Terms};
 use redundancy::Verdict;
 use std::alloc::Global;
 
-/// The proof of an edit in which the lines of the rules were dropped so and the records ended so; no donor is claimed.
+/// The proof of an edit on these terms, in which the lines of the rules were dropped so, the records ended so, and
+/// donors were claimed so.
 pub(crate) fn proof_of(
     alloc: Global,
     verdicts: Vec<Verdict>,
-    budget: u64,
-    ends: Vec<RowEnd>,
+    terms: Terms,
+    edited: Edited,
 ) -> Result<Proof, OutOfMemory>
-    ensures { IfOk result (λ proof. (survey : SurveyParts) → verdicts.items ≡ rule_verdicts survey → proof ≡ proof_of survey budget ends.items) }
+    ensures { IfOk result (λ proof. (survey : SurveyParts) → verdicts.items ≡ rule_verdicts survey
+        → proof ≡ proof_of survey terms edited.ends.items edited.history.items) }
 {
     Ok(Proof {
-        limit: 1,
-        near: 5,
-        budget,
+        limit: terms.limit,
+        near: terms.near,
+        budget: terms.budget,
         verdicts: Sequence::from_vec(all_refuted(alloc, verdicts)?),
-        rows: Sequence::from_vec(all_said(alloc, ends)?),
-        claims: Sequence::from_vec(Vec::new(alloc)),
+        rows: Sequence::from_vec(all_said(alloc, edited.ends)?),
+        claims: Sequence::from_vec(edited.history),
     })
 }
 

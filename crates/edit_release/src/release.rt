@@ -1,10 +1,10 @@
-/// What an edit of a sheet gives: the bytes of its three files, its summary line, and whether every record was
+/// What an edit of a sheet gives: the bytes of its three files, its summary lines, and whether every record was
 /// released.
 #[derive(Debug, Drop)]
 pub struct Release {
     pub proof: Vec<u8>,
     pub reasons: Vec<u8>,
     pub released: Vec<u8>,
-    pub summary: Vec<u8>,
+    pub summary: [Vec<u8>; 2],
     pub whole: bool,
 }

@@ -1,10 +1,11 @@
--- The summary line.
-use Rattle.std.specs.Prelude.{ℕ, ◌&&◌, not, Bool, List, ◌++◌, codes, decimal, is_none, is_some, length}
+-- The summary lines.
+use Rattle.std.specs.Prelude.{ℕ, ◌&&◌, not, Bool, List, [], ◌∷◌, ◌++◌, codes, decimal, is_none, is_some, length}
 use Rattle.std.specs.List.{filter, sum_by}
 use Rattle.edit_model.specs.Parts.{SurveyParts}
 use Rattle.edit_model.specs.declared.field.Field.{Field}
 use Rattle.bound_cert.specs.Paths.{path_weight}
 use Rattle.bound_cert.specs.Trees.{all_kept}
+use Rattle.donor_book.specs.declared.claim.Entry.{Entry}
 use Rattle.edit_report.specs.Ends.{path_found}
 use Rattle.edit_report.specs.declared.end.RowEnd.{RowEnd}
 
@@ -32,3 +33,15 @@ summary_of survey ends =
     ++ (codes " changed " ++ (decimal (length (filter is_changed ends))
     ++ (codes " unresolved " ++ (decimal (length (filter is_unresolved ends))
     ++ (codes " weight " ++ decimal (sum_by (weight_of survey.fields) (filter is_changed ends))))))))))
+
+-- a claim that was given a donor
+abbrev pub is_given : Entry → Bool
+is_given entry = is_some entry.reply
+
+-- how many records claimed a donor, and how many of them were given one
+abbrev pub claims_of : List Entry → List ℕ
+claims_of history = codes "claims " ++ (decimal (length history) ++ (codes " given " ++ decimal (length (filter is_given history))))
+
+-- the two lines
+abbrev pub summary_lines : SurveyParts → List RowEnd → List Entry → List (List ℕ)
+summary_lines survey ends history = summary_of survey ends ∷ claims_of history ∷ []

@@ -1,4 +1,4 @@
-//! What a run tells of its records: the released file, the reasons file, and the summary line. Begin with
+//! What a run tells of its records: the released file, the reasons file, and the summary lines. Begin with
 //! [`RowEnd`]; what is asked of ends is in `specs/Ends.antt`, and what is told in `specs/Released.antt`,
 //! `specs/Reasons.antt` and `specs/Summaries.antt`, under the laws of `specs/Laws.antt`.
 #![tactic(auto)]

@@ -1,21 +1,55 @@
-//! The summary line.
-ghost use Rattle.std.specs.Prelude.{◌≡◌, ◌≤◌, IfOk, if◌then◌else◌, length, not};
+//! The summary lines.
+ghost use Rattle.std.specs.Prelude.{◌≡◌, ◌≤◌, IfOk, if◌then◌else◌, length, map, not};
 ghost use Rattle.std.specs.List.{AllByRecursion, filter, sum_by};
 ghost use Rattle.bound_cert.specs.Paths.{path_weight};
 ghost use Rattle.bound_cert.specs.Trees.{all_kept};
 ghost use Rattle.edit_report.specs.Ends.{IsEnd, path_found};
-ghost use Rattle.edit_report.specs.Summaries.{is_changed, is_clean, is_unresolved, summary_of, weight_of};
+ghost use Rattle.edit_report.specs.Summaries.{claims_of, is_changed, is_clean, is_given, is_unresolved, summary_lines, summary_of, weight_of};
 
 use crate::changed::{all_kept, path_found};
 use crate::end::RowEnd;
 use bound_cert::Outcome;
+use donor_book::Entry;
 use edit_model::Survey;
 use foundation::OutOfMemory;
 use std::alloc::Global;
 
-/// How many records there are, how many of them are clean, changed and not resolved, and the sum of the
-/// weights of the changed ones, in one line without a line feed.
-pub fn summary_text(alloc: Global, survey: &Survey, ends: &[RowEnd]) -> Result<Vec<u8>, OutOfMemory>
+/// Two lines without their line feeds: how many records there are, how many of them are clean, changed and not
+/// resolved, and the sum of the weights of the changed ones; and how many claims of donors there are, and how many
+/// of them were given one.
+pub fn summary_text(
+    alloc: Global,
+    survey: &Survey,
+    ends: &[RowEnd],
+    history: &[Entry],
+) -> Result<[Vec<u8>; 2], OutOfMemory>
+    requires { AllByRecursion (IsEnd survey.now.fields) ends.now }
+    ensures { IfOk result (λ lines. map (λ line. line.items) lines ≡ summary_lines survey.now ends.now history.now) }
+{
+    Ok([
+        records_line(alloc, survey, ends)?,
+        claims_line(alloc, history)?,
+    ])
+}
+
+// How many claims there are, and how many of them were given a donor.
+fn claims_line(alloc: Global, history: &[Entry]) -> Result<Vec<u8>, OutOfMemory>
+    ensures { IfOk result (λ text. text.items ≡ claims_of history.now) }
+{
+    let claims = history.len();
+    let given = history.iter().filter(|entry| is_given(entry)).count();
+    Ok(format!(in alloc; "claims {claims} given {given}")?.into_bytes())
+}
+
+// Whether the claim was given a donor. No memory.
+fn is_given(entry: &Entry) -> bool
+    ensures { result ≡ is_given entry.now }
+{
+    entry.reply.is_some()
+}
+
+// How many records there are and how many of each kind, and what the changes weigh together.
+fn records_line(alloc: Global, survey: &Survey, ends: &[RowEnd]) -> Result<Vec<u8>, OutOfMemory>
     requires { AllByRecursion (IsEnd survey.now.fields) ends.now }
     ensures { IfOk result (λ text. text.items ≡ summary_of survey.now ends.now) }
 {

@@ -9,6 +9,7 @@ use crate::changed::{changed_fields, path_found};
 use crate::{RowEnd, reasons_text, released_text, summary_text};
 use back_subst::{Gift, How};
 use bound_cert::{Cert, Event, GiftFault, Outcome, Path, RowProof};
+use donor_book::Entry;
 use edit_line::Place;
 use edit_model::{Field, Kind, Name, Row, Survey, Value};
 use foundation::Sequence;
@@ -52,7 +53,10 @@ const REASONS: &[u8] = b"record,cause,field,before,after,donor,detail
 10,overflow,,,,,giving rule 5
 ";
 
-const SUMMARY: &[u8] = b"records 10 clean 1 changed 2 unresolved 7 weight 10";
+const SUMMARY: [&[u8]; 2] = [
+    b"records 10 clean 1 changed 2 unresolved 7 weight 10",
+    b"claims 4 given 1",
+];
 
 // ---- whether ends are of a sheet
 
@@ -274,6 +278,19 @@ fn push_stopped(alloc: Global, ends: &mut Vec<RowEnd>) -> Result<(), Fail> {
     Ok(())
 }
 
+// The claims of the two records that are given values and of the two at which the giving stops; one is given a donor.
+fn history_of(alloc: Global) -> Result<Vec<Entry>, Fail> {
+    let mut history = Vec::new(alloc);
+    for (row_no, reply) in [(1, Some(0)), (2, None), (8, None), (9, None)] {
+        history.push(Entry {
+            row_no,
+            ranking: Sequence::from_vec(Vec::new(alloc)),
+            reply,
+        })?;
+    }
+    Ok(history)
+}
+
 #[test]
 fn each_kind_of_end_is_told(rt: HostRuntime) -> Result<(), Fail> {
     let alloc = rt.alloc();
@@ -292,6 +309,8 @@ fn each_kind_of_end_is_told(rt: HostRuntime) -> Result<(), Fail> {
         reasons_text(alloc, &sheet, &survey, &ends)?.as_slice(),
         REASONS
     );
-    assert_eq!(rt; summary_text(alloc, &survey, &ends)?.as_slice(), SUMMARY);
+    let [records, claims] = summary_text(alloc, &survey, &ends, &history_of(alloc)?)?;
+    assert_eq!(rt; records.as_slice(), SUMMARY[0]);
+    assert_eq!(rt; claims.as_slice(), SUMMARY[1]);
     Ok(())
 }

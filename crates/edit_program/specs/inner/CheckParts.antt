@@ -1,7 +1,7 @@
 -- What a check finds on the desk.
 use Rattle.std.specs.Prelude.{◌≡◌, ℕ, List, Option, IfSome}
 use Rattle.edit_desk.specs.Desk.{Files}
-use Rattle.edit_program.specs.Asked.{CheckAsked}
+use Rattle.command_words.specs.Asked.{CheckAsked}
 use Rattle.edit_program.specs.CheckRun.{IsAccepted, valid_text}
 
 -- the files are a valid release, where they are told, and the line says of how many records

@@ -3,7 +3,7 @@ use Rattle.std.specs.Prelude.{if◌then◌else◌, Result, Ok, Err}
 use Rattle.edit_desk.specs.Desk.{Files}
 use Rattle.edit_release.specs.Releases.{written_in}
 use Rattle.edit_release.specs.declared.release.Release.{Release}
-use Rattle.edit_program.specs.Asked.{EditAsked}
+use Rattle.command_words.specs.Asked.{EditAsked}
 use Rattle.edit_program.specs.EditRun.{AreWritten, IsMade, Leaves}
 use Rattle.edit_program.specs.Faults.{fault_status}
 use Rattle.edit_program.specs.declared.fault.Fault.{Fault}

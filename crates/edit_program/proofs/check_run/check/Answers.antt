@@ -2,14 +2,14 @@ use Rattle.std.proofs.Common.{◌∙◌, ap, IfErr, IfOk, ◌∷◌, [], ◌++�
 use Rattle.edit_desk.specs.Desk.{Asked, PutsOnRecord, fetched}
 use Rattle.cert_check.specs.Releases.{Audit, audit_of}
 use Rattle.cert_check.specs.declared.fault.CheckFault.{CheckFault}
-use Rattle.edit_program.specs.Asked.{CheckAsked}
+use Rattle.command_words.specs.Asked.{CheckAsked}
 use Rattle.edit_program.specs.CheckRun.{check_calls}
 use Rattle.edit_program.specs.Faults.{fault_status}
 use Rattle.edit_program.specs.Readings.{AnswersDue, IsCheckDue, RefusesCheck}
 use Rattle.edit_program.specs.Run.{AreCallsTo}
 use Rattle.edit_program.specs.inner.CheckParts.{Accepts}
 use Rattle.edit_program.specs.inner.Parts.{AreCallsOf, done_end}
-use Rattle.edit_program.proofs.AskedLaws.{check_of}
+use Rattle.command_words.proofs.AskedLaws.{check_of}
 use Rattle.edit_program.proofs.AuditLaws.{accepted, check-due, check-refuse, input-check-due, memory-kind, memory-refused, proof-due, proof-refuse, released-due, released-refuse, told-held, valid-due}
 use Rattle.edit_program.proofs.CallLaws.{all-calls, memory-calls, memory-faults, told-calls, behind-calls, less-calls, of-fetch, records-calls, rules-calls, then-calls}
 use Rattle.edit_program.proofs.InputLaws.{records-due}

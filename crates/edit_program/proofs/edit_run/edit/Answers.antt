@@ -1,7 +1,7 @@
 use Rattle.std.proofs.Common.{◌≡◌, ◌∷◌, [], ◌++◌, List, IfSome, inl, subst, sym}
 use Rattle.edit_desk.specs.Desk.{Asked, PutsOnRecord, Told, fetched, stored}
 use Rattle.edit_release.specs.Releases.{written_in}
-use Rattle.edit_program.specs.Asked.{EditAsked}
+use Rattle.command_words.specs.Asked.{EditAsked}
 use Rattle.edit_program.specs.EditRun.{AreWritten, IsMade, Leaves, edit_calls, edit_files}
 use Rattle.edit_program.specs.Faults.{fault_status}
 use Rattle.edit_program.specs.Readings.{AnswersDue, IsDue, Refuses}
@@ -9,7 +9,7 @@ use Rattle.edit_program.specs.Run.{AreCallsTo}
 use Rattle.edit_program.specs.declared.fault.Fault.TheVariants as fault
 use Rattle.edit_program.specs.inner.EditParts.{edit_status}
 use Rattle.edit_program.specs.inner.Parts.{store_calls}
-use Rattle.edit_program.proofs.AskedLaws.{edit_of}
+use Rattle.command_words.proofs.AskedLaws.{edit_of}
 use Rattle.edit_program.proofs.CallLaws.{all-calls, behind-calls, less-calls, of-stores, records-calls, rules-calls, then-calls}
 use Rattle.edit_program.proofs.EndLaws.{made, stores-leave}
 use Rattle.edit_program.proofs.InputLaws.{read-due, records-due, stores-refuse}

@@ -1,12 +1,12 @@
 use Rattle.std.proofs.Common.{IfSome, subst}
 use Rattle.edit_desk.specs.Desk.{PutsOnRecord}
-use Rattle.edit_program.specs.Asked.{RulesAsked}
+use Rattle.command_words.specs.Asked.{RulesAsked}
 use Rattle.edit_program.specs.Readings.{AnswersDue, IsRulesDue}
 use Rattle.edit_program.specs.Run.{AreCallsTo}
 use Rattle.edit_program.specs.RulesRun.{rules_calls}
 use Rattle.edit_program.specs.declared.fault.Fault.TheVariants as fault
 use Rattle.edit_program.specs.declared.status.Status.TheVariants as status
-use Rattle.edit_program.proofs.AskedLaws.{rules_of}
+use Rattle.command_words.proofs.AskedLaws.{rules_of}
 use Rattle.edit_program.proofs.CallLaws.{less-calls}
 use Rattle.edit_program.proofs.RulesLaws.{read-rules-due}
 use Rattle.edit_program.proofs.ToldLaws.{each-told}

@@ -1,7 +1,7 @@
 use Rattle.std.proofs.Common.{◌∷◌, [], ◌++◌, List, Err, Result, subst}
 use Rattle.edit_desk.specs.Desk.{Asked, PutsOnRecord, stored}
 use Rattle.edit_release.specs.Releases.{written_in}
-use Rattle.edit_program.specs.Asked.{EditAsked}
+use Rattle.command_words.specs.Asked.{EditAsked}
 use Rattle.edit_program.specs.EditRun.{edit_files}
 use Rattle.edit_program.specs.Run.{AreCallsTo}
 use Rattle.edit_program.specs.inner.Parts.{store_calls}

@@ -1,0 +1,130 @@
+-- Words ask for one command at most.
+use Rattle.std.proofs.Common.{◌≡◌, ◌∙◌, ◌/◌, ◌%◌, ◌≤◌, ℕ, Bool, true, false, not, Option, Some, None, refl, List, [], ◌∷◌, String, Global, ap, arith, length, map, string_bytes, subst, sym}
+use Rattle.std.proofs.lemmas.List.{length-map}
+use Rattle.std.specs.Prelude.{codes, IfNone, IfSome}
+use Rattle.command_words.specs.Asked.{CheckAsked, EditAsked, GiveCheck, GiveEdit, GiveRules, IsCheck, IsEdit, IsRules, RulesAsked}
+use Rattle.command_words.specs.Options.{GivesNumber, Pairs, words_of}
+use Rattle.command_words.specs.inner.Pairs.{pairs_of}
+use Rattle.command_words.proofs.PairLaws.{pairs_back, words_back, words_long}
+
+-- ---- what pairs give
+
+one_number : (default least most : ℕ) (values : List (List ℕ)) (m n : ℕ) → GivesNumber default least most values m → GivesNumber default least most values n → m ≡ n
+one_number default least most [] m n p q = p ∙ sym q
+one_number default least most (text ∷ []) m n p q = p.0.2 ∙ sym q.0.2
+one_number default least most (text ∷ second ∷ more) m n p q = absurd p
+
+-- the number of an option is between the least and the most, where the default is
+pub between : (default least most : ℕ) (values : List (List ℕ)) (n : ℕ) → least ≤ default → default ≤ most → GivesNumber default least most values n → (least ≤ n) × (n ≤ most)
+between default least most [] n low high given = rw given (low, high)
+between default least most (text ∷ []) n low high given = (given.1, given.2)
+between default least most (text ∷ second ∷ more) n low high given = absurd given
+
+one_value : (values : List (List ℕ)) (a b : List ℕ) → values ≡ a ∷ [] → values ≡ b ∷ [] → a ≡ b
+one_value values a b p q = cc
+
+-- an edit of these files
+abbrev pub edit_of : List ℕ → List ℕ → List ℕ → List ℕ → List ℕ → ℕ → EditAsked
+edit_of r c d s p n = record { names = record { rules = r; records = c; released = d; reasons = s; proof = p }; budget = n }
+
+same_edit : (r c d s p r' c' d' s' p' : List ℕ) (n n' : ℕ) → r ≡ r' → c ≡ c' → d ≡ d' → s ≡ s' → p ≡ p' → n ≡ n' → edit_of r c d s p n ≡ edit_of r' c' d' s' p' n'
+same_edit r c d s p r' c' d' s' p' n n' er ec ed es ep en = cc
+
+-- pairs give one edit at most
+pub one_edit : (pairs : Pairs) (a b : EditAsked) → GiveEdit pairs a → GiveEdit pairs b → a ≡ b
+one_edit pairs a b p q =
+    same_edit _ _ _ _ _ _ _ _ _ _ _ _ (one_value _ _ _ p.rules q.rules) (one_value _ _ _ p.records q.records) (one_value _ _ _ p.released q.released) (one_value _ _ _ p.reasons q.reasons) (one_value _ _ _ p.proof q.proof) (one_number _ _ _ _ _ _ p.budget q.budget)
+
+-- a check of these files
+abbrev pub check_of : List ℕ → List ℕ → List ℕ → List ℕ → CheckAsked
+check_of r c d p = record { rules = r; records = c; released = d; proof = p }
+
+same_check : (r c d p r' c' d' p' : List ℕ) → r ≡ r' → c ≡ c' → d ≡ d' → p ≡ p' → check_of r c d p ≡ check_of r' c' d' p'
+same_check r c d p r' c' d' p' er ec ed ep = cc
+
+-- and one check
+pub one_check : (pairs : Pairs) (a b : CheckAsked) → GiveCheck pairs a → GiveCheck pairs b → a ≡ b
+one_check pairs a b p q = same_check _ _ _ _ _ _ _ _ (one_value _ _ _ p.rules q.rules) (one_value _ _ _ p.records q.records) (one_value _ _ _ p.released q.released) (one_value _ _ _ p.proof q.proof)
+
+-- a question about the rules of this file
+abbrev pub rules_of : List ℕ → RulesAsked
+rules_of r = record { rules = r }
+
+-- and one such question
+pub one_rules : (pairs : Pairs) (a b : RulesAsked) → GiveRules pairs a → GiveRules pairs b → a ≡ b
+one_rules pairs a b p q = ap rules_of (one_value _ _ _ p.rules q.rules)
+
+-- ---- a command and its pairs
+
+-- the words are this command and, behind it, pairs of which this holds
+pub record IsCommand (name : List ℕ) (words : List (List ℕ)) (P : Pairs → Type 0) : Type 0 where
+  pub pairs : Pairs
+  pub form : words ≡ name ∷ words_of pairs
+  pub options : P pairs
+
+-- the commands are such
+pub edit_command : (words : List (List ℕ)) (asked : EditAsked) → IsEdit words asked → IsCommand (codes "edit") words (λ pairs. GiveEdit pairs asked)
+edit_command words asked is = record { pairs = is.pairs; form = is.form; options = is.options }
+
+pub command_edit : (words : List (List ℕ)) (asked : EditAsked) → IsCommand (codes "edit") words (λ pairs. GiveEdit pairs asked) → IsEdit words asked
+command_edit words asked is = record { pairs = is.pairs; form = is.form; options = is.options }
+
+pub check_command : (words : List (List ℕ)) (asked : CheckAsked) → IsCheck words asked → IsCommand (codes "check") words (λ pairs. GiveCheck pairs asked)
+check_command words asked is = record { pairs = is.pairs; form = is.form; options = is.options }
+
+pub command_check : (words : List (List ℕ)) (asked : CheckAsked) → IsCommand (codes "check") words (λ pairs. GiveCheck pairs asked) → IsCheck words asked
+command_check words asked is = record { pairs = is.pairs; form = is.form; options = is.options }
+
+pub rules_command : (words : List (List ℕ)) (asked : RulesAsked) → IsRules words asked → IsCommand (codes "rules") words (λ pairs. GiveRules pairs asked)
+rules_command words asked is = record { pairs = is.pairs; form = is.form; options = is.options }
+
+pub command_rules : (words : List (List ℕ)) (asked : RulesAsked) → IsCommand (codes "rules") words (λ pairs. GiveRules pairs asked) → IsRules words asked
+command_rules words asked is = record { pairs = is.pairs; form = is.form; options = is.options }
+
+-- words apart into the first and the others
+module _ (words : List (String Global)) (first : String Global) (others : List (String Global)) (apart : words ≡ first ∷ others) (name : List ℕ) (P : Pairs → Type 0) where
+  parts : IsCommand name (map string_bytes words) P → IsCommand name (string_bytes first ∷ map string_bytes others) P
+  parts is = rw apart at is
+
+  -- the first is the command
+  pub command_is : IsCommand name (map string_bytes words) P → string_bytes first ≡ name
+  command_is is = let form = (parts is).form in cc
+
+  others_are : (is : IsCommand name (string_bytes first ∷ map string_bytes others) P) → map string_bytes others ≡ words_of is.pairs
+  others_are is = let form = is.form in cc
+
+  -- the others are even in number
+  pub options_even : IsCommand name (map string_bytes words) P → length others % 2 ≡ 0
+  options_even is = let even = ap length (others_are (parts is)) ∙ words_long (parts is).pairs in omega (arith, even, length-map others string_bytes)
+
+  -- and their pairs are those of the command
+  pub options_given : IsCommand name (map string_bytes words) P → P (pairs_of (map string_bytes others))
+  options_given is = subst P (sym (pairs_back (parts is).pairs) ∙ ap pairs_of (sym (others_are (parts is)))) (parts is).options
+
+  -- a command and an even number of words are the command with their pairs
+  pub is_command : string_bytes first ≡ name → length others % 2 ≡ 0 → P (pairs_of (map string_bytes others)) → IsCommand name (map string_bytes words) P
+  is_command named even given =
+      let back : words_of (pairs_of (map string_bytes others)) ≡ map string_bytes others = words_back (map string_bytes others) (length others / 2) (omega (arith, length-map others string_bytes)) in
+      record {
+        pairs = pairs_of (map string_bytes others);
+        form = ap (map string_bytes) apart ∙ ap (λ (word : List ℕ). word ∷ map string_bytes others) named ∙ ap (λ (rest : List (List ℕ)). name ∷ rest) (sym back);
+        options = given;
+      }
+
+-- ---- answers
+
+pub true_unless : (b : Bool) → not b ≡ false → b ≡ true
+true_unless true h = refl
+true_unless false h = sym h
+
+pub not_both : (same differs : Bool) → differs ≡ not same → differs ≡ true → same ≡ true → ⊥
+not_both true differs e d s = cc
+not_both false differs e d s = cc
+
+pub if_none : {A P Q : Type 0} (r : Option A) → (P → Q) → IfNone r P → IfNone r Q
+if_none None f p = f p
+if_none (Some a) f p = tt
+
+pub if_some : {A : Type 0} {P Q : A → Type 0} (r : Option A) → ((a : A) → P a → Q a) → IfSome r P → IfSome r Q
+if_some None f p = tt
+if_some (Some a) f p = f a p

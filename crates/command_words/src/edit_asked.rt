@@ -1,0 +1,112 @@
+ghost use Rattle.std.specs.Prelude.{◌≡◌, ◌↔◌, IfSome, IfNone, IsTrue, map, string_bytes};
+ghost use Rattle.command_words.specs.Asked.{EditAsked, GiveEdit, IsEdit, names_in};
+ghost use Rattle.command_words.specs.Options.{AreApart};
+ghost use Rattle.command_words.specs.inner.Pairs.{pairs_of};
+
+use crate::options::{are_given, differs_from, number_given, only_value};
+use std::marker::Model;
+
+/// The options of the command `edit`.
+const EDIT_OPTIONS: [&str; 8] = [
+    "--rules",
+    "--records",
+    "--released",
+    "--reasons",
+    "--proof",
+    "--budget",
+    "--limit",
+    "--near",
+];
+
+/// The most work on one record where no budget is given, the least that can be given, and the most.
+const BUDGET: u64 = 1_000_000;
+
+const LEAST_BUDGET: u64 = 1;
+
+const MOST_BUDGET: u64 = 1_000_000_000;
+
+/// What the command `edit` was asked for. No two names are the same.
+#[derive(Debug, Drop)]
+pub struct EditWords<'a> {
+    /// The file of the rules.
+    pub rules: &'a str,
+    /// The file of the records.
+    pub records: &'a str,
+    /// The file that the released records go to.
+    pub released: &'a str,
+    /// The file that the reasons go to.
+    pub reasons: &'a str,
+    /// The file that the proof goes to.
+    pub proof: &'a str,
+    /// The most work on one record, from 1 to 1,000,000,000.
+    pub budget: u64,
+    /// How often a donor may be given, from 1 to 1,000.
+    pub limit: u32,
+    /// How many donors a record ranks at most, from 1 to 64.
+    pub near: u32,
+}
+
+impl<'a> Model for EditWords<'a> {
+    ghost use Rattle.std.specs.Prelude.{◌≤◌};
+    ghost use Rattle.command_words.specs.Asked.{EditAsked, names_in};
+    ghost use Rattle.command_words.specs.Options.{AreApart};
+
+    ghost Value = { EditAsked };
+
+    ghost view = { λ w. record { names = record { rules = w.rules.now; records = w.records.now; released = w.released.now; reasons = w.reasons.now; proof = w.proof.now }; budget = w.budget } };
+
+    ghost invariant = { λ w. AreApart (names_in (record { rules = w.rules.now; records = w.records.now; released = w.released.now; reasons = w.reasons.now; proof = w.proof.now })) × (1 ≤ w.budget) × (w.budget ≤ 1000000000) };
+}
+
+/// Reads the words after the program's name as the command `edit` with pairs of an option and its value, in any
+/// order and each at most once: `--rules`, `--records`, `--released`, `--reasons` and `--proof`, each with a file's
+/// name, and `--budget` with a number, which may be left out. No value is empty or begins with `-`, and the five
+/// names differ. What is asked for is all that the words can be read as. No memory.
+pub fn edit_asked(words: &[String]) -> Option<EditWords<'_>>
+    ensures some { IfSome result (λ asked. IsEdit (map string_bytes words.now) asked) }
+    ensures only { IfSome result (λ asked. (other : EditAsked) → IsEdit (map string_bytes words.now) other → other ≡ asked) }
+    ensures none { IfNone result ((asked : EditAsked) → ¬ IsEdit (map string_bytes words.now) asked) }
+{
+    let (command, options) = words.split_first()?;
+    if command.as_str() != "edit" || options.len() % 2 != 0 {
+        return None;
+    }
+    edit_options(options)
+}
+
+// What an edit is asked for by its options, taken two by two.
+fn edit_options(options: &[String]) -> Option<EditWords<'_>>
+    ensures some { IfSome result (λ asked. GiveEdit (pairs_of (map string_bytes options.now)) asked) }
+    ensures none { IfNone result ((asked : EditAsked) → ¬ GiveEdit (pairs_of (map string_bytes options.now)) asked) }
+{
+    if !are_given(options, &EDIT_OPTIONS) {
+        return None;
+    }
+    let rules = only_value("--rules", options)?;
+    let records = only_value("--records", options)?;
+    let released = only_value("--released", options)?;
+    let reasons = only_value("--reasons", options)?;
+    let proof = only_value("--proof", options)?;
+    let budget = number_given("--budget", options, BUDGET, LEAST_BUDGET, MOST_BUDGET)?;
+    if !are_apart(rules, records, released, reasons, proof) {
+        return None;
+    }
+    Some(EditWords {
+        rules,
+        records,
+        released,
+        reasons,
+        proof,
+        budget,
+    })
+}
+
+// Whether no two of the names are the same.
+fn are_apart(rules: &str, records: &str, released: &str, reasons: &str, proof: &str) -> bool
+    ensures { IsTrue result ↔ AreApart (names_in (record { rules = rules.now; records = records.now; released = released.now; reasons = reasons.now; proof = proof.now })) }
+{
+    differs_from(rules, &[records, released, reasons, proof])
+        && differs_from(records, &[released, reasons, proof])
+        && differs_from(released, &[reasons, proof])
+        && reasons != proof
+}

@@ -1,5 +1,0 @@
-use Rattle.edit_program.proofs.PairLaws.{all_differ}
-use Rattle.edit_program.proofs.options.differs_from.Goals as goal
-
-pub returns : goal.returns
-returns c = rw c.is_listed.ensures (all_differ c.args.name.now c.args.others.now)

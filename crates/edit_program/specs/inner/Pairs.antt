@@ -1,9 +1,0 @@
--- Words taken two by two.
-use Rattle.std.specs.Prelude.{ℕ, List, [], ◌∷◌}
-use Rattle.edit_program.specs.Options.{Pairs}
-
--- the pairs that words make; a last word alone makes none
-abbrev pub pairs_of : List (List ℕ) → Pairs
-pairs_of [] = []
-pairs_of (word ∷ []) = []
-pairs_of (option ∷ value ∷ words) = (option, value) ∷ pairs_of words
