@@ -14,14 +14,19 @@ ghost use Rattle.edit_release.specs.Releases.{IsReleaseOf};
 ghost use Rattle.record_text.specs.Sheets.{IsSheet};
 ghost use Rattle.record_workers.specs.Donations.{AreTerms};
 
-use command_words::EditWords;
 use crate::reading::{fetch_sheet, fetch_survey};
 use crate::refusal::Refusal;
 use crate::status::Status;
 use crate::storing::store_release;
 use crate::telling::{refuse, tell_all};
+use command_words::EditWords;
+use donor_measure::{Measure, field_distance};
 use edit_desk::{Desk, Printer};
+use edit_model::{Survey, Value};
 use edit_release::{Release, edit_sheet};
+use foundation::OutOfMemory;
+use record_text::Sheet;
+use record_workers::Terms;
 use std::alloc::Global;
 
 /// Edits what the words ask for, and prints the summary, or why the run is refused.
