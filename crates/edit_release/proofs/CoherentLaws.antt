@@ -94,20 +94,20 @@ module _ (c : TreeCase) where
 -- ---- what is said of a record
 
 module _ (survey : SurveyParts) (row : List Value) (budget : ℕ) (formed : IsWellFormed survey) (is : IsRow survey.fields row) where
-  coherent-of : (o : Outcome) (stop : Option GiftFault) (gift : Option Gift) → outcome_of (case_of survey (kept_edits survey) row) budget ≡ o → Follows survey (kept_edits survey) row o stop gift → IsCoherentRow (said_of o stop)
-  coherent-of (outcome.Change path zero cert) None gift e follows = (refl, change-clean (case_of survey (kept_edits survey) row) budget path zero cert e refl)
-  coherent-of (outcome.Change path (suc w) cert) None gift e follows = tree-positive _ cert.leaves (has-tree survey row budget formed is _ e)
-  coherent-of (outcome.Change path zero cert) (Some stop) gift e follows = tree-positive _ cert.leaves (has-tree survey row budget formed is _ e)
-  coherent-of (outcome.Change path (suc w) cert) (Some stop) gift e follows = tree-positive _ cert.leaves (has-tree survey row budget formed is _ e)
-  coherent-of (outcome.Budget path work) None gift e follows = tt
-  coherent-of (outcome.Budget path work) (Some stop) None e follows = absurd follows
-  coherent-of (outcome.Budget path work) (Some stop) (Some gift) e follows = absurd follows
-  coherent-of (outcome.Overflow path event) None gift e follows = tt
-  coherent-of (outcome.Overflow path event) (Some stop) None e follows = absurd follows
-  coherent-of (outcome.Overflow path event) (Some stop) (Some gift) e follows = absurd follows
-  coherent-of (outcome.Contradictory cert) None gift e follows = tree-positive _ cert.leaves (has-tree survey row budget formed is _ e)
-  coherent-of (outcome.Contradictory cert) (Some stop) None e follows = absurd follows
-  coherent-of (outcome.Contradictory cert) (Some stop) (Some gift) e follows = absurd follows
+  coherent-of : (donor : Option (List Value)) (o : Outcome) (stop : Option GiftFault) (gift : Option Gift) → outcome_of (case_of survey (kept_edits survey) row) budget ≡ o → Follows survey (kept_edits survey) row donor o stop gift → IsCoherentRow (said_of o stop)
+  coherent-of donor (outcome.Change path zero cert) None gift e follows = (refl, change-clean (case_of survey (kept_edits survey) row) budget path zero cert e refl)
+  coherent-of donor (outcome.Change path (suc w) cert) None gift e follows = tree-positive _ cert.leaves (has-tree survey row budget formed is _ e)
+  coherent-of donor (outcome.Change path zero cert) (Some stop) gift e follows = tree-positive _ cert.leaves (has-tree survey row budget formed is _ e)
+  coherent-of donor (outcome.Change path (suc w) cert) (Some stop) gift e follows = tree-positive _ cert.leaves (has-tree survey row budget formed is _ e)
+  coherent-of donor (outcome.Budget path work) None gift e follows = tt
+  coherent-of donor (outcome.Budget path work) (Some stop) None e follows = absurd follows
+  coherent-of donor (outcome.Budget path work) (Some stop) (Some gift) e follows = absurd follows
+  coherent-of donor (outcome.Overflow path event) None gift e follows = tt
+  coherent-of donor (outcome.Overflow path event) (Some stop) None e follows = absurd follows
+  coherent-of donor (outcome.Overflow path event) (Some stop) (Some gift) e follows = absurd follows
+  coherent-of donor (outcome.Contradictory cert) None gift e follows = tree-positive _ cert.leaves (has-tree survey row budget formed is _ e)
+  coherent-of donor (outcome.Contradictory cert) (Some stop) None e follows = absurd follows
+  coherent-of donor (outcome.Contradictory cert) (Some stop) (Some gift) e follows = absurd follows
 
-  pub said-coherent : (end : RowEnd) → IsEndOf survey (kept_edits survey) budget row end → IsCoherentRow (said end)
-  said-coherent end ends = coherent-of end.proof.outcome end.proof.gift end.gift (sym ends.outcome) ends.follows
+  pub said-coherent : (all : List (List Value)) (end : RowEnd) → IsEndOf survey (kept_edits survey) budget all row end → IsCoherentRow (said end)
+  said-coherent all end ends = coherent-of (option_map (row_at all) end.donor) end.proof.outcome end.proof.gift end.gift (sym ends.outcome) ends.follows

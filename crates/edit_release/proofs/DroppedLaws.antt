@@ -58,8 +58,9 @@ module _ (survey : SurveyParts) (kept : List Bool) where
       later n k = omega arith
 
 -- no line that says what becomes of a line of the rules is at fault
-pub none-faulty : (survey : SurveyParts) (formed : IsWellFormed survey) (budget : ℕ) (ends : List RowEnd) → drop_fault survey (proof_of survey budget ends) ≡ None
-none-faulty survey formed budget ends =
+pub none-faulty : (survey : SurveyParts) (formed : IsWellFormed survey) (terms : Terms) (ends : List RowEnd) (history : List Entry)
+    → drop_fault survey (proof_of survey terms ends history) ≡ None
+none-faulty survey formed terms ends history =
     ap (λ (kept : List Bool). option_map (λ offset. 4 + offset) (verdicts_fault survey kept 0 (normal_lines_of survey) (map refutation_by (rule_verdicts survey)))) (flags-said (rule_verdicts survey))
     ∙ ap (λ (fault : Option ℕ). option_map (λ offset. 4 + offset) fault) (none-from survey (rule_flags survey) 0 (normal_lines_of survey) (rule_verdicts survey) (λ place line steps at told.
     subst (λ n. RefutedBy (refutation_at survey (rule_flags survey) n line) steps) (first place) (rule-refuted survey formed place line steps at told)))

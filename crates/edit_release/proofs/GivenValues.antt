@@ -87,18 +87,6 @@ values-from told text i (field ∷ fields) (v ∷ row) (w ∷ new) is_row is_new
           subst (λ n. IsValueOf (told n) f.kind (text n) (value_of row k) (value_of new k)) next (each (suc k) f at)),
     )
 
--- each field has a value
-pub none-bad : (new : List Value) → ((f : ℕ) → f < length new → value_of new f ≢ Bad) → list_any is_bad new ≡ false
-none-bad [] held = refl
-none-bad (Bad ∷ new) held = absurd (held 0 (omega arith) refl)
-none-bad (Code c ∷ new) held = none-bad new (λ f below. held (suc f) (omega arith))
-none-bad (Number x ∷ new) held = none-bad new (λ f below. held (suc f) (omega arith))
-
--- all rules hold
-pub all-hold : (rules : List Rule) (new : List Value) → ((k : ℕ) (rule : Rule) → slice_get rules k ≡ Some rule → rule_at rule new ≡ Some true) → AllHold rules new
-all-hold [] new each = tt
-all-hold (rule ∷ rules) new each = (each 0 rule refl, all-hold rules new (λ k r at. each (suc k) r at))
-
 -- ---- the fields that are changed
 
 -- each field is in path order

@@ -1,4 +1,5 @@
 pub mod CaseLaws
+mod ClaimLaws
 pub mod CoherentLaws
 pub mod ColumnTexts
 pub mod DroppedLaws

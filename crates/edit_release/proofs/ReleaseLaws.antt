@@ -27,7 +27,7 @@ use Rattle.proof_text.proofs.SizeLaws.{plain-if}
 use Rattle.edit_report.specs.Ends.{path_found}
 use Rattle.edit_report.specs.Reasons.{reasons_text_of}
 use Rattle.edit_report.specs.Released.{released_rows, released_text_of}
-use Rattle.edit_report.specs.Summaries.{summary_of}
+use Rattle.edit_report.specs.Summaries.{summary_lines}
 use Rattle.edit_report.specs.declared.end.RowEnd.{RowEnd}
 use Rattle.record_workers.specs.Ends.{IsEndOf}
 use Rattle.record_workers.specs.Said.{Says}
@@ -37,7 +37,7 @@ use Rattle.redundancy.proofs.BaseLaws.{verdicts-count}
 use Rattle.pruned_rules.specs.Pruned.{kept_edits, pruning_budget, rule_verdicts}
 use Rattle.pruned_rules.proofs.KeptLaws.{rules-follow}
 use Rattle.edit_release.specs.Edits.{IsShown, proof_of, refutation_by, said}
-use Rattle.edit_release.specs.Releases.{AllGiven, IsReleaseOf}
+use Rattle.edit_release.specs.Releases.{AllGiven, IsReleaseOf, written_in}
 use Rattle.edit_release.specs.declared.release.Release.{Release}
 use Rattle.edit_release.proofs.CoherentLaws.{said-coherent}
 use Rattle.edit_release.proofs.DroppedLaws.{none-faulty, verdicts-coherent}
@@ -50,15 +50,15 @@ use Rattle.edit_release.proofs.SaidLaws.{IsReleasedSaid, rules-are, said-valid, 
 counts-agree : (m n : ℕ) → m ≡ n → (m == n) ≡ true
 counts-agree m n e = (Decides-eqb m n).1 e
 
-module _ (survey : SurveyParts) (sheet : SheetParts) (released proof : List ℕ) (budget : ℕ) (ends : List RowEnd) (least : 1 ≤ budget) (most : budget ≤ 1000000000) (many : length ends ≡ length sheet.rows) where
+module _ (survey : SurveyParts) (sheet : SheetParts) (released proof : List ℕ) (terms : Terms) (ends : List RowEnd) (history : List Entry) (fit : AreTerms terms) (many : length ends ≡ length sheet.rows) where
   abbrev a : Audit
   a = audit_of survey sheet released proof
 
   abbrev p : Proof
-  p = proof_of survey budget ends
+  p = proof_of survey terms ends history
 
   limits-fit : limits_fit p ≡ true
-  limits-fit = rw (le-leb 1 budget least, le-leb budget 1000000000 most) refl
+  limits-fit = rw (le-leb 1 terms.limit fit.limit.0, le-leb terms.limit 1000 fit.limit.1, le-leb 1 terms.near fit.near.0, le-leb terms.near 64 fit.near.1, le-leb 1 terms.budget fit.budget.0, le-leb terms.budget 1000000000 fit.budget.1) refl
 
   lines-many : (length p.verdicts == length (normal_lines_of survey)) ≡ true
   lines-many = counts-agree _ _ (length-map (rule_verdicts survey) refutation_by ∙ verdicts-count survey (normal_lines_of survey) pruning_budget 0 (normal_lines_of survey))
@@ -71,24 +71,24 @@ module _ (survey : SurveyParts) (sheet : SheetParts) (released proof : List ℕ)
 
 -- ---- what is said of each record
 
-module _ (survey : SurveyParts) (formed : IsWellFormed survey) (budget : ℕ) where
+module _ (survey : SurveyParts) (formed : IsWellFormed survey) (budget : ℕ) (all : List (List Value)) where
   -- the trees of all records are valid
-  pub all-shown : (rows : List (List Value)) (ends : List RowEnd) → AllByRecursion (IsRow survey.fields) rows → AllZip (IsEndOf survey (kept_edits survey) budget) rows ends → AllZip (IsShown survey) rows ends
+  pub all-shown : (rows : List (List Value)) (ends : List RowEnd) → AllByRecursion (IsRow survey.fields) rows → AllZip (IsEndOf survey (kept_edits survey) budget all) rows ends → AllZip (IsShown survey) rows ends
   all-shown [] [] are each = tt
   all-shown [] (end ∷ ends) are each = absurd each
   all-shown (row ∷ rows) [] are each = absurd each
-  all-shown (row ∷ rows) (end ∷ ends) are each = (tree-shown survey row budget formed are.0 end each.0, all-shown rows ends are.1 each.1)
+  all-shown (row ∷ rows) (end ∷ ends) are each = (tree-shown survey row budget formed are.0 all end each.0, all-shown rows ends are.1 each.1)
 
   -- what is said of all records is coherent
-  all-coherent : (rows : List (List Value)) (ends : List RowEnd) → AllByRecursion (IsRow survey.fields) rows → AllZip (IsEndOf survey (kept_edits survey) budget) rows ends → AllByRecursion IsCoherentRow (map said ends)
+  all-coherent : (rows : List (List Value)) (ends : List RowEnd) → AllByRecursion (IsRow survey.fields) rows → AllZip (IsEndOf survey (kept_edits survey) budget all) rows ends → AllByRecursion IsCoherentRow (map said ends)
   all-coherent [] [] are each = tt
   all-coherent [] (end ∷ ends) are each = absurd each
   all-coherent (row ∷ rows) [] are each = absurd each
-  all-coherent (row ∷ rows) (end ∷ ends) are each = (said-coherent survey row budget formed are.0 end each.0, all-coherent rows ends are.1 each.1)
+  all-coherent (row ∷ rows) (end ∷ ends) are each = (said-coherent survey row budget formed are.0 all end each.0, all-coherent rows ends are.1 each.1)
 
   -- the proof is coherent
-  pub proof-coherent : (rows : List (List Value)) (ends : List RowEnd) → AllByRecursion (IsRow survey.fields) rows → AllZip (IsEndOf survey (kept_edits survey) budget) rows ends → IsCoherent (proof_of survey budget ends)
-  proof-coherent rows ends are each = record { verdicts = verdicts-coherent survey formed; rows = all-coherent rows ends are each }
+  pub proof-coherent : (terms : Terms) (history : List Entry) (rows : List (List Value)) (ends : List RowEnd) → AllByRecursion (IsRow survey.fields) rows → AllZip (IsEndOf survey (kept_edits survey) budget all) rows ends → IsCoherent (proof_of survey terms ends history)
+  proof-coherent terms history rows ends are each = record { verdicts = verdicts-coherent survey formed; rows = all-coherent rows ends are each }
 
 -- texts are released of a record that is told to be released
 released-told : (r : RowRules) (f : RowFiles) (o : Outcome) (stop : Option GiftFault) (gift : Option Gift) → is_released (record { outcome = o; gift = stop }) ≡ is_some gift → (IsSome gift → IsReleased r f (path_found o)) → IsReleasedSaid r f o stop
@@ -101,62 +101,65 @@ released-told r f (Contradictory cert) stop gift told released = tt
 
 -- ---- the release
 
-module _ (survey : SurveyParts) (sheet : SheetParts) (bytes : List ℕ) (budget : ℕ) (ends : List RowEnd) (formed : IsWellFormed survey) (read : IsSheet survey.fields bytes sheet) (least : 1 ≤ budget) (most : budget ≤ 1000000000)
-    (each : AllZip (IsEndOf survey (kept_edits survey) budget) sheet.rows ends) (say : AllZip (Says survey (kept_edits survey) budget) sheet.rows ends) where
+module _ (survey : SurveyParts) (sheet : SheetParts) (bytes : List ℕ) (terms : Terms) (ends : List RowEnd) (history : List Entry) (formed : IsWellFormed survey) (read : IsSheet survey.fields bytes sheet) (fit : AreTerms terms)
+    (each : AllZip (IsEndOf survey (kept_edits survey) terms.budget sheet.rows) sheet.rows ends) (say : AllZip (Says survey (kept_edits survey) terms.budget) sheet.rows ends)
+    (donations : AreDonations survey sheet.rows terms ends history) where
   abbrev audit : Audit
-  audit = audit_of survey sheet (released_text_of survey sheet ends) (proof_text (proof_of survey budget ends))
+  audit = audit_of survey sheet (released_text_of survey sheet ends) (proof_text (proof_of survey terms ends history))
 
   -- each row is a record of the survey
   abbrev are : AllByRecursion (IsRow survey.fields) sheet.rows
   are = rows_are_records survey.fields bytes sheet read
 
   abbrev r : RowRules
-  r = rules_of audit (proof_of survey budget ends)
+  r = rules_of audit (proof_of survey terms ends history)
 
-  row-valid : (reads : List (List ℕ)) (row : List Value) (end : RowEnd) → AreValues survey.fields sheet.columns reads row → length reads ≡ length sheet.header → IsEndOf survey (kept_edits survey) budget row end
-      → Says survey (kept_edits survey) budget row end → IsShown survey row end → IsValidEnd r survey.fields sheet.columns reads row end
+  row-valid : (reads : List (List ℕ)) (row : List Value) (end : RowEnd) → AreValues survey.fields sheet.columns reads row → length reads ≡ length sheet.header → IsEndOf survey (kept_edits survey) terms.budget sheet.rows row end
+      → Says survey (kept_edits survey) terms.budget row end → IsShown survey row end → IsValidEnd r survey.fields sheet.columns reads row end
   row-valid reads row end values long is says shown = (
     told,
-    said-valid survey row budget formed is_row r (own_files survey.fields sheet.columns reads row end) end (rules-are survey sheet audit.released audit.proof budget ends) refl is
+    said-valid survey row terms.budget formed is_row r (own_files survey.fields sheet.columns reads row end) sheet.rows end (rules-are survey sheet audit.released audit.proof terms ends history) refl is
         (released-told r (own_files survey.fields sheet.columns reads row end) (said end).outcome (said end).gift end.gift told
-        (end-released r (kept_edits survey) budget reads row formed is_row (one_column_a_field survey.fields bytes sheet read) (distinct_columns survey.fields bytes sheet read formed.names) within end.proof.outcome end.proof.gift end.gift is.follows says)),
+        (end-released r (kept_edits survey) terms.budget reads row formed is_row (one_column_a_field survey.fields bytes sheet read) (distinct_columns survey.fields bytes sheet read formed.names) within (option_map (row_at sheet.rows) end.donor) end.proof.outcome end.proof.gift end.gift is.follows says)),
   )
     where
       is_row : IsRow survey.fields row
       is_row = values_are_row survey.fields sheet.columns reads row values
 
       told : IsSaidReleased end
-      told = end-said survey (kept_edits survey) budget row end is
+      told = end-said survey (kept_edits survey) terms.budget sheet.rows row end is
 
       within : All (λ (c : ℕ). c < length reads) sheet.columns
       within = subst (λ (n : ℕ). All (λ (c : ℕ). c < n) sheet.columns) (sym long) (columns_in_header survey.fields bytes sheet read)
 
-  pub release-valid : IsPlain (proof_of survey budget ends) → IsValidRelease audit
+  pub release-valid : IsPlain (proof_of survey terms ends history) → IsValidRelease audit
   release-valid plain = record {
-    proof = proof_of survey budget ends;
+    proof = proof_of survey terms ends history;
     fits = record {
       spelled = record { plain = plain; text = refl };
-      head = head-fits survey sheet audit.released audit.proof budget ends least most (AllZip-long (IsEndOf survey (kept_edits survey) budget) sheet.rows ends each);
-      dropped = none-faulty survey formed budget ends;
+      head = head-fits survey sheet audit.released audit.proof terms ends history fit (AllZip-long (IsEndOf survey (kept_edits survey) terms.budget sheet.rows) sheet.rows ends each);
+      dropped = none-faulty survey formed terms ends history;
     };
     rows = released_rows survey.fields sheet.columns sheet.raws ends;
-    released = are-released survey bytes sheet budget ends audit.proof read each (ends-said survey (kept_edits survey) budget sheet.rows ends each);
+    released = are-released survey bytes sheet terms ends history audit.proof read each (ends-said survey (kept_edits survey) terms.budget sheet.rows sheet.rows ends each);
     each = rows-valid r survey.fields sheet.columns sheet.raws sheet.rows ends
-        (each-follows (IsValidEnd r survey.fields sheet.columns) survey (kept_edits survey) sheet.columns (length sheet.header) budget sheet.raws sheet.rows ends read.values (raws_as_long_as_header survey.fields bytes sheet read) each say
-        (all-shown survey formed budget sheet.rows ends are each) row-valid);
-    claims = refl;
+        (each-follows (IsValidEnd r survey.fields sheet.columns) survey (kept_edits survey) sheet.columns (length sheet.header) terms.budget sheet.rows sheet.raws sheet.rows ends read.values (raws_as_long_as_header survey.fields bytes sheet read) each say
+        (all-shown survey formed terms.budget sheet.rows sheet.rows ends are each) row-valid);
+    claims = claims-valid survey terms sheet.rows ends history formed each donations;
   }
 
   -- what was written is the edit of the sheet
-  pub release-of : (release : Release) (p : Proof) → p ≡ proof_of survey budget ends → IsSized p → release.proof.items ≡ proof_text p → release.reasons.items ≡ reasons_text_of survey sheet ends → release.released.items ≡ released_text_of survey sheet ends
-      → release.summary.items ≡ summary_of survey ends → (IsTrue release.whole ↔ AllGiven ends) → IsReleaseOf survey sheet budget release
+  pub release-of : (release : Release) (p : Proof) → p ≡ proof_of survey terms ends history → IsSized p → release.proof.items ≡ proof_text p → release.reasons.items ≡ reasons_text_of survey sheet ends → release.released.items ≡ released_text_of survey sheet ends
+      → (written_in release).summary ≡ summary_lines survey ends history → (IsTrue release.whole ↔ AllGiven ends) → IsReleaseOf survey sheet terms release
   release-of release p same sized proof reasons released summary whole = record {
     ends = ends;
+    history = history;
     edit = record {
       dropped = rules-follow survey formed;
       each = each;
       say = say;
-      shown = all-shown survey formed budget sheet.rows ends are each;
+      shown = all-shown survey formed terms.budget sheet.rows sheet.rows ends are each;
+      donations = donations;
       proof = text;
       reasons = reasons;
       released = released;
@@ -166,8 +169,8 @@ module _ (survey : SurveyParts) (sheet : SheetParts) (bytes : List ℕ) (budget 
     whole = whole;
   }
     where
-      text : release.proof.items ≡ proof_text (proof_of survey budget ends)
+      text : release.proof.items ≡ proof_text (proof_of survey terms ends history)
       text = proof ∙ ap proof_text same
 
-      plain : IsPlain (proof_of survey budget ends)
-      plain = plain-if (proof_of survey budget ends) (subst IsSized same sized) (proof-coherent survey formed budget sheet.rows ends are each)
+      plain : IsPlain (proof_of survey terms ends history)
+      plain = plain-if (proof_of survey terms ends history) (subst IsSized same sized) (proof-coherent survey formed terms.budget sheet.rows terms history sheet.rows ends are each)

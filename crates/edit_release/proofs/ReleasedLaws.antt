@@ -36,7 +36,7 @@ use Rattle.cert_check.specs.Releases.{AreReleased, audit_of, is_released}
 use Rattle.pruned_rules.specs.Pruned.{kept_edits}
 use Rattle.edit_release.specs.Edits.{proof_of, said, said_of}
 use Rattle.edit_release.proofs.ColumnTexts.{changed-text, same-elsewhere}
-use Rattle.edit_release.proofs.GivenValues.{all-hold, field-ordered, given-text, none-bad, none-differs, other-value, values-from}
+use Rattle.edit_release.proofs.GivenValues.{field-ordered, given-text, none-differs, other-value, values-from}
 use Rattle.edit_release.proofs.ReadBackLaws.{sheet_header_kept, written-read}
 
 -- ---- which records are released
@@ -45,38 +45,38 @@ use Rattle.edit_release.proofs.ReadBackLaws.{sheet_header_kept, written-read}
 abbrev pub IsSaidReleased : RowEnd → Type 0
 IsSaidReleased end = is_released (said end) ≡ is_some end.gift
 
-said-released : (survey : SurveyParts) (edits : EditsParts) (row : List Value) (outcome : Outcome) (fault : Option GiftFault) (gift : Option Gift) → Follows survey edits row outcome fault gift
+said-released : (survey : SurveyParts) (edits : EditsParts) (row : List Value) (donor : Option (List Value)) (outcome : Outcome) (fault : Option GiftFault) (gift : Option Gift) → Follows survey edits row donor outcome fault gift
     → is_released (said_of outcome fault) ≡ is_some gift
-said-released survey edits row (Change path zero cert) None None follows = absurd follows
-said-released survey edits row (Change path zero cert) None (Some gift) follows = refl
-said-released survey edits row (Change path zero cert) (Some fault) None follows = refl
-said-released survey edits row (Change path zero cert) (Some fault) (Some gift) follows = absurd follows
-said-released survey edits row (Change path (suc w) cert) None None follows = absurd follows
-said-released survey edits row (Change path (suc w) cert) None (Some gift) follows = refl
-said-released survey edits row (Change path (suc w) cert) (Some fault) None follows = refl
-said-released survey edits row (Change path (suc w) cert) (Some fault) (Some gift) follows = absurd follows
-said-released survey edits row (Budget path work) None None follows = refl
-said-released survey edits row (Budget path work) None (Some gift) follows = absurd follows
-said-released survey edits row (Budget path work) (Some fault) None follows = absurd follows
-said-released survey edits row (Budget path work) (Some fault) (Some gift) follows = absurd follows
-said-released survey edits row (Overflow path event) None None follows = refl
-said-released survey edits row (Overflow path event) None (Some gift) follows = absurd follows
-said-released survey edits row (Overflow path event) (Some fault) None follows = absurd follows
-said-released survey edits row (Overflow path event) (Some fault) (Some gift) follows = absurd follows
-said-released survey edits row (Contradictory cert) None None follows = refl
-said-released survey edits row (Contradictory cert) None (Some gift) follows = absurd follows
-said-released survey edits row (Contradictory cert) (Some fault) None follows = absurd follows
-said-released survey edits row (Contradictory cert) (Some fault) (Some gift) follows = absurd follows
+said-released survey edits row donor (Change path zero cert) None None follows = absurd follows
+said-released survey edits row donor (Change path zero cert) None (Some gift) follows = refl
+said-released survey edits row donor (Change path zero cert) (Some fault) None follows = refl
+said-released survey edits row donor (Change path zero cert) (Some fault) (Some gift) follows = absurd follows
+said-released survey edits row donor (Change path (suc w) cert) None None follows = absurd follows
+said-released survey edits row donor (Change path (suc w) cert) None (Some gift) follows = refl
+said-released survey edits row donor (Change path (suc w) cert) (Some fault) None follows = refl
+said-released survey edits row donor (Change path (suc w) cert) (Some fault) (Some gift) follows = absurd follows
+said-released survey edits row donor (Budget path work) None None follows = refl
+said-released survey edits row donor (Budget path work) None (Some gift) follows = absurd follows
+said-released survey edits row donor (Budget path work) (Some fault) None follows = absurd follows
+said-released survey edits row donor (Budget path work) (Some fault) (Some gift) follows = absurd follows
+said-released survey edits row donor (Overflow path event) None None follows = refl
+said-released survey edits row donor (Overflow path event) None (Some gift) follows = absurd follows
+said-released survey edits row donor (Overflow path event) (Some fault) None follows = absurd follows
+said-released survey edits row donor (Overflow path event) (Some fault) (Some gift) follows = absurd follows
+said-released survey edits row donor (Contradictory cert) None None follows = refl
+said-released survey edits row donor (Contradictory cert) None (Some gift) follows = absurd follows
+said-released survey edits row donor (Contradictory cert) (Some fault) None follows = absurd follows
+said-released survey edits row donor (Contradictory cert) (Some fault) (Some gift) follows = absurd follows
 
-pub end-said : (survey : SurveyParts) (edits : EditsParts) (budget : ℕ) (row : List Value) (end : RowEnd) → IsEndOf survey edits budget row end → IsSaidReleased end
-end-said survey edits budget row end is = said-released survey edits row end.proof.outcome end.proof.gift end.gift is.follows
+pub end-said : (survey : SurveyParts) (edits : EditsParts) (budget : ℕ) (all : List (List Value)) (row : List Value) (end : RowEnd) → IsEndOf survey edits budget all row end → IsSaidReleased end
+end-said survey edits budget all row end is = said-released survey edits row (option_map (row_at all) end.donor) end.proof.outcome end.proof.gift end.gift is.follows
 
-pub ends-said : (survey : SurveyParts) (edits : EditsParts) (budget : ℕ) (rows : List (List Value)) (ends : List RowEnd) → AllZip (IsEndOf survey edits budget) rows ends
+pub ends-said : (survey : SurveyParts) (edits : EditsParts) (budget : ℕ) (all rows : List (List Value)) (ends : List RowEnd) → AllZip (IsEndOf survey edits budget all) rows ends
     → AllByRecursion IsSaidReleased ends
-ends-said survey edits budget [] [] each = tt
-ends-said survey edits budget [] (end ∷ ends) each = absurd each
-ends-said survey edits budget (row ∷ rows) [] each = absurd each
-ends-said survey edits budget (row ∷ rows) (end ∷ ends) each = (end-said survey edits budget row end each.0, ends-said survey edits budget rows ends each.1)
+ends-said survey edits budget all [] [] each = tt
+ends-said survey edits budget all [] (end ∷ ends) each = absurd each
+ends-said survey edits budget all (row ∷ rows) [] each = absurd each
+ends-said survey edits budget all (row ∷ rows) (end ∷ ends) each = (end-said survey edits budget all row end each.0, ends-said survey edits budget all rows ends each.1)
 
 -- there are as many
 said-count : (ends : List RowEnd) → AllByRecursion IsSaidReleased ends → length (filter (λ (end : RowEnd). is_some end.gift) ends) ≡ length (filter is_released (map said ends))
@@ -111,15 +111,16 @@ rows-long fields columns width (texts ∷ raws) (end ∷ ends) long = first (pat
 -- ---- the released file
 
 -- the released file has a row of each record that the proof says is released, behind the header
-pub are-released : (survey : SurveyParts) (bytes : List ℕ) (sheet : SheetParts) (budget : ℕ) (ends : List RowEnd) (proof : List ℕ) → IsSheet survey.fields bytes sheet → AllZip (IsEndOf survey (kept_edits survey) budget) sheet.rows ends
+pub are-released : (survey : SurveyParts) (bytes : List ℕ) (sheet : SheetParts) (terms : Terms) (ends : List RowEnd) (history : List Entry) (proof : List ℕ) → IsSheet survey.fields bytes sheet
+    → AllZip (IsEndOf survey (kept_edits survey) terms.budget sheet.rows) sheet.rows ends
     → AllByRecursion IsSaidReleased ends
-    → AreReleased (audit_of survey sheet (released_text_of survey sheet ends) proof) (proof_of survey budget ends) (released_rows survey.fields sheet.columns sheet.raws ends)
-are-released survey bytes sheet budget ends proof is each told = record {
+    → AreReleased (audit_of survey sheet (released_text_of survey sheet ends) proof) (proof_of survey terms ends history) (released_rows survey.fields sheet.columns sheet.raws ends)
+are-released survey bytes sheet terms ends history proof is each told = record {
   first = sheet.header;
   given = written-read sheet.header (released_rows survey.fields sheet.columns sheet.raws ends) (header_has_text survey.fields bytes sheet is) (sheet_header_kept survey.fields bytes sheet is) long;
   header = sheet_header_kept survey.fields bytes sheet is;
   long = long;
-  one_each = released-count survey.fields sheet.columns sheet.raws ends (as_many_raws_as_rows survey.fields bytes sheet is ∙ sym (AllZip-long (IsEndOf survey (kept_edits survey) budget) sheet.rows ends each)) ∙ said-count ends told;
+  one_each = released-count survey.fields sheet.columns sheet.raws ends (as_many_raws_as_rows survey.fields bytes sheet is ∙ sym (AllZip-long (IsEndOf survey (kept_edits survey) terms.budget sheet.rows) sheet.rows ends each)) ∙ said-count ends told;
 }
   where
     long : AllByRecursion (λ (texts : List (List ℕ)). length texts ≡ length sheet.header) (released_rows survey.fields sheet.columns sheet.raws ends)
@@ -127,9 +128,9 @@ are-released survey bytes sheet budget ends proof is each told = record {
 
 -- ---- a released row
 
-module _ (survey : SurveyParts) (columns : List ℕ) (reads : List (List ℕ)) (row : List Value) (path : List Bool) (weight : ℕ) (gift : Gift) (well : IsWellFormed survey) (is_row : IsRow survey.fields row)
+module _ (survey : SurveyParts) (columns : List ℕ) (reads : List (List ℕ)) (row : List Value) (path : List Bool) (weight : ℕ) (donor : Option (List Value)) (gift : Gift) (well : IsWellFormed survey) (is_row : IsRow survey.fields row)
     (one_each : length columns ≡ length survey.fields) (distinct : AllPairs (λ (c : ℕ) (d : ℕ). c ≢ d) columns) (within : All (λ (c : ℕ). c < length reads) columns)
-    (given : IsGiftOf survey row path None gift) (corrected : IsCorrected survey row gift.row path weight) where
+    (given : IsGiftOf survey row path donor gift) (corrected : IsCorrected survey row gift.row path weight) where
   abbrev texts : List (List ℕ)
   texts = released_texts survey.fields columns path gift.row reads
 
@@ -171,8 +172,7 @@ module _ (survey : SurveyParts) (columns : List ℕ) (reads : List (List ℕ)) (
         let own : 0 + k ≡ k = omega arith in
         subst (λ n. IsValueOf (told n) field.kind (checked.text_at columns texts n) (value_of row k) (value_of gift.row k)) (sym own) (value-told k field (told k) at (sym (same k))));
     elsewhere = same-elsewhere survey.fields columns (changes survey.fields path) gift.row told same 0 reads;
-    whole = none-bad gift.row (λ f below. agrees-held gift.row corrected.point f (agrees f below));
-    holds = all-hold survey.rules gift.row given.tested;
+    clean = held-clean survey gift.row (λ f below. agrees-held gift.row corrected.point f (agrees f below)) given.tested;
   }
 
   -- the row of a record that was given values is released with its changed fields

@@ -78,34 +78,34 @@ rows-valid r fields columns (reads ∷ raws) (row ∷ rows) (end ∷ ends) ((tol
 )
 
 -- what follows of the texts of a row as long as the header, of its values and of its end holds of each record
-pub each-follows : (P : List (List ℕ) → List Value → RowEnd → Type 0) (survey : SurveyParts) (edits : EditsParts) (columns : List ℕ) (width budget : ℕ) (raws : List (List (List ℕ))) (rows : List (List Value)) (ends : List RowEnd)
-    → AreRows survey.fields columns raws rows → AllByRecursion (λ (reads : List (List ℕ)). length reads ≡ width) raws → AllZip (IsEndOf survey edits budget) rows ends → AllZip (Says survey edits budget) rows ends → AllZip (IsShown survey) rows ends
-    → ((reads : List (List ℕ)) (row : List Value) (end : RowEnd) → AreValues survey.fields columns reads row → length reads ≡ width → IsEndOf survey edits budget row end → Says survey edits budget row end → IsShown survey row end → P reads row end)
+pub each-follows : (P : List (List ℕ) → List Value → RowEnd → Type 0) (survey : SurveyParts) (edits : EditsParts) (columns : List ℕ) (width budget : ℕ) (all : List (List Value)) (raws : List (List (List ℕ))) (rows : List (List Value)) (ends : List RowEnd)
+    → AreRows survey.fields columns raws rows → AllByRecursion (λ (reads : List (List ℕ)). length reads ≡ width) raws → AllZip (IsEndOf survey edits budget all) rows ends → AllZip (Says survey edits budget) rows ends → AllZip (IsShown survey) rows ends
+    → ((reads : List (List ℕ)) (row : List Value) (end : RowEnd) → AreValues survey.fields columns reads row → length reads ≡ width → IsEndOf survey edits budget all row end → Says survey edits budget row end → IsShown survey row end → P reads row end)
     → AreEach P raws rows ends
-each-follows P survey edits columns width budget [] [] [] values long each say shown follows = tt
-each-follows P survey edits columns width budget [] [] (end ∷ ends) values long each say shown follows = absurd each
-each-follows P survey edits columns width budget [] (row ∷ rows) ends values long each say shown follows = absurd values
-each-follows P survey edits columns width budget (reads ∷ raws) [] ends values long each say shown follows = absurd values
-each-follows P survey edits columns width budget (reads ∷ raws) (row ∷ rows) [] values long each say shown follows = absurd each
-each-follows P survey edits columns width budget (reads ∷ raws) (row ∷ rows) (end ∷ ends) values long each say shown follows =
-    (follows reads row end values.0 long.0 each.0 say.0 shown.0, each-follows P survey edits columns width budget raws rows ends values.1 long.1 each.1 say.1 shown.1 follows)
+each-follows P survey edits columns width budget all [] [] [] values long each say shown follows = tt
+each-follows P survey edits columns width budget all [] [] (end ∷ ends) values long each say shown follows = absurd each
+each-follows P survey edits columns width budget all [] (row ∷ rows) ends values long each say shown follows = absurd values
+each-follows P survey edits columns width budget all (reads ∷ raws) [] ends values long each say shown follows = absurd values
+each-follows P survey edits columns width budget all (reads ∷ raws) (row ∷ rows) [] values long each say shown follows = absurd each
+each-follows P survey edits columns width budget all (reads ∷ raws) (row ∷ rows) (end ∷ ends) values long each say shown follows =
+    (follows reads row end values.0 long.0 each.0 say.0 shown.0, each-follows P survey edits columns width budget all raws rows ends values.1 long.1 each.1 say.1 shown.1 follows)
 
 -- ---- a record that was given values
 
 -- the texts that are released of it are as the proof says
 pub end-released : (r : RowRules) (edits : EditsParts) (budget : ℕ) (reads : List (List ℕ)) (row : List Value) → IsWellFormed r.survey → IsRow r.survey.fields row
     → length r.columns ≡ length r.survey.fields → AllPairs (λ (c : ℕ) (d : ℕ). c ≢ d) r.columns → All (λ (c : ℕ). c < length reads) r.columns
-    → (outcome : Outcome) (fault : Option GiftFault) (gift : Option Gift) → Follows r.survey edits row outcome fault gift → OutcomeSays r.survey edits budget row outcome gift → IsSome gift
+    → (donor : Option (List Value)) (outcome : Outcome) (fault : Option GiftFault) (gift : Option Gift) → Follows r.survey edits row donor outcome fault gift → OutcomeSays r.survey edits budget row outcome gift → IsSome gift
     → IsReleased r (files_with r.survey.fields r.columns reads row (path_found outcome) gift) (path_found (said_of outcome fault).outcome)
-end-released r edits budget reads row well is_row one_each distinct within outcome fault None follows says some = absurd (cc some)
-end-released r edits budget reads row well is_row one_each distinct within (Change path zero cert) None (Some gift) follows says some =
-    (gift.row, clean-released r.survey r.columns reads row path 0 gift well is_row one_each distinct within follows says refl)
-end-released r edits budget reads row well is_row one_each distinct within (Change path (suc w) cert) None (Some gift) follows says some =
-    (gift.row, row-released r.survey r.columns reads row path (suc w) gift well is_row one_each distinct within follows says)
-end-released r edits budget reads row well is_row one_each distinct within (Change path w cert) (Some fault) (Some gift) follows says some = absurd follows
-end-released r edits budget reads row well is_row one_each distinct within (Budget path work) None (Some gift) follows says some = absurd follows
-end-released r edits budget reads row well is_row one_each distinct within (Budget path work) (Some fault) (Some gift) follows says some = absurd follows
-end-released r edits budget reads row well is_row one_each distinct within (Overflow path event) None (Some gift) follows says some = absurd follows
-end-released r edits budget reads row well is_row one_each distinct within (Overflow path event) (Some fault) (Some gift) follows says some = absurd follows
-end-released r edits budget reads row well is_row one_each distinct within (Contradictory cert) None (Some gift) follows says some = absurd follows
-end-released r edits budget reads row well is_row one_each distinct within (Contradictory cert) (Some fault) (Some gift) follows says some = absurd follows
+end-released r edits budget reads row well is_row one_each distinct within donor outcome fault None follows says some = absurd (cc some)
+end-released r edits budget reads row well is_row one_each distinct within donor (Change path zero cert) None (Some gift) follows says some =
+    (gift.row, clean-released r.survey r.columns reads row path 0 donor gift well is_row one_each distinct within follows says refl)
+end-released r edits budget reads row well is_row one_each distinct within donor (Change path (suc w) cert) None (Some gift) follows says some =
+    (gift.row, row-released r.survey r.columns reads row path (suc w) donor gift well is_row one_each distinct within follows says)
+end-released r edits budget reads row well is_row one_each distinct within donor (Change path w cert) (Some fault) (Some gift) follows says some = absurd follows
+end-released r edits budget reads row well is_row one_each distinct within donor (Budget path work) None (Some gift) follows says some = absurd follows
+end-released r edits budget reads row well is_row one_each distinct within donor (Budget path work) (Some fault) (Some gift) follows says some = absurd follows
+end-released r edits budget reads row well is_row one_each distinct within donor (Overflow path event) None (Some gift) follows says some = absurd follows
+end-released r edits budget reads row well is_row one_each distinct within donor (Overflow path event) (Some fault) (Some gift) follows says some = absurd follows
+end-released r edits budget reads row well is_row one_each distinct within donor (Contradictory cert) None (Some gift) follows says some = absurd follows
+end-released r edits budget reads row well is_row one_each distinct within donor (Contradictory cert) (Some fault) (Some gift) follows says some = absurd follows

@@ -41,9 +41,10 @@ flags-said (Kept why ∷ verdicts) = ap (λ (kept : List Bool). true ∷ kept) (
 flags-said (Dropped steps ∷ verdicts) = ap (λ (kept : List Bool). false ∷ kept) (flags-said verdicts)
 
 -- the checks of its proof are made by them
-pub rules-are : (survey : SurveyParts) (sheet : SheetParts) (released proof : List ℕ) (budget : ℕ) (ends : List RowEnd) → rules_of (audit_of survey sheet released proof) (proof_of survey budget ends) ≡ edit_rules survey sheet.columns budget
-rules-are survey sheet released proof budget ends =
-    ap (λ (usable : List Bool). record { survey = survey; given = normal_lines_of survey; usable = usable; columns = sheet.columns; budget = budget }) (flags-said (rule_verdicts survey))
+pub rules-are : (survey : SurveyParts) (sheet : SheetParts) (released proof : List ℕ) (terms : Terms) (ends : List RowEnd) (history : List Entry)
+    → rules_of (audit_of survey sheet released proof) (proof_of survey terms ends history) ≡ edit_rules survey sheet.columns terms.budget
+rules-are survey sheet released proof terms ends history =
+    ap (λ (usable : List Bool). record { survey = survey; given = normal_lines_of survey; usable = usable; columns = sheet.columns; budget = terms.budget }) (flags-said (rule_verdicts survey))
 
 -- texts are released for a record that is changed and was given values
 abbrev pub IsReleasedSaid : RowRules → RowFiles → Outcome → Option GiftFault → Type 0
@@ -58,8 +59,8 @@ module _ (survey : SurveyParts) (row : List Value) (budget : ℕ) (formed : IsWe
   has-tree (outcome.Overflow path event) e = tt
   has-tree (outcome.Contradictory cert) e = contradiction-tree (case_of survey (kept_edits survey) row) (rule-case survey row formed is) (normal_lines_of survey) (rule_flags survey) (rules-given survey) budget cert e
 
-  pub tree-shown : (end : RowEnd) → IsEndOf survey (kept_edits survey) budget row end → IsShown survey row end
-  tree-shown end ends = has-tree end.proof.outcome (sym ends.outcome)
+  pub tree-shown : (all : List (List Value)) (end : RowEnd) → IsEndOf survey (kept_edits survey) budget all row end → IsShown survey row end
+  tree-shown all end ends = has-tree end.proof.outcome (sym ends.outcome)
 
   module _ (columns : List ℕ) (reads : List (List ℕ)) (texts : Option (List (List ℕ))) where
     abbrev r : RowRules
@@ -72,25 +73,25 @@ module _ (survey : SurveyParts) (row : List Value) (budget : ℕ) (formed : IsWe
     abbrev IsRight : RowProof → Type 0
     IsRight said = IsReleasedSaid r f said.outcome said.gift → IsValidRow r f said
 
-    stopped : (path : List Bool) (weight : ℕ) (cert : Cert) (stop : GiftFault) (gift : Option Gift) → outcome_of (case_of survey (kept_edits survey) row) budget ≡ outcome.Change path weight cert
-        → Follows survey (kept_edits survey) row (outcome.Change path weight cert) (Some stop) gift → IsValidGift r f path weight cert.leaves stop
-    stopped path weight cert stop None e follows =
-        (change-is (case_of survey (kept_edits survey) row) budget path weight cert e, has-tree _ e, stop-there survey (kept_edits survey) row follows.changed None stop follows.stops)
-    stopped path weight cert stop (Some gift) e follows = absurd follows
+    stopped : (donor : Option (List Value)) (path : List Bool) (weight : ℕ) (cert : Cert) (stop : GiftFault) (gift : Option Gift) → outcome_of (case_of survey (kept_edits survey) row) budget ≡ outcome.Change path weight cert
+        → Follows survey (kept_edits survey) row donor (outcome.Change path weight cert) (Some stop) gift → IsValidGift r f path weight cert.leaves stop
+    stopped donor path weight cert stop None e follows =
+        (change-is (case_of survey (kept_edits survey) row) budget path weight cert e, has-tree _ e, stop-there survey (kept_edits survey) row follows.changed donor stop follows.stops)
+    stopped donor path weight cert stop (Some gift) e follows = absurd follows
 
-    right-said : (o : Outcome) (stop : Option GiftFault) (gift : Option Gift) → outcome_of (case_of survey (kept_edits survey) row) budget ≡ o → Follows survey (kept_edits survey) row o stop gift → IsRight (said_of o stop)
-    right-said (outcome.Change path zero cert) None gift e follows released = released
-    right-said (outcome.Change path (suc w) cert) None gift e follows released = (change-is (case_of survey (kept_edits survey) row) budget path (suc w) cert e, has-tree _ e, released)
-    right-said (outcome.Change path zero cert) (Some stop) gift e follows released = stopped path zero cert stop gift e follows
-    right-said (outcome.Change path (suc w) cert) (Some stop) gift e follows released = stopped path (suc w) cert stop gift e follows
-    right-said (outcome.Budget path work) stop gift e follows released = work-within (case_of survey (kept_edits survey) row) budget path work e
-    right-said (outcome.Overflow path event) stop gift e follows released = event-there (case_of survey (kept_edits survey) row) (rule-case survey row formed is) budget path event e
-    right-said (outcome.Contradictory cert) stop gift e follows released = has-tree _ e
+    right-said : (donor : Option (List Value)) (o : Outcome) (stop : Option GiftFault) (gift : Option Gift) → outcome_of (case_of survey (kept_edits survey) row) budget ≡ o → Follows survey (kept_edits survey) row donor o stop gift → IsRight (said_of o stop)
+    right-said donor (outcome.Change path zero cert) None gift e follows released = released
+    right-said donor (outcome.Change path (suc w) cert) None gift e follows released = (change-is (case_of survey (kept_edits survey) row) budget path (suc w) cert e, has-tree _ e, released)
+    right-said donor (outcome.Change path zero cert) (Some stop) gift e follows released = stopped donor path zero cert stop gift e follows
+    right-said donor (outcome.Change path (suc w) cert) (Some stop) gift e follows released = stopped donor path (suc w) cert stop gift e follows
+    right-said donor (outcome.Budget path work) stop gift e follows released = work-within (case_of survey (kept_edits survey) row) budget path work e
+    right-said donor (outcome.Overflow path event) stop gift e follows released = event-there (case_of survey (kept_edits survey) row) (rule-case survey row formed is) budget path event e
+    right-said donor (outcome.Contradictory cert) stop gift e follows released = has-tree _ e
 
   -- the proof of an edit is right of a record
-  pub said-valid : (r : RowRules) (f : RowFiles) (end : RowEnd) → r ≡ edit_rules survey r.columns budget → f.row ≡ row → IsEndOf survey (kept_edits survey) budget row end
+  pub said-valid : (r : RowRules) (f : RowFiles) (all : List (List Value)) (end : RowEnd) → r ≡ edit_rules survey r.columns budget → f.row ≡ row → IsEndOf survey (kept_edits survey) budget all row end
       → IsReleasedSaid r f (said end).outcome (said end).gift → IsValidRow r f (said end)
-  said-valid r f end rules_are row_is ends =
+  said-valid r f all end rules_are row_is ends =
       subst (λ (s : RowRules). IsReleasedSaid s f (said end).outcome (said end).gift → IsValidRow s f (said end)) (sym rules_are)
       (subst (λ (read : List Value). (let g : RowFiles = record { reads = f.reads; row = read; texts = f.texts } in IsReleasedSaid (edit_rules survey r.columns budget) g (said end).outcome (said end).gift → IsValidRow (edit_rules survey r.columns budget) g (said end))) (sym row_is)
-      (right-said r.columns f.reads f.texts end.proof.outcome end.proof.gift end.gift (sym ends.outcome) ends.follows))
+      (right-said r.columns f.reads f.texts (option_map (row_at all) end.donor) end.proof.outcome end.proof.gift end.gift (sym ends.outcome) ends.follows))
