@@ -77,14 +77,14 @@ fn put(
     Ok(())
 }
 
-// A desk with these files of rules and records, of whose calls one fails and keeps two bytes.
+// A desk with these files of rules and records, of whose calls one fails and keeps three bytes.
 fn desk_of(alloc: Global, rules: &[u8], records: &[u8], fails: u64) -> Result<MemoryDesk, Fail> {
     let mut files = BTreeMap::new(alloc);
     put(alloc, &mut files, "r", rules)?;
     put(alloc, &mut files, "c", records)?;
     let failures = [Failure {
         call: fails,
-        keep: 2,
+        keep: 3,
     }];
     Ok(MemoryDesk::new(alloc, files, failures.to_vec(alloc)?))
 }

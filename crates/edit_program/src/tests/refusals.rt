@@ -8,7 +8,14 @@ use std::test::Fail;
 
 /// The proof of the first record that is at least 3, where it was 1.
 const PROOF: &str =
-    "fh-proof 1\nlimit 1 near 5 budget 1000000\nlines 1\nkeep\nrecords 1\nchange 1 C 2\nline K 1\ngiven 1\nbound C\nclaims 0\nend\n";
+    "fh-proof 1\nlimit 1 near 5 budget 1000000\nlines 1\nkeep\nrecords 1\nchange 1 C 2\nline K 1\ngiven 1\nbound C\nclaims 1\nclaim 1 0\nend\n";
+
+/// A profit that is too high, and its proof.
+const TRADE: &str =
+    "number Turnover weight 2\nnumber Costs\nnumber Profit\nTurnover >= 0\nCosts >= 0\nTurnover - Costs - Profit = 0\n10 Profit <= 6 Turnover\n";
+
+const TRADE_PROOF: &str =
+    "fh-proof 1\nlimit 1 near 5 budget 1000000\nlines 5\nkeep\ndrop 9\ngiven 1\ngiven 4\ncombine 1 1 2 1 1\ngiven 6\ncombine 3 1 4 1 1\ngiven 5\ncombine 6 1 2 3 1\ncombine 7 1 4 3 2\ncombine 5 1 8 1 1\nkeep\nkeep\nkeep\nrecords 1\nchange 1 KKC 4\nline KKK 1\ngiven 3\nbound KKC\nbound KC\nbound C\nclaims 1\nclaim 1 0\nend\n";
 
 const RUNS: &[Run] = &[
     // the rules can not be read
@@ -39,7 +46,7 @@ const RUNS: &[Run] = &[
         printed: "fault: read c\n",
         checked: "",
     },
-    // the proof can not be written, but for two bytes
+    // the proof can not be written, but for three bytes
     Run {
         rules: "number A\nA >= 3\n",
         records: "A\n1\n",
@@ -47,27 +54,27 @@ const RUNS: &[Run] = &[
         fails: 3,
         unprinted: 0,
         status: Status::WriteFault,
-        proof: Some("fh"),
+        proof: Some("fh-"),
         reasons: None,
         released: None,
         printed: "fault: write p\n",
         checked: "",
     },
-    // the reasons can not be written, but for two bytes
+    // the reasons can not be written, but for three bytes
     Run {
-        rules: "number A\nA >= 3\n",
-        records: "A\n1\n",
+        rules: TRADE,
+        records: "Turnover,Costs,Profit\n100,60,400\n",
         words: &[],
         fails: 4,
         unprinted: 0,
         status: Status::WriteFault,
-        proof: Some(PROOF),
-        reasons: Some("re"),
+        proof: Some(TRADE_PROOF),
+        reasons: Some("rec"),
         released: None,
         printed: "fault: write w\n",
         checked: "",
     },
-    // the released file can not be written, but for two bytes
+    // the released file can not be written, but for three bytes
     Run {
         rules: "number A\nA >= 3\n",
         records: "A\n1\n",
@@ -77,7 +84,7 @@ const RUNS: &[Run] = &[
         status: Status::WriteFault,
         proof: Some(PROOF),
         reasons: Some("record,cause,field,before,after,donor,detail\n1,changed,A,1,3,,nearest\n"),
-        released: Some("A\n"),
+        released: Some("A\n3"),
         printed: "fault: write d\n",
         checked: "",
     },
@@ -92,7 +99,7 @@ const RUNS: &[Run] = &[
         proof: Some(PROOF),
         reasons: Some("record,cause,field,before,after,donor,detail\n1,changed,A,1,3,,nearest\n"),
         released: Some("A\n3\n"),
-        printed: "records 1 clean 0 changed 1 unresolved 0 weight 1\n",
+        printed: "records 1 clean 0 changed 1 unresolved 0 weight 1\nclaims 1 given 0\n",
         checked: "",
     },
     // the summary can not be printed
@@ -123,18 +130,32 @@ const RUNS: &[Run] = &[
         printed: "",
         checked: "",
     },
-    // there is no second line
+    // the second line can not be printed
     Run {
         rules: "number A\nA >= 3\n",
         records: "A\n1\n",
         words: &[],
         fails: 0,
         unprinted: 2,
-        status: Status::Done,
+        status: Status::WriteFault,
         proof: Some(PROOF),
         reasons: Some("record,cause,field,before,after,donor,detail\n1,changed,A,1,3,,nearest\n"),
         released: Some("A\n3\n"),
         printed: "records 1 clean 0 changed 1 unresolved 0 weight 1\n",
+        checked: "valid records 1 released 1\n",
+    },
+    // there is no third line
+    Run {
+        rules: "number A\nA >= 3\n",
+        records: "A\n1\n",
+        words: &[],
+        fails: 0,
+        unprinted: 3,
+        status: Status::Done,
+        proof: Some(PROOF),
+        reasons: Some("record,cause,field,before,after,donor,detail\n1,changed,A,1,3,,nearest\n"),
+        released: Some("A\n3\n"),
+        printed: "records 1 clean 0 changed 1 unresolved 0 weight 1\nclaims 1 given 0\n",
         checked: "valid records 1 released 1\n",
     },
     // an option stands twice
@@ -142,6 +163,34 @@ const RUNS: &[Run] = &[
         rules: "number A\nA >= 3\n",
         records: "A\n1\n",
         words: &["--rules", "x"],
+        fails: 0,
+        unprinted: 0,
+        status: Status::Usage,
+        proof: None,
+        reasons: None,
+        released: None,
+        printed: "fault: usage\n",
+        checked: "",
+    },
+    // a limit of 0
+    Run {
+        rules: "number A\nA >= 3\n",
+        records: "A\n1\n",
+        words: &["--limit", "0"],
+        fails: 0,
+        unprinted: 0,
+        status: Status::Usage,
+        proof: None,
+        reasons: None,
+        released: None,
+        printed: "fault: usage\n",
+        checked: "",
+    },
+    // 65 donors to rank
+    Run {
+        rules: "number A\nA >= 3\n",
+        records: "A\n1\n",
+        words: &["--near", "65"],
         fails: 0,
         unprinted: 0,
         status: Status::Usage,

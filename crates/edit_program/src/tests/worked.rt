@@ -9,6 +9,9 @@ const TRADE: &str =
 const HOUSEHOLD: &str =
     "code Age in {child, adult}\ncode Status in {single, married}\ncode Rel in {spouse, other}\nif Age in {child} then Status in {single}\nif Rel in {spouse} then Status in {married}\n";
 
+/// Two numbers, of which the second is from 1 to 9.
+const PAIR: &str = "number A\nnumber B\nA >= 1\nB >= 1\nB <= 9\n";
+
 const SUM: &str = "number A\nnumber B\nA + B = 10\n";
 
 const CHAIN: &str =
@@ -28,7 +31,7 @@ const RUNS: &[Run] = &[
         ),
         reasons: Some("record,cause,field,before,after,donor,detail\n"),
         released: Some("Turnover,Costs,Profit\n100,60,40\n"),
-        printed: "records 1 clean 1 changed 0 unresolved 0 weight 0\n",
+        printed: "records 1 clean 1 changed 0 unresolved 0 weight 0\nclaims 0 given 0\n",
         checked: "valid records 1 released 1\n",
     },
     // one wrong value
@@ -40,13 +43,13 @@ const RUNS: &[Run] = &[
         unprinted: 0,
         status: Status::Done,
         proof: Some(
-            "fh-proof 1\nlimit 1 near 5 budget 1000000\nlines 5\nkeep\ndrop 9\ngiven 1\ngiven 4\ncombine 1 1 2 1 1\ngiven 6\ncombine 3 1 4 1 1\ngiven 5\ncombine 6 1 2 3 1\ncombine 7 1 4 3 2\ncombine 5 1 8 1 1\nkeep\nkeep\nkeep\nrecords 1\nchange 1 KKC 4\nline KKK 1\ngiven 3\nbound KKC\nbound KC\nbound C\nclaims 0\nend\n",
+            "fh-proof 1\nlimit 1 near 5 budget 1000000\nlines 5\nkeep\ndrop 9\ngiven 1\ngiven 4\ncombine 1 1 2 1 1\ngiven 6\ncombine 3 1 4 1 1\ngiven 5\ncombine 6 1 2 3 1\ncombine 7 1 4 3 2\ncombine 5 1 8 1 1\nkeep\nkeep\nkeep\nrecords 1\nchange 1 KKC 4\nline KKK 1\ngiven 3\nbound KKC\nbound KC\nbound C\nclaims 1\nclaim 1 0\nend\n",
         ),
         reasons: Some(
             "record,cause,field,before,after,donor,detail\n1,changed,Profit,400,40,,nearest\n",
         ),
         released: Some("Turnover,Costs,Profit\n100,60,40\n"),
-        printed: "records 1 clean 0 changed 1 unresolved 0 weight 1\n",
+        printed: "records 1 clean 0 changed 1 unresolved 0 weight 1\nclaims 1 given 0\n",
         checked: "valid records 1 released 1\n",
     },
     // two fields of weight 1, where one of weight 2 is impossible
@@ -58,13 +61,13 @@ const RUNS: &[Run] = &[
         unprinted: 0,
         status: Status::Done,
         proof: Some(
-            "fh-proof 1\nlimit 1 near 5 budget 1000000\nlines 5\nkeep\ndrop 9\ngiven 1\ngiven 4\ncombine 1 1 2 1 1\ngiven 6\ncombine 3 1 4 1 1\ngiven 5\ncombine 6 1 2 3 1\ncombine 7 1 4 3 2\ncombine 5 1 8 1 1\nkeep\nkeep\nkeep\nrecords 1\nchange 2 KCC 5\nline KKK 1\ngiven 5\nline KKC 3\ngiven 4\ngiven 5\ncombine 1 5 2 1 1\nline KCK 1\ngiven 5\nbound KCC\nbound C\nclaims 0\nend\n",
+            "fh-proof 1\nlimit 1 near 5 budget 1000000\nlines 5\nkeep\ndrop 9\ngiven 1\ngiven 4\ncombine 1 1 2 1 1\ngiven 6\ncombine 3 1 4 1 1\ngiven 5\ncombine 6 1 2 3 1\ncombine 7 1 4 3 2\ncombine 5 1 8 1 1\nkeep\nkeep\nkeep\nrecords 1\nchange 2 KCC 5\nline KKK 1\ngiven 5\nline KKC 3\ngiven 4\ngiven 5\ncombine 1 5 2 1 1\nline KCK 1\ngiven 5\nbound KCC\nbound C\nclaims 1\nclaim 1 0\nend\n",
         ),
         reasons: Some(
             "record,cause,field,before,after,donor,detail\n1,changed,Costs,30,100,,nearest\n1,changed,Profit,70,0,,default\n",
         ),
         released: Some("Turnover,Costs,Profit\n100,100,0\n"),
-        printed: "records 1 clean 0 changed 1 unresolved 0 weight 2\n",
+        printed: "records 1 clean 0 changed 1 unresolved 0 weight 2\nclaims 1 given 0\n",
         checked: "valid records 1 released 1\n",
     },
     // two missing values
@@ -76,13 +79,13 @@ const RUNS: &[Run] = &[
         unprinted: 0,
         status: Status::Done,
         proof: Some(
-            "fh-proof 1\nlimit 1 near 5 budget 1000000\nlines 5\nkeep\ndrop 9\ngiven 1\ngiven 4\ncombine 1 1 2 1 1\ngiven 6\ncombine 3 1 4 1 1\ngiven 5\ncombine 6 1 2 3 1\ncombine 7 1 4 3 2\ncombine 5 1 8 1 1\nkeep\nkeep\nkeep\nrecords 1\nchange 2 KCC 4\nbad KK\nbad KCK\nbound KCC\nbound C\nclaims 0\nend\n",
+            "fh-proof 1\nlimit 1 near 5 budget 1000000\nlines 5\nkeep\ndrop 9\ngiven 1\ngiven 4\ncombine 1 1 2 1 1\ngiven 6\ncombine 3 1 4 1 1\ngiven 5\ncombine 6 1 2 3 1\ncombine 7 1 4 3 2\ncombine 5 1 8 1 1\nkeep\nkeep\nkeep\nrecords 1\nchange 2 KCC 4\nbad KK\nbad KCK\nbound KCC\nbound C\nclaims 1\nclaim 1 0\nend\n",
         ),
         reasons: Some(
             "record,cause,field,before,after,donor,detail\n1,changed,Costs,,100,,nearest\n1,changed,Profit,,0,,default\n",
         ),
         released: Some("Turnover,Costs,Profit\n100,100,0\n"),
-        printed: "records 1 clean 0 changed 1 unresolved 0 weight 2\n",
+        printed: "records 1 clean 0 changed 1 unresolved 0 weight 2\nclaims 1 given 0\n",
         checked: "valid records 1 released 1\n",
     },
     // a fraction
@@ -94,11 +97,11 @@ const RUNS: &[Run] = &[
         unprinted: 0,
         status: Status::Done,
         proof: Some(
-            "fh-proof 1\nlimit 1 near 5 budget 1000000\nlines 2\nkeep\nkeep\nrecords 1\nchange 1 CK 4\nline KK 1\ngiven 2\nbound KC\nbound CK\nbound CC\nclaims 0\nend\n",
+            "fh-proof 1\nlimit 1 near 5 budget 1000000\nlines 2\nkeep\nkeep\nrecords 1\nchange 1 CK 4\nline KK 1\ngiven 2\nbound KC\nbound CK\nbound CC\nclaims 1\nclaim 1 0\nend\n",
         ),
         reasons: Some("record,cause,field,before,after,donor,detail\n1,changed,A,5,7/3,,nearest\n"),
         released: Some("A,B\n7/3,7\n"),
-        printed: "records 1 clean 0 changed 1 unresolved 0 weight 1\n",
+        printed: "records 1 clean 0 changed 1 unresolved 0 weight 1\nclaims 1 given 0\n",
         checked: "valid records 1 released 1\n",
     },
     // a tie: the first set in path order, within a budget of just its work
@@ -110,11 +113,11 @@ const RUNS: &[Run] = &[
         unprinted: 0,
         status: Status::Done,
         proof: Some(
-            "fh-proof 1\nlimit 1 near 5 budget 5\nlines 2\nkeep\nkeep\nrecords 1\nchange 1 KC 3\nline KK 1\ngiven 1\nbound KC\nbound C\nclaims 0\nend\n",
+            "fh-proof 1\nlimit 1 near 5 budget 5\nlines 2\nkeep\nkeep\nrecords 1\nchange 1 KC 3\nline KK 1\ngiven 1\nbound KC\nbound C\nclaims 1\nclaim 1 0\nend\n",
         ),
         reasons: Some("record,cause,field,before,after,donor,detail\n1,changed,B,4,7,,nearest\n"),
         released: Some("A,B\n3,7\n"),
-        printed: "records 1 clean 0 changed 1 unresolved 0 weight 1\n",
+        printed: "records 1 clean 0 changed 1 unresolved 0 weight 1\nclaims 1 given 0\n",
         checked: "valid records 1 released 1\n",
     },
     // the same with one less
@@ -132,7 +135,7 @@ const RUNS: &[Run] = &[
             "record,cause,field,before,after,donor,detail\n1,budget,,,,,path KC work 3\n",
         ),
         released: Some("A,B\n"),
-        printed: "records 1 clean 0 changed 0 unresolved 1 weight 0\n",
+        printed: "records 1 clean 0 changed 0 unresolved 1 weight 0\nclaims 0 given 0\n",
         checked: "valid records 1 released 0\n",
     },
     // rules on codes: one field alone is closed only by both rules together
@@ -144,13 +147,13 @@ const RUNS: &[Run] = &[
         unprinted: 0,
         status: Status::Done,
         proof: Some(
-            "fh-proof 1\nlimit 1 near 5 budget 1000000\nlines 2\nkeep\nkeep\nrecords 1\nchange 1 CKK 6\nbox KK 4\ngiven 1\nfail 1\nfix 1 2\nfix 2 3\nbox KCK 7\ngiven 2\nfail 1\ngiven 1\nfail 3\nfix 1 4\ncover 2 2 5\nfix 3 6\nbound KCC\nbound CKK\nbound CKC\nbound CC\nclaims 0\nend\n",
+            "fh-proof 1\nlimit 1 near 5 budget 1000000\nlines 2\nkeep\nkeep\nrecords 1\nchange 1 CKK 6\nbox KK 4\ngiven 1\nfail 1\nfix 1 2\nfix 2 3\nbox KCK 7\ngiven 2\nfail 1\ngiven 1\nfail 3\nfix 1 4\ncover 2 2 5\nfix 3 6\nbound KCC\nbound CKK\nbound CKC\nbound CC\nclaims 1\nclaim 1 0\nend\n",
         ),
         reasons: Some(
             "record,cause,field,before,after,donor,detail\n1,changed,Age,child,adult,,nearest\n",
         ),
         released: Some("Age,Status,Rel\nadult,married,spouse\n"),
-        printed: "records 1 clean 0 changed 1 unresolved 0 weight 1\n",
+        printed: "records 1 clean 0 changed 1 unresolved 0 weight 1\nclaims 1 given 0\n",
         checked: "valid records 1 released 1\n",
     },
     // an open interval
@@ -162,11 +165,11 @@ const RUNS: &[Run] = &[
         unprinted: 0,
         status: Status::Done,
         proof: Some(
-            "fh-proof 1\nlimit 1 near 5 budget 1000000\nlines 2\nkeep\nkeep\nrecords 1\nchange 1 C 2\nbad K\nbound C\nclaims 0\nend\n",
+            "fh-proof 1\nlimit 1 near 5 budget 1000000\nlines 2\nkeep\nkeep\nrecords 1\nchange 1 C 2\nbad K\nbound C\nclaims 1\nclaim 1 0\nend\n",
         ),
         reasons: Some("record,cause,field,before,after,donor,detail\n1,changed,A,,1/2,,nearest\n"),
         released: Some("id,A\n1,1/2\n"),
-        printed: "records 1 clean 0 changed 1 unresolved 0 weight 1\n",
+        printed: "records 1 clean 0 changed 1 unresolved 0 weight 1\nclaims 1 given 0\n",
         checked: "valid records 1 released 1\n",
     },
     // an open interval without an end
@@ -178,11 +181,11 @@ const RUNS: &[Run] = &[
         unprinted: 0,
         status: Status::Done,
         proof: Some(
-            "fh-proof 1\nlimit 1 near 5 budget 1000000\nlines 1\nkeep\nrecords 1\nchange 1 C 2\nbad K\nbound C\nclaims 0\nend\n",
+            "fh-proof 1\nlimit 1 near 5 budget 1000000\nlines 1\nkeep\nrecords 1\nchange 1 C 2\nbad K\nbound C\nclaims 1\nclaim 1 0\nend\n",
         ),
         reasons: Some("record,cause,field,before,after,donor,detail\n1,changed,A,,1,,nearest\n"),
         released: Some("id,A\n1,1\n"),
-        printed: "records 1 clean 0 changed 1 unresolved 0 weight 1\n",
+        printed: "records 1 clean 0 changed 1 unresolved 0 weight 1\nclaims 1 given 0\n",
         checked: "valid records 1 released 1\n",
     },
     // a rule of a code and a number, of which the code is lighter
@@ -194,13 +197,13 @@ const RUNS: &[Run] = &[
         unprinted: 0,
         status: Status::Done,
         proof: Some(
-            "fh-proof 1\nlimit 1 near 5 budget 1000000\nlines 2\nkeep\nkeep\nrecords 1\nchange 1 KC 3\nbox KK 3\ngiven 2\nfail 1\nfix 1 2\nbound KC\nbound C\nclaims 0\nend\n",
+            "fh-proof 1\nlimit 1 near 5 budget 1000000\nlines 2\nkeep\nkeep\nrecords 1\nchange 1 KC 3\nbox KK 3\ngiven 2\nfail 1\nfix 1 2\nbound KC\nbound C\nclaims 1\nclaim 1 0\nend\n",
         ),
         reasons: Some(
             "record,cause,field,before,after,donor,detail\n1,changed,Status,child,adult,,nearest\n",
         ),
         released: Some("Status,Wage\nadult,50\n"),
-        printed: "records 1 clean 0 changed 1 unresolved 0 weight 1\n",
+        printed: "records 1 clean 0 changed 1 unresolved 0 weight 1\nclaims 1 given 0\n",
         checked: "valid records 1 released 1\n",
     },
     // and of which the number is
@@ -212,13 +215,13 @@ const RUNS: &[Run] = &[
         unprinted: 0,
         status: Status::Done,
         proof: Some(
-            "fh-proof 1\nlimit 1 near 5 budget 1000000\nlines 2\nkeep\nkeep\nrecords 1\nchange 1 CK 4\nbox KK 3\ngiven 2\nfail 1\nfix 1 2\nbound KC\nbound CK\nbound CC\nclaims 0\nend\n",
+            "fh-proof 1\nlimit 1 near 5 budget 1000000\nlines 2\nkeep\nkeep\nrecords 1\nchange 1 CK 4\nbox KK 3\ngiven 2\nfail 1\nfix 1 2\nbound KC\nbound CK\nbound CC\nclaims 1\nclaim 1 0\nend\n",
         ),
         reasons: Some(
             "record,cause,field,before,after,donor,detail\n1,changed,Wage,50,0,,default\n",
         ),
         released: Some("Status,Wage\nchild,0\n"),
-        printed: "records 1 clean 0 changed 1 unresolved 0 weight 1\n",
+        printed: "records 1 clean 0 changed 1 unresolved 0 weight 1\nclaims 1 given 0\n",
         checked: "valid records 1 released 1\n",
     },
     // rules that contradict each other
@@ -234,7 +237,7 @@ const RUNS: &[Run] = &[
         ),
         reasons: Some("record,cause,field,before,after,donor,detail\n1,contradictory,,,,,\n"),
         released: Some("A\n"),
-        printed: "records 1 clean 0 changed 0 unresolved 1 weight 0\n",
+        printed: "records 1 clean 0 changed 0 unresolved 1 weight 0\nclaims 0 given 0\n",
         checked: "valid records 1 released 0\n",
     },
     // a number past 128 bits
@@ -252,7 +255,7 @@ const RUNS: &[Run] = &[
             "record,cause,field,before,after,donor,detail\n1,overflow,,,,,path KCCCC lines 1 2 at x1\n",
         ),
         released: Some("x1,x2,x3,x4,x5,x6\n"),
-        printed: "records 1 clean 0 changed 0 unresolved 1 weight 0\n",
+        printed: "records 1 clean 0 changed 0 unresolved 1 weight 0\nclaims 0 given 0\n",
         checked: "valid records 1 released 0\n",
     },
     // records of each kind, further columns, and no numerals
@@ -264,13 +267,13 @@ const RUNS: &[Run] = &[
         unprinted: 0,
         status: Status::Done,
         proof: Some(
-            "fh-proof 1\nlimit 1 near 5 budget 1000000\nlines 1\nkeep\nrecords 3\nclean\nchange 1 C 2\nbad K\nbound C\nchange 1 C 2\nline K 1\ngiven 1\nbound C\nclaims 0\nend\n",
+            "fh-proof 1\nlimit 1 near 5 budget 1000000\nlines 1\nkeep\nrecords 3\nclean\nchange 1 C 2\nbad K\nbound C\nchange 1 C 2\nline K 1\ngiven 1\nbound C\nclaims 2\nclaim 2 1 1\nclaim 3 0 1\nend\n",
         ),
         reasons: Some(
-            "record,cause,field,before,after,donor,detail\n2,changed,A,1e3,0,,default\n3,changed,A,-4,0,,default\n",
+            "record,cause,field,before,after,donor,detail\n2,changed,A,1e3,15/2,1,donor\n3,changed,A,-4,0,,default\n",
         ),
-        released: Some("id,A\n\"x, y\",007.50\n1,0\n2,0\n"),
-        printed: "records 3 clean 1 changed 2 unresolved 0 weight 2\n",
+        released: Some("id,A\n\"x, y\",007.50\n1,15/2\n2,0\n"),
+        printed: "records 3 clean 1 changed 2 unresolved 0 weight 2\nclaims 2 given 1\n",
         checked: "valid records 3 released 3\n",
     },
     // no records
@@ -286,8 +289,98 @@ const RUNS: &[Run] = &[
         ),
         reasons: Some("record,cause,field,before,after,donor,detail\n"),
         released: Some("A\n"),
-        printed: "records 0 clean 0 changed 0 unresolved 0 weight 0\n",
+        printed: "records 0 clean 0 changed 0 unresolved 0 weight 0\nclaims 0 given 0\n",
         checked: "valid records 0 released 0\n",
+    },
+    // the nearest clean record gives its value, once
+    Run {
+        rules: PAIR,
+        records: "A,B\n5,4\n5,\n6,\n",
+        words: &["--near", "1"],
+        fails: 0,
+        unprinted: 0,
+        status: Status::Done,
+        proof: Some(
+            "fh-proof 1\nlimit 1 near 1 budget 1000000\nlines 3\nkeep\nkeep\nkeep\nrecords 3\nclean\nchange 1 KC 3\nbad KK\nbound KC\nbound C\nchange 1 KC 3\nbad KK\nbound KC\nbound C\nclaims 2\nclaim 2 1 1\nclaim 3 0 1\nend\n",
+        ),
+        reasons: Some(
+            "record,cause,field,before,after,donor,detail\n2,changed,B,,4,1,donor\n3,changed,B,,1,,nearest\n",
+        ),
+        released: Some("A,B\n5,4\n5,4\n6,1\n"),
+        printed: "records 3 clean 1 changed 2 unresolved 0 weight 2\nclaims 2 given 1\n",
+        checked: "valid records 3 released 3\n",
+    },
+    // or twice, where the limit is two
+    Run {
+        rules: PAIR,
+        records: "A,B\n5,4\n5,\n6,\n",
+        words: &["--limit", "2", "--near", "1"],
+        fails: 0,
+        unprinted: 0,
+        status: Status::Done,
+        proof: Some(
+            "fh-proof 1\nlimit 2 near 1 budget 1000000\nlines 3\nkeep\nkeep\nkeep\nrecords 3\nclean\nchange 1 KC 3\nbad KK\nbound KC\nbound C\nchange 1 KC 3\nbad KK\nbound KC\nbound C\nclaims 2\nclaim 2 1 1\nclaim 3 1 1\nend\n",
+        ),
+        reasons: Some(
+            "record,cause,field,before,after,donor,detail\n2,changed,B,,4,1,donor\n3,changed,B,,4,1,donor\n",
+        ),
+        released: Some("A,B\n5,4\n5,4\n6,4\n"),
+        printed: "records 3 clean 1 changed 2 unresolved 0 weight 2\nclaims 2 given 2\n",
+        checked: "valid records 3 released 3\n",
+    },
+    // a limit that is reached in the middle of a ranking, which has fewer donors than it may have
+    Run {
+        rules: "number A\nnumber B\nB >= 1\n",
+        records: "A,B\n1,10\n2,20\n1,\n1,\n1,\n",
+        words: &["--near", "64"],
+        fails: 0,
+        unprinted: 0,
+        status: Status::Done,
+        proof: Some(
+            "fh-proof 1\nlimit 1 near 64 budget 1000000\nlines 1\nkeep\nrecords 5\nclean\nclean\nchange 1 KC 3\nbad KK\nbound KC\nbound C\nchange 1 KC 3\nbad KK\nbound KC\nbound C\nchange 1 KC 3\nbad KK\nbound KC\nbound C\nclaims 3\nclaim 3 1 1 2\nclaim 4 2 1 2\nclaim 5 0 1 2\nend\n",
+        ),
+        reasons: Some(
+            "record,cause,field,before,after,donor,detail\n3,changed,B,,10,1,donor\n4,changed,B,,20,2,donor\n5,changed,B,,1,,nearest\n",
+        ),
+        released: Some("A,B\n1,10\n2,20\n1,10\n1,20\n1,1\n"),
+        printed: "records 5 clean 2 changed 3 unresolved 0 weight 3\nclaims 3 given 2\n",
+        checked: "valid records 5 released 5\n",
+    },
+    // a donor whose values are not allowed
+    Run {
+        rules: TRADE,
+        records: "Turnover,Costs,Profit\n200,120,80\n100,,400\n",
+        words: &[],
+        fails: 0,
+        unprinted: 0,
+        status: Status::Done,
+        proof: Some(
+            "fh-proof 1\nlimit 1 near 5 budget 1000000\nlines 5\nkeep\ndrop 9\ngiven 1\ngiven 4\ncombine 1 1 2 1 1\ngiven 6\ncombine 3 1 4 1 1\ngiven 5\ncombine 6 1 2 3 1\ncombine 7 1 4 3 2\ncombine 5 1 8 1 1\nkeep\nkeep\nkeep\nrecords 2\nclean\nchange 2 KCC 4\nbad KK\nline KCK 1\ngiven 5\nbound KCC\nbound C\nclaims 1\nclaim 2 1 1\nend\n",
+        ),
+        reasons: Some(
+            "record,cause,field,before,after,donor,detail\n2,changed,Costs,,40,1,nearest\n2,changed,Profit,400,60,1,nearest\n",
+        ),
+        released: Some("Turnover,Costs,Profit\n200,120,80\n100,40,60\n"),
+        printed: "records 2 clean 1 changed 1 unresolved 0 weight 2\nclaims 1 given 1\n",
+        checked: "valid records 2 released 2\n",
+    },
+    // a record that needs no change, but whose final test leaves 128 bits: it is no donor and claims none
+    Run {
+        rules: "number A\nnumber B\nnumber C\n1000000000 A + 1000000000 B + 1000000000 C >= 0\n",
+        records: "A,B,C\n999999999999999999999/999983,999999999999999999999/999979,999999999999999999999/999961\n1,1,\n",
+        words: &[],
+        fails: 0,
+        unprinted: 0,
+        status: Status::SomeUnresolved,
+        proof: Some(
+            "fh-proof 1\nlimit 1 near 5 budget 1000000\nlines 1\nkeep\nrecords 2\ngift 0 KKK 0 1 1\nbound -\nchange 1 KKC 4\nbad KKK\nbound KKC\nbound KC\nbound C\nclaims 1\nclaim 2 0\nend\n",
+        ),
+        reasons: Some(
+            "record,cause,field,before,after,donor,detail\n1,overflow,,,,,giving rule 1\n2,changed,C,,0,,default\n",
+        ),
+        released: Some("A,B,C\n1,1,0\n"),
+        printed: "records 2 clean 0 changed 1 unresolved 1 weight 1\nclaims 1 given 0\n",
+        checked: "valid records 2 released 1\n",
     },
 ];
 
