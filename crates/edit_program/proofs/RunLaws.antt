@@ -26,7 +26,7 @@ use Rattle.edit_program.proofs.ToldLaws.{each-told, from-told, same-told}
 -- ---- edits
 
 module _ (asked : EditAsked) (before after : Seen) where
-  module _ (release : Release) (answer : Status) (telling : IsTelling (edit_status release) (release.summary.items ∷ []) answer before.printed after.printed before.unprinted after.unprinted)
+  module _ (release : Release) (answer : Status) (telling : IsTelling (edit_status release) (written_in release).summary answer before.printed after.printed before.unprinted after.unprinted)
       (files : Told before.files after.files (λ old new. IsMade asked (edit_status release) old (written_in release) × AreWritten asked (written_in release) old new))
       (calls : PutsOnRecord before.calls after.calls (λ calls. calls ≡ edit_calls asked)) (faults : after.faults ≡ before.faults) where
     stored : IsStored asked (edit_status release) (written_in release) before after
@@ -36,7 +36,7 @@ module _ (asked : EditAsked) (before after : Seen) where
     pub edited-by : HasReleased answer → IsEdited asked answer before after
     edited-by ended = by telling
       where
-        by : IsTelling (edit_status release) (release.summary.items ∷ []) answer before.printed after.printed before.unprinted after.unprinted → IsEdited asked answer before after
+        by : IsTelling (edit_status release) (written_in release).summary answer before.printed after.printed before.unprinted after.unprinted → IsEdited asked answer before after
         by (inl (is, printed, told)) = record {
           written = written_in release;
           stored = subst (λ (s : Status). IsStored asked s (written_in release) before after) (sym is) stored;
@@ -52,7 +52,7 @@ module _ (asked : EditAsked) (before after : Seen) where
     pub untold-by : (¬ HasReleased answer) → IsEditStopped asked answer before after
     untold-by not = by telling
       where
-        by : IsTelling (edit_status release) (release.summary.items ∷ []) answer before.printed after.printed before.unprinted after.unprinted → IsEditStopped asked answer before after
+        by : IsTelling (edit_status release) (written_in release).summary answer before.printed after.printed before.unprinted after.unprinted → IsEditStopped asked answer before after
         by (inl (is, printed, told)) = absurd (not (subst HasReleased (sym is) (has-released release)))
         by (inr (is, printed, told)) = inr (
           is,

@@ -21,26 +21,26 @@ use Rattle.edit_program.specs.Laws.{IsInReach, WholeLaw}
 use Rattle.edit_program.specs.declared.status.Status.{Status}
 use Rattle.edit_program.specs.declared.status.Status.TheVariants.{Done}
 
-module _ (survey : SurveyParts) (budget : ℕ) (p : Point) (correction : IsCorrection survey p) where
-  given : (row : List Value) (o : Outcome) (stop : Option GiftFault) (gift : Option Gift) → IsInReach survey budget row → o ≡ outcome_of (case_of survey (kept_edits survey) row) budget
-      → Follows survey (kept_edits survey) row o stop gift → OutcomeSays survey (kept_edits survey) budget row o gift → IsSome gift
-  given row o stop (Some gift) reach e follows says = refl
-  given row (Change path weight cert) None None reach e follows says = absurd follows
-  given row (Change path weight cert) (Some stop) None reach e follows says = absurd (reach.values_fit path stop follows)
-  given row (Budget path work) stop None reach e follows says = let enough = reach.enough in absurd (omega (arith, says, enough))
-  given row (Overflow path event) stop None reach e follows says = absurd (reach.search_fits path event (sym e))
-  given row (Contradictory cert) stop None reach e follows says = absurd (says p correction)
+module _ (survey : SurveyParts) (budget : ℕ) (all : List (List Value)) (p : Point) (correction : IsCorrection survey p) where
+  given : (row : List Value) (donor : Option ℕ) (o : Outcome) (stop : Option GiftFault) (gift : Option Gift) → IsInReach survey budget all row → o ≡ outcome_of (case_of survey (kept_edits survey) row) budget
+      → Follows survey (kept_edits survey) row (option_map (row_at all) donor) o stop gift → OutcomeSays survey (kept_edits survey) budget row o gift → IsSome gift
+  given row donor o stop (Some gift) reach e follows says = refl
+  given row donor (Change path weight cert) None None reach e follows says = absurd follows
+  given row donor (Change path weight cert) (Some stop) None reach e follows says = absurd (reach.values_fit donor path stop follows)
+  given row donor (Budget path work) stop None reach e follows says = let enough = reach.enough in absurd (omega (arith, says, enough))
+  given row donor (Overflow path event) stop None reach e follows says = absurd (reach.search_fits path event (sym e))
+  given row donor (Contradictory cert) stop None reach e follows says = absurd (says p correction)
 
-  all-given : (rows : List (List Value)) (ends : List RowEnd) → AllByRecursion (IsInReach survey budget) rows → AllZip (IsEndOf survey (kept_edits survey) budget) rows ends → AllZip (Says survey (kept_edits survey) budget) rows ends → AllGiven ends
+  all-given : (rows : List (List Value)) (ends : List RowEnd) → AllByRecursion (IsInReach survey budget all) rows → AllZip (IsEndOf survey (kept_edits survey) budget all) rows ends → AllZip (Says survey (kept_edits survey) budget) rows ends → AllGiven ends
   all-given [] [] reach each say = tt
   all-given [] (end ∷ ends) reach each say = absurd each
   all-given (row ∷ rows) [] reach each say = absurd each
   all-given (row ∷ rows) (end ∷ ends) reach each say =
-      (given row end.proof.outcome end.proof.gift end.gift reach.0 each.0.outcome each.0.follows say.0, all-given rows ends reach.1 each.1 say.1)
+      (given row end.donor end.proof.outcome end.proof.gift end.gift reach.0 each.0.outcome each.0.follows say.0, all-given rows ends reach.1 each.1 say.1)
 
 by-status : (ends : List RowEnd) (answer : Status) → IsStatusOf ends answer → AllGiven ends → answer ≡ Done
 by-status ends answer (inl (done, all)) given = done
 by-status ends answer (inr (some, not)) given = absurd (not given)
 
 pub whole-released : WholeLaw
-whole-released survey s budget answer written p edit correction reach = by-status edit.ends answer edit.ended (all-given survey budget p correction s.rows edit.ends reach edit.edit.each edit.edit.say)
+whole-released survey s terms answer written p edit correction reach = by-status edit.ends answer edit.ended (all-given survey terms.budget s.rows p correction s.rows edit.ends reach edit.edit.each edit.edit.say)

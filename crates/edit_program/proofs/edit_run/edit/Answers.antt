@@ -22,7 +22,7 @@ returns-in_err-survey-clause-asked g c =
     let f = c.in_err-survey.field-0.0 in
     rw (handed c.from_residual.result _ c.from_residual.ensures.1)
     (subst (λ (a : EditAsked). PutsOnRecord (g.D.Desk.calls c.args.desk.now) (g.D.Desk.calls c.fetch_survey.new.desk) (AreCallsTo (edit_calls a) f)) c.asked.view_is
-    (less-calls (g.D.Desk.calls c.args.desk.now) _ (AreCallsTo (edit_calls (edit_of c.asked.inside.rules.now c.asked.inside.records.now c.asked.inside.released.now c.asked.inside.reasons.now c.asked.inside.proof.now c.asked.inside.budget)) f) (λ calls h. rules-calls c.asked.inside.rules.now (fetched c.asked.inside.records.now ∷ stored c.asked.inside.proof.now ∷ stored c.asked.inside.reasons.now ∷ stored c.asked.inside.released.now ∷ []) calls f c.in_err-survey.ensures.kind h) c.in_err-survey.ensures.asked))
+    (less-calls (g.D.Desk.calls c.args.desk.now) _ (AreCallsTo (edit_calls (edit_of c.asked.inside.rules.now c.asked.inside.records.now c.asked.inside.released.now c.asked.inside.reasons.now c.asked.inside.proof.now c.asked.inside.budget c.asked.inside.limit c.asked.inside.near)) f) (λ calls h. rules-calls c.asked.inside.rules.now (fetched c.asked.inside.records.now ∷ stored c.asked.inside.proof.now ∷ stored c.asked.inside.reasons.now ∷ stored c.asked.inside.released.now ∷ []) calls f c.in_err-survey.ensures.kind h) c.in_err-survey.ensures.asked))
 
 pub returns-in_err-sheet-clause-due : goal.returns-in_err-sheet-clause-due
 returns-in_err-sheet-clause-due g c =
@@ -36,13 +36,13 @@ returns-in_err-sheet-clause-asked g c =
     let f = c.in_err-sheet.field-0.0 in
     rw (handed c.from_residual-in_err-sheet.result _ c.from_residual-in_err-sheet.ensures.1)
     (subst (λ (a : EditAsked). PutsOnRecord (g.D.Desk.calls c.args.desk.now) (g.D.Desk.calls c.fetch_sheet.new.desk) (AreCallsTo (edit_calls a) f)) c.asked.view_is
-    (then-calls (g.D.Desk.calls c.args.desk.now) _ _ (AreCallsTo (edit_calls (edit_of c.asked.inside.rules.now c.asked.inside.records.now c.asked.inside.released.now c.asked.inside.reasons.now c.asked.inside.proof.now c.asked.inside.budget)) f) (λ x y e h. subst (λ (l : List Asked). AreCallsTo (edit_calls (edit_of c.asked.inside.rules.now c.asked.inside.records.now c.asked.inside.released.now c.asked.inside.reasons.now c.asked.inside.proof.now c.asked.inside.budget)) f (l ++ y)) (sym e) (records-calls c.asked.inside.rules.now c.asked.inside.records.now (stored c.asked.inside.proof.now ∷ stored c.asked.inside.reasons.now ∷ stored c.asked.inside.released.now ∷ []) y f c.in_err-sheet.ensures.kind h)) c.in_ok-survey.ensures.asked c.in_err-sheet.ensures.asked))
+    (then-calls (g.D.Desk.calls c.args.desk.now) _ _ (AreCallsTo (edit_calls (edit_of c.asked.inside.rules.now c.asked.inside.records.now c.asked.inside.released.now c.asked.inside.reasons.now c.asked.inside.proof.now c.asked.inside.budget c.asked.inside.limit c.asked.inside.near)) f) (λ x y e h. subst (λ (l : List Asked). AreCallsTo (edit_calls (edit_of c.asked.inside.rules.now c.asked.inside.records.now c.asked.inside.released.now c.asked.inside.reasons.now c.asked.inside.proof.now c.asked.inside.budget c.asked.inside.limit c.asked.inside.near)) f (l ++ y)) (sym e) (records-calls c.asked.inside.rules.now c.asked.inside.records.now (stored c.asked.inside.proof.now ∷ stored c.asked.inside.reasons.now ∷ stored c.asked.inside.released.now ∷ []) y f c.in_err-sheet.ensures.kind h)) c.in_ok-survey.ensures.asked c.in_err-sheet.ensures.asked))
 
 pub returns-in_default-clause-asked : goal.returns-in_default-clause-asked
 returns-in_default-clause-asked g c =
     rw c.out_of_memory.ensures
     (subst (λ (a : EditAsked). PutsOnRecord (g.D.Desk.calls c.args.desk.now) (g.D.Desk.calls c.fetch_sheet.new.desk) (AreCallsTo (edit_calls a) fault.OutOfMemory)) c.asked.view_is
-    (less-calls (g.D.Desk.calls c.args.desk.now) _ (AreCallsTo (edit_calls (edit_of c.asked.inside.rules.now c.asked.inside.records.now c.asked.inside.released.now c.asked.inside.reasons.now c.asked.inside.proof.now c.asked.inside.budget)) fault.OutOfMemory) (λ x e. (2, e)) (all-calls (g.D.Desk.calls c.args.desk.now) _ _ (fetched c.asked.inside.rules.now ∷ []) (fetched c.asked.inside.records.now ∷ []) c.in_ok-survey.ensures.asked c.in_ok-sheet.ensures.asked)))
+    (less-calls (g.D.Desk.calls c.args.desk.now) _ (AreCallsTo (edit_calls (edit_of c.asked.inside.rules.now c.asked.inside.records.now c.asked.inside.released.now c.asked.inside.reasons.now c.asked.inside.proof.now c.asked.inside.budget c.asked.inside.limit c.asked.inside.near)) fault.OutOfMemory) (λ x e. (2, e)) (all-calls (g.D.Desk.calls c.args.desk.now) _ _ (fetched c.asked.inside.rules.now ∷ []) (fetched c.asked.inside.records.now ∷ []) c.in_ok-survey.ensures.asked c.in_ok-sheet.ensures.asked)))
 
 pub returns-in_err-store_release-clause-cause : goal.returns-in_err-store_release-clause-cause
 returns-in_err-store_release-clause-cause g c =
@@ -63,8 +63,8 @@ returns-in_err-store_release-clause-files g c =
     let f = c.in_err-store_release.field-0.0 in
     rw (handed c.from_residual-in_err-store_release.result _ c.from_residual-in_err-store_release.ensures.1)
     (subst (λ (a : EditAsked). Told (g.D.Desk.files c.args.desk.now) (g.D.Desk.files c.store_release.new.desk) (Leaves a f)) c.asked.view_is
-    (from-told (g.D.Desk.files c.args.desk.now) _ (λ old new is h. stores-leave (edit_of c.asked.inside.rules.now c.asked.inside.records.now c.asked.inside.released.now c.asked.inside.reasons.now c.asked.inside.proof.now c.asked.inside.budget) f (edit_status c.in-Ok.release) (written_in c.in-Ok.release) old new c.in_err-store_release.ensures.kind is h)
-    (both-told (g.D.Desk.files c.args.desk.now) (λ o hr hs. made (edit_of c.asked.inside.rules.now c.asked.inside.records.now c.asked.inside.released.now c.asked.inside.reasons.now c.asked.inside.proof.now c.asked.inside.budget) o c.in_ok-survey.survey c.in_ok-sheet.sheet c.in-Ok.release hr hs c.in-Ok.ensures.edit) c.in_ok-survey.ensures.read (rw c.in_ok-survey.ensures.unchanged at c.in_ok-sheet.ensures.read))
+    (from-told (g.D.Desk.files c.args.desk.now) _ (λ old new is h. stores-leave (edit_of c.asked.inside.rules.now c.asked.inside.records.now c.asked.inside.released.now c.asked.inside.reasons.now c.asked.inside.proof.now c.asked.inside.budget c.asked.inside.limit c.asked.inside.near) f (edit_status c.in-Ok.release) (written_in c.in-Ok.release) old new c.in_err-store_release.ensures.kind is h)
+    (both-told (g.D.Desk.files c.args.desk.now) (λ o hr hs. made (edit_of c.asked.inside.rules.now c.asked.inside.records.now c.asked.inside.released.now c.asked.inside.reasons.now c.asked.inside.proof.now c.asked.inside.budget c.asked.inside.limit c.asked.inside.near) o c.in_ok-survey.survey c.in_ok-sheet.sheet c.in-Ok.release hr hs c.in-Ok.ensures.edit) c.in_ok-survey.ensures.read (rw c.in_ok-survey.ensures.unchanged at c.in_ok-sheet.ensures.read))
     (rw (← c.asked.view_is, c.in_ok-sheet.ensures.unchanged, c.in_ok-survey.ensures.unchanged) at c.in_err-store_release.ensures.files)))
 
 pub returns-in_err-store_release-clause-asked : goal.returns-in_err-store_release-clause-asked
@@ -83,8 +83,8 @@ returns-clause-due g c =
 pub returns-clause-files : goal.returns-clause-files
 returns-clause-files g c =
     subst (λ (a : EditAsked). Told (g.D.Desk.files c.args.desk.now) (g.D.Desk.files c.store_release.new.desk) (λ old new. IsMade a (edit_status c.in-Ok.release) old (written_in c.in-Ok.release) × AreWritten a (written_in c.in-Ok.release) old new)) c.asked.view_is
-    (from-told (g.D.Desk.files c.args.desk.now) _ (λ old new is h. (is, all-written (edit_of c.asked.inside.rules.now c.asked.inside.records.now c.asked.inside.released.now c.asked.inside.reasons.now c.asked.inside.proof.now c.asked.inside.budget) (written_in c.in-Ok.release) old new c.asked.invariant.0 h))
-    (both-told (g.D.Desk.files c.args.desk.now) (λ o hr hs. made (edit_of c.asked.inside.rules.now c.asked.inside.records.now c.asked.inside.released.now c.asked.inside.reasons.now c.asked.inside.proof.now c.asked.inside.budget) o c.in_ok-survey.survey c.in_ok-sheet.sheet c.in-Ok.release hr hs c.in-Ok.ensures.edit) c.in_ok-survey.ensures.read (rw c.in_ok-survey.ensures.unchanged at c.in_ok-sheet.ensures.read))
+    (from-told (g.D.Desk.files c.args.desk.now) _ (λ old new is h. (is, all-written (edit_of c.asked.inside.rules.now c.asked.inside.records.now c.asked.inside.released.now c.asked.inside.reasons.now c.asked.inside.proof.now c.asked.inside.budget c.asked.inside.limit c.asked.inside.near) (written_in c.in-Ok.release) old new c.asked.invariant.0 h))
+    (both-told (g.D.Desk.files c.args.desk.now) (λ o hr hs. made (edit_of c.asked.inside.rules.now c.asked.inside.records.now c.asked.inside.released.now c.asked.inside.reasons.now c.asked.inside.proof.now c.asked.inside.budget c.asked.inside.limit c.asked.inside.near) o c.in_ok-survey.survey c.in_ok-sheet.sheet c.in-Ok.release hr hs c.in-Ok.ensures.edit) c.in_ok-survey.ensures.read (rw c.in_ok-survey.ensures.unchanged at c.in_ok-sheet.ensures.read))
     (rw (← c.asked.view_is, c.in_ok-sheet.ensures.unchanged, c.in_ok-survey.ensures.unchanged) at c.in_ok-store_release.ensures.files))
 
 pub returns-clause-asked : goal.returns-clause-asked
