@@ -46,7 +46,7 @@ as_many (field ∷ fields) [] is = absurd is
 as_many (field ∷ fields) (v ∷ row) is = let rest = as_many fields row is.1 in omega (arith, rest)
 
 -- what holds of the number of each clean row holds of each donor
-each_clean : (P : ℕ → Type 0) (survey : SurveyParts) (i : ℕ) (rows : List (List Value)) → ((k : ℕ) → k < length rows → is_clean survey (row_at rows k) ≡ true → P (i + k)) → All P (clean_from i survey rows)
+pub each_clean : (P : ℕ → Type 0) (survey : SurveyParts) (i : ℕ) (rows : List (List Value)) → ((k : ℕ) → k < length rows → is_clean survey (row_at rows k) ≡ true → P (i + k)) → All P (clean_from i survey rows)
 each_clean P survey i [] each = All-nil P
 each_clean P survey i (row ∷ rows) each =
     All-append P (if is_clean survey row then i ∷ [] else []) (clean_from (suc i) survey rows) (by (is_clean survey row) (λ clean. subst P (first i) (each 0 (omega arith) clean)))

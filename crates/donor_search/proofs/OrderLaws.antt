@@ -17,7 +17,7 @@ all_both : {X : Type 0} (P Q R : X → Type 0) (xs : List X) → ((x : X) → P 
 all_both P Q R [] step all also = tt
 all_both P Q R (x ∷ xs) step all also = (step x all.0 also.0, all_both P Q R xs step all.1 also.1)
 
-all_take : {X : Type 0} (P : X → Type 0) (n : ℕ) (xs : List X) → AllByRecursion P xs → AllByRecursion P (take n xs)
+pub all_take : {X : Type 0} (P : X → Type 0) (n : ℕ) (xs : List X) → AllByRecursion P xs → AllByRecursion P (take n xs)
 all_take P zero xs all = tt
 all_take P (suc n) [] all = tt
 all_take P (suc n) (x ∷ xs) all = (all.0, all_take P n xs all.1)

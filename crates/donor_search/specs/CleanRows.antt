@@ -1,4 +1,4 @@
-use Rattle.std.specs.Prelude.{ℕ, suc, ◌<◌, ◌++◌, if◌then◌else◌, List, [], ◌∷◌, length, slice_index_or}
+use Rattle.std.specs.Prelude.{◌≡◌, ℕ, suc, ◌<◌, ◌++◌, if◌then◌else◌, true, List, [], ◌∷◌, length, slice_index_or}
 use Rattle.edit_model.specs.CleanRecords.{is_clean}
 use Rattle.edit_model.specs.Parts.{SurveyParts}
 use Rattle.edit_model.specs.declared.value.Value.{Value}
@@ -17,6 +17,10 @@ donors_of survey rows = clean_from 0 survey rows
 -- the row of a number
 abbrev pub row_at : List (List Value) → ℕ → List Value
 row_at rows i = slice_index_or rows i []
+
+-- the number of a clean row
+abbrev pub IsCleanRow : SurveyParts → List (List Value) → ℕ → Type 0
+IsCleanRow survey rows i = (i < length rows) × (is_clean survey (row_at rows i) ≡ true)
 
 -- a donor is a row, and has a code or a plain number at each kept field
 abbrev pub CanGive : List Yardstick → List (List Value) → ℕ → ℕ → Type 0
