@@ -1,5 +1,5 @@
 -- Words ask for one command at most.
-use Rattle.std.proofs.Common.{◌≡◌, ◌∙◌, ◌/◌, ◌%◌, ◌≤◌, ℕ, Bool, true, false, not, Option, Some, None, refl, List, [], ◌∷◌, String, Global, ap, arith, length, map, string_bytes, subst, sym}
+use Rattle.std.proofs.Common.{◌≡◌, ◌∙◌, ◌/◌, ◌%◌, ◌<◌, ◌≤◌, ℕ, Bool, true, false, not, Option, Some, None, refl, List, [], ◌∷◌, String, Global, ap, arith, length, map, string_bytes, subst, sym}
 use Rattle.std.proofs.lemmas.List.{length-map}
 use Rattle.std.specs.Prelude.{codes, IfNone, IfSome}
 use Rattle.command_words.specs.Asked.{CheckAsked, EditAsked, GiveCheck, GiveEdit, GiveRules, IsCheck, IsEdit, IsRules, RulesAsked}
@@ -23,17 +23,29 @@ between default least most (text ∷ second ∷ more) n low high given = absurd 
 one_value : (values : List (List ℕ)) (a b : List ℕ) → values ≡ a ∷ [] → values ≡ b ∷ [] → a ≡ b
 one_value values a b p q = cc
 
--- an edit of these files
-abbrev pub edit_of : List ℕ → List ℕ → List ℕ → List ℕ → List ℕ → ℕ → EditAsked
-edit_of r c d s p n = record { names = record { rules = r; records = c; released = d; reasons = s; proof = p }; budget = n }
+-- the number of an option is below any bound that the most and the default are below
+pub number_below : (default least most bound : ℕ) (values : List (List ℕ)) (n : ℕ) → default < bound → most < bound → GivesNumber default least most values n → n < bound
+number_below default least most bound [] n low high given = rw given low
+number_below default least most bound (text ∷ []) n low high given = let fits = given.2 in omega arith
+number_below default least most bound (text ∷ second ∷ more) n low high given = absurd given
 
-same_edit : (r c d s p r' c' d' s' p' : List ℕ) (n n' : ℕ) → r ≡ r' → c ≡ c' → d ≡ d' → s ≡ s' → p ≡ p' → n ≡ n' → edit_of r c d s p n ≡ edit_of r' c' d' s' p' n'
-same_edit r c d s p r' c' d' s' p' n n' er ec ed es ep en = cc
+-- an edit of these files, on these terms
+abbrev pub edit_of : List ℕ → List ℕ → List ℕ → List ℕ → List ℕ → ℕ → ℕ → ℕ → EditAsked
+edit_of r c d s p budget limit near = record {
+  names = record { rules = r; records = c; released = d; reasons = s; proof = p };
+  budget = budget;
+  limit = limit;
+  near = near;
+}
+
+same_edit : (r c d s p r' c' d' s' p' : List ℕ) (b l n b' l' n' : ℕ) → r ≡ r' → c ≡ c' → d ≡ d' → s ≡ s' → p ≡ p' → b ≡ b' → l ≡ l' → n ≡ n' → edit_of r c d s p b l n ≡ edit_of r' c' d' s' p' b' l' n'
+same_edit r c d s p r' c' d' s' p' b l n b' l' n' er ec ed es ep eb el en = cc
 
 -- pairs give one edit at most
 pub one_edit : (pairs : Pairs) (a b : EditAsked) → GiveEdit pairs a → GiveEdit pairs b → a ≡ b
 one_edit pairs a b p q =
-    same_edit _ _ _ _ _ _ _ _ _ _ _ _ (one_value _ _ _ p.rules q.rules) (one_value _ _ _ p.records q.records) (one_value _ _ _ p.released q.released) (one_value _ _ _ p.reasons q.reasons) (one_value _ _ _ p.proof q.proof) (one_number _ _ _ _ _ _ p.budget q.budget)
+    same_edit _ _ _ _ _ _ _ _ _ _ _ _ _ _ _ _ (one_value _ _ _ p.rules q.rules) (one_value _ _ _ p.records q.records) (one_value _ _ _ p.released q.released) (one_value _ _ _ p.reasons q.reasons) (one_value _ _ _ p.proof q.proof)
+    (one_number _ _ _ _ _ _ p.budget q.budget) (one_number _ _ _ _ _ _ p.limit q.limit) (one_number _ _ _ _ _ _ p.near q.near)
 
 -- a check of these files
 abbrev pub check_of : List ℕ → List ℕ → List ℕ → List ℕ → CheckAsked

@@ -2,11 +2,13 @@
 //! [`check_asked`] and [`rules_asked`]; which words are which command stands in `specs/Asked.antt`.
 #![tactic(auto)]
 
-mod check_asked;
-mod edit_asked;
+mod check_words;
+mod edit_words;
 mod options;
-mod rules_asked;
+mod rules_words;
+#[cfg(test)]
+mod tests;
 
-pub use check_asked::{CheckWords, check_asked};
-pub use edit_asked::{EditWords, edit_asked};
-pub use rules_asked::{RulesWords, rules_asked};
+pub use check_words::{CheckWords, check_asked};
+pub use edit_words::{EditWords, edit_asked};
+pub use rules_words::{RulesWords, rules_asked};

@@ -53,6 +53,27 @@ pub(crate) fn number_given(
     }
 }
 
+/// The same of a number below 2^32. No memory.
+pub(crate) fn short_given(
+    option: &str,
+    words: &[String],
+    default: u32,
+    least: u32,
+    most: u32,
+) -> Option<u32>
+    ensures some { IfSome result (λ n. GivesNumber default least most (values_of option.now (pairs_of (map string_bytes words.now))) n) }
+    ensures none { IfNone result ((n : ℕ) → ¬ GivesNumber default least most (values_of option.now (pairs_of (map string_bytes words.now))) n) }
+{
+    let number = number_given(
+        option,
+        words,
+        u64::from(default),
+        u64::from(least),
+        u64::from(most),
+    )?;
+    Some(number as u32)
+}
+
 // The value of an option among words taken two by two, if it stands there, or None where it stands there again.
 fn value_of<'a>(option: &str, words: &'a [String]) -> Option<Option<&'a str>>
     ensures once { IfSome result (λ found. values_of option.now (pairs_of (map string_bytes words.now)) ≡ option_to_list (option_copied found)) }

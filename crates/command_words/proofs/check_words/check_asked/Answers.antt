@@ -4,8 +4,8 @@ use Rattle.std.proofs.lemmas.Slice.Eq.{bytes_eq-Decides}
 use Rattle.command_words.specs.Asked.{CheckAsked, GiveCheck}
 use Rattle.command_words.specs.Options.{Pairs}
 use Rattle.command_words.proofs.AskedLaws.{command_check, command_is, check_command, if_none, if_some, is_command, one_check, options_even, options_given, not_both, true_unless}
-use Rattle.command_words.proofs.check_asked.check_asked.Goals as goal
-use Rattle.command_words.proofs.check_asked.check_asked.Goals.{then-ne-via-then-ne, then-ne-via-else-ne+then-options-ne0}
+use Rattle.command_words.proofs.check_words.check_asked.Goals as goal
+use Rattle.command_words.proofs.check_words.check_asked.Goals.{then-ne-via-then-ne, then-ne-via-else-ne+then-options-ne0}
 
 abbrev gives : CheckAsked → Pairs → Type 0
 gives asked pairs = GiveCheck pairs asked

@@ -4,8 +4,8 @@ use Rattle.std.proofs.lemmas.Slice.Eq.{bytes_eq-Decides}
 use Rattle.command_words.specs.Asked.{RulesAsked, GiveRules}
 use Rattle.command_words.specs.Options.{Pairs}
 use Rattle.command_words.proofs.AskedLaws.{command_is, command_rules, if_none, if_some, is_command, not_both, one_rules, options_even, options_given, rules_command, true_unless}
-use Rattle.command_words.proofs.rules_asked.rules_asked.Goals as goal
-use Rattle.command_words.proofs.rules_asked.rules_asked.Goals.{then-ne-via-then-ne, then-ne-via-else-ne+then-options-ne0}
+use Rattle.command_words.proofs.rules_words.rules_asked.Goals as goal
+use Rattle.command_words.proofs.rules_words.rules_asked.Goals.{then-ne-via-then-ne, then-ne-via-else-ne+then-options-ne0}
 
 abbrev gives : RulesAsked → Pairs → Type 0
 gives asked pairs = GiveRules pairs asked

@@ -4,8 +4,8 @@ use Rattle.std.proofs.lemmas.Slice.Eq.{bytes_eq-Decides}
 use Rattle.command_words.specs.Asked.{EditAsked, GiveEdit}
 use Rattle.command_words.specs.Options.{Pairs}
 use Rattle.command_words.proofs.AskedLaws.{command_edit, command_is, edit_command, if_none, if_some, is_command, one_edit, options_even, options_given, not_both, true_unless}
-use Rattle.command_words.proofs.edit_asked.edit_asked.Goals as goal
-use Rattle.command_words.proofs.edit_asked.edit_asked.Goals.{then-ne-via-then-ne, then-ne-via-else-ne+then-options-ne0}
+use Rattle.command_words.proofs.edit_words.edit_asked.Goals as goal
+use Rattle.command_words.proofs.edit_words.edit_asked.Goals.{then-ne-via-then-ne, then-ne-via-else-ne+then-options-ne0}
 
 abbrev gives : EditAsked → Pairs → Type 0
 gives asked pairs = GiveEdit pairs asked

@@ -3,7 +3,7 @@ ghost use Rattle.command_words.specs.Asked.{EditAsked, GiveEdit, IsEdit, names_i
 ghost use Rattle.command_words.specs.Options.{AreApart};
 ghost use Rattle.command_words.specs.inner.Pairs.{pairs_of};
 
-use crate::options::{are_given, differs_from, number_given, only_value};
+use crate::options::{are_given, differs_from, number_given, only_value, short_given};
 use std::marker::Model;
 
 /// The options of the command `edit`.
@@ -24,6 +24,20 @@ const BUDGET: u64 = 1_000_000;
 const LEAST_BUDGET: u64 = 1;
 
 const MOST_BUDGET: u64 = 1_000_000_000;
+
+/// How often a donor may be given where no limit is given, the least that can be given, and the most.
+const LIMIT: u32 = 1;
+
+const LEAST_LIMIT: u32 = 1;
+
+const MOST_LIMIT: u32 = 1_000;
+
+/// How many donors a record ranks where no number is given, the least that can be given, and the most.
+const NEAR: u32 = 5;
+
+const LEAST_NEAR: u32 = 1;
+
+const MOST_NEAR: u32 = 64;
 
 /// What the command `edit` was asked for. No two names are the same.
 #[derive(Debug, Drop)]
@@ -47,21 +61,34 @@ pub struct EditWords<'a> {
 }
 
 impl<'a> Model for EditWords<'a> {
-    ghost use Rattle.std.specs.Prelude.{◌≤◌};
-    ghost use Rattle.command_words.specs.Asked.{EditAsked, names_in};
+    ghost use Rattle.std.specs.Prelude.{◌≤◌, ◌∷◌, []};
+    ghost use Rattle.command_words.specs.Asked.{EditAsked};
     ghost use Rattle.command_words.specs.Options.{AreApart};
 
     ghost Value = { EditAsked };
 
-    ghost view = { λ w. record { names = record { rules = w.rules.now; records = w.records.now; released = w.released.now; reasons = w.reasons.now; proof = w.proof.now }; budget = w.budget } };
+    ghost view = { λ w. record {
+      names = record {
+        rules = w.rules.now;
+        records = w.records.now;
+        released = w.released.now;
+        reasons = w.reasons.now;
+        proof = w.proof.now;
+      };
+      budget = w.budget;
+      limit = w.limit;
+      near = w.near;
+    } };
 
-    ghost invariant = { λ w. AreApart (names_in (record { rules = w.rules.now; records = w.records.now; released = w.released.now; reasons = w.reasons.now; proof = w.proof.now })) × (1 ≤ w.budget) × (w.budget ≤ 1000000000) };
+    ghost invariant = { λ w. AreApart (w.rules.now ∷ w.records.now ∷ w.released.now ∷ w.reasons.now ∷ w.proof.now ∷ [])
+        × (1 ≤ w.budget) × (w.budget ≤ 1000000000) × (1 ≤ w.limit) × (w.limit ≤ 1000) × (1 ≤ w.near) × (w.near ≤ 64) };
 }
 
 /// Reads the words after the program's name as the command `edit` with pairs of an option and its value, in any
 /// order and each at most once: `--rules`, `--records`, `--released`, `--reasons` and `--proof`, each with a file's
-/// name, and `--budget` with a number, which may be left out. No value is empty or begins with `-`, and the five
-/// names differ. What is asked for is all that the words can be read as. No memory.
+/// name, and `--budget`, `--limit` and `--near`, each with a number, which may be left out: the budget is 1,000,000
+/// then, a donor is given once, and a record ranks 5 donors. No value is empty or begins with `-`, and the five names
+/// differ. What is asked for is all that the words can be read as. No memory.
 pub fn edit_asked(words: &[String]) -> Option<EditWords<'_>>
     ensures some { IfSome result (λ asked. IsEdit (map string_bytes words.now) asked) }
     ensures only { IfSome result (λ asked. (other : EditAsked) → IsEdit (map string_bytes words.now) other → other ≡ asked) }
@@ -88,6 +115,8 @@ fn edit_options(options: &[String]) -> Option<EditWords<'_>>
     let reasons = only_value("--reasons", options)?;
     let proof = only_value("--proof", options)?;
     let budget = number_given("--budget", options, BUDGET, LEAST_BUDGET, MOST_BUDGET)?;
+    let limit = short_given("--limit", options, LIMIT, LEAST_LIMIT, MOST_LIMIT)?;
+    let near = short_given("--near", options, NEAR, LEAST_NEAR, MOST_NEAR)?;
     if !are_apart(rules, records, released, reasons, proof) {
         return None;
     }
@@ -98,6 +127,8 @@ fn edit_options(options: &[String]) -> Option<EditWords<'_>>
         reasons,
         proof,
         budget,
+        limit,
+        near,
     })
 }
 
