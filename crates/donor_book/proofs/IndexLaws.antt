@@ -1,6 +1,6 @@
 use Rattle.std.proofs.Common.{◌≡◌, ◌≢◌, ℕ, zero, suc, ◌+◌, ◌<◌, ◌≤◌, Bool, true, false, true≢false, List, [], ◌∷◌, ◌++◌, map, length, set, get_or, Some, None, Option, cond, refl, sym, ap, ◌∙◌, ⊎_elim, nat_lt, eqb, arith, length-append}
 use Rattle.std.specs.Prelude.{slice_index, option_map, replicate}
-use Rattle.std.specs.List.{All, IsDistinct, find, list_any}
+use Rattle.std.specs.List.{All, AllByRecursion, IsDistinct, find, list_any}
 use Rattle.std.specs.Option.{option_or}
 use Rattle.std.proofs.Math.ListN.{get_or-replicate, length-replicate}
 use Rattle.std.proofs.lemmas.Bool.{eqb-true, eq-eqb}
@@ -69,6 +69,21 @@ any_below n q xs all any =
 -- the rows of a history and one that has not claimed differ
 pub once_more : (history : List Won) (row : ℕ) → IsDistinct eqb (map (λ (w : Won). w.row_no) history) → claim_of row history ≡ None → IsDistinct eqb (map (λ (w : Won). w.row_no) history ++ row ∷ [])
 once_more history row once none = IsDistinct-push nat_eq_equiv (map (λ (w : Won). w.row_no) history) row once (no_row history row none)
+
+-- a row stands once, so it does not stand before its claim
+pub none_before : (seen more : List Won) (x : Won) → IsDistinct eqb (map (λ (w : Won). w.row_no) (seen ++ x ∷ more)) → claim_of x.row_no seen ≡ None
+unfolding IsDistinct
+none_before [] more x once = refl
+none_before (w ∷ seen) more x once = let apart : eqb w.row_no x.row_no ≡ false = in_middle (eqb w.row_no) seen more x once.0 in rw apart (none_before seen more x once.1)
+  where
+    in_middle : (test : ℕ → Bool) (seen more : List Won) (x : Won) → AllByRecursion (λ y. test y ≡ false) (map (λ (w : Won). w.row_no) (seen ++ x ∷ more)) → test x.row_no ≡ false
+    in_middle test [] more x all = all.0
+    in_middle test (w ∷ seen) more x all = in_middle test seen more x all.1
+
+-- no reply is no claim
+pub no_claim : (o : Option Won) → option_map (λ (w : Won). w.reply) o ≡ None → o ≡ None
+no_claim None e = refl
+no_claim (Some w) e = absurd (cc)
 
 -- while a row has not claimed, there are fewer claims than rows
 pub room : (donors rows : ℕ) (history : List Won) (row : ℕ) → All (IsWithin donors rows) history → IsDistinct eqb (map (λ (w : Won). w.row_no) history) → row < rows → claim_of row history ≡ None → length history < rows

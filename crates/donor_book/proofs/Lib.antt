@@ -5,5 +5,6 @@ pub mod LegalLaws
 mod Moves
 mod PassLaws
 mod Reading
+mod ReplayLaws
 mod Taking
 mod WordLaws

@@ -1,7 +1,7 @@
 -- Each kind of step keeps the rule: the first pass, a try, a split, a join.
 use Rattle.std.proofs.Common.{◌≡◌, ◌≢◌, ℕ, zero, suc, ◌+◌, ◌-◌, ◌<◌, ◌≤◌, Bool, true, false, true≢false, List, [], ◌∷◌, ◌++◌, map, length, take, set, Some, None, cond, refl, sym, ap, ◌∙◌, subst, ⊎_elim, nat_eq, eqb, arith, append_assoc, append-nil, length-append}
 use Rattle.std.specs.Prelude.{slice_get, slice_index}
-use Rattle.std.specs.List.{All, AllByRecursion, IsDistinct}
+use Rattle.std.specs.List.{All, IsDistinct}
 use Rattle.std.proofs.lemmas.List.{map-append, take-append-le}
 use Rattle.std.proofs.lemmas.List.Sums.{sum_by-append, sum_by_push}
 use Rattle.std.proofs.lemmas.List.Elements.{All-cons, All-push, All-append}
@@ -25,7 +25,7 @@ use Rattle.donor_book.specs.Claims.{IsWithin, claim_of, first_free}
 use Rattle.donor_book.specs.Entries.{won_of}
 use Rattle.donor_book.specs.Passes.{IsClaim, StartsWith, claims_at}
 use Rattle.donor_book.specs.inner.Rule.{AreClaims, HasTried, IsFair, IsHistory, both_known, first_known, new_known, once_below, seeing, spent_known, with_entry, without_a_pass, word_of, words_of}
-use Rattle.donor_book.proofs.IndexLaws.{once_more}
+use Rattle.donor_book.proofs.IndexLaws.{none_before, once_more}
 use Rattle.donor_book.proofs.WordLaws.{set_same, some_at, some_same, word_is_not_0, words_behind, words_front, words_push, zeros}
 
 -- one view changes, and the others stay fair
@@ -142,16 +142,6 @@ sees terms history views by v x rule at here =
 
 prefix_length : (history seen : List Won) → StartsWith history seen → length seen ≤ length history
 prefix_length history seen begins = let l : length history ≡ length seen + length begins.0 = ap length begins.1 ∙ length-append seen begins.0 in omega (arith, l)
-
--- a row stands once, so it does not stand before its claim
-none_before : (seen more : List Won) (x : Won) → IsDistinct eqb (map (λ (w : Won). w.row_no) (seen ++ x ∷ more)) → claim_of x.row_no seen ≡ None
-unfolding IsDistinct
-none_before [] more x once = refl
-none_before (w ∷ seen) more x once = let apart : eqb w.row_no x.row_no ≡ false = in_middle (eqb w.row_no) seen more x once.0 in rw apart (none_before seen more x once.1)
-  where
-    in_middle : (test : ℕ → Bool) (seen more : List Won) (x : Won) → AllByRecursion (λ y. test y ≡ false) (map (λ (w : Won). w.row_no) (seen ++ x ∷ more)) → test x.row_no ≡ false
-    in_middle test [] more x all = all.0
-    in_middle test (w ∷ seen) more x all = in_middle test seen more x all.1
 
 new_row : (history seen : List Won) (x : Won) → IsDistinct eqb (map (λ (w : Won). w.row_no) history) → StartsWith history seen → slice_get history (length seen) ≡ Some x → claim_of x.row_no seen ≡ None
 new_row history seen x once begins here =

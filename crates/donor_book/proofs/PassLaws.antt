@@ -1,5 +1,5 @@
 -- What a pass knows of its own: a sound beginning of the history, indexed, and its claims placed in it.
-use Rattle.std.proofs.Common.{◌≡◌, ℕ, ◌+◌, ◌<◌, ◌≤◌, Bool, true, false, List, [], ◌∷◌, ◌++◌, map, length, get_or, Some, None, Option, refl, sym, ap, ◌∙◌, subst, eqb, arith, length-append}
+use Rattle.std.proofs.Common.{◌≡◌, ℕ, ◌+◌, ◌<◌, ◌≤◌, Bool, true, false, List, [], ◌∷◌, ◌++◌, map, length, get_or, Some, None, Option, sym, ap, ◌∙◌, subst, eqb, arith, length-append}
 use Rattle.std.specs.Prelude.{MatchBool, option_map}
 use Rattle.std.specs.List.{All, IsDistinct}
 use Rattle.std.specs.List.Sorted.{IsStrictlyIncreasing}
@@ -18,7 +18,7 @@ use Rattle.donor_book.specs.Entries.{won_of}
 use Rattle.donor_book.specs.Passes.{ArePlaced, IsSound}
 use Rattle.donor_book.specs.inner.Rule.{seeing, with_entry, word_of}
 use Rattle.donor_book.specs.inner.Tries.{HasTriedTo, IsRead}
-use Rattle.donor_book.proofs.IndexLaws.{any_below, once_more, room}
+use Rattle.donor_book.proofs.IndexLaws.{any_below, no_claim, once_more, room}
 
 -- ---- what was seen is sound
 
@@ -40,11 +40,6 @@ most_rows terms seen sound =
     let most = length-le_from_distinct_below rows terms.rows sound.once (λ q any. any_below terms.rows q rows (All-map (λ (x : ℕ). x < terms.rows) (λ (w : Won). w.row_no) seen (λ k d l. (sound.within k d l).0)) any) in
     let len = length-map seen (λ (w : Won). w.row_no) in
     omega (arith, most, len)
-
--- no reply is no claim
-no_claim : (o : Option Won) → option_map (λ (w : Won). w.reply) o ≡ None → o ≡ None
-no_claim None e = refl
-no_claim (Some w) e = absurd (cc)
 
 -- while a row has no reply, there are fewer claims than rows
 pub room_if : (terms : Terms) (seen : List Won) (row : ℕ) (o : Option (Option ℕ)) → IsSound terms seen → row < terms.rows → o ≡ option_map (λ (w : Won). w.reply) (claim_of row seen) → IfNone o (length seen < terms.rows)

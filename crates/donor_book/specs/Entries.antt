@@ -1,6 +1,6 @@
 -- The claims of a book, and when they are legal.
-use Rattle.std.specs.Prelude.{◌≡◌, ℕ, ◌++◌, List, [], ◌∷◌, Option, Some, None, map, take, nat_eq, slice_get}
-use Rattle.std.specs.List.{IsDistinct}
+use Rattle.std.specs.Prelude.{◌≡◌, ℕ, ◌+◌, ◌<◌, ◌++◌, List, [], ◌∷◌, Option, Some, None, map, take, length, nat_eq, slice_get}
+use Rattle.std.specs.List.{All, IsDistinct}
 use Rattle.donor_book.specs.declared.claim.Claim.{Claim}
 use Rattle.donor_book.specs.declared.claim.Claim.TheVariants as claim
 use Rattle.donor_book.specs.declared.claim.Entry.{Entry}
@@ -19,6 +19,16 @@ wins_of history = map won_of history
 pub record IsLegalHistory (limit : ℕ) (history : List Entry) : Type 0 where
   pub replies : (place : ℕ) (entry : Entry) → slice_get history place ≡ Some entry → entry.reply ≡ first_free limit (take place (wins_of history)) entry.ranking
   pub once : IsDistinct nat_eq (map (λ (w : Won). w.row_no) (wins_of history))
+
+-- the row is one of so many, and so is each donor that it ranks
+abbrev pub IsEntryWithin : ℕ → ℕ → Entry → Type 0
+IsEntryWithin donors rows entry = (entry.row_no < rows) × All (λ donor. donor < donors) entry.ranking
+
+-- the claims up to the one at this place are no legal history, and those before it are
+pub record IsFirstIllegal (limit : ℕ) (claims : List Entry) (place : ℕ) : Type 0 where
+  pub within : place < length claims
+  pub before : IsLegalHistory limit (take place claims)
+  pub illegal : ¬ IsLegalHistory limit (take (place + 1) claims)
 
 -- the entry of a first claim
 abbrev pub entry_of : ℕ → List ℕ → Option ℕ → Entry

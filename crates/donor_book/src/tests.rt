@@ -1,4 +1,5 @@
-//! Claims in a book of one thread, and in a book that two threads share.
+//! Claims in a book of one thread, in a book that two threads share, and in a history that somebody else wrote.
 
 mod book;
+mod replay;
 mod shared;

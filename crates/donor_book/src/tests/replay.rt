@@ -1,0 +1,55 @@
+//! Claims that somebody else wrote.
+ghost use Rattle.std.specs.Prelude.{◌<◌, All, IfOk};
+ghost use Rattle.donor_book.specs.Entries.{IsEntryWithin};
+
+use crate::{Entry, first_illegal};
+use foundation::Sequence;
+use std::alloc::Global;
+use std::test::Fail;
+
+// The entry of a row that ranks donor 1 before donor 0.
+fn entry(alloc: Global, row_no: u32, reply: Option<u32>) -> Result<Entry, Fail>
+    requires { row_no < 4 }
+    ensures { IfOk result (IsEntryWithin 2 4) }
+{
+    let ranking = Sequence::from_vec(vec![in alloc; 1, 0]?);
+    Ok(Entry {
+        row_no,
+        ranking,
+        reply,
+    })
+}
+
+fn entries(alloc: Global, claims: &[(u32, Option<u32>)]) -> Result<Vec<Entry>, Fail>
+    requires { All (λ claim. claim.0 < 4) claims.now }
+    ensures { IfOk result (λ entries. All (IsEntryWithin 2 4) entries.items) }
+{
+    let mut entries = Vec::new(alloc);
+    for (row_no, reply) in claims {
+        entries.push(entry(alloc, *row_no, *reply)?)?;
+    }
+    Ok(entries)
+}
+
+// The first illegal claim where there are two donors, each given once.
+fn illegal(alloc: Global, claims: &[(u32, Option<u32>)]) -> Result<Option<usize>, Fail>
+    requires { All (λ claim. claim.0 < 4) claims.now }
+{
+    Ok(first_illegal(alloc, &entries(alloc, claims)?, 1, 2, 4)?)
+}
+
+#[test]
+fn the_first_illegal_claim_is_told(rt: HostRuntime) -> Result<(), Fail> {
+    let alloc = rt.alloc();
+    let legal = illegal(alloc, &[(3, Some(1)), (0, Some(0)), (1, None)])?;
+    let used_up = illegal(alloc, &[(3, Some(1)), (0, Some(1)), (1, None)])?;
+    let one_is_free = illegal(alloc, &[(3, Some(1)), (0, None), (1, None)])?;
+    let row_twice = illegal(alloc, &[(3, Some(1)), (0, Some(0)), (3, None)])?;
+    let no_donor = illegal(alloc, &[(3, Some(2)), (0, Some(0))])?;
+    assert!(rt; legal.is_none());
+    assert_eq!(rt; used_up, Some(1));
+    assert_eq!(rt; one_is_free, Some(1));
+    assert_eq!(rt; row_twice, Some(2));
+    assert_eq!(rt; no_donor, Some(0));
+    Ok(())
+}
