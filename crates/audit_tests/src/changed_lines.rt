@@ -18,7 +18,8 @@ const PROOF: &[&[u8]] = &[
     b"given 1\n",
     b"bound KC\n",
     b"bound C\n",
-    b"claims 0\n",
+    b"claims 1\n",
+    b"claim 1 0\n",
     b"end\n",
 ];
 
@@ -27,7 +28,7 @@ const CHANGES: &[Change] = &[
     (&[], Ok(1)),
     // no line, a missing one, and counts of lines that are not there
     (&[(1, b"")], Err((1, Why::Grammar))),
-    (&[(12, b"")], Err((12, Why::Grammar))),
+    (&[(13, b"")], Err((13, Why::Grammar))),
     (&[(3, b"lines 2\n")], Err((5, Why::Grammar))),
     (&[(3, b"lines 4000000000\n")], Err((5, Why::Grammar))),
     (&[(5, b"records 2\n")], Err((11, Why::Grammar))),
@@ -89,8 +90,8 @@ const CHANGES: &[Change] = &[
         &[(6, b"change 1 KC 4\n"), (10, b"bound C\nbound C\n")],
         Err((11, Why::Cert)),
     ),
-    // claims
-    (&[(11, b"claims 1\nclaim 1 0\n")], Err((11, Why::Claims))),
+    // the claims
+    (&[(11, b"claims 0\n"), (12, b"")], Err((11, Why::Claims))),
 ];
 
 /// The same, where no row is released.
@@ -105,106 +106,44 @@ const LEFT_OUT: &[Change] = &[
         &[(6, b"gift 1 KC 0 2 3\n"), (8, b"given 2\n")],
         Err((8, Why::Cert)),
     ),
-    (
-        &[
-            (6, b"gift 0 KK 0 1 1\n"),
-            (7, b"bound -\n"),
-            (8, b""),
-            (9, b""),
-            (10, b""),
-        ],
-        Ok(0),
-    ),
-    (
-        &[
-            (6, b"budget KC 1000000\n"),
-            (7, b""),
-            (8, b""),
-            (9, b""),
-            (10, b""),
-        ],
-        Ok(0),
-    ),
-    (
-        &[
-            (6, b"budget KC 1000001\n"),
-            (7, b""),
-            (8, b""),
-            (9, b""),
-            (10, b""),
-        ],
-        Err((6, Why::Cert)),
-    ),
-    (
-        &[
-            (6, b"step KC 9 9 0\n"),
-            (7, b""),
-            (8, b""),
-            (9, b""),
-            (10, b""),
-        ],
-        Ok(0),
-    ),
-    (
-        &[
-            (6, b"step KC 9 9 2\n"),
-            (7, b""),
-            (8, b""),
-            (9, b""),
-            (10, b""),
-        ],
-        Ok(0),
-    ),
-    (
-        &[
-            (6, b"step KC 9 9 3\n"),
-            (7, b""),
-            (8, b""),
-            (9, b""),
-            (10, b""),
-        ],
-        Err((6, Why::Cert)),
-    ),
-    (
-        &[
-            (6, b"step KCC 9 9 0\n"),
-            (7, b""),
-            (8, b""),
-            (9, b""),
-            (10, b""),
-        ],
-        Err((6, Why::Cert)),
-    ),
-    (
-        &[
-            (6, b"test KC 9 2\n"),
-            (7, b""),
-            (8, b""),
-            (9, b""),
-            (10, b""),
-        ],
-        Ok(0),
-    ),
-    (
-        &[
-            (6, b"test KC 9 3\n"),
-            (7, b""),
-            (8, b""),
-            (9, b""),
-            (10, b""),
-        ],
-        Err((6, Why::Cert)),
-    ),
     (&[(6, b"contradictory 3\n")], Err((9, Why::Cert))),
+    // a change without values claims a donor too
+    (
+        &[(6, b"gift 1 KC 2 1 3\n"), (11, b"claims 0\n"), (12, b"")],
+        Err((11, Why::Claims)),
+    ),
+];
+
+const NOT_CHANGED: &[&[u8]] = &[
+    b"fh-proof 1\n",
+    b"limit 1 near 5 budget 1000000\n",
+    b"lines 1\n",
+    b"keep\n",
+    b"records 1\n",
+    b"budget KC 1000000\n",
+    b"claims 0\n",
+    b"end\n",
+];
+
+/// The same of a record without a change of some weight, which claims no donor.
+const NO_CHANGES: &[Change] = &[
+    (&[], Ok(0)),
+    (&[(6, b"budget KC 1000001\n")], Err((6, Why::Cert))),
+    (&[(6, b"gift 0 KK 0 1 1\nbound -\n")], Ok(0)),
+    (&[(6, b"step KC 9 9 0\n")], Ok(0)),
+    (&[(6, b"step KC 9 9 2\n")], Ok(0)),
+    (&[(6, b"step KC 9 9 3\n")], Err((6, Why::Cert))),
+    (&[(6, b"step KCC 9 9 0\n")], Err((6, Why::Cert))),
+    (&[(6, b"test KC 9 2\n")], Ok(0)),
+    (&[(6, b"test KC 9 3\n")], Err((6, Why::Cert))),
+    (&[(6, b"contradictory 0\n")], Err((6, Why::Cert))),
+    (&[(7, b"claims 1\nclaim 1 0\n")], Err((8, Why::Claims))),
     (
         &[
-            (6, b"contradictory 0\n"),
-            (7, b""),
-            (8, b""),
-            (9, b""),
-            (10, b""),
+            (6, b"gift 0 KK 0 1 1\nbound -\n"),
+            (7, b"claims 1\nclaim 1 0\n"),
         ],
-        Err((6, Why::Cert)),
+        Err((9, Why::Claims)),
     ),
 ];
 
@@ -226,6 +165,21 @@ fn the_first_condition_that_fails_is_told(rt: HostRuntime) -> Result<(), Fail> {
     assert_eq!(rt;
         first_other(rt.alloc(), &left_out, LEFT_OUT)?,
         LEFT_OUT.len()
+    );
+    Ok(())
+}
+
+#[test]
+fn a_record_without_a_change_claims_nobody(rt: HostRuntime) -> Result<(), Fail> {
+    let release = Release {
+        rules: RULES,
+        records: RECORDS,
+        released: b"A,B\n",
+        proof: NOT_CHANGED,
+    };
+    assert_eq!(rt;
+        first_other(rt.alloc(), &release, NO_CHANGES)?,
+        NO_CHANGES.len()
     );
     Ok(())
 }

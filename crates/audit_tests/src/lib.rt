@@ -7,6 +7,8 @@ mod audit;
 #[cfg(test)]
 mod changed_lines;
 #[cfg(test)]
+mod claims;
+#[cfg(test)]
 mod contradictions;
 #[cfg(test)]
 mod dropped_lines;

@@ -1,5 +1,5 @@
 -- What the parts of the audit show together.
-use Rattle.std.proofs.Common.{◌≡◌, ◌≢◌, ◌∙◌, ℕ, zero, suc, ◌+◌, ◌≤◌, ◌==◌, not, nat_lt, Bool, true, false, if◌then◌else◌, List, [], ◌∷◌, Option, Some, None, Ok, Err, inl, inr, refl, sym, ap, subst, arith, length}
+use Rattle.std.proofs.Common.{◌≡◌, ◌∙◌, ℕ, zero, suc, ◌+◌, ◌≤◌, ◌==◌, not, nat_lt, Bool, true, false, if◌then◌else◌, List, [], ◌∷◌, Option, Some, None, Ok, Err, inl, inr, refl, sym, ap, subst, arith, length}
 use Rattle.std.specs.List.{filter}
 use Rattle.std.proofs.lemmas.Bool.Decides.{Decides-eqb, nat_tests}
 use Rattle.std.proofs.lemmas.List.Sums.{count_by-le-length, length-filter}
@@ -16,8 +16,9 @@ use Rattle.record_text.proofs.HeaderLaws.{header_length}
 use Rattle.record_text.proofs.SheetLaws.{few_sheet_rows}
 use Rattle.proof_grammar.specs.declared.proof.Proof.{Proof}
 use Rattle.proof_grammar.proofs.ProofWords.{text-once}
+use Rattle.cert_check.specs.Claims.{AreValidClaims, IsClaimsFault}
 use Rattle.cert_check.specs.Dropped.{drop_fault}
-use Rattle.cert_check.specs.Places.{claims_line, records_line}
+use Rattle.cert_check.specs.Places.{records_line}
 use Rattle.cert_check.specs.Releases.{Audit, AreReleased, AreValidRows, Fits, IsFaultAmong, IsFirstFailure, IsValidRelease, Spells, behind, files_of, head_fault, is_released, limits_fit, rules_of}
 use Rattle.cert_check.specs.RowChecks.{IsChangeFault, IsGiftFault, IsSaidFault, RowFiles, RowRules}
 use Rattle.cert_check.specs.declared.fault.CheckFault.TheVariants as fault
@@ -25,6 +26,7 @@ use Rattle.cert_check.specs.declared.fault.Why.{Why}
 use Rattle.cert_check.specs.declared.fault.Why.TheVariants as why
 use Rattle.cert_check.specs.inner.Answers.{Answers}
 use Rattle.cert_check.specs.inner.Rows.{AreInLimits, AreRowsOf}
+use Rattle.cert_check.proofs.ClaimLaws.{fault-invalid}
 use Rattle.cert_check.proofs.ReleasedFileLaws.{rows-once}
 
 -- ---- heads
@@ -174,16 +176,16 @@ module _ (a : Audit) (p : Proof) (spelled : Spells a.proof p) where
           failure why.Claims of is = absurd of
 
       module _ (valid : AreValidRows (rules_of a p) p.rows a.sheet.raws a.sheet.rows rows) where
-        -- claims, where none may be
-        pub claims-answers : p.claims ≢ [] → Answers a (Err (fault.Rejected (claims_line p) why.Claims))
-        claims-answers some = (
-          (p, fits, (rows, as-released rows are, (valid, some, refl))),
-          λ release. some (subst (λ (q : Proof). q.claims ≡ []) (one-proof release.proof release.fits.spelled) release.claims),
+        -- claims that are at fault
+        pub claims-answers : (line : ℕ) → IsClaimsFault a.survey a.sheet.rows p line → Answers a (Err (fault.Rejected line why.Claims))
+        claims-answers line found = (
+          (p, fits, (rows, as-released rows are, (valid, found))),
+          λ release. fault-invalid a.survey a.sheet.rows p line found (subst (λ (q : Proof). AreValidClaims a.survey a.sheet.rows q) (one-proof release.proof release.fits.spelled) release.claims),
         )
 
         -- a valid release
-        pub valid-answers : p.claims ≡ [] → Answers a (Ok (length (filter is_released p.rows)))
-        valid-answers none = (
-          record { proof = p; fits = fits; rows = rows; released = as-released rows are; each = valid; claims = none },
+        pub valid-answers : AreValidClaims a.survey a.sheet.rows p → Answers a (Ok (length (filter is_released p.rows)))
+        valid-answers claims = (
+          record { proof = p; fits = fits; rows = rows; released = as-released rows are; each = valid; claims = claims },
           (p, spelled, refl),
         )

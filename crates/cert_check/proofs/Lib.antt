@@ -1,6 +1,8 @@
 pub mod AnswerLaws
 pub mod AuditLaws
 pub mod ChangeLaws
+pub mod ClaimLaws
+pub mod ClaimedLaws
 pub mod CountLaws
 pub mod DroppedLaws
 pub mod LineCounts
@@ -10,7 +12,6 @@ pub mod PlaceLaws
 pub mod ReleasedFileLaws
 pub mod ReleasedLaws
 pub mod RowsLoop
-pub mod RuleLoop
 pub mod ShownLaws
 pub mod ValueLaws
 pub mod ValueLoop

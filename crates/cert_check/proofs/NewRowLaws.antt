@@ -1,16 +1,17 @@
-use Rattle.std.proofs.Common.{◌≡◌, ◌≢◌, ℕ, zero, suc, ◌+◌, ◌<◌, ◌*ℤ◌, ℤ, not, Bool, true, false, List, [], ◌∷◌, All, length, refl, sym, ap, ◌∙◌, subst, arith}
-use Rattle.std.specs.List.{AllByRecursion, list_any, sum_by}
+use Rattle.std.proofs.Common.{◌≡◌, ◌≢◌, ℕ, zero, suc, ◌+◌, ◌<◌, ◌*ℤ◌, ℤ, not, Bool, true, false, List, [], ◌∷◌, Some, All, length, refl, sym, ap, ◌∙◌, subst, arith}
+use Rattle.std.specs.List.{AllByRecursion, sum_by}
 use Rattle.std.specs.Str.{bytes_eq}
 use Rattle.std.proofs.lemmas.Bool.Decides.{Decides-eqb, Decides-int_eq}
 use Rattle.std.proofs.lemmas.List.Elements.{All-append}
-use Rattle.std.proofs.lemmas.List.Folds.{list_any_at}
 use Rattle.std.proofs.lemmas.List.Quantifiers.{position-Some}
 use Rattle.fraction128.proofs.CommonDenominator.{IsOver-unique}
+use Rattle.edit_model.specs.CleanRecords.{is_clean}
 use Rattle.edit_model.specs.Corrections.{IsCorrection, change_weight, code_fields, differs_from, is_numerical, number_fields, path_order}
 use Rattle.edit_model.specs.Parts.{SurveyParts}
 use Rattle.edit_model.specs.Points.{Holds, Point}
-use Rattle.edit_model.specs.Rows.{IsOfKind, IsRow, is_bad, value_of}
+use Rattle.edit_model.specs.Rows.{IsOfKind, IsRow, value_of}
 use Rattle.edit_model.specs.Surveys.{IsRule, IsWellFormed}
+use Rattle.edit_model.specs.Trials.{rule_at}
 use Rattle.edit_model.specs.Words.{changed_in, weight_at}
 use Rattle.edit_model.specs.declared.field.Field.{Field}
 use Rattle.edit_model.specs.declared.field.Kind.{Kind}
@@ -18,6 +19,7 @@ use Rattle.edit_model.specs.declared.field.Kind.TheVariants as kind
 use Rattle.edit_model.specs.declared.rule.Rule.{Rule}
 use Rattle.edit_model.specs.declared.value.Value.{Value}
 use Rattle.edit_model.specs.declared.value.Value.TheVariants.{Bad, Code, Number}
+use Rattle.edit_model.proofs.CleanLaws.{clean-held, clean-holds}
 use Rattle.edit_model.proofs.OrderLaws.{numbers-below}
 use Rattle.edit_model.proofs.RowPointLaws.{point_of, point_of-agrees, point_of-codes}
 use Rattle.edit_model.proofs.TrialCallers.{can_try, point_of-agrees_with}
@@ -27,7 +29,7 @@ use Rattle.edit_line.proofs.Members.{in-all}
 use Rattle.bound_cert.specs.Paths.{changes, path_weight}
 use Rattle.bound_cert.proofs.Letters.{filter-agree}
 use Rattle.bound_cert.proofs.PathLaws.{weight-of_word}
-use Rattle.cert_check.specs.Released.{AllHold, AreValuesFrom, IsGivenText, IsValueOf, is_same}
+use Rattle.cert_check.specs.Released.{AreValuesFrom, IsGivenText, IsValueOf, is_same}
 use Rattle.cert_check.specs.Shown.{IsPointOf}
 
 -- What the values of a released row are beside those that were read.
@@ -134,17 +136,17 @@ empty-weighs fields = weight-of_word fields [] ∙ ap (sum_by (weight_at fields)
     none-changed [] = refl
     none-changed (f ∷ order) = refl
 
--- ---- the point of the row
+-- ---- the point of a clean row
 
-module _ (survey : SurveyParts) (well : IsWellFormed survey) (new : List Value) (are : IsRow survey.fields new) (whole : list_any is_bad new ≡ false) where
+module _ (survey : SurveyParts) (well : IsWellFormed survey) (new : List Value) (are : IsRow survey.fields new) (clean : is_clean survey new ≡ true) where
   held : (f : ℕ) → f < length new → value_of new f ≢ Bad
-  held f below bad = cc (sym whole ∙ list_any_at is_bad new f Bad below (ap is_bad bad))
+  held f below = clean-held survey new clean f below
 
   -- it has the row's values
-  pub whole-agrees : IsPointOf new (point_of new)
-  whole-agrees f below = point_of-agrees new f (held f below)
+  pub clean-agrees : IsPointOf new (point_of new)
+  clean-agrees f below = point_of-agrees new f (held f below)
 
-  rules-hold : (rules : List Rule) → All (IsRule survey.fields) rules → AllHold rules new → AllByRecursion (λ (rule : Rule). Holds rule (point_of new)) rules
+  rules-hold : (rules : List Rule) → All (IsRule survey.fields) rules → AllByRecursion (λ (rule : Rule). rule_at rule new ≡ Some true) rules → AllByRecursion (λ (rule : Rule). Holds rule (point_of new)) rules
   rules-hold [] fit hold = tt
   rules-hold (rule ∷ rules) fit hold =
       let can = can_try survey.fields new are held rule (fit 0 rule (omega arith)) in (
@@ -152,6 +154,6 @@ module _ (survey : SurveyParts) (well : IsWellFormed survey) (new : List Value) 
         rules-hold rules (λ k d below. fit (suc k) d (omega arith)) hold.1,
       )
 
-  -- and it is a correction where all rules hold at the row
-  pub whole-corrects : AllHold survey.rules new → IsCorrection survey (point_of new)
-  whole-corrects hold = record { codes = point_of-codes survey.fields new well.fields are; rules = rules-hold survey.rules well.rules hold }
+  -- and it is a correction
+  pub clean-corrects : IsCorrection survey (point_of new)
+  clean-corrects = record { codes = point_of-codes survey.fields new well.fields are; rules = rules-hold survey.rules well.rules (clean-holds survey new clean) }

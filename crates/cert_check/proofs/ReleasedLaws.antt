@@ -1,5 +1,6 @@
 use Rattle.std.proofs.Common.{◌≡◌, ℕ, zero, suc, Bool, true, false, List, [], ◌∷◌, Option, Some, IsSomeAnd, option_map, slice_index_or, refl, sym, subst}
 use Rattle.std.specs.List.{list_any}
+use Rattle.edit_model.specs.CleanRecords.{is_clean}
 use Rattle.edit_model.specs.Rows.{IsRow}
 use Rattle.edit_model.specs.declared.field.Field.{Field}
 use Rattle.edit_model.specs.declared.value.Value.{Value}
@@ -8,7 +9,7 @@ use Rattle.cert_check.specs.Released.{AreValuesFrom, IsReleasedAs, IsValueOf, sa
 use Rattle.cert_check.specs.RowChecks.{IsReleased}
 use Rattle.cert_check.specs.declared.checking.Checking.{Checking}
 use Rattle.cert_check.specs.declared.checking.RowAt.{RowAt}
-use Rattle.cert_check.specs.inner.Checks.{GivesRight, IsRight, files_in, rules_in}
+use Rattle.cert_check.specs.inner.Checks.{GivesClean, files_in, rules_in}
 
 -- A row that is released.
 
@@ -43,11 +44,11 @@ pub changes-none : (fields : List Field) (path : List Bool) → list_any (λ cha
 changes-none fields path none f = no-letter path (path_place fields f) none
 
 module _ (c : Checking) (path : List Bool) (texts : List (List ℕ)) (row : List Value) (fits : IsRow c.survey.now.fields row) (none : list_any (λ changed. changed) path ≡ false) where
-  pub right-gives : IsRight c.survey.now row → GivesRight c path texts row
-  right-gives right = (row, all-kept (changes c.survey.now.fields path) (text_at c.columns.now texts) (changes-none c.survey.now.fields path none) 0 c.survey.now.fields row fits, right)
+  pub clean-gives : is_clean c.survey.now row ≡ true → GivesClean c path texts row
+  clean-gives clean = (row, all-kept (changes c.survey.now.fields path) (text_at c.columns.now texts) (changes-none c.survey.now.fields path none) 0 c.survey.now.fields row fits, clean)
 
-  pub gives-right : GivesRight c path texts row → IsRight c.survey.now row
-  gives-right (new, values, right) = subst (IsRight c.survey.now) (kept-alone (changes c.survey.now.fields path) (text_at c.columns.now texts) (changes-none c.survey.now.fields path none) 0 c.survey.now.fields row new values) right
+  pub gives-clean : GivesClean c path texts row → is_clean c.survey.now row ≡ true
+  gives-clean (new, values, clean) = subst (λ (vs : List Value). is_clean c.survey.now vs ≡ true) (kept-alone (changes c.survey.now.fields path) (text_at c.columns.now texts) (changes-none c.survey.now.fields path none) 0 c.survey.now.fields row new values) clean
 
 -- ---- the texts that are released
 
@@ -56,8 +57,8 @@ module _ (c : Checking) (f : RowAt) (path : List Bool) where
   Of released = IsSomeAnd released (λ texts. (new : List Value) × IsReleasedAs c.survey.now c.columns.now (changes c.survey.now.fields path) f.reads.now f.row.now texts new)
 
   module _ (texts : List (List ℕ)) (is : option_map (λ t. t.now) f.texts ≡ Some texts) where
-    pub gives-released : same_from (changes c.survey.now.fields path) c.columns.now 0 f.reads.now texts ≡ true → GivesRight c path texts f.row.now → IsReleased (rules_in c) (files_in f) path
-    gives-released same (new, values, right) = subst Of (sym is) (new, record { values = values; elsewhere = same; whole = right.whole; holds = right.holds })
+    pub gives-released : same_from (changes c.survey.now.fields path) c.columns.now 0 f.reads.now texts ≡ true → GivesClean c path texts f.row.now → IsReleased (rules_in c) (files_in f) path
+    gives-released same (new, values, clean) = subst Of (sym is) (new, record { values = values; elsewhere = same; clean = clean })
 
-    pub released-gives : IsReleased (rules_in c) (files_in f) path → GivesRight c path texts f.row.now
-    released-gives released = let (new, as_said) = subst Of is released in (new, as_said.values, record { whole = as_said.whole; holds = as_said.holds })
+    pub released-gives : IsReleased (rules_in c) (files_in f) path → GivesClean c path texts f.row.now
+    released-gives released = let (new, as_said) = subst Of is released in (new, as_said.values, as_said.clean)

@@ -16,6 +16,7 @@ use Rattle.edit_normal.proofs.MeaningLaws.{lines-mean}
 use Rattle.edit_normal.proofs.NormalLines.{normal-over}
 use Rattle.derivation.specs.Premises.{usable_lines}
 use Rattle.derivation.proofs.RefutationLaws.{usable-among}
+use Rattle.donor_book.proofs.LegalLaws.{uses_within}
 use Rattle.record_text.specs.Sheets.{IsSheet}
 use Rattle.record_text.proofs.SheetLaws.{rows_are_records}
 use Rattle.bound_cert.specs.Paths.{changes, path_weight}
@@ -34,7 +35,7 @@ use Rattle.cert_check.specs.Releases.{AreValidRows, Audit, Fits, IsValidRelease,
 use Rattle.cert_check.specs.RowChecks.{IsReleased, IsValidChange, IsValidSaid, RowFiles, is_change, tree_of}
 use Rattle.cert_check.specs.Shown.{IsLeastRelease, ShowAll, Shows, ShowsSaid}
 use Rattle.cert_check.proofs.DroppedLaws.{rules-follow}
-use Rattle.cert_check.proofs.NewRowLaws.{differing-weighs, empty-weighs, row-differs, values-row, whole-agrees, whole-corrects}
+use Rattle.cert_check.proofs.NewRowLaws.{differing-weighs, empty-weighs, row-differs, values-row, clean-agrees, clean-corrects}
 
 -- What a valid release shows, whoever wrote it.
 
@@ -66,8 +67,8 @@ module _ (a : Audit) (p : Proof) (well : IsWellFormed a.survey) (fits : Fits a p
           let changed = changes a.survey.fields path in
           let text = text_at a.sheet.columns texts in
           let new_row = values-row changed text 0 a.survey.fields f.row new are as_new.values in
-          let agrees = whole-agrees a.survey well new new_row as_new.whole in
-          let correction = whole-corrects a.survey well new new_row as_new.whole as_new.holds in
+          let agrees = clean-agrees a.survey well new new_row as_new.clean in
+          let correction = clean-corrects a.survey well new new_row as_new.clean in
           let weighs : change_weight a.survey f.row (point_of new) ≡ weight = differing-weighs a.survey f.row path (point_of new) are (row-differs changed text (point_of new) a.survey.fields f.row new are as_new.values agrees) ∙ is in
           record {
             new = new;
@@ -110,7 +111,7 @@ module _ (a : Audit) (p : Proof) (well : IsWellFormed a.survey) (fits : Fits a p
       row-is [] = are.0
       row-is (texts ∷ later) = are.0
 
--- a valid release of a sheet shows that each line of the rules follows from those that are kept, that its rows are corrections of least weight, and that its contradictions are none
+-- a valid release of a sheet shows that each line of the rules follows from those that are kept, that its rows are corrections of least weight, that its contradictions are none, and that its claims are legal
 pub release-shows : (a : Audit) → IsWellFormed a.survey → (bytes : List ℕ) → IsSheet a.survey.fields bytes a.sheet → IsValidRelease a → Shows a
 release-shows a well bytes sheet valid = record {
   proof = valid.proof;
@@ -119,4 +120,6 @@ release-shows a well bytes sheet valid = record {
   rows = valid.rows;
   released = valid.released;
   each = rows-show a valid.proof well valid.fits valid.proof.rows a.sheet.raws a.sheet.rows valid.rows valid.fits.spelled.plain.rows.1 (rows_are_records a.survey.fields bytes a.sheet sheet) valid.each;
+  legal = valid.claims.right.legal;
+  within = λ donor. uses_within valid.proof.limit valid.proof.claims donor valid.claims.right.legal;
 }

@@ -1,5 +1,6 @@
 pub mod Answers
 pub mod Checks
+pub mod ClaimChecks
 pub mod Counts
 pub mod Finds
 pub mod Parts

@@ -13,8 +13,11 @@ use std::alloc::Global;
 
 /// Ok exactly where the bytes of the released file and of the proof are a valid release of the records, which are a
 /// sheet of the rules; it tells how many records are released. Then each line of the rules follows from those that the
-/// proof keeps, and each released row is a correction of least weight, whoever wrote the files. Rejected comes with the
-/// first condition that fails and its line in the proof. The time is in proportion to the files and to the rules.
+/// proof keeps, and each released row is a correction of least weight, whoever wrote the files. Each record for which a
+/// change was found, and no other, claims a donor once: it ranks clean records, each once and no more than may be
+/// ranked, and is given the first of them that was given less often than the limit before, or nobody where there is
+/// none. Which donors it ranks, and that the nearest come first, is not checked. Rejected comes with the first condition
+/// that fails and its line in the proof. The time is in proportion to the files and to the rules.
 pub fn check_all(
     alloc: Global,
     rules: &Survey,

@@ -15,7 +15,8 @@ pub enum Why {
     Cert,
     /// The released file is not what the proof tells of. Line 0 is the file as a whole.
     RowText,
-    /// The claims of donors are not right.
+    /// The claims of donors are not right: the line is that of the first wrong one, or that of their count where all
+    /// are right and some record that claims a donor has none.
     Claims,
 }
 

@@ -6,6 +6,9 @@
 mod changed_fields;
 mod check;
 mod checking;
+mod claim_form;
+mod claimed_rows;
+mod claims_check;
 mod dropped;
 mod fault;
 mod head;
@@ -13,7 +16,6 @@ mod line_counts;
 mod new_values;
 mod released_file;
 mod released_row;
-mod right_row;
 mod row_check;
 mod rows_check;
 mod said;

@@ -1,16 +1,15 @@
-//! Whether the row that is released of a record is right.
+//! Whether the row that is released of a record gives what it has to.
 ghost use Rattle.std.specs.Prelude.{◌<◌, All, IfOk, length};
 ghost use Rattle.std.specs.Bool.{Decides};
 ghost use Rattle.edit_model.specs.Rows.{IsRow};
 ghost use Rattle.cert_check.specs.RowChecks.{IsReleased};
-ghost use Rattle.cert_check.specs.inner.Checks.{FitsFiles, GivesRight, IsChecking, files_in, rules_in};
+ghost use Rattle.cert_check.specs.inner.Checks.{FitsFiles, GivesClean, IsChecking, files_in, rules_in};
 
 use crate::changed_fields::changes_some;
 use crate::checking::{Checking, RowAt};
 use crate::new_values::new_values;
-use crate::right_row::is_right;
 use crate::same_texts::are_same;
-use edit_model::Row;
+use edit_model::{Row, is_clean};
 use foundation::OutOfMemory;
 use record_text::Texts;
 use std::alloc::Global;
@@ -33,14 +32,14 @@ pub(crate) fn is_released(
         return Ok(false);
     }
     if changes_some(path) {
-        gives_right(alloc, checking, files.row, path, texts)
+        gives_clean(alloc, checking, files.row, path, texts)
     } else {
-        Ok(is_right(checking.survey, files.row))
+        Ok(is_clean(checking.survey, files.row))
     }
 }
 
-// Whether the texts give each field a value, and the record of these is right.
-fn gives_right(
+// Whether the texts give each field a value, and the record of these is clean.
+fn gives_clean(
     alloc: Global,
     checking: &Checking,
     row: &Row,
@@ -50,10 +49,10 @@ fn gives_right(
     requires checking { IsChecking checking.now }
     requires row { IsRow checking.now.survey.now.fields row.now }
     requires within { All (λ column. column < length texts.now) checking.now.columns.now }
-    ensures { IfOk result (λ b. Decides b (GivesRight checking.now path.now texts.now row.now)) }
+    ensures { IfOk result (λ b. Decides b (GivesClean checking.now path.now texts.now row.now)) }
 {
     match new_values(alloc, checking, row, path, texts)? {
-        Some(values) => Ok(is_right(checking.survey, &Row::new(checking.survey, values))),
+        Some(values) => Ok(is_clean(checking.survey, &Row::new(checking.survey, values))),
         None => Ok(false),
     }
 }

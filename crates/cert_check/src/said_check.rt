@@ -12,10 +12,11 @@ ghost use Rattle.proof_grammar.specs.ProofLines.{proof_lines};
 ghost use Rattle.cert_check.specs.declared.fault.CheckFault.TheVariants as faults;
 
 use crate::checking::Checking;
+use crate::claims_check::claims_fault;
 use crate::dropped::{drop_fault, kept_flags};
 use crate::fault::{CheckFault, Why};
 use crate::head::head_fault;
-use crate::line_counts::{claims_line, records_line};
+use crate::line_counts::records_line;
 use crate::released_file::released_rows;
 use crate::rows_check::{is_released, rows_fault};
 use bound_cert::RowProof;
@@ -88,8 +89,8 @@ fn check_records(
     if let Some(fault) = rows_fault(alloc, &checking, saids, audit.records, &released)? {
         return Err(rejected(records_line(said) + 1 + fault.offset, fault.why));
     }
-    if !said.claims.is_empty() {
-        return Err(rejected(claims_line(said), Why::Claims));
+    if let Some(line) = claims_fault(alloc, audit.rules, audit.records, said)? {
+        return Err(rejected(line, Why::Claims));
     }
     Ok(count)
 }

@@ -1,13 +1,12 @@
-use Rattle.std.specs.Prelude.{◌≡◌, ℕ, ◌<◌, All, Bool, false, List, IfSome, IsSomeAnd, length, option_map, slice_get}
-use Rattle.std.specs.List.{list_any}
-use Rattle.edit_model.specs.Parts.{SurveyParts}
-use Rattle.edit_model.specs.Rows.{IsRow, is_bad, value_of}
+use Rattle.std.specs.Prelude.{◌≡◌, ℕ, ◌<◌, All, Bool, true, List, IfSome, IsSomeAnd, length, option_map, slice_get}
+use Rattle.edit_model.specs.CleanRecords.{is_clean}
+use Rattle.edit_model.specs.Rows.{IsRow, value_of}
 use Rattle.edit_model.specs.declared.field.Field.{Field}
 use Rattle.edit_model.specs.declared.value.Value.{Value}
 use Rattle.edit_line.specs.Lines.{AreOver}
 use Rattle.edit_line.specs.Shapes.{shape_of}
 use Rattle.bound_cert.specs.Paths.{changes}
-use Rattle.cert_check.specs.Released.{AllHold, AreValuesFrom, IsValueOf, text_at}
+use Rattle.cert_check.specs.Released.{AreValuesFrom, IsValueOf, text_at}
 use Rattle.cert_check.specs.RowChecks.{RowFiles, RowRules}
 use Rattle.cert_check.specs.declared.checking.Checking.{Checking}
 use Rattle.cert_check.specs.declared.checking.RowAt.{RowAt}
@@ -38,11 +37,7 @@ pub record FitsFiles (c : Checking) (f : RowAt) : Type 0 where
 abbrev pub IsValueAt : Checking → List Value → List Bool → List (List ℕ) → ℕ → Value → Type 0
 IsValueAt c row path texts f v = IsSomeAnd (slice_get c.survey.now.fields f) (λ (field : Field). IsValueOf (changes c.survey.now.fields path f) field.kind (text_at c.columns.now texts f) (value_of row f) v)
 
--- the record is right: each field has a value, and all rules hold
-pub record IsRight (survey : SurveyParts) (row : List Value) : Type 0 where
-  pub whole : list_any is_bad row ≡ false
-  pub holds : AllHold survey.rules row
-
--- the texts give each field a value, and the record of these is right
-abbrev pub GivesRight : Checking → List Bool → List (List ℕ) → List Value → Type 0
-GivesRight c path texts row = (new : List Value) × AreValuesFrom (changes c.survey.now.fields path) (text_at c.columns.now texts) 0 c.survey.now.fields row new × IsRight c.survey.now new
+-- the texts give each field a value, and the record of these is clean
+abbrev pub GivesClean : Checking → List Bool → List (List ℕ) → List Value → Type 0
+GivesClean c path texts row =
+    (new : List Value) × AreValuesFrom (changes c.survey.now.fields path) (text_at c.columns.now texts) 0 c.survey.now.fields row new × (is_clean c.survey.now new ≡ true)

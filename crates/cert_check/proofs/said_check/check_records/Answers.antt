@@ -3,7 +3,6 @@ use Rattle.std.proofs.lemmas.List.{length-map}
 use Rattle.record_text.proofs.SheetLaws.{columns_in_header, few_sheet_rows, one_column_a_field, raws_as_long_as_header, rows_are_records}
 use Rattle.cert_check.specs.inner.Answers.{audit_in}
 use Rattle.cert_check.proofs.AuditLaws.{claims-answers, counts-fit, file-answers, in-limits, record-answers, valid-answers}
-use Rattle.cert_check.proofs.PlaceLaws.{no-elements, some-elements}
 use Rattle.cert_check.proofs.said_check.check_records.Goals as goal
 
 pub released_count-count-requires : goal.released_count-count-requires
@@ -59,14 +58,21 @@ returns-in-Some-2 c = λ bytes spelled.
     rw (c.rejected-in-Some-2.ensures, c.records_line.ensures)
     (record-answers a c.args.said.now spelled (c.requires.head bytes) c.requires.dropped c.requires.sheet.0 c.requires.sheet.1 c.in-Some.released.raws are c.in-Some-2.fault.offset c.in-Some-2.fault.why found.0 found.1)
 
-pub returns-then-not-is_empty : goal.returns-then-not-is_empty
-returns-then-not-is_empty c = λ bytes spelled.
+pub claims_fault-requires-clause-rows : goal.claims_fault-requires-clause-rows
+claims_fault-requires-clause-rows c = rows_are_records c.args.audit.now.rules.now.fields c.requires.sheet.0 c.args.audit.now.records.now c.requires.sheet.1
+
+pub claims_fault-requires-clause-one_each : goal.claims_fault-requires-clause-one_each
+claims_fault-requires-clause-one_each c = (counts-fit (audit_in c.args.audit.now []) c.args.said.now (c.requires.head [])).1
+
+pub returns-in-Some-3 : goal.returns-in-Some-3
+returns-in-Some-3 c = λ bytes spelled.
     let a = audit_in c.args.audit.now bytes in
     let are = rw (c.in-Some.is, c.header.ensures, c.released_count-count.ensures, c.as_slice-saids.ensures) at c.in_ok-released.ensures.some in
     let usable = c.deref.ensures.value ∙ c.in_ok-usable.ensures ∙ ap (map is_none) c.as_slice.ensures in
     let valid = rw (c.in_default-2.is, c.as_slice-saids.ensures, c.requires.lines, usable, c.columns.ensures) at c.in_ok-fault.ensures in
-    rw (c.rejected-then-not-is_empty.ensures, c.claims_line.ensures)
-    (claims-answers a c.args.said.now spelled (c.requires.head bytes) c.requires.dropped c.requires.sheet.0 c.requires.sheet.1 c.in-Some.released.raws are valid (some-elements _ (sym c.is_empty.ensures ∙ c.if-not-is_empty.true)))
+    let found = rw c.in-Some-3.is at c.in_ok-line.ensures in
+    rw c.rejected-in-Some-3.ensures
+    (claims-answers a c.args.said.now spelled (c.requires.head bytes) c.requires.dropped c.requires.sheet.0 c.requires.sheet.1 c.in-Some.released.raws are valid c.in-Some-3.line found)
 
 pub returns : goal.returns
 returns c = λ bytes spelled.
@@ -74,5 +80,6 @@ returns c = λ bytes spelled.
     let are = rw (c.in-Some.is, c.header.ensures, c.released_count-count.ensures, c.as_slice-saids.ensures) at c.in_ok-released.ensures.some in
     let usable = c.deref.ensures.value ∙ c.in_ok-usable.ensures ∙ ap (map is_none) c.as_slice.ensures in
     let valid = rw (c.in_default-2.is, c.as_slice-saids.ensures, c.requires.lines, usable, c.columns.ensures) at c.in_ok-fault.ensures in
+    let claims = rw c.in_default-3.is at c.in_ok-line.ensures in
     rw (c.released_count-count.ensures, c.as_slice-saids.ensures)
-    (valid-answers a c.args.said.now spelled (c.requires.head bytes) c.requires.dropped c.requires.sheet.0 c.requires.sheet.1 c.in-Some.released.raws are valid (no-elements _ (sym c.is_empty.ensures ∙ c.if-not-is_empty.false)))
+    (valid-answers a c.args.said.now spelled (c.requires.head bytes) c.requires.dropped c.requires.sheet.0 c.requires.sheet.1 c.in-Some.released.raws are valid claims)

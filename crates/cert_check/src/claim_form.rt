@@ -1,0 +1,96 @@
+//! Whether claims of donors are in form.
+ghost use Rattle.std.specs.Prelude.{◌≡◌, ◌≤◌, List, IfOk, IsSomeAnd, false, true, length, nat_eq, slice_get, slice_index_or};
+ghost use Rattle.std.specs.Bool.{Decides};
+ghost use Rattle.std.specs.List.{AllByRecursion, IsDistinct, list_all};
+ghost use Rattle.edit_model.specs.Parts.{SurveyParts};
+ghost use Rattle.edit_model.specs.Rows.{IsRow};
+ghost use Rattle.edit_model.specs.declared.value.Value.{Value};
+ghost use Rattle.cert_check.specs.Claims.{IsClaim, claims_donor};
+ghost use Rattle.cert_check.specs.inner.ClaimChecks.{AreCleanFlags, IsFormedCount};
+
+use crate::said::claims_donor;
+use bound_cert::RowProof;
+use donor_book::Entry;
+use edit_model::{Survey, is_clean};
+use foundation::OutOfMemory;
+use proof_text::Proof;
+use record_text::Sheet;
+use std::alloc::Global;
+
+/// For each record whether it is clean.
+pub(crate) fn clean_flags(
+    alloc: Global,
+    survey: &Survey,
+    records: &Sheet,
+) -> Result<Vec<bool>, OutOfMemory>
+    requires { AllByRecursion (IsRow survey.now.fields) records.now.rows }
+    ensures { IfOk result (λ flags. AreCleanFlags survey.now records.now.rows flags.items) }
+{
+    let mut flags = Vec::with_capacity(alloc, records.len() as usize)?;
+    for row_no in 0..records.len() {
+        flags.push(is_clean(survey, records.row(row_no)))?;
+    }
+    Ok(flags)
+}
+
+/// How many claims stand before the first that is not in form. No memory.
+pub(crate) fn formed_count(said: &Proof, clean: &[bool]) -> usize
+    ensures most { result ≤ length said.now.claims }
+    ensures count { (survey : SurveyParts) (rows : List (List Value)) → AreCleanFlags survey rows clean.now → IsFormedCount survey rows said.now result }
+{
+    let claims = said.claims.as_slice();
+    for (place, claim) in claims.iter().enumerate() {
+        if !is_claim(said, clean, claim) {
+            return place;
+        }
+    }
+    claims.len()
+}
+
+// Whether a claim is in form: its record claims a donor, and ranks no more donors than may be ranked, each once. The
+// length is looked at first, so that no long ranking is searched.
+fn is_claim(said: &Proof, clean: &[bool], claim: &Entry) -> bool
+    ensures { (survey : SurveyParts) (rows : List (List Value)) → AreCleanFlags survey rows clean.now → Decides result (IsClaim survey rows said.now claim.now) }
+{
+    let ranking = claim.ranking.as_slice();
+    row_claims(said.rows.as_slice(), claim.row_no)
+        && (ranking.len() <= said.near as usize
+            && (are_distinct(ranking) && are_clean(clean, ranking)))
+}
+
+// Whether the record of this number is there, and claims a donor.
+fn row_claims(saids: &[RowProof], row_no: u32) -> bool
+    ensures { Decides result (IsSomeAnd (slice_get saids.now row_no) (λ said. claims_donor said ≡ true)) }
+{
+    match saids.get(row_no as usize) {
+        Some(said) => claims_donor(said),
+        None => false,
+    }
+}
+
+// Whether no donor stands twice.
+fn are_distinct(ranking: &[u32]) -> bool
+    ensures { Decides result (IsDistinct nat_eq ranking.now) }
+{
+    for (place, donor) in ranking.iter().enumerate() {
+        if ranking[..place].contains(donor) {
+            return false;
+        }
+    }
+    true
+}
+
+// Whether each donor is one of the records, and clean.
+fn are_clean(clean: &[bool], ranking: &[u32]) -> bool
+    ensures { result ≡ list_all (λ donor. slice_index_or clean.now donor false) ranking.now }
+{
+    ranking.iter().all(|donor| is_donor(clean, *donor))
+}
+
+// Whether the donor is one of the records, and clean.
+fn is_donor(clean: &[bool], donor: u32) -> bool
+    ensures { result ≡ slice_index_or clean.now donor false }
+{
+    let place = donor as usize;
+    place < clean.len() && clean[place]
+}
