@@ -1,8 +1,7 @@
-use Rattle.std.proofs.Common.{◌≡◌, ◌≢◌, ◌≤◌, ◌<◌, ◌+◌, ◌||◌, ◌∙◌, ℕ, zero, suc, Bool, true, false, not, nat_eq, nat_le, if◌then◌else◌, List, [], ◌∷◌, All, Option, Some, None, IsSomeAnd, length, map, slice_get, inl, inr, refl, sym, ap, subst, arith}
+use Rattle.std.proofs.Common.{◌≡◌, ◌≢◌, ◌≤◌, ◌<◌, ◌+◌, ◌||◌, ◌&&◌, ◌==◌, ◌∙◌, ℕ, zero, suc, Bool, true, false, not, nat_eq, nat_le, if◌then◌else◌, List, [], ◌∷◌, All, Option, Some, None, IsSomeAnd, length, map, slice_get, inl, inr, refl, sym, ap, subst, arith}
 use Rattle.std.specs.Prelude.{option_map}
 use Rattle.std.specs.List.{AllByRecursion, AllZip, IsDistinct, list_any, sum_by}
-use Rattle.std.specs.Cmp.Derive.{both_true}
-use Rattle.std.proofs.lemmas.Bool.{le-leb}
+use Rattle.std.proofs.lemmas.Bool.{and_parts, le-leb}
 use Rattle.std.proofs.lemmas.Bool.Decides.{Decides-eqb}
 use Rattle.std.proofs.lemmas.List.Elements.{All-append, All-cons, All-nil}
 use Rattle.std.proofs.lemmas.List.Sums.{sum_by-cons}
@@ -19,7 +18,7 @@ use Rattle.edit_model.proofs.OrderLaws.{order-length}
 use Rattle.edit_line.specs.Reductions.{IsIn}
 use Rattle.edit_line.proofs.ListPlaces.{get-map-out}
 use Rattle.edit_line.proofs.Members.{in-left, in-right}
-use Rattle.bound_cert.specs.Paths.{path_weight}
+use Rattle.bound_cert.specs.Paths.{keeps_bad, path_weight}
 use Rattle.bound_cert.specs.Trees.{all_kept}
 use Rattle.bound_cert.specs.declared.outcome.GiftFault.{GiftFault}
 use Rattle.bound_cert.specs.declared.outcome.Outcome.{Outcome}
@@ -35,7 +34,7 @@ use Rattle.donor_book.specs.declared.claim.Entry.{Entry}
 use Rattle.donor_book.specs.declared.claim.Won.{Won}
 use Rattle.donor_book.proofs.IndexLaws.{no_row}
 use Rattle.donor_measure.specs.Yardsticks.{yardsticks_of}
-use Rattle.donor_search.specs.CleanRows.{row_at}
+use Rattle.donor_search.specs.CleanRows.{donors_of, row_at}
 use Rattle.donor_search.proofs.RankedLaws.{ranking-donors, ranking-few, ranking-once}
 use Rattle.edit_report.specs.Ends.{path_found}
 use Rattle.edit_report.specs.declared.end.RowEnd.{RowEnd}
@@ -89,11 +88,14 @@ module _ (survey : SurveyParts) (formed : IsWellFormed survey) (row : List Value
   change-weighs : (path : List Bool) (weight : ℕ) → is_change survey.fields row path weight ≡ true → nat_le 1 weight ≡ not (all_kept path)
   change-weighs path weight right = by (all_kept path) refl
     where
+      parts : ((length path == length survey.fields) ≡ true) × ((not (keeps_bad survey.fields row path) && (path_weight survey.fields path == weight)) ≡ true)
+      parts = and_parts (length path == length survey.fields) (not (keeps_bad survey.fields row path) && (path_weight survey.fields path == weight)) right
+
       long : length path ≡ length survey.fields
-      long = (Decides-eqb (length path) (length survey.fields)).0 (both_true _ _ right).0
+      long = (Decides-eqb (length path) (length survey.fields)).0 parts.0
 
       weighs : path_weight survey.fields path ≡ weight
-      weighs = (Decides-eqb (path_weight survey.fields path) weight).0 (both_true _ _ (both_true _ _ right).1).1
+      weighs = (Decides-eqb (path_weight survey.fields path) weight).0 (and_parts (not (keeps_bad survey.fields row path)) (path_weight survey.fields path == weight) parts.1).1
 
       by : (b : Bool) → all_kept path ≡ b → nat_le 1 weight ≡ not b
       by true kept = ap (nat_le 1) (sym weighs ∙ kept-weighs survey.fields path kept)
@@ -203,7 +205,7 @@ module _ (survey : SurveyParts) (terms : Terms) (rows : List (List Value)) (ends
   claim-formed : (entry : Entry) → Claims entry.row_no → IsRanked survey rows terms.near ends entry → IsClaim survey rows p entry
   claim-formed entry (end, at, claims) ranked = record {
     row = subst (λ (o : Option RowProof). IsSomeAnd o (λ s. audit.claims_donor s ≡ true)) (sym (slice_get-map said ends entry.row_no ∙ ap (option_map said) at)) (said-claims entry.row_no end at ∙ claims);
-    few = subst (λ (ds : List ℕ). length ds ≤ terms.near) (sym r.ranked) (ranking-few (yardsticks_of survey.fields) survey rows (row_at rows entry.row_no) r.kept terms.near);
+    few = subst (λ (ds : List ℕ). length ds ≤ terms.near) (sym r.ranked) (ranking-few (yardsticks_of survey.fields) rows (donors_of survey rows) (row_at rows entry.row_no) r.kept terms.near);
     once = subst (IsDistinct nat_eq) (sym r.ranked) (ranking-once (yardsticks_of survey.fields) survey rows (row_at rows entry.row_no) r.kept terms.near);
     donors = donors-are entry.ranking (subst (λ (ds : List ℕ). All (λ d. (d < length rows) × (is_clean survey (row_at rows d) ≡ true)) ds) (sym r.ranked) (ranking-donors (yardsticks_of survey.fields) survey rows (row_at rows entry.row_no) r.kept terms.near));
   }

@@ -1,4 +1,4 @@
-use Rattle.std.proofs.Common.{◌≡◌, ◌++◌, ℕ, zero, suc, Bool, true, List, [], ◌∷◌, Option, Some, None, Result, Ok, Err, length, slice_get, ℤ, pos, ◌<ℤ◌, int_lt, refl, sym}
+use Rattle.std.proofs.Common.{◌≡◌, ◌++◌, ℕ, zero, suc, Bool, true, List, [], ◌∷◌, Option, Some, None, Result, Ok, Err, length, slice_get, ℤ, pos, ◌<ℤ◌, int_lt, refl, sym, option_map}
 use Rattle.std.specs.List.{AllByRecursion}
 use Rattle.fraction128.specs.Formulas.{then_some}
 use Rattle.edit_model.specs.Parts.{SurveyParts}
@@ -33,6 +33,7 @@ use Rattle.pruned_rules.specs.Pruned.{kept_edits}
 use Rattle.edit_release.specs.Edits.{said, said_of}
 use Rattle.edit_release.proofs.OutcomeLaws.{change-clean}
 use Rattle.edit_release.proofs.SaidLaws.{has-tree}
+use Rattle.donor_search.specs.CleanRows.{row_at}
 
 -- What the proof of an edit says of a record is coherent.
 

@@ -22,6 +22,8 @@ use Rattle.cert_check.specs.Dropped.{drop_fault, fault_by, or_later, refutation_
 use Rattle.edit_release.specs.Edits.{proof_of, refutation_by}
 use Rattle.edit_release.proofs.CoherentLaws.{valid-positive}
 use Rattle.edit_release.proofs.SaidLaws.{flags-said}
+use Rattle.record_workers.specs.declared.terms.Terms.{Terms}
+use Rattle.donor_book.specs.declared.claim.Entry.{Entry}
 
 -- steps that refute have no fault
 no-fault : (p : Premises) (steps : List Step) → RefutedBy p steps → refutation_fault p steps ≡ None

@@ -30,7 +30,7 @@ use Rattle.edit_paths.specs.Cases.{Case}
 use Rattle.edit_paths.proofs.LetterLaws.{code-field, number-field}
 use Rattle.back_subst.proofs.StartLaws.{field-either}
 use Rattle.edit_report.specs.Released.{text_of}
-use Rattle.cert_check.specs.Released.{AllHold, AreValuesFrom, IsGivenText, IsValueOf, is_same}
+use Rattle.cert_check.specs.Released.{AreValuesFrom, IsGivenText, IsValueOf, is_same}
 use Rattle.edit_release.proofs.ColumnTexts.{found-first}
 
 -- ---- one value

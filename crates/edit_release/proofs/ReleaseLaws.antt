@@ -1,5 +1,5 @@
 -- The files of an edit are a valid release.
-use Rattle.std.proofs.Common.{◌≡◌, ◌≤◌, ◌<◌, ◌∙◌, sym, ap, refl, ℕ, ◌==◌, true, List, [], ◌∷◌, length, map, All, IsSome, IsTrue, ◌↔◌, Option, Some, None, subst}
+use Rattle.std.proofs.Common.{◌≡◌, ◌≤◌, ◌<◌, ◌∙◌, sym, ap, refl, ℕ, ◌==◌, true, List, [], ◌∷◌, length, map, All, IsSome, IsTrue, ◌↔◌, Option, Some, None, subst, option_map}
 use Rattle.std.specs.Prelude.{is_some}
 use Rattle.std.specs.List.{AllByRecursion, AllZip}
 use Rattle.std.proofs.lemmas.Bool.{le-leb}
@@ -44,6 +44,11 @@ use Rattle.edit_release.proofs.DroppedLaws.{none-faulty, verdicts-coherent}
 use Rattle.edit_release.proofs.ReleasedLaws.{IsSaidReleased, are-released, end-said, ends-said}
 use Rattle.edit_release.proofs.RowsLaws.{IsValidEnd, each-follows, end-released, own_files, rows-valid}
 use Rattle.edit_release.proofs.SaidLaws.{IsReleasedSaid, rules-are, said-valid, tree-shown}
+use Rattle.donor_search.specs.CleanRows.{row_at}
+use Rattle.record_workers.specs.declared.terms.Terms.{Terms}
+use Rattle.donor_book.specs.declared.claim.Entry.{Entry}
+use Rattle.record_workers.specs.Donations.{AreDonations, AreTerms}
+use Rattle.edit_release.proofs.ClaimLaws.{claims-valid}
 
 -- ---- the head of the proof
 

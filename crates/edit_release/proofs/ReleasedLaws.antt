@@ -1,5 +1,5 @@
 -- The released file has a row of each record that the proof says is released, with the values that were given.
-use Rattle.std.proofs.Common.{◌≡◌, ◌≢◌, ◌∙◌, sym, ap, subst, refl, ℕ, zero, suc, ◌+◌, ◌<◌, ◌++◌, Bool, true, false, if◌then◌else◌, List, [], ◌∷◌, length, map, slice_get, All, AllPairs, IsSomeAnd, Option, Some, None, arith}
+use Rattle.std.proofs.Common.{◌≡◌, ◌≢◌, ◌∙◌, sym, ap, subst, refl, ℕ, zero, suc, ◌+◌, ◌<◌, ◌++◌, Bool, true, false, if◌then◌else◌, List, [], ◌∷◌, length, map, slice_get, All, AllPairs, IsSomeAnd, Option, Some, None, arith, option_map}
 use Rattle.std.specs.Prelude.{is_some}
 use Rattle.std.specs.List.{AllByRecursion, AllZip, filter}
 use Rattle.std.proofs.lemmas.List.{get_or_past}
@@ -38,6 +38,10 @@ use Rattle.edit_release.specs.Edits.{proof_of, said, said_of}
 use Rattle.edit_release.proofs.ColumnTexts.{changed-text, same-elsewhere}
 use Rattle.edit_release.proofs.GivenValues.{field-ordered, given-text, none-differs, other-value, values-from}
 use Rattle.edit_release.proofs.ReadBackLaws.{sheet_header_kept, written-read}
+use Rattle.donor_search.specs.CleanRows.{row_at}
+use Rattle.record_workers.specs.declared.terms.Terms.{Terms}
+use Rattle.donor_book.specs.declared.claim.Entry.{Entry}
+use Rattle.edit_model.proofs.CleanLaws.{held-clean}
 
 -- ---- which records are released
 

@@ -1,4 +1,4 @@
-use Rattle.std.proofs.Common.{◌≡◌, ℕ, zero, suc, Bool, true, false, List, [], ◌∷◌, map, is_none, Option, Some, None, refl, sym, ap, subst}
+use Rattle.std.proofs.Common.{◌≡◌, ℕ, zero, suc, Bool, true, false, List, [], ◌∷◌, map, is_none, Option, Some, None, refl, sym, ap, subst, option_map}
 use Rattle.edit_model.specs.Parts.{SurveyParts}
 use Rattle.edit_model.specs.Rows.{IsRow}
 use Rattle.edit_model.specs.Surveys.{IsWellFormed}
@@ -27,6 +27,9 @@ use Rattle.edit_release.proofs.CaseLaws.{rule-case, rules-given}
 use Rattle.edit_release.proofs.EventLaws.{event-there}
 use Rattle.edit_release.proofs.GiftFaults.{stop-there}
 use Rattle.edit_release.proofs.OutcomeLaws.{change-is, work-within}
+use Rattle.donor_search.specs.CleanRows.{row_at}
+use Rattle.record_workers.specs.declared.terms.Terms.{Terms}
+use Rattle.donor_book.specs.declared.claim.Entry.{Entry}
 
 -- What the proof of an edit says of a record is right.
 

@@ -1,5 +1,5 @@
 -- The ends of the records of a sheet are such as can be told.
-use Rattle.std.proofs.Common.{◌≡◌, ℕ, Bool, false, List, [], ◌∷◌, Option, Some, None, IfSome, length, sym, ap, ◌∙◌, arith}
+use Rattle.std.proofs.Common.{◌≡◌, ℕ, Bool, false, List, [], ◌∷◌, Option, Some, None, IfSome, length, sym, ap, ◌∙◌, arith, option_map}
 use Rattle.std.specs.List.{AllByRecursion, AllZip, filter}
 use Rattle.std.proofs.lemmas.Slice.Zip.{AllZip-long}
 use Rattle.edit_model.specs.Corrections.{path_order}
@@ -23,6 +23,7 @@ use Rattle.record_text.specs.Sheets.{SheetParts}
 use Rattle.edit_report.specs.Ends.{AreEnds, IsEnd, IsGift, changed_fields, path_found}
 use Rattle.edit_report.specs.declared.end.RowEnd.{RowEnd}
 use Rattle.record_workers.specs.Ends.{Follows, IsEndOf, IsGiftOf}
+use Rattle.donor_search.specs.CleanRows.{row_at}
 
 module _ (survey : SurveyParts) (row : List Value) (path : List Bool) (donor : Option (List Value)) (gift : Gift) (is : IsGiftOf survey row path donor gift) where
   -- the path says something of all fields
