@@ -80,6 +80,14 @@ impl Book {
         self.history.as_slice()
     }
 
+    /// The claims, in order, and the book is gone. No memory.
+    pub fn close(self) -> Vec<Entry>
+        ensures history { result.items ≡ self.history }
+        ensures legal { IsLegalHistory self.limit self.history }
+    {
+        self.history
+    }
+
     /// How often a donor is given at most. No memory.
     pub fn limit(&self) -> u32
         ensures { result ≡ self.now.limit }

@@ -25,6 +25,9 @@ fn a_row_is_given_the_first_donor_with_uses_left(rt: HostRuntime) -> Result<(), 
     assert_eq!(rt; again, Claim::Had(Some(1)));
     assert_eq!(rt; book.history().len(), 3);
     assert_eq!(rt; book.limit(), 1);
+    let claims = book.close();
+    assert!(rt; claims.len() == 3);
+    assert!(rt; claims[1].row_no == 0 && claims[1].reply == Some(0));
     Ok(())
 }
 
