@@ -1,10 +1,10 @@
 use Rattle.std.proofs.Common.{◌≡◌, ℕ, zero, suc, ◌+◌, ◌<◌, ◌≤◌, Bool, true, false, if◌then◌else◌, List, [], ◌∷◌, ◌++◌, All, get_or, length, take, subst, append-nil, arith}
 use Rattle.std.specs.Prelude.{nat_eq}
 use Rattle.std.specs.Cmp.{nat_eq_equiv}
-use Rattle.std.specs.List.{AllPairs, IsDistinct, fold, position_or_len}
+use Rattle.std.specs.List.{AllPairs, Contains, IsDistinct, fold, position_or_len}
 use Rattle.std.specs.List.Sorted.{IsPermutation, IsStrictlyIncreasing}
 use Rattle.std.proofs.lemmas.List.{length-take}
-use Rattle.std.proofs.lemmas.List.Elements.{All-take}
+use Rattle.std.proofs.lemmas.List.Elements.{All-contains_itself, All-take}
 use Rattle.std.proofs.lemmas.List.Kept.{AllPairs-cons, AllPairs-from_increasing}
 use Rattle.std.proofs.lemmas.List.Sorted.{All-permutation, IsPermutation-append_right, IsPermutation-insert, IsPermutation-middle, IsPermutation-refl, IsPermutation-sym, IsPermutation-trans}
 use Rattle.std.proofs.lemmas.Map.Keys.{IsDistinct-IsPermutation, IsDistinct-from_apart}
@@ -84,6 +84,11 @@ module _ (yardsticks : List Yardstick) where
   ranking_all P rows donors row kept near all =
       let nearer = is_nearer (distance_to yardsticks rows row kept) in
       All-take P near (in_order nearer donors) (All-permutation P donors (in_order nearer donors) (order_moves nearer donors) all)
+
+  -- each in the ranking is one of the donors
+  pub ranking_among : (rows : List (List Value)) (donors : List ℕ) (row : List Value) (kept near : ℕ)
+      → All (Contains donors) (ranking_of yardsticks rows donors row kept near)
+  ranking_among rows donors row kept near = ranking_all (Contains donors) rows donors row kept near (All-contains_itself donors)
 
   -- each in the ranking is the number of a clean row
   pub ranking-donors : (survey : SurveyParts) (rows : List (List Value)) (row : List Value) (kept near : ℕ)

@@ -1,10 +1,11 @@
 ghost use Rattle.std.specs.Prelude.{◌≡◌, ℕ, ◌<◌, ◌++◌, [], ◌∷◌, if◌then◌else◌, length, All, IfOk, OnOk};
 ghost use Rattle.std.specs.List.{AllByRecursion};
+ghost use Rattle.std.specs.List.Sorted.{IsStrictlyIncreasing};
 ghost use Rattle.edit_model.specs.CleanRecords.{is_clean};
 ghost use Rattle.edit_model.specs.Rows.{IsRow};
 ghost use Rattle.edit_model.specs.PlainNumbers.{HasPlain};
 ghost use Rattle.donor_measure.specs.Yardsticks.{yardsticks_of};
-ghost use Rattle.donor_search.specs.CleanRows.{CanGive, donors_of, row_at};
+ghost use Rattle.donor_search.specs.CleanRows.{CanGive, IsCleanRow, donors_of, row_at};
 
 use edit_model::{Survey, is_clean};
 use foundation::OutOfMemory;
@@ -12,7 +13,7 @@ use record_text::Sheet;
 use std::alloc::Global;
 use std::marker::Model;
 
-/// The donors of a sheet: the numbers of its clean rows, in order. Contracts see the list.
+/// The donors of a sheet: the numbers of its clean rows, in rising order. Contracts see the list.
 #[derive(Debug, Drop)]
 pub struct Deck {
     rows: Vec<u32>,
@@ -20,10 +21,13 @@ pub struct Deck {
 
 impl Model for Deck {
     ghost use Rattle.std.specs.Prelude.{ℕ, List};
+    ghost use Rattle.std.specs.List.Sorted.{IsStrictlyIncreasing};
 
     ghost Value = { List ℕ };
 
     ghost view = { λ d. d.rows.items };
+
+    ghost invariant = { λ d. IsStrictlyIncreasing d.rows.items };
 }
 
 impl Deck {
@@ -33,21 +37,33 @@ impl Deck {
     pub fn new(alloc: Global, survey: &Survey, sheet: &Sheet) -> Result<Deck, OutOfMemory>
         requires { AllByRecursion (IsRow survey.now.fields) sheet.now.rows }
         ensures clean { IfOk result (λ deck. deck ≡ donors_of survey.now sheet.now.rows) }
+        ensures rows { IfOk result (λ deck. All (IsCleanRow survey.now sheet.now.rows) deck) }
+        ensures rising { IfOk result (λ deck. IsStrictlyIncreasing deck) }
         ensures measurable { IfOk result (λ deck. AllByRecursion HasPlain sheet.now.rows → (kept : ℕ) → All (CanGive (yardsticks_of survey.now.fields) sheet.now.rows kept) deck) }
     {
-        let mut rows = Vec::new(alloc);
-        for row_no in 0..sheet.len() {
-            push_clean(&mut rows, survey, sheet, row_no)?;
-        }
+        let rows = clean_rows(alloc, survey, sheet)?;
         Ok(Deck { rows })
     }
 
-    /// The numbers of the clean rows, in order. No memory.
+    /// The numbers of the clean rows, in rising order. No memory.
     pub fn rows(&self) -> &[u32]
-        ensures { result.now ≡ self.now }
+        ensures rows { result.now ≡ self.now }
+        ensures rising { IsStrictlyIncreasing result.now }
     {
         self.rows.as_slice()
     }
+}
+
+// The numbers of the clean rows, in order.
+fn clean_rows(alloc: Global, survey: &Survey, sheet: &Sheet) -> Result<Vec<u32>, OutOfMemory>
+    requires { AllByRecursion (IsRow survey.now.fields) sheet.now.rows }
+    ensures { IfOk result (λ rows. rows.items ≡ donors_of survey.now sheet.now.rows) }
+{
+    let mut rows = Vec::new(alloc);
+    for row_no in 0..sheet.len() {
+        push_clean(&mut rows, survey, sheet, row_no)?;
+    }
+    Ok(rows)
 }
 
 // Puts the row's number last where the row is clean.

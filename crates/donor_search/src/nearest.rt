@@ -1,5 +1,5 @@
-ghost use Rattle.std.specs.Prelude.{◌≡◌, ◌≤◌, All, IfOk, OnOk, length, map, take};
-ghost use Rattle.std.specs.List.{AllByRecursion};
+ghost use Rattle.std.specs.Prelude.{◌≡◌, ◌≤◌, All, IfOk, OnOk, length, map, nat_eq, take};
+ghost use Rattle.std.specs.List.{AllByRecursion, Contains, IsDistinct};
 ghost use Rattle.donor_measure.specs.Measures.{HasKept, Measures};
 ghost use Rattle.donor_search.specs.CleanRows.{CanGive};
 ghost use Rattle.donor_search.specs.Rankings.{IsAmongFirst, IsInOrder, distance_to, is_nearer, placed, ranking_of};
@@ -15,7 +15,7 @@ use record_text::Sheet;
 use std::alloc::Global;
 
 /// The donors for a record: the first `near` of the deck by distance over the kept fields, then by
-/// number. The record and the donors, which are rows of the sheet, have codes or numbers at the kept
+/// number, none of them twice. The record and the donors, which are rows of the sheet, have codes or numbers at the kept
 /// fields, numbers with numerators below 10^21 and denominators of at most 10^6.
 pub fn ranking<F: Fn(u32, &Value, &Value) -> u64>(
     alloc: Global,
@@ -31,6 +31,9 @@ pub fn ranking<F: Fn(u32, &Value, &Value) -> u64>(
     requires donors { All (CanGive measure.now.yardsticks sheet.now.rows kept) deck.now }
     ensures ranking { IfOk result (λ ranking. ranking.items ≡ ranking_of measure.now.yardsticks sheet.now.rows deck.now row.now kept near) }
     ensures order { IfOk result (λ ranking. IsInOrder (is_nearer (distance_to measure.now.yardsticks sheet.now.rows row.now kept)) ranking.items) }
+    ensures few { IfOk result (λ ranking. length ranking.items ≤ near) }
+    ensures among { IfOk result (λ ranking. All (Contains deck.now) ranking.items) }
+    ensures once { IfOk result (λ ranking. IsDistinct nat_eq ranking.items) }
     ensures nearest { IfOk result (λ ranking. AllByRecursion (IsAmongFirst (is_nearer (distance_to measure.now.yardsticks sheet.now.rows row.now kept)) ranking.items) deck.now) }
 {
     let mut nearest = Vec::new(alloc);
