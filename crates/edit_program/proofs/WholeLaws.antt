@@ -1,5 +1,5 @@
 -- An edit of a sheet whose records all have corrections in reach releases them all.
-use Rattle.std.proofs.Common.{◌≡◌, ℕ, List, [], ◌∷◌, Option, Some, None, IsSome, inl, inr, refl, sym, arith}
+use Rattle.std.proofs.Common.{◌≡◌, ℕ, List, [], ◌∷◌, Option, Some, None, IsSome, option_map, inl, inr, refl, sym, arith}
 use Rattle.std.specs.List.{AllByRecursion, AllZip}
 use Rattle.edit_model.specs.Corrections.{IsCorrection}
 use Rattle.edit_model.specs.Parts.{SurveyParts}
@@ -13,6 +13,7 @@ use Rattle.edit_paths.specs.Cases.{case_of}
 use Rattle.edit_paths.specs.Outcomes.{outcome_of}
 use Rattle.back_subst.specs.declared.gift.Gift.{Gift}
 use Rattle.edit_report.specs.declared.end.RowEnd.{RowEnd}
+use Rattle.donor_search.specs.CleanRows.{row_at}
 use Rattle.record_workers.specs.Ends.{Follows, IsEndOf}
 use Rattle.record_workers.specs.Said.{OutcomeSays, Says}
 use Rattle.edit_release.specs.Releases.{AllGiven}
