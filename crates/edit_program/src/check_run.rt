@@ -9,13 +9,13 @@ ghost use Rattle.edit_program.specs.declared.fault.Fault.TheVariants as faults;
 ghost use Rattle.edit_program.specs.inner.CheckParts.{Accepts};
 ghost use Rattle.edit_program.specs.inner.Parts.{AreCallsOf, done_end, faults_after};
 
-use command_words::CheckWords;
 use crate::fault::Fault;
 use crate::reading::{fetch_proof, fetch_released, fetch_sheet, fetch_survey};
 use crate::refusal::Refusal;
 use crate::status::Status;
 use crate::telling::{refuse, tell};
 use cert_check::check_all;
+use command_words::CheckWords;
 use edit_desk::{Desk, Printer};
 use std::alloc::Global;
 

@@ -10,9 +10,9 @@ ghost use Rattle.edit_program.specs.inner.Parts.{AreCallsOf, done_end, faults_af
 
 use crate::reading::fetch_survey;
 use crate::refusal::Refusal;
-use command_words::RulesWords;
 use crate::status::Status;
 use crate::telling::{refuse, tell_all};
+use command_words::RulesWords;
 use edit_desk::{Desk, Printer};
 use edit_model::Survey;
 use foundation::OutOfMemory;

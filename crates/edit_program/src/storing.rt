@@ -5,9 +5,9 @@ ghost use Rattle.edit_program.specs.EditRun.{edit_files};
 ghost use Rattle.edit_program.specs.inner.Parts.{AreCallsOf, IsOfStores, StoresOf, faults_after, store_calls};
 ghost use Rattle.edit_release.specs.Releases.{written_in};
 
-use command_words::EditWords;
 use crate::fault::{Fault, FileName};
 use crate::refusal::Refusal;
+use command_words::EditWords;
 use edit_desk::{Desk, StoreError};
 use edit_release::Release;
 use std::alloc::Global;
