@@ -1,4 +1,4 @@
-ghost use Rattle.std.specs.Prelude.{◌≡◌, ◌<◌, ◌≤◌, ◌*◌, ◌-ℤ◌, ◌*ℤ◌, ◌^◌, ◌==◌, ◌/◌, if◌then◌else◌, unsigned_abs, min, length};
+ghost use Rattle.std.specs.Prelude.{◌≡◌, ℕ, IfSome, ◌<◌, ◌≤◌, ◌*◌, ◌-ℤ◌, ◌*ℤ◌, ◌^◌, ◌==◌, ◌/◌, if◌then◌else◌, pos, true, unsigned_abs, min, length};
 ghost use Rattle.edit_model.specs.PlainNumbers.{IsPlain};
 ghost use Rattle.donor_measure.specs.Distances.{bucket_gap, field_distance, thousandths_apart, value_distance};
 ghost use Rattle.donor_measure.specs.Measures.{IsMeasurable};
@@ -7,6 +7,9 @@ ghost use Rattle.donor_measure.specs.Yardsticks.{IsScale, IsYardstick, yardstick
 use crate::yardstick::Yardstick;
 use edit_model::{Survey, Value};
 use fraction128::Fraction;
+
+// The greatest unit that thousandths are counted of in words of 64 bits.
+const MOST_IN_WORDS: u128 = 10_000_000_000_000_000;
 
 /// The distance of two values of a field of the survey: the field's weight times 0 for equal codes and
 /// 1000 for other ones, and for numbers times the thousandths of the field's scale by which they differ,
@@ -23,6 +26,7 @@ pub fn field_distance(survey: &Survey, field: u32, first: &Value, second: &Value
 }
 
 // The yardstick of the field.
+#[inline(always)]
 fn yardstick(survey: &Survey, field: u32) -> Yardstick
     requires { field < length survey.now.fields }
     ensures is { result ≡ yardstick_at (yardsticks_of survey.now.fields) field }
@@ -32,6 +36,7 @@ fn yardstick(survey: &Survey, field: u32) -> Yardstick
 }
 
 // The distance of two values of a field that has this yardstick.
+#[inline(always)]
 fn distance_by(yardstick: Yardstick, first: &Value, second: &Value) -> u64
     requires fits { IsYardstick yardstick }
     requires first { IsMeasurable yardstick.scale first.now }
@@ -43,6 +48,7 @@ fn distance_by(yardstick: Yardstick, first: &Value, second: &Value) -> u64
 }
 
 // The distance of two values, without the weight of their field.
+#[inline(always)]
 fn value_distance(scale: Option<u64>, first: &Value, second: &Value) -> u64
     requires scale { IsScale scale }
     requires first { IsMeasurable scale first.now }
@@ -58,6 +64,7 @@ fn value_distance(scale: Option<u64>, first: &Value, second: &Value) -> u64
 }
 
 // 0 for the same code and 1000 for another one.
+#[inline(always)]
 fn code_distance(a: u8, b: u8) -> u64
     ensures distance { result ≡ (if a == b then 0 else 1000) }
     ensures few { result ≤ 1000 }
@@ -65,7 +72,9 @@ fn code_distance(a: u8, b: u8) -> u64
     if a == b { 0 } else { 1000 }
 }
 
-// How far two numbers are apart, in thousandths of the scale, rounded down and at most 1000.
+// How far two numbers are apart, in thousandths of the scale, rounded down and at most 1000. Most numbers
+// are whole: then nothing is multiplied but the difference.
+#[inline(always)]
 fn number_distance(scale: u64, x: &Fraction, y: &Fraction) -> u64
     requires scale { (1 ≤ scale) × (scale ≤ 10 ^ 12) }
     requires first { IsPlain x.now }
@@ -73,11 +82,50 @@ fn number_distance(scale: u64, x: &Fraction, y: &Fraction) -> u64
     ensures distance { result ≡ min 1000 (thousandths_apart scale x.now y.now) }
     ensures few { result ≤ 1000 }
 {
-    thousandths(apart(x, y), size(x) * size(y) * u128::from(scale))
+    if are_whole(x, y) {
+        whole_distance(scale, x.numerator().abs_diff(y.numerator()))
+    } else {
+        fraction_distance(scale, x, y)
+    }
+}
+
+// Whether both numbers are whole.
+#[inline(always)]
+fn are_whole(x: &Fraction, y: &Fraction) -> bool
+    ensures { result ≡ true → (x.now.denominator ≡ pos 1) × (y.now.denominator ≡ pos 1) }
+{
+    x.denominator() == 1 && y.denominator() == 1
+}
+
+// The thousandths of the scale that a whole difference is, rounded down and at most 1000.
+#[inline(always)]
+fn whole_distance(scale: u64, apart: u128) -> u64
+    requires scale { (1 ≤ scale) × (scale ≤ 10 ^ 12) }
+    ensures distance { result ≡ min 1000 ((1000 * apart) / scale) }
+    ensures few { result ≤ 1000 }
+{
+    if apart >= u128::from(scale) {
+        1000
+    } else {
+        thousandths_in_words(apart as u64, scale)
+    }
+}
+
+// The distance of two numbers, of which one may have a denominator.
+#[inline(never)]
+fn fraction_distance(scale: u64, x: &Fraction, y: &Fraction) -> u64
+    requires scale { (1 ≤ scale) × (scale ≤ 10 ^ 12) }
+    requires first { IsPlain x.now }
+    requires second { IsPlain y.now }
+    ensures distance { result ≡ min 1000 (thousandths_apart scale x.now y.now) }
+    ensures few { result ≤ 1000 }
+{
+    let unit = u128::from(size(x) * size(y)) * u128::from(scale);
+    thousandths(apart(x, y), unit)
 }
 
 // How many thousandths of the unit a size is, rounded down and at most 1000. Most sizes are at least the
-// unit, or below a thousandth of it: then nothing is divided, which would take most of the time.
+// unit: then nothing is divided, which would take most of the time.
 fn thousandths(size: u128, unit: u128) -> u64
     requires some { 1 ≤ unit }
     requires few { size < 2 * 10 ^ 27 }
@@ -86,11 +134,22 @@ fn thousandths(size: u128, unit: u128) -> u64
 {
     if size >= unit {
         1000
-    } else if 1000 * size < unit {
-        0
+    } else if unit <= MOST_IN_WORDS {
+        thousandths_in_words(size as u64, unit as u64)
     } else {
         (1000 * size / unit) as u64
     }
+}
+
+// The same of a size below the unit, in words of 64 bits, of which a quotient takes a small part of the time.
+#[inline(always)]
+fn thousandths_in_words(size: u64, unit: u64) -> u64
+    requires below { size < unit }
+    requires few { unit ≤ 10 ^ 16 }
+    ensures thousandths { result ≡ (1000 * size) / unit }
+    ensures few { result ≤ 1000 }
+{
+    1000 * size / unit
 }
 
 // The difference of two numbers, over the product of their denominators.
@@ -110,58 +169,150 @@ fn cross(x: &Fraction, y: &Fraction) -> i128
     ensures product { result ≡ x.now.numerator *ℤ y.now.denominator }
     ensures few { unsigned_abs result < 10 ^ 27 }
 {
-    x.numerator() * y.denominator()
+    x.numerator() * i128::from(size(y))
 }
 
-// The denominator of a number.
-fn size(x: &Fraction) -> u128
+// The denominator of a number, in a word of 64 bits, which is multiplied faster than one of 128.
+fn size(x: &Fraction) -> u64
     requires { IsPlain x.now }
-    ensures size { result ≡ unsigned_abs x.now.denominator }
+    ensures size { x.now.denominator ≡ pos result }
     ensures some { 1 ≤ result }
     ensures few { result ≤ 10 ^ 6 }
 {
-    x.denominator().unsigned_abs()
+    x.denominator() as u64
 }
 
 #[cfg(test)]
 mod tests {
     use super::*;
 
-    // The distance of two whole numbers at a field of weight 2 and this scale.
-    fn apart_at(scale: u64, first: i64, second: i64) -> u64
-        requires { (1 ≤ scale) × (scale ≤ 10 ^ 12) }
+    // The number, where its parts are as small as those of records.
+    fn number(numerator: i128, denominator: i128) -> Option<Value>
+        ensures { IfSome result (λ v. (scale : ℕ) → IsMeasurable (Some scale) v) }
     {
+        let small = numerator.unsigned_abs() < 1_000_000_000_000_000_000_000;
+        if !small || denominator < 1 || denominator > 1_000_000 {
+            return None;
+        }
+        plain_value(Fraction::reduced(numerator, denominator))
+    }
+
+    // The same of a fraction in lowest terms.
+    fn plain_value(x: Fraction) -> Option<Value>
+        ensures { IfSome result (λ v. (scale : ℕ) → IsMeasurable (Some scale) v) }
+    {
+        let small = x.numerator().unsigned_abs() < 1_000_000_000_000_000_000_000;
+        if small && x.denominator() <= 1_000_000 {
+            Some(Value::Number(x))
+        } else {
+            None
+        }
+    }
+
+    // The distance of two numbers at a field of this weight and scale.
+    fn apart_at(weight: u32, scale: u64, first: (i128, i128), second: (i128, i128)) -> Option<u64> {
+        if weight > 1000 || scale < 1 || scale > 1_000_000_000_000 {
+            return None;
+        }
         let yardstick = Yardstick {
-            weight: 2,
+            weight,
             scale: Some(scale),
         };
-        let first = Value::Number(Fraction::whole(i128::from(first)));
-        let second = Value::Number(Fraction::whole(i128::from(second)));
-        distance_by(yardstick, &first, &second)
+        let first = number(first.0, first.1)?;
+        let second = number(second.0, second.1)?;
+        Some(distance_by(yardstick, &first, &second))
     }
 
     #[test]
     fn numbers_are_measured_in_thousandths_of_the_scale(rt: HostRuntime) {
-        assert_eq!(rt; apart_at(10, 5, 5), 0);
-        assert_eq!(rt; apart_at(10, 5, 7), 400);
-        assert_eq!(rt; apart_at(3, 1, 0), 666);
-        assert_eq!(rt; apart_at(1001, 0, 1), 0);
-        assert_eq!(rt; apart_at(1000, 0, 1), 2);
-        assert_eq!(rt; apart_at(1000, 0, -999), 1998);
-        assert_eq!(rt; apart_at(1000, 0, -1000), 2000);
-        assert_eq!(rt; apart_at(1000, 7, 99_999), 2000);
+        let table: [(u32, u64, (i128, i128), (i128, i128), u64); 27] = [
+            (1, 3000, (7, 1), (7, 1), 0),
+            (1, 3000, (7, 1), (9, 1), 0),
+            (1, 3000, (7, 1), (10, 1), 1),
+            (1, 3000, (7, 1), (11, 1), 1),
+            (1, 3000, (2999, 1), (0, 1), 999),
+            (1, 3000, (3000, 1), (0, 1), 1000),
+            (1, 3000, (3001, 1), (0, 1), 1000),
+            (1, 3, (-1, 1), (1, 1), 666),
+            (1, 1, (0, 1), (1, 1001), 0),
+            (1, 1, (0, 1), (1, 1000), 1),
+            (1, 1, (0, 1), (1, 999), 1),
+            (1, 1, (1, 2), (1, 3), 166),
+            (1, 1, (2, 3), (1, 6), 500),
+            (1, 10, (7, 2), (10, 3), 16),
+            (1, 2, (-1, 2), (1, 2), 500),
+            (2, 1, (2, 5), (3, 7), 56),
+            (1000, 1000, (0, 1), (-999, 1), 999_000),
+            (1000, 1000, (0, 1), (-1000, 1), 1_000_000),
+            (1000, 1, (1, 2), (-99_999, 1), 1_000_000),
+            (1, 1_000_000_000_000, (999_999_999_999, 1), (0, 1), 999),
+            (1, 1_000_000_000_000, (1_000_000_000_000, 1), (0, 1), 1000),
+            (
+                1,
+                1_000_000_000_000,
+                (4_999_999_999_999_999, 10_000),
+                (0, 1),
+                499,
+            ),
+            (
+                1,
+                1_000_000_000_000,
+                (5_000_000_000_000_001, 10_000),
+                (0, 1),
+                500,
+            ),
+            (
+                1,
+                1_000_000_000_000,
+                (499_999_999_999_999_999, 1_000_000),
+                (0, 1),
+                499,
+            ),
+            (
+                1,
+                1_000_000_000_000,
+                (500_000_000_000_000_001, 1_000_000),
+                (0, 1),
+                500,
+            ),
+            (
+                1,
+                1_000_000_000_000,
+                (999_999_999_999_999_999, 1_000_000),
+                (0, 1),
+                999,
+            ),
+            (
+                3,
+                1_000_000_000_000,
+                (-999_999_999_999_999_999_999, 1_000_000),
+                (999_999_999_999_999_999_999, 1_000_000),
+                3000,
+            ),
+        ];
+        for (weight, scale, first, second, distance) in table.iter() {
+            assert_eq!(rt; apart_at(*weight, *scale, *first, *second), Some(*distance));
+        }
     }
 
     #[test]
     fn codes_are_equal_or_not(rt: HostRuntime) {
-        let yardstick = Yardstick {
-            weight: 3,
-            scale: None,
-        };
-        assert_eq!(rt; distance_by(yardstick, &Value::Code(2), &Value::Code(2)), 0);
-        assert_eq!(rt;
-            distance_by(yardstick, &Value::Code(2), &Value::Code(1)),
-            3000
-        );
+        for (weight, first, second, distance) in [
+            (1, 2, 2, 0),
+            (1, 2, 3, 1000),
+            (1000, 0, 0, 0),
+            (1000, 63, 0, 1_000_000),
+        ]
+        .iter()
+        {
+            let yardstick = Yardstick {
+                weight: *weight,
+                scale: None,
+            };
+            assert_eq!(rt;
+                distance_by(yardstick, &Value::Code(*first), &Value::Code(*second)),
+                *distance
+            );
+        }
     }
 }

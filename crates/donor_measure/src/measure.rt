@@ -59,6 +59,7 @@ impl<F: Fn(u32, &Value, &Value) -> u64> Measure<F> {
 
     // The distance of two records, or where it is more than `most` that of the first kept fields, as many
     // as make it more.
+    #[inline(never)]
     fn sum_within(&self, a: &Row, b: &Row, kept: FieldSet, most: u64) -> u64
         requires measures { Measures F.Fn self.now.closure self.now.yardsticks }
         requires first { HasKept self.now.yardsticks kept a.now }
@@ -77,6 +78,7 @@ impl<F: Fn(u32, &Value, &Value) -> u64> Measure<F> {
     }
 
     // The distance at a field, 0 where it is not kept.
+    #[inline(always)]
     fn distance_at(&self, field: u32, a: &Row, b: &Row, kept: FieldSet) -> u64
         requires measures { Measures F.Fn self.now.closure self.now.yardsticks }
         requires field { field < length self.now.yardsticks }
