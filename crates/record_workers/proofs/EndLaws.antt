@@ -1,4 +1,4 @@
-use Rattle.std.proofs.Common.{[], ◌∷◌, ◌++◌, ◌+◌, length, suc, take, get_or, ◌≡◌, ◌↔◌, ◌<◌, ℕ, Bool, true, false, nat_lt, List, None, refl, sym, arith}
+use Rattle.std.proofs.Common.{[], ◌∷◌, ◌++◌, ◌+◌, length, suc, take, get_or, ◌≡◌, ◌↔◌, ◌<◌, ℕ, Bool, true, false, nat_lt, List, None, refl, sym, ◌∙◌, arith}
 use Rattle.std.specs.List.{AllZip}
 use Rattle.std.proofs.Math.Seq.{take-suc}
 use Rattle.std.proofs.lemmas.Bool.Decides.{Decides-ltb, nat_tests}
@@ -15,8 +15,10 @@ use Rattle.edit_paths.specs.Cases.{IsCase, Meets, case_of}
 use Rattle.edit_paths.specs.Outcomes.{outcome_of, total_work}
 use Rattle.edit_paths.proofs.BudgetLaws.{enough-budget}
 use Rattle.edit_paths.proofs.ChoiceLaws.{contradictory}
-use Rattle.record_workers.specs.Ends.{Follows}
-use Rattle.record_workers.specs.Said.{OutcomeSays}
+use Rattle.edit_report.specs.declared.end.RowEnd.{RowEnd}
+use Rattle.record_workers.specs.Donations.{claims_donor}
+use Rattle.record_workers.specs.Ends.{Follows, IsEndOf}
+use Rattle.record_workers.specs.Said.{OutcomeSays, Says}
 use Rattle.record_workers.proofs.OverflowLaws.{step-shown, test-shown}
 
 -- What an outcome other than a change says.
@@ -35,7 +37,7 @@ module _ (survey : SurveyParts) (edits : EditsParts) (row : List Value) (budget 
       by false more =
           absurd (enough-budget (case_of survey edits row) budget (grind (arith, nat_tests, more)) path work e)
 
-  pub no-change-says : (o : Outcome) → o ≡ outcome_of (case_of survey edits row) budget → IsNoChange o → OutcomeSays survey edits budget row o None
+  no-change-says : (o : Outcome) → o ≡ outcome_of (case_of survey edits row) budget → IsNoChange o → OutcomeSays survey edits budget row o None
   no-change-says (outcome.Change path weight cert) e none = absurd (none path weight cert refl)
   no-change-says (outcome.Budget path work) e none = passed path work (sym e)
   no-change-says (outcome.Overflow path (event.Step first second place)) e none = step-shown (case_of survey edits row) budget path first second place (sym e)
@@ -43,11 +45,26 @@ module _ (survey : SurveyParts) (edits : EditsParts) (row : List Value) (budget 
   no-change-says (outcome.Contradictory cert) e none = λ p correction. contradictory (case_of survey edits row) is budget cert (sym e) p ((same p).1 correction)
 
   -- nothing follows on it
-  pub no-change-follows : (o : Outcome) → IsNoChange o → Follows survey edits row o None None
+  no-change-follows : (o : Outcome) → IsNoChange o → Follows survey edits row None o None None
   no-change-follows (outcome.Change path weight cert) none = absurd (none path weight cert refl)
   no-change-follows (outcome.Budget path work) none = tt
   no-change-follows (outcome.Overflow path e) none = tt
   no-change-follows (outcome.Contradictory cert) none = tt
+
+  -- so the end of a record for which no change was found tells the outcome, and nothing beside it
+  pub left-out : (rows : List (List Value)) (o : Outcome) (end : RowEnd) → o ≡ outcome_of (case_of survey edits row) budget → IsNoChange o → end.proof.outcome ≡ o → (end.proof.gift ≡ None) × (end.donor ≡ None) × (end.gift ≡ None)
+      → IsEndOf survey edits budget rows row end × Says survey edits budget row end
+  left-out rows o end e none told (stop, donor, gift) = (
+    record { outcome = told ∙ e; follows = rw (told, stop, gift, donor) (no-change-follows o none) },
+    rw (told, gift) (no-change-says o e none),
+  )
+
+-- no donor is claimed
+pub no-change-claims : (o : Outcome) → IsNoChange o → claims_donor o ≡ false
+no-change-claims (outcome.Change path weight cert) none = absurd (none path weight cert refl)
+no-change-claims (outcome.Budget path work) none = refl
+no-change-claims (outcome.Overflow path e) none = refl
+no-change-claims (outcome.Contradictory cert) none = refl
 
 -- ---- the ends of all records
 

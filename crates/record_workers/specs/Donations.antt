@@ -1,5 +1,5 @@
 -- Which records claim a donor, how they rank the donors, and whom each is given.
-use Rattle.std.specs.Prelude.{◌≡◌, ℕ, suc, ◌<◌, ◌≤◌, ◌++◌, not, Bool, false, if◌then◌else◌, List, [], ◌∷◌, Option, Some, None, IsSomeAnd, map, slice_get}
+use Rattle.std.specs.Prelude.{◌≡◌, ℕ, suc, ◌≤◌, ◌++◌, not, Bool, false, if◌then◌else◌, List, [], ◌∷◌, Option, Some, None, IsSomeAnd, map, slice_get}
 use Rattle.std.specs.List.{AllByRecursion}
 use Rattle.edit_model.specs.Parts.{SurveyParts}
 use Rattle.edit_model.specs.declared.value.Value.{Value}

@@ -3,7 +3,9 @@
 //! `specs/Ends.antt`, and who claims which donor in `specs/Donations.antt`.
 #![tactic(auto)]
 
+mod donation;
 mod edited;
+mod editing;
 mod known_systems;
 mod records;
 mod row_ends;

@@ -3,17 +3,27 @@ ghost use Rattle.std.specs.Arc.{arc_value};
 ghost use Rattle.std.specs.List.{AllByRecursion, AllZip};
 ghost use Rattle.edit_line.specs.Lines.{AllHold};
 ghost use Rattle.edit_line.specs.Shapes.{shape_of};
+ghost use Rattle.edit_model.specs.PlainNumbers.{HasPlain};
 ghost use Rattle.edit_model.specs.Points.{HasCodesFrom, IsConsistent, Point};
 ghost use Rattle.edit_model.specs.Rows.{IsRow};
+ghost use Rattle.donor_measure.specs.Measures.{Measures};
+ghost use Rattle.donor_measure.specs.Yardsticks.{yardsticks_of};
+ghost use Rattle.donor_search.specs.CleanRows.{donors_of};
+ghost use Rattle.record_workers.specs.Donations.{AreDonations};
 ghost use Rattle.record_workers.specs.Ends.{IsEndOf};
 ghost use Rattle.record_workers.specs.Said.{Says};
-ghost use Rattle.record_workers.specs.inner.Editings.{IsEditing, edits_in};
+ghost use Rattle.record_workers.specs.inner.Editings.{IsEditing, edits_in, rows_in};
 
+use crate::edited::Edited;
+use crate::editing::Editing;
 use crate::known_systems::KnownSystems;
-use crate::row_ends::{Editing, edit_record};
+use crate::row_ends::edit_record;
+use crate::terms::Terms;
+use donor_book::Book;
+use donor_measure::Measure;
+use donor_search::Deck;
 use edit_line::Edits;
-use edit_model::Survey;
-use edit_report::RowEnd;
+use edit_model::{Survey, Value};
 use foundation::{OutOfMemory, Steps};
 use linear_elim::Systems;
 use record_text::Sheet;
@@ -44,67 +54,71 @@ pub fn edit_records<F: Fn(u32, &Value, &Value) -> u64>(
     ensures say { IfOk result (λ edited. AllZip (Says survey.now edits terms.budget) sheet.now.rows edited.ends.items) }
     ensures donations { IfOk result (λ edited. AreDonations survey.now sheet.now.rows terms edited.ends.items edited.history.items) }
 {
-    ends_of::<Brand>(alloc, survey, edits, sheet, budget, Blank::new(1))
+    edited_of::<F, Brand>(alloc, survey, edits, sheet, measure, terms, Blank::new(1))
 }
 
 // The same, with a counter of its own.
-fn ends_of<L: Ledger>(
+fn edited_of<F: Fn(u32, &Value, &Value) -> u64, L: Ledger>(
     alloc: Global,
     survey: &Survey,
     edits: Edits,
     sheet: &Sheet,
-    budget: u64,
+    measure: &Measure<F>,
+    terms: Terms,
     blank: Blank,
-) -> Result<Vec<RowEnd>, OutOfMemory>
+) -> Result<Edited, OutOfMemory>
     requires name { blank.name ≡ L.name }
     requires parts { blank.parts ≡ L.parts }
     requires counts { 0 < blank.parts }
     requires over { edits.shape ≡ shape_of survey.now.fields }
     requires same { (p : Point) → (HasCodesFrom 0 survey.now.fields p × AllHold (map (λ e. e.1) edits.lines) p) ↔ IsConsistent survey.now p }
     requires rows { AllByRecursion (IsRow survey.now.fields) sheet.now.rows }
-    ensures ends { IfOk result (λ ends. AllZip (IsEndOf survey.now edits budget) sheet.now.rows ends.items) }
-    ensures say { IfOk result (λ ends. AllZip (Says survey.now edits budget) sheet.now.rows ends.items) }
+    requires plain { AllByRecursion HasPlain sheet.now.rows }
+    requires measures { Measures F.Fn measure.now.closure measure.now.yardsticks }
+    requires yardsticks { measure.now.yardsticks ≡ yardsticks_of survey.now.fields }
+    ensures ends { IfOk result (λ edited. AllZip (IsEndOf survey.now edits terms.budget sheet.now.rows) sheet.now.rows edited.ends.items) }
+    ensures say { IfOk result (λ edited. AllZip (Says survey.now edits terms.budget) sheet.now.rows edited.ends.items) }
+    ensures donations { IfOk result (λ edited. AreDonations survey.now sheet.now.rows terms edited.ends.items edited.history.items) }
 {
     let edits = Arc::new(alloc, edits)?;
+    let deck = Deck::new(alloc, survey, sheet)?;
     let mut steps = Steps::<L>::start(blank);
-    let editing = editing_of(survey, &edits, budget);
     let mut source = KnownSystems::new(alloc, Arc::try_clone(&edits)?);
-    edit_all(alloc, &mut source, &editing, sheet, &mut steps)
-}
-
-// By what the survey's records are edited: edits that say what its rules say.
-fn editing_of<'a>(survey: &'a Survey, edits: &'a Arc<Edits>, budget: u64) -> Editing<'a>
-    requires over { (arc_value edits.now).shape ≡ shape_of survey.now.fields }
-    requires same { (p : Point) → (HasCodesFrom 0 survey.now.fields p × AllHold (map (λ e. e.1) (arc_value edits.now).lines) p) ↔ IsConsistent survey.now p }
-    ensures editing { IsEditing result }
-    ensures survey { result.survey.now ≡ survey.now }
-    ensures edits { edits_in result ≡ arc_value edits.now }
-    ensures budget { result.budget ≡ budget }
-{
-    Editing {
+    let editing = Editing {
         survey,
-        edits,
-        budget,
-    }
+        edits: &edits,
+        sheet,
+        deck: &deck,
+        measure,
+        terms,
+    };
+    edit_all(alloc, &mut source, &editing, &mut steps)
 }
 
 // What becomes of each record, by any source of systems.
-fn edit_all<S: Systems, L: Ledger>(
+fn edit_all<F: Fn(u32, &Value, &Value) -> u64, S: Systems, L: Ledger>(
     alloc: Global,
     source: &mut S,
-    editing: &Editing,
-    sheet: &Sheet,
+    editing: &Editing<F>,
     steps: &mut Steps<L>,
-) -> Result<Vec<RowEnd>, OutOfMemory>
-    requires editing { IsEditing editing.now }
+) -> Result<Edited, OutOfMemory>
+    requires editing { IsEditing F.Fn editing.now }
     requires served { S.serves source.old (edits_in editing.now) }
-    requires rows { AllByRecursion (IsRow editing.now.survey.now.fields) sheet.now.rows }
-    ensures ends { IfOk result (λ ends. AllZip (IsEndOf editing.now.survey.now (edits_in editing.now) editing.now.budget) sheet.now.rows ends.items) }
-    ensures say { IfOk result (λ ends. AllZip (Says editing.now.survey.now (edits_in editing.now) editing.now.budget) sheet.now.rows ends.items) }
+    ensures ends { let e = editing.now in IfOk result (λ edited.
+        AllZip (IsEndOf e.survey.now (edits_in e) e.terms.budget (rows_in e)) (rows_in e) edited.ends.items) }
+    ensures say { let e = editing.now in IfOk result (λ edited.
+        AllZip (Says e.survey.now (edits_in e) e.terms.budget) (rows_in e) edited.ends.items) }
+    ensures donations { let e = editing.now in IfOk result (λ edited.
+        AreDonations e.survey.now (rows_in e) e.terms edited.ends.items edited.history.items) }
 {
-    let mut ends = Vec::with_capacity(alloc, sheet.len() as usize)?;
-    for row_no in 0..sheet.len() {
-        ends.push(edit_record(alloc, source, editing, sheet.row(row_no), steps)?)?;
+    let count = editing.sheet.len();
+    let mut book = Book::start(alloc, count, editing.terms.limit, count)?;
+    let mut ends = Vec::with_capacity(alloc, count as usize)?;
+    for row_no in 0..count {
+        ends.push(edit_record(alloc, source, editing, &mut book, row_no, steps)?)?;
     }
-    Ok(ends)
+    Ok(Edited {
+        ends,
+        history: book.close(),
+    })
 }

@@ -1,49 +1,59 @@
 //! What becomes of one record.
-ghost use Rattle.std.specs.Prelude.{◌≡◌, IfOk, None, Some};
+ghost use Rattle.std.specs.Prelude.{◌≡◌, ◌<◌, IfOk, IfSome, None, Option, Some, length, option_copied, option_map};
 ghost use Rattle.edit_line.specs.EditSets.{EditsParts};
 ghost use Rattle.edit_model.specs.Rows.{IsRow};
 ghost use Rattle.edit_paths.specs.Cases.{IsCase};
 ghost use Rattle.edit_paths.specs.Outcomes.{outcome_of};
+ghost use Rattle.edit_report.specs.Ends.{path_found};
+ghost use Rattle.back_subst.specs.Gifts.{IsDonor};
 ghost use Rattle.bound_cert.specs.declared.outcome.Outcome.TheVariants as outcome;
+ghost use Rattle.donor_book.specs.Claims.{claim_of};
+ghost use Rattle.donor_book.specs.Entries.{wins_of};
+ghost use Rattle.donor_search.specs.CleanRows.{IsCleanRow, row_at};
+ghost use Rattle.record_workers.specs.Donations.{claims_donor};
 ghost use Rattle.record_workers.specs.Ends.{IsEndOf};
 ghost use Rattle.record_workers.specs.Said.{Says};
-ghost use Rattle.record_workers.specs.inner.Editings.{IsEditing, case_in, edits_in};
+ghost use Rattle.record_workers.specs.inner.Donors.{Donates};
+ghost use Rattle.record_workers.specs.inner.Editings.{IsBookOf, IsEditing, case_in, edits_in, rows_in};
 
+use crate::donation::donor_for;
+use crate::editing::Editing;
 use back_subst::{GiveFault, changed_set, give};
 use bound_cert::{Cert, GiftFault, Outcome, Path, RowProof};
-use edit_line::Edits;
-use edit_model::{Row, Survey};
+use donor_book::Book;
+use edit_model::{Row, Value};
 use edit_report::RowEnd;
 use foundation::{OutOfMemory, Steps};
 use linear_elim::Systems;
 use localise_tree::localise;
+use record_text::Sheet;
 use std::alloc::Global;
-use std::sync::Arc;
 use std::sync::ledger::Ledger;
 
-/// By what records are edited: a survey, its edits, and the greatest work of the search in one record.
-#[derive(Clone, Copy)]
-pub(crate) struct Editing<'a> {
-    pub(crate) survey: &'a Survey,
-    pub(crate) edits: &'a Arc<Edits>,
-    pub(crate) budget: u64,
-}
-
-/// What becomes of a record: the outcome of its search, and the values of its changed fields.
-pub(crate) fn edit_record<S: Systems, L: Ledger>(
+/// What becomes of a record: the outcome of its search, the donor that it claims, and the values of its changed fields.
+pub(crate) fn edit_record<F: Fn(u32, &Value, &Value) -> u64, S: Systems, L: Ledger>(
     alloc: Global,
     source: &mut S,
-    editing: &Editing,
-    row: &Row,
+    editing: &Editing<F>,
+    book: &mut Book,
+    row_no: u32,
     steps: &mut Steps<L>,
 ) -> Result<RowEnd, OutOfMemory>
-    requires editing { IsEditing editing.now }
-    requires row { IsRow editing.now.survey.now.fields row.now }
+    requires editing { IsEditing F.Fn editing.now }
     requires served { S.serves source.old (edits_in editing.now) }
-    ensures end { IfOk result (IsEndOf editing.now.survey.now (edits_in editing.now) editing.now.budget row.now) }
-    ensures says { IfOk result (Says editing.now.survey.now (edits_in editing.now) editing.now.budget row.now) }
+    requires book { IsBookOf editing.now book.old }
+    requires row { row_no < length (rows_in editing.now) }
+    requires first { claim_of row_no (wins_of book.old.history) ≡ None }
+    ensures end { let e = editing.now in
+        IfOk result (IsEndOf e.survey.now (edits_in e) e.terms.budget (rows_in e) (row_at (rows_in e) row_no)) }
+    ensures says { let e = editing.now in
+        IfOk result (Says e.survey.now (edits_in e) e.terms.budget (row_at (rows_in e) row_no)) }
+    ensures donates { let e = editing.now in IfOk result (λ end. Donates (claims_donor end.proof.outcome)
+        e.survey.now (rows_in e) e.terms row_no (path_found end.proof.outcome) book.old.history book.new.history end.donor) }
+    ensures book { IsBookOf editing.now book.new }
     ensures serves { (e : EditsParts) → S.serves source.old e → S.serves source.new e }
 {
+    let row = editing.sheet.row(row_no);
     case_known(editing, row);
     match localise(
         alloc,
@@ -51,24 +61,21 @@ pub(crate) fn edit_record<S: Systems, L: Ledger>(
         editing.survey,
         editing.edits,
         row,
-        editing.budget,
+        editing.terms.budget,
         steps,
     )? {
-        Outcome::Change { path, weight, cert } => with_values(
-            alloc,
-            source,
-            editing,
-            row,
-            Change { path, weight, cert },
-            steps,
-        ),
+        Outcome::Change { path, weight, cert } => {
+            let donor = donor_for(alloc, editing, book, row_no, &path)?;
+            let change = Change { path, weight, cert };
+            with_values(alloc, source, editing, row, change, donor, steps)
+        }
         outcome => Ok(left_out(outcome)),
     }
 }
 
 // The survey, its edits and the record are a case. Nothing is computed.
-fn case_known(editing: &Editing, row: &Row)
-    requires editing { IsEditing editing.now }
+fn case_known<F: Fn(u32, &Value, &Value) -> u64>(editing: &Editing<F>, row: &Row)
+    requires editing { IsEditing F.Fn editing.now }
     requires row { IsRow editing.now.survey.now.fields row.now }
     ensures { IsCase (case_in editing.now row.now) }
 {
@@ -84,21 +91,27 @@ struct Change {
     cert: Cert,
 }
 
-// What becomes of a record for which a change was found: its changed fields are given values.
-fn with_values<S: Systems, L: Ledger>(
+// What becomes of a record for which a change was found: its changed fields are given values, the donor's where they fit.
+fn with_values<F: Fn(u32, &Value, &Value) -> u64, S: Systems, L: Ledger>(
     alloc: Global,
     source: &mut S,
-    editing: &Editing,
+    editing: &Editing<F>,
     row: &Row,
     change: Change,
+    donor: Option<u32>,
     steps: &mut Steps<L>,
 ) -> Result<RowEnd, OutOfMemory>
-    requires editing { IsEditing editing.now }
+    requires editing { IsEditing F.Fn editing.now }
     requires row { IsRow editing.now.survey.now.fields row.now }
     requires served { S.serves source.old (edits_in editing.now) }
-    requires found { outcome_of (case_in editing.now row.now) editing.now.budget ≡ outcome.Change change.path change.weight change.cert }
-    ensures end { IfOk result (IsEndOf editing.now.survey.now (edits_in editing.now) editing.now.budget row.now) }
-    ensures says { IfOk result (Says editing.now.survey.now (edits_in editing.now) editing.now.budget row.now) }
+    requires found { outcome_of (case_in editing.now row.now) editing.now.terms.budget
+        ≡ outcome.Change change.path change.weight change.cert }
+    requires donor { IfSome donor (IsCleanRow editing.now.survey.now (rows_in editing.now)) }
+    ensures end { let e = editing.now in
+        IfOk result (IsEndOf e.survey.now (edits_in e) e.terms.budget (rows_in e) row.now) }
+    ensures says { let e = editing.now in IfOk result (Says e.survey.now (edits_in e) e.terms.budget row.now) }
+    ensures change { IfOk result (λ end. end.proof.outcome ≡ outcome.Change change.path change.weight change.cert) }
+    ensures donor { IfOk result (λ end. end.donor ≡ donor) }
     ensures serves { (e : EditsParts) → S.serves source.old e → S.serves source.new e }
 {
     case_known(editing, row);
@@ -110,19 +123,32 @@ fn with_values<S: Systems, L: Ledger>(
         editing.edits,
         row,
         changed,
-        None,
+        values_of(editing.sheet, donor),
         steps,
     ) {
         Ok(gift) => Ok(RowEnd {
             proof: proof_of(change, None),
-            donor: None,
+            donor,
             gift: Some(gift),
         }),
         Err(GiveFault::Bound { field, line }) => {
-            Ok(without_values(change, GiftFault::Bound { field, line }))
+            Ok(without_values(change, donor, GiftFault::Bound { field, line }))
         }
-        Err(GiveFault::Test { rule }) => Ok(without_values(change, GiftFault::Test { rule })),
+        Err(GiveFault::Test { rule }) => {
+            Ok(without_values(change, donor, GiftFault::Test { rule }))
+        }
         Err(GiveFault::OutOfMemory) => Err(OutOfMemory),
+    }
+}
+
+// The values of the donor, if there is one.
+fn values_of(sheet: &Sheet, donor: Option<u32>) -> Option<&Row>
+    requires { IfSome donor (λ d. d < length sheet.now.rows) }
+    ensures { option_copied result ≡ option_map (row_at sheet.now.rows) donor }
+{
+    match donor {
+        Some(donor) => Some(sheet.row(donor)),
+        None => None,
     }
 }
 
@@ -142,14 +168,14 @@ fn proof_of(change: Change, gift: Option<GiftFault>) -> RowProof
 }
 
 // The end of a record whose changed fields are given no values.
-fn without_values(change: Change, fault: GiftFault) -> RowEnd
+fn without_values(change: Change, donor: Option<u32>, fault: GiftFault) -> RowEnd
     ensures outcome { result.proof.outcome ≡ outcome.Change change.path change.weight change.cert }
     ensures fault { result.proof.gift ≡ Some fault }
-    ensures none { (result.donor ≡ None) × (result.gift ≡ None) }
+    ensures none { (result.donor ≡ donor) × (result.gift ≡ None) }
 {
     RowEnd {
         proof: proof_of(change, Some(fault)),
-        donor: None,
+        donor,
         gift: None,
     }
 }

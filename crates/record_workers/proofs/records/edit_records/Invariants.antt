@@ -1,4 +1,4 @@
 use Rattle.record_workers.proofs.records.edit_records.Given as goal
 
-abbrev pub ghosts-ends_of : goal.ghosts-ends_of
-ghosts-ends_of a = record { name = a.blank.name; parts = a.blank.parts }
+abbrev pub ghosts-edited_of : goal.ghosts-edited_of
+ghosts-edited_of g a = record { name = a.blank.name; parts = a.blank.parts }

@@ -1,0 +1,112 @@
+use Rattle.std.proofs.Common.{◌≡◌, ◌++◌, ◌<◌, ℕ, not, Bool, true, false, List, [], ◌∷◌, All, Option, None, Some, IfSome, cond, get_or, length, map, refl, sym, ap, ◌∙◌, subst, arith}
+use Rattle.std.specs.Borrow.{Bor}
+use Rattle.std.specs.Fn.{Shared}
+use Rattle.std.specs.List.{find}
+use Rattle.std.proofs.lemmas.List.{get_or-map, length-map, same_lists}
+use Rattle.std.proofs.lemmas.List.Elements.{All-head, All-tail}
+use Rattle.edit_model.specs.Corrections.{path_order}
+use Rattle.edit_model.specs.FieldSets.{has_number}
+use Rattle.edit_model.specs.declared.value.Value.{Value}
+use Rattle.edit_model.proofs.OrderLaws.{order-length}
+use Rattle.bound_cert.specs.Paths.{keeps_bad, kept_set}
+use Rattle.bound_cert.specs.declared.cert.Cert.{Cert}
+use Rattle.bound_cert.specs.declared.outcome.Outcome.TheVariants as outcome
+use Rattle.edit_paths.specs.Cases.{Case, IsCase}
+use Rattle.edit_paths.specs.Outcomes.{outcome_of}
+use Rattle.edit_paths.specs.Paths.{field_count}
+use Rattle.edit_paths.specs.ReachedPaths.{reached_paths}
+use Rattle.edit_paths.specs.States.{IsOpen}
+use Rattle.edit_paths.specs.declared.state.PathState.TheVariants.{Open}
+use Rattle.edit_paths.proofs.BadFields.{not-bad}
+use Rattle.edit_paths.proofs.ChoiceLaws.{found-from, word-at}
+use Rattle.edit_paths.proofs.FieldPlaces.{place-of}
+use Rattle.edit_paths.proofs.KeptLines.{kept-number}
+use Rattle.back_subst.specs.Gifts.{path_of}
+use Rattle.donor_book.specs.Claims.{answer_to, claim_of, first_free, given, had_or}
+use Rattle.donor_book.specs.Entries.{entry_of, history_after, wins_of}
+use Rattle.donor_book.specs.declared.claim.Claim.{Claim}
+use Rattle.donor_book.specs.declared.claim.Entry.{Entry}
+use Rattle.donor_book.specs.declared.claim.Won.{Won}
+use Rattle.donor_measure.specs.Yardsticks.{yardsticks_of}
+use Rattle.donor_search.specs.CleanRows.{IsCleanRow, donors_of, row_at}
+use Rattle.donor_search.specs.Rankings.{ranking_of}
+use Rattle.donor_search.proofs.RankedLaws.{ranking-donors}
+use Rattle.record_workers.specs.declared.editing.Editing.{Editing}
+use Rattle.record_workers.specs.inner.Donors.{donor_answered}
+use Rattle.record_workers.specs.inner.Editings.{IsEditing, rows_in}
+
+-- The fields that a path keeps, the ranking for them, and what a first claim is answered.
+
+module _ (c : Case) where
+  -- the path of a change is open
+  pub change-open : (budget : ℕ) (path : List Bool) (weight : ℕ) (cert : Cert) → outcome_of c budget ≡ outcome.Change path weight cert → IsOpen c path
+  change-open budget path weight cert e = (found-from c budget [] (reached_paths c) path weight cert e).open_there
+
+  module _ (is : IsCase c) (path : List Bool) (whole : length path ≡ field_count c) (opened : IsOpen c path) where
+    none : keeps_bad c.survey.fields c.row path ≡ false
+    none = not-bad c path Open opened (λ e. cc e)
+
+    -- a path that says something of all fields changes those that it does not keep
+    pub kept-path : path_of c.survey.fields (kept_set c.survey.fields c.row path) ≡ map not path
+    kept-path = same_lists (path_of c.survey.fields kept) (map not path) (as_many ∙ sym whole ∙ sym (length-map path not)) (λ k d below. letter k d (omega (arith, below, as_many)))
+      where
+        kept : ℕ
+        kept = kept_set c.survey.fields c.row path
+
+        as_many : length (path_of c.survey.fields kept) ≡ field_count c
+        as_many = length-map (path_order c.survey.fields) (has_number kept) ∙ order-length c.survey.fields
+
+        letter : (k : ℕ) (d : Bool) → k < field_count c → get_or (path_of c.survey.fields kept) k d ≡ get_or (map not path) k d
+        letter k d below =
+            let (f, there, place) = place-of c k below in
+            ap (λ i. get_or (path_of c.survey.fields kept) i d) (sym place)
+            ∙ word-at (has_number kept) (path_order c.survey.fields) f d there
+            ∙ kept-number c is path none f there
+            ∙ ap (λ i. not (get_or path i true)) place
+            ∙ sym (get_or-map not path k true d (omega (arith, below, whole)))
+
+-- ---- the ranking
+
+module _ {F : Type 0} (calls : Shared F (ℕ × (Bor Value × (Bor Value × Unit {0}))) ℕ) (e : Editing F) (editing : IsEditing calls e) (row_no : ℕ) (row : List Value) (kept : ℕ) (ranking : List ℕ)
+    (there : row ≡ row_at (rows_in e) row_no) (is : ranking ≡ ranking_of e.measure.now.yardsticks (rows_in e) e.deck.now row kept e.terms.near) where
+  -- the deck and the measure rank the clean records by the survey's yardsticks
+  pub ranking-is : ranking ≡ ranking_of (yardsticks_of e.survey.now.fields) (rows_in e) (donors_of e.survey.now (rows_in e)) (row_at (rows_in e) row_no) kept e.terms.near
+  ranking-is = is ∙ (λ i. ranking_of (editing.yardsticks i) (rows_in e) (editing.deck i) (there i) kept e.terms.near)
+
+  -- so each that is ranked is a clean record
+  pub ranking-clean : All (IsCleanRow e.survey.now (rows_in e)) ranking
+  ranking-clean = subst (λ (ds : List ℕ). All (IsCleanRow e.survey.now (rows_in e)) ds) (sym ranking-is) (ranking-donors (yardsticks_of e.survey.now.fields) e.survey.now (rows_in e) (row_at (rows_in e) row_no) kept e.terms.near)
+
+-- ---- a first claim
+
+answered-given : (reply : Option ℕ) → donor_answered (given reply) ≡ reply
+answered-given None = refl
+answered-given (Some donor) = refl
+
+history-given : (history : List Entry) (row_no : ℕ) (ranking : List ℕ) (reply : Option ℕ) → history_after history row_no ranking (given reply) ≡ history ++ entry_of row_no ranking reply ∷ []
+history-given history row_no ranking None = refl
+history-given history row_no ranking (Some donor) = refl
+
+module _ (limit : ℕ) (history : List Entry) (row_no : ℕ) (ranking : List ℕ) (answer : Claim) (first : claim_of row_no (wins_of history) ≡ None) (is : answer ≡ answer_to limit (wins_of history) row_no ranking) where
+  abbrev free : Option ℕ
+  free = first_free limit (wins_of history) ranking
+
+  answer-given : answer ≡ given free
+  answer-given = is ∙ ap (λ (o : Option Won). had_or o (given free)) first
+
+  -- it is answered the first donor that the claims before leave
+  pub first-reply : donor_answered answer ≡ first_free limit (wins_of history) ranking
+  first-reply = ap donor_answered answer-given ∙ answered-given free
+
+  -- and it stands behind them
+  pub first-entered : history_after history row_no ranking answer ≡ history ++ entry_of row_no ranking (donor_answered answer) ∷ []
+  first-entered = ap (history_after history row_no ranking) answer-given ∙ history-given history row_no ranking free ∙ ap (λ (o : Option ℕ). history ++ entry_of row_no ranking o ∷ []) (sym first-reply)
+
+-- what is found has what each of the list has
+pub found-has : (P : ℕ → Type 0) (p : ℕ → Bool) (xs : List ℕ) → All P xs → IfSome (find p xs) P
+found-has P p [] all = tt
+found-has P p (x ∷ xs) all = by (p x) (All-head P x xs all) (found-has P p xs (All-tail P x xs all))
+  where
+    by : (b : Bool) → P x → IfSome (find p xs) P → IfSome (cond b (Some x) (find p xs)) P
+    by true here rest = here
+    by false here rest = rest
