@@ -104,7 +104,8 @@ fn with_values<F: Fn(u32, &Value, &Value) -> u64, S: Systems, L: Ledger>(
     requires editing { IsEditing F.Fn editing.now }
     requires row { IsRow editing.now.survey.now.fields row.now }
     requires served { S.serves source.old (edits_in editing.now) }
-    requires found { outcome_of (case_in editing.now row.now) editing.now.terms.budget ≡ outcome.Change change.path change.weight change.cert }
+    requires found { outcome_of (case_in editing.now row.now) editing.now.terms.budget
+        ≡ outcome.Change change.path change.weight change.cert }
     requires donor { IfSome donor (IsCleanRow editing.now.survey.now (rows_in editing.now)) }
     ensures end { let e = editing.now in
         IfOk result (IsEndOf e.survey.now (edits_in e) e.terms.budget (rows_in e) row.now) }

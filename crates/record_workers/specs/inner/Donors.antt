@@ -17,13 +17,15 @@ donor_answered claim.Nobody = None
 donor_answered (claim.Had reply) = reply
 
 -- a record claims a donor: the first of its ranking that the claims before leave, or nobody; its claim stands behind them
-pub record Claims (survey : SurveyParts) (rows : List (List Value)) (terms : Terms) (row_no : ℕ) (path : List Bool) (before after : List Entry) (donor : Option ℕ) : Type 0 where
+pub record Claims (survey : SurveyParts) (rows : List (List Value)) (terms : Terms) (row_no : ℕ) (path : List Bool)
+    (before after : List Entry) (donor : Option ℕ) : Type 0 where
   pub ranking : List ℕ
   pub ranked : IsRankingOf survey rows terms.near (row_at rows row_no) path ranking
   pub reply : donor ≡ first_free terms.limit (wins_of before) ranking
   pub entered : after ≡ before ++ entry_of row_no ranking donor ∷ []
 
 -- what a record does with the claims: it claims a donor, or it leaves them as they are and is given nobody
-abbrev pub Donates : Bool → SurveyParts → List (List Value) → Terms → ℕ → List Bool → List Entry → List Entry → Option ℕ → Type 0
+abbrev pub Donates : Bool → SurveyParts → List (List Value) → Terms → ℕ → List Bool
+    → List Entry → List Entry → Option ℕ → Type 0
 Donates true survey rows terms row_no path before after donor = Claims survey rows terms row_no path before after donor
 Donates false survey rows terms row_no path before after donor = (after ≡ before) × (donor ≡ None)

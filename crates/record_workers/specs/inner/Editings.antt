@@ -29,7 +29,7 @@ rows_in e = e.sheet.now.rows
 abbrev pub case_in : {F : Type 0} → Editing F → List Value → Case
 case_in e row = case_of e.survey.now (edits_in e) row
 
--- the edits are over the survey's fields, and they hold at a point with codes exactly where it is consistent; the records are of the survey, with plain numbers; the deck has the clean ones; the measure is one of the survey; and the budget is a number of 64 bits
+-- the edits are over the survey's fields, and hold at a point with codes exactly where it is consistent; the records are of the survey, with plain numbers, and the deck has the clean ones; the measure is the survey's
 pub record IsEditing {F : Type 0} (calls : Shared F (ℕ × (Bor Value × (Bor Value × Unit {0}))) ℕ) (e : Editing F) : Type 0 where
   pub shape : (edits_in e).shape ≡ shape_of e.survey.now.fields
   pub same : (row : List Value) (p : Point) → Meets (case_in e row) p ↔ IsCorrection e.survey.now p
@@ -40,7 +40,7 @@ pub record IsEditing {F : Type 0} (calls : Shared F (ℕ × (Bor Value × (Bor V
   pub yardsticks : e.measure.now.yardsticks ≡ yardsticks_of e.survey.now.fields
   pub budget : e.terms.budget < 2 ^ 64
 
--- the book is for the records of the sheet, which are both those that claim and the donors, and gives each donor as often as the terms say
+-- in the book the records both claim and are the donors, and each is given as often as the terms allow
 pub record IsBookOf {F : Type 0} (e : Editing F) (book : BookParts) : Type 0 where
   pub limit : book.limit ≡ e.terms.limit
   pub donors : book.donors ≡ length (rows_in e)
