@@ -15,6 +15,7 @@ use Rattle.donor_measure.specs.Measures.{HasKept, IsMeasurable}
 use Rattle.donor_measure.specs.Yardsticks.{scale_of, yardstick_at, yardstick_of, yardsticks_of}
 use Rattle.edit_model.specs.CleanRecords.{is_clean}
 use Rattle.edit_model.proofs.CleanLaws.{clean-held}
+use Rattle.edit_model.proofs.RowLaws.{row-length}
 use Rattle.donor_search.specs.CleanRows.{CanGive, clean_from, donors_of, row_at}
 use Rattle.donor_search.proofs.CleanLaws.{is_row_at}
 
@@ -38,12 +39,6 @@ pub has_kept : (fields : List Field) (row : List Value) (kept : ℕ) → IsRow f
 has_kept fields row kept is plain held f below has =
     let within : f < length fields = (let l = length-map fields yardstick_of in omega (arith, l, below)) in
     measurable_at fields row is plain f within (held f within has)
-
-as_many : (fields : List Field) (row : List Value) → IsRow fields row → length row ≡ length fields
-as_many [] [] is = refl
-as_many [] (v ∷ row) is = absurd is
-as_many (field ∷ fields) [] is = absurd is
-as_many (field ∷ fields) (v ∷ row) is = let rest = as_many fields row is.1 in omega (arith, rest)
 
 -- what holds of the number of each clean row holds of each donor
 pub each_clean : (P : ℕ → Type 0) (survey : SurveyParts) (i : ℕ) (rows : List (List Value)) → ((k : ℕ) → k < length rows → is_clean survey (row_at rows k) ≡ true → P (i + k)) → All P (clean_from i survey rows)
@@ -73,4 +68,4 @@ donors_give survey rows are plain kept = each_clean (CanGive (yardsticks_of surv
     gives k below clean =
         let is = is_row_at survey.fields rows k are below in
         has_kept survey.fields (row_at rows k) kept is (All-from_recursion HasPlain rows plain k [] below)
-        (λ f within has. clean-held survey (row_at rows k) clean f (let l = as_many survey.fields (row_at rows k) is in omega (arith, l, within)))
+        (λ f within has. clean-held survey (row_at rows k) clean f (let l = row-length survey.fields (row_at rows k) is in omega (arith, l, within)))

@@ -127,3 +127,34 @@ fn records_that_break_a_rule_or_lack_a_value_are_no_donors(rt: HostRuntime) -> R
     assert!(rt; nearest_in(rt.alloc(), 1, records, 2, 5)?.is_empty());
     Ok(())
 }
+
+// The 64 nearest of 70 donors, of which each is 1 nearer than the one before, for a last record; by this scale.
+fn nearest_of_seventy(alloc: Global, scale: u64) -> Result<Vec<u32>, Fail> {
+    let mut records = String::from_str(alloc, "A,B\n")?;
+    for k in 0..70 {
+        let number = 100 - k;
+        records.push_str(format!(in alloc; "{number},1\n")?.as_str())?;
+    }
+    records.push_str("0,\n")?;
+    nearest_in(alloc, scale, records.as_bytes(), 70, 64)
+}
+
+#[test]
+fn sixty_four_of_seventy_donors_are_ranked(rt: HostRuntime) -> Result<(), Fail> {
+    let by_distance = nearest_of_seventy(rt.alloc(), 1000)?;
+    assert_eq!(rt; by_distance.len(), 64);
+    for (place, donor) in (0..64).zip(by_distance.iter()) {
+        assert_eq!(rt; *donor, 69 - place);
+    }
+    Ok(())
+}
+
+#[test]
+fn as_near_donors_are_ranked_by_number(rt: HostRuntime) -> Result<(), Fail> {
+    let by_number = nearest_of_seventy(rt.alloc(), 1_000_000)?;
+    assert_eq!(rt; by_number.len(), 64);
+    for (place, donor) in (0..64).zip(by_number.iter()) {
+        assert_eq!(rt; *donor, place);
+    }
+    Ok(())
+}
