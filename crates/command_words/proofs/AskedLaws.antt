@@ -15,19 +15,19 @@ one_number default least most (text ∷ []) m n p q = p.0.2 ∙ sym q.0.2
 one_number default least most (text ∷ second ∷ more) m n p q = absurd p
 
 -- the number of an option is between the least and the most, where the default is
-pub between : (default least most : ℕ) (values : List (List ℕ)) (n : ℕ) → least ≤ default → default ≤ most → GivesNumber default least most values n → (least ≤ n) × (n ≤ most)
-between default least most [] n low high given = rw given (low, high)
-between default least most (text ∷ []) n low high given = (given.1, given.2)
-between default least most (text ∷ second ∷ more) n low high given = absurd given
+pub between : (default least most : ℕ) (values : List (List ℕ)) (n : ℕ) → GivesNumber default least most values n → least ≤ default → default ≤ most → (least ≤ n) × (n ≤ most)
+between default least most [] n given low high = rw given (low, high)
+between default least most (text ∷ []) n given low high = (given.1, given.2)
+between default least most (text ∷ second ∷ more) n given low high = absurd given
+
+-- it is below any bound that the default and the most are below
+pub number_below : (default least most bound : ℕ) (values : List (List ℕ)) (n : ℕ) → GivesNumber default least most values n → default < bound → most < bound → n < bound
+number_below default least most bound [] n given low high = rw given low
+number_below default least most bound (text ∷ []) n given low high = let fits = given.2 in omega arith
+number_below default least most bound (text ∷ second ∷ more) n given low high = absurd given
 
 one_value : (values : List (List ℕ)) (a b : List ℕ) → values ≡ a ∷ [] → values ≡ b ∷ [] → a ≡ b
 one_value values a b p q = cc
-
--- the number of an option is below any bound that the most and the default are below
-pub number_below : (default least most bound : ℕ) (values : List (List ℕ)) (n : ℕ) → default < bound → most < bound → GivesNumber default least most values n → n < bound
-number_below default least most bound [] n low high given = rw given low
-number_below default least most bound (text ∷ []) n low high given = let fits = given.2 in omega arith
-number_below default least most bound (text ∷ second ∷ more) n low high given = absurd given
 
 -- an edit of these files, on these terms
 abbrev pub edit_of : List ℕ → List ℕ → List ℕ → List ℕ → List ℕ → ℕ → ℕ → ℕ → EditAsked

@@ -1,6 +1,6 @@
-use Rattle.std.proofs.Common.{rules, ◌^◌}
+use Rattle.std.proofs.Common.{rules}
 use Rattle.command_words.proofs.AskedLaws.{number_below}
 use Rattle.command_words.proofs.options.short_given.Goals as goal
 
 pub overflow_cast-result : goal.overflow_cast-result
-overflow_cast-result c = record { fits = number_below c.from.result _ c.from-3.result (2 ^ 32) _ c.in_ok-number.number (search rules) (search rules) c.in_ok-number.ensures.some }
+overflow_cast-result c = record { fits = number_below _ _ _ _ _ _ c.in_ok-number.ensures.some (search rules) (search rules) }
