@@ -131,7 +131,7 @@ fn records_that_break_a_rule_or_lack_a_value_are_no_donors(rt: HostRuntime) -> R
 // The 64 nearest of 70 donors, of which each is 1 nearer than the one before, for a last record; by this scale.
 fn nearest_of_seventy(alloc: Global, scale: u64) -> Result<Vec<u32>, Fail> {
     let mut records = String::from_str(alloc, "A,B\n")?;
-    for k in 0..70 {
+    for k in 0..70u32 {
         let number = 100 - k;
         records.push_str(format!(in alloc; "{number},1\n")?.as_str())?;
     }
@@ -143,8 +143,8 @@ fn nearest_of_seventy(alloc: Global, scale: u64) -> Result<Vec<u32>, Fail> {
 fn sixty_four_of_seventy_donors_are_ranked(rt: HostRuntime) -> Result<(), Fail> {
     let by_distance = nearest_of_seventy(rt.alloc(), 1000)?;
     assert_eq!(rt; by_distance.len(), 64);
-    for (place, donor) in (0..64).zip(by_distance.iter()) {
-        assert_eq!(rt; *donor, 69 - place);
+    for (expected, donor) in (6..70).rev().zip(by_distance.iter()) {
+        assert_eq!(rt; *donor, expected);
     }
     Ok(())
 }
@@ -153,8 +153,8 @@ fn sixty_four_of_seventy_donors_are_ranked(rt: HostRuntime) -> Result<(), Fail> 
 fn as_near_donors_are_ranked_by_number(rt: HostRuntime) -> Result<(), Fail> {
     let by_number = nearest_of_seventy(rt.alloc(), 1_000_000)?;
     assert_eq!(rt; by_number.len(), 64);
-    for (place, donor) in (0..64).zip(by_number.iter()) {
-        assert_eq!(rt; *donor, place);
+    for (expected, donor) in (0..64).zip(by_number.iter()) {
+        assert_eq!(rt; *donor, expected);
     }
     Ok(())
 }
