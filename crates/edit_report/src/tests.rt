@@ -291,6 +291,14 @@ fn history_of(alloc: Global) -> Result<Vec<Entry>, Fail> {
     Ok(history)
 }
 
+// Whether these are the two lines.
+fn are_summary(lines: &[Vec<u8>]) -> bool {
+    match lines {
+        [records, claims] => { records.as_slice() == SUMMARY[0] && claims.as_slice() == SUMMARY[1] }
+        _ => false,
+    }
+}
+
 #[test]
 fn each_kind_of_end_is_told(rt: HostRuntime) -> Result<(), Fail> {
     let alloc = rt.alloc();
@@ -309,8 +317,8 @@ fn each_kind_of_end_is_told(rt: HostRuntime) -> Result<(), Fail> {
         reasons_text(alloc, &sheet, &survey, &ends)?.as_slice(),
         REASONS
     );
-    let [records, claims] = summary_text(alloc, &survey, &ends, &history_of(alloc)?)?;
-    assert_eq!(rt; records.as_slice(), SUMMARY[0]);
-    assert_eq!(rt; claims.as_slice(), SUMMARY[1]);
+    let history = history_of(alloc)?;
+    let lines = summary_text(alloc, &survey, &ends, &history)?;
+    assert!(rt; are_summary(&lines));
     Ok(())
 }
