@@ -1,5 +1,6 @@
 //! Whole runs, over files and lines in memory. What is expected was worked out by hand.
 mod checks;
+mod donors;
 mod refusals;
 mod rules;
 mod worked;

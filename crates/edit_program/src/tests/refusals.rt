@@ -1,4 +1,5 @@
 //! Runs that are refused, or of which a call or a line fails.
+use super::worked::TRADE;
 use super::{EDIT, Run, desk_of, first_wrong, words};
 use crate::run::fh_main;
 use crate::status::Status;
@@ -10,10 +11,7 @@ use std::test::Fail;
 const PROOF: &str =
     "fh-proof 1\nlimit 1 near 5 budget 1000000\nlines 1\nkeep\nrecords 1\nchange 1 C 2\nline K 1\ngiven 1\nbound C\nclaims 1\nclaim 1 0\nend\n";
 
-/// A profit that is too high, and its proof.
-const TRADE: &str =
-    "number Turnover weight 2\nnumber Costs\nnumber Profit\nTurnover >= 0\nCosts >= 0\nTurnover - Costs - Profit = 0\n10 Profit <= 6 Turnover\n";
-
+/// The proof of a profit that is too high.
 const TRADE_PROOF: &str =
     "fh-proof 1\nlimit 1 near 5 budget 1000000\nlines 5\nkeep\ndrop 9\ngiven 1\ngiven 4\ncombine 1 1 2 1 1\ngiven 6\ncombine 3 1 4 1 1\ngiven 5\ncombine 6 1 2 3 1\ncombine 7 1 4 3 2\ncombine 5 1 8 1 1\nkeep\nkeep\nkeep\nrecords 1\nchange 1 KKC 4\nline KKK 1\ngiven 3\nbound KKC\nbound KC\nbound C\nclaims 1\nclaim 1 0\nend\n";
 
