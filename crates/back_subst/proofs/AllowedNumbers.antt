@@ -10,7 +10,7 @@ use Rattle.edit_model.specs.Rows.{IsRow}
 use Rattle.edit_model.specs.declared.value.Value.{Value}
 use Rattle.edit_line.specs.Lines.{AllHold, HaveShape, IsEnough, LineHolds, LineParts, factor}
 use Rattle.edit_line.specs.Reductions.{IsIn}
-use Rattle.edit_line.specs.Sets.{AllInside}
+use Rattle.edit_line.specs.Sets.{AreCodesIn}
 use Rattle.edit_line.specs.Shapes.{Domain, IsNumerical, code_fields, codes_at, has_field, number_fields, shape_of}
 use Rattle.edit_line.proofs.Members.{all-in, in-all}
 use Rattle.linear_elim.specs.PointChanges.{DiffersOnlyIn}
@@ -176,14 +176,14 @@ module _ (survey : SurveyParts) (edits : List LineParts) (row : List Value) (f :
 
     -- the lines whose sets hold the point's codes and that have a factor at f bound the number
     abbrev pub AreBounded : Type 0
-    AreBounded = (line : LineParts) → IsIn line (system edits before) → AllInside line.sets (codes_at shape p) → factor line f ≢ pos 0 → IsBoundedAt p f x line
+    AreBounded = (line : LineParts) → IsIn line (system edits before) → AreCodesIn line.sets (codes_at shape p) → factor line f ≢ pos 0 → IsBoundedAt p f x line
 
     pub holds-bounded : AllHold (system edits before) at_x → AreBounded
     holds-bounded holds line there inside some =
         let same : line.shape ≡ shape = in-all (λ l. l.shape ≡ shape) line (system edits before) (λ k d below. (HaveShape-system shape edits before over k d below).same) there in
         let here : LineHolds line at_x = in-all (λ l. LineHolds l at_x) line (system edits before) holds there in
         let codes : codes_at line.shape at_x ≡ codes_at shape p = ap (λ s. codes_at s at_x) same ∙ map-agree at_x.code p.code (code_fields shape) (λ i _. put-code p f (x.numerator *ℤ p.denominator) x.denominator above i) in
-        subst (λ (z : ℤ). IsEnough line.strict z) (amount-put p f (p.code f) (x.numerator *ℤ p.denominator) x.denominator above line) (here.enough (subst (λ (cs : List ℕ). AllInside line.sets cs) (sym codes) inside))
+        subst (λ (z : ℤ). IsEnough line.strict z) (amount-put p f (p.code f) (x.numerator *ℤ p.denominator) x.denominator above line) (here.enough (subst (λ (cs : List ℕ). AreCodesIn line.sets cs) (sym codes) inside))
 
     pub bounded-holds : AreBounded → AllHold (system edits before) at_x
     bounded-holds bounded = all-in (λ line. LineHolds line at_x) (system edits before) each
@@ -204,7 +204,7 @@ module _ (survey : SurveyParts) (edits : List LineParts) (row : List Value) (f :
                 ((Decides-int_eq (factor line f) (pos 0)).0 e) (in-all (λ l. LineHolds l p) line (system edits before) at_p there)
             by_factor false e =
                 holds-put line p f (x.numerator *ℤ p.denominator) x.denominator above
-                (λ inside. bounded line there (subst (λ (s : List Domain). AllInside line.sets (codes_at s p)) same inside) (λ none. absurd (cc (sym e ∙ (Decides-int_eq (factor line f) (pos 0)).1 none))))
+                (λ inside. bounded line there (subst (λ (s : List Domain). AreCodesIn line.sets (codes_at s p)) same inside) (λ none. absurd (cc (sym e ∙ (Decides-int_eq (factor line f) (pos 0)).1 none))))
 
     -- where some correction completes the record, the numbers allowed at f are those within the bounds
     pub allowed-bounded : AllowsNumber survey row (f ∷ before) f x ↔ AreBounded

@@ -25,7 +25,7 @@ use Rattle.categ_combine.specs.FailingBoxes.{boxes_from, failing_boxes, or_line}
 use Rattle.categ_combine.proofs.AvoidLaws.{failing-avoids}
 use Rattle.categ_combine.proofs.CoverLaws.{HaveSets}
 use Rattle.derivation.proofs.CoverLaws.{code-below}
-use Rattle.edit_line.specs.Sets.{all_inside}
+use Rattle.edit_line.specs.Sets.{are_subsets}
 use Rattle.back_subst.specs.Allowed.{AgreesBut, AllowsCode, Completes}
 use Rattle.back_subst.specs.inner.Bounds.{DecideFor}
 use Rattle.back_subst.specs.inner.Codes.{boxes_for}
@@ -72,7 +72,7 @@ boxes-each P i (line ∷ lines) row kept boxes each all e =
     by (fails_at line row) e (λ kept' all' made. boxes-each P (suc i) lines row kept' boxes (λ l there. each l (inr there)) all' made)
   where
     taken : (b : List ℕ) → IsIn b (with_box kept line.sets) → P b
-    taken b there = elim (in-taken (list_any (λ c. all_inside line.sets c) kept) (λ c. not (all_inside c line.sets)) b line.sets kept there) [
+    taken b there = elim (in-taken (list_any (λ c. are_subsets line.sets c) kept) (λ c. not (are_subsets c line.sets)) b line.sets kept there) [
       | inl old ↦ all b old
       | inr same ↦ subst P (sym same) (each line (inl refl))
     ]

@@ -15,7 +15,7 @@ use Rattle.edit_line.specs.CodeFields.{codes_in}
 use Rattle.edit_line.specs.EditSets.{EditsParts}
 use Rattle.edit_line.specs.Lines.{HaveShape, LineParts, factor}
 use Rattle.edit_line.specs.Reductions.{IsIn}
-use Rattle.edit_line.specs.Sets.{is_inside}
+use Rattle.edit_line.specs.Sets.{are_codes_in}
 use Rattle.edit_line.specs.Shapes.{Domain, has_field, number_fields, shape_of}
 use Rattle.edit_line.proofs.FactorLaws.{factor-numerical}
 use Rattle.edit_line.proofs.Members.{in-all}
@@ -44,7 +44,7 @@ use Rattle.back_subst.proofs.WalkLaws.{SameBut, has-reverse}
 
 module _ (shape : List Domain) (row : List Value) (f : ℕ) (none : has_field (number_fields shape) f ≡ false) where
   no-bounding : (line : LineParts) → line.shape ≡ shape → is_bounding line row f ≡ false
-  no-bounding line is = by (is_inside line.sets (codes_in line.shape row)) (int_eq (factor line f) (pos 0)) refl
+  no-bounding line is = by (are_codes_in line.sets (codes_in line.shape row)) (int_eq (factor line f) (pos 0)) refl
     where
       by : (a b : Bool) → int_eq (factor line f) (pos 0) ≡ b → (a && not b) ≡ false
       by true true e = refl

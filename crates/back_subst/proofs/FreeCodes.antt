@@ -9,7 +9,7 @@ use Rattle.edit_model.specs.declared.value.Value.{Value}
 use Rattle.edit_line.specs.CodeFields.{TakesCodes, place_of, size_of, with_code_at}
 use Rattle.edit_line.specs.Lines.{HaveShape, LineParts}
 use Rattle.edit_line.specs.Reductions.{lines_of}
-use Rattle.edit_line.specs.Sets.{is_inside}
+use Rattle.edit_line.specs.Sets.{are_codes_in}
 use Rattle.edit_line.specs.Shapes.{Domain, HasCodes, IsCategorical, IsNumerical, code_fields, codes_at, has_field, place_in, shape_of, whole_sets}
 use Rattle.edit_line.specs.declared.derived.Derived.{Derived}
 use Rattle.edit_line.proofs.PointCodes.{wholes-inside}
@@ -80,14 +80,14 @@ module _ (shape : List Domain) (row : List Value) (left : List ℕ) (g : ℕ) wh
 
 -- ---- a box that is whole at all fields but one
 inside-whole : (fields b wholes : List ℕ) (code : ℕ → ℕ) → AreDistinct fields → length b ≡ length fields → length wholes ≡ length fields
-    → ((i : ℕ) → has_field fields i ≡ true → slice_index_or b (place_in fields i) 0 ≡ slice_index_or wholes (place_in fields i) 0) → is_inside wholes (map code fields) ≡ true → is_inside b (map code fields) ≡ true
+    → ((i : ℕ) → has_field fields i ≡ true → slice_index_or b (place_in fields i) 0 ≡ slice_index_or wholes (place_in fields i) 0) → are_codes_in wholes (map code fields) ≡ true → are_codes_in b (map code fields) ≡ true
 inside-whole [] [] wholes code distinct sized same each inside = refl
 inside-whole [] (s ∷ b) wholes code distinct sized same each inside = absurd (omega arith)
 inside-whole (i ∷ fields) [] wholes code distinct sized same each inside = absurd (omega arith)
 inside-whole (i ∷ fields) (s ∷ b) [] code distinct sized same each inside = absurd (omega arith)
 inside-whole (i ∷ fields) (s ∷ b) (w ∷ wholes) code distinct sized same each inside =
     let (here, rest) = both_true (has_code w (code i)) _ inside in
-    ap (λ t. has_code t (code i) && is_inside b (map code fields)) first ∙ ap (λ t. t && is_inside b (map code fields)) here ∙ inside-whole fields b wholes code distinct.1 (omega arith) (omega arith) later rest
+    ap (λ t. has_code t (code i) && are_codes_in b (map code fields)) first ∙ ap (λ t. t && are_codes_in b (map code fields)) here ∙ inside-whole fields b wholes code distinct.1 (omega arith) (omega arith) later rest
   where
     own : (i == i) ≡ true
     own = (Decides-eqb i i).1 refl
@@ -107,8 +107,8 @@ inside-whole (i ∷ fields) (s ∷ b) (w ∷ wholes) code distinct sized same ea
         by false e h = h there
 
 inside-free : (fields b wholes : List ℕ) (code : ℕ → ℕ) (g : ℕ) → AreDistinct fields → length b ≡ length fields → length wholes ≡ length fields → has_field fields g ≡ true
-    → ((i : ℕ) → has_field fields i ≡ true → (i == g) ≡ false → slice_index_or b (place_in fields i) 0 ≡ slice_index_or wholes (place_in fields i) 0) → is_inside wholes (map code fields) ≡ true
-    → is_inside b (map code fields) ≡ has_code (slice_index_or b (place_in fields g) 0) (code g)
+    → ((i : ℕ) → has_field fields i ≡ true → (i == g) ≡ false → slice_index_or b (place_in fields i) 0 ≡ slice_index_or wholes (place_in fields i) 0) → are_codes_in wholes (map code fields) ≡ true
+    → are_codes_in b (map code fields) ≡ has_code (slice_index_or b (place_in fields g) 0) (code g)
 inside-free [] b wholes code g distinct sized same there each inside = absurd (cc)
 inside-free (i ∷ fields) [] wholes code g distinct sized same there each inside = absurd (omega arith)
 inside-free (i ∷ fields) (s ∷ b) [] code g distinct sized same there each inside = absurd (omega arith)
@@ -132,8 +132,8 @@ inside-free (i ∷ fields) (s ∷ b) (w ∷ wholes) code g distinct sized same t
     and_true true = refl
     and_true false = refl
 
-    by : (t : Bool) → (i == g) ≡ t → (t || has_field fields g) ≡ true → (has_field fields g ≡ true → is_inside b (map code fields) ≡ has_code (slice_index_or b (place_in fields g) 0) (code g))
-        → (has_code s (code i) && is_inside b (map code fields)) ≡ has_code (slice_index_or (s ∷ b) (if t then 0 else suc (place_in fields g)) 0) (code g)
+    by : (t : Bool) → (i == g) ≡ t → (t || has_field fields g) ≡ true → (has_field fields g ≡ true → are_codes_in b (map code fields) ≡ has_code (slice_index_or b (place_in fields g) 0) (code g))
+        → (has_code s (code i) && are_codes_in b (map code fields)) ≡ has_code (slice_index_or (s ∷ b) (if t then 0 else suc (place_in fields g)) 0) (code g)
     by true e h rest =
         let is : i ≡ g = (Decides-eqb i g).0 e in
         ap (λ t. has_code s (code i) && t) (inside-whole fields b wholes code distinct.1 (omega arith) (omega arith)
@@ -147,7 +147,7 @@ inside-free (i ∷ fields) (s ∷ b) (w ∷ wholes) code g distinct sized same t
             at false f = refl
             at true f = absurd (cc (sym k_there ∙ ap (λ m. has_field fields m) ((Decides-eqb k g).0 f ∙ sym is) ∙ distinct.0))
     by false e h rest =
-        ap (λ t. has_code t (code i) && is_inside b (map code fields)) first ∙ ap (λ t. t && is_inside b (map code fields)) (both_true (has_code w (code i)) _ inside).0 ∙ rest h
+        ap (λ t. has_code t (code i) && are_codes_in b (map code fields)) first ∙ ap (λ t. t && are_codes_in b (map code fields)) (both_true (has_code w (code i)) _ inside).0 ∙ rest h
       where
         first : s ≡ w
         first =
@@ -158,8 +158,8 @@ inside-free (i ∷ fields) (s ∷ b) (w ∷ wholes) code g distinct sized same t
 pub avoids-free : (shape : List Domain) (boxes : List (List ℕ)) (g : ℕ) (p : Point) → has_field (code_fields shape) g ≡ true → HasCodes 0 shape p → HaveSets shape boxes
     → ((j : ℕ) → has_field (code_fields shape) j ≡ true → (j == g) ≡ false → AreWhole shape (place_of shape j) boxes) → Avoids shape boxes p ↔ IsTrue (is_free shape boxes g (p.code g))
 avoids-free shape boxes g p there held sets whole =
-    let same : list_any (λ b. is_inside b (codes_at shape p)) boxes ≡ list_any (λ b. has_code (slice_index_or b (place_of shape g) 0) (p.code g)) boxes =
-    any-agree (λ b. is_inside b (codes_at shape p)) (λ b. has_code (slice_index_or b (place_of shape g) 0) (p.code g)) boxes (λ b is_in.
+    let same : list_any (λ b. are_codes_in b (codes_at shape p)) boxes ≡ list_any (λ b. has_code (slice_index_or b (place_of shape g) 0) (p.code g)) boxes =
+    any-agree (λ b. are_codes_in b (codes_at shape p)) (λ b. has_code (slice_index_or b (place_of shape g) 0) (p.code g)) boxes (λ b is_in.
     inside-free (code_fields shape) b (whole_sets shape) p.code g (distinct-from 0 shape) (sets b is_in) (length-wholes 0 shape) there (λ i i_there apart. (whole i i_there apart b is_in).whole) (wholes-inside shape p held)) in
     (λ h. ap not (sym same) ∙ h, λ h. ap not same ∙ h)
 

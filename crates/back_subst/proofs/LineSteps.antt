@@ -17,7 +17,7 @@ use Rattle.edit_model.specs.declared.value.Value.TheVariants.{Bad}
 use Rattle.edit_line.specs.CodeFields.{codes_in}
 use Rattle.edit_line.specs.Lines.{LineParts, factor}
 use Rattle.edit_line.specs.Reductions.{lines_of}
-use Rattle.edit_line.specs.Sets.{is_inside}
+use Rattle.edit_line.specs.Sets.{are_codes_in}
 use Rattle.edit_line.specs.Shapes.{Domain, has_field, number_fields, place_in}
 use Rattle.edit_line.specs.Sums.{sum_at}
 use Rattle.edit_line.specs.declared.derived.Derived.{Derived}
@@ -83,16 +83,16 @@ module _ (i f : ℕ) (line : LineParts) (row : List Value) (ends : FoundEnds) wh
   by-bounding b e = ap (λ t. if t then or_place i (bound_at line row f) (λ at. Ok (with_found ends (int_lt (pos 0) (factor line f)) (found_at at line.strict i))) else Ok ends) (sym e)
 
   pub without-factor : factor line f ≡ pos 0 → Ok ends ≡ with_line i line row f ends
-  without-factor none = by-bounding false (ap (λ b. is_inside line.sets (codes_in line.shape row) && not b) ((Decides-int_eq (factor line f) (pos 0)).1 none) ∙ nothing (is_inside line.sets (codes_in line.shape row)))
+  without-factor none = by-bounding false (ap (λ b. are_codes_in line.sets (codes_in line.shape row) && not b) ((Decides-int_eq (factor line f) (pos 0)).1 none) ∙ nothing (are_codes_in line.sets (codes_in line.shape row)))
     where
       nothing : (b : Bool) → (b && false) ≡ false
       nothing true = refl
       nothing false = refl
 
-  pub without-codes : is_inside line.sets (codes_in line.shape row) ≡ false → Ok ends ≡ with_line i line row f ends
+  pub without-codes : are_codes_in line.sets (codes_in line.shape row) ≡ false → Ok ends ≡ with_line i line row f ends
   without-codes out = by-bounding false (ap (λ b. b && not (int_eq (factor line f) (pos 0))) out)
 
-  module _ (inside : is_inside line.sets (codes_in line.shape row) ≡ true) (some : factor line f ≢ pos 0) (blank : value_of row f ≡ Bad) (o : Option Ratio) (o_is : o ≡ then_some (value_in (sum_at line row)) (λ s. divided s (neg_ℤ (factor line f)))) where
+  module _ (inside : are_codes_in line.sets (codes_in line.shape row) ≡ true) (some : factor line f ≢ pos 0) (blank : value_of row f ≡ Bad) (o : Option Ratio) (o_is : o ≡ then_some (value_in (sum_at line row)) (λ s. divided s (neg_ℤ (factor line f)))) where
     bounding : is_bounding line row f ≡ true
     bounding = ap (λ b. b && not (int_eq (factor line f) (pos 0))) inside ∙ by (int_eq (factor line f) (pos 0)) refl
       where

@@ -17,7 +17,7 @@ use Rattle.edit_model.specs.declared.value.Value.TheVariants.{Bad, Code, Number}
 use Rattle.edit_line.specs.CodeFields.{codes_in}
 use Rattle.edit_line.specs.Lines.{HaveShape, IsEnough, LineParts, factor}
 use Rattle.edit_line.specs.Reductions.{IsIn}
-use Rattle.edit_line.specs.Sets.{AllInside, is_inside}
+use Rattle.edit_line.specs.Sets.{AreCodesIn, are_codes_in}
 use Rattle.edit_line.specs.Shapes.{Domain, IsNumerical, code_fields, codes_at, has_field, number_fields, shape_of}
 use Rattle.edit_line.proofs.Enough.{IsEnough-times, IsEnough_cancel, is_enough-Decides}
 use Rattle.edit_line.proofs.Members.{in-all, in-filter, in-filter-out}
@@ -131,9 +131,9 @@ module _ (survey : SurveyParts) (edits : List LineParts) (row : List Value) (f :
       let law = allowed-bounded survey edits row f before is_row over decide number numbers other p completes x above in (
         λ allowed line r there bounds rest.
             let at_record = rest-over line row p f r (adds-all line there) rest in
-            (bound-over line f p r x at_record.0 at_record.1).0 (law.0 allowed line there (subst (λ (cs : List ℕ). AllInside line.sets cs) (ap (λ s. codes_in s row) (shape-of line there) ∙ sym codes-are) bounds.codes) bounds.stands),
+            (bound-over line f p r x at_record.0 at_record.1).0 (law.0 allowed line there (subst (λ (cs : List ℕ). AreCodesIn line.sets cs) (ap (λ s. codes_in s row) (shape-of line there) ∙ sym codes-are) bounds.codes) bounds.stands),
         λ within. law.1 (λ line there inside some.
-            let bounds : BoundsField line row f = record { codes = subst (λ (cs : List ℕ). AllInside line.sets cs) (codes-are ∙ ap (λ s. codes_in s row) (sym (shape-of line there))) inside; stands = some } in
+            let bounds : BoundsField line row f = record { codes = subst (λ (cs : List ℕ). AreCodesIn line.sets cs) (codes-are ∙ ap (λ s. codes_in s row) (sym (shape-of line there))) inside; stands = some } in
             let (r, rest) = fit line there bounds in
             let at_record = rest-over line row p f r (adds-all line there) rest in
             (bound-over line f p r x at_record.0 at_record.1).1 (within line r there bounds rest)),
@@ -143,7 +143,7 @@ module _ (survey : SurveyParts) (edits : List LineParts) (row : List Value) (f :
 
   -- the lines that bound f from one side
   abbrev on_side : (ℕ → LineParts → Bool) → List LineParts
-  on_side test = filter (λ l. test f l && is_inside l.sets (codes_at shape p)) lines
+  on_side test = filter (λ l. test f l && are_codes_in l.sets (codes_at shape p)) lines
 
   abbrev Meets_all : List LineParts → Ratio → Type 0
   Meets_all bounds x = (line : LineParts) → IsIn line bounds → IsBoundedAt p f x line
@@ -224,9 +224,9 @@ module _ (survey : SurveyParts) (edits : List LineParts) (row : List Value) (f :
       told_below a h = grind (arith, ints)
 
       of_side : (test : ℕ → LineParts → Bool) (x : Ratio)
-          → ((line : LineParts) → IsIn line lines → AllInside line.sets (codes_at shape p) → factor line f ≢ pos 0 → IsBoundedAt p f x line) → ((l : LineParts) → test f l ≡ true → factor l f ≢ pos 0) → Meets_all (on_side test) x
+          → ((line : LineParts) → IsIn line lines → AreCodesIn line.sets (codes_at shape p) → factor line f ≢ pos 0 → IsBoundedAt p f x line) → ((l : LineParts) → test f l ≡ true → factor l f ≢ pos 0) → Meets_all (on_side test) x
       of_side test x bounded stands line there =
-          let (was, passes) = in-filter-out (λ l. test f l && is_inside l.sets (codes_at shape p)) line lines there in
+          let (was, passes) = in-filter-out (λ l. test f l && are_codes_in l.sets (codes_at shape p)) line lines there in
           let (side, inside) = both_true _ _ passes in
           bounded line was ((is_inside-Decides line.sets (codes_at shape p)).0 inside) (stands line side)
 
@@ -243,10 +243,10 @@ module _ (survey : SurveyParts) (edits : List LineParts) (row : List Value) (f :
                 law.1 (λ line there inside some. at line there inside some (by_sign (factor line f)) ((low_is.tells x above).1 past_low) ((high_is.tells x above).1 past_high)),
           )
         where
-          at : (line : LineParts) → IsIn line lines → AllInside line.sets (codes_at shape p) → factor line f ≢ pos 0 → (pos 0 <ℤ factor line f) ⊎ ((factor line f ≡ pos 0) ⊎ (factor line f <ℤ pos 0))
+          at : (line : LineParts) → IsIn line lines → AreCodesIn line.sets (codes_at shape p) → factor line f ≢ pos 0 → (pos 0 <ℤ factor line f) ⊎ ((factor line f ≡ pos 0) ⊎ (factor line f <ℤ pos 0))
               → Meets_all (on_side is_lower) x → Meets_all (on_side is_upper) x → IsBoundedAt p f x line
           at line there inside some (inl above) lows highs =
-              lows line (in-filter (λ l. is_lower f l && is_inside l.sets (codes_at shape p)) line lines (both _ _ (told_above (factor line f) above) ((is_inside-Decides line.sets (codes_at shape p)).1 inside)) there)
+              lows line (in-filter (λ l. is_lower f l && are_codes_in l.sets (codes_at shape p)) line lines (both _ _ (told_above (factor line f) above) ((is_inside-Decides line.sets (codes_at shape p)).1 inside)) there)
           at line there inside some (inr (inl none)) lows highs = absurd (some none)
           at line there inside some (inr (inr below)) lows highs =
-              highs line (in-filter (λ l. is_upper f l && is_inside l.sets (codes_at shape p)) line lines (both _ _ (told_below (factor line f) below) ((is_inside-Decides line.sets (codes_at shape p)).1 inside)) there)
+              highs line (in-filter (λ l. is_upper f l && are_codes_in l.sets (codes_at shape p)) line lines (both _ _ (told_below (factor line f) below) ((is_inside-Decides line.sets (codes_at shape p)).1 inside)) there)

@@ -13,7 +13,7 @@ use Rattle.edit_model.specs.declared.value.Value.{Value}
 use Rattle.edit_line.specs.CodeFields.{codes_in}
 use Rattle.edit_line.specs.Lines.{IsEnough, LineParts, factor}
 use Rattle.edit_line.specs.Reductions.{IsIn}
-use Rattle.edit_line.specs.Sets.{is_inside}
+use Rattle.edit_line.specs.Sets.{are_codes_in}
 use Rattle.edit_line.specs.Subsumption.{is_enough}
 use Rattle.edit_line.specs.Shapes.{number_fields}
 use Rattle.edit_line.specs.Sums.{next_sum, or_field, sum_from, whole}
@@ -262,7 +262,7 @@ module _ (row : List Value) (f : ℕ) where
       record { codes = (is_inside-Decides line.sets (codes_in line.shape row)).0 inside; stands = λ none. absurd (cc (sym some ∙ ap not ((Decides-int_eq (factor line f) (pos 0)).1 none))) }
 
   bounds-told : (line : LineParts) → BoundsField line row f → is_bounding line row f ≡ true
-  bounds-told line is = both (is_inside line.sets (codes_in line.shape row)) _ ((is_inside-Decides line.sets (codes_in line.shape row)).1 is.codes) (by (int_eq (factor line f) (pos 0)) refl)
+  bounds-told line is = both (are_codes_in line.sets (codes_in line.shape row)) _ ((is_inside-Decides line.sets (codes_in line.shape row)).1 is.codes) (by (int_eq (factor line f) (pos 0)) refl)
     where
       both : (a b : Bool) → a ≡ true → b ≡ true → (a && b) ≡ true
       both true b e h = h

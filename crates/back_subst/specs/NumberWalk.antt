@@ -5,7 +5,7 @@ use Rattle.fraction128.specs.Formulas.{Ratio, added, divided, middle, then_some}
 use Rattle.edit_model.specs.declared.value.Value.{Value}
 use Rattle.edit_line.specs.CodeFields.{codes_in}
 use Rattle.edit_line.specs.Lines.{LineParts, factor}
-use Rattle.edit_line.specs.Sets.{is_inside}
+use Rattle.edit_line.specs.Sets.{are_codes_in}
 use Rattle.edit_line.specs.Subsumption.{is_enough}
 use Rattle.edit_line.specs.Sums.{sum_at, whole}
 use Rattle.edit_model.specs.declared.value.Value.TheVariants.{Bad}
@@ -19,7 +19,7 @@ value_in (Err e) = None
 
 -- whether the line bounds the field at the record
 abbrev pub is_bounding : LineParts → List Value → ℕ → Bool
-is_bounding line row f = is_inside line.sets (codes_in line.shape row) && not (int_eq (factor line f) (pos 0))
+is_bounding line row f = are_codes_in line.sets (codes_in line.shape row) && not (int_eq (factor line f) (pos 0))
 
 -- the line's sum at the record without a field: what a value adds that is no number is nothing
 abbrev pub rest_of : LineParts → List Value → ℕ → Result Ratio ℕ

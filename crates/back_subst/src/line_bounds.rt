@@ -9,7 +9,7 @@ ghost use Rattle.edit_model.specs.Rows.{IsRow, value_of};
 ghost use Rattle.edit_model.specs.declared.value.Value.TheVariants.{Bad};
 ghost use Rattle.edit_line.specs.CodeFields.{codes_in};
 ghost use Rattle.edit_line.specs.Reductions.{lines_of};
-ghost use Rattle.edit_line.specs.Sets.{is_inside};
+ghost use Rattle.edit_line.specs.Sets.{are_codes_in};
 ghost use Rattle.edit_line.specs.Shapes.{IsNumerical, number_fields, place_in, shape_of};
 ghost use Rattle.edit_line.specs.Sums.{sum_at};
 ghost use Rattle.back_subst.specs.NumberWalk.{ends_from, no_ends, value_in};
@@ -107,7 +107,7 @@ fn bound_at(survey: &Survey, line: &Line, row: &Row, factor: i128) -> Result<Fra
 fn has_codes_of(survey: &Survey, line: &Line, row: &Row) -> bool
     requires shape { line.now.shape ≡ shape_of survey.now.fields }
     requires row { IsRow survey.now.fields row.now }
-    ensures { result ≡ is_inside line.now.sets (codes_in line.now.shape row.now) }
+    ensures { result ≡ are_codes_in line.now.sets (codes_in line.now.shape row.now) }
 {
     are_inside(line.sets(), survey.codes(), row)
 }
@@ -115,7 +115,7 @@ fn has_codes_of(survey: &Survey, line: &Line, row: &Row) -> bool
 fn are_inside(sets: &[u64], fields: &[u32], row: &Row) -> bool
     requires count { length sets.now ≡ length fields.now }
     requires within { All (λ f. f < length row.now) fields.now }
-    ensures { result ≡ is_inside sets.now (map (λ f. code_in (value_of row.now f)) fields.now) }
+    ensures { result ≡ are_codes_in sets.now (map (λ f. code_in (value_of row.now f)) fields.now) }
 {
     for (place, field) in fields.iter().enumerate() {
         if !has_code(sets[place], code_of(row.value(*field))) {

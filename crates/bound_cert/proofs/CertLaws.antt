@@ -6,7 +6,7 @@ use Rattle.edit_model.specs.Rows.{IsRow, value_of}
 use Rattle.edit_model.specs.declared.value.Value.{Value}
 use Rattle.edit_line.specs.Lines.{AllHold, AreOver}
 use Rattle.edit_line.specs.Reductions.{IsIn}
-use Rattle.edit_line.specs.Sets.{AllInside}
+use Rattle.edit_line.specs.Sets.{AreCodesIn}
 use Rattle.edit_line.specs.Shapes.{Domain, HasCodes, codes_at, shape_of, whole_sets}
 use Rattle.edit_line.proofs.Members.{in-map-out}
 use Rattle.edit_line.proofs.PointCodes.{wholes-inside}
@@ -42,8 +42,8 @@ module _ (c : TreeCase) (are : IsRow c.survey.fields c.row) (over : AreOver (sha
     shaped : HasCodes 0 (shape_of c.survey.fields) p
     shaped = HasCodes-shape 0 c.survey.fields p held
 
-    inside : (sets : List ℕ) → sets ≡ whole_sets (shape_of c.survey.fields) → AllInside sets (codes_at (shape_of c.survey.fields) p)
-    inside sets whole = subst (λ (ss : List ℕ). AllInside ss (codes_at (shape_of c.survey.fields) p)) (sym whole) ((is_inside-Decides _ _).0 (wholes-inside (shape_of c.survey.fields) p shaped))
+    inside : (sets : List ℕ) → sets ≡ whole_sets (shape_of c.survey.fields) → AreCodesIn sets (codes_at (shape_of c.survey.fields) p)
+    inside sets whole = subst (λ (ss : List ℕ). AreCodesIn ss (codes_at (shape_of c.survey.fields) p)) (sym whole) ((is_inside-Decides _ _).0 (wholes-inside (shape_of c.survey.fields) p shaped))
 
     -- a path that is refuted has no such point
     not-refuted : (steps : List Step) (last : Proved) → AreValidSteps (premises_at c path) steps last → Refutes (premises_at c path) last → ⊥
@@ -54,7 +54,7 @@ module _ (c : TreeCase) (are : IsRow c.survey.fields c.row) (over : AreOver (sha
         let (shown, of_shape) = steps-shown (premises_at c path) c.survey.fields steps (proved.Line line) refl are (kept-held c.survey.fields c.row path) over valid in
         let (kept, false_there) = both_true _ _ fails in
         failed-outside c.survey.fields c.row (kept_set c.survey.fields c.row path) line are (kept-held c.survey.fields c.row path) of_shape kept false_there p agrees-kept (shown p hold)
-        (subst (λ (s : List Domain). AllInside line.sets (codes_at s p)) (sym of_shape) (inside line.sets whole))
+        (subst (λ (s : List Domain). AreCodesIn line.sets (codes_at s p)) (sym of_shape) (inside line.sets whole))
 
     -- a valid leaf weighs enough
     leaf-weighs : (reason : LeafWhy) → IsValidLeaf c path reason → IsSomeAnd c.weight (λ w. w ≤ change_weight c.survey c.row p)

@@ -3,7 +3,7 @@ use Rattle.std.specs.List.{list_any}
 use Rattle.edit_model.specs.Points.{Point}
 use Rattle.edit_model.specs.declared.value.Value.{Value}
 use Rattle.edit_line.specs.Lines.{AllHold, LineHolds, LineParts, amount}
-use Rattle.edit_line.specs.Sets.{AllInside, is_inside}
+use Rattle.edit_line.specs.Sets.{AreCodesIn, are_codes_in}
 use Rattle.edit_line.specs.Shapes.{Domain, codes_at}
 use Rattle.edit_line.specs.Subsumption.{is_enough}
 use Rattle.edit_line.specs.Sums.{AgreesWith, HasNumbers, fails_at}
@@ -30,22 +30,22 @@ module _ (shape : List Domain) (row : List Value) (p : Point) where
 
   -- some box has the point's codes
   abbrev caught : List (List ℕ) → Bool
-  caught boxes = list_any (λ b. is_inside b (codes_at shape p)) boxes
+  caught boxes = list_any (λ b. are_codes_in b (codes_at shape p)) boxes
 
   -- a line that fails holds exactly where its sets have not the codes
-  failing-holds : (line : LineParts) → IsKnown line → fails_at line row ≡ Ok true → LineHolds line p ↔ (is_inside line.sets (codes_at shape p) ≡ false)
+  failing-holds : (line : LineParts) → IsKnown line → fails_at line row ≡ Ok true → LineHolds line p ↔ (are_codes_in line.sets (codes_at shape p) ≡ false)
   failing-holds line known e = (
-    λ holds. by (is_inside line.sets (codes_at shape p)) refl holds,
-    λ out. record { enough = λ inside. absurd (cc (sym out ∙ (is_inside-Decides line.sets (codes_at shape p)).1 (subst (λ s. AllInside line.sets (codes_at s p)) known.0 inside))) },
+    λ holds. by (are_codes_in line.sets (codes_at shape p)) refl holds,
+    λ out. record { enough = λ inside. absurd (cc (sym out ∙ (is_inside-Decides line.sets (codes_at shape p)).1 (subst (λ s. AreCodesIn line.sets (codes_at s p)) known.0 inside))) },
   )
     where
       short : is_enough line.strict (amount line p) ≡ false
       short = opposite _ (sym (fails_at-truth line row p true known.1 known.2 e))
 
-      by : (b : Bool) → is_inside line.sets (codes_at shape p) ≡ b → LineHolds line p → b ≡ false
+      by : (b : Bool) → are_codes_in line.sets (codes_at shape p) ≡ b → LineHolds line p → b ≡ false
       by false there holds = refl
       by true there holds =
-          absurd (cc (sym short ∙ (is_enough-Decides line.strict (amount line p)).1 (holds.enough (subst (λ s. AllInside line.sets (codes_at s p)) (sym known.0) ((is_inside-Decides line.sets (codes_at shape p)).0 there)))))
+          absurd (cc (sym short ∙ (is_enough-Decides line.strict (amount line p)).1 (holds.enough (subst (λ s. AreCodesIn line.sets (codes_at s p)) (sym known.0) ((is_inside-Decides line.sets (codes_at shape p)).0 there)))))
 
   -- a line that does not fail holds
   kept-holds : (line : LineParts) → IsKnown line → fails_at line row ≡ Ok false → LineHolds line p
@@ -81,7 +81,7 @@ module _ (shape : List Domain) (row : List Value) (p : Point) where
       by (Err f) told made rest = absurd (cc)
       by (Ok true) told made rest =
           let law = rest (with_box kept line.sets) made in
-          let both : caught (with_box kept line.sets) ≡ (caught kept || is_inside line.sets (codes_at shape p)) = any-with_box (λ b. is_inside b (codes_at shape p)) (λ b c. inside-grows b c (codes_at shape p)) kept line.sets in (
+          let both : caught (with_box kept line.sets) ≡ (caught kept || are_codes_in line.sets (codes_at shape p)) = any-with_box (λ b. are_codes_in b (codes_at shape p)) (λ b c. inside-grows b c (codes_at shape p)) kept line.sets in (
             λ h. let (first, hold) = law.0 h in let (old, new) = or_parts _ _ (sym both ∙ first) in (old, after line lines ((failing-holds line mine told).1 new) hold),
             λ h. law.1 (both ∙ or_made _ _ h.0 ((failing-holds line mine told).0 (h.1 0 line (omega arith))), λ k d below. h.1 (suc k) d (omega arith)),
           )

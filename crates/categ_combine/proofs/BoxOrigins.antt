@@ -7,7 +7,7 @@ use Rattle.edit_line.specs.Boxes.{BoxParts, box_of}
 use Rattle.edit_line.specs.CodeFields.{TakesCodes, codes_of, codes_up, place_of, size_of, whole_of}
 use Rattle.edit_line.specs.Combinations.{meets}
 use Rattle.edit_line.specs.Reductions.{IsIn}
-use Rattle.edit_line.specs.Sets.{all_inside, has_codes}
+use Rattle.edit_line.specs.Sets.{are_subsets, none_is_empty}
 use Rattle.edit_line.specs.Shapes.{Domain, whole_sets}
 use Rattle.edit_line.specs.Sums.{fails_at}
 use Rattle.edit_line.specs.declared.derived.Derived.{Derived}
@@ -16,7 +16,7 @@ use Rattle.edit_line.proofs.Members.{all-in, in-all, in-either, in-flat_map-out,
 use Rattle.edit_line.proofs.OtherFields.{set-set, set-whole}
 use Rattle.edit_line.proofs.BoolLaws.{both_true}
 use Rattle.categ_combine.specs.BoxLists.{AreBoxesOver, sets_of}
-use Rattle.categ_combine.specs.Covers.{cover_count, covered_from, covers_from, first_cover, from_of, is_whole_at, joined, joined_for, meets_but, parts_of, row_of, takes_part, unchanged_one, with_code_from}
+use Rattle.categ_combine.specs.Covers.{cover_count, covered_from, covers_from, first_cover, from_of, is_whole_at, joined, joined_for, meets_but, cover_parts, row_of, takes_part, unchanged_one, with_code_from}
 use Rattle.categ_combine.specs.Each.{each_from}
 use Rattle.categ_combine.specs.FailingBoxes.{failing_from, or_line, taken}
 use Rattle.categ_combine.specs.Fixing.{fixed_from, fixed_one}
@@ -57,7 +57,7 @@ module _ (lines : List Derived) (row : List Value) where
     where
       more : (fails : Bool) → fails_at d.line row ≡ Ok fails → (e : BoxFrom) → IsIn e (taken kept i d.line fails) → FromLine e
       more false is e in_taken = before e in_taken
-      more true is e in_taken = elim (in-taken (list_any (λ (b : BoxFrom). all_inside d.line.sets b.code_box.sets) kept) (λ (b : BoxFrom). not (all_inside b.code_box.sets d.line.sets)) e (from_of d.line.shape d.line.sets (Failing i)) kept in_taken) [
+      more true is e in_taken = elim (in-taken (list_any (λ (b : BoxFrom). are_subsets d.line.sets b.code_box.sets) kept) (λ (b : BoxFrom). not (are_subsets b.code_box.sets d.line.sets)) e (from_of d.line.shape d.line.sets (Failing i)) kept in_taken) [
         | inl old ↦ before e old
         | inr same ↦
             subst (λ (b : BoxFrom). FromLine b) (sym same)
@@ -149,7 +149,7 @@ module _ (shape : List Domain) (boxes : List BoxFrom) (f : ℕ) (over : AreBoxes
     common : List ℕ
     common_is : HaveInCommon boxes (place_of shape f) 0 parts (whole_sets shape) common
     sets : slice_set common (place_of shape f) (whole_of shape f) ≡ b.code_box.sets
-    full : 0 < many → has_codes b.code_box.sets ≡ true
+    full : 0 < many → none_is_empty b.code_box.sets ≡ true
 
   next-part : (many : ℕ) (q b : BoxFrom) → IsPart many q → IsIn b (row_of (place_of shape f) (whole_of shape f) many boxes q) → IsPart (suc many) b
   next-part many q b cover there =
@@ -159,16 +159,16 @@ module _ (shape : List Domain) (boxes : List BoxFrom) (f : ℕ) (over : AreBoxes
       by : (i : ℕ) (x : BoxFrom) → slice_get boxes i ≡ Some x → (t : Bool) → takes_part (place_of shape f) (whole_of shape f) many x.code_box.sets ≡ t
           → IsIn b (if t then joined (place_of shape f) (whole_of shape f) q i x else []) → IsPart (suc many) b
       by i x at false e none = absurd none
-      by i x at true e made = some (has_codes (meets_but (place_of shape f) (whole_of shape f) q.code_box.sets x.code_box.sets)) refl made
+      by i x at true e made = some (none_is_empty (meets_but (place_of shape f) (whole_of shape f) q.code_box.sets x.code_box.sets)) refl made
         where
           counted : 0 + length cover.parts ≡ many
           counted = omega (arith, cover.many_are)
 
-          parts_are : parts_of q.origin ≡ cover.parts
-          parts_are = ap (λ o. parts_of o) cover.origin_is
+          parts_are : cover_parts q.origin ≡ cover.parts
+          parts_are = ap (λ o. cover_parts o) cover.origin_is
 
-          some : (t : Bool) → has_codes (meets_but (place_of shape f) (whole_of shape f) q.code_box.sets x.code_box.sets) ≡ t
-              → IsIn b (if t then from_of q.code_box.shape (meets_but (place_of shape f) (whole_of shape f) q.code_box.sets x.code_box.sets) (Cover (parts_of q.origin ++ i ∷ [])) ∷ [] else []) → IsPart (suc many) b
+          some : (t : Bool) → none_is_empty (meets_but (place_of shape f) (whole_of shape f) q.code_box.sets x.code_box.sets) ≡ t
+              → IsIn b (if t then from_of q.code_box.shape (meets_but (place_of shape f) (whole_of shape f) q.code_box.sets x.code_box.sets) (Cover (cover_parts q.origin ++ i ∷ [])) ∷ [] else []) → IsPart (suc many) b
           some false codes none = absurd none
           some true codes (inr none) = absurd none
           some true codes (inl same) = subst (λ (y : BoxFrom). IsPart (suc many) y) (sym same) (record {

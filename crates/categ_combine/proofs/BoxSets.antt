@@ -8,7 +8,7 @@ use Rattle.std.proofs.lemmas.Option.{slice_get-get_or}
 use Rattle.edit_line.specs.CodeFields.{TakesCodes, codes_of, place_of, whole_of}
 use Rattle.edit_line.specs.Combinations.{meets}
 use Rattle.edit_line.specs.Reductions.{IsIn}
-use Rattle.edit_line.specs.Sets.{has_codes}
+use Rattle.edit_line.specs.Sets.{none_is_empty}
 use Rattle.edit_line.specs.Shapes.{Domain, code_fields, whole_sets}
 use Rattle.edit_model.specs.Points.{has_code}
 use Rattle.edit_line.proofs.CombinationLaws.{length-meets}
@@ -26,8 +26,8 @@ use Rattle.categ_combine.proofs.ReducedBoxes.{in-reduce}
 module _ (P Q : List ℕ → Type 0) (place whole : ℕ) (meet : (p b : List ℕ) → P p → Q b → P (meets_but place whole p b)) (boxes : List (List ℕ)) (all : (b : List ℕ) → IsIn b boxes → Q b) where
   each-with_code : (covers : List (List ℕ)) (code : ℕ) → ((p : List ℕ) → IsIn p covers → P p) → (b : List ℕ) → IsIn b (with_code place whole boxes covers code) → P b
   each-with_code covers code first b there =
-      let (p, p_in, from) = in-flat_map-out (λ p. filter has_codes (map (λ c. meets_but place whole p c) (filter (takes_part place whole code) boxes))) b covers (in-reduce b _ there) in
-      let (was, some) = in-filter-out has_codes b (map (λ c. meets_but place whole p c) (filter (takes_part place whole code) boxes)) from in
+      let (p, p_in, from) = in-flat_map-out (λ p. filter none_is_empty (map (λ c. meets_but place whole p c) (filter (takes_part place whole code) boxes))) b covers (in-reduce b _ there) in
+      let (was, some) = in-filter-out none_is_empty b (map (λ c. meets_but place whole p c) (filter (takes_part place whole code) boxes)) from in
       let (c, c_in, same) = in-map-out (λ c. meets_but place whole p c) b (filter (takes_part place whole code) boxes) was in
       let (c_was, takes) = in-filter-out (takes_part place whole code) c boxes c_in in
       subst P (sym same) (meet p c (first p p_in) (all c c_was))

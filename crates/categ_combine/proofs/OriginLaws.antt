@@ -3,12 +3,12 @@ use Rattle.std.specs.List.{filter, flat_map, fold}
 use Rattle.std.proofs.lemmas.List.{map-append}
 use Rattle.edit_model.specs.Points.{has_code}
 use Rattle.edit_line.specs.Reductions.{IsIn}
-use Rattle.edit_line.specs.Sets.{has_codes}
+use Rattle.edit_line.specs.Sets.{none_is_empty}
 use Rattle.edit_line.specs.Shapes.{Domain}
 use Rattle.edit_line.proofs.Members.{all-in, in-all, in-either, in-flat_map-out}
 use Rattle.categ_combine.specs.BoxLists.{AreBoxesOver, reduce_boxes, sets_of}
 use Rattle.edit_line.specs.CodeFields.{codes_of, place_of, whole_of}
-use Rattle.categ_combine.specs.Covers.{covered, covered_from, covers_from, first_cover, from_of, is_whole_at, joined_for, meets_but, parts_of, row_of, takes_part, unchanged_one, with_code, with_code_from}
+use Rattle.categ_combine.specs.Covers.{covered, covered_from, covers_from, first_cover, from_of, is_whole_at, joined_for, meets_but, cover_parts, row_of, takes_part, unchanged_one, with_code, with_code_from}
 use Rattle.categ_combine.specs.Each.{each_from}
 use Rattle.categ_combine.specs.Fixing.{fixed, fixed_from, fixed_one}
 use Rattle.categ_combine.specs.declared.box_from.BoxFrom.{BoxFrom}
@@ -74,30 +74,30 @@ module _ (place whole : ℕ) where
       by false = refl
 
   sets-joined : (code : ℕ) (p : BoxFrom) (i : ℕ) (b : BoxFrom) → sets_of (joined_for place whole code p i b)
-      ≡ (if takes_part place whole code b.code_box.sets then (if has_codes (meets_but place whole p.code_box.sets b.code_box.sets) then meets_but place whole p.code_box.sets b.code_box.sets ∷ [] else []) else [])
-  sets-joined code p i b = by (takes_part place whole code b.code_box.sets) (has_codes (meets_but place whole p.code_box.sets b.code_box.sets))
+      ≡ (if takes_part place whole code b.code_box.sets then (if none_is_empty (meets_but place whole p.code_box.sets b.code_box.sets) then meets_but place whole p.code_box.sets b.code_box.sets ∷ [] else []) else [])
+  sets-joined code p i b = by (takes_part place whole code b.code_box.sets) (none_is_empty (meets_but place whole p.code_box.sets b.code_box.sets))
     where
       m : List ℕ
       m = meets_but place whole p.code_box.sets b.code_box.sets
 
-      by : (t u : Bool) → sets_of (if t then (if u then from_of p.code_box.shape m (Cover (parts_of p.origin ++ i ∷ [])) ∷ [] else []) else []) ≡ (if t then (if u then m ∷ [] else []) else [])
+      by : (t u : Bool) → sets_of (if t then (if u then from_of p.code_box.shape m (Cover (cover_parts p.origin ++ i ∷ [])) ∷ [] else []) else []) ≡ (if t then (if u then m ∷ [] else []) else [])
       by true true = refl
       by true false = refl
       by false u = refl
 
   sets-row : (code : ℕ) (boxes : List BoxFrom) (p : BoxFrom)
-      → sets_of (row_of place whole code boxes p) ≡ filter has_codes (map (λ b. meets_but place whole p.code_box.sets b) (filter (takes_part place whole code) (sets_of boxes)))
+      → sets_of (row_of place whole code boxes p) ≡ filter none_is_empty (map (λ b. meets_but place whole p.code_box.sets b) (filter (takes_part place whole code) (sets_of boxes)))
   sets-row code boxes p =
-      sets-each (joined_for place whole code p) (λ b. if takes_part place whole code b then (if has_codes (meets_but place whole p.code_box.sets b) then meets_but place whole p.code_box.sets b ∷ [] else []) else []) (sets-joined code p) 0 boxes
-      ∙ flat-both (takes_part place whole code) has_codes (λ b. meets_but place whole p.code_box.sets b) (sets_of boxes)
+      sets-each (joined_for place whole code p) (λ b. if takes_part place whole code b then (if none_is_empty (meets_but place whole p.code_box.sets b) then meets_but place whole p.code_box.sets b ∷ [] else []) else []) (sets-joined code p) 0 boxes
+      ∙ flat-both (takes_part place whole code) none_is_empty (λ b. meets_but place whole p.code_box.sets b) (sets_of boxes)
 
   sets-rows : (code : ℕ) (boxes covers : List BoxFrom)
-      → sets_of (flat_map (row_of place whole code boxes) covers) ≡ flat_map (λ p. filter has_codes (map (λ b. meets_but place whole p b) (filter (takes_part place whole code) (sets_of boxes)))) (sets_of covers)
+      → sets_of (flat_map (row_of place whole code boxes) covers) ≡ flat_map (λ p. filter none_is_empty (map (λ b. meets_but place whole p b) (filter (takes_part place whole code) (sets_of boxes)))) (sets_of covers)
   sets-rows code boxes [] = refl
   sets-rows code boxes (p ∷ covers) =
       map-append (λ (b : BoxFrom). b.code_box.sets) (row_of place whole code boxes p) (flat_map (row_of place whole code boxes) covers)
       ∙ ap (λ bs. bs ++ sets_of (flat_map (row_of place whole code boxes) covers)) (sets-row code boxes p)
-      ∙ ap (λ bs. filter has_codes (map (λ b. meets_but place whole p.code_box.sets b) (filter (takes_part place whole code) (sets_of boxes))) ++ bs) (sets-rows code boxes covers)
+      ∙ ap (λ bs. filter none_is_empty (map (λ b. meets_but place whole p.code_box.sets b) (filter (takes_part place whole code) (sets_of boxes))) ++ bs) (sets-rows code boxes covers)
 
   pub sets-with_code : (boxes covers : List BoxFrom) (code : ℕ) → sets_of (with_code_from place whole boxes covers code) ≡ with_code place whole (sets_of boxes) (sets_of covers) code
   sets-with_code boxes covers code = sets-reduce (flat_map (row_of place whole code boxes) covers) ∙ ap reduce_boxes (sets-rows code boxes covers)
@@ -123,14 +123,14 @@ module _ (place whole : ℕ) where
   in-row : (code : ℕ) (p : BoxFrom) (i : ℕ) (boxes : List BoxFrom) (b : BoxFrom) → IsIn b (each_from (joined_for place whole code p) i boxes) → b.code_box.shape ≡ p.code_box.shape
   in-row code p i [] b there = absurd there
   in-row code p i (a ∷ boxes) b there = elim (in-either b (joined_for place whole code p i a) (each_from (joined_for place whole code p) (suc i) boxes) there) [
-    | inl here ↦ by (takes_part place whole code a.code_box.sets) (has_codes (meets_but place whole p.code_box.sets a.code_box.sets)) here
+    | inl here ↦ by (takes_part place whole code a.code_box.sets) (none_is_empty (meets_but place whole p.code_box.sets a.code_box.sets)) here
     | inr later ↦ in-row code p (suc i) boxes b later
   ]
     where
       m : List ℕ
       m = meets_but place whole p.code_box.sets a.code_box.sets
 
-      by : (t u : Bool) → IsIn b (if t then (if u then from_of p.code_box.shape m (Cover (parts_of p.origin ++ i ∷ [])) ∷ [] else []) else []) → b.code_box.shape ≡ p.code_box.shape
+      by : (t u : Bool) → IsIn b (if t then (if u then from_of p.code_box.shape m (Cover (cover_parts p.origin ++ i ∷ [])) ∷ [] else []) else []) → b.code_box.shape ≡ p.code_box.shape
       by true true (inl e) = ap (λ (x : BoxFrom). x.code_box.shape) e
       by true true (inr none) = absurd none
       by true false none = absurd none

@@ -4,7 +4,7 @@ use Rattle.edit_line.specs.Reductions.{IsIn}
 use Rattle.edit_line.specs.Shapes.{Domain}
 use Rattle.edit_line.specs.declared.derived.Derived.{Derived}
 use Rattle.edit_line.specs.Sums.{fails_at}
-use Rattle.edit_line.specs.Sets.{all_inside}
+use Rattle.edit_line.specs.Sets.{are_subsets}
 use Rattle.edit_line.specs.CodeFields.{codes_of, place_of, whole_of}
 use Rattle.edit_line.proofs.Members.{all-in, in-all, in-either, in-taken}
 use Rattle.edit_model.specs.declared.value.Value.{Value}
@@ -79,7 +79,7 @@ module _ (shape : List Domain) where
   over-with_from : (kept : List BoxFrom) (new : BoxFrom) → AreBoxesOver shape kept → IsOver new → AreBoxesOver shape (with_from kept new)
   over-with_from kept new over is =
       all-in (λ (b : BoxFrom). b.code_box.shape ≡ shape) (with_from kept new) (λ b there.
-      elim (in-taken (list_any (λ (b : BoxFrom). all_inside new.code_box.sets b.code_box.sets) kept) (λ (b : BoxFrom). not (all_inside b.code_box.sets new.code_box.sets)) b new kept there) [
+      elim (in-taken (list_any (λ (b : BoxFrom). are_subsets new.code_box.sets b.code_box.sets) kept) (λ (b : BoxFrom). not (are_subsets b.code_box.sets new.code_box.sets)) b new kept there) [
         | inl early ↦ in-all (λ (x : BoxFrom). x.code_box.shape ≡ shape) b kept over early
         | inr last ↦ ap (λ (x : BoxFrom). x.code_box.shape) last ∙ is
       ])

@@ -4,7 +4,7 @@ use Rattle.std.proofs.lemmas.List.{map-append}
 use Rattle.std.proofs.lemmas.List.Folds.{list_any-append}
 use Rattle.std.proofs.lemmas.Map.Views.{any-filter_same}
 use Rattle.edit_line.specs.Reductions.{IsIn}
-use Rattle.edit_line.specs.Sets.{all_inside}
+use Rattle.edit_line.specs.Sets.{are_subsets}
 use Rattle.edit_line.proofs.Members.{in-any, in-reduced, in-taken}
 use Rattle.categ_combine.specs.BoxLists.{reduce_boxes, reduce_from, sets_of, with_box, with_from}
 use Rattle.categ_combine.specs.declared.box_from.BoxFrom.{BoxFrom}
@@ -24,18 +24,18 @@ any_in t x (y ∷ ys) (inr there) passes = ap (λ b. t y || b) (any_in t x ys th
 
 -- what passes inside a box passes of the box too
 abbrev pub IsMonotone : (List ℕ → Bool) → Type 0
-IsMonotone t = (b c : List ℕ) → all_inside b c ≡ true → t b ≡ true → t c ≡ true
+IsMonotone t = (b c : List ℕ) → are_subsets b c ≡ true → t b ≡ true → t c ≡ true
 
 module _ (t : List ℕ → Bool) (grows : IsMonotone t) where
   -- one box more
   pub any-with_box : (kept : List (List ℕ)) (box : List ℕ) → list_any t (with_box kept box) ≡ (list_any t kept || t box)
-  any-with_box kept box = by (list_any (λ b. all_inside box b) kept) refl (t box) refl
+  any-with_box kept box = by (list_any (λ b. are_subsets box b) kept) refl (t box) refl
     where
       left : List (List ℕ)
-      left = filter (λ b. not (all_inside b box)) kept
+      left = filter (λ b. not (are_subsets b box)) kept
 
-      by : (inside : Bool) → list_any (λ b. all_inside box b) kept ≡ inside → (passes : Bool) → t box ≡ passes → list_any t (if inside then kept else left ++ box ∷ []) ≡ (list_any t kept || passes)
-      by true e true f = let (b, there, lies) = in-any (λ b. all_inside box b) kept e in any_in t b kept there (grows box b lies f) ∙ sym (or_true (list_any t kept))
+      by : (inside : Bool) → list_any (λ b. are_subsets box b) kept ≡ inside → (passes : Bool) → t box ≡ passes → list_any t (if inside then kept else left ++ box ∷ []) ≡ (list_any t kept || passes)
+      by true e true f = let (b, there, lies) = in-any (λ b. are_subsets box b) kept e in any_in t b kept there (grows box b lies f) ∙ sym (or_true (list_any t kept))
         where
           or_true : (b : Bool) → (b || true) ≡ true
           or_true true = refl
@@ -47,12 +47,12 @@ module _ (t : List ℕ → Bool) (grows : IsMonotone t) where
           or_true true = refl
           or_true false = refl
       by false e false f =
-          list_any-append t left (box ∷ []) ∙ ap (λ b. list_any t left || (b || false)) f ∙ ap (λ b. b || false) (any-filter_same t (λ b. not (all_inside b box)) true stays kept)
+          list_any-append t left (box ∷ []) ∙ ap (λ b. list_any t left || (b || false)) f ∙ ap (λ b. b || false) (any-filter_same t (λ b. not (are_subsets b box)) true stays kept)
         where
-          stays : (b : List ℕ) → t b ≡ true → not (all_inside b box) ≡ true
-          stays b passes = by_test (all_inside b box) refl
+          stays : (b : List ℕ) → t b ≡ true → not (are_subsets b box) ≡ true
+          stays b passes = by_test (are_subsets b box) refl
             where
-              by_test : (i : Bool) → all_inside b box ≡ i → not i ≡ true
+              by_test : (i : Bool) → are_subsets b box ≡ i → not i ≡ true
               by_test true lies = absurd (cc (sym f ∙ grows b box lies passes))
               by_test false lies = refl
 
@@ -68,12 +68,12 @@ module _ (t : List ℕ → Bool) (grows : IsMonotone t) where
 -- ---- each reduced box is one of the boxes
 
 pub in-reduce : (box : List ℕ) (boxes : List (List ℕ)) → IsIn box (reduce_boxes boxes) → IsIn box boxes
-in-reduce box boxes h = in-reduced with_box (λ x new kept. in-taken (list_any (λ b. all_inside new b) kept) (λ b. not (all_inside b new)) x new kept) box boxes h
+in-reduce box boxes h = in-reduced with_box (λ x new kept. in-taken (list_any (λ b. are_subsets new b) kept) (λ b. not (are_subsets b new)) x new kept) box boxes h
 
 -- the same of boxes with their origins
 pub in-reduce_from : (box : BoxFrom) (boxes : List BoxFrom) → IsIn box (reduce_from boxes) → IsIn box boxes
 in-reduce_from box boxes h =
-    in-reduced with_from (λ x new kept. in-taken (list_any (λ (b : BoxFrom). all_inside new.code_box.sets b.code_box.sets) kept) (λ (b : BoxFrom). not (all_inside b.code_box.sets new.code_box.sets)) x new kept) box boxes h
+    in-reduced with_from (λ x new kept. in-taken (list_any (λ (b : BoxFrom). are_subsets new.code_box.sets b.code_box.sets) kept) (λ (b : BoxFrom). not (are_subsets b.code_box.sets new.code_box.sets)) x new kept) box boxes h
 
 -- ---- without the origins
 
@@ -87,14 +87,14 @@ sets-filter p (b ∷ boxes) = by (p b.code_box.sets) (sets-filter p boxes)
     by false e = e
 
 pub sets-with_from : (kept : List BoxFrom) (new : BoxFrom) → sets_of (with_from kept new) ≡ with_box (sets_of kept) new.code_box.sets
-sets-with_from kept new = by (list_any (λ (b : BoxFrom). all_inside new.code_box.sets b.code_box.sets) kept) ∙ ap (λ t. if t then sets_of kept else filter (λ b. not (all_inside b new.code_box.sets)) (sets_of kept) ++ new.code_box.sets ∷ []) (sym (any-map (λ b. all_inside new.code_box.sets b) (λ (b : BoxFrom). b.code_box.sets) kept))
+sets-with_from kept new = by (list_any (λ (b : BoxFrom). are_subsets new.code_box.sets b.code_box.sets) kept) ∙ ap (λ t. if t then sets_of kept else filter (λ b. not (are_subsets b new.code_box.sets)) (sets_of kept) ++ new.code_box.sets ∷ []) (sym (any-map (λ b. are_subsets new.code_box.sets b) (λ (b : BoxFrom). b.code_box.sets) kept))
   where
-    by : (t : Bool) → sets_of (if t then kept else filter (λ (b : BoxFrom). not (all_inside b.code_box.sets new.code_box.sets)) kept ++ new ∷ [])
-        ≡ (if t then sets_of kept else filter (λ b. not (all_inside b new.code_box.sets)) (sets_of kept) ++ new.code_box.sets ∷ [])
+    by : (t : Bool) → sets_of (if t then kept else filter (λ (b : BoxFrom). not (are_subsets b.code_box.sets new.code_box.sets)) kept ++ new ∷ [])
+        ≡ (if t then sets_of kept else filter (λ b. not (are_subsets b new.code_box.sets)) (sets_of kept) ++ new.code_box.sets ∷ [])
     by true = refl
     by false =
-        map-append (λ (b : BoxFrom). b.code_box.sets) (filter (λ (b : BoxFrom). not (all_inside b.code_box.sets new.code_box.sets)) kept) (new ∷ [])
-        ∙ ap (λ bs. bs ++ new.code_box.sets ∷ []) (sets-filter (λ b. not (all_inside b new.code_box.sets)) kept)
+        map-append (λ (b : BoxFrom). b.code_box.sets) (filter (λ (b : BoxFrom). not (are_subsets b.code_box.sets new.code_box.sets)) kept) (new ∷ [])
+        ∙ ap (λ bs. bs ++ new.code_box.sets ∷ []) (sets-filter (λ b. not (are_subsets b new.code_box.sets)) kept)
 
 sets-fold : (kept boxes : List BoxFrom) → sets_of (fold with_from kept boxes) ≡ fold with_box (sets_of kept) (sets_of boxes)
 sets-fold kept [] = refl

@@ -1,6 +1,6 @@
 use Rattle.std.proofs.Common.{◌≡◌, ℕ, zero, suc, ◌-◌, ◌<◌, ◌^◌, true, List, [], ◌∷◌, length, map, slice_index_or, slice_set, pow-suc, sym, ap, ◌∙◌, subst, arith}
 use Rattle.std.proofs.lemmas.Nat.{pow_pos}
-use Rattle.edit_line.specs.Sets.{AreSets, AreWithin, has_codes}
+use Rattle.edit_line.specs.Sets.{AreSets, AreWithin, none_is_empty}
 use Rattle.edit_line.specs.Shapes.{Domain, domain_with, whole_sets}
 use Rattle.edit_line.proofs.SetLaws.{AreSets-length, AreSets-within}
 use Rattle.edit_line.proofs.CombinationLaws.{length-meets}
@@ -28,7 +28,7 @@ made-whole shape own sets place whole is over are =
 
 -- what two boxes have in common, made whole there
 pub common-sets : (shape own other : List Domain) (first second : List ℕ) (place whole : ℕ) → IsSpot shape place whole → own ≡ shape → other ≡ shape → AreSets first (whole_sets own) → AreSets second (whole_sets other)
-    → has_codes (slice_set (meets first second) place whole) ≡ true → AreSets (slice_set (meets first second) place whole) (whole_sets own)
+    → none_is_empty (slice_set (meets first second) place whole) ≡ true → AreSets (slice_set (meets first second) place whole) (whole_sets own)
 common-sets shape own other first second place whole is over over' a b some =
     AreSets-within (slice_set (meets first second) place whole) (whole_sets own) some (
     subst (λ (w : ℕ). AreWithin (slice_set (meets first second) place w) (whole_sets own)) (sym (own-whole shape own place whole is over)) (

@@ -1,7 +1,7 @@
 use Rattle.std.specs.Prelude.{◌≡◌, ◌<◌, ℕ, not, Bool, List, [], ◌∷◌, ◌++◌, All, IsTrue, if◌then◌else◌, map}
 use Rattle.std.specs.List.{filter, fold, list_any}
 use Rattle.edit_model.specs.Points.{Point}
-use Rattle.edit_line.specs.Sets.{all_inside, is_inside}
+use Rattle.edit_line.specs.Sets.{are_subsets, are_codes_in}
 use Rattle.edit_line.specs.Shapes.{Domain, codes_at}
 use Rattle.edit_line.specs.CodeFields.{TakesCodes, size_of}
 use Rattle.categ_combine.specs.declared.box_from.BoxFrom.{BoxFrom}
@@ -10,7 +10,7 @@ use Rattle.categ_combine.specs.declared.box_from.BoxFrom.{BoxFrom}
 
 -- whether the codes avoid the boxes: no box has them all
 abbrev pub avoid : List (List ℕ) → List ℕ → Bool
-avoid boxes codes = not (list_any (λ b. is_inside b codes) boxes)
+avoid boxes codes = not (list_any (λ b. are_codes_in b codes) boxes)
 
 -- the point's codes avoid the boxes
 abbrev pub Avoids : List Domain → List (List ℕ) → Point → Type 0
@@ -19,9 +19,9 @@ Avoids shape boxes p = IsTrue (avoid boxes (codes_at shape p))
 -- the kept boxes with one more, unless it lies inside one of them; those that lie inside it are removed
 abbrev pub with_box : List (List ℕ) → List ℕ → List (List ℕ)
 with_box kept box =
-    if list_any (λ b. all_inside box b) kept
+    if list_any (λ b. are_subsets box b) kept
     then kept
-    else filter (λ b. not (all_inside b box)) kept ++ box ∷ []
+    else filter (λ b. not (are_subsets b box)) kept ++ box ∷ []
 
 -- the boxes without those that lie inside another
 abbrev pub reduce_boxes : List (List ℕ) → List (List ℕ)
@@ -30,9 +30,9 @@ reduce_boxes boxes = fold with_box [] boxes
 -- the same of boxes with their origins
 abbrev pub with_from : List BoxFrom → BoxFrom → List BoxFrom
 with_from kept new =
-    if list_any (λ (b : BoxFrom). all_inside new.code_box.sets b.code_box.sets) kept
+    if list_any (λ (b : BoxFrom). are_subsets new.code_box.sets b.code_box.sets) kept
     then kept
-    else filter (λ (b : BoxFrom). not (all_inside b.code_box.sets new.code_box.sets)) kept ++ new ∷ []
+    else filter (λ (b : BoxFrom). not (are_subsets b.code_box.sets new.code_box.sets)) kept ++ new ∷ []
 
 -- the boxes, with their origins, without those that lie inside another
 abbrev pub reduce_from : List BoxFrom → List BoxFrom

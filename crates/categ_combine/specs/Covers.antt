@@ -2,7 +2,7 @@ use Rattle.std.specs.Prelude.{ℕ, ◌+◌, ◌*◌, ◌&&◌, not, Bool, List, 
 use Rattle.std.specs.List.{filter, flat_map, fold}
 use Rattle.edit_model.specs.Points.{has_code}
 use Rattle.edit_line.specs.Boxes.{box_of}
-use Rattle.edit_line.specs.Sets.{has_codes}
+use Rattle.edit_line.specs.Sets.{none_is_empty}
 use Rattle.edit_line.specs.Shapes.{Domain, whole_sets}
 use Rattle.categ_combine.specs.BoxLists.{reduce_boxes, reduce_from}
 use Rattle.edit_line.specs.CodeFields.{codes_of, place_of, whole_of}
@@ -27,7 +27,7 @@ takes_part place whole code box = not (is_whole_at place whole box) && has_code 
 -- the covers of the codes so far and of one more: their intersections with the boxes that have it, as far as they are not empty
 abbrev pub with_code : ℕ → ℕ → List (List ℕ) → List (List ℕ) → ℕ → List (List ℕ)
 with_code place whole boxes covers code =
-    reduce_boxes (flat_map (λ p. filter has_codes (map (λ b. meets_but place whole p b) (filter (takes_part place whole code) boxes))) covers)
+    reduce_boxes (flat_map (λ p. filter none_is_empty (map (λ b. meets_but place whole p b) (filter (takes_part place whole code) boxes))) covers)
 
 -- the covers of all codes: of no code yet there is the box of all codes
 abbrev pub covers_of : List Domain → List (List ℕ) → ℕ → List ℕ → List (List ℕ)
@@ -55,11 +55,11 @@ abbrev pub from_of : List Domain → List ℕ → BoxOrigin → BoxFrom
 from_of shape sets origin = record { code_box = box_of shape sets; origin = origin }
 
 -- the parts of a cover; another box has none
-abbrev pub parts_of : BoxOrigin → List ℕ
-parts_of (Cover parts) = parts
-parts_of (Failing line) = []
-parts_of (Unchanged place) = []
-parts_of (Fixed place) = []
+abbrev pub cover_parts : BoxOrigin → List ℕ
+cover_parts (Cover parts) = parts
+cover_parts (Failing line) = []
+cover_parts (Unchanged place) = []
+cover_parts (Fixed place) = []
 
 -- the box at a place, unchanged, where it is whole at the field
 abbrev pub unchanged_one : ℕ → ℕ → ℕ → BoxFrom → List BoxFrom
@@ -70,7 +70,7 @@ unchanged_one place whole i b =
 abbrev pub joined : ℕ → ℕ → BoxFrom → ℕ → BoxFrom → List BoxFrom
 joined place whole p i b =
     let sets = meets_but place whole p.code_box.sets b.code_box.sets in
-    if has_codes sets then from_of p.code_box.shape sets (Cover (parts_of p.origin ++ i ∷ [])) ∷ [] else []
+    if none_is_empty sets then from_of p.code_box.shape sets (Cover (cover_parts p.origin ++ i ∷ [])) ∷ [] else []
 
 -- the cover with the box at a place, where that takes part for the code
 abbrev pub joined_for : ℕ → ℕ → ℕ → BoxFrom → ℕ → BoxFrom → List BoxFrom

@@ -4,7 +4,7 @@ use Rattle.edit_model.specs.declared.value.Value.{Value}
 use Rattle.edit_line.specs.Boxes.{BoxParts, box_of}
 use Rattle.edit_line.specs.CodeFields.{place_of, size_of, whole_of}
 use Rattle.edit_line.specs.Combinations.{meets}
-use Rattle.edit_line.specs.Sets.{has_codes}
+use Rattle.edit_line.specs.Sets.{none_is_empty}
 use Rattle.edit_line.specs.Shapes.{Domain, whole_sets}
 use Rattle.edit_line.specs.Sums.{fails_at}
 use Rattle.edit_line.specs.declared.derived.Derived.{Derived}
@@ -50,7 +50,7 @@ pub record IsCover (shape : List Domain) (boxes : List BoxFrom) (f : ℕ) (parts
   pub common : List ℕ
   pub common_is : HaveInCommon boxes (place_of shape f) 0 parts (whole_sets shape) common
   pub box_is : box ≡ whole_box shape f common
-  pub codes : has_codes box.sets ≡ true
+  pub codes : none_is_empty box.sets ≡ true
 
 -- the box is the one at the place, whole at the field, or the cover of the boxes at the places
 abbrev pub ComesFromCover : List Domain → List BoxFrom → ℕ → BoxParts → BoxOrigin → Type 0

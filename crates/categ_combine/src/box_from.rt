@@ -1,6 +1,6 @@
 ghost use Rattle.std.specs.Prelude.{◌≡◌, IfOk};
 ghost use Rattle.edit_line.specs.Sets.{AreSets};
-ghost use Rattle.edit_line.specs.Shapes.{domains_of, whole_sets};
+ghost use Rattle.edit_line.specs.Shapes.{domains, whole_sets};
 
 use edit_line::{CodeBox, Shape};
 use foundation::{OutOfMemory, Sequence};
@@ -55,7 +55,7 @@ impl BoxFrom {
 
     /// The shape of the survey. No memory.
     pub fn shape(&self) -> Shape
-        ensures { domains_of result.count result.codes ≡ self.now.code_box.shape }
+        ensures { domains result ≡ self.now.code_box.shape }
     {
         self.code_box.shape()
     }

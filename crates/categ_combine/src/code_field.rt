@@ -1,7 +1,7 @@
 ghost use Rattle.std.specs.Prelude.{◌≡◌, ◌≤◌, IfOk, length, nat_lt, slice_index_or, take};
 ghost use Rattle.std.specs.List.{filter};
 ghost use Rattle.edit_line.specs.Boxes.{IsBox};
-ghost use Rattle.edit_line.specs.Shapes.{domains_of};
+ghost use Rattle.edit_line.specs.Shapes.{domains};
 ghost use Rattle.edit_line.specs.CodeFields.{TakesCodes, place_of, whole_of};
 
 use crate::box_from::BoxFrom;
@@ -12,9 +12,9 @@ use std::alloc::Global;
 
 /// Where the field stands among the categorical ones.
 pub(crate) fn spot_of(alloc: Global, shape: Shape, field: u32) -> Result<Spot, OutOfMemory>
-    requires { TakesCodes (domains_of shape.count shape.codes) field }
-    ensures place { IfOk result (λ spot. spot.place ≡ place_of (domains_of shape.count shape.codes) field) }
-    ensures whole { IfOk result (λ spot. spot.whole ≡ whole_of (domains_of shape.count shape.codes) field) }
+    requires { TakesCodes (domains shape) field }
+    ensures place { IfOk result (λ spot. spot.place ≡ place_of (domains shape) field) }
+    ensures whole { IfOk result (λ spot. spot.whole ≡ whole_of (domains shape) field) }
     ensures shape { IfOk result (λ spot. spot.shape ≡ shape) }
 {
     let place = place_of(&shape, field);
@@ -28,8 +28,8 @@ pub(crate) fn spot_of(alloc: Global, shape: Shape, field: u32) -> Result<Spot, O
 
 // The field's place among the categorical ones.
 fn place_of(shape: &Shape, field: u32) -> usize
-    requires { TakesCodes (domains_of shape.now.count shape.now.codes) field }
-    ensures { result ≡ place_of (domains_of shape.now.count shape.now.codes) field }
+    requires { TakesCodes (domains shape.now) field }
+    ensures { result ≡ place_of (domains shape.now) field }
 {
     code_fields_before(shape.code_counts(), field as usize)
 }
@@ -45,7 +45,7 @@ fn code_fields_before(counts: &[u8], field: usize) -> usize
 
 /// The box's set at the field.
 pub(crate) fn set_at(b: &BoxFrom, spot: &Spot) -> u64
-    requires { b.now.code_box.shape ≡ domains_of spot.now.shape.count spot.now.shape.codes }
+    requires { b.now.code_box.shape ≡ domains spot.now.shape }
     ensures set { result ≡ slice_index_or b.now.code_box.sets spot.now.place 0 }
     ensures fit { IsBox b.now.code_box }
 {

@@ -1,10 +1,10 @@
 //! The covers of a field's codes: intersections of one box for each code, made whole at the field.
 ghost use Rattle.std.specs.Prelude.{◌≡◌, ◌++◌, [], ◌∷◌, true, IfOk, OnOk};
 ghost use Rattle.std.specs.List.{fold};
-ghost use Rattle.edit_line.specs.Sets.{AreSets, has_codes};
-ghost use Rattle.edit_line.specs.Shapes.{domains_of, whole_sets};
+ghost use Rattle.edit_line.specs.Sets.{AreSets, none_is_empty};
+ghost use Rattle.edit_line.specs.Shapes.{domains, whole_sets};
 ghost use Rattle.categ_combine.specs.BoxLists.{AreBoxesOver, with_from};
-ghost use Rattle.categ_combine.specs.Covers.{from_of, joined_for, meets_but, parts_of, row_of, takes_part, with_code_from};
+ghost use Rattle.categ_combine.specs.Covers.{from_of, joined_for, meets_but, cover_parts, row_of, takes_part, with_code_from};
 
 use crate::box_from::{BoxFrom, BoxOrigin};
 use crate::code_field::set_at;
@@ -23,10 +23,10 @@ pub(crate) fn with_code(
     spot: &Spot,
     code: u8,
 ) -> Result<Vec<BoxFrom>, OutOfMemory>
-    requires boxes { AreBoxesOver (domains_of spot.now.shape.count spot.now.shape.codes) boxes.now }
-    requires covers { AreBoxesOver (domains_of spot.now.shape.count spot.now.shape.codes) covers.now }
+    requires boxes { AreBoxesOver (domains spot.now.shape) boxes.now }
+    requires covers { AreBoxesOver (domains spot.now.shape) covers.now }
     ensures next { IfOk result (λ next. next.items ≡ with_code_from spot.now.place spot.now.whole boxes.now covers.now code) }
-    ensures over { IfOk result (λ next. AreBoxesOver (domains_of spot.now.shape.count spot.now.shape.codes) next.items) }
+    ensures over { IfOk result (λ next. AreBoxesOver (domains spot.now.shape) next.items) }
 {
     let mut next = Vec::new(alloc);
     let mut sets = Vec::new(alloc);
@@ -38,7 +38,7 @@ pub(crate) fn with_code(
 
 /// Whether the box takes part for the code: it is not whole at the field, and has the code there.
 pub(crate) fn takes_part(b: &BoxFrom, spot: &Spot, code: u8) -> bool
-    requires { b.now.code_box.shape ≡ domains_of spot.now.shape.count spot.now.shape.codes }
+    requires { b.now.code_box.shape ≡ domains spot.now.shape }
     ensures { result ≡ takes_part spot.now.place spot.now.whole code b.now.code_box.sets }
 {
     let set = set_at(b, spot);
@@ -56,8 +56,8 @@ fn take_row(
     spot: &Spot,
     code: u8,
 ) -> Result<(), OutOfMemory>
-    requires boxes { AreBoxesOver (domains_of spot.now.shape.count spot.now.shape.codes) boxes.now }
-    requires cover { cover.now.code_box.shape ≡ domains_of spot.now.shape.count spot.now.shape.codes }
+    requires boxes { AreBoxesOver (domains spot.now.shape) boxes.now }
+    requires cover { cover.now.code_box.shape ≡ domains spot.now.shape }
     ensures { OnOk result (next.new.items ≡ fold with_from next.old.items (row_of spot.now.place spot.now.whole code boxes.now cover.now)) }
 {
     for (i, b) in boxes.iter().enumerate() {
@@ -78,8 +78,8 @@ fn take_joined(
     place: u64,
     b: &BoxFrom,
 ) -> Result<(), OutOfMemory>
-    requires cover { cover.now.code_box.shape ≡ domains_of spot.now.shape.count spot.now.shape.codes }
-    requires other { b.now.code_box.shape ≡ domains_of spot.now.shape.count spot.now.shape.codes }
+    requires cover { cover.now.code_box.shape ≡ domains spot.now.shape }
+    requires other { b.now.code_box.shape ≡ domains spot.now.shape }
     ensures { OnOk result (next.new.items ≡ fold with_from next.old.items (joined_for spot.now.place spot.now.whole code cover.now place b.now)) }
 {
     if !takes_part(b, spot, code) {
@@ -100,10 +100,10 @@ fn write_joined(
     spot: &Spot,
     b: &BoxFrom,
 ) -> Result<(), OutOfMemory>
-    requires cover { cover.now.code_box.shape ≡ domains_of spot.now.shape.count spot.now.shape.codes }
-    requires other { b.now.code_box.shape ≡ domains_of spot.now.shape.count spot.now.shape.codes }
+    requires cover { cover.now.code_box.shape ≡ domains spot.now.shape }
+    requires other { b.now.code_box.shape ≡ domains spot.now.shape }
     ensures joined { OnOk result (sets.new.items ≡ meets_but spot.now.place spot.now.whole cover.now.code_box.sets b.now.code_box.sets) }
-    ensures fit { OnOk result (has_codes sets.new.items ≡ true → AreSets sets.new.items (whole_sets cover.now.code_box.shape)) }
+    ensures fit { OnOk result (none_is_empty sets.new.items ≡ true → AreSets sets.new.items (whole_sets cover.now.code_box.shape)) }
 {
     sets.clear();
     sets.extend_from_slice(cover.sets())?;
@@ -121,7 +121,7 @@ fn take_sets(
     place: u64,
 ) -> Result<(), OutOfMemory>
     requires { AreSets sets.now (whole_sets cover.now.code_box.shape) }
-    ensures { OnOk result (next.new.items ≡ with_from next.old.items (from_of cover.now.code_box.shape sets.now (BoxOrigin.Cover (parts_of cover.now.origin ++ place ∷ [])))) }
+    ensures { OnOk result (next.new.items ≡ with_from next.old.items (from_of cover.now.code_box.shape sets.now (BoxOrigin.Cover (cover_parts cover.now.origin ++ place ∷ [])))) }
 {
     if lie_inside(sets, next) {
         return Ok(());
@@ -134,7 +134,7 @@ fn take_sets(
 
 // The parts of a cover; another box has none.
 fn parts_of(origin: &BoxOrigin) -> &[u64]
-    ensures { result.now ≡ parts_of origin.now }
+    ensures { result.now ≡ cover_parts origin.now }
 {
     match origin {
         BoxOrigin::Cover(parts) => parts.as_slice(),

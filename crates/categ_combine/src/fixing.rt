@@ -2,7 +2,7 @@ ghost use Rattle.std.specs.Prelude.{◌≡◌, ◌<◌, ◌↔◌, All, IfOk, Li
 ghost use Rattle.std.specs.List.{fold};
 ghost use Rattle.edit_model.specs.Points.{Point};
 ghost use Rattle.edit_line.specs.Boxes.{IsBox, box_of};
-ghost use Rattle.edit_line.specs.Shapes.{Domain, HasCodes, domains_of};
+ghost use Rattle.edit_line.specs.Shapes.{Domain, HasCodes, domains};
 ghost use Rattle.categ_combine.specs.BoxLists.{AreBoxesOver, Avoids, HaveCode, reduce_from, sets_of, with_from};
 ghost use Rattle.categ_combine.specs.inner.FitBoxes.{AreBoxes};
 ghost use Rattle.edit_line.specs.CodeFields.{size_of, with_code_at};
@@ -59,7 +59,7 @@ fn fix_at(
     spot: &Spot,
     code: u8,
 ) -> Result<Vec<BoxFrom>, OutOfMemory>
-    requires { AreBoxesOver (domains_of spot.now.shape.count spot.now.shape.codes) boxes.now }
+    requires { AreBoxesOver (domains spot.now.shape) boxes.now }
     ensures left { IfOk result (λ left. left.items ≡ reduce_from (each_from (fixed_one spot.now.place spot.now.whole code) 0 boxes.now)) }
     ensures fit { OnOk result (AreBoxes boxes.now) }
 {
@@ -79,7 +79,7 @@ fn take_fixed(
     i: u64,
     b: &BoxFrom,
 ) -> Result<(), OutOfMemory>
-    requires { b.now.code_box.shape ≡ domains_of spot.now.shape.count spot.now.shape.codes }
+    requires { b.now.code_box.shape ≡ domains spot.now.shape }
     ensures kept { OnOk result (kept.new.items ≡ fold with_from kept.old.items (fixed_one spot.now.place spot.now.whole code i b.now)) }
     ensures fit { IsBox b.now.code_box }
 {
@@ -98,7 +98,7 @@ fn take_fixed(
 
 // The box with all codes of the field.
 fn made_whole(alloc: Global, spot: &Spot, b: &BoxFrom) -> Result<CodeBox, OutOfMemory>
-    requires { b.now.code_box.shape ≡ domains_of spot.now.shape.count spot.now.shape.codes }
+    requires { b.now.code_box.shape ≡ domains spot.now.shape }
     ensures { IfOk result (λ whole. whole ≡ box_of b.now.code_box.shape (slice_set b.now.code_box.sets spot.now.place spot.now.whole)) }
 {
     let mut sets = Vec::from_slice(alloc, b.sets())?;

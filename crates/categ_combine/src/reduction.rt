@@ -1,6 +1,6 @@
 ghost use Rattle.std.specs.Prelude.{◌≡◌, ◌++◌, [], ◌∷◌, not, OnOk};
 ghost use Rattle.std.specs.List.{filter, list_any};
-ghost use Rattle.edit_line.specs.Sets.{all_inside};
+ghost use Rattle.edit_line.specs.Sets.{are_subsets};
 ghost use Rattle.categ_combine.specs.BoxLists.{with_from};
 
 use crate::box_from::BoxFrom;
@@ -19,14 +19,14 @@ pub(crate) fn take_in(kept: &mut Vec<BoxFrom>, new: BoxFrom) -> Result<(), OutOf
 
 /// Whether the sets lie inside those of a kept box. It looks no further than the first in which they do.
 pub(crate) fn lie_inside(sets: &[u64], kept: &[BoxFrom]) -> bool
-    ensures { result ≡ list_any (λ b. all_inside sets.now b.code_box.sets) kept.now }
+    ensures { result ≡ list_any (λ b. are_subsets sets.now b.code_box.sets) kept.now }
 {
     kept.iter().any(|b| are_inside(sets, b.sets()))
 }
 
 /// Appends the box without those that lie inside it.
 pub(crate) fn put_in(kept: &mut Vec<BoxFrom>, new: BoxFrom) -> Result<(), OutOfMemory>
-    ensures { OnOk result (kept.new.items ≡ filter (λ b. not (all_inside b.code_box.sets new.code_box.sets)) kept.old.items ++ new ∷ []) }
+    ensures { OnOk result (kept.new.items ≡ filter (λ b. not (are_subsets b.code_box.sets new.code_box.sets)) kept.old.items ++ new ∷ []) }
 {
     remove_inside(kept, &new);
     kept.push(new)?;
@@ -35,7 +35,7 @@ pub(crate) fn put_in(kept: &mut Vec<BoxFrom>, new: BoxFrom) -> Result<(), OutOfM
 
 // Removes the boxes that lie inside the box.
 fn remove_inside(kept: &mut Vec<BoxFrom>, new: &BoxFrom)
-    ensures { kept.new.items ≡ filter (λ b. not (all_inside b.code_box.sets new.now.code_box.sets)) kept.old.items }
+    ensures { kept.new.items ≡ filter (λ b. not (are_subsets b.code_box.sets new.now.code_box.sets)) kept.old.items }
 {
     kept.retain(|b| !are_inside(b.sets(), new.sets()));
 }

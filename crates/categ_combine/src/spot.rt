@@ -1,4 +1,4 @@
-ghost use Rattle.edit_line.specs.Shapes.{domains_of};
+ghost use Rattle.edit_line.specs.Shapes.{domains};
 ghost use Rattle.categ_combine.specs.inner.Spots.{IsSpot};
 
 use edit_line::Shape;
@@ -9,5 +9,5 @@ pub(crate) struct Spot {
     pub(crate) shape: Shape,
     pub(crate) place: usize,
     pub(crate) whole: u64,
-    pub ghost stands: { IsSpot (domains_of shape.count shape.codes) place whole },
+    pub ghost stands: { IsSpot (domains shape) place whole },
 }

@@ -2,7 +2,7 @@ ghost use Rattle.std.specs.Prelude.{◌≡◌, ◌<◌, ◌≤◌, ◌*◌, ◌�
 ghost use Rattle.std.specs.List.{filter, fold};
 ghost use Rattle.edit_model.specs.Points.{Point};
 ghost use Rattle.edit_line.specs.Boxes.{IsBox};
-ghost use Rattle.edit_line.specs.Shapes.{Domain, HasCodes, domains_of, whole_sets};
+ghost use Rattle.edit_line.specs.Shapes.{Domain, HasCodes, domains, whole_sets};
 ghost use Rattle.categ_combine.specs.BoxLists.{AreBoxesOver, Avoids, HaveCodeField, reduce_from, sets_of, with_from};
 ghost use Rattle.categ_combine.specs.inner.FitBoxes.{AreBoxes};
 ghost use Rattle.edit_line.specs.CodeFields.{TakesCodes, codes_up, size_of, with_code_at};
@@ -76,12 +76,12 @@ fn step_over(
     field: u32,
     most: u64,
 ) -> Result<Covered, OutOfMemory>
-    requires over { AreBoxesOver (domains_of shape.count shape.codes) boxes.now }
-    requires field { TakesCodes (domains_of shape.count shape.codes) field }
+    requires over { AreBoxesOver (domains shape) boxes.now }
+    requires field { TakesCodes (domains shape) field }
     ensures exact { IfOk result (λ told. IsDone told (λ left pairs.
-        (left ≡ covered_from (domains_of shape.count shape.codes) boxes.now field)
-        × (pairs ≡ cover_count (domains_of shape.count shape.codes) (sets_of boxes.now) field))) }
-    ensures passed { IfOk result (λ told. IsPassed told ↔ (most < cover_count (domains_of shape.count shape.codes) (sets_of boxes.now) field)) }
+        (left ≡ covered_from (domains shape) boxes.now field)
+        × (pairs ≡ cover_count (domains shape) (sets_of boxes.now) field))) }
+    ensures passed { IfOk result (λ told. IsPassed told ↔ (most < cover_count (domains shape) (sets_of boxes.now) field)) }
     ensures fit { IfOk result (λ told. IsDone told (λ left pairs. AreBoxes boxes.now)) }
 {
     let spot = spot_of(alloc, shape, field)?;
@@ -106,13 +106,13 @@ fn covers_of(
     size: u8,
     most: u64,
 ) -> Result<Option<Covers>, OutOfMemory>
-    requires { AreBoxesOver (domains_of spot.now.shape.count spot.now.shape.codes) boxes.now }
+    requires { AreBoxesOver (domains spot.now.shape) boxes.now }
     ensures covers { IfOk result (λ found. IfSome found (λ covers. covers.boxes.items
-        ≡ fold (λ covers code. with_code_from spot.now.place spot.now.whole boxes.now covers code) (first_cover (domains_of spot.now.shape.count spot.now.shape.codes) ∷ []) (codes_up 0 size))) }
+        ≡ fold (λ covers code. with_code_from spot.now.place spot.now.whole boxes.now covers code) (first_cover (domains spot.now.shape) ∷ []) (codes_up 0 size))) }
     ensures pairs { IfOk result (λ found. IfSome found (λ covers. (covers.pairs ≤ most) × (covers.pairs
-        ≡ code_pairs spot.now.place spot.now.whole (sets_of boxes.now) (whole_sets (domains_of spot.now.shape.count spot.now.shape.codes) ∷ []) (codes_up 0 size)))) }
+        ≡ code_pairs spot.now.place spot.now.whole (sets_of boxes.now) (whole_sets (domains spot.now.shape) ∷ []) (codes_up 0 size)))) }
     ensures passed { IfOk result (λ found. IfNone found (most
-        < code_pairs spot.now.place spot.now.whole (sets_of boxes.now) (whole_sets (domains_of spot.now.shape.count spot.now.shape.codes) ∷ []) (codes_up 0 size))) }
+        < code_pairs spot.now.place spot.now.whole (sets_of boxes.now) (whole_sets (domains spot.now.shape) ∷ []) (codes_up 0 size))) }
 {
     let mut covers = Vec::new(alloc);
     covers.push(first_cover(alloc, spot)?)?;
@@ -133,7 +133,7 @@ fn covers_of(
 
 // The box of all codes, the cover of no code.
 fn first_cover(alloc: Global, spot: &Spot) -> Result<BoxFrom, OutOfMemory>
-    ensures { IfOk result (λ cover. cover ≡ first_cover (domains_of spot.now.shape.count spot.now.shape.codes)) }
+    ensures { IfOk result (λ cover. cover ≡ first_cover (domains spot.now.shape)) }
 {
     let sets = spot.shape.whole_sets(alloc)?;
     Ok(BoxFrom {
@@ -144,7 +144,7 @@ fn first_cover(alloc: Global, spot: &Spot) -> Result<BoxFrom, OutOfMemory>
 
 // The pairs of so many covers and the boxes that take part for the code.
 fn pairs_for(boxes: &[BoxFrom], covers: usize, spot: &Spot, code: u8) -> u128
-    requires { AreBoxesOver (domains_of spot.now.shape.count spot.now.shape.codes) boxes.now }
+    requires { AreBoxesOver (domains spot.now.shape) boxes.now }
     ensures { result ≡ covers * length (filter (λ b. takes_part spot.now.place spot.now.whole code b.code_box.sets) boxes.now) }
 {
     let parts = parts_for(boxes, spot, code);
@@ -153,7 +153,7 @@ fn pairs_for(boxes: &[BoxFrom], covers: usize, spot: &Spot, code: u8) -> u128
 
 // How many of the boxes take part for the code.
 fn parts_for(boxes: &[BoxFrom], spot: &Spot, code: u8) -> usize
-    requires { AreBoxesOver (domains_of spot.now.shape.count spot.now.shape.codes) boxes.now }
+    requires { AreBoxesOver (domains spot.now.shape) boxes.now }
     ensures { result ≡ length (filter (λ b. takes_part spot.now.place spot.now.whole code b.code_box.sets) boxes.now) }
 {
     boxes.iter().filter(|b| takes_part(b, spot, code)).count()
@@ -161,7 +161,7 @@ fn parts_for(boxes: &[BoxFrom], spot: &Spot, code: u8) -> usize
 
 // The boxes that are whole at the field, without those that lie inside another.
 fn unchanged(alloc: Global, boxes: &[BoxFrom], spot: &Spot) -> Result<Vec<BoxFrom>, OutOfMemory>
-    requires { AreBoxesOver (domains_of spot.now.shape.count spot.now.shape.codes) boxes.now }
+    requires { AreBoxesOver (domains spot.now.shape) boxes.now }
     ensures kept { IfOk result (λ kept. kept.items ≡ reduce_from (each_from (unchanged_one spot.now.place spot.now.whole) 0 boxes.now)) }
     ensures fit { OnOk result (AreBoxes boxes.now) }
 {
@@ -180,7 +180,7 @@ fn take_unchanged(
     i: u64,
     b: &BoxFrom,
 ) -> Result<(), OutOfMemory>
-    requires { b.now.code_box.shape ≡ domains_of spot.now.shape.count spot.now.shape.codes }
+    requires { b.now.code_box.shape ≡ domains spot.now.shape }
     ensures kept { OnOk result (kept.new.items ≡ fold with_from kept.old.items (unchanged_one spot.now.place spot.now.whole i b.now)) }
     ensures fit { IsBox b.now.code_box }
 {

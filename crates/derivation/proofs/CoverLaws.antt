@@ -4,7 +4,7 @@ use Rattle.std.proofs.lemmas.Bool.Decides.{Decides-eqb}
 use Rattle.edit_model.specs.Points.{Point, has_code}
 use Rattle.edit_line.specs.CodeFields.{place_of, size_from, size_of}
 use Rattle.edit_line.specs.Combinations.{meets}
-use Rattle.edit_line.specs.Sets.{is_inside}
+use Rattle.edit_line.specs.Sets.{are_codes_in}
 use Rattle.edit_line.specs.Shapes.{Categorical, Domain, HasCodes, Numerical, code_fields, codes_at, codes_from, has_field, place_in}
 use Rattle.edit_line.proofs.OtherFields.{inside_but, inside_but-meets}
 use Rattle.edit_line.proofs.BoolLaws.{both_true}
@@ -58,12 +58,12 @@ code-below shape point f there held = below-from 0 shape point f there held
 -- ---- boxes
 
 -- codes that are in a box on the other fields, and in its set at the place
-pub inside-put_back : (place whole : ℕ) (sets codes : List ℕ) → has_code (slice_index_or sets place 0) (slice_index_or codes place 0) ≡ true → inside_but place whole codes sets ≡ true → is_inside sets codes ≡ true
+pub inside-put_back : (place whole : ℕ) (sets codes : List ℕ) → has_code (slice_index_or sets place 0) (slice_index_or codes place 0) ≡ true → inside_but place whole codes sets ≡ true → are_codes_in sets codes ≡ true
 inside-put_back place whole [] codes at but = refl
 inside-put_back place whole (s ∷ sets) [] at but = refl
-inside-put_back zero whole (s ∷ sets) (code ∷ codes) at but = ap (λ b. b && is_inside sets codes) at ∙ (both_true (has_code whole code) _ but).1
+inside-put_back zero whole (s ∷ sets) (code ∷ codes) at but = ap (λ b. b && are_codes_in sets codes) at ∙ (both_true (has_code whole code) _ but).1
 inside-put_back (suc place) whole (s ∷ sets) (code ∷ codes) at but =
-    let (here, rest) = both_true (has_code s code) _ but in ap (λ b. b && is_inside sets codes) here ∙ inside-put_back place whole sets codes at rest
+    let (here, rest) = both_true (has_code s code) _ but in ap (λ b. b && are_codes_in sets codes) here ∙ inside-put_back place whole sets codes at rest
 
 -- what the parts from one place on have in common, one part on
 pub common-more : (earlier : List Proved) (at code : ℕ) (parts common sets next : List ℕ) (whole : Option (List ℕ)) → code < length parts → Some sets ≡ part_with earlier at code (slice_index parts code) → next ≡ meets common sets
@@ -102,7 +102,7 @@ module _ (earlier : List Proved) (at whole : ℕ) (codes : List ℕ) where
 
   -- codes that are in the cover are in the part for the code at the place
   pub cover-part : (parts wholes common : List ℕ) → slice_index_or codes at 0 < length parts → common_from earlier at 0 parts wholes ≡ Some common → inside_but at whole codes common ≡ true
-      → (part : ℕ) × (sets : List ℕ) × (as_box (slice_get earlier part) ≡ Some sets) × (is_inside sets codes ≡ true)
+      → (part : ℕ) × (sets : List ℕ) × (as_box (slice_get earlier part) ≡ Some sets) × (are_codes_in sets codes ≡ true)
   cover-part parts wholes common below e inside =
       let (part, sets, box, has_it, but) = common-part 0 (slice_index_or codes at 0) (slice_index_or codes at 0) parts wholes common (omega arith) below e inside in
       (part, sets, box, inside-put_back at whole sets codes has_it but)

@@ -7,7 +7,7 @@ use Rattle.edit_model.specs.declared.field.Field.{Field}
 use Rattle.edit_model.specs.declared.value.Value.{Value}
 use Rattle.edit_model.specs.declared.value.Value.TheVariants.{Bad}
 use Rattle.edit_line.specs.Lines.{LineHolds, LineParts, amount}
-use Rattle.edit_line.specs.Sets.{AllInside}
+use Rattle.edit_line.specs.Sets.{AreCodesIn}
 use Rattle.edit_line.specs.Shapes.{codes_at, number_fields, shape_of}
 use Rattle.edit_line.specs.Sums.{AtFactors, HasNumbers, fails_at, stands_only}
 use Rattle.edit_line.proofs.FactorLaws.{AtFactors-map, AtFactors-only}
@@ -35,7 +35,7 @@ module _ (fields : List Field) (row : List Value) (kept : ℕ) (line : LineParts
   kept-numbers = numbers-held fields row line shape is (at_kept (λ f. value_of row f ≢ Bad) kept line has all)
 
   -- where the line fails at the record, and holds at a point that agrees, the point's codes are not all inside
-  pub failed-outside : is_true (fails_at line row) ≡ true → (point : Point) → AgreesAt row kept point → LineHolds line point → ¬ AllInside line.sets (codes_at line.shape point)
+  pub failed-outside : is_true (fails_at line row) ≡ true → (point : Point) → AgreesAt row kept point → LineHolds line point → ¬ AreCodesIn line.sets (codes_at line.shape point)
   failed-outside fails point agrees holds inside =
       let enough = (is_enough-Decides line.strict (amount line point)).1 (holds.enough inside) in
       let truth = fails_at-truth line row point true kept-numbers (at_kept (λ f. Agrees row point f) kept line agrees all) (answered (fails_at line row) fails) in

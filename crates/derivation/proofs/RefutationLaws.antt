@@ -11,7 +11,7 @@ use Rattle.edit_line.specs.Boxes.{are_whole}
 use Rattle.edit_line.specs.Lines.{AllHold, AreOver, Follows, IsLine, LineHolds, LineParts}
 use Rattle.edit_line.specs.Negations.{negation_of}
 use Rattle.edit_line.specs.Reductions.{IsIn}
-use Rattle.edit_line.specs.Sets.{AllInside}
+use Rattle.edit_line.specs.Sets.{AreCodesIn}
 use Rattle.edit_line.specs.Shapes.{Domain, HasCodes, codes_at, shape_of, whole_sets}
 use Rattle.edit_line.specs.Subsumption.{is_false}
 use Rattle.edit_line.proofs.BoolLaws.{both_true}
@@ -66,9 +66,9 @@ usable-both (k ∷ lines) more (false ∷ left) l same h = usable-both lines mor
 
 module _ (fields : List Field) (lines : List LineParts) (left : List Bool) (line : LineParts) (row : List Value) where
   -- sets of all codes have those of each point
-  all-codes : (sets : List ℕ) → are_whole (shape_of fields) sets ≡ true → (p : Point) → HasCodes 0 (shape_of fields) p → AllInside sets (codes_at (shape_of fields) p)
+  all-codes : (sets : List ℕ) → are_whole (shape_of fields) sets ≡ true → (p : Point) → HasCodes 0 (shape_of fields) p → AreCodesIn sets (codes_at (shape_of fields) p)
   all-codes sets whole p held =
-      subst (λ (s : List ℕ). AllInside s (codes_at (shape_of fields) p)) (sym (same_text sets (whole_sets (shape_of fields)) (sym whole)))
+      subst (λ (s : List ℕ). AreCodesIn s (codes_at (shape_of fields) p)) (sym (same_text sets (whole_sets (shape_of fields)) (sym whole)))
       ((is_inside-Decides (whole_sets (shape_of fields)) (codes_at (shape_of fields) p)).0 (wholes-inside (shape_of fields) p held))
 
   -- what is shown, and absurd, leaves no point at which the usable lines hold
@@ -76,7 +76,7 @@ module _ (fields : List Field) (lines : List LineParts) (left : List Bool) (line
       → (p : Point) → HasCodes 0 (shape_of fields) p → AllHold (usable_lines (given_lines lines line) (usable_flags left line)) p → ⊥
   absurd-nowhere (proved.Line l) shown is_over wrong p held hold =
       let (whole, false_is) = both_true (are_whole (shape_of fields) l.sets) (is_false l) wrong in
-      false-outside l p false_is (shown p hold) (subst (λ (s : List Domain). AllInside l.sets (codes_at s p)) (sym is_over) (all-codes l.sets whole p held))
+      false-outside l p false_is (shown p hold) (subst (λ (s : List Domain). AreCodesIn l.sets (codes_at s p)) (sym is_over) (all-codes l.sets whole p held))
   absurd-nowhere (proved.Box b) shown is_over wrong p held hold = shown p held (λ f kept. absurd (cc (sym kept ∙ has-none f))) hold (all-codes b.sets wrong p held)
 
   -- a line whose negation valid steps refute from the lines that are left follows from these

@@ -13,7 +13,7 @@ use Rattle.edit_line.specs.Combinations.{may_combine, sum_of}
 use Rattle.edit_line.specs.Divisors.{divided_by}
 use Rattle.edit_line.specs.Lines.{AllHold, AreOver, LineHolds, LineParts}
 use Rattle.edit_line.specs.Reductions.{IsIn}
-use Rattle.edit_line.specs.Sets.{AllInside, has_codes, is_inside}
+use Rattle.edit_line.specs.Sets.{AreCodesIn, none_is_empty, are_codes_in}
 use Rattle.edit_line.specs.Shapes.{Domain, HasCodes, code_fields, codes_at, has_field, number_fields, shape_of, whole_sets}
 use Rattle.edit_line.specs.Sums.{stands_only}
 use Rattle.edit_line.proofs.Members.{in-all, in-either, in-get}
@@ -91,11 +91,11 @@ module _ (p : Premises) where
 
   -- codes in an earlier box are forbidden
   box-known : (earlier : List Proved) (place : ℕ) (sets : List ℕ) → AllKnown p earlier → as_box (slice_get earlier place) ≡ Some sets
-      → (point : Point) → HasCodes 0 p.shape point → AgreesAt p.row p.kept point → AllHold (usable_lines p.given p.usable) point → is_inside sets (codes_at p.shape point) ≡ true → ⊥
+      → (point : Point) → HasCodes 0 p.shape point → AgreesAt p.row p.kept point → AllHold (usable_lines p.given p.usable) point → are_codes_in sets (codes_at p.shape point) ≡ true → ⊥
   box-known earlier place sets known e point held agrees hold inside =
       let (code_box, found, same) = was-box (slice_get earlier place) sets e in
       let (shown, is_over) = known (proved.Box code_box) (in-get (proved.Box code_box) earlier place found) in
-      shown point held agrees hold ((is_inside-Decides code_box.sets (codes_at p.shape point)).0 (ap (λ (s : List ℕ). is_inside s (codes_at p.shape point)) same ∙ inside))
+      shown point held agrees hold ((is_inside-Decides code_box.sets (codes_at p.shape point)).0 (ap (λ (s : List ℕ). are_codes_in s (codes_at p.shape point)) same ∙ inside))
 
   -- a box that is made whole at a field is shown where no such point has its codes in it
   whole-known : (field : ℕ) (sets : List ℕ)
@@ -130,7 +130,7 @@ module _ (p : Premises) where
       let (all, failed) = both_true (stands_only (has_number p.kept) (number_fields line.shape) line.factors) _ fails in
       subst (λ (y : Proved). IsKnown p y) same (
         λ point held agrees hold inside.
-            failed-outside fields p.row p.kept line are has (is_over ∙ shape) all failed point agrees (shown point hold) (subst (λ (s : List Domain). AllInside line.sets (codes_at s point)) (sym is_over) inside),
+            failed-outside fields p.row p.kept line are has (is_over ∙ shape) all failed point agrees (shown point hold) (subst (λ (s : List Domain). AreCodesIn line.sets (codes_at s point)) (sym is_over) inside),
         refl,
       )
 
@@ -139,7 +139,7 @@ module _ (p : Premises) where
     where
       by : (b : Bool) → (has_field (code_fields p.shape) field && (length parts == size_of p.shape field)) ≡ b
           → (if b
-          then then_some (common_from earlier (place_of p.shape field) 0 parts (whole_sets p.shape)) (λ common. only_if (has_codes (slice_set common (place_of p.shape field) (whole_of p.shape field))) (whole_box p.shape field common))
+          then then_some (common_from earlier (place_of p.shape field) 0 parts (whole_sets p.shape)) (λ common. only_if (none_is_empty (slice_set common (place_of p.shape field) (whole_of p.shape field))) (whole_box p.shape field common))
           else None)
           ≡ Some x
           → IsKnown p x
@@ -147,7 +147,7 @@ module _ (p : Premises) where
       by true is h =
           let (there, sized) = both_true (has_field (code_fields p.shape) field) _ is in
           let (common, made, rest) = was-some (common_from earlier (place_of p.shape field) 0 parts (whole_sets p.shape)) _ x h in
-          let (full, same) = was-true (has_codes (slice_set common (place_of p.shape field) (whole_of p.shape field))) (whole_box p.shape field common) x rest in
+          let (full, same) = was-true (none_is_empty (slice_set common (place_of p.shape field) (whole_of p.shape field))) (whole_box p.shape field common) x rest in
           subst (λ (y : Proved). IsKnown p y) same (whole-known field common (λ point held agrees hold inside.
           let below : slice_index_or (codes_at p.shape point) (place_of p.shape field) 0 < length parts = omega (arith, code-at p.shape point field there, code-below p.shape point field there held, (Decides-eqb (length parts) (size_of p.shape field)).0 sized) in
           let (part, sets, found, in_part) = cover-part earlier (place_of p.shape field) (whole_of p.shape field) (codes_at p.shape point) parts (whole_sets p.shape) common below made inside in

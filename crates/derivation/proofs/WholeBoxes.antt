@@ -1,6 +1,6 @@
 use Rattle.std.proofs.Common.{◌≡◌, ℕ, ◌<◌, true, List, Some, length, slice_index_or, slice_set, sym, ap, subst, arith}
 use Rattle.edit_line.specs.Combinations.{meets}
-use Rattle.edit_line.specs.Sets.{AreSets, AreWithin, has_codes}
+use Rattle.edit_line.specs.Sets.{AreSets, AreWithin, none_is_empty}
 use Rattle.edit_line.specs.Shapes.{Domain, code_fields, whole_sets}
 use Rattle.edit_line.proofs.SetLaws.{AreSets-within, AreWithin-length}
 use Rattle.derivation.specs.inner.Meanings.{place_there}
@@ -41,7 +41,7 @@ module _ (shape : List Domain) (f place : ℕ) (wholes : List ℕ) (at : place_t
       )
 
   -- what the parts have in common is a box, where it has codes
-  pub common-fits : (common : List ℕ) → AreWithin common (whole_sets shape) → has_codes (slice_set common place (slice_index_or wholes place 0)) ≡ true → AreSets (slice_set common place (slice_index_or wholes place 0)) (whole_sets shape)
+  pub common-fits : (common : List ℕ) → AreWithin common (whole_sets shape) → none_is_empty (slice_set common place (slice_index_or wholes place 0)) ≡ true → AreSets (slice_set common place (slice_index_or wholes place 0)) (whole_sets shape)
   common-fits common within full =
       AreSets-within (slice_set common place (slice_index_or wholes place 0)) (whole_sets shape) full
       (subst (λ (ws : List ℕ). AreWithin (slice_set common place (slice_index_or ws place 0)) (whole_sets shape)) (sym wholes_are) (AreWithin-whole common (whole_sets shape) place within))

@@ -10,7 +10,7 @@ use Rattle.edit_line.specs.CodeFields.{place_of, size_of, whole_of}
 use Rattle.edit_line.specs.Combinations.{may_combine, meets, sum_of}
 use Rattle.edit_line.specs.Divisors.{divided_by}
 use Rattle.edit_line.specs.Lines.{LineParts}
-use Rattle.edit_line.specs.Sets.{has_codes}
+use Rattle.edit_line.specs.Sets.{none_is_empty}
 use Rattle.edit_line.specs.Shapes.{Domain, code_fields, has_field, number_fields, whole_sets}
 use Rattle.edit_line.specs.Sums.{fails_at, stands_only}
 use Rattle.derivation.specs.Premises.{Premises}
@@ -83,7 +83,7 @@ common_from earlier at code (part ∷ parts) common = then_some (part_with earli
 
 -- the box of these sets, made whole at the field, if no set of it is empty
 abbrev pub covered_sets : List Domain → ℕ → List ℕ → Option Proved
-covered_sets shape field common = only_if (has_codes (slice_set common (place_of shape field) (whole_of shape field))) (whole_box shape field common)
+covered_sets shape field common = only_if (none_is_empty (slice_set common (place_of shape field) (whole_of shape field))) (whole_box shape field common)
 
 -- the box of what the parts have in common on the other fields, whole at the field: with each code there, the codes are in a part. There is one part for each code of the field, in declared order
 abbrev pub covered_box : Premises → List Proved → ℕ → List ℕ → Option Proved

@@ -11,7 +11,7 @@ use Rattle.std.specs.List.{AllByRecursion, list_all, list_any}
 use Rattle.std.specs.Ordering.{int_eq}
 use Rattle.std.specs.List.Sorted.{IsStrictlyIncreasing}
 use Rattle.edit_model.specs.Corrections.{is_numerical}
-use Rattle.edit_model.specs.Surveys.{HasCodes, IsField, IsKind, IsName, IsNumber, IsTerm, IsTest}
+use Rattle.edit_model.specs.Surveys.{IsSetOf, IsField, IsKind, IsName, IsNumber, IsTerm, IsTest}
 use Rattle.edit_model.specs.declared.field.Field.{Field}
 use Rattle.edit_model.specs.declared.field.Kind.{Kind}
 use Rattle.edit_model.specs.declared.field.Kind.TheVariants as kind
@@ -188,7 +188,7 @@ apart_from_pairs (c ∷ list) pairs = (
   apart_from_pairs list (λ i j d less below. pairs (suc i) (suc j) d (omega arith) (omega arith)),
 )
 
-codes_back : (k : Kind) (set : ℕ) → IsKind k → HasCodes k set → AreCodes set (codes_in k) × (is_numerical k ≡ false)
+codes_back : (k : Kind) (set : ℕ) → IsKind k → IsSetOf k set → AreCodes set (codes_in k) × (is_numerical k ≡ false)
 codes_back (kind.Number scale) set is has = absurd has
 codes_back (kind.Code list) set is has = (record { apart = apart_from_pairs list is.3; texts = recursion_from_All IsCodeText list is.2; some = has.0; below = has.1 }, refl)
 
@@ -215,7 +215,7 @@ code_test_found fields i f negated set at there is_name codes categorical =
 
 code_test_back : (fields : List Field) → All IsField fields → AllPairs (λ (f : Field) (g : Field). f.name ≢ g.name) fields → (i : ℕ) (negated : Bool) (set : ℕ) → IsTest fields (test.Codes i negated set) → IsReadBack fields (test.Codes i negated set)
 code_test_back fields all distinct i negated set is =
-    let (f, at, has) = some_with (λ (f : Field). HasCodes f.kind set) (slice_get fields i) is in
+    let (f, at, has) = some_with (λ (f : Field). IsSetOf f.kind set) (slice_get fields i) is in
     let below = slice_get_within fields i f at in
     let in_form : IsField f = subst IsField (get_or_from_slice_get fields i f f at) (all i f below) in
     let (codes, categorical) = codes_back f.kind set in_form.fits has in

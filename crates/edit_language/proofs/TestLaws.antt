@@ -11,7 +11,7 @@ use Rattle.std.proofs.lemmas.List.Folds.{find_at}
 use Rattle.std.proofs.lemmas.Option.{get_or_from_slice_get, slice_get_within}
 use Rattle.std.proofs.lemmas.Slice.Eq.{bytes_eq-Decides}
 use Rattle.edit_model.specs.Corrections.{is_numerical}
-use Rattle.edit_model.specs.Surveys.{HasCodes, IsNumber, IsTerm, IsTest}
+use Rattle.edit_model.specs.Surveys.{IsSetOf, IsNumber, IsTerm, IsTest}
 use Rattle.edit_model.specs.declared.field.Field.{Field}
 use Rattle.edit_model.specs.declared.field.Kind.{Kind}
 use Rattle.edit_model.specs.declared.field.Kind.TheVariants as kind
@@ -145,7 +145,7 @@ terms_rise left right i (f ∷ more) =
 -- ---- tests
 
 -- a set of known codes fits their field
-codes_fit : (k : Kind) (list : List (List ℕ)) (first : List ℕ) → not (is_numerical k) ≡ true → is_listed list first ≡ true → is_listed (codes_in k) first ≡ true → HasCodes k (code_set (codes_in k) list)
+codes_fit : (k : Kind) (list : List (List ℕ)) (first : List ℕ) → not (is_numerical k) ≡ true → is_listed list first ≡ true → is_listed (codes_in k) first ≡ true → IsSetOf k (code_set (codes_in k) list)
 codes_fit (kind.Number scale) list first categorical there known = absurd cc
 codes_fit (kind.Code codes) list first categorical there known = (code_set_some codes list first known there, code_set_small codes list)
 
@@ -154,7 +154,7 @@ code_test_fits : (fields : List Field) (name : List ℕ) (negated : Bool) (list 
 code_test_fits fields name negated list first named there known = by (field_named fields name) refl named known
   where
     by : (o : Option Field) → field_named fields name ≡ o → is_field_of_kind (λ k. not (is_numerical k)) o ≡ true → is_listed (codes_of o) first ≡ true
-        → IsSomeAnd (slice_get fields (unwrap_or (number_named fields name) 0)) (λ f. HasCodes f.kind (code_set (codes_of (field_named fields name)) list))
+        → IsSomeAnd (slice_get fields (unwrap_or (number_named fields name) 0)) (λ f. IsSetOf f.kind (code_set (codes_of (field_named fields name)) list))
     by None found categorical has = absurd cc
     by (Some f) found categorical has = rw (number_is fields name f found, found) (codes_fit f.kind list first categorical there has)
 

@@ -7,7 +7,7 @@ use Rattle.fraction128.proofs.Signs.{above-*, at_least-*}
 use Rattle.fraction128.proofs.Whole.{comm, parts, ring, same_dif}
 use Rattle.edit_model.specs.Points.{Point}
 use Rattle.edit_line.specs.Lines.{IsEnough, LineHolds, LineParts, amount, weighted}
-use Rattle.edit_line.specs.Sets.{AllInside, HasCode}
+use Rattle.edit_line.specs.Sets.{AreCodesIn, HasCode}
 use Rattle.edit_line.specs.Shapes.{Domain, beside, codes_at, numerators_at}
 use Rattle.edit_line.proofs.Enough.{IsEnough-at_least, IsEnough_cancel}
 use Rattle.edit_line.specs.Combinations.{IsCombined, all_meet, combined, meets}
@@ -89,7 +89,7 @@ both-HasCode : (s t code : ℕ) → HasCode s code → HasCode t code → HasCod
 both-HasCode s t code h k = omega (arith, bit_at_and s t code, h, k)
 
 -- codes where the sets meet are in both
-pub meets-inside : (first second codes : List ℕ) → AllInside (meets first second) codes → AllInside first codes × AllInside second codes
+pub meets-inside : (first second codes : List ℕ) → AreCodesIn (meets first second) codes → AreCodesIn first codes × AreCodesIn second codes
 meets-inside [] second codes inside = (tt, inside)
 meets-inside (s ∷ first) [] codes inside = (inside, tt)
 meets-inside (s ∷ first) (t ∷ second) [] inside = (tt, tt)
@@ -99,14 +99,14 @@ meets-inside (s ∷ first) (t ∷ second) (code ∷ codes) inside =
     ((one, rest), (two, others))
 
 -- and the other way round
-pub inside-meets : (first second codes : List ℕ) → AllInside first codes → AllInside second codes → AllInside (meets first second) codes
+pub inside-meets : (first second codes : List ℕ) → AreCodesIn first codes → AreCodesIn second codes → AreCodesIn (meets first second) codes
 inside-meets [] second codes one two = two
 inside-meets (s ∷ first) [] codes one two = one
 inside-meets (s ∷ first) (t ∷ second) [] one two = tt
 inside-meets (s ∷ first) (t ∷ second) (code ∷ codes) one two = (both-HasCode s t code one.0 two.0, inside-meets first second codes one.1 two.1)
 
 -- sets that have a code of each field in common all meet
-pub inside-all_meet : (first second codes : List ℕ) → length first ≤ length codes → AllInside first codes → AllInside second codes → all_meet first second ≡ true
+pub inside-all_meet : (first second codes : List ℕ) → length first ≤ length codes → AreCodesIn first codes → AreCodesIn second codes → all_meet first second ≡ true
 inside-all_meet [] second codes many one two = refl
 inside-all_meet (s ∷ first) [] codes many one two = refl
 inside-all_meet (s ∷ first) (t ∷ second) [] many one two = absurd (omega arith)
@@ -176,9 +176,9 @@ IsEnough-sum false false m n y z m_above n_above h k = sum_least _ _ (at_least-*
 pub LineHolds-combined : (m n g : ℤ) (s t line : LineParts) (p : Point) → pos 0 <ℤ m → pos 0 <ℤ n → pos 0 <ℤ g → IsCombined m n g s t line → LineHolds s p → LineHolds t p → LineHolds line p
 LineHolds-combined m n g s t line p m_above n_above g_above is s_holds t_holds = record {
   enough = λ inside.
-      let both : AllInside (meets s.sets t.sets) (codes_at s.shape p) = subst (λ (shape : List Domain). AllInside (meets s.sets t.sets) (codes_at shape p)) is.shape (subst (λ (sets : List ℕ). AllInside sets (codes_at line.shape p)) is.sets inside) in
+      let both : AreCodesIn (meets s.sets t.sets) (codes_at s.shape p) = subst (λ (shape : List Domain). AreCodesIn (meets s.sets t.sets) (codes_at shape p)) is.shape (subst (λ (sets : List ℕ). AreCodesIn sets (codes_at line.shape p)) is.sets inside) in
       let (in_s, in_t) = meets-inside s.sets t.sets (codes_at s.shape p) both in
-      let sum = IsEnough-sum s.strict t.strict m n (amount s p) (amount t p) m_above n_above (s_holds.enough in_s) (t_holds.enough (subst (λ (shape : List Domain). AllInside t.sets (codes_at shape p)) (sym is.same) in_t)) in
+      let sum = IsEnough-sum s.strict t.strict m n (amount s p) (amount t p) m_above n_above (s_holds.enough in_s) (t_holds.enough (subst (λ (shape : List Domain). AreCodesIn t.sets (codes_at shape p)) (sym is.same) in_t)) in
       subst (λ (b : Bool). IsEnough b (amount line p)) (sym is.strict)
       (IsEnough_cancel (s.strict || t.strict) (amount line p) g g_above (subst (λ (z : ℤ). IsEnough (s.strict || t.strict) z) (sym (amount-combined m n g s t line p is) ∙ comm g (amount line p)) sum));
 }

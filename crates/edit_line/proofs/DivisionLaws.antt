@@ -11,7 +11,7 @@ use Rattle.fraction128.specs.Range.{InRange}
 use Rattle.edit_model.specs.Points.{Point}
 use Rattle.edit_line.specs.Divisors.{divided_by, divisor_of, gcd_all, gcd_onto, or_one, reduced}
 use Rattle.edit_line.specs.Lines.{IsEnough, IsLine, LineHolds, LineParts, amount, parts_of, weighted}
-use Rattle.edit_line.specs.Sets.{AllInside}
+use Rattle.edit_line.specs.Sets.{AreCodesIn}
 use Rattle.edit_line.specs.Shapes.{codes_at, numerators_at}
 use Rattle.edit_line.proofs.Enough.{IsEnough-times, IsEnough_cancel}
 
@@ -104,13 +104,13 @@ reduced-amount line p =
     (weighted-quotients line.factors (numerators_at line.shape p) _ (divides-factors line.factors line.constant))
 
 -- where the divided line holds, the line's amount is enough at codes of its sets
-pub reduced-enough : (line : LineParts) (p : Point) → LineHolds (reduced line) p → AllInside line.sets (codes_at line.shape p) → IsEnough line.strict (amount line p)
+pub reduced-enough : (line : LineParts) (p : Point) → LineHolds (reduced line) p → AreCodesIn line.sets (codes_at line.shape p) → IsEnough line.strict (amount line p)
 unfolding reduced
 reduced-enough line p holds inside =
     subst (λ (z : ℤ). IsEnough line.strict z) (reduced-amount line p) (IsEnough-times line.strict (amount (reduced line) p) _ (divisor-above line.factors line.constant) (holds.enough inside))
 
 -- and the other way round
-pub enough-reduced : (line : LineParts) (p : Point) → (AllInside line.sets (codes_at line.shape p) → IsEnough line.strict (amount line p)) → LineHolds (reduced line) p
+pub enough-reduced : (line : LineParts) (p : Point) → (AreCodesIn line.sets (codes_at line.shape p) → IsEnough line.strict (amount line p)) → LineHolds (reduced line) p
 unfolding reduced
 enough-reduced line p enough = record {
   enough = λ inside.

@@ -12,7 +12,7 @@ use Rattle.fraction128.proofs.Whole.{parts, ring, same_dif}
 use Rattle.edit_model.specs.Points.{Point}
 use Rattle.edit_line.specs.Lines.{AllHold, Follows, IsEnough, IsLine, LineHolds, LineParts, amount, weighted}
 use Rattle.edit_line.specs.Reductions.{IsIn}
-use Rattle.edit_line.specs.Sets.{AllInside, AreSets, HasCode, is_inside}
+use Rattle.edit_line.specs.Sets.{AreCodesIn, AreSets, HasCode, are_codes_in}
 use Rattle.edit_line.specs.Shapes.{Categorical, Domain, HasCodes, Numerical, codes_at, codes_from, number_fields, numerators_at, whole_sets}
 use Rattle.edit_line.specs.Subsumption.{is_enough}
 use Rattle.edit_line.proofs.Enough.{is_enough-Decides}
@@ -34,8 +34,8 @@ no_factors [] = refl
 no_factors (f ∷ fields) = no_factors fields
 
 -- the line -1 >= 0 holds where some code is outside its set
-pub never-Decides : (shape : List Domain) (sets : List ℕ) (p : Point) → Decides (not (is_inside sets (codes_at shape p))) (LineHolds (never shape sets) p)
-never-Decides shape sets p = by (is_inside sets (codes_at shape p)) (is_inside-Decides sets (codes_at shape p))
+pub never-Decides : (shape : List Domain) (sets : List ℕ) (p : Point) → Decides (not (are_codes_in sets (codes_at shape p))) (LineHolds (never shape sets) p)
+never-Decides shape sets p = by (are_codes_in sets (codes_at shape p)) (is_inside-Decides sets (codes_at shape p))
   where
     below : pos 0 ≤ℤ amount (never shape sets) p → ⊥
     below h =
@@ -45,7 +45,7 @@ never-Decides shape sets p = by (is_inside sets (codes_at shape p)) (is_inside-D
         negative : (d : ℤ) → pos 0 <ℤ d → pos 0 ≤ℤ neg_ℤ d → ⊥
         negative d above least = omega (arith, ints)
 
-    by : (i : Bool) → Decides i (AllInside sets (codes_at shape p)) → Decides (not i) (LineHolds (never shape sets) p)
+    by : (i : Bool) → Decides i (AreCodesIn sets (codes_at shape p)) → Decides (not i) (LineHolds (never shape sets) p)
     by true q = (λ h. absurd (cc), λ holds. absurd (below (holds.enough (q.0 refl))))
     by false q = (λ _. record { enough = λ inside. absurd (cc (q.1 inside)) }, λ _. refl)
 
@@ -59,7 +59,7 @@ in-domain set k code below has = by (code_apart)
     by : (k ≤ code → ⊥) → code < k
     by apart = omega (arith, apart)
 
-inside-codes : (i : ℕ) (shape : List Domain) (sets : List ℕ) (p : Point) → AreSets sets (whole_sets shape) → AllInside sets (map p.code (codes_from i shape)) → HasCodes i shape p
+inside-codes : (i : ℕ) (shape : List Domain) (sets : List ℕ) (p : Point) → AreSets sets (whole_sets shape) → AreCodesIn sets (map p.code (codes_from i shape)) → HasCodes i shape p
 inside-codes i [] sets p are inside = tt
 inside-codes i (Numerical ∷ shape) sets p are inside = inside-codes (suc i) shape sets p are inside
 inside-codes i (Categorical k ∷ shape) [] p are inside = absurd are
@@ -89,7 +89,7 @@ no-other : (whole set code : ℕ) → bit_at whole code ≡ 1 → bit_at set cod
 no-other whole set code all one other = absurd (omega (arith, sym other ∙ bit_at_xor whole set code ∙ ap (λ n. (n + bit_at set code) % 2) all ∙ ap (λ n. (1 + n) % 2) one))
 
 -- a code inside a set of one place
-inside-at : (sets codes : List ℕ) (place set : ℕ) → place < length sets → place < length codes → AllInside (slice_set sets place set) codes → HasCode set (slice_index_or codes place 0)
+inside-at : (sets codes : List ℕ) (place set : ℕ) → place < length sets → place < length codes → AreCodesIn (slice_set sets place set) codes → HasCode set (slice_index_or codes place 0)
 inside-at [] codes place set below within inside = absurd (omega arith)
 inside-at (s ∷ sets) [] place set below within inside = absurd (omega arith)
 inside-at (s ∷ sets) (c ∷ codes) zero set below within inside = inside.0
@@ -99,7 +99,7 @@ module _ (shape : List Domain) (p : Point) where
   -- no line that a code is never outside its set is broken; `done` sets and codes stand before the place
   outside-holds : (place : ℕ) (sets wholes codes : List ℕ) → place + length wholes ≤ length (whole_sets shape) → place + length codes ≤ length (codes_at shape p)
       → ((k : ℕ) → k < length codes → slice_index_or (codes_at shape p) (place + k) 0 ≡ slice_index_or codes k 0)
-      → length wholes ≤ length codes → AllInside sets codes → AllInside wholes codes → (line : LineParts) → IsIn line (never_outside shape place sets wholes) → LineHolds line p
+      → length wholes ≤ length codes → AreCodesIn sets codes → AreCodesIn wholes codes → (line : LineParts) → IsIn line (never_outside shape place sets wholes) → LineHolds line p
   outside-holds place [] wholes codes fits within same few inside whole line there = absurd there
   outside-holds place (set ∷ sets) [] codes fits within same few inside whole line there = absurd there
   outside-holds place (set ∷ sets) (w ∷ wholes) [] fits within same few inside whole line there = absurd (omega arith)
@@ -124,11 +124,11 @@ module _ (shape : List Domain) (p : Point) where
       by false (inr h) rest = rest h
 
 -- a point at which the line fails meets its negation, and has codes of their domains
-pub fails-negation : (line : LineParts) (p : Point) → IsLine line → AllInside line.sets (codes_at line.shape p) → is_enough line.strict (amount line p) ≡ false
+pub fails-negation : (line : LineParts) (p : Point) → IsLine line → AreCodesIn line.sets (codes_at line.shape p) → is_enough line.strict (amount line p) ≡ false
     → HasCodes 0 line.shape p × AllHold (negation_of line) p
 fails-negation line p is inside short =
     let held : HasCodes 0 line.shape p = inside-codes 0 line.shape line.sets p is.sets inside in
-    let whole : AllInside (whole_sets line.shape) (codes_at line.shape p) = (is_inside-Decides (whole_sets line.shape) (codes_at line.shape p)).0 (wholes-inside line.shape p held) in
+    let whole : AreCodesIn (whole_sets line.shape) (codes_at line.shape p) = (is_inside-Decides (whole_sets line.shape) (codes_at line.shape p)).0 (wholes-inside line.shape p held) in
     (held, all-in (λ l. LineHolds l p) (negation_of line) (λ l there. each l there (outside-holds line.shape p 0 line.sets (whole_sets line.shape) (codes_at line.shape p) (omega arith) (omega arith) (λ k below. ap (λ n. slice_index_or (codes_at line.shape p) n 0) (omega arith)) (sizes line.shape) inside whole l)))
   where
     sizes-from : (i : ℕ) (shape : List Domain) → length (whole_sets shape) ≤ length (map p.code (codes_from i shape))
@@ -148,17 +148,17 @@ fails-negation line p is inside short =
 pub refuted-follows : (lines : List LineParts) (line : LineParts) → IsLine line → ((p : Point) → HasCodes 0 line.shape p → AllHold lines p → AllHold (negation_of line) p → ⊥) → Follows lines line
 refuted-follows lines line is none p hold = record { enough = λ inside. (is_enough-Decides line.strict (amount line p)).0 (by (is_enough line.strict (amount line p)) refl inside) }
   where
-    by : (b : Bool) → is_enough line.strict (amount line p) ≡ b → AllInside line.sets (codes_at line.shape p) → b ≡ true
+    by : (b : Bool) → is_enough line.strict (amount line p) ≡ b → AreCodesIn line.sets (codes_at line.shape p) → b ≡ true
     by true e inside = refl
     by false e inside = let (held, meets) = fails-negation line p is inside e in absurd (none p held hold meets)
 
 -- ---- a point that meets the negation fails the line
 
-inside-set : (sets codes : List ℕ) (place set : ℕ) → AllInside sets codes → HasCode set (slice_index_or codes place 0) → AllInside (slice_set sets place set) codes
+inside-set : (sets codes : List ℕ) (place set : ℕ) → AreCodesIn sets codes → HasCode set (slice_index_or codes place 0) → AreCodesIn (slice_set sets place set) codes
 inside-set [] codes place set inside has = tt
 inside-set (s ∷ sets) [] place set inside has = none place
   where
-    none : (place : ℕ) → AllInside (slice_set (s ∷ sets) place set) []
+    none : (place : ℕ) → AreCodesIn (slice_set (s ∷ sets) place set) []
     none zero = tt
     none (suc place) = tt
 inside-set (s ∷ sets) (c ∷ codes) zero set inside has = (has, inside.1)
@@ -169,12 +169,12 @@ other-bit whole set code all out =
     let none : bit_at set code ≡ 0 = omega (arith, bit_at-lt set code, out) in
     bit_at_xor whole set code ∙ ap (λ n. (n + bit_at set code) % 2) all ∙ ap (λ n. (1 + n) % 2) none
 
-never-false : (shape : List Domain) (sets : List ℕ) (p : Point) → LineHolds (never shape sets) p → AllInside sets (codes_at shape p) → ⊥
+never-false : (shape : List Domain) (sets : List ℕ) (p : Point) → LineHolds (never shape sets) p → AreCodesIn sets (codes_at shape p) → ⊥
 never-false shape sets p holds inside = absurd (cc (sym (ap not ((is_inside-Decides sets (codes_at shape p)).1 inside)) ∙ (never-Decides shape sets p).1 holds))
 
-module _ (shape : List Domain) (p : Point) (all : AllInside (whole_sets shape) (codes_at shape p)) where
+module _ (shape : List Domain) (p : Point) (all : AreCodesIn (whole_sets shape) (codes_at shape p)) where
   outside-inside : (place : ℕ) (sets wholes codes : List ℕ) → ((k : ℕ) → k < length codes → slice_index_or (codes_at shape p) (place + k) 0 ≡ slice_index_or codes k 0)
-      → AllInside wholes codes → length sets ≡ length wholes → ((line : LineParts) → IsIn line (never_outside shape place sets wholes) → LineHolds line p) → AllInside sets codes
+      → AreCodesIn wholes codes → length sets ≡ length wholes → ((line : LineParts) → IsIn line (never_outside shape place sets wholes) → LineHolds line p) → AreCodesIn sets codes
   outside-inside place [] wholes codes same whole sized hold = tt
   outside-inside place (set ∷ sets) [] codes same whole sized hold = absurd (omega arith)
   outside-inside place (set ∷ sets) (w ∷ wholes) [] same whole sized hold = tt
@@ -198,16 +198,16 @@ module _ (shape : List Domain) (p : Point) (all : AllInside (whole_sets shape) (
 
       by : (b : Bool) → (set == w) ≡ b
           → ((line : LineParts) → IsIn line (if b then never_outside shape (suc place) sets wholes else never shape (slice_set (whole_sets shape) place (bit_xor w set)) ∷ never_outside shape (suc place) sets wholes) → LineHolds line p)
-          → (((line : LineParts) → IsIn line (never_outside shape (suc place) sets wholes) → LineHolds line p) → AllInside sets codes) → HasCode set code × AllInside sets codes
+          → (((line : LineParts) → IsIn line (never_outside shape (suc place) sets wholes) → LineHolds line p) → AreCodesIn sets codes) → HasCode set code × AreCodesIn sets codes
       by true e h rest = (subst (λ s. HasCode s code) (sym ((Decides-eqb set w).0 e)) whole.0, rest h)
       by false e h rest = (has (h _ (inl refl)), rest (λ line there. h line (inr there)))
 
 -- a point of codes of their domains that meets the negation of a line fails the line
 pub negation-fails : (line : LineParts) (p : Point) → IsLine line → HasCodes 0 line.shape p → AllHold (negation_of line) p → LineHolds line p → ⊥
 negation-fails line p is held meets holds =
-    let whole : AllInside (whole_sets line.shape) (codes_at line.shape p) = (is_inside-Decides (whole_sets line.shape) (codes_at line.shape p)).0 (wholes-inside line.shape p held) in
+    let whole : AreCodesIn (whole_sets line.shape) (codes_at line.shape p) = (is_inside-Decides (whole_sets line.shape) (codes_at line.shape p)).0 (wholes-inside line.shape p held) in
     let turned : IsEnough (not line.strict) (amount (contrary line) p) = (meets 0 (contrary line) (omega arith)).enough whole in
-    let inside : AllInside line.sets (codes_at line.shape p) =
+    let inside : AreCodesIn line.sets (codes_at line.shape p) =
     outside-inside line.shape p whole 0 line.sets (whole_sets line.shape) (codes_at line.shape p) (λ k below. ap (λ n. slice_index_or (codes_at line.shape p) n 0) (omega arith)) whole
     (AreSets-length line.sets (whole_sets line.shape) is.sets) (λ l there. in-all (λ k. LineHolds k p) l (never_outside line.shape 0 line.sets (whole_sets line.shape)) (λ k d below. meets (suc k) d (omega arith)) there) in
     both_ways line.strict (amount line p) (holds.enough inside) (subst (λ (z : ℤ). IsEnough (not line.strict) z) (amount-contrary line p) turned)
@@ -218,9 +218,9 @@ negation-fails line p is held meets holds =
 
 -- so it holds exactly where the line does not
 pub negation-meets : (line : LineParts) (p : Point) → IsLine line → HasCodes 0 line.shape p → AllHold (negation_of line) p ↔ (¬ LineHolds line p)
-negation-meets line p is held = (negation-fails line p is held, λ fails. by (is_inside line.sets (codes_at line.shape p)) (is_enough line.strict (amount line p)) (is_inside-Decides line.sets (codes_at line.shape p)) refl fails)
+negation-meets line p is held = (negation-fails line p is held, λ fails. by (are_codes_in line.sets (codes_at line.shape p)) (is_enough line.strict (amount line p)) (is_inside-Decides line.sets (codes_at line.shape p)) refl fails)
   where
-    by : (inside enough : Bool) → Decides inside (AllInside line.sets (codes_at line.shape p)) → is_enough line.strict (amount line p) ≡ enough → (¬ LineHolds line p) → AllHold (negation_of line) p
+    by : (inside enough : Bool) → Decides inside (AreCodesIn line.sets (codes_at line.shape p)) → is_enough line.strict (amount line p) ≡ enough → (¬ LineHolds line p) → AllHold (negation_of line) p
     by true true i e fails = absurd (fails (record { enough = λ _. (is_enough-Decides line.strict (amount line p)).0 e }))
     by true false i e fails = (fails-negation line p is (i.0 refl) e).1
     by false enough i e fails = absurd (fails (record { enough = λ inside. absurd (cc (i.1 inside)) }))

@@ -4,7 +4,7 @@ use Rattle.std.specs.Int.{bit_at}
 use Rattle.std.proofs.lemmas.Bool.Decides.{Decides-eqb}
 use Rattle.std.proofs.lemmas.Nat.Bits.{bit_at-lt, bit_at-zero, bit_at_and}
 use Rattle.edit_model.specs.Points.{has_code}
-use Rattle.edit_line.specs.Sets.{all_inside, has_codes, is_inside}
+use Rattle.edit_line.specs.Sets.{are_subsets, none_is_empty, are_codes_in}
 use Rattle.edit_line.proofs.BoolLaws.{and_true, true-both}
 use Rattle.edit_line.proofs.SetLaws.{both_true, has-inside}
 use Rattle.edit_line.specs.Combinations.{meets}
@@ -13,7 +13,7 @@ use Rattle.edit_line.specs.Combinations.{meets}
 
 -- whether the codes are in the box on the other fields, and the code at the place in the whole set
 abbrev pub inside_but : ℕ → ℕ → List ℕ → List ℕ → Bool
-inside_but place whole codes box = is_inside (slice_set box place whole) codes
+inside_but place whole codes box = are_codes_in (slice_set box place whole) codes
 
 -- the intersection has the codes that both sets have
 pub has-and : (s t code : ℕ) → has_code (bit_and s t) code ≡ (has_code s code && has_code t code)
@@ -37,13 +37,13 @@ shared true c d = refl
 shared false c d = refl
 
 -- the codes are in both boxes
-inside-meets : (first second codes : List ℕ) → is_inside (meets first second) codes ≡ (is_inside first codes && is_inside second codes)
+inside-meets : (first second codes : List ℕ) → are_codes_in (meets first second) codes ≡ (are_codes_in first codes && are_codes_in second codes)
 inside-meets [] second codes = refl
 inside-meets (s ∷ first) [] codes = sym (and_true _)
 inside-meets (s ∷ first) (t ∷ second) [] = refl
 inside-meets (s ∷ first) (t ∷ second) (code ∷ codes) =
-    ap (λ b. b && is_inside (meets first second) codes) (has-and s t code) ∙ ap (λ b. (has_code s code && has_code t code) && b) (inside-meets first second codes)
-    ∙ crossed (has_code s code) (has_code t code) (is_inside first codes) (is_inside second codes)
+    ap (λ b. b && are_codes_in (meets first second) codes) (has-and s t code) ∙ ap (λ b. (has_code s code && has_code t code) && b) (inside-meets first second codes)
+    ∙ crossed (has_code s code) (has_code t code) (are_codes_in first codes) (are_codes_in second codes)
 
 -- and so on the other fields
 pub inside_but-meets : (place whole : ℕ) (first second codes : List ℕ)
@@ -53,7 +53,7 @@ inside_but-meets place whole (s ∷ first) [] codes = sym (and_true _)
 inside_but-meets zero whole (s ∷ first) (t ∷ second) [] = refl
 inside_but-meets (suc place) whole (s ∷ first) (t ∷ second) [] = refl
 inside_but-meets zero whole (s ∷ first) (t ∷ second) (code ∷ codes) =
-    ap (λ b. has_code whole code && b) (inside-meets first second codes) ∙ shared (has_code whole code) (is_inside first codes) (is_inside second codes)
+    ap (λ b. has_code whole code && b) (inside-meets first second codes) ∙ shared (has_code whole code) (are_codes_in first codes) (are_codes_in second codes)
 inside_but-meets (suc place) whole (s ∷ first) (t ∷ second) (code ∷ codes) =
     ap (λ b. b && inside_but place whole codes (meets first second)) (has-and s t code) ∙ ap (λ b. (has_code s code && has_code t code) && b) (inside_but-meets place whole first second codes)
     ∙ crossed (has_code s code) (has_code t code) (inside_but place whole codes first) (inside_but place whole codes second)
@@ -72,10 +72,10 @@ set-whole (suc place) whole (s ∷ box) is = ap (λ b. s ∷ b) (set-whole place
 
 -- the codes with another one at the place are in the box
 pub inside-with : (place whole code : ℕ) (box codes : List ℕ) → place < length box → place < length codes → has_code whole (slice_index_or codes place 0) ≡ true
-    → is_inside box (slice_set codes place code) ≡ (has_code (slice_index_or box place 0) code && inside_but place whole codes box)
+    → are_codes_in box (slice_set codes place code) ≡ (has_code (slice_index_or box place 0) code && inside_but place whole codes box)
 inside-with place whole code [] codes below within all = absurd (omega arith)
 inside-with place whole code (s ∷ box) [] below within all = absurd (omega arith)
-inside-with zero whole code (s ∷ box) (c ∷ codes) below within all = ap (λ b. has_code s code && (b && is_inside box codes)) (sym all)
+inside-with zero whole code (s ∷ box) (c ∷ codes) below within all = ap (λ b. has_code s code && (b && are_codes_in box codes)) (sym all)
 inside-with (suc place) whole code (s ∷ box) (c ∷ codes) below within all =
     ap (λ b. has_code s c && b) (inside-with place whole code box codes (omega arith) (omega arith) all) ∙ swapped (has_code s c) (has_code (slice_index_or box place 0) code) (inside_but place whole codes box)
   where
@@ -89,7 +89,7 @@ has-more : (s t code : ℕ) → nat_eq (bit_and s t) s ≡ true → has_code s c
 has-more s t code lies there = (Decides-eqb (bit_at t code) 1).1 (has-inside s t code lies ((Decides-eqb (bit_at s code) 1).0 there))
 
 -- codes in a box are in each box that has it inside
-pub inside-grows : (first second codes : List ℕ) → all_inside first second ≡ true → is_inside first codes ≡ true → is_inside second codes ≡ true
+pub inside-grows : (first second codes : List ℕ) → are_subsets first second ≡ true → are_codes_in first codes ≡ true → are_codes_in second codes ≡ true
 inside-grows first [] codes lie inside = refl
 inside-grows [] (t ∷ second) codes lie inside = absurd (cc)
 inside-grows (s ∷ first) (t ∷ second) [] lie inside = refl
@@ -99,7 +99,7 @@ inside-grows (s ∷ first) (t ∷ second) (code ∷ codes) lie inside =
     true-both _ _ (has-more s t code here at) (inside-grows first second codes rest after)
 
 -- and so on the other fields
-pub inside_but-grows : (place whole : ℕ) (first second codes : List ℕ) → all_inside first second ≡ true → inside_but place whole codes first ≡ true → inside_but place whole codes second ≡ true
+pub inside_but-grows : (place whole : ℕ) (first second codes : List ℕ) → are_subsets first second ≡ true → inside_but place whole codes first ≡ true → inside_but place whole codes second ≡ true
 inside_but-grows place whole first [] codes lie inside = refl
 inside_but-grows place whole [] (t ∷ second) codes lie inside = absurd (cc)
 inside_but-grows zero whole (s ∷ first) (t ∷ second) [] lie inside = refl
@@ -114,7 +114,7 @@ inside_but-grows (suc place) whole (s ∷ first) (t ∷ second) (code ∷ codes)
     true-both _ _ (has-more s t code here at) (inside_but-grows place whole first second codes rest after)
 
 -- a box with codes in each of its sets has no empty set
-pub inside-has_codes : (box codes : List ℕ) → length box ≤ length codes → is_inside box codes ≡ true → has_codes box ≡ true
+pub inside-has_codes : (box codes : List ℕ) → length box ≤ length codes → are_codes_in box codes ≡ true → none_is_empty box ≡ true
 inside-has_codes [] codes few inside = refl
 inside-has_codes (s ∷ box) [] few inside = absurd (omega arith)
 inside-has_codes (s ∷ box) (code ∷ codes) few inside = let (at, rest) = both_true _ _ inside in true-both _ _ (above s at) (inside-has_codes box codes (omega arith) rest)

@@ -9,7 +9,7 @@ use Rattle.edit_model.specs.declared.field.Field.{Field}
 use Rattle.edit_model.specs.declared.field.Kind.{Kind}
 use Rattle.edit_model.specs.declared.field.Kind.TheVariants as kind
 use Rattle.edit_line.proofs.SetLaws.{and_false}
-use Rattle.edit_line.specs.Sets.{is_inside}
+use Rattle.edit_line.specs.Sets.{are_codes_in}
 use Rattle.edit_line.specs.Shapes.{Categorical, Domain, HasCodes, Numerical, codes_at, code_fields, codes_from, place_in, whole_sets, IsCategorical, domain_of, has_field, shape_of}
 use Rattle.edit_line.specs.CodeFields.{TakesCodes, codes_of, codes_up, place_of, size_from, size_of, whole_of, with_code_at}
 
@@ -87,13 +87,13 @@ pub whole_of-all : (shape : List Domain) (f : ℕ) → list_all (has_code (whole
 whole_of-all shape f = all-have (whole_of shape f) 0 (size_of shape f) (size_of shape f) (λ code below. whole_of-has shape f code below) (omega arith)
 
 -- codes of their domains are in the whole sets
-wholes-from : (i : ℕ) (shape : List Domain) (p : Point) → HasCodes i shape p → is_inside (whole_sets shape) (map p.code (codes_from i shape)) ≡ true
+wholes-from : (i : ℕ) (shape : List Domain) (p : Point) → HasCodes i shape p → are_codes_in (whole_sets shape) (map p.code (codes_from i shape)) ≡ true
 wholes-from i [] p held = refl
 wholes-from i (Numerical ∷ shape) p held = wholes-from (suc i) shape p held
 wholes-from i (Categorical k ∷ shape) p held =
-    ap (λ b. b && is_inside (whole_sets shape) (map p.code (codes_from (suc i) shape))) (ones-have k (p.code i) held.0) ∙ wholes-from (suc i) shape p held.1
+    ap (λ b. b && are_codes_in (whole_sets shape) (map p.code (codes_from (suc i) shape))) (ones-have k (p.code i) held.0) ∙ wholes-from (suc i) shape p held.1
 
-pub wholes-inside : (shape : List Domain) (p : Point) → HasCodes 0 shape p → is_inside (whole_sets shape) (codes_at shape p) ≡ true
+pub wholes-inside : (shape : List Domain) (p : Point) → HasCodes 0 shape p → are_codes_in (whole_sets shape) (codes_at shape p) ≡ true
 wholes-inside shape p held = wholes-from 0 shape p held
 
 -- the point's code at the field is in the field's whole set

@@ -7,7 +7,7 @@ use Rattle.std.proofs.lemmas.List.{drop_all}
 use Rattle.std.proofs.lemmas.Nat.Bits.{bit_at_and, bit_at-lt}
 pub use Rattle.edit_line.proofs.BoolLaws.{and_false, both_decide, both_true}
 use Rattle.edit_model.specs.Points.{has_code}
-use Rattle.edit_line.specs.Sets.{AllInside, AreSets, AreWithin, HasCode, all_inside, has_codes, is_inside}
+use Rattle.edit_line.specs.Sets.{AreCodesIn, AreSets, AreWithin, HasCode, are_subsets, none_is_empty, are_codes_in}
 
 -- Sets of codes, as bits, and lists of them.
 
@@ -19,7 +19,7 @@ has-inside s t code inside in_first =
     omega (arith, bit_at_and s t code, at, in_first, bit_at-lt t code)
 
 -- codes inside the first sets are inside the second, where the first lie inside the second
-pub inside-all_inside : (first second codes : List ℕ) → all_inside first second ≡ true → AllInside first codes → AllInside second codes
+pub inside-all_inside : (first second codes : List ℕ) → are_subsets first second ≡ true → AreCodesIn first codes → AreCodesIn second codes
 inside-all_inside first [] codes lie inside = tt
 inside-all_inside [] (t ∷ second) codes lie inside = absurd (cc)
 inside-all_inside (s ∷ first) (t ∷ second) [] lie inside = tt
@@ -27,30 +27,30 @@ inside-all_inside (s ∷ first) (t ∷ second) (code ∷ codes) lie inside =
     let (here, rest) = both_true _ _ lie in (has-inside s t code here inside.0, inside-all_inside first second codes rest inside.1)
 
 -- the test of codes inside sets
-pub is_inside-Decides : (sets codes : List ℕ) → Decides (is_inside sets codes) (AllInside sets codes)
+pub is_inside-Decides : (sets codes : List ℕ) → Decides (are_codes_in sets codes) (AreCodesIn sets codes)
 is_inside-Decides [] codes = (λ _. tt, λ _. refl)
 is_inside-Decides (set ∷ sets) [] = (λ _. tt, λ _. refl)
-is_inside-Decides (set ∷ sets) (code ∷ codes) = both_decide (has_code set code) (is_inside sets codes) (Decides-eqb (bit_at set code) 1) (is_inside-Decides sets codes)
+is_inside-Decides (set ∷ sets) (code ∷ codes) = both_decide (has_code set code) (are_codes_in sets codes) (Decides-eqb (bit_at set code) 1) (is_inside-Decides sets codes)
 
 -- ---- a loop over two lists of sets
 
 -- fewer sets do not lie inside more
-pub all_inside-fewer : (first second : List ℕ) → length first < length second → all_inside first second ≡ false
+pub all_inside-fewer : (first second : List ℕ) → length first < length second → are_subsets first second ≡ false
 all_inside-fewer first [] fewer = absurd (omega arith)
 all_inside-fewer [] (t ∷ second) fewer = refl
 all_inside-fewer (s ∷ first) (t ∷ second) fewer = ap (λ b. nat_eq (bit_and s t) s && b) (all_inside-fewer first second (omega arith)) ∙ and_false _
 
 -- from one place on
 pub all_inside-at : (first second : List ℕ) (i : ℕ) → i < length second → length second ≤ length first
-    → all_inside (drop i first) (drop i second) ≡ (nat_eq (bit_and (get_or first i 0) (get_or second i 0)) (get_or first i 0) && all_inside (drop (i + 1) first) (drop (i + 1) second))
+    → are_subsets (drop i first) (drop i second) ≡ (nat_eq (bit_and (get_or first i 0) (get_or second i 0)) (get_or first i 0) && are_subsets (drop (i + 1) first) (drop (i + 1) second))
 all_inside-at first second i below many =
-    rw (add-one) (ap (λ ss. all_inside ss (drop i second)) (drop-cons first i 0 (omega arith)) ∙ ap (λ ts. all_inside (get_or first i 0 ∷ drop (suc i) first) ts) (drop-cons second i 0 below))
+    rw (add-one) (ap (λ ss. are_subsets ss (drop i second)) (drop-cons first i 0 (omega arith)) ∙ ap (λ ts. are_subsets (get_or first i 0 ∷ drop (suc i) first) ts) (drop-cons second i 0 below))
 
 -- past the last set of the second list
-pub all_inside-end : (first second : List ℕ) (i : ℕ) → length second ≤ i → all_inside (drop i first) (drop i second) ≡ true
-all_inside-end first second i past = ap (λ ts. all_inside (drop i first) ts) (drop_all i second past) ∙ no_more (drop i first)
+pub all_inside-end : (first second : List ℕ) (i : ℕ) → length second ≤ i → are_subsets (drop i first) (drop i second) ≡ true
+all_inside-end first second i past = ap (λ ts. are_subsets (drop i first) ts) (drop_all i second past) ∙ no_more (drop i first)
   where
-    no_more : (ss : List ℕ) → all_inside ss [] ≡ true
+    no_more : (ss : List ℕ) → are_subsets ss [] ≡ true
     no_more [] = refl
     no_more (s ∷ ss) = refl
 
@@ -76,7 +76,7 @@ AreWithin-set (s ∷ sets) (w ∷ wholes) zero set smaller within = (omega (arit
 AreWithin-set (s ∷ sets) (w ∷ wholes) (suc place) set smaller within = (within.0, AreWithin-set sets wholes place set smaller within.1)
 
 -- where none is empty, they are the sets of a line
-pub AreSets-within : (sets wholes : List ℕ) → has_codes sets ≡ true → AreWithin sets wholes → AreSets sets wholes
+pub AreSets-within : (sets wholes : List ℕ) → none_is_empty sets ≡ true → AreWithin sets wholes → AreSets sets wholes
 AreSets-within [] [] full within = tt
 AreSets-within [] (w ∷ wholes) full within = absurd within
 AreSets-within (s ∷ sets) [] full within = absurd within

@@ -106,11 +106,11 @@ own_number : (i k : ℕ) → k ≡ 0 → (i == (i + k)) ≡ true
 own_number i k none = (Decides-eqb i (i + k)).1 (omega arith)
 
 -- a field on which a set of codes is given is categorical
-pub codes-there : (i k set : ℕ) (fields : List Field) → IsSomeAnd (slice_get fields k) (λ (f : Field). surveys.HasCodes f.kind set) → has_field (codes_from i (shape_of fields)) (i + k) ≡ true
+pub codes-there : (i k set : ℕ) (fields : List Field) → IsSomeAnd (slice_get fields k) (λ (f : Field). surveys.IsSetOf f.kind set) → has_field (codes_from i (shape_of fields)) (i + k) ≡ true
 codes-there i k set [] there = absurd there
 codes-there i zero set (f ∷ fields) there = by f.kind there
   where
-    by : (kind_of : Kind) → surveys.HasCodes kind_of set → has_field (codes_from i (domain_of kind_of ∷ shape_of fields)) (i + 0) ≡ true
+    by : (kind_of : Kind) → surveys.IsSetOf kind_of set → has_field (codes_from i (domain_of kind_of ∷ shape_of fields)) (i + 0) ≡ true
     by (kind.Number scale) h = absurd h
     by (kind.Code codes) h = ap (λ b. b || has_field (codes_from (suc i) (shape_of fields)) (i + 0)) (own_number i 0 refl)
 codes-there i (suc k) set (f ∷ fields) there = by f.kind (ap (λ n. has_field (codes_from (suc i) (shape_of fields)) n) next ∙ codes-there (suc i) k set fields there)

@@ -9,7 +9,7 @@ use Rattle.fraction128.proofs.Signs.{above-*}
 use Rattle.fraction128.proofs.Whole.{parts, ring, same_dif}
 use Rattle.edit_model.specs.Points.{Point}
 use Rattle.edit_line.specs.Lines.{Follows, IsEnough, LineHolds, LineParts, amount, weighted}
-use Rattle.edit_line.specs.Sets.{AllInside, all_inside}
+use Rattle.edit_line.specs.Sets.{AreCodesIn, are_subsets}
 use Rattle.edit_line.specs.Shapes.{Domain, codes_at, numerators_at}
 use Rattle.edit_line.specs.Subsumption.{has_no_factor, is_enough, is_false, is_tighter, is_trivial, same_all, subsumes}
 use Rattle.edit_line.proofs.Enough.{IsEnough-more, IsEnough-times, IsEnough-weaker, IsEnough_cancel, is_enough-Decides}
@@ -46,7 +46,7 @@ trivial-holds line p trivial =
     }
 
 -- a false line holds only where some code is outside its set
-pub false-outside : (line : LineParts) (p : Point) → is_false line ≡ true → LineHolds line p → AllInside line.sets (codes_at line.shape p) → ⊥
+pub false-outside : (line : LineParts) (p : Point) → is_false line ≡ true → LineHolds line p → AreCodesIn line.sets (codes_at line.shape p) → ⊥
 false-outside line p never holds inside =
     let (none, fails) = both_true _ _ never in
     let at_constant : IsEnough line.strict (line.constant *ℤ p.denominator) = subst (λ (z : ℤ). IsEnough line.strict z) (amount-constant line p none) (holds.enough inside) in
@@ -85,11 +85,11 @@ subsumes-holds a b p shape test holds =
     let (lie, either) = both_true _ _ test in
     record {
       enough = λ inside.
-          let in_a : AllInside a.sets (codes_at a.shape p) = inside-all_inside b.sets a.sets (codes_at a.shape p) lie (subst (λ (s : List Domain). AllInside b.sets (codes_at s p)) shape inside) in
+          let in_a : AreCodesIn a.sets (codes_at a.shape p) = inside-all_inside b.sets a.sets (codes_at a.shape p) lie (subst (λ (s : List Domain). AreCodesIn b.sets (codes_at s p)) shape inside) in
           by (is_false a) refl either in_a;
     }
   where
-    by : (f : Bool) → is_false a ≡ f → (f || (same_all a.factors b.factors && is_tighter a b)) ≡ true → AllInside a.sets (codes_at a.shape p) → IsEnough b.strict (amount b p)
+    by : (f : Bool) → is_false a ≡ f → (f || (same_all a.factors b.factors && is_tighter a b)) ≡ true → AreCodesIn a.sets (codes_at a.shape p) → IsEnough b.strict (amount b p)
     by true never either in_a = absurd (false-outside a p never holds in_a)
     by false _ either in_a =
         let (equal, tighter) = both_true _ _ either in
@@ -105,11 +105,11 @@ pub subsumes-follows : (a b : LineParts) → b.shape ≡ a.shape → subsumes a 
 subsumes-follows a b shape test p holds = subsumes-holds a b p shape test (holds 0 a (omega arith))
 
 -- when a subsumes b
-pub subsumes-false : (a b : LineParts) → all_inside b.sets a.sets ≡ true → is_false a ≡ true → subsumes a b ≡ true
+pub subsumes-false : (a b : LineParts) → are_subsets b.sets a.sets ≡ true → is_false a ≡ true → subsumes a b ≡ true
 subsumes-false a b lie never = rw lie (rw never refl)
 
-pub subsumes-tight : (a b : LineParts) → all_inside b.sets a.sets ≡ true → same_all a.factors b.factors ≡ true → is_tighter a b ≡ true → subsumes a b ≡ true
-subsumes-tight a b lie equal tighter = chosen (all_inside b.sets a.sets) (is_false a) (same_all a.factors b.factors) (is_tighter a b) lie equal tighter
+pub subsumes-tight : (a b : LineParts) → are_subsets b.sets a.sets ≡ true → same_all a.factors b.factors ≡ true → is_tighter a b ≡ true → subsumes a b ≡ true
+subsumes-tight a b lie equal tighter = chosen (are_subsets b.sets a.sets) (is_false a) (same_all a.factors b.factors) (is_tighter a b) lie equal tighter
   where
     chosen : (l f s t : Bool) → l ≡ true → s ≡ true → t ≡ true → (l && (f || (s && t))) ≡ true
     chosen true true s t h i j = refl

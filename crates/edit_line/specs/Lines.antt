@@ -1,7 +1,7 @@
 use Rattle.std.specs.Prelude.{◌≡◌, ℕ, ℤ, Bool, true, false, List, ◌∷◌, All, length, pos, ◌<ℤ◌, ◌≤ℤ◌, ◌+ℤ◌, ◌*ℤ◌}
 use Rattle.fraction128.specs.Range.{InRange}
 use Rattle.edit_model.specs.Points.{Point}
-use Rattle.edit_line.specs.Sets.{AllInside, AreSets}
+use Rattle.edit_line.specs.Sets.{AreCodesIn, AreSets}
 use Rattle.edit_line.specs.Shapes.{Domain, beside, code_fields, codes_at, number_fields, numerators_at, whole_sets}
 
 -- a linear edit: IF each code is in its set THEN the sum of factor * value, and the constant, is at least 0, or above it where the line is strict. A set for each categorical field and a factor for each numerical one, both in declared order
@@ -38,7 +38,7 @@ IsEnough false z = pos 0 ≤ℤ z
 
 -- the line holds at the point
 pub record LineHolds (line : LineParts) (p : Point) : Type 0 where
-  pub enough : AllInside line.sets (codes_at line.shape p) → IsEnough line.strict (amount line p)
+  pub enough : AreCodesIn line.sets (codes_at line.shape p) → IsEnough line.strict (amount line p)
 
 -- all lines hold at the point
 abbrev pub AllHold : List LineParts → Point → Type 0

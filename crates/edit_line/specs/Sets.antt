@@ -10,24 +10,24 @@ abbrev pub HasCode : ℕ → ℕ → Type 0
 HasCode set code = bit_at set code ≡ 1
 
 -- each code is in its set
-abbrev pub AllInside : List ℕ → List ℕ → Type 0
-AllInside (set ∷ sets) (code ∷ codes) = HasCode set code × AllInside sets codes
-AllInside _ _ = Unit {0}
+abbrev pub AreCodesIn : List ℕ → List ℕ → Type 0
+AreCodesIn (set ∷ sets) (code ∷ codes) = HasCode set code × AreCodesIn sets codes
+AreCodesIn _ _ = Unit {0}
 
 -- whether each code is in its set
-abbrev pub is_inside : List ℕ → List ℕ → Bool
-is_inside (set ∷ sets) (code ∷ codes) = has_code set code && is_inside sets codes
-is_inside _ _ = true
+abbrev pub are_codes_in : List ℕ → List ℕ → Bool
+are_codes_in (set ∷ sets) (code ∷ codes) = has_code set code && are_codes_in sets codes
+are_codes_in _ _ = true
 
 -- whether each set of the first lies inside that of the second
-abbrev pub all_inside : List ℕ → List ℕ → Bool
-all_inside (s ∷ first) (t ∷ second) = nat_eq (bit_and s t) s && all_inside first second
-all_inside [] (t ∷ second) = false
-all_inside first [] = true
+abbrev pub are_subsets : List ℕ → List ℕ → Bool
+are_subsets (s ∷ first) (t ∷ second) = nat_eq (bit_and s t) s && are_subsets first second
+are_subsets [] (t ∷ second) = false
+are_subsets first [] = true
 
 -- no set is empty
-abbrev pub has_codes : List ℕ → Bool
-has_codes sets = list_all (λ s. not (nat_eq s 0)) sets
+abbrev pub none_is_empty : List ℕ → Bool
+none_is_empty sets = list_all (λ s. not (nat_eq s 0)) sets
 
 -- a set for each whole set of a field's codes: it has a code, and none but the field's
 abbrev pub AreSets : List ℕ → List ℕ → Type 0

@@ -3,7 +3,7 @@ use Rattle.std.specs.Ordering.{int_eq}
 use Rattle.std.specs.Cmp.Lexicographic.{pointwise}
 use Rattle.std.specs.List.{list_all}
 use Rattle.edit_line.specs.Lines.{LineParts}
-use Rattle.edit_line.specs.Sets.{all_inside}
+use Rattle.edit_line.specs.Sets.{are_subsets}
 
 -- whether two lists of whole numbers are equal
 abbrev pub same_all : List ℤ → List ℤ → Bool
@@ -31,4 +31,4 @@ is_tighter a b = int_lt a.constant b.constant || (int_eq a.constant b.constant &
 
 -- whether a subsumes b: each set of b is inside a's, and a is false, or has the same factors and is as tight
 abbrev pub subsumes : LineParts → LineParts → Bool
-subsumes a b = all_inside b.sets a.sets && (is_false a || (same_all a.factors b.factors && is_tighter a b))
+subsumes a b = are_subsets b.sets a.sets && (is_false a || (same_all a.factors b.factors && is_tighter a b))

@@ -1,7 +1,7 @@
 ghost use Rattle.std.specs.Prelude.{◌≡◌, ◌↔◌, IfOk, true};
 ghost use Rattle.edit_line.specs.Boxes.{IsBox, are_whole, box_of};
 ghost use Rattle.edit_line.specs.Sets.{AreSets};
-ghost use Rattle.edit_line.specs.Shapes.{domains_of, shape_of, whole_sets};
+ghost use Rattle.edit_line.specs.Shapes.{domains, shape_of, whole_sets};
 
 use crate::code_sets::are_whole;
 use crate::shape::Shape;
@@ -20,13 +20,12 @@ pub struct CodeBox {
 
 impl Model for CodeBox {
     ghost use Rattle.edit_line.specs.Boxes.{BoxParts, IsBox, box_of};
-    ghost use Rattle.edit_line.specs.Shapes.{domains_of};
 
     ghost Value = { BoxParts };
 
-    ghost view = { λ b. box_of (domains_of b.shape.count b.shape.codes) b.sets.items };
+    ghost view = { λ b. box_of (domains b.shape) b.sets.items };
 
-    ghost invariant = { λ b. IsBox (box_of (domains_of b.shape.count b.shape.codes) b.sets.items) };
+    ghost invariant = { λ b. IsBox (box_of (domains b.shape) b.sets.items) };
 }
 
 impl CodeBox {
@@ -40,8 +39,8 @@ impl CodeBox {
 
     /// The box of these sets, over fields of this shape. No memory.
     pub fn over(shape: Shape, sets: Vec<u64>) -> CodeBox
-        requires { IsBox (box_of (domains_of shape.count shape.codes) sets.items) }
-        ensures { result ≡ box_of (domains_of shape.count shape.codes) sets.items }
+        requires { IsBox (box_of (domains shape) sets.items) }
+        ensures { result ≡ box_of (domains shape) sets.items }
     {
         CodeBox { sets, shape }
     }
@@ -64,7 +63,7 @@ impl CodeBox {
 
     /// The shape of the survey. No memory.
     pub fn shape(&self) -> Shape
-        ensures { domains_of result.count result.codes ≡ self.now.shape }
+        ensures { domains result ≡ self.now.shape }
     {
         self.shape
     }

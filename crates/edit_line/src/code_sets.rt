@@ -4,8 +4,8 @@ ghost use Rattle.std.specs.Cmp.Lexicographic.{pointwise};
 ghost use Rattle.edit_model.specs.Points.{has_code};
 ghost use Rattle.edit_line.specs.Boxes.{are_whole};
 ghost use Rattle.edit_line.specs.Combinations.{all_meet, meets};
-ghost use Rattle.edit_line.specs.Sets.{all_inside, has_codes};
-ghost use Rattle.edit_line.specs.Shapes.{domain_with, domains_of, whole_sets};
+ghost use Rattle.edit_line.specs.Sets.{are_subsets, none_is_empty};
+ghost use Rattle.edit_line.specs.Shapes.{domain_with, domains, whole_sets};
 
 use crate::shape::{Shape, whole_set};
 use foundation::OutOfMemory;
@@ -13,7 +13,7 @@ use std::alloc::Global;
 
 /// Whether each set of the first lies inside that of the second. No memory.
 pub fn are_inside(first: &[u64], second: &[u64]) -> bool
-    ensures { result ≡ all_inside first.now second.now }
+    ensures { result ≡ are_subsets first.now second.now }
 {
     if first.len() < second.len() {
         return false;
@@ -61,7 +61,7 @@ pub fn narrow(sets: &mut Vec<u64>, others: &[u64])
 
 /// Whether no set is empty. No memory.
 pub fn has_codes(sets: &[u64]) -> bool
-    ensures { result ≡ has_codes sets.now }
+    ensures { result ≡ none_is_empty sets.now }
 {
     sets.iter().all(|set| *set != 0)
 }
@@ -75,7 +75,7 @@ pub fn has_code(set: u64, code: u8) -> bool
 
 /// Whether the sets have all codes of their fields. No memory.
 pub(crate) fn are_whole(shape: Shape, sets: &[u64]) -> bool
-    ensures { result ≡ are_whole (domains_of shape.count shape.codes) sets.now }
+    ensures { result ≡ are_whole (domains shape) sets.now }
 {
     let mut place = 0;
     for count in shape.code_counts() {

@@ -2,7 +2,7 @@ ghost use Rattle.std.specs.Prelude.{◌≡◌, All, IfOk};
 ghost use Rattle.edit_line.specs.EditSets.{AreEdits, IsReducedOf, base_lines, edits_of};
 ghost use Rattle.edit_line.specs.Lines.{IsLine};
 ghost use Rattle.edit_line.specs.Reductions.{lines_of, reduce_derived};
-ghost use Rattle.edit_line.specs.Shapes.{domains_of, shape_of};
+ghost use Rattle.edit_line.specs.Shapes.{domains, shape_of};
 
 use crate::derived::{Derived, Origin};
 use crate::line::Line;
@@ -24,13 +24,12 @@ pub struct Edits {
 
 impl Model for Edits {
     ghost use Rattle.edit_line.specs.EditSets.{EditsParts, IsReducedOf, edits_of};
-    ghost use Rattle.edit_line.specs.Shapes.{domains_of};
 
     ghost Value = { EditsParts };
 
-    ghost view = { λ e. edits_of (domains_of e.shape.count e.shape.codes) e.lines.items };
+    ghost view = { λ e. edits_of (domains e.shape) e.lines.items };
 
-    ghost invariant = { λ e. IsReducedOf (domains_of e.shape.count e.shape.codes) e.lines.items e.reduced.items };
+    ghost invariant = { λ e. IsReducedOf (domains e.shape) e.lines.items e.reduced.items };
 }
 
 impl Edits {
@@ -61,7 +60,7 @@ impl Edits {
 
     /// The shape of the survey. No memory.
     pub fn shape(&self) -> Shape
-        ensures { domains_of result.count result.codes ≡ self.now.shape }
+        ensures { domains result ≡ self.now.shape }
     {
         self.shape
     }

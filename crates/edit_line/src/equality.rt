@@ -2,7 +2,7 @@
 ghost use Rattle.std.specs.Prelude.{◌≡◌, ◌↔◌, ℕ, length, true};
 ghost use Rattle.std.specs.Cmp.Lexicographic.{pointwise};
 ghost use Rattle.edit_line.specs.Equality.{same_edits, same_line, same_numbered, same_shape, same_strict};
-ghost use Rattle.edit_line.specs.Shapes.{domains_of};
+ghost use Rattle.edit_line.specs.Shapes.{domains};
 
 use crate::edits::Edits;
 use crate::line::Line;
@@ -70,7 +70,7 @@ fn same_numbered(first: &(u32, Line), second: &(u32, Line)) -> bool
 
 // Whether the fields take the same values.
 fn same_shape(first: Shape, second: Shape) -> bool
-    ensures { result ≡ same_shape (domains_of first.count first.codes) (domains_of second.count second.codes) }
+    ensures { result ≡ same_shape (domains first) (domains second) }
 {
     first.code_counts() == second.code_counts()
 }

@@ -5,7 +5,7 @@ ghost use Rattle.edit_line.specs.Divisors.{divided_by, reduced};
 ghost use Rattle.edit_line.specs.Divisors as divisors;
 ghost use Rattle.edit_line.specs.Lines.{IsLine, LineParts, parts_of};
 ghost use Rattle.edit_line.specs.Sets.{AreSets};
-ghost use Rattle.edit_line.specs.Shapes.{domains_of, number_fields, shape_of, whole_sets};
+ghost use Rattle.edit_line.specs.Shapes.{domains, number_fields, shape_of, whole_sets};
 
 use crate::code_sets::narrow;
 use crate::division::{divide_all, divisor_of, quotient};
@@ -31,13 +31,12 @@ pub struct Line {
 
 impl Model for Line {
     ghost use Rattle.edit_line.specs.Lines.{IsLine, LineParts, parts_of};
-    ghost use Rattle.edit_line.specs.Shapes.{domains_of};
 
     ghost Value = { LineParts };
 
-    ghost view = { λ l. parts_of (domains_of l.shape.count l.shape.codes) l.sets.items l.factors.items l.constant l.strict };
+    ghost view = { λ l. parts_of (domains l.shape) l.sets.items l.factors.items l.constant l.strict };
 
-    ghost invariant = { λ l. IsLine (parts_of (domains_of l.shape.count l.shape.codes) l.sets.items l.factors.items l.constant l.strict) };
+    ghost invariant = { λ l. IsLine (parts_of (domains l.shape) l.sets.items l.factors.items l.constant l.strict) };
 }
 
 impl Line {
@@ -63,8 +62,8 @@ impl Line {
         constant: i128,
         strict: bool,
     ) -> Line
-        requires { IsLine (parts_of (domains_of shape.count shape.codes) sets.items factors.items constant strict) }
-        ensures { result ≡ parts_of (domains_of shape.count shape.codes) sets.items factors.items constant strict }
+        requires { IsLine (parts_of (domains shape) sets.items factors.items constant strict) }
+        ensures { result ≡ parts_of (domains shape) sets.items factors.items constant strict }
     {
         Line {
             sets,
@@ -84,8 +83,8 @@ impl Line {
         constant: i128,
         strict: bool,
     ) -> Line
-        requires { IsLine (parts_of (domains_of shape.count shape.codes) sets.items factors.items constant strict) }
-        ensures { result ≡ reduced (parts_of (domains_of shape.count shape.codes) sets.items factors.items constant strict) }
+        requires { IsLine (parts_of (domains shape) sets.items factors.items constant strict) }
+        ensures { result ≡ reduced (parts_of (domains shape) sets.items factors.items constant strict) }
     {
         let mut line = Line::over(shape, sets, factors, constant, strict);
         line.reduce_numbers();
@@ -127,7 +126,7 @@ impl Line {
 
     /// The shape of the survey. No memory.
     pub fn shape(&self) -> Shape
-        ensures { domains_of result.count result.codes ≡ self.now.shape }
+        ensures { domains result ≡ self.now.shape }
     {
         self.shape
     }

@@ -6,7 +6,7 @@ ghost use Rattle.edit_model.specs.Rows.{IsRow, value_of};
 ghost use Rattle.edit_line.specs.Boxes.{are_whole};
 ghost use Rattle.edit_line.specs.CodeFields.{codes_in};
 ghost use Rattle.edit_line.specs.Lines.{factor};
-ghost use Rattle.edit_line.specs.Sets.{is_inside};
+ghost use Rattle.edit_line.specs.Sets.{are_codes_in};
 ghost use Rattle.edit_line.specs.Shapes.{beside, number_fields, shape_of, whole_sets};
 ghost use Rattle.edit_line.specs.Sums.{stands_only};
 
@@ -38,7 +38,7 @@ impl Line {
     pub fn admits_codes_of(&self, survey: &Survey, row: &Row) -> bool
         requires shape { self.now.shape ≡ shape_of survey.now.fields }
         requires row { IsRow survey.now.fields row.now }
-        ensures { result ≡ is_inside self.now.sets (codes_in self.now.shape row.now) }
+        ensures { result ≡ are_codes_in self.now.sets (codes_in self.now.shape row.now) }
     {
         admits_codes(self.sets(), survey.codes(), row)
     }
@@ -83,7 +83,7 @@ fn stands_only(set: FieldSet, fields: &[u32], factors: &[i128]) -> bool
 fn admits_codes(sets: &[u64], fields: &[u32], row: &Row) -> bool
     requires count { length sets.now ≡ length fields.now }
     requires within { All (λ f. f < length row.now) fields.now }
-    ensures { result ≡ is_inside sets.now (map (λ f. code_in (value_of row.now f)) fields.now) }
+    ensures { result ≡ are_codes_in sets.now (map (λ f. code_in (value_of row.now f)) fields.now) }
 {
     for (place, field) in fields.iter().enumerate() {
         if !has_code(sets[place], code_in(row.value(*field))) {

@@ -1,6 +1,6 @@
 use Rattle.std.proofs.Common.{◌≡◌, ◌≢◌, ℕ, zero, suc, ◌<◌, List, [], ◌∷◌, length, get_or, slice_get, IsSomeAnd, refl, arith}
 use Rattle.edit_model.specs.Rows.{IsOfKind, IsRow, value_of}
-use Rattle.edit_model.specs.Surveys.{HasCodes, IsNumber, IsRule, IsTest}
+use Rattle.edit_model.specs.Surveys.{IsSetOf, IsNumber, IsRule, IsTest}
 use Rattle.edit_model.specs.Trials.{AgreesOn, AgreesWith, CanTry, HasValues, IsCodeValue, IsNumberValue}
 use Rattle.edit_model.specs.declared.field.Field.{Field}
 use Rattle.edit_model.specs.declared.field.Kind.{Kind}
@@ -28,7 +28,7 @@ number_there (kind.Number scale) (Code c) is of_kind held = absurd of_kind
 number_there k Bad is of_kind held = absurd (held refl)
 number_there (kind.Code codes) v is of_kind held = absurd is
 
-code_there : (k : Kind) (set : ℕ) (v : Value) → HasCodes k set → IsOfKind k v → v ≢ Bad → IsCodeValue v
+code_there : (k : Kind) (set : ℕ) (v : Value) → IsSetOf k set → IsOfKind k v → v ≢ Bad → IsCodeValue v
 code_there (kind.Code codes) set (Code c) has of_kind held = tt
 code_there (kind.Code codes) set (Number x) has of_kind held = absurd of_kind
 code_there k set Bad has of_kind held = absurd (held refl)
@@ -42,7 +42,7 @@ module _ (fields : List Field) (row : List Value) (is : IsRow fields row) (held 
       let (f, number, within, of_kind) = at_field fields row term.field (λ (f : Field). IsNumber f.kind) is (fits.1 k d below).numerical in
       (within, number_there f.kind (value_of row term.field) number of_kind (held term.field within))
   has_values (test.Codes field negated set) fits =
-      let (f, has, within, of_kind) = at_field fields row field (λ (f : Field). HasCodes f.kind set) is fits in
+      let (f, has, within, of_kind) = at_field fields row field (λ (f : Field). IsSetOf f.kind set) is fits in
       (within, code_there f.kind set (value_of row field) has of_kind (held field within))
 
   -- a rule of the survey

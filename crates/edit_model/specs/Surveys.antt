@@ -50,9 +50,9 @@ pub record IsField (f : Field) : Type 0 where
   pub fits : IsKind f.kind
 
 -- the set of codes, as bits, is inside the field's codes and not empty
-abbrev pub HasCodes : Kind → ℕ → Type 0
-HasCodes (kind.Number scale) set = ⊥
-HasCodes (kind.Code codes) set = (0 < set) × (set < 2 ^ length codes)
+abbrev pub IsSetOf : Kind → ℕ → Type 0
+IsSetOf (kind.Number scale) set = ⊥
+IsSetOf (kind.Code codes) set = (0 < set) × (set < 2 ^ length codes)
 
 -- the field is numerical
 abbrev pub IsNumber : Kind → Type 0
@@ -67,7 +67,7 @@ pub record IsTerm (fields : List Field) (t : Term) : Type 0 where
 -- a linear test in rising field order, or a test on a field's own codes
 abbrev pub IsTest : List Field → Test → Type 0
 IsTest fields (Number l) = IsStrictlyIncreasing (map (λ (t : Term). t.field) l.terms) × All (IsTerm fields) l.terms × (unsigned_abs l.constant ≤ 10 ^ 15)
-IsTest fields (Codes field negated set) = IsSomeAnd (slice_get fields field) (λ f. HasCodes f.kind set)
+IsTest fields (Codes field negated set) = IsSomeAnd (slice_get fields field) (λ f. IsSetOf f.kind set)
 
 -- a test on codes
 abbrev pub IsCodeTest : Test → Type 0

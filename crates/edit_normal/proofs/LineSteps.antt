@@ -12,7 +12,7 @@ use Rattle.edit_model.specs.declared.rule.Compare.TheVariants.{Ge, Gt, Le, Lt, E
 use Rattle.edit_model.specs.declared.rule.Linear.{Linear}
 use Rattle.edit_line.specs.Divisors.{reduced}
 use Rattle.edit_line.specs.Lines.{AllHold, IsEnough, LineHolds, LineParts, amount, parts_of}
-use Rattle.edit_line.specs.Sets.{AllInside, has_codes, is_inside}
+use Rattle.edit_line.specs.Sets.{AreCodesIn, none_is_empty, are_codes_in}
 use Rattle.edit_line.specs.Shapes.{Domain, codes_at, number_fields}
 use Rattle.edit_line.specs.Subsumption.{is_enough}
 use Rattle.edit_line.proofs.DivisionLaws.{enough-reduced, reduced-enough}
@@ -47,10 +47,10 @@ other {P} a b e d = subst (λ (c : Bool). Decides c P) e d
 -- ---- one line
 
 -- a line that is divided says that the sum is enough where the codes are in the sets
-divided-Decides : (line : LineParts) (b : Bool) (p : Point) → Decides b (IsEnough line.strict (amount line p)) → Decides (not (is_inside line.sets (codes_at line.shape p)) || b) (LineHolds (reduced line) p)
-divided-Decides line b p d = by (is_inside line.sets (codes_at line.shape p)) (is_inside-Decides line.sets (codes_at line.shape p))
+divided-Decides : (line : LineParts) (b : Bool) (p : Point) → Decides b (IsEnough line.strict (amount line p)) → Decides (not (are_codes_in line.sets (codes_at line.shape p)) || b) (LineHolds (reduced line) p)
+divided-Decides line b p d = by (are_codes_in line.sets (codes_at line.shape p)) (is_inside-Decides line.sets (codes_at line.shape p))
   where
-    by : (i : Bool) → Decides i (AllInside line.sets (codes_at line.shape p)) → Decides (not i || b) (LineHolds (reduced line) p)
+    by : (i : Bool) → Decides i (AreCodesIn line.sets (codes_at line.shape p)) → Decides (not i || b) (LineHolds (reduced line) p)
     by true q = (λ h. enough-reduced line p (λ _. d.0 h), λ holds. d.1 (reduced-enough line p holds (q.0 refl)))
     by false q = (λ _. enough-reduced line p (λ inside. absurd (cc (q.1 inside))), λ _. refl)
 
@@ -58,7 +58,7 @@ divided-Decides line b p d = by (is_inside line.sets (codes_at line.shape p)) (i
 
 module _ (shape : List Domain) (sets : List ℕ) (e : Linear) (p : Point) (has : HasTerms shape e.terms) where
   inside : Bool
-  inside = is_inside sets (codes_at shape p)
+  inside = are_codes_in sets (codes_at shape p)
 
   sum : ℤ
   sum = linear_sum e p
@@ -85,7 +85,7 @@ module _ (shape : List Domain) (sets : List ℕ) (e : Linear) (p : Point) (has :
   eq_is z = grind (arith, ints)
 
   -- the lines of a comparison hold where it does, or some code is outside its set
-  pub compare-Decides : (c : Compare) → Decides (not (is_inside sets (codes_at shape p)) || compares c (linear_sum e p)) (AllHold (compare_lines shape sets e c) p)
+  pub compare-Decides : (c : Compare) → Decides (not (are_codes_in sets (codes_at shape p)) || compares c (linear_sum e p)) (AllHold (compare_lines shape sets e c) p)
   unfolding inside sum
   compare-Decides Ge = one-Decides _ _ p (positive false)
   compare-Decides Gt = one-Decides _ _ p (positive true)
@@ -110,7 +110,7 @@ module _ (shape : List Domain) (sets : List ℕ) (e : Linear) (p : Point) (has :
   not_lt z = grind (arith, ints)
 
   -- the lines of its contrary hold where it does not, or some code is outside its set
-  pub contrary-Decides : (c : Compare) → c ≢ Eq → Decides (not (is_inside sets (codes_at shape p)) || not (compares c (linear_sum e p))) (AllHold (contrary_lines shape sets e c) p)
+  pub contrary-Decides : (c : Compare) → c ≢ Eq → Decides (not (are_codes_in sets (codes_at shape p)) || not (compares c (linear_sum e p))) (AllHold (contrary_lines shape sets e c) p)
   unfolding inside sum
   contrary-Decides Ge apart = one-Decides _ _ p (other _ _ (ap (λ b. not inside || b) (not_ge sum)) (negative true))
   contrary-Decides Gt apart = one-Decides _ _ p (other _ _ (ap (λ b. not inside || b) (not_gt sum)) (negative false))
@@ -121,17 +121,17 @@ module _ (shape : List Domain) (sets : List ℕ) (e : Linear) (p : Point) (has :
 -- ---- a line with an empty set
 
 -- no codes are inside sets of which one is empty
-none-inside : (sets codes : List ℕ) → length sets ≡ length codes → has_codes sets ≡ false → AllInside sets codes → ⊥
+none-inside : (sets codes : List ℕ) → length sets ≡ length codes → none_is_empty sets ≡ false → AreCodesIn sets codes → ⊥
 none-inside [] codes same empty inside = cc
 none-inside (s ∷ sets) [] same empty inside = omega arith
 none-inside (s ∷ sets) (code ∷ codes) same empty inside = by (nat_eq s 0) refl empty (λ rest. none-inside sets codes (omega arith) rest inside.1)
   where
-    by : (b : Bool) → nat_eq s 0 ≡ b → (not b && has_codes sets) ≡ false → (has_codes sets ≡ false → ⊥) → ⊥
+    by : (b : Bool) → nat_eq s 0 ≡ b → (not b && none_is_empty sets) ≡ false → (none_is_empty sets ≡ false → ⊥) → ⊥
     by true e h later =
         let is : s ≡ 0 = (Decides-eqb s 0).0 e in
         let bit : bit_at s code ≡ 0 = ap (λ n. bit_at n code) is ∙ bit_at-zero code in omega (arith, bit, inside.0)
     by false e h later = later h
 
 -- such a line holds everywhere
-pub empty-holds : (line : LineParts) (p : Point) → length line.sets ≡ length (codes_at line.shape p) → has_codes line.sets ≡ false → LineHolds line p
+pub empty-holds : (line : LineParts) (p : Point) → length line.sets ≡ length (codes_at line.shape p) → none_is_empty line.sets ≡ false → LineHolds line p
 empty-holds line p same empty = record { enough = λ inside. absurd (none-inside line.sets (codes_at line.shape p) same empty inside) }

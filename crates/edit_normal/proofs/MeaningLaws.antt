@@ -7,7 +7,7 @@ use Rattle.edit_model.specs.Surveys.{IsRule, IsWellFormed}
 use Rattle.edit_model.specs.declared.field.Field.{Field}
 use Rattle.edit_model.specs.declared.rule.Rule.{Rule}
 use Rattle.edit_line.specs.Lines.{AllHold, AreOver, LineHolds, LineParts}
-use Rattle.edit_line.specs.Sets.{has_codes}
+use Rattle.edit_line.specs.Sets.{none_is_empty}
 use Rattle.edit_line.specs.Shapes.{Domain, shape_of}
 use Rattle.edit_line.proofs.Members.{all-in, in-all, in-filter-out, in-flat_map-out, in-left, in-right}
 use Rattle.edit_line.proofs.ShapeLaws.{HasCodes-shape}
@@ -44,7 +44,7 @@ lines-all survey lines is = ap (λ (ls : List RuleLine). map (λ (l : RuleLine).
 rules-over : (shape : List Domain) (rules : List Rule) → AreOver shape (flat_map (λ rule. rule_lines_of shape rule) rules)
 rules-over shape rules = all-in (λ (line : LineParts). line.shape ≡ shape) (flat_map (λ rule. rule_lines_of shape rule) rules) (λ line there.
     let (rule, was, made) = in-flat_map-out (λ (rule : Rule). rule_lines_of shape rule) line rules there in
-    in-all (λ (line : LineParts). line.shape ≡ shape) line _ (implied-own shape rule) (in-filter-out (λ (l : LineParts). has_codes l.sets) line _ made).0)
+    in-all (λ (line : LineParts). line.shape ≡ shape) line _ (implied-own shape rule) (in-filter-out (λ (l : LineParts). none_is_empty l.sets) line _ made).0)
 
 pub lines-over : (survey : SurveyParts) (lines : List RuleLine) → lines ≡ lines_from (shape_of survey.fields) 0 survey.rules → AreOver (shape_of survey.fields) (map (λ (l : RuleLine). l.line) lines)
 lines-over survey lines is = subst (λ (ls : List LineParts). AreOver (shape_of survey.fields) ls) (sym (lines-all survey lines is)) (rules-over (shape_of survey.fields) survey.rules)

@@ -15,7 +15,7 @@ use Rattle.edit_model.specs.declared.rule.Test.TheVariants.{Number, Codes}
 use Rattle.edit_line.specs.Divisors.{reduced}
 use Rattle.edit_line.specs.Lines.{AllHold, AreOver, LineHolds, LineParts}
 use Rattle.edit_line.specs.Reductions.{IsIn}
-use Rattle.edit_line.specs.Sets.{has_codes, is_inside}
+use Rattle.edit_line.specs.Sets.{none_is_empty, are_codes_in}
 use Rattle.edit_line.specs.Shapes.{Domain, HasCodes, code_fields, codes_at, has_field, whole_sets}
 use Rattle.edit_line.proofs.ShapeLaws.{length-wholes}
 use Rattle.edit_line.proofs.Members.{all-in, in-all, in-filter, in-filter-out}
@@ -60,17 +60,17 @@ module _ (shape : List Domain) (p : Point) (held : HasCodes 0 shape p) where
 
   -- what the lines say: some code is outside its set, or a condition is false, or the conclusion is true
   pub implied-Decides : (sets : List ℕ) (conditions : List Test) (conclusion : Test) → length sets ≡ length (code_fields shape) → FitsRule shape conditions conclusion
-      → Decides (not (is_inside sets (codes_at shape p)) || (list_any (λ (t : Test). not (test_holds t p)) conditions || test_holds conclusion p)) (AllHold (implied_lines shape sets conditions conclusion) p)
+      → Decides (not (are_codes_in sets (codes_at shape p)) || (list_any (λ (t : Test). not (test_holds t p)) conditions || test_holds conclusion p)) (AllHold (implied_lines shape sets conditions conclusion) p)
   implied-Decides sets [] (Number e) same fits = compare-Decides shape sets e p fits e.compare
   implied-Decides sets [] (Codes field negated codes) same fits =
-      one-Decides _ _ p (other _ _ (ap not (narrowed-inside shape sets field (not negated) codes p same fits held) ∙ ap (λ b. not (is_inside sets (codes_at shape p) && b)) (turned-test field negated codes) ∙ opened (is_inside sets (codes_at shape p)) (test_holds (Codes field negated codes) p)) (never-Decides shape (narrowed shape sets field (not negated) codes) p))
+      one-Decides _ _ p (other _ _ (ap not (narrowed-inside shape sets field (not negated) codes p same fits held) ∙ ap (λ b. not (are_codes_in sets (codes_at shape p) && b)) (turned-test field negated codes) ∙ opened (are_codes_in sets (codes_at shape p)) (test_holds (Codes field negated codes) p)) (never-Decides shape (narrowed shape sets field (not negated) codes) p))
     where
       opened : (i t : Bool) → not (i && not t) ≡ (not i || t)
       opened true true = refl
       opened true false = refl
       opened false t = refl
   implied-Decides sets (Codes field negated codes ∷ conditions) conclusion same fits =
-      other _ _ (ap (λ b. not b || (list_any (λ (t : Test). not (test_holds t p)) conditions || test_holds conclusion p)) (narrowed-inside shape sets field negated codes p same fits.0 held) ∙ opened (is_inside sets (codes_at shape p)) (test_holds (Codes field negated codes) p) _ _)
+      other _ _ (ap (λ b. not b || (list_any (λ (t : Test). not (test_holds t p)) conditions || test_holds conclusion p)) (narrowed-inside shape sets field negated codes p same fits.0 held) ∙ opened (are_codes_in sets (codes_at shape p)) (test_holds (Codes field negated codes) p) _ _)
       (implied-Decides (narrowed shape sets field negated codes) conditions conclusion (narrowed-length shape sets field negated codes ∙ same) fits.1)
     where
       opened : (i t r q : Bool) → (not (i && t) || (r || q)) ≡ (not i || ((not t || r) || q))
@@ -78,7 +78,7 @@ module _ (shape : List Domain) (p : Point) (held : HasCodes 0 shape p) where
       opened true false r q = refl
       opened false t r q = refl
   implied-Decides sets (Number e ∷ []) (Codes field negated codes) same fits =
-      other _ _ (ap (λ b. not b || not (compares e.compare (linear_sum e p))) (narrowed-inside shape sets field (not negated) codes p same fits.2 held) ∙ ap (λ b. not (is_inside sets (codes_at shape p) && b) || not (compares e.compare (linear_sum e p))) (turned-test field negated codes) ∙ opened (is_inside sets (codes_at shape p)) (test_holds (Codes field negated codes) p) (compares e.compare (linear_sum e p)))
+      other _ _ (ap (λ b. not b || not (compares e.compare (linear_sum e p))) (narrowed-inside shape sets field (not negated) codes p same fits.2 held) ∙ ap (λ b. not (are_codes_in sets (codes_at shape p) && b) || not (compares e.compare (linear_sum e p))) (turned-test field negated codes) ∙ opened (are_codes_in sets (codes_at shape p)) (test_holds (Codes field negated codes) p) (compares e.compare (linear_sum e p)))
       (contrary-Decides shape (narrowed shape sets field (not negated) codes) e p fits.0 e.compare fits.1)
     where
       opened : (i t c : Bool) → (not (i && not t) || not c) ≡ (not i || ((not c || false) || t))
@@ -132,15 +132,15 @@ module _ (shape : List Domain) where
   implied-over sets (Number e ∷ conditions) (Number c) same = λ k d below. absurd (omega arith)
 
   -- lines with an empty set may be left out
-  without-empty : (lines : List LineParts) (p : Point) → All IsOver lines → AllHold lines p ↔ AllHold (filter (λ (line : LineParts). has_codes line.sets) lines) p
+  without-empty : (lines : List LineParts) (p : Point) → All IsOver lines → AllHold lines p ↔ AllHold (filter (λ (line : LineParts). none_is_empty line.sets) lines) p
   unfolding IsOver
   without-empty lines p over = (
-    λ holds. all-in (λ line. LineHolds line p) _ (λ line there. in-all (λ line. LineHolds line p) line lines holds (in-filter-out (λ (l : LineParts). has_codes l.sets) line lines there).0),
-    λ holds. all-in (λ line. LineHolds line p) lines (λ line there. by line there (has_codes line.sets) refl holds),
+    λ holds. all-in (λ line. LineHolds line p) _ (λ line there. in-all (λ line. LineHolds line p) line lines holds (in-filter-out (λ (l : LineParts). none_is_empty l.sets) line lines there).0),
+    λ holds. all-in (λ line. LineHolds line p) lines (λ line there. by line there (none_is_empty line.sets) refl holds),
   )
     where
-      by : (line : LineParts) → IsIn line lines → (b : Bool) → has_codes line.sets ≡ b → AllHold (filter (λ (line : LineParts). has_codes line.sets) lines) p → LineHolds line p
-      by line there true e holds = in-all (λ line. LineHolds line p) line _ holds (in-filter (λ (l : LineParts). has_codes l.sets) line lines e there)
+      by : (line : LineParts) → IsIn line lines → (b : Bool) → none_is_empty line.sets ≡ b → AllHold (filter (λ (line : LineParts). none_is_empty line.sets) lines) p → LineHolds line p
+      by line there true e holds = in-all (λ line. LineHolds line p) line _ holds (in-filter (λ (l : LineParts). none_is_empty l.sets) line lines e there)
       by line there false e holds =
           let is = in-all (λ (l : LineParts). (l.shape ≡ shape) × (length l.sets ≡ length (code_fields shape))) line lines over there in
           empty-holds line p (is.1 ∙ ap (λ (s : List Domain). length (code_fields s)) (sym is.0) ∙ sym (length-map (code_fields line.shape) p.code)) e
@@ -156,7 +156,7 @@ normal-Decides shape rule p fits held =
     let same : length (whole_sets shape) ≡ length (code_fields shape) = length-wholes 0 shape in
     let all = implied-Decides shape p held (whole_sets shape) rule.conditions rule.conclusion same fits in
     let filtered = without-empty shape _ p (implied-over shape (whole_sets shape) rule.conditions rule.conclusion same) in
-    let inside : is_inside (whole_sets shape) (codes_at shape p) ≡ true = whole-inside 0 shape p held in
+    let inside : are_codes_in (whole_sets shape) (codes_at shape p) ≡ true = whole-inside 0 shape p held in
     (λ h. filtered.0 (all.0 (rw inside h)), λ holds. rw inside at (all.1 (filtered.1 holds)))
 
 -- ---- the lines of all rules
@@ -212,8 +212,8 @@ module _ (shape : List Domain) (p : Point) where
 -- ---- at most two lines a rule
 
 -- filtering makes no list longer
-filtered-few : (lines : List LineParts) → length lines ≤ 2 → length (filter (λ (l : LineParts). has_codes l.sets) lines) ≤ 2
-filtered-few lines few = omega (arith, length-filter (λ (l : LineParts). has_codes l.sets) lines, count_by-le-length (λ (l : LineParts). has_codes l.sets) lines)
+filtered-few : (lines : List LineParts) → length lines ≤ 2 → length (filter (λ (l : LineParts). none_is_empty l.sets) lines) ≤ 2
+filtered-few lines few = omega (arith, length-filter (λ (l : LineParts). none_is_empty l.sets) lines, count_by-le-length (λ (l : LineParts). none_is_empty l.sets) lines)
 
 implied-few : (shape : List Domain) (sets : List ℕ) (conditions : List Test) (conclusion : Test) → length (implied_lines shape sets conditions conclusion) ≤ 2
 implied-few shape sets [] (Number e) = by e.compare

@@ -18,7 +18,7 @@ use Rattle.edit_line.specs.Divisors.{divisor_of, gcd_all, or_one, reduced}
 use Rattle.edit_line.specs.Lines.{AreOver, IsLine, LineParts, parts_of}
 use Rattle.edit_line.specs.Negations.{never}
 use Rattle.edit_line.specs.Reductions.{IsIn}
-use Rattle.edit_line.specs.Sets.{AreWithin, has_codes}
+use Rattle.edit_line.specs.Sets.{AreWithin, none_is_empty}
 use Rattle.edit_line.specs.Shapes.{number_fields, shape_of, whole_sets}
 use Rattle.edit_line.proofs.DivisionLaws.{IsLine-divided}
 use Rattle.edit_line.proofs.Members.{all-in, in-all, in-filter-out, in-flat_map-out, in-map-out}
@@ -33,7 +33,7 @@ use Rattle.edit_normal.proofs.NormalLaws.{lines-most}
 -- The normal lines of a survey's rules are lines over its fields.
 
 -- a line divided by the greatest common divisor of its numbers
-reduced-line : (line : LineParts) → (has_codes line.sets ≡ true → IsLine line) → has_codes (reduced line).sets ≡ true → IsLine (reduced line)
+reduced-line : (line : LineParts) → (none_is_empty line.sets ≡ true → IsLine line) → none_is_empty (reduced line).sets ≡ true → IsLine (reduced line)
 unfolding reduced
 reduced-line line is full = IsLine-divided line (divisor_of line.factors line.constant) (above (gcd_all (line.constant ∷ line.factors))) (is full)
   where
@@ -65,7 +65,7 @@ module _ (fields : List Field) where
   module _ (sets : List ℕ) (within : AreWithin sets (whole_sets (shape_of fields))) where
     -- a line with these sets
     parts-line : (number : ℕ → ℤ) (constant : ℤ) (strict : Bool) → ((f : ℕ) → InRange (number f)) → InRange constant
-        → has_codes sets ≡ true → IsLine (parts_of (shape_of fields) sets (map number (number_fields (shape_of fields))) constant strict)
+        → none_is_empty sets ≡ true → IsLine (parts_of (shape_of fields) sets (map number (number_fields (shape_of fields))) constant strict)
     parts-line number constant strict each last full = record {
       sets = AreSets-within sets (whole_sets (shape_of fields)) full within;
       factors = length-map (number_fields (shape_of fields)) number;
@@ -73,17 +73,17 @@ module _ (fields : List Field) where
     }
 
     module _ (e : Linear) (terms : All (IsTerm fields) e.terms) (constant : unsigned_abs e.constant ≤ 10 ^ 15) where
-      sum-line : (strict : Bool) → has_codes (line_of (shape_of fields) sets e strict).sets ≡ true → IsLine (line_of (shape_of fields) sets e strict)
+      sum-line : (strict : Bool) → none_is_empty (line_of (shape_of fields) sets e strict).sets ≡ true → IsLine (line_of (shape_of fields) sets e strict)
       sum-line strict = reduced-line _ (parts-line (term_factor e.terms) e.constant strict (λ f. factor-in e.terms f terms) (small-in e.constant constant))
 
-      negative-line : (strict : Bool) → has_codes (negative_line_of (shape_of fields) sets e strict).sets ≡ true → IsLine (negative_line_of (shape_of fields) sets e strict)
+      negative-line : (strict : Bool) → none_is_empty (negative_line_of (shape_of fields) sets e strict).sets ≡ true → IsLine (negative_line_of (shape_of fields) sets e strict)
       negative-line strict =
           reduced-line _ (parts-line (λ f. neg_ℤ (term_factor e.terms f)) (neg_ℤ e.constant) strict (λ f. negative-in (term_factor e.terms f) (factor-in e.terms f terms)) (negative-in e.constant (small-in e.constant constant)))
 
-      same-line : (line other : LineParts) → (has_codes other.sets ≡ true → IsLine other) → line ≡ other → has_codes line.sets ≡ true → IsLine line
-      same-line line other is same = subst (λ (l : LineParts). has_codes l.sets ≡ true → IsLine l) (sym same) is
+      same-line : (line other : LineParts) → (none_is_empty other.sets ≡ true → IsLine other) → line ≡ other → none_is_empty line.sets ≡ true → IsLine line
+      same-line line other is same = subst (λ (l : LineParts). none_is_empty l.sets ≡ true → IsLine l) (sym same) is
 
-      compare-line : (c : Compare) (line : LineParts) → IsIn line (compare_lines (shape_of fields) sets e c) → has_codes line.sets ≡ true → IsLine line
+      compare-line : (c : Compare) (line : LineParts) → IsIn line (compare_lines (shape_of fields) sets e c) → none_is_empty line.sets ≡ true → IsLine line
       compare-line Ge line (inl same) = same-line line _ (sum-line false) same
       compare-line Ge line (inr none) = absurd none
       compare-line Gt line (inl same) = same-line line _ (sum-line true) same
@@ -96,7 +96,7 @@ module _ (fields : List Field) where
       compare-line Eq line (inr (inl same)) = same-line line _ (negative-line false) same
       compare-line Eq line (inr (inr none)) = absurd none
 
-      contrary-line : (c : Compare) (line : LineParts) → IsIn line (contrary_lines (shape_of fields) sets e c) → has_codes line.sets ≡ true → IsLine line
+      contrary-line : (c : Compare) (line : LineParts) → IsIn line (contrary_lines (shape_of fields) sets e c) → none_is_empty line.sets ≡ true → IsLine line
       contrary-line Ge line (inl same) = same-line line _ (negative-line true) same
       contrary-line Ge line (inr none) = absurd none
       contrary-line Gt line (inl same) = same-line line _ (negative-line false) same
@@ -107,12 +107,12 @@ module _ (fields : List Field) where
       contrary-line Lt line (inr none) = absurd none
       contrary-line Eq line none = absurd none
 
-    never-line : (line : LineParts) → IsIn line (never (shape_of fields) sets ∷ []) → has_codes line.sets ≡ true → IsLine line
-    never-line line (inl same) = subst (λ (l : LineParts). has_codes l.sets ≡ true → IsLine l) (sym same) (λ full. never-is (shape_of fields) sets (AreSets-within sets (whole_sets (shape_of fields)) full within))
+    never-line : (line : LineParts) → IsIn line (never (shape_of fields) sets ∷ []) → none_is_empty line.sets ≡ true → IsLine line
+    never-line line (inl same) = subst (λ (l : LineParts). none_is_empty l.sets ≡ true → IsLine l) (sym same) (λ full. never-is (shape_of fields) sets (AreSets-within sets (whole_sets (shape_of fields)) full within))
     never-line line (inr none) = absurd none
 
   implied-line : (sets : List ℕ) (conditions : List Test) (conclusion : Test) → AreWithin sets (whole_sets (shape_of fields)) → All (IsTest fields) conditions → IsTest fields conclusion
-      → (line : LineParts) → IsIn line (implied_lines (shape_of fields) sets conditions conclusion) → has_codes line.sets ≡ true → IsLine line
+      → (line : LineParts) → IsIn line (implied_lines (shape_of fields) sets conditions conclusion) → none_is_empty line.sets ≡ true → IsLine line
   implied-line sets [] (Number e) within are is = compare-line sets within e is.1 is.2 e.compare
   implied-line sets [] (Codes field negated codes) within are is = never-line _ (narrowed-within sets field (not negated) codes within)
   implied-line sets (Codes field negated codes ∷ conditions) conclusion within are is =
@@ -123,7 +123,7 @@ module _ (fields : List Field) where
 
   rule-line : (rule : Rule) → IsRule fields rule → (line : LineParts) → IsIn line (rule_lines_of (shape_of fields) rule) → IsLine line
   rule-line rule is line there =
-      let (made, full) = in-filter-out (λ (l : LineParts). has_codes l.sets) line _ there in
+      let (made, full) = in-filter-out (λ (l : LineParts). none_is_empty l.sets) line _ there in
       implied-line (whole_sets (shape_of fields)) rule.conditions rule.conclusion (AreWithin-wholes (whole_sets (shape_of fields))) is.conditions is.conclusion line made full
 
 pub normal-lines : (survey : SurveyParts) → IsWellFormed survey → All IsLine (normal_lines_of survey)

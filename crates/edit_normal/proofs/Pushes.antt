@@ -9,7 +9,7 @@ use Rattle.edit_model.specs.declared.rule.Test.{Test}
 use Rattle.edit_model.specs.declared.rule.Test.TheVariants.{Number}
 use Rattle.edit_line.specs.Divisors.{reduced}
 use Rattle.edit_line.specs.Lines.{IsLine, LineParts, parts_of}
-use Rattle.edit_line.specs.Sets.{AreWithin, has_codes}
+use Rattle.edit_line.specs.Sets.{AreWithin, none_is_empty}
 use Rattle.edit_line.specs.Shapes.{Domain, number_fields, whole_sets}
 use Rattle.edit_line.specs.Negations.{never}
 use Rattle.edit_line.proofs.NegationLines.{zeros-are}
@@ -23,11 +23,11 @@ use Rattle.edit_normal.specs.declared.side.Side.TheVariants.{AtLeast, Above, AtM
 -- Steps of the calls that append lines.
 
 -- a line without an empty set is put last
-pub pushed : (before after : List RuleLine) (rule : ℕ) (line : LineParts) → has_codes line.sets ≡ true → after ≡ before ++ record { rule = rule; line = line } ∷ [] → after ≡ joined_by before rule (line ∷ [])
+pub pushed : (before after : List RuleLine) (rule : ℕ) (line : LineParts) → none_is_empty line.sets ≡ true → after ≡ before ++ record { rule = rule; line = line } ∷ [] → after ≡ joined_by before rule (line ∷ [])
 pushed before after rule line full is = rw full is
 
 -- and one with an empty set is not
-pub skipped : (before : List RuleLine) (rule : ℕ) (line : LineParts) → has_codes line.sets ≡ false → before ≡ joined_by before rule (line ∷ [])
+pub skipped : (before : List RuleLine) (rule : ℕ) (line : LineParts) → none_is_empty line.sets ≡ false → before ≡ joined_by before rule (line ∷ [])
 skipped before rule line empty = rw empty (sym (append-nil before))
 
 -- the sets of a side's line
@@ -63,7 +63,7 @@ never-is own shape sets fields factors own_is fields_are factors_are =
     λ i. parts_of (own_is i) sets (all i) (negsuc 0) false
 
 pub never-line : (own shape : List Domain) (sets fields : List ℕ) (factors : List ℤ) → own ≡ shape → fields ≡ number_fields shape → factors ≡ replicate (length fields) (pos 0)
-    → has_codes sets ≡ true → AreWithin sets (whole_sets shape) → IsLine (parts_of own sets factors (negsuc 0) false)
+    → none_is_empty sets ≡ true → AreWithin sets (whole_sets shape) → IsLine (parts_of own sets factors (negsuc 0) false)
 never-line own shape sets fields factors own_is fields_are factors_are full within = record {
   sets = AreSets-within sets (whole_sets own) full (subst (λ (s : List Domain). AreWithin sets (whole_sets s)) (sym own_is) within);
   factors = ap length factors_are ∙ length-replicate (length fields) (pos 0) ∙ ap length fields_are ∙ ap (λ (s : List Domain). length (number_fields s)) (sym own_is);

@@ -6,7 +6,7 @@ use Rattle.std.proofs.lemmas.Bool.Decides.{Decides-eqb}
 use Rattle.std.proofs.lemmas.List.{drop_all, get_or-map, length-map}
 use Rattle.std.proofs.lemmas.List.Kept.{AllPairs-from_increasing}
 use Rattle.edit_model.specs.Points.{HasCodesFrom, Holds, Point}
-use Rattle.edit_model.specs.Surveys.{HasCodes, HasForm, IsCodeTest, IsNumber, IsOrderTest, IsRule, IsTerm, IsTest}
+use Rattle.edit_model.specs.Surveys.{IsSetOf, HasForm, IsCodeTest, IsNumber, IsOrderTest, IsRule, IsTerm, IsTest}
 use Rattle.edit_model.specs.declared.field.Field.{Field}
 use Rattle.edit_model.specs.declared.rule.Rule.{Rule}
 use Rattle.edit_model.specs.declared.rule.Term.{Term}
@@ -51,7 +51,7 @@ numerical : (fields : List Field) (k : ℕ) → IsSomeAnd (slice_get fields k) (
 numerical fields k there =
     let same : 0 + k ≡ k = omega arith in subst (λ n. has_field (number_fields (shape_of fields)) n ≡ true) same (number-there 0 k fields there)
 
-categorical : (fields : List Field) (k set : ℕ) → IsSomeAnd (slice_get fields k) (λ (f : Field). HasCodes f.kind set) → has_field (code_fields (shape_of fields)) k ≡ true
+categorical : (fields : List Field) (k set : ℕ) → IsSomeAnd (slice_get fields k) (λ (f : Field). IsSetOf f.kind set) → has_field (code_fields (shape_of fields)) k ≡ true
 categorical fields k set there =
     let same : 0 + k ≡ k = omega arith in subst (λ n. has_field (code_fields (shape_of fields)) n ≡ true) same (codes-there 0 k set fields there)
 

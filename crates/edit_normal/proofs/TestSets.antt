@@ -5,7 +5,7 @@ use Rattle.std.proofs.lemmas.List.{length-map, length-set}
 use Rattle.std.proofs.lemmas.Nat.Bits.{bit_at-lt, bit_at_ones, bit_at_xor}
 use Rattle.edit_model.specs.Points.{Point, has_code, test_holds}
 use Rattle.edit_model.specs.declared.rule.Test.TheVariants.{Codes}
-use Rattle.edit_line.specs.Sets.{is_inside}
+use Rattle.edit_line.specs.Sets.{are_codes_in}
 use Rattle.edit_line.specs.Shapes.{Categorical, Domain, HasCodes, Numerical, code_fields, codes_at, codes_from, has_field, place_in, whole_sets}
 use Rattle.edit_line.proofs.OtherFields.{has-and}
 use Rattle.edit_line.proofs.ShapeLaws.{place-within}
@@ -59,7 +59,7 @@ whole-has i (Categorical k ∷ shape) p f held there = by (i == f) refl (whole-h
     by false e rest h = rest h
 
 -- codes of their domains are in the whole sets
-pub whole-inside : (i : ℕ) (shape : List Domain) (p : Point) → HasCodes i shape p → is_inside (whole_sets shape) (map p.code (codes_from i shape)) ≡ true
+pub whole-inside : (i : ℕ) (shape : List Domain) (p : Point) → HasCodes i shape p → are_codes_in (whole_sets shape) (map p.code (codes_from i shape)) ≡ true
 whole-inside i [] p held = refl
 whole-inside i (Numerical ∷ shape) p held = whole-inside (suc i) shape p held
 whole-inside i (Categorical k ∷ shape) p held = rw (ap (λ n. nat_eq n 1) (bit_at_ones k (p.code i) held.0)) (whole-inside (suc i) shape p held.1)
@@ -67,10 +67,10 @@ whole-inside i (Categorical k ∷ shape) p held = rw (ap (λ n. nat_eq n 1) (bit
 -- ---- sets that are narrowed at one place
 
 inside-set : (sets codes : List ℕ) (place t : ℕ) → place < length sets → place < length codes
-    → is_inside (slice_set sets place (bit_and (slice_index_or sets place 0) t)) codes ≡ (is_inside sets codes && has_code t (slice_index_or codes place 0))
+    → are_codes_in (slice_set sets place (bit_and (slice_index_or sets place 0) t)) codes ≡ (are_codes_in sets codes && has_code t (slice_index_or codes place 0))
 inside-set [] codes place t below within = absurd (omega arith)
 inside-set (s ∷ sets) [] place t below within = absurd (omega arith)
-inside-set (s ∷ sets) (code ∷ codes) zero t below within = ap (λ b. b && is_inside sets codes) (has-and s t code) ∙ moved (has_code s code) (has_code t code) (is_inside sets codes)
+inside-set (s ∷ sets) (code ∷ codes) zero t below within = ap (λ b. b && are_codes_in sets codes) (has-and s t code) ∙ moved (has_code s code) (has_code t code) (are_codes_in sets codes)
   where
     moved : (a b c : Bool) → ((a && b) && c) ≡ ((a && c) && b)
     moved true true true = refl
@@ -78,7 +78,7 @@ inside-set (s ∷ sets) (code ∷ codes) zero t below within = ap (λ b. b && is
     moved true false true = refl
     moved true false false = refl
     moved false b c = refl
-inside-set (s ∷ sets) (code ∷ codes) (suc place) t below within = ap (λ b. has_code s code && b) (inside-set sets codes place t (omega arith) (omega arith)) ∙ grouped (has_code s code) (is_inside sets codes) _
+inside-set (s ∷ sets) (code ∷ codes) (suc place) t below within = ap (λ b. has_code s code && b) (inside-set sets codes place t (omega arith) (omega arith)) ∙ grouped (has_code s code) (are_codes_in sets codes) _
   where
     grouped : (a b c : Bool) → (a && (b && c)) ≡ ((a && b) && c)
     grouped true b c = refl
@@ -86,15 +86,15 @@ inside-set (s ∷ sets) (code ∷ codes) (suc place) t below within = ap (λ b. 
 
 -- the narrowed sets have the point's codes exactly where the sets have them and the test is true
 pub narrowed-inside : (shape : List Domain) (sets : List ℕ) (field : ℕ) (negated : Bool) (codes : ℕ) (p : Point) → length sets ≡ length (code_fields shape) → has_field (code_fields shape) field ≡ true → HasCodes 0 shape p
-    → is_inside (narrowed shape sets field negated codes) (codes_at shape p) ≡ (is_inside sets (codes_at shape p) && test_holds (Codes field negated codes) p)
+    → are_codes_in (narrowed shape sets field negated codes) (codes_at shape p) ≡ (are_codes_in sets (codes_at shape p) && test_holds (Codes field negated codes) p)
 narrowed-inside shape sets field negated codes p same there held =
     let place = place_in (code_fields shape) field in
     let below : place < length (code_fields shape) = place-within (code_fields shape) field there in
     let at : slice_index_or (codes_at shape p) place 0 ≡ p.code field = code-at p (code_fields shape) field there in
     let all = whole-has 0 shape p field held there in
     inside-set sets (codes_at shape p) place _ (omega arith) (omega (arith, length-map (code_fields shape) p.code))
-    ∙ ap (λ c. is_inside sets (codes_at shape p) && has_code (test_set (slice_index_or (whole_sets shape) place 0) negated codes) c) at
-    ∙ ap (λ b. is_inside sets (codes_at shape p) && b) (test_set-has (slice_index_or (whole_sets shape) place 0) codes (p.code field) negated all)
+    ∙ ap (λ c. are_codes_in sets (codes_at shape p) && has_code (test_set (slice_index_or (whole_sets shape) place 0) negated codes) c) at
+    ∙ ap (λ b. are_codes_in sets (codes_at shape p) && b) (test_set-has (slice_index_or (whole_sets shape) place 0) codes (p.code field) negated all)
 
 pub narrowed-length : (shape : List Domain) (sets : List ℕ) (field : ℕ) (negated : Bool) (codes : ℕ) → length (narrowed shape sets field negated codes) ≡ length sets
 narrowed-length shape sets field negated codes = length-set sets _ _

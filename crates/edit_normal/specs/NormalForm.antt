@@ -11,7 +11,7 @@ use Rattle.edit_model.specs.declared.rule.Test.TheVariants.{Number, Codes}
 use Rattle.edit_line.specs.Divisors.{reduced}
 use Rattle.edit_line.specs.Lines.{LineParts, parts_of}
 use Rattle.edit_line.specs.Negations.{never}
-use Rattle.edit_line.specs.Sets.{has_codes}
+use Rattle.edit_line.specs.Sets.{none_is_empty}
 use Rattle.edit_line.specs.Shapes.{Domain, code_fields, number_fields, place_in, whole_sets}
 
 -- ---- the codes at which a rule asks for something
@@ -75,4 +75,4 @@ implied_lines shape sets (Number e ∷ conditions) conclusion = condition_lines 
 
 -- the normal form of a rule: its lines, but for those with an empty set (Fellegi and Holt 1976, for code tests)
 abbrev pub rule_lines_of : List Domain → Rule → List LineParts
-rule_lines_of shape rule = filter (λ line. has_codes line.sets) (implied_lines shape (whole_sets shape) rule.conditions rule.conclusion)
+rule_lines_of shape rule = filter (λ line. none_is_empty line.sets) (implied_lines shape (whole_sets shape) rule.conditions rule.conclusion)

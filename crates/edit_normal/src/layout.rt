@@ -1,5 +1,5 @@
 ghost use Rattle.std.specs.Prelude.{◌≡◌, ◌<◌, IfOk};
-ghost use Rattle.edit_line.specs.Shapes.{code_fields, domains_of, number_fields, place_in, shape_of, whole_sets};
+ghost use Rattle.edit_line.specs.Shapes.{code_fields, domains, number_fields, place_in, shape_of, whole_sets};
 
 use edit_line::Shape;
 use edit_model::Survey;
@@ -19,14 +19,14 @@ pub(crate) struct Layout {
 
 impl Model for Layout {
     ghost use Rattle.std.specs.Prelude.{List};
-    ghost use Rattle.edit_line.specs.Shapes.{Domain, domains_of};
+    ghost use Rattle.edit_line.specs.Shapes.{Domain};
     ghost use Rattle.edit_normal.specs.inner.Layouts.{IsLayout};
 
     ghost Value = { List Domain };
 
-    ghost view = { λ l. domains_of l.shape.count l.shape.codes };
+    ghost view = { λ l. domains l.shape };
 
-    ghost invariant = { λ l. IsLayout (domains_of l.shape.count l.shape.codes) l.numbers.items l.categories.items l.wholes.items };
+    ghost invariant = { λ l. IsLayout (domains l.shape) l.numbers.items l.categories.items l.wholes.items };
 }
 
 impl Layout {
@@ -48,7 +48,7 @@ impl Layout {
 
     /// The shape.
     pub(crate) fn shape(&self) -> Shape
-        ensures { domains_of result.count result.codes ≡ self.now }
+        ensures { domains result ≡ self.now }
     {
         self.shape
     }

@@ -1,7 +1,7 @@
 //! The lines of one rule.
 ghost use Rattle.std.specs.Prelude.{◌≡◌, [], ◌∷◌, All, OnOk};
 ghost use Rattle.edit_line.specs.Negations.{never};
-ghost use Rattle.edit_line.specs.Sets.{AreWithin, has_codes};
+ghost use Rattle.edit_line.specs.Sets.{AreWithin, none_is_empty};
 ghost use Rattle.edit_line.specs.Shapes.{whole_sets};
 ghost use Rattle.edit_normal.specs.NormalForm.{compare_lines, condition_lines, conclusion_lines, contrary_lines, implied_lines};
 ghost use Rattle.edit_normal.specs.inner.Sides.{joined_by, side_line};
@@ -183,7 +183,7 @@ fn push_never(
 
 // Whether no set is empty.
 fn have_codes(sets: &[u64]) -> bool
-    ensures { result ≡ has_codes sets.now }
+    ensures { result ≡ none_is_empty sets.now }
 {
     sets.iter().all(|set| *set != 0)
 }

@@ -10,7 +10,7 @@ use Rattle.edit_line.specs.Boxes.{BoxParts, box_of}
 use Rattle.edit_line.specs.CodeFields.{place_of, whole_of}
 use Rattle.edit_line.specs.Combinations.{meets}
 use Rattle.edit_line.specs.Reductions.{IsIn}
-use Rattle.edit_line.specs.Sets.{has_codes}
+use Rattle.edit_line.specs.Sets.{none_is_empty}
 use Rattle.edit_line.specs.Shapes.{Domain, code_fields, has_field, number_fields, whole_sets}
 use Rattle.edit_line.specs.Sums.{fails_at, stands_only}
 use Rattle.edit_line.specs.declared.derived.Derived.{Derived}
@@ -97,5 +97,5 @@ module _ (p : Premises) (boxes : List BoxFrom) (f : ℕ) (categorical : has_fiel
   covered-made code_box (box.Cover parts) comes =
       ap (λ t. if t then then_some (common_from (box_values boxes) (place_of p.shape f) 0 parts (whole_sets p.shape)) (λ common. covered_sets p.shape f common) else None) (true-both _ _ categorical ((Decides-eqb _ _).1 comes.one_each))
       ∙ ap (λ (o : Option (List ℕ)). then_some o (λ common. covered_sets p.shape f common)) (common-made 0 parts (whole_sets p.shape) comes.common comes.common_is)
-      ∙ ap (λ t. if t then Some (proved.Box (whole_box p.shape f comes.common)) else None) (ap (λ (x : BoxParts). has_codes x.sets) (sym comes.box_is) ∙ comes.codes)
+      ∙ ap (λ t. if t then Some (proved.Box (whole_box p.shape f comes.common)) else None) (ap (λ (x : BoxParts). none_is_empty x.sets) (sym comes.box_is) ∙ comes.codes)
       ∙ ap (λ (x : BoxParts). Some (proved.Box x)) (sym comes.box_is)

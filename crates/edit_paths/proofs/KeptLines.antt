@@ -13,7 +13,7 @@ use Rattle.edit_model.proofs.RowLaws.{was-bad}
 use Rattle.edit_line.specs.Boxes.{are_whole}
 use Rattle.edit_line.specs.Lines.{HasShape, LineHolds, LineParts, amount, factor}
 use Rattle.edit_line.specs.Reductions.{IsIn, lines_of}
-use Rattle.edit_line.specs.Sets.{AllInside}
+use Rattle.edit_line.specs.Sets.{AreCodesIn}
 use Rattle.edit_line.specs.Shapes.{Domain, HasCodes, IsNumerical, codes_at, has_field, number_fields, shape_of, whole_sets}
 use Rattle.edit_line.specs.Sums.{AgreesWith, HasNumbers, fails_at}
 use Rattle.edit_line.specs.declared.derived.Derived.{Derived}
@@ -102,8 +102,8 @@ module _ (c : Case) (is : IsCase c) (path : List Bool) where
       → (q : Point) → HasCodes 0 (shape_of c.survey.fields) q → AgreesAlong c path q → LineHolds line q → ⊥
   line-fails line over none asks fails q held agrees holds =
       let (sets, kept) = asks-whole line asks in
-      let inside : AllInside line.sets (codes_at shape q) = subst (λ (s : List ℕ). AllInside s (codes_at shape q)) (sym sets) ((is_inside-Decides (whole_sets shape) (codes_at shape q)).0 (wholes-inside shape q held)) in
-      let enough = (is_enough-Decides line.strict (amount line q)).1 (holds.enough (subst (λ (s : List Domain). AllInside line.sets (codes_at s q)) (sym over.same) inside)) in
+      let inside : AreCodesIn line.sets (codes_at shape q) = subst (λ (s : List ℕ). AreCodesIn s (codes_at shape q)) (sym sets) ((is_inside-Decides (whole_sets shape) (codes_at shape q)).0 (wholes-inside shape q held)) in
+      let enough = (is_enough-Decides line.strict (amount line q)).1 (holds.enough (subst (λ (s : List Domain). AreCodesIn line.sets (codes_at s q)) (sym over.same) inside)) in
       let truth = fails_at-truth line c.row q true (line-numbers line over none kept) (line-agrees line over none kept q agrees) fails in
       cc (truth ∙ ap not enough)
 

@@ -8,7 +8,7 @@ use Rattle.edit_model.specs.Rows.{value_of}
 use Rattle.edit_line.specs.Boxes.{are_whole}
 use Rattle.edit_line.specs.CodeFields.{TakesCodes, place_of, with_code_at}
 use Rattle.edit_line.specs.Reductions.{IsIn}
-use Rattle.edit_line.specs.Sets.{is_inside}
+use Rattle.edit_line.specs.Sets.{are_codes_in}
 use Rattle.edit_line.specs.Shapes.{Domain, HasCodes, code_fields, codes_at, has_field, shape_of, whole_sets}
 use Rattle.edit_line.proofs.Members.{any-in}
 use Rattle.edit_line.proofs.PointCodes.{HasCodes-with, codes-own, place_of-below, wholes-inside}
@@ -174,7 +174,7 @@ whole-places shape sets same each = from sets (whole_sets shape) same each
 
 -- a box of all codes is avoided by no point
 pub whole-caught : (shape : List Domain) (boxes : List (List ℕ)) (b : List ℕ) (p : Point) → IsIn b boxes → are_whole shape b ≡ true → HasCodes 0 shape p → Avoids shape boxes p → ⊥
-whole-caught shape boxes b p there whole held avoids = cc (sym avoids ∙ ap not (any-in (λ b. is_inside b (codes_at shape p)) b boxes there inside))
+whole-caught shape boxes b p there whole held avoids = cc (sym avoids ∙ ap not (any-in (λ b. are_codes_in b (codes_at shape p)) b boxes there inside))
   where
-    inside : is_inside b (codes_at shape p) ≡ true
-    inside = ap (λ s. is_inside s (codes_at shape p)) (same_text b (whole_sets shape) (sym whole)) ∙ wholes-inside shape p held
+    inside : are_codes_in b (codes_at shape p) ≡ true
+    inside = ap (λ s. are_codes_in s (codes_at shape p)) (same_text b (whole_sets shape) (sym whole)) ∙ wholes-inside shape p held

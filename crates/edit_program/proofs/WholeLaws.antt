@@ -14,7 +14,7 @@ use Rattle.edit_paths.specs.Outcomes.{outcome_of}
 use Rattle.back_subst.specs.declared.gift.Gift.{Gift}
 use Rattle.edit_report.specs.declared.end.RowEnd.{RowEnd}
 use Rattle.donor_search.specs.CleanRows.{row_at}
-use Rattle.record_workers.specs.Ends.{Follows, IsEndOf}
+use Rattle.record_workers.specs.Ends.{ComesOf, IsEndOf}
 use Rattle.record_workers.specs.Said.{OutcomeSays, Says}
 use Rattle.edit_release.specs.Releases.{AllGiven}
 use Rattle.edit_program.specs.Edits.{IsStatusOf}
@@ -24,7 +24,7 @@ use Rattle.edit_program.specs.declared.status.Status.TheVariants.{Done}
 
 module _ (survey : SurveyParts) (budget : ℕ) (all : List (List Value)) (p : Point) (correction : IsCorrection survey p) where
   given : (row : List Value) (donor : Option ℕ) (o : Outcome) (stop : Option GiftFault) (gift : Option Gift) → IsInReach survey budget all row → o ≡ outcome_of (case_of survey (kept_edits survey) row) budget
-      → Follows survey (kept_edits survey) row (option_map (row_at all) donor) o stop gift → OutcomeSays survey (kept_edits survey) budget row o gift → IsSome gift
+      → ComesOf survey (kept_edits survey) row (option_map (row_at all) donor) o stop gift → OutcomeSays survey (kept_edits survey) budget row o gift → IsSome gift
   given row donor o stop (Some gift) reach e follows says = refl
   given row donor (Change path weight cert) None None reach e follows says = absurd follows
   given row donor (Change path weight cert) (Some stop) None reach e follows says = absurd (reach.values_fit donor path stop follows)

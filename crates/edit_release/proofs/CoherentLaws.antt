@@ -28,7 +28,7 @@ use Rattle.edit_paths.specs.Outcomes.{outcome_of}
 use Rattle.back_subst.specs.declared.gift.Gift.{Gift}
 use Rattle.proof_text.specs.Sizes.{ArePositiveLeaves, ArePositiveSteps, IsCoherentRow, IsPositiveReason, IsPositiveStep}
 use Rattle.edit_report.specs.declared.end.RowEnd.{RowEnd}
-use Rattle.record_workers.specs.Ends.{Follows, IsEndOf}
+use Rattle.record_workers.specs.Ends.{ComesOf, IsEndOf}
 use Rattle.pruned_rules.specs.Pruned.{kept_edits}
 use Rattle.edit_release.specs.Edits.{said, said_of}
 use Rattle.edit_release.proofs.OutcomeLaws.{change-clean}
@@ -95,7 +95,7 @@ module _ (c : TreeCase) where
 -- ---- what is said of a record
 
 module _ (survey : SurveyParts) (row : List Value) (budget : ℕ) (formed : IsWellFormed survey) (is : IsRow survey.fields row) where
-  coherent-of : (donor : Option (List Value)) (o : Outcome) (stop : Option GiftFault) (gift : Option Gift) → outcome_of (case_of survey (kept_edits survey) row) budget ≡ o → Follows survey (kept_edits survey) row donor o stop gift → IsCoherentRow (said_of o stop)
+  coherent-of : (donor : Option (List Value)) (o : Outcome) (stop : Option GiftFault) (gift : Option Gift) → outcome_of (case_of survey (kept_edits survey) row) budget ≡ o → ComesOf survey (kept_edits survey) row donor o stop gift → IsCoherentRow (said_of o stop)
   coherent-of donor (outcome.Change path zero cert) None gift e follows = (refl, change-clean (case_of survey (kept_edits survey) row) budget path zero cert e refl)
   coherent-of donor (outcome.Change path (suc w) cert) None gift e follows = tree-positive _ cert.leaves (has-tree survey row budget formed is _ e)
   coherent-of donor (outcome.Change path zero cert) (Some stop) gift e follows = tree-positive _ cert.leaves (has-tree survey row budget formed is _ e)

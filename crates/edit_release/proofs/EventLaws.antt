@@ -7,7 +7,7 @@ use Rattle.edit_model.specs.declared.field.Field.{Field}
 use Rattle.edit_model.specs.declared.value.Value.{Value}
 use Rattle.edit_model.proofs.OrderLaws.{field-below}
 use Rattle.edit_line.specs.Lines.{LineParts}
-use Rattle.edit_line.specs.Places.{place_of}
+use Rattle.edit_line.specs.Places.{place_named}
 use Rattle.edit_line.specs.Reductions.{IsIn}
 use Rattle.edit_line.specs.Shapes.{number_fields, shape_of}
 use Rattle.edit_line.specs.Sums.{fails_at, fails_by, next_sum, or_field, sum_at, sum_from, whole}
@@ -55,7 +55,7 @@ number-below : (fields : List Field) (f : ℕ) → IsIn f (number_fields (shape_
 number-below fields f there = (Decides-ltb f (length fields)).1 (field-below is_numerical fields f (there-has f _ (subst (λ (fs : List ℕ). IsIn f fs) (number_fields-same fields) there)))
 
 -- the place of a number is that of one of the fields, or of the constant
-place-there : (fields : List Field) (numbers : List ℕ) (i : ℕ) → ((f : ℕ) → IsIn f numbers → nat_lt f (length fields) ≡ true) → place_exists fields (place_of numbers i) ≡ true
+place-there : (fields : List Field) (numbers : List ℕ) (i : ℕ) → ((f : ℕ) → IsIn f numbers → nat_lt f (length fields) ≡ true) → place_exists fields (place_named numbers i) ≡ true
 place-there fields [] i below = refl
 place-there fields (f ∷ numbers) zero below = below f (inl refl)
 place-there fields (f ∷ numbers) (suc i) below = place-there fields numbers i (λ g there. below g (inr there))

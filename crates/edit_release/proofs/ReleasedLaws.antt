@@ -28,7 +28,7 @@ use Rattle.edit_report.specs.Ends.{path_found}
 use Rattle.edit_report.specs.Released.{released_rows, released_text_of, released_texts, row_with, text_by, text_of, texts_from}
 use Rattle.edit_report.specs.declared.end.RowEnd.{RowEnd}
 use Rattle.edit_report.proofs.LineLaws.{released-count}
-use Rattle.record_workers.specs.Ends.{Follows, IsEndOf, IsGiftOf}
+use Rattle.record_workers.specs.Ends.{ComesOf, IsEndOf, IsGiftOf}
 use Rattle.record_workers.specs.Said.{IsCorrected}
 use Rattle.cert_check.specs.Released as checked
 use Rattle.cert_check.specs.Released.{IsGivenText, IsReleasedAs, IsValueOf}
@@ -49,7 +49,7 @@ use Rattle.edit_model.proofs.CleanLaws.{held-clean}
 abbrev pub IsSaidReleased : RowEnd → Type 0
 IsSaidReleased end = is_released (said end) ≡ is_some end.gift
 
-said-released : (survey : SurveyParts) (edits : EditsParts) (row : List Value) (donor : Option (List Value)) (outcome : Outcome) (fault : Option GiftFault) (gift : Option Gift) → Follows survey edits row donor outcome fault gift
+said-released : (survey : SurveyParts) (edits : EditsParts) (row : List Value) (donor : Option (List Value)) (outcome : Outcome) (fault : Option GiftFault) (gift : Option Gift) → ComesOf survey edits row donor outcome fault gift
     → is_released (said_of outcome fault) ≡ is_some gift
 said-released survey edits row donor (Change path zero cert) None None follows = absurd follows
 said-released survey edits row donor (Change path zero cert) None (Some gift) follows = refl

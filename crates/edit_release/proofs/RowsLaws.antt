@@ -16,7 +16,7 @@ use Rattle.record_text.specs.Values.{AreRows, AreValues}
 use Rattle.edit_report.specs.Ends.{path_found}
 use Rattle.edit_report.specs.Released.{released_rows, released_texts, row_of, row_with}
 use Rattle.edit_report.specs.declared.end.RowEnd.{RowEnd}
-use Rattle.record_workers.specs.Ends.{Follows, IsEndOf}
+use Rattle.record_workers.specs.Ends.{ComesOf, IsEndOf}
 use Rattle.record_workers.specs.Said.{OutcomeSays, Says}
 use Rattle.cert_check.specs.Releases.{AreValidRows, behind, files_of, is_released}
 use Rattle.cert_check.specs.RowChecks.{IsReleased, IsValidRow, RowFiles, RowRules}
@@ -95,7 +95,7 @@ each-follows P survey edits columns width budget all (reads ∷ raws) (row ∷ r
 -- the texts that are released of it are as the proof says
 pub end-released : (r : RowRules) (edits : EditsParts) (budget : ℕ) (reads : List (List ℕ)) (row : List Value) → IsWellFormed r.survey → IsRow r.survey.fields row
     → length r.columns ≡ length r.survey.fields → AllPairs (λ (c : ℕ) (d : ℕ). c ≢ d) r.columns → All (λ (c : ℕ). c < length reads) r.columns
-    → (donor : Option (List Value)) (outcome : Outcome) (fault : Option GiftFault) (gift : Option Gift) → Follows r.survey edits row donor outcome fault gift → OutcomeSays r.survey edits budget row outcome gift → IsSome gift
+    → (donor : Option (List Value)) (outcome : Outcome) (fault : Option GiftFault) (gift : Option Gift) → ComesOf r.survey edits row donor outcome fault gift → OutcomeSays r.survey edits budget row outcome gift → IsSome gift
     → IsReleased r (files_with r.survey.fields r.columns reads row (path_found outcome) gift) (path_found (said_of outcome fault).outcome)
 end-released r edits budget reads row well is_row one_each distinct within donor outcome fault None follows says some = absurd (cc some)
 end-released r edits budget reads row well is_row one_each distinct within donor (Change path zero cert) None (Some gift) follows says some =

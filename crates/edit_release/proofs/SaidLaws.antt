@@ -15,7 +15,7 @@ use Rattle.edit_paths.proofs.CertificateTrees.{change-tree, contradiction-tree}
 use Rattle.back_subst.specs.declared.gift.Gift.{Gift}
 use Rattle.record_text.specs.Sheets.{SheetParts}
 use Rattle.edit_report.specs.declared.end.RowEnd.{RowEnd}
-use Rattle.record_workers.specs.Ends.{Follows, IsEndOf}
+use Rattle.record_workers.specs.Ends.{ComesOf, IsEndOf}
 use Rattle.cert_check.specs.Releases.{audit_of, rules_of}
 use Rattle.cert_check.specs.RowChecks.{IsReleased, IsValidGift, IsValidRow, RowFiles, RowRules}
 use Rattle.redundancy.specs.Verdicts.{is_kept}
@@ -77,12 +77,12 @@ module _ (survey : SurveyParts) (row : List Value) (budget : ℕ) (formed : IsWe
     IsRight said = IsReleasedSaid r f said.outcome said.gift → IsValidRow r f said
 
     stopped : (donor : Option (List Value)) (path : List Bool) (weight : ℕ) (cert : Cert) (stop : GiftFault) (gift : Option Gift) → outcome_of (case_of survey (kept_edits survey) row) budget ≡ outcome.Change path weight cert
-        → Follows survey (kept_edits survey) row donor (outcome.Change path weight cert) (Some stop) gift → IsValidGift r f path weight cert.leaves stop
+        → ComesOf survey (kept_edits survey) row donor (outcome.Change path weight cert) (Some stop) gift → IsValidGift r f path weight cert.leaves stop
     stopped donor path weight cert stop None e follows =
         (change-is (case_of survey (kept_edits survey) row) budget path weight cert e, has-tree _ e, stop-there survey (kept_edits survey) row follows.changed donor stop follows.stops)
     stopped donor path weight cert stop (Some gift) e follows = absurd follows
 
-    right-said : (donor : Option (List Value)) (o : Outcome) (stop : Option GiftFault) (gift : Option Gift) → outcome_of (case_of survey (kept_edits survey) row) budget ≡ o → Follows survey (kept_edits survey) row donor o stop gift → IsRight (said_of o stop)
+    right-said : (donor : Option (List Value)) (o : Outcome) (stop : Option GiftFault) (gift : Option Gift) → outcome_of (case_of survey (kept_edits survey) row) budget ≡ o → ComesOf survey (kept_edits survey) row donor o stop gift → IsRight (said_of o stop)
     right-said donor (outcome.Change path zero cert) None gift e follows released = released
     right-said donor (outcome.Change path (suc w) cert) None gift e follows released = (change-is (case_of survey (kept_edits survey) row) budget path (suc w) cert e, has-tree _ e, released)
     right-said donor (outcome.Change path zero cert) (Some stop) gift e follows released = stopped donor path zero cert stop gift e follows

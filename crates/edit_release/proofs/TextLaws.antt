@@ -22,7 +22,7 @@ use Rattle.back_subst.specs.declared.gift.How.{How}
 use Rattle.record_text.specs.Sheets.{SheetParts}
 use Rattle.edit_report.specs.Ends.{AreEnds, IsEnd, IsGift, changed_fields, path_found}
 use Rattle.edit_report.specs.declared.end.RowEnd.{RowEnd}
-use Rattle.record_workers.specs.Ends.{Follows, IsEndOf, IsGiftOf}
+use Rattle.record_workers.specs.Ends.{ComesOf, IsEndOf, IsGiftOf}
 use Rattle.donor_search.specs.CleanRows.{row_at}
 
 module _ (survey : SurveyParts) (row : List Value) (path : List Bool) (donor : Option (List Value)) (gift : Gift) (is : IsGiftOf survey row path donor gift) where
@@ -49,7 +49,7 @@ module _ (survey : SurveyParts) (row : List Value) (path : List Bool) (donor : O
   }
 
 -- what follows on an outcome can be told
-follows-tellable : (survey : SurveyParts) (edits : EditsParts) (row : List Value) (donor : Option (List Value)) (o : Outcome) (stop : Option GiftFault) (gift : Option Gift) → Follows survey edits row donor o stop gift → IfSome gift (IsGift survey.fields (path_found o))
+follows-tellable : (survey : SurveyParts) (edits : EditsParts) (row : List Value) (donor : Option (List Value)) (o : Outcome) (stop : Option GiftFault) (gift : Option Gift) → ComesOf survey edits row donor o stop gift → IfSome gift (IsGift survey.fields (path_found o))
 follows-tellable survey edits row donor (Change path weight cert) None (Some gift) follows = gift-tellable survey row path donor gift follows
 follows-tellable survey edits row donor (Change path weight cert) (Some stop) (Some gift) follows = absurd follows
 follows-tellable survey edits row donor (Budget path work) None (Some gift) follows = absurd follows

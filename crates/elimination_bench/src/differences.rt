@@ -1,6 +1,6 @@
 ghost use Rattle.std.specs.Prelude.{◌≡◌, ◌<◌, ◌≤◌, ◌%◌, ◌+◌, ◌++◌, [], ◌∷◌, IfOk, IsTrue, OnOk, codes};
 ghost use Rattle.edit_line.specs.EditSets.{edits_of};
-ghost use Rattle.edit_line.specs.Shapes.{Categorical, Numerical, domain_of, domains_of, shape_of};
+ghost use Rattle.edit_line.specs.Shapes.{Categorical, Numerical, domain_of, domains, shape_of};
 ghost use Rattle.edit_model.specs.Surveys.{IsField, is_letter};
 ghost use Rattle.elimination_bench.specs.inner.Differences.{count_of, difference, difference_line, differences, lower_field, next_draw, numbers_of, set_of, shape_with, upper_field};
 
@@ -57,7 +57,7 @@ impl Differences {
 
     // The line at the place, with what is drawn for it.
     fn line(self, alloc: Global, shape: Shape, place: usize, draw: u32) -> Result<Line, OutOfMemory>
-        requires shape { domains_of shape.count shape.codes ≡ shape_with (numbers_of self) }
+        requires shape { domains shape ≡ shape_with (numbers_of self) }
         requires place { place < count_of self }
         ensures { IfOk result (λ line. line ≡ difference_line self place draw) }
     {

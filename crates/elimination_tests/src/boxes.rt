@@ -1,7 +1,7 @@
 //! Boxes of records, and what is left of them without a field.
 ghost use Rattle.std.specs.Prelude.{◌≡◌, ◌<◌, true};
 ghost use Rattle.edit_line.specs.CodeFields.{size_of};
-ghost use Rattle.edit_line.specs.Shapes.{domains_of};
+ghost use Rattle.edit_line.specs.Shapes.{domains};
 ghost use Rattle.categ_combine.specs.BoxLists.{AreBoxesOver};
 
 use super::reading::{
@@ -78,13 +78,13 @@ fn left(
 }
 
 fn has_code(shape: &Shape, field: u32, code: u8) -> bool
-    ensures { result ≡ true → code < size_of (domains_of shape.now.count shape.now.codes) field }
+    ensures { result ≡ true → code < size_of (domains shape.now) field }
 {
     code < shape.size_of(field)
 }
 
 fn are_over(shape: Shape, boxes: &[BoxFrom]) -> bool
-    ensures { result ≡ true → AreBoxesOver (domains_of shape.count shape.codes) boxes.now }
+    ensures { result ≡ true → AreBoxesOver (domains shape) boxes.now }
 {
     for i in 0..boxes.len() {
         if boxes[i].shape() != shape {

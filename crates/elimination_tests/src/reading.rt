@@ -5,7 +5,7 @@ ghost use Rattle.fraction128.specs.Range.{InRange};
 ghost use Rattle.edit_model.specs.Rows.{IsOfKind, IsRow};
 ghost use Rattle.edit_line.specs.Lines.{AreOver};
 ghost use Rattle.edit_line.specs.Sets.{AreSets};
-ghost use Rattle.edit_line.specs.Shapes.{domains_of, has_field, shape_of};
+ghost use Rattle.edit_line.specs.Shapes.{domains, has_field, shape_of};
 ghost use Rattle.linear_elim.specs.Systems.{AreNumerical};
 
 use edit_language::read_rules;
@@ -138,7 +138,7 @@ pub(crate) fn planned_lines(
 
 /// An equal line, over the survey's fields.
 fn line_over(alloc: Global, shape: Shape, line: &Line) -> Result<Line, Fail>
-    ensures { IfOk result (λ copy. copy.shape ≡ domains_of shape.count shape.codes) }
+    ensures { IfOk result (λ copy. copy.shape ≡ domains shape) }
 {
     if line.shape() != shape {
         return Err("a line over the survey's fields")?;

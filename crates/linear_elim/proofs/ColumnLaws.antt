@@ -5,7 +5,7 @@ use Rattle.std.proofs.lemmas.Bool.Decides.{Decides-eqb, Decides-ltb}
 use Rattle.std.proofs.lemmas.List.{drop_all, get_or_past}
 use Rattle.edit_line.specs.Shapes.{beside, domain_with, number_fields, numbers_from, place_in}
 use Rattle.edit_line.specs.Lines.{LineParts, factor}
-use Rattle.edit_line.specs.Places.{place_of}
+use Rattle.edit_line.specs.Places.{place_named}
 use Rattle.edit_line.specs.declared.place.Place.{Place}
 use Rattle.edit_line.specs.declared.place.Place.TheVariants.{Constant, Field}
 
@@ -84,17 +84,17 @@ place-end counts i f place past before =
 
 -- the name of a place among the numerical fields from i on
 abbrev pub name_from : List ℕ → ℕ → ℕ → Place
-name_from counts i left = place_of (numbers_from i (map domain_with (drop i counts))) left
+name_from counts i left = place_named (numbers_from i (map domain_with (drop i counts))) left
 
 -- a field with codes has no place
 pub name-skips : (counts : List ℕ) (i left k : ℕ) → i < length counts → k ≡ get_or counts i k → 0 < k → name_from counts i left ≡ name_from counts (i + 1) left
 name-skips counts i left zero below at above = absurd (omega arith)
 name-skips counts i left (suc k) below at above =
-    rw (add-one) (ap (λ ks. place_of (numbers_from i (map domain_with ks)) left) (drop-cons counts i (suc k) below ∙ ap (λ j. j ∷ drop (suc i) counts) (sym at)))
+    rw (add-one) (ap (λ ks. place_named (numbers_from i (map domain_with ks)) left) (drop-cons counts i (suc k) below ∙ ap (λ j. j ∷ drop (suc i) counts) (sym at)))
 
-numerical-here : (counts : List ℕ) (i left k : ℕ) → i < length counts → k ≡ get_or counts i k → k ≡ 0 → name_from counts i left ≡ place_of (i ∷ numbers_from (suc i) (map domain_with (drop (suc i) counts))) left
+numerical-here : (counts : List ℕ) (i left k : ℕ) → i < length counts → k ≡ get_or counts i k → k ≡ 0 → name_from counts i left ≡ place_named (i ∷ numbers_from (suc i) (map domain_with (drop (suc i) counts))) left
 numerical-here counts i left k below at none =
-    ap (λ ks. place_of (numbers_from i (map domain_with ks)) left) (drop-cons counts i k below ∙ ap (λ j. j ∷ drop (suc i) counts) (sym at ∙ none))
+    ap (λ ks. place_named (numbers_from i (map domain_with ks)) left) (drop-cons counts i k below ∙ ap (λ j. j ∷ drop (suc i) counts) (sym at ∙ none))
 
 -- a numerical field has the first place
 pub name-there : (counts : List ℕ) (i left k : ℕ) → i < length counts → k ≡ get_or counts i k → k ≡ 0 → left ≡ 0 → name_from counts i left ≡ Field i
@@ -107,4 +107,4 @@ name-moves counts i (suc left) k below at none more = let less : suc left - 1 �
 
 -- past the last field there is the constant
 pub name-end : (counts : List ℕ) (i left : ℕ) → length counts ≤ i → name_from counts i left ≡ Constant
-name-end counts i left past = ap (λ ks. place_of (numbers_from i (map domain_with ks)) left) (drop_all i counts past)
+name-end counts i left past = ap (λ ks. place_named (numbers_from i (map domain_with ks)) left) (drop_all i counts past)

@@ -1,7 +1,7 @@
 use Rattle.std.proofs.Common.{◌≡◌, ◌+◌, ◌<◌, Bool, true, false, if◌then◌else◌, slice_get, ℕ, zero, suc, ℤ, pos, List, [], ◌∷◌, get_or, Option, Some, None, Result, Ok, Err, refl, sym, ap, ◌∙◌, subst, arith}
 use Rattle.edit_line.specs.EditSets.{base_lines}
 use Rattle.edit_line.specs.Lines.{LineParts}
-use Rattle.edit_line.specs.Places.{place_of}
+use Rattle.edit_line.specs.Places.{place_named}
 use Rattle.edit_line.specs.Reductions.{reduce_derived}
 use Rattle.edit_line.specs.Shapes.{number_fields}
 use Rattle.edit_line.specs.declared.derived.Derived.{Derived}
@@ -98,7 +98,7 @@ module _ (f i : ℕ) (s : Derived) (j : ℕ) (t : Derived) where
     opposite : is_opposite f s.line t.line ≡ true
     number : ℕ
     leaves : overflow_of s.line t.line f ≡ Some number
-    told : record { first = i; second = j; place = place_of (number_fields s.line.shape) number } ≡ o
+    told : record { first = i; second = j; place = place_named (number_fields s.line.shape) number } ≡ o
 
   pair-fails : (o : StepOverflow) → pair_result f i s j t ≡ Err o → ShowsPlace o
   pair-fails o e = by (is_opposite f s.line t.line) (overflow_of s.line t.line f) refl refl e

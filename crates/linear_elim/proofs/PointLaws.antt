@@ -5,7 +5,7 @@ use Rattle.fraction128.proofs.Signs.{above-*}
 use Rattle.fraction128.proofs.Whole.{parts, ring, same_dif}
 use Rattle.edit_model.specs.Points.{Point}
 use Rattle.edit_line.specs.Lines.{IsEnough, LineHolds, LineParts, amount, factor, weighted}
-use Rattle.edit_line.specs.Sets.{AllInside}
+use Rattle.edit_line.specs.Sets.{AreCodesIn}
 use Rattle.edit_line.specs.Shapes.{Categorical, Domain, IsNumerical, Numerical, beside, code_fields, codes_at, codes_from, has_field, numbers_from}
 use Rattle.edit_line.proofs.Enough.{IsEnough-times, IsEnough_cancel}
 use Rattle.linear_elim.specs.PointChanges.{DiffersOnlyAt}
@@ -143,7 +143,7 @@ pub LineHolds-same : (line : LineParts) (p q : Point) → codes_at line.shape q 
     → ((i : ℕ) → factor line i ≢ pos 0 → q.numerator i *ℤ p.denominator ≡ p.numerator i *ℤ q.denominator) → LineHolds line q → LineHolds line p
 LineHolds-same line p q codes same holds = record {
   enough = λ inside.
-      let at_q : IsEnough line.strict (amount line q) = holds.enough (subst (λ (cs : List ℕ). AllInside line.sets cs) (sym codes) inside) in
+      let at_q : IsEnough line.strict (amount line q) = holds.enough (subst (λ (cs : List ℕ). AreCodesIn line.sets cs) (sym codes) inside) in
       IsEnough_cancel line.strict (amount line p) q.denominator q.positive
       (subst (λ (z : ℤ). IsEnough line.strict z) (amount-same line p q same) (IsEnough-times line.strict (amount line q) p.denominator p.positive at_q));
 }
@@ -257,9 +257,9 @@ put-code p f v d above i = by (i == f) refl
 
 -- where the line holds with the new value
 pub holds-put : (line : LineParts) (p : Point) (f : ℕ) (v d : ℤ) (above : pos 0 <ℤ d)
-    → (AllInside line.sets (codes_at line.shape p) → IsEnough line.strict (factor line f *ℤ v +ℤ rest_at line f p *ℤ d)) → LineHolds line (put p f (p.code f) v d above)
+    → (AreCodesIn line.sets (codes_at line.shape p) → IsEnough line.strict (factor line f *ℤ v +ℤ rest_at line f p *ℤ d)) → LineHolds line (put p f (p.code f) v d above)
 holds-put line p f v d above enough = record {
   enough = λ inside.
-      let here : AllInside line.sets (codes_at line.shape p) = subst (λ (cs : List ℕ). AllInside line.sets cs) (map-agree _ p.code (code_fields line.shape) (λ i there. put-code p f v d above i)) inside in
+      let here : AreCodesIn line.sets (codes_at line.shape p) = subst (λ (cs : List ℕ). AreCodesIn line.sets cs) (map-agree _ p.code (code_fields line.shape) (λ i there. put-code p f v d above i)) inside in
       subst (λ (z : ℤ). IsEnough line.strict z) (sym (amount-put p f (p.code f) v d above line)) (enough here);
 }

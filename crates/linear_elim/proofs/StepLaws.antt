@@ -6,7 +6,7 @@ use Rattle.fraction128.proofs.Whole.{comm, parts, ring, same_dif}
 use Rattle.edit_model.specs.Points.{Point}
 use Rattle.edit_line.specs.Lines.{AllHold, HasShape, HaveShape, IsEnough, LineHolds, LineParts, amount, factor}
 use Rattle.edit_line.specs.Reductions.{IsIn}
-use Rattle.edit_line.specs.Sets.{AllInside, is_inside}
+use Rattle.edit_line.specs.Sets.{AreCodesIn, are_codes_in}
 use Rattle.edit_line.specs.Shapes.{Domain, IsNumerical, code_fields, codes_at}
 use Rattle.edit_line.proofs.Enough.{IsEnough-times, IsEnough_cancel}
 use Rattle.edit_line.proofs.Members.{all-in, in-all, in-either, in-filter, in-filter-out, in-flat_map, in-flat_map-out, in-left, in-map, in-map-out, in-right}
@@ -153,10 +153,10 @@ module _ (lines : List LineParts) (f : ℕ) where
 
     -- the lower and the upper lines whose sets have the point's codes
     abbrev lower_bounds : Point → List LineParts
-    lower_bounds p = filter (λ l. is_lower f l && is_inside l.sets (codes_at l.shape p)) lines
+    lower_bounds p = filter (λ l. is_lower f l && are_codes_in l.sets (codes_at l.shape p)) lines
 
     abbrev upper_bounds : Point → List LineParts
-    upper_bounds p = filter (λ l. is_upper f l && is_inside l.sets (codes_at l.shape p)) lines
+    upper_bounds p = filter (λ l. is_upper f l && are_codes_in l.sets (codes_at l.shape p)) lines
 
     -- what a combination that is enough says of its two lines
     crossed : (m n a b x y z : ℤ) → m *ℤ a +ℤ n *ℤ b ≡ pos 0 → (m *ℤ y +ℤ n *ℤ z) *ℤ a ≡ (a *ℤ (z -ℤ b *ℤ x) -ℤ b *ℤ (y -ℤ a *ℤ x)) *ℤ n
@@ -174,14 +174,14 @@ module _ (lines : List LineParts) (f : ℕ) where
         IsEnough_cancel strict _ n n_above (subst (λ (k : ℤ). IsEnough strict k) (ap (λ (k : ℤ). k *ℤ a) (comm w g ∙ sum) ∙ crossed m n a b x y z none)
         (IsEnough-times strict (w *ℤ g) a a_above (IsEnough-times strict w g g_above enough)))
 
-    pair_leaves : (p : Point) (s t : LineParts) → IsOppositePair lines f s t → AllInside s.sets (codes_at s.shape p) → AllInside t.sets (codes_at t.shape p) → LineHolds (combination s t f) p
+    pair_leaves : (p : Point) (s t : LineParts) → IsOppositePair lines f s t → AreCodesIn s.sets (codes_at s.shape p) → AreCodesIn t.sets (codes_at t.shape p) → LineHolds (combination s t f) p
         → LeavesValue (λ l. factor l f) (λ l. rest_at l f p) (λ (l : LineParts). l.strict) s t
     pair_leaves p s t pair s_inside t_inside holds =
         let same = same_shape s t pair in
         let is = combination-is s t f same pair.above pair.below in
-        let inside : AllInside (meets s.sets t.sets) (codes_at s.shape p) = inside-meets s.sets t.sets (codes_at s.shape p) s_inside (subst (λ (d : List Domain). AllInside t.sets (codes_at d p)) same t_inside) in
-        let in_line : AllInside (combination s t f).sets (codes_at (combination s t f).shape p) =
-        subst (λ (d : List Domain). AllInside (combination s t f).sets (codes_at d p)) (sym is.combined.shape) (subst (λ (sets : List ℕ). AllInside sets (codes_at s.shape p)) (sym is.combined.sets) inside) in
+        let inside : AreCodesIn (meets s.sets t.sets) (codes_at s.shape p) = inside-meets s.sets t.sets (codes_at s.shape p) s_inside (subst (λ (d : List Domain). AreCodesIn t.sets (codes_at d p)) same t_inside) in
+        let in_line : AreCodesIn (combination s t f).sets (codes_at (combination s t f).shape p) =
+        subst (λ (d : List Domain). AreCodesIn (combination s t f).sets (codes_at d p)) (sym is.combined.shape) (subst (λ (sets : List ℕ). AreCodesIn sets (codes_at s.shape p)) (sym is.combined.sets) inside) in
         leaves_from (first_multiplier s t f) (second_multiplier s t f) (combination_divisor s t f) (factor s f) (factor t f) (p.numerator f) (amount s p) (amount t p) (amount (combination s t f) p) (s.strict || t.strict) is.n_above is.g_above pair.above
         (amount-combined (first_multiplier s t f) (second_multiplier s t f) (combination_divisor s t f) s t (combination s t f) p is.combined)
         (multipliers-cancel s t f)
@@ -195,15 +195,15 @@ module _ (lines : List LineParts) (f : ℕ) where
         here : (line : LineParts) → IsIn line (eliminated lines f) → LineHolds line p
         here line there = in-all (λ l. LineHolds l p) line (eliminated lines f) holds there
 
-        lower_tells : (s : LineParts) → IsIn s (lower_bounds p) → IsIn s lines × (pos 0 <ℤ factor s f) × AllInside s.sets (codes_at s.shape p)
+        lower_tells : (s : LineParts) → IsIn s (lower_bounds p) → IsIn s lines × (pos 0 <ℤ factor s f) × AreCodesIn s.sets (codes_at s.shape p)
         lower_tells s there =
-            let (was, test) = in-filter-out (λ l. is_lower f l && is_inside l.sets (codes_at l.shape p)) s lines there in
+            let (was, test) = in-filter-out (λ l. is_lower f l && are_codes_in l.sets (codes_at l.shape p)) s lines there in
             let (lower, inside) = both_true _ _ test in
             (was, above_tells (factor s f) lower, (is_inside-Decides s.sets (codes_at s.shape p)).0 inside)
 
-        upper_tells : (t : LineParts) → IsIn t (upper_bounds p) → IsIn t lines × (factor t f <ℤ pos 0) × AllInside t.sets (codes_at t.shape p)
+        upper_tells : (t : LineParts) → IsIn t (upper_bounds p) → IsIn t lines × (factor t f <ℤ pos 0) × AreCodesIn t.sets (codes_at t.shape p)
         upper_tells t there =
-            let (was, test) = in-filter-out (λ l. is_upper f l && is_inside l.sets (codes_at l.shape p)) t lines there in
+            let (was, test) = in-filter-out (λ l. is_upper f l && are_codes_in l.sets (codes_at l.shape p)) t lines there in
             let (upper, inside) = both_true _ _ test in
             (was, below_tells (factor t f) upper, (is_inside-Decides t.sets (codes_at t.shape p)).0 inside)
 
@@ -225,7 +225,7 @@ module _ (lines : List LineParts) (f : ℕ) where
               second = t_in;
               above = above;
               below = below;
-              meet = inside-all_meet s.sets t.sets (codes_at s.shape p) (omega (arith, sets)) s_inside (subst (λ (d : List Domain). AllInside t.sets (codes_at d p)) same t_inside);
+              meet = inside-all_meet s.sets t.sets (codes_at s.shape p) (omega (arith, sets)) s_inside (subst (λ (d : List Domain). AreCodesIn t.sets (codes_at d p)) same t_inside);
             } in
             pair_leaves p s t pair s_inside t_inside (here (combination s t f) (pair-eliminated s t pair))
 
@@ -241,14 +241,14 @@ module _ (lines : List LineParts) (f : ℕ) where
             → IsIn line lines → LineHolds line (put p f (p.code f) v d low.above)
         with_value line v d low high there = holds-put line p f v d low.above (λ inside. by inside (by_sign (factor line f)))
           where
-            by : AllInside line.sets (codes_at line.shape p) → (pos 0 <ℤ factor line f) ⊎ ((factor line f ≡ pos 0) ⊎ (factor line f <ℤ pos 0)) → IsEnough line.strict (factor line f *ℤ v +ℤ rest_at line f p *ℤ d)
+            by : AreCodesIn line.sets (codes_at line.shape p) → (pos 0 <ℤ factor line f) ⊎ ((factor line f ≡ pos 0) ⊎ (factor line f <ℤ pos 0)) → IsEnough line.strict (factor line f *ℤ v +ℤ rest_at line f p *ℤ d)
             by inside (inl above) =
-                low.within line (in-filter (λ l. is_lower f l && is_inside l.sets (codes_at l.shape p)) line lines (both _ _ (above_told (factor line f) above) ((is_inside-Decides line.sets (codes_at line.shape p)).1 inside)) there)
+                low.within line (in-filter (λ l. is_lower f l && are_codes_in l.sets (codes_at l.shape p)) line lines (both _ _ (above_told (factor line f) above) ((is_inside-Decides line.sets (codes_at line.shape p)).1 inside)) there)
             by inside (inr (inl none)) =
                 subst (λ (k : ℤ). IsEnough line.strict k) (no_part (factor line f) v (amount line p) (p.numerator f) d none)
                 (IsEnough-times line.strict (amount line p) d low.above ((here line (flat-eliminated line there none)).enough inside))
             by inside (inr (inr below)) =
-                high.within line (in-filter (λ l. is_upper f l && is_inside l.sets (codes_at l.shape p)) line lines (both _ _ (below_told (factor line f) below) ((is_inside-Decides line.sets (codes_at line.shape p)).1 inside)) there)
+                high.within line (in-filter (λ l. is_upper f l && are_codes_in l.sets (codes_at l.shape p)) line lines (both _ _ (below_told (factor line f) below) ((is_inside-Decides line.sets (codes_at line.shape p)).1 inside)) there)
 
 -- ---- the step, reduced
 

@@ -1,6 +1,6 @@
 use Rattle.std.specs.Prelude.{◌≡◌, ℕ, ◌<◌, true, false, List, ◌∷◌, ◌++◌, Option, Some, None, Ok, get_or, length, pos, slice_get, ℤ}
 use Rattle.edit_line.specs.Lines.{LineParts}
-use Rattle.edit_line.specs.Places.{place_of}
+use Rattle.edit_line.specs.Places.{place_named}
 use Rattle.edit_line.specs.Shapes.{number_fields}
 use Rattle.edit_line.specs.declared.derived.Derived.{Derived}
 use Rattle.edit_line.specs.Combinations.{first_overflow, numbers, sum_fits}
@@ -41,7 +41,7 @@ pub record IsFirstOverflow (lines : List Derived) (f : ℕ) (o : StepOverflow) :
   pub number : ℕ
   pub leaves : overflow_of s.line t.line f ≡ Some number
   pub first_place : IsFirstPlace (first_multiplier s.line t.line f) (second_multiplier s.line t.line f) (numbers s.line) (numbers t.line) number
-  pub place : o.place ≡ place_of (number_fields s.line.shape) number
+  pub place : o.place ≡ place_named (number_fields s.line.shape) number
   pub earlier_rows : (i j : ℕ) → i < o.first → PairFits lines f i j
   pub earlier_pairs : (j : ℕ) → j < o.second → PairFits lines f o.first j
 

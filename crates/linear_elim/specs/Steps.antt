@@ -1,7 +1,7 @@
 use Rattle.std.specs.Prelude.{ℕ, suc, ◌+◌, ◌&&◌, Bool, List, [], ◌∷◌, ◌++◌, All, Result, Ok, Err, length, map, if◌then◌else◌}
 use Rattle.std.specs.List.{filter, flat_map}
 use Rattle.edit_line.specs.Lines.{LineParts}
-use Rattle.edit_line.specs.Places.{place_of}
+use Rattle.edit_line.specs.Places.{place_named}
 use Rattle.edit_line.specs.Reductions.{reduce, reduce_derived}
 use Rattle.edit_line.specs.Shapes.{Domain, number_fields}
 use Rattle.edit_line.specs.declared.derived.Derived.{Derived}
@@ -58,7 +58,7 @@ collect each i (x ∷ xs) = followed_by (each i x) (collect each (suc i) xs)
 -- the combination as a derived line, and the place by its field
 abbrev pub paired : List Domain → ℕ → ℕ → Result CombinedParts ℕ → Result (List Derived) StepOverflow
 paired shape i j (Ok c) = Ok (record { line = c.line; origin = Pair i c.m j c.n c.g } ∷ [])
-paired shape i j (Err place) = Err (record { first = i; second = j; place = place_of (number_fields shape) place })
+paired shape i j (Err place) = Err (record { first = i; second = j; place = place_named (number_fields shape) place })
 
 -- the combination of s and t, where they are an opposite pair whose sets all meet
 abbrev pub pair_result : ℕ → ℕ → Derived → ℕ → Derived → Result (List Derived) StepOverflow

@@ -1,8 +1,8 @@
 ghost use Rattle.std.specs.Prelude.{◌≡◌, ◌≤◌, length, map};
 ghost use Rattle.fraction128.specs.Range.{InRange};
 ghost use Rattle.edit_line.specs.Lines.{factor};
-ghost use Rattle.edit_line.specs.Places.{place_of};
-ghost use Rattle.edit_line.specs.Shapes.{domain_with, domains_of, number_fields, place_in};
+ghost use Rattle.edit_line.specs.Places.{place_named};
+ghost use Rattle.edit_line.specs.Shapes.{domain_with, domains, number_fields, place_in};
 ghost use Rattle.linear_elim.specs.Combinations.{is_flat, is_lower, is_upper};
 
 use edit_line::{Line, Place, Shape};
@@ -13,7 +13,7 @@ pub(crate) struct Column {
     pub(crate) shape: Shape,
     pub(crate) field: u32,
     place: usize,
-    pub ghost at: { place ≡ place_in (number_fields (domains_of shape.count shape.codes)) field },
+    pub ghost at: { place ≡ place_in (number_fields (domains shape)) field },
 }
 
 impl Column {
@@ -31,7 +31,7 @@ impl Column {
 
     /// The line's factor at the field. No memory.
     pub(crate) fn factor(&self, line: &Line) -> i128
-        requires { line.now.shape ≡ domains_of self.now.shape.count self.now.shape.codes }
+        requires { line.now.shape ≡ domains self.now.shape }
         ensures value { result ≡ factor line.now self.now.field }
         ensures in_range { InRange result }
     {
@@ -43,7 +43,7 @@ impl Column {
 
     /// Whether the line bounds the field from below. No memory.
     pub(crate) fn is_lower(&self, line: &Line) -> bool
-        requires { line.now.shape ≡ domains_of self.now.shape.count self.now.shape.codes }
+        requires { line.now.shape ≡ domains self.now.shape }
         ensures { result ≡ is_lower self.now.field line.now }
     {
         self.factor(line) > 0
@@ -51,7 +51,7 @@ impl Column {
 
     /// Whether the line bounds the field from above. No memory.
     pub(crate) fn is_upper(&self, line: &Line) -> bool
-        requires { line.now.shape ≡ domains_of self.now.shape.count self.now.shape.codes }
+        requires { line.now.shape ≡ domains self.now.shape }
         ensures { result ≡ is_upper self.now.field line.now }
     {
         self.factor(line) < 0
@@ -59,7 +59,7 @@ impl Column {
 
     /// Whether the field does not stand in the line. No memory.
     pub(crate) fn is_flat(&self, line: &Line) -> bool
-        requires { line.now.shape ≡ domains_of self.now.shape.count self.now.shape.codes }
+        requires { line.now.shape ≡ domains self.now.shape }
         ensures { result ≡ is_flat self.now.field line.now }
     {
         self.factor(line) == 0
@@ -67,7 +67,7 @@ impl Column {
 
     /// The name of a place among a line's factors and its constant. No memory.
     pub(crate) fn place_at(&self, place: usize) -> Place
-        ensures { result ≡ place_of (number_fields (domains_of self.now.shape.count self.now.shape.codes)) place }
+        ensures { result ≡ place_named (number_fields (domains self.now.shape)) place }
     {
         place_at(self.shape.code_counts(), place)
     }
@@ -77,7 +77,7 @@ impl Column {
 // constant.
 fn place_at(counts: &[u8], place: usize) -> Place
     requires { length counts.now ≤ 64 }
-    ensures { result ≡ place_of (number_fields (map domain_with counts.now)) place }
+    ensures { result ≡ place_named (number_fields (map domain_with counts.now)) place }
 {
     let mut left = place;
     for (i, count) in counts.iter().enumerate() {

@@ -2,7 +2,7 @@ ghost use Rattle.std.specs.Prelude.{◌≡◌, ◌<ℤ◌, int_div, neg_ℤ, pos
 ghost use Rattle.fraction128.specs.Divisor.{int_gcd};
 ghost use Rattle.fraction128.specs.Range.{InRange};
 ghost use Rattle.edit_line.specs.Combinations.{all_meet};
-ghost use Rattle.edit_line.specs.Shapes.{domains_of};
+ghost use Rattle.edit_line.specs.Shapes.{domains};
 ghost use Rattle.edit_line.specs.declared.derived.Origin.TheVariants.{Pair};
 ghost use Rattle.linear_elim.specs.Combinations.{combine_result, is_lower, is_upper};
 ghost use Rattle.linear_elim.specs.inner.ToldCombinations.{told_combination};
@@ -74,9 +74,9 @@ impl Scales {
 /// Makes the line the combination of `s`, above 0 at the field, and `t`, below 0 there, in which the field
 /// is gone; or answers the first place at which a number of it is out of range. No memory.
 pub(crate) fn combine(line: &mut Line, column: &Column, s: &Line, t: &Line) -> Result<Scales, usize>
-    requires over { line.old.shape ≡ domains_of column.now.shape.count column.now.shape.codes }
-    requires s_over { s.now.shape ≡ domains_of column.now.shape.count column.now.shape.codes }
-    requires t_over { t.now.shape ≡ domains_of column.now.shape.count column.now.shape.codes }
+    requires over { line.old.shape ≡ domains column.now.shape }
+    requires s_over { s.now.shape ≡ domains column.now.shape }
+    requires t_over { t.now.shape ≡ domains column.now.shape }
     requires lower { is_lower column.now.field s.now ≡ true }
     requires upper { is_upper column.now.field t.now ≡ true }
     requires meet { all_meet s.now.sets t.now.sets ≡ true }

@@ -3,7 +3,7 @@ ghost use Rattle.std.specs.List.{filter, fold, slice_get};
 ghost use Rattle.edit_model.specs.Points.{Point};
 ghost use Rattle.edit_line.specs.Lines.{AllHold, HaveShape};
 ghost use Rattle.edit_line.specs.Reductions.{AreOwn, lines_of, reduce_derived, with_derived};
-ghost use Rattle.edit_line.specs.Shapes.{Domain, IsNumerical, domains_of};
+ghost use Rattle.edit_line.specs.Shapes.{Domain, IsNumerical, domains};
 ghost use Rattle.linear_elim.specs.Answers.{Answers};
 ghost use Rattle.linear_elim.specs.Combinations.{is_lower, is_upper};
 ghost use Rattle.linear_elim.specs.Origins.{AllComeFrom};
@@ -117,7 +117,7 @@ fn combined_step<L: Ledger>(
     flat: Kept,
     steps: &mut Steps<L>,
 ) -> Result<Vec<Derived>, StepFault>
-    requires over { All (λ t. t.line.shape ≡ domains_of column.now.shape.count column.now.shape.codes) lines.now }
+    requires over { All (λ t. t.line.shape ≡ domains column.now.shape) lines.now }
     requires flat { flat ≡ reduce_derived (flat_from column.now.field 0 lines.now) }
     ensures exact { Answers (λ v. v.items) told_step result (step_result lines.now column.now.field) }
     ensures counted { OnOk result (steps.new ≡ steps.old + pairs_count lines.now column.now.field) }
@@ -143,7 +143,7 @@ fn combined_step<L: Ledger>(
 
 // The lines without the field, in order; they are reduced, as all the lines are.
 fn own_flat_lines(alloc: Global, column: &Column, lines: &[Derived]) -> Result<Kept, OutOfMemory>
-    requires over { All (λ s. s.line.shape ≡ domains_of column.now.shape.count column.now.shape.codes) lines.now }
+    requires over { All (λ s. s.line.shape ≡ domains column.now.shape) lines.now }
     requires own { AreOwn (lines_of lines.now) }
     ensures { IfOk result (λ flat. flat ≡ reduce_derived (flat_from column.now.field 0 lines.now)) }
 {
@@ -162,7 +162,7 @@ fn push_flat(
     s: &Derived,
     flat: &mut Kept,
 ) -> Result<(), OutOfMemory>
-    requires { s.now.line.shape ≡ domains_of column.now.shape.count column.now.shape.codes }
+    requires { s.now.line.shape ≡ domains column.now.shape }
     ensures { OnOk result (flat.new ≡ flat.old ++ flat_from column.now.field i (s.now ∷ [])) }
 {
     if column.is_flat(&s.line) {
@@ -176,7 +176,7 @@ fn push_flat(
 
 // The lines without the field, in order, reduced.
 fn flat_lines(alloc: Global, column: &Column, lines: &[Derived]) -> Result<Kept, OutOfMemory>
-    requires { All (λ s. s.line.shape ≡ domains_of column.now.shape.count column.now.shape.codes) lines.now }
+    requires { All (λ s. s.line.shape ≡ domains column.now.shape) lines.now }
     ensures { IfOk result (λ flat. flat ≡ reduce_derived (flat_from column.now.field 0 lines.now)) }
 {
     let mut flat = Kept::new(alloc);
@@ -194,7 +194,7 @@ fn take_flat(
     s: &Derived,
     flat: &mut Kept,
 ) -> Result<(), OutOfMemory>
-    requires { s.now.line.shape ≡ domains_of column.now.shape.count column.now.shape.codes }
+    requires { s.now.line.shape ≡ domains column.now.shape }
     ensures { OnOk result (flat.new ≡ fold with_derived flat.old (flat_from column.now.field i (s.now ∷ []))) }
 {
     if column.is_flat(&s.line) {
@@ -209,7 +209,7 @@ fn upper_places(
     column: &Column,
     lines: &[Derived],
 ) -> Result<Vec<usize>, OutOfMemory>
-    requires { All (λ t. t.line.shape ≡ domains_of column.now.shape.count column.now.shape.codes) lines.now }
+    requires { All (λ t. t.line.shape ≡ domains column.now.shape) lines.now }
     ensures { IfOk result (λ uppers. uppers.items ≡ places_from (is_upper column.now.field) 0 lines.now) }
 {
     let mut uppers = Vec::new(alloc);
@@ -226,7 +226,7 @@ fn push_upper(
     t: &Derived,
     uppers: &mut Vec<usize>,
 ) -> Result<(), OutOfMemory>
-    requires { t.now.line.shape ≡ domains_of column.now.shape.count column.now.shape.codes }
+    requires { t.now.line.shape ≡ domains column.now.shape }
     ensures { OnOk result (uppers.new.items ≡ uppers.old.items ++ places_from (is_upper column.now.field) i (t.now ∷ [])) }
 {
     if column.is_upper(&t.line) {
@@ -247,10 +247,10 @@ fn take_line<L: Ledger>(
     kept: &mut Kept,
     steps: &mut Steps<L>,
 ) -> Result<(), StepFault>
-    requires s_over { s.derived.now.line.shape ≡ domains_of column.now.shape.count column.now.shape.codes }
-    requires over { All (λ t. t.line.shape ≡ domains_of column.now.shape.count column.now.shape.codes) lines.now }
+    requires s_over { s.derived.now.line.shape ≡ domains column.now.shape }
+    requires over { All (λ t. t.line.shape ≡ domains column.now.shape) lines.now }
     requires uppers { uppers.now ≡ places_from (is_upper column.now.field) 0 lines.now }
-    requires line_over { line.old.shape ≡ domains_of column.now.shape.count column.now.shape.codes }
+    requires line_over { line.old.shape ≡ domains column.now.shape }
     ensures exact { TakesIn told_step kept.old kept.new result (row_result column.now.field lines.now s.entry.place s.entry.derived.now) }
     ensures counted { OnOk result (steps.new ≡ steps.old + row_count column.now.field lines.now s.entry.derived.now) }
     ensures few { steps.new ≤ steps.old + row_count column.now.field lines.now s.entry.derived.now }
@@ -276,10 +276,10 @@ fn take_row<L: Ledger>(
     steps: &mut Steps<L>,
 ) -> Result<(), StepFault>
     requires lower { is_lower column.now.field s.derived.now.line ≡ true }
-    requires s_over { s.derived.now.line.shape ≡ domains_of column.now.shape.count column.now.shape.codes }
-    requires over { All (λ t. t.line.shape ≡ domains_of column.now.shape.count column.now.shape.codes) lines.now }
+    requires s_over { s.derived.now.line.shape ≡ domains column.now.shape }
+    requires over { All (λ t. t.line.shape ≡ domains column.now.shape) lines.now }
     requires uppers { uppers.now ≡ places_from (is_upper column.now.field) 0 lines.now }
-    requires line_over { line.old.shape ≡ domains_of column.now.shape.count column.now.shape.codes }
+    requires line_over { line.old.shape ≡ domains column.now.shape }
     ensures exact { TakesIn told_step kept.old kept.new result (collect (pair_result column.now.field s.entry.place s.entry.derived.now) 0 lines.now) }
     ensures counted { OnOk result (steps.new ≡ steps.old + length (filter (λ t. is_opposite column.now.field s.entry.derived.now.line t.line) lines.now)) }
     ensures few { steps.new ≤ steps.old + length (filter (λ t. is_opposite column.now.field s.entry.derived.now.line t.line) lines.now) }
@@ -307,9 +307,9 @@ fn take_at<L: Ledger>(
     steps: &mut Steps<L>,
 ) -> Result<(), StepFault>
     requires lower { is_lower column.now.field s.derived.now.line ≡ true }
-    requires s_over { s.derived.now.line.shape ≡ domains_of column.now.shape.count column.now.shape.codes }
-    requires over { All (λ t. t.line.shape ≡ domains_of column.now.shape.count column.now.shape.codes) lines.now }
-    requires line_over { line.old.shape ≡ domains_of column.now.shape.count column.now.shape.codes }
+    requires s_over { s.derived.now.line.shape ≡ domains column.now.shape }
+    requires over { All (λ t. t.line.shape ≡ domains column.now.shape) lines.now }
+    requires line_over { line.old.shape ≡ domains column.now.shape }
     ensures exact { TakesIn told_step kept.old kept.new result (found_result (pair_result column.now.field s.entry.place s.entry.derived.now) place (slice_get lines.now place)) }
     ensures counted { steps.new ≡ steps.old + found_count (is_opposite column.now.field s.entry.derived.now.line) (slice_get lines.now place) }
     ensures over { line.new.shape ≡ line.old.shape }
@@ -335,9 +335,9 @@ fn take_pair<L: Ledger>(
     steps: &mut Steps<L>,
 ) -> Result<(), StepFault>
     requires lower { is_lower column.now.field s.derived.now.line ≡ true }
-    requires s_over { s.derived.now.line.shape ≡ domains_of column.now.shape.count column.now.shape.codes }
-    requires t_over { t.derived.now.line.shape ≡ domains_of column.now.shape.count column.now.shape.codes }
-    requires line_over { line.old.shape ≡ domains_of column.now.shape.count column.now.shape.codes }
+    requires s_over { s.derived.now.line.shape ≡ domains column.now.shape }
+    requires t_over { t.derived.now.line.shape ≡ domains column.now.shape }
+    requires line_over { line.old.shape ≡ domains column.now.shape }
     ensures exact { TakesIn told_step kept.old kept.new result (pair_result column.now.field s.entry.place s.entry.derived.now t.entry.place t.entry.derived.now) }
     ensures counted { steps.new ≡ steps.old + (if is_opposite column.now.field s.entry.derived.now.line t.entry.derived.now.line then 1 else 0) }
     ensures over { line.new.shape ≡ line.old.shape }

@@ -1,6 +1,6 @@
 ghost use Rattle.std.specs.Prelude.{◌≡◌, ◌≤◌, All, length};
 ghost use Rattle.edit_line.specs.Reductions.{lines_of};
-ghost use Rattle.edit_line.specs.Shapes.{domains_of};
+ghost use Rattle.edit_line.specs.Shapes.{domains};
 ghost use Rattle.linear_elim.specs.Steps.{OneShape, combinations, is_opposite, pairs_count, row_count};
 
 use crate::column::Column;
@@ -26,8 +26,8 @@ pub fn pairs(lines: &[Derived], field: u32) -> u128
 
 // The number of lines that are opposite to the line and meet it, if it bounds the field from below.
 fn row_pairs(column: &Column, lines: &[Derived], s: &Derived) -> usize
-    requires s_over { s.now.line.shape ≡ domains_of column.now.shape.count column.now.shape.codes }
-    requires over { All (λ t. t.line.shape ≡ domains_of column.now.shape.count column.now.shape.codes) lines.now }
+    requires s_over { s.now.line.shape ≡ domains column.now.shape }
+    requires over { All (λ t. t.line.shape ≡ domains column.now.shape) lines.now }
     ensures count { result ≡ row_count column.now.field lines.now s.now }
     ensures few { result ≤ length lines.now }
 {
@@ -43,8 +43,8 @@ fn row_pairs(column: &Column, lines: &[Derived], s: &Derived) -> usize
 
 /// Whether `t` bounds the field from above, and all its sets meet those of `s`. No memory.
 pub(crate) fn is_opposite(column: &Column, s: &Line, t: &Line) -> bool
-    requires s_over { s.now.shape ≡ domains_of column.now.shape.count column.now.shape.codes }
-    requires t_over { t.now.shape ≡ domains_of column.now.shape.count column.now.shape.codes }
+    requires s_over { s.now.shape ≡ domains column.now.shape }
+    requires t_over { t.now.shape ≡ domains column.now.shape }
     ensures { result ≡ is_opposite column.now.field s.now t.now }
 {
     column.is_upper(t) && all_meet(s.sets(), t.sets())

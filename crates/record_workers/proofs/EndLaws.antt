@@ -17,7 +17,7 @@ use Rattle.edit_paths.proofs.BudgetLaws.{enough-budget}
 use Rattle.edit_paths.proofs.ChoiceLaws.{contradictory}
 use Rattle.edit_report.specs.declared.end.RowEnd.{RowEnd}
 use Rattle.record_workers.specs.Donations.{claims_donor}
-use Rattle.record_workers.specs.Ends.{Follows, IsEndOf}
+use Rattle.record_workers.specs.Ends.{ComesOf, IsEndOf}
 use Rattle.record_workers.specs.Said.{OutcomeSays, Says}
 use Rattle.record_workers.proofs.OverflowLaws.{step-shown, test-shown}
 
@@ -45,7 +45,7 @@ module _ (survey : SurveyParts) (edits : EditsParts) (row : List Value) (budget 
   no-change-says (outcome.Contradictory cert) e none = λ p correction. contradictory (case_of survey edits row) is budget cert (sym e) p ((same p).1 correction)
 
   -- nothing follows on it
-  no-change-follows : (o : Outcome) → IsNoChange o → Follows survey edits row None o None None
+  no-change-follows : (o : Outcome) → IsNoChange o → ComesOf survey edits row None o None None
   no-change-follows (outcome.Change path weight cert) none = absurd (none path weight cert refl)
   no-change-follows (outcome.Budget path work) none = tt
   no-change-follows (outcome.Overflow path e) none = tt

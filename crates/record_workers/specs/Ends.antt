@@ -36,15 +36,15 @@ pub record StopsGiving (survey : SurveyParts) (edits : EditsParts) (row : List V
   pub stops : StopsAt survey edits row changed donor stop
 
 -- what follows on an outcome, with the donor's values if there is one: on a change values, or the fault at which the giving stops; on any other outcome neither
-abbrev pub Follows : SurveyParts → EditsParts → List Value → Option (List Value) → Outcome → Option GiftFault → Option Gift → Type 0
-Follows survey edits row donor (Change path weight cert) None (Some gift) = IsGiftOf survey row path donor gift
-Follows survey edits row donor (Change path weight cert) (Some stop) None = StopsGiving survey edits row path donor stop
-Follows survey edits row donor (Change path weight cert) None None = ⊥
-Follows survey edits row donor (Change path weight cert) (Some stop) (Some gift) = ⊥
-Follows survey edits row donor outcome None None = ⊤
-Follows survey edits row donor outcome stop gift = ⊥
+abbrev pub ComesOf : SurveyParts → EditsParts → List Value → Option (List Value) → Outcome → Option GiftFault → Option Gift → Type 0
+ComesOf survey edits row donor (Change path weight cert) None (Some gift) = IsGiftOf survey row path donor gift
+ComesOf survey edits row donor (Change path weight cert) (Some stop) None = StopsGiving survey edits row path donor stop
+ComesOf survey edits row donor (Change path weight cert) None None = ⊥
+ComesOf survey edits row donor (Change path weight cert) (Some stop) (Some gift) = ⊥
+ComesOf survey edits row donor outcome None None = ⊤
+ComesOf survey edits row donor outcome stop gift = ⊥
 
 -- what becomes of a record among the rows of a sheet: the outcome of its search within the budget, and what follows on it, with the values of its donor
 pub record IsEndOf (survey : SurveyParts) (edits : EditsParts) (budget : ℕ) (rows : List (List Value)) (row : List Value) (end : RowEnd) : Type 0 where
   pub outcome : end.proof.outcome ≡ outcome_of (case_of survey edits row) budget
-  pub follows : Follows survey edits row (option_map (row_at rows) end.donor) end.proof.outcome end.proof.gift end.gift
+  pub follows : ComesOf survey edits row (option_map (row_at rows) end.donor) end.proof.outcome end.proof.gift end.gift

@@ -5,7 +5,7 @@ use Rattle.edit_model.specs.declared.value.Value.{Value}
 use Rattle.edit_line.specs.CodeFields.{codes_in}
 use Rattle.edit_line.specs.Lines.{AllHold, IsEnough, LineParts, factor}
 use Rattle.edit_line.specs.Reductions.{IsIn}
-use Rattle.edit_line.specs.Sets.{AllInside}
+use Rattle.edit_line.specs.Sets.{AreCodesIn}
 use Rattle.edit_model.specs.Parts.{SurveyParts}
 use Rattle.edit_model.specs.Corrections.{IsCorrection}
 use Rattle.edit_model.specs.Points.{HasCodesFrom}
@@ -19,7 +19,7 @@ pub record DecideFor (survey : SurveyParts) (edits : List LineParts) (row : List
 
 -- the line bounds the field at the record: the record's codes are in its sets, and it has a factor there
 pub record BoundsField (line : LineParts) (row : List Value) (f : ℕ) : Type 0 where
-  pub codes : AllInside line.sets (codes_in line.shape row)
+  pub codes : AreCodesIn line.sets (codes_in line.shape row)
   pub stands : factor line f ≢ pos 0
 
 -- a number at the field is within the bound that the line gives with this rest

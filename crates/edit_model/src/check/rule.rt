@@ -1,5 +1,5 @@
 ghost use Rattle.std.specs.Prelude.{◌<◌, ◌^◌, ◌↔◌, IsTrue};
-ghost use Rattle.edit_model.specs.Surveys.{HasCodes, HasForm, IsCodeTest, IsOrderTest, IsRule, IsTest};
+ghost use Rattle.edit_model.specs.Surveys.{IsSetOf, HasForm, IsCodeTest, IsOrderTest, IsRule, IsTest};
 
 use crate::check::linear::is_linear;
 use crate::field::{Field, Kind};
@@ -14,7 +14,7 @@ fn fits_codes(set: u64, count: usize) -> bool
 
 // Whether the set of codes, as bits, is inside the field's codes and not empty.
 fn has_codes(kind: &Kind, set: u64) -> bool
-    ensures { IsTrue result ↔ HasCodes kind.now set }
+    ensures { IsTrue result ↔ IsSetOf kind.now set }
 {
     match kind {
         Kind::Number { .. } => false,

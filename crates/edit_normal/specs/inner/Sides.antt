@@ -3,7 +3,7 @@ use Rattle.std.specs.List.{filter}
 use lib.IntN.{neg_ℤ}
 use Rattle.edit_model.specs.declared.rule.Linear.{Linear}
 use Rattle.edit_line.specs.Lines.{LineParts}
-use Rattle.edit_line.specs.Sets.{has_codes}
+use Rattle.edit_line.specs.Sets.{none_is_empty}
 use Rattle.edit_line.specs.Shapes.{Domain}
 use Rattle.edit_normal.specs.NormalForm.{line_of, negative_line_of}
 use Rattle.edit_normal.specs.RuleLines.{numbered}
@@ -39,4 +39,4 @@ side_line shape sets e Below = negative_line_of shape sets e true
 
 -- the lines before, and of these the ones without an empty set, with the number of their rule
 abbrev pub joined_by : List RuleLine → ℕ → List LineParts → List RuleLine
-joined_by before rule lines = before ++ numbered rule (filter (λ line. has_codes line.sets) lines)
+joined_by before rule lines = before ++ numbered rule (filter (λ line. none_is_empty line.sets) lines)

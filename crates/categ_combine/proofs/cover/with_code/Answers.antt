@@ -1,7 +1,7 @@
 use Rattle.std.proofs.Common.{◌≡◌, List, ap, arith, subst, sym, ◌∙◌}
 use Rattle.std.specs.List.{flat_map}
 use Rattle.std.proofs.lemmas.List.{take_all}
-use Rattle.edit_line.specs.Shapes.{domains_of}
+use Rattle.edit_line.specs.Shapes.{domains}
 use Rattle.categ_combine.specs.BoxLists.{AreBoxesOver, reduce_from}
 use Rattle.categ_combine.specs.Covers.{row_of, with_code_from}
 use Rattle.categ_combine.specs.declared.box_from.BoxFrom.{BoxFrom}
@@ -12,6 +12,6 @@ pub returns-clause-over : goal.returns-clause-over
 returns-clause-over c =
     let is : c.loop-cover.next.items ≡ with_code_from c.args.spot.now.place c.args.spot.now.whole c.args.boxes.now c.args.covers.now c.args.code =
     c.loop-cover.invariant ∙ ap (λ (cs : List BoxFrom). reduce_from (flat_map (row_of c.args.spot.now.place c.args.spot.now.whole c.args.code c.args.boxes.now) cs)) (take_all c.loop-cover.cover-index c.args.covers.now (omega arith)) in
-    subst (λ (bs : List BoxFrom). AreBoxesOver (domains_of c.args.spot.now.shape.count c.args.spot.now.shape.codes) bs) (sym is) (
-    over-with_code c.args.spot.now.place c.args.spot.now.whole (domains_of c.args.spot.now.shape.count c.args.spot.now.shape.codes) c.args.boxes.now c.args.covers.now c.args.code c.requires.covers
+    subst (λ (bs : List BoxFrom). AreBoxesOver (domains c.args.spot.now.shape) bs) (sym is) (
+    over-with_code c.args.spot.now.place c.args.spot.now.whole (domains c.args.spot.now.shape) c.args.boxes.now c.args.covers.now c.args.code c.requires.covers
     )

@@ -1,5 +1,5 @@
 use Rattle.std.proofs.Common.{◌≡◌, ◌++◌, ◌<◌, ℕ, List, length, rules, ap, arith, subst, sym, slice_set, ◌∙◌}
-use Rattle.edit_line.specs.Sets.{AreSets, has_codes}
+use Rattle.edit_line.specs.Sets.{AreSets, none_is_empty}
 use Rattle.edit_line.specs.Shapes.{Domain, whole_sets}
 use Rattle.edit_line.specs.Combinations.{meets}
 use Rattle.edit_line.proofs.SetLaws.{AreSets-length}
@@ -40,6 +40,6 @@ returns-clause-fit c = λ told.
     let whole = c.args.spot.now.whole in
     let cover = c.args.cover.now.code_box in
     let other = c.args.b.now.code_box in
-    let some = ap (λ (ss : List ℕ). has_codes (slice_set ss place whole)) (sym (joined at)) ∙ told in
+    let some = ap (λ (ss : List ℕ). none_is_empty (slice_set ss place whole)) (sym (joined at)) ∙ told in
     let are = common-sets _ _ _ cover.sets other.sets place whole c.args.spot.now.stands c.requires.cover c.requires.other c.sets.ensures.fit c.sets-2.ensures.fit some in
     subst (λ (ss : List ℕ). AreSets (slice_set ss place whole) (whole_sets cover.shape)) (sym (joined at)) are

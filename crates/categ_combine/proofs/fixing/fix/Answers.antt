@@ -1,6 +1,6 @@
 use Rattle.std.proofs.Common.{◌≡◌, ◌<◌, ◌↔◌, All, List, sym, subst, ◌∙◌}
 use Rattle.edit_model.specs.Points.{Point}
-use Rattle.edit_line.specs.Shapes.{Domain, HasCodes, domains_of}
+use Rattle.edit_line.specs.Shapes.{Domain, HasCodes, domains}
 use Rattle.categ_combine.specs.BoxLists.{AreBoxesOver, Avoids, reduce_from, sets_of}
 use Rattle.categ_combine.specs.inner.FitBoxes.{AreBoxes}
 use Rattle.edit_line.specs.CodeFields.{size_of, with_code_at}
@@ -17,7 +17,7 @@ pub returns-in_ok-spot-in-Some-clause-over : goal.returns-in_ok-spot-in-Some-cla
 returns-in_ok-spot-in-Some-clause-over c =
     let boxes = c.args.boxes.now in
     let spot = c.in_ok-spot-in-Some.spot in
-    let own = domains_of c.shape.result.count c.shape.result.codes in
+    let own = domains c.shape.result in
     if_ok (λ left. left.items ≡ reduce_from (each_from (fixed_one spot.place spot.whole c.args.code) 0 boxes)) (λ left. AreBoxes boxes)
     (λ left. (shape : List Domain) → AreBoxesOver shape boxes → c.args.code < size_of shape c.args.field → AreBoxesOver shape left.items)
     c.fix_at.result (
@@ -30,7 +30,7 @@ pub returns-in_ok-spot-in-Some-clause-origins : goal.returns-in_ok-spot-in-Some-
 returns-in_ok-spot-in-Some-clause-origins c =
     let boxes = c.args.boxes.now in
     let spot = c.in_ok-spot-in-Some.spot in
-    let own = domains_of c.shape.result.count c.shape.result.codes in
+    let own = domains c.shape.result in
     if_ok (λ left. left.items ≡ reduce_from (each_from (fixed_one spot.place spot.whole c.args.code) 0 boxes)) (λ left. AreBoxes boxes)
     (λ left. (shape : List Domain) → AreBoxesOver shape boxes → c.args.code < size_of shape c.args.field → All (λ (b : BoxFrom). ComesFromFix shape boxes c.args.field c.args.code b.code_box b.origin) left.items)
     c.fix_at.result (
@@ -44,7 +44,7 @@ pub returns-in_ok-spot-in-Some-clause-sets : goal.returns-in_ok-spot-in-Some-cla
 returns-in_ok-spot-in-Some-clause-sets c =
     let boxes = c.args.boxes.now in
     let spot = c.in_ok-spot-in-Some.spot in
-    let own = domains_of c.shape.result.count c.shape.result.codes in
+    let own = domains c.shape.result in
     if_ok (λ left. left.items ≡ reduce_from (each_from (fixed_one spot.place spot.whole c.args.code) 0 boxes)) (λ left. AreBoxes boxes)
     (λ left. (shape : List Domain) → AreBoxesOver shape boxes → c.args.code < size_of shape c.args.field → sets_of left.items ≡ fixed shape (sets_of boxes) c.args.field c.args.code)
     c.fix_at.result (
@@ -56,7 +56,7 @@ pub returns-in_ok-spot-in-Some-clause-same : goal.returns-in_ok-spot-in-Some-cla
 returns-in_ok-spot-in-Some-clause-same c =
     let boxes = c.args.boxes.now in
     let spot = c.in_ok-spot-in-Some.spot in
-    let own = domains_of c.shape.result.count c.shape.result.codes in
+    let own = domains c.shape.result in
     if_ok (λ left. left.items ≡ reduce_from (each_from (fixed_one spot.place spot.whole c.args.code) 0 boxes)) (λ left. AreBoxes boxes)
     (λ left. (shape : List Domain) (p : Point) → AreBoxesOver shape boxes → c.args.code < size_of shape c.args.field → HasCodes 0 shape p → Avoids shape (sets_of left.items) p ↔ Avoids shape (sets_of boxes) (with_code_at p c.args.field c.args.code))
     c.fix_at.result (

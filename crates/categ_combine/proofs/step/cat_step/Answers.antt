@@ -1,6 +1,6 @@
 use Rattle.std.proofs.Common.{◌≡◌, ◌<◌, ◌↔◌, ℕ, All, List, ap, arith, sym, subst, ◌∙◌}
 use Rattle.edit_model.specs.Points.{Point}
-use Rattle.edit_line.specs.Shapes.{Domain, HasCodes, domains_of}
+use Rattle.edit_line.specs.Shapes.{Domain, HasCodes, domains}
 use Rattle.categ_combine.specs.BoxLists.{AreBoxesOver, Avoids, sets_of}
 use Rattle.categ_combine.specs.inner.FitBoxes.{AreBoxes}
 use Rattle.edit_line.specs.CodeFields.{TakesCodes, size_of, with_code_at}
@@ -42,7 +42,7 @@ returns-in-None-clause-over c = λ shape over takes.
 pub returns-in-Some-clause-over : goal.returns-in-Some-clause-over
 returns-in-Some-clause-over c =
     let boxes = c.args.boxes.now in
-    let own = domains_of c.shape.result.count c.shape.result.codes in
+    let own = domains c.shape.result in
     if_ok (λ told. IsDone told (λ left pairs. (left ≡ covered_from own boxes c.args.field) × (pairs ≡ cover_count own (sets_of boxes) c.args.field))) (λ told. IsDone told (λ left pairs. AreBoxes boxes))
     (λ told. (shape : List Domain) → AreBoxesOver shape boxes → TakesCodes shape c.args.field → IsDone told (λ left pairs. AreBoxesOver shape left))
     c.step_over.result (
@@ -59,7 +59,7 @@ returns-in-None-clause-origins c = λ shape over takes.
 pub returns-in-Some-clause-origins : goal.returns-in-Some-clause-origins
 returns-in-Some-clause-origins c =
     let boxes = c.args.boxes.now in
-    let own = domains_of c.shape.result.count c.shape.result.codes in
+    let own = domains c.shape.result in
     if_ok (λ told. IsDone told (λ left pairs. (left ≡ covered_from own boxes c.args.field) × (pairs ≡ cover_count own (sets_of boxes) c.args.field))) (λ told. IsDone told (λ left pairs. AreBoxes boxes))
     (λ told. (shape : List Domain) → AreBoxesOver shape boxes → TakesCodes shape c.args.field → IsDone told (λ left pairs. All (λ (b : BoxFrom). ComesFromCover shape boxes c.args.field b.code_box b.origin) left))
     c.step_over.result (
@@ -70,7 +70,7 @@ returns-in-Some-clause-origins c =
 pub returns-in-Some-clause-sets : goal.returns-in-Some-clause-sets
 returns-in-Some-clause-sets c =
     let boxes = c.args.boxes.now in
-    let own = domains_of c.shape.result.count c.shape.result.codes in
+    let own = domains c.shape.result in
     if_ok (λ told. IsDone told (λ left pairs. (left ≡ covered_from own boxes c.args.field) × (pairs ≡ cover_count own (sets_of boxes) c.args.field))) (λ told. IsDone told (λ left pairs. AreBoxes boxes))
     (λ told. (shape : List Domain) → AreBoxesOver shape boxes → TakesCodes shape c.args.field → IsDone told (λ left pairs. sets_of left ≡ covered shape (sets_of boxes) c.args.field))
     c.step_over.result (
@@ -81,7 +81,7 @@ returns-in-Some-clause-sets c =
 pub returns-in-Some-clause-same : goal.returns-in-Some-clause-same
 returns-in-Some-clause-same c =
     let boxes = c.args.boxes.now in
-    let own = domains_of c.shape.result.count c.shape.result.codes in
+    let own = domains c.shape.result in
     if_ok (λ told. IsDone told (λ left pairs. (left ≡ covered_from own boxes c.args.field) × (pairs ≡ cover_count own (sets_of boxes) c.args.field))) (λ told. IsDone told (λ left pairs. AreBoxes boxes))
     (λ told. (shape : List Domain) (p : Point) → AreBoxesOver shape boxes → TakesCodes shape c.args.field → HasCodes 0 shape p
     → IsDone told (λ left pairs. Avoids shape (sets_of left) p ↔ ((code : ℕ) × (code < size_of shape c.args.field) × Avoids shape (sets_of boxes) (with_code_at p c.args.field code))))

@@ -1,6 +1,6 @@
-use Rattle.edit_line.specs.Shapes.{domains_of}
+use Rattle.edit_line.specs.Shapes.{domains}
 use Rattle.categ_combine.proofs.CoverLoops.{IsSoFar}
 use Rattle.categ_combine.proofs.step.covers_of.Given as goal
 
 abbrev pub invariant-loop-code : goal.invariant-loop-code
-invariant-loop-code l = IsSoFar (domains_of l.spot.shape.count l.spot.shape.codes) l.spot.place l.spot.whole l.boxes l.size l.most l.code l.covers.items l.pairs
+invariant-loop-code l = IsSoFar (domains l.spot.shape) l.spot.place l.spot.whole l.boxes l.size l.most l.code l.covers.items l.pairs

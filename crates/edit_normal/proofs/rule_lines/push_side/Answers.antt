@@ -1,6 +1,6 @@
 use Rattle.std.proofs.Common.{◌≡◌, ◌++◌, [], ◌∷◌, true, sym, ap, ◌∙◌, List, ℕ}
 use Rattle.edit_line.specs.Lines.{LineParts}
-use Rattle.edit_line.specs.Sets.{has_codes}
+use Rattle.edit_line.specs.Sets.{none_is_empty}
 use Rattle.edit_line.specs.Shapes.{whole_sets}
 use Rattle.edit_line.proofs.SetLaws.{AreSets-within}
 use Rattle.edit_normal.specs.inner.Sides.{side_line}
@@ -13,7 +13,7 @@ side_line-requires c = AreSets-within c.args.sets.now (whole_sets c.args.layout.
 pub returns-in_ok-push : goal.returns-in_ok-push
 returns-in_ok-push c =
     let line = side_line c.args.layout.now c.args.sets.now c.args.linear.now c.args.side in
-    let full : has_codes line.sets ≡ true = ap (λ (ss : List ℕ). has_codes ss) (side_line-sets c.args.layout.now c.args.sets.now c.args.linear.now c.args.side) ∙ sym c.have_codes.ensures ∙ c.if-have_codes.true in
+    let full : none_is_empty line.sets ≡ true = ap (λ (ss : List ℕ). none_is_empty ss) (side_line-sets c.args.layout.now c.args.sets.now c.args.linear.now c.args.side) ∙ sym c.have_codes.ensures ∙ c.if-have_codes.true in
     pushed c.args.lines.now.items c.push.new.self.items c.args.rule line full
     (c.in_ok-push.ensures.items ∙ ap (λ (l : LineParts). c.args.lines.now.items ++ record { rule = c.args.rule; line = l } ∷ []) c.in_ok-line.ensures)
 
@@ -21,4 +21,4 @@ pub returns-else-have_codes : goal.returns-else-have_codes
 returns-else-have_codes c =
     let line = side_line c.args.layout.now c.args.sets.now c.args.linear.now c.args.side in
     skipped c.args.lines.now.items c.args.rule line
-    (ap (λ (ss : List ℕ). has_codes ss) (side_line-sets c.args.layout.now c.args.sets.now c.args.linear.now c.args.side) ∙ sym c.have_codes.ensures ∙ c.if-have_codes.false)
+    (ap (λ (ss : List ℕ). none_is_empty ss) (side_line-sets c.args.layout.now c.args.sets.now c.args.linear.now c.args.side) ∙ sym c.have_codes.ensures ∙ c.if-have_codes.false)

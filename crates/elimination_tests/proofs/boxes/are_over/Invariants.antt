@@ -1,7 +1,7 @@
 use Rattle.std.proofs.Common.{take}
-use Rattle.edit_line.specs.Shapes.{domains_of}
+use Rattle.edit_line.specs.Shapes.{domains}
 use Rattle.categ_combine.specs.BoxLists.{AreBoxesOver}
 use Rattle.elimination_tests.proofs.boxes.are_over.Given as goal
 
 abbrev pub invariant-loop-i : goal.invariant-loop-i
-invariant-loop-i l = AreBoxesOver (domains_of l.shape.count l.shape.codes) (take l.i l.boxes)
+invariant-loop-i l = AreBoxesOver (domains l.shape) (take l.i l.boxes)

@@ -1,6 +1,6 @@
 use Rattle.edit_line.specs.Lines.{AreOver}
-use Rattle.edit_line.specs.Shapes.{domains_of}
+use Rattle.edit_line.specs.Shapes.{domains}
 use Rattle.elimination_tests.proofs.reading.given_lines.Given as goal
 
 abbrev pub invariant-loop-rule_line : goal.invariant-loop-rule_line
-invariant-loop-rule_line l = AreOver (domains_of l.shape.count l.shape.codes) l.lines.items
+invariant-loop-rule_line l = AreOver (domains l.shape) l.lines.items

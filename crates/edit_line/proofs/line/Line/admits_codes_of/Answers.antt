@@ -1,6 +1,6 @@
 use Rattle.std.proofs.Common.{◌∙◌, ap, length, not, sym, List, ℕ}
 use Rattle.edit_model.specs.Corrections.{is_numerical}
-use Rattle.edit_line.specs.Sets.{is_inside}
+use Rattle.edit_line.specs.Sets.{are_codes_in}
 use Rattle.edit_line.specs.Shapes.{whole_sets}
 use Rattle.edit_line.proofs.FactorLoops.{codes_of_row}
 use Rattle.edit_line.proofs.RowFields.{kind-within}
@@ -20,5 +20,5 @@ admits_codes-requires-clause-within c = kind-within (λ k. not (is_numerical k))
 pub returns : goal.returns
 returns c =
     let line = c.args.self.now in
-    c.admits_codes.ensures ∙ ap (λ (ss : List ℕ). is_inside ss (codes_of_row c.args.row.now c.codes.result.now)) c.sets.ensures.sets
-    ∙ ap (λ (fs : List ℕ). is_inside line.sets (codes_of_row c.args.row.now fs)) (same_codes c.codes.result.now c.args.survey.now.fields line.shape c.codes.ensures c.requires.shape)
+    c.admits_codes.ensures ∙ ap (λ (ss : List ℕ). are_codes_in ss (codes_of_row c.args.row.now c.codes.result.now)) c.sets.ensures.sets
+    ∙ ap (λ (fs : List ℕ). are_codes_in line.sets (codes_of_row c.args.row.now fs)) (same_codes c.codes.result.now c.args.survey.now.fields line.shape c.codes.ensures c.requires.shape)
