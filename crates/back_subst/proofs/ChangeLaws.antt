@@ -1,6 +1,7 @@
 use Rattle.std.proofs.Common.{◌≡◌, ◌↔◌, ◌<◌, ◌≤◌, ◌+◌, ◌^◌, ◌++◌, inl, inr, ℕ, nat_lt, Bool, true, false, if◌then◌else◌, List, [], ◌∷◌, None, Some, drop, length, take, refl, sym, ap, ◌∙◌, subst, arith}
 use Rattle.std.proofs.lemmas.Bool.Decides.{Decides-eqb}
 use Rattle.std.proofs.lemmas.List.{length-take-le, take-append-drop, take-take}
+use Rattle.std.specs.Option.{unwrap_or}
 use Rattle.edit_model.specs.Corrections.{IsCorrection, IsLeastWeight}
 use Rattle.edit_model.specs.Parts.{SurveyParts}
 use Rattle.edit_model.specs.Points.{Point}
@@ -14,7 +15,7 @@ use Rattle.bound_cert.specs.declared.cert.Cert.{Cert}
 use Rattle.bound_cert.specs.declared.outcome.Outcome.TheVariants as outcome
 use Rattle.edit_paths.specs.Cases.{Case, IsCase, Meets, case_of}
 use Rattle.edit_paths.specs.Certificates.{certificate_of}
-use Rattle.edit_paths.specs.Outcomes.{end_by, or_later, outcome_from, outcome_of}
+use Rattle.edit_paths.specs.Outcomes.{end_by, outcome_from, outcome_of}
 use Rattle.edit_paths.specs.Paths.{field_count, is_complete}
 use Rattle.edit_paths.specs.ReachedPaths.{IsReached, is_before, reached_paths}
 use Rattle.edit_paths.specs.States.{IsOpen, state_of}
@@ -37,7 +38,7 @@ module _ (c : Case) (budget : ℕ) (chosen : List Bool) (weight : ℕ) (cert : C
   first-within taken path paths e = by (nat_lt budget (work_of_all c taken + work_of c path)) refl e
     where
       by : (over : Bool) → nat_lt budget (work_of_all c taken + work_of c path) ≡ over
-          → or_later (if over then Some (outcome.Budget path (work_of_all c taken)) else end_by c taken path (state_of c path)) (outcome_from c budget (taken ++ path ∷ []) paths) ≡ outcome.Change chosen weight cert → work_of c path ≤ budget
+          → (unwrap_or (if over then Some (outcome.Budget path (work_of_all c taken)) else end_by c taken path (state_of c path)) (outcome_from c budget (taken ++ path ∷ []) paths)) ≡ outcome.Change chosen weight cert → work_of c path ≤ budget
       by true is h = absurd (cc)
       by false is h = grind (arith, is)
 
@@ -45,14 +46,14 @@ module _ (c : Case) (budget : ℕ) (chosen : List Bool) (weight : ℕ) (cert : C
   then-later taken path paths ends e = by (nat_lt budget (work_of_all c taken + work_of c path)) (state_of c path) refl e
     where
       by : (over : Bool) (s : PathState) → state_of c path ≡ s
-          → or_later (if over then Some (outcome.Budget path (work_of_all c taken)) else end_by c taken path s) (outcome_from c budget (taken ++ path ∷ []) paths) ≡ outcome.Change chosen weight cert
+          → (unwrap_or (if over then Some (outcome.Budget path (work_of_all c taken)) else end_by c taken path s) (outcome_from c budget (taken ++ path ∷ []) paths)) ≡ outcome.Change chosen weight cert
           → outcome_from c budget (taken ++ path ∷ []) paths ≡ outcome.Change chosen weight cert
       by true s is h = absurd (cc)
       by false (Overflows event) is h = absurd (ends.0 event is)
       by false Open is h = at (is_complete c path) refl h
         where
           at : (full : Bool) → is_complete c path ≡ full
-              → or_later (if full then Some (outcome.Change path (path_weight c.survey.fields path) (record { leaves = certificate_of c (if nat_lt 0 (path_weight c.survey.fields path) then taken else []) })) else None) (outcome_from c budget (taken ++ path ∷ []) paths) ≡ outcome.Change chosen weight cert
+              → (unwrap_or (if full then Some (outcome.Change path (path_weight c.survey.fields path) (record { leaves = certificate_of c (if nat_lt 0 (path_weight c.survey.fields path) then taken else []) })) else None) (outcome_from c budget (taken ++ path ∷ []) paths)) ≡ outcome.Change chosen weight cert
               → outcome_from c budget (taken ++ path ∷ []) paths ≡ outcome.Change chosen weight cert
           at true full h = absurd (ends.1 is full)
           at false full h = h

@@ -1,6 +1,7 @@
 use Rattle.std.proofs.Common.{◌≡◌, ◌≢◌, ◌↔◌, inl, inr, ℕ, suc, ◌<◌, ◌==◌, ◌||◌, ◌&&◌, not, Bool, true, false, if◌then◌else◌, List, [], ◌∷◌, ◌++◌, All, Result, Ok, Err, length, ℤ, pos, ◌*ℤ◌, refl, sym, ap, ◌∙◌, subst, arith}
 use Rattle.std.specs.List.{list_any}
 use Rattle.std.proofs.lemmas.Bool.Decides.{Decides-eqb}
+use Rattle.foundation.specs.Results.{◌>>=◌, fault_as}
 use Rattle.edit_model.specs.Parts.{SurveyParts}
 use Rattle.edit_model.specs.Points.{HasCodesFrom, IsInDomain, Point}
 use Rattle.edit_model.specs.RowPoints.{Agrees}
@@ -21,7 +22,7 @@ use Rattle.edit_line.proofs.ShapeLaws.{HasCodes-shape}
 use Rattle.linear_elim.specs.Systems.{system}
 use Rattle.linear_elim.proofs.SystemLaws.{HaveShape-system, system-follows, system-lifts}
 use Rattle.categ_combine.specs.BoxLists.{Avoids, with_box}
-use Rattle.categ_combine.specs.FailingBoxes.{boxes_from, failing_boxes, or_line}
+use Rattle.categ_combine.specs.FailingBoxes.{boxes_from, failing_boxes, line_fault}
 use Rattle.categ_combine.proofs.AvoidLaws.{failing-avoids}
 use Rattle.categ_combine.proofs.CoverLaws.{HaveSets}
 use Rattle.derivation.proofs.CoverLaws.{code-below}
@@ -77,7 +78,7 @@ boxes-each P i (line ∷ lines) row kept boxes each all e =
       | inr same ↦ subst P (sym same) (each line (inl refl))
     ]
 
-    by : (t : Result Bool ℕ) → or_line i t (λ fails. boxes_from (suc i) lines row (if fails then with_box kept line.sets else kept)) ≡ Ok boxes
+    by : (t : Result Bool ℕ) → (fault_as (line_fault i) t >>= (λ fails. boxes_from (suc i) lines row (if fails then with_box kept line.sets else kept))) ≡ Ok boxes
         → ((kept' : List (List ℕ)) → ((b : List ℕ) → IsIn b kept' → P b) → boxes_from (suc i) lines row kept' ≡ Ok boxes → (b : List ℕ) → IsIn b boxes → P b) → (b : List ℕ) → IsIn b boxes → P b
     by (Err f) made rest = absurd (cc)
     by (Ok true) made rest = rest (with_box kept line.sets) taken made

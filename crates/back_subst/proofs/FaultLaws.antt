@@ -3,6 +3,8 @@ use Rattle.std.specs.List.{filter}
 use Rattle.std.specs.Ordering.{int_eq}
 use Rattle.std.proofs.lemmas.Bool.Decides.{Decides-int_eq, Decides-ltb}
 use Rattle.std.proofs.lemmas.List.{get_or_default, same_lists}
+use Rattle.std.specs.Option.{ok_or}
+use Rattle.foundation.specs.Results.{◌>>=◌}
 use Rattle.edit_model.specs.Corrections as corrections
 use Rattle.edit_model.specs.FieldSets.{has_number}
 use Rattle.edit_model.specs.Parts.{SurveyParts}
@@ -25,7 +27,7 @@ use Rattle.linear_elim.proofs.PointLaws.{number-no_code}
 use Rattle.linear_elim.proofs.SystemLaws.{HaveShape-system}
 use Rattle.back_subst.specs.GiveFaults.{AllHoldAt, AreComputed, AreGivenFirst, IsFirstOut, Shows, StopsAtLine, StopsAtRule}
 use Rattle.back_subst.specs.Given.{IsGiven, giving_order, number_in, target_of}
-use Rattle.back_subst.specs.NumberWalk.{FoundEnds, bound_at, ends_from, found_at, is_bounding, no_ends, number_result, or_place, then_nearest, with_found}
+use Rattle.back_subst.specs.NumberWalk.{FoundEnds, bound_at, ends_from, found_at, is_bounding, no_ends, number_result, then_nearest, with_found}
 use Rattle.back_subst.specs.declared.gift.GiveFault.{GiveFault}
 use Rattle.back_subst.specs.declared.gift.GiveFault.TheVariants.{Bound, OutOfMemory, Test}
 use Rattle.back_subst.specs.inner.Systems.{start_lines}
@@ -54,7 +56,7 @@ module _ (shape : List Domain) (row : List Value) (f : ℕ) (none : has_field (n
   no-ends : (i : ℕ) (lines : List LineParts) (ends : FoundEnds) → ((line : LineParts) → IsIn line lines → line.shape ≡ shape) → ends_from i lines row f ends ≡ Ok ends
   no-ends i [] ends over = refl
   no-ends i (line ∷ lines) ends over =
-      ap (λ b. if b then or_place i (bound_at line row f) (λ at. ends_from (suc i) lines row f (with_found ends (int_lt (pos 0) (factor line f)) (found_at at line.strict i))) else ends_from (suc i) lines row f ends) (no-bounding line (over line (inl refl)))
+      ap (λ b. if b then (ok_or (bound_at line row f) i >>= (λ at. ends_from (suc i) lines row f (with_found ends (int_lt (pos 0) (factor line f)) (found_at at line.strict i)))) else ends_from (suc i) lines row f ends) (no-bounding line (over line (inl refl)))
       ∙ no-ends (suc i) lines ends (λ l there. over l (inr there))
 
 -- ---- the faults

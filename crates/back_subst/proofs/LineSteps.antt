@@ -6,8 +6,11 @@ use Rattle.std.proofs.Math.Seq.{drop-cons}
 use Rattle.std.proofs.lemmas.Bool.Decides.{Decides-int_eq}
 use Rattle.std.proofs.lemmas.Int.{ints}
 use Rattle.std.proofs.lemmas.List.{drop_all}
+use Rattle.std.specs.Option.{ok_or}
+use Rattle.foundation.specs.Results.{◌>>=◌}
+use Rattle.foundation.specs.Options.{◌>>?◌}
 use Rattle.fraction128.specs.Arithmetic.{IsQuotient, divided_numbers}
-use Rattle.fraction128.specs.Formulas.{Ratio, answered, divided, ratio_of, then_some}
+use Rattle.fraction128.specs.Formulas.{Ratio, answered, divided, ratio_of}
 use Rattle.fraction128.specs.declared.fraction.Fraction.{Fraction}
 use Rattle.fraction128.specs.Range.{AllInRange}
 use Rattle.fraction128.proofs.QuotientLaws.{divided-answered}
@@ -23,7 +26,7 @@ use Rattle.edit_line.specs.Sums.{sum_at}
 use Rattle.edit_line.specs.declared.derived.Derived.{Derived}
 use Rattle.linear_elim.proofs.ColumnLaws.{beside-place}
 use Rattle.derivation.proofs.CodePlaces.{place-found, there-has}
-use Rattle.back_subst.specs.NumberWalk.{FoundEnds, bound_at, ends_from, found_at, is_bounding, or_place, value_in, with_found}
+use Rattle.back_subst.specs.NumberWalk.{FoundEnds, bound_at, ends_from, found_at, is_bounding, value_in, with_found}
 use Rattle.back_subst.specs.inner.Sides.{with_line}
 
 -- The bounds of lines, as the code gathers them.
@@ -68,19 +71,19 @@ neg-apart a k is some none = some (back a (sym is ∙ none))
 
 -- where the line bounds the field that has this factor, from its sum
 pub bound-answered : {E : Type 0} (line : LineParts) (row : List Value) (a k : ℤ) (rest : Fraction) (r : Result Fraction E) → k ≡ neg_ℤ a → a ≢ pos 0 → sum_at line row ≡ Ok (ratio_of rest)
-    → IfOk r (λ z. IsQuotient rest k z) → OnOk r (AllInRange (divided_numbers rest k)) → OnErr r (¬ AllInRange (divided_numbers rest k)) → answered r ≡ then_some (value_in (sum_at line row)) (λ s. divided s (neg_ℤ a))
+    → IfOk r (λ z. IsQuotient rest k z) → OnOk r (AllInRange (divided_numbers rest k)) → OnErr r (¬ AllInRange (divided_numbers rest k)) → answered r ≡ (value_in (sum_at line row) >>? (λ s. divided s (neg_ℤ a)))
 bound-answered line row a k rest r is some sum value fits overflow =
-    divided-answered rest k r (neg-apart a k is some) value fits overflow ∙ ap (λ (n : ℤ). divided (ratio_of rest) n) is ∙ ap (λ s. then_some (value_in s) (λ s. divided s (neg_ℤ a))) (sym sum)
+    divided-answered rest k r (neg-apart a k is some) value fits overflow ∙ ap (λ (n : ℤ). divided (ratio_of rest) n) is ∙ ap (λ s. (value_in s >>? (λ s. divided s (neg_ℤ a)))) (sym sum)
 
-pub no-bound : (line : LineParts) (row : List Value) (a : ℤ) (f : ℕ) → sum_at line row ≡ Err f → None ≡ then_some (value_in (sum_at line row)) (λ s. divided s (neg_ℤ a))
-no-bound line row a f sum = ap (λ s. then_some (value_in s) (λ s. divided s (neg_ℤ a))) (sym sum)
+pub no-bound : (line : LineParts) (row : List Value) (a : ℤ) (f : ℕ) → sum_at line row ≡ Err f → None ≡ (value_in (sum_at line row) >>? (λ s. divided s (neg_ℤ a)))
+no-bound line row a f sum = ap (λ s. (value_in s >>? (λ s. divided s (neg_ℤ a)))) (sym sum)
 
 -- ---- one line
 
 module _ (i f : ℕ) (line : LineParts) (row : List Value) (ends : FoundEnds) where
   by-bounding : (b : Bool) → is_bounding line row f ≡ b
-      → (if b then or_place i (bound_at line row f) (λ at. Ok (with_found ends (int_lt (pos 0) (factor line f)) (found_at at line.strict i))) else Ok ends) ≡ with_line i line row f ends
-  by-bounding b e = ap (λ t. if t then or_place i (bound_at line row f) (λ at. Ok (with_found ends (int_lt (pos 0) (factor line f)) (found_at at line.strict i))) else Ok ends) (sym e)
+      → (if b then (ok_or (bound_at line row f) i >>= (λ at. Ok (with_found ends (int_lt (pos 0) (factor line f)) (found_at at line.strict i)))) else Ok ends) ≡ with_line i line row f ends
+  by-bounding b e = ap (λ t. if t then (ok_or (bound_at line row f) i >>= (λ at. Ok (with_found ends (int_lt (pos 0) (factor line f)) (found_at at line.strict i)))) else Ok ends) (sym e)
 
   pub without-factor : factor line f ≡ pos 0 → Ok ends ≡ with_line i line row f ends
   without-factor none = by-bounding false (ap (λ b. are_codes_in line.sets (codes_in line.shape row) && not b) ((Decides-int_eq (factor line f) (pos 0)).1 none) ∙ nothing (are_codes_in line.sets (codes_in line.shape row)))
@@ -92,7 +95,7 @@ module _ (i f : ℕ) (line : LineParts) (row : List Value) (ends : FoundEnds) wh
   pub without-codes : are_codes_in line.sets (codes_in line.shape row) ≡ false → Ok ends ≡ with_line i line row f ends
   without-codes out = by-bounding false (ap (λ b. b && not (int_eq (factor line f) (pos 0))) out)
 
-  module _ (inside : are_codes_in line.sets (codes_in line.shape row) ≡ true) (some : factor line f ≢ pos 0) (blank : value_of row f ≡ Bad) (o : Option Ratio) (o_is : o ≡ then_some (value_in (sum_at line row)) (λ s. divided s (neg_ℤ (factor line f)))) where
+  module _ (inside : are_codes_in line.sets (codes_in line.shape row) ≡ true) (some : factor line f ≢ pos 0) (blank : value_of row f ≡ Bad) (o : Option Ratio) (o_is : o ≡ (value_in (sum_at line row) >>? (λ s. divided s (neg_ℤ (factor line f))))) where
     bounding : is_bounding line row f ≡ true
     bounding = ap (λ b. b && not (int_eq (factor line f) (pos 0))) inside ∙ by (int_eq (factor line f) (pos 0)) refl
       where
@@ -101,16 +104,16 @@ module _ (i f : ℕ) (line : LineParts) (row : List Value) (ends : FoundEnds) wh
         by true e = absurd (some ((Decides-int_eq (factor line f) (pos 0)).0 e))
 
     bound-is : o ≡ bound_at line row f
-    bound-is = o_is ∙ ap (λ ws. then_some (value_in (sum_at line ws)) (λ s. divided s (neg_ℤ (factor line f)))) (sym (set-again row f blank))
+    bound-is = o_is ∙ ap (λ ws. (value_in (sum_at line ws) >>? (λ s. divided s (neg_ℤ (factor line f))))) (sym (set-again row f blank))
 
-    stepped : or_place i o (λ at. Ok (with_found ends (int_lt (pos 0) (factor line f)) (found_at at line.strict i))) ≡ with_line i line row f ends
-    stepped = ap (λ b. or_place i b (λ at. Ok (with_found ends (int_lt (pos 0) (factor line f)) (found_at at line.strict i)))) bound-is ∙ by-bounding true bounding
+    stepped : (ok_or o i >>= (λ at. Ok (with_found ends (int_lt (pos 0) (factor line f)) (found_at at line.strict i)))) ≡ with_line i line row f ends
+    stepped = ap (λ b. (ok_or b i >>= (λ at. Ok (with_found ends (int_lt (pos 0) (factor line f)) (found_at at line.strict i))))) bound-is ∙ by-bounding true bounding
 
     pub with-bound : (at : Ratio) → o ≡ Some at → Ok (with_found ends (int_lt (pos 0) (factor line f)) (found_at at line.strict i)) ≡ with_line i line row f ends
-    with-bound at e = ap (λ b. or_place i b (λ at. Ok (with_found ends (int_lt (pos 0) (factor line f)) (found_at at line.strict i)))) (sym e) ∙ stepped
+    with-bound at e = ap (λ b. (ok_or b i >>= (λ at. Ok (with_found ends (int_lt (pos 0) (factor line f)) (found_at at line.strict i))))) (sym e) ∙ stepped
 
     pub without-bound : o ≡ None → Err i ≡ with_line i line row f ends
-    without-bound e = ap (λ b. or_place i b (λ at. Ok (with_found ends (int_lt (pos 0) (factor line f)) (found_at at line.strict i)))) (sym e) ∙ stepped
+    without-bound e = ap (λ b. (ok_or b i >>= (λ at. Ok (with_found ends (int_lt (pos 0) (factor line f)) (found_at at line.strict i))))) (sym e) ∙ stepped
 
   -- ---- and the lines after it
 
@@ -120,8 +123,8 @@ module _ (i f : ℕ) (line : LineParts) (row : List Value) (ends : FoundEnds) wh
     next (Err p) = Err p
 
     then-ends : (b : Bool) (o : Option Ratio)
-        → next (if b then or_place i o (λ at. Ok (with_found ends (int_lt (pos 0) (factor line f)) (found_at at line.strict i))) else Ok ends)
-        ≡ (if b then or_place i o (λ at. ends_from (suc i) rest row f (with_found ends (int_lt (pos 0) (factor line f)) (found_at at line.strict i))) else ends_from (suc i) rest row f ends)
+        → next (if b then (ok_or o i >>= (λ at. Ok (with_found ends (int_lt (pos 0) (factor line f)) (found_at at line.strict i)))) else Ok ends)
+        ≡ (if b then (ok_or o i >>= (λ at. ends_from (suc i) rest row f (with_found ends (int_lt (pos 0) (factor line f)) (found_at at line.strict i)))) else ends_from (suc i) rest row f ends)
     then-ends true None = refl
     then-ends true (Some at) = refl
     then-ends false o = refl

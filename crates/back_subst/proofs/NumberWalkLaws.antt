@@ -3,7 +3,10 @@ use lib.IntN.{neg_ℤ}
 use Rattle.std.specs.Ordering.{int_eq}
 use Rattle.std.proofs.lemmas.Bool.Decides.{Decides-int_eq}
 use Rattle.std.proofs.lemmas.Int.{ints}
-use Rattle.fraction128.specs.Formulas.{Ratio, added, divided, ratio_of, scaled, then_some}
+use Rattle.std.specs.Option.{ok_or}
+use Rattle.foundation.specs.Results.{◌>>=◌}
+use Rattle.foundation.specs.Options.{◌>>?◌}
+use Rattle.fraction128.specs.Formulas.{Ratio, added, divided, ratio_of, scaled}
 use Rattle.fraction128.proofs.MiddleLaws.{middle-value}
 use Rattle.fraction128.proofs.QuotientLaws.{divided-value}
 use Rattle.fraction128.proofs.RatioLaws.{added-value, scaled-value}
@@ -16,7 +19,7 @@ use Rattle.edit_line.specs.Reductions.{IsIn}
 use Rattle.edit_line.specs.Sets.{are_codes_in}
 use Rattle.edit_line.specs.Subsumption.{is_enough}
 use Rattle.edit_line.specs.Shapes.{number_fields}
-use Rattle.edit_line.specs.Sums.{next_sum, or_field, sum_from, whole}
+use Rattle.edit_line.specs.Sums.{next_sum, sum_from, whole}
 use Rattle.edit_model.specs.Rows.{value_of}
 use Rattle.edit_model.specs.Trials.{sum_with}
 use Rattle.edit_model.specs.declared.value.Value.TheVariants.{Bad, Code, Number}
@@ -25,13 +28,13 @@ use Rattle.edit_line.proofs.SetLaws.{both_true, is_inside-Decides}
 use Rattle.linear_elim.proofs.BetweenLaws.{above_neg, by_sign}
 use Rattle.back_subst.specs.Given.{IsGivenNumber, IsSame}
 use Rattle.back_subst.specs.Intervals.{End, further_in, is_past_any, is_within, kept_past}
-use Rattle.back_subst.specs.NumberWalk.{Found, FoundEnds, bound_at, ends_from, found_at, inside_by, is_bounding, no_ends, number_result, or_place, rest_of, step_in, then_nearest, tighter, unless_out, value_in, with_found}
+use Rattle.back_subst.specs.NumberWalk.{Found, FoundEnds, bound_at, ends_from, found_at, inside_by, is_bounding, no_ends, number_result, rest_of, step_in, then_nearest, tighter, unless_out, value_in, with_found}
 use Rattle.back_subst.specs.inner.Bounds.{AreWithinBounds, BoundsField, IsWithinBound, RestsFit}
 use Rattle.back_subst.proofs.BoundLaws.{bound-depth, further, further-in, multiple}
 
 -- What the walk's number is.
 
-led_on : {A B : Type 0} (o : Option A) (next : A → Option B) (b : B) → then_some o next ≡ Some b → (a : A) × (o ≡ Some a) × (next a ≡ Some b)
+led_on : {A B : Type 0} (o : Option A) (next : A → Option B) (b : B) → (o >>? next) ≡ Some b → (a : A) × (o ≡ Some a) × (next a ≡ Some b)
 led_on None next b e = absurd (cc)
 led_on (Some a) next b e = (a, refl, e)
 
@@ -180,7 +183,7 @@ with-within ends false new h above x x_above = ap (λ b. past_found (pos 1) ends
 
 -- ---- the bound of a line
 
-field_led : (g : ℕ) (o : Option Ratio) (next : Ratio → Result Ratio ℕ) (s : Ratio) → or_field g o next ≡ Ok s → (sum : Ratio) × (o ≡ Some sum) × (next sum ≡ Ok s)
+field_led : (g : ℕ) (o : Option Ratio) (next : Ratio → Result Ratio ℕ) (s : Ratio) → (ok_or o g >>= next) ≡ Ok s → (sum : Ratio) × (o ≡ Some sum) × (next sum ≡ Ok s)
 field_led g None next s e = absurd (cc)
 field_led g (Some sum) next s e = (sum, refl, e)
 
@@ -251,7 +254,7 @@ was-ok : {A E : Type 0} (r : Result A E) (a : A) → value_in r ≡ Some a → r
 was-ok (Ok b) a e = ap Ok (cc)
 was-ok (Err e) a h = absurd (cc)
 
-was-place : {A : Type 0} (i : ℕ) (o : Option A) (next : A → Result FoundEnds ℕ) (s : FoundEnds) → or_place i o next ≡ Ok s → (a : A) × (o ≡ Some a) × (next a ≡ Ok s)
+was-place : {A : Type 0} (i : ℕ) (o : Option A) (next : A → Result FoundEnds ℕ) (s : FoundEnds) → (ok_or o i >>= next) ≡ Ok s → (a : A) × (o ≡ Some a) × (next a ≡ Ok s)
 was-place i None next s e = absurd (cc)
 was-place i (Some a) next s e = (a, refl, e)
 
@@ -287,7 +290,7 @@ module _ (row : List Value) (f : ℕ) where
       lower = int_lt (pos 0) (factor line f)
 
       by : (b : Bool) → is_bounding line row f ≡ b
-          → (if b then or_place i (bound_at line row f) (λ at. ends_from (suc i) lines row f (with_found ends (int_lt (pos 0) (factor line f)) (found_at at line.strict i))) else ends_from (suc i) lines row f ends) ≡ Ok found
+          → (if b then (ok_or (bound_at line row f) i >>= (λ at. ends_from (suc i) lines row f (with_found ends (int_lt (pos 0) (factor line f)) (found_at at line.strict i)))) else ends_from (suc i) lines row f ends) ≡ Ok found
           → ((ends' : FoundEnds) → AreProper ends' → ends_from (suc i) lines row f ends' ≡ Ok found → IsGathered lines ends' found) → IsGathered (line ∷ lines) ends found
       by false out made rest =
           let later = rest ends proper made in
@@ -369,7 +372,7 @@ module _ (side : ℤ) (target : Ratio) where
       opened : (n d e : ℤ) → n *ℤ (pos 2 *ℤ (d *ℤ e)) ≡ pos 2 *ℤ n *ℤ (d *ℤ e)
       opened n d e = rw (parts n, parts d, parts e) (simp ring (same_dif _ _ _ _ (omega arith)))
 
-  placed_led : (i : ℕ) (o : Option Ratio) (r : Ratio) → or_place i o (λ x. Ok x) ≡ Ok r → o ≡ Some r
+  placed_led : (i : ℕ) (o : Option Ratio) (r : Ratio) → (ok_or o i) ≡ Ok r → o ≡ Some r
   placed_led i None r e = absurd (cc)
   placed_led i (Some a) r e = ap Some (cc)
 
@@ -378,7 +381,7 @@ module _ (side : ℤ) (target : Ratio) where
   out-same None other h g r next near e later = later e
   out-same (Some b) other h g r next near e later = by (is_enough b.strict (inside_by side b target)) b.strict e
     where
-      by : (a s : Bool) → (if a then next else if s then or_place b.line (step_in side b.at other) (λ x. Ok x) else Ok b.at) ≡ Ok r → IsSame r (if a then near else if s then further_in side b.at (any_from other g) else b.at)
+      by : (a s : Bool) → (if a then next else if s then (ok_or (step_in side b.at other) b.line) else Ok b.at) ≡ Ok r → IsSame r (if a then near else if s then further_in side b.at (any_from other g) else b.at)
       by true s h = later h
       by false true e = step-same b.at other g r h (placed_led b.line (step_in side b.at other) r e)
       by false false e = ap (λ (x : Ratio). x.numerator *ℤ b.at.denominator) same ∙ ap (λ (x : Ratio). b.at.numerator *ℤ x.denominator) (sym same)

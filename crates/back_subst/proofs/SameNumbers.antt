@@ -1,7 +1,10 @@
 use Rattle.std.proofs.Common.{◌≡◌, ◌≢◌, inl, inr, ℕ, suc, ◌<◌, ◌==◌, ◌||◌, Bool, true, false, if◌then◌else◌, List, [], ◌∷◌, Option, Some, None, Result, length, reverse, slice_set, pos, int_lt, refl, sym, ap, ◌∙◌, subst, arith}
 use lib.IntN.{neg_ℤ}
 use Rattle.std.proofs.lemmas.Bool.Decides.{Decides-eqb}
-use Rattle.fraction128.specs.Formulas.{Ratio, divided, then_some}
+use Rattle.std.specs.Option.{ok_or}
+use Rattle.foundation.specs.Results.{◌>>=◌}
+use Rattle.foundation.specs.Options.{◌>>?◌}
+use Rattle.fraction128.specs.Formulas.{Ratio, divided}
 use Rattle.edit_model.proofs.NameLemmas.{false_unless}
 use Rattle.edit_model.specs.Parts.{SurveyParts}
 use Rattle.edit_model.specs.RowPoints.{code_in}
@@ -19,7 +22,7 @@ use Rattle.linear_elim.specs.Systems.{system}
 use Rattle.linear_elim.proofs.FlatLaws.{system-flat}
 use Rattle.linear_elim.proofs.PointLaws.{map-agree, number-no_code}
 use Rattle.linear_elim.proofs.SystemLaws.{HaveShape-system}
-use Rattle.back_subst.specs.NumberWalk.{FoundEnds, bound_at, ends_from, found_at, is_bounding, no_ends, number_result, or_place, then_nearest, value_in, with_found}
+use Rattle.back_subst.specs.NumberWalk.{FoundEnds, bound_at, ends_from, found_at, is_bounding, no_ends, number_result, then_nearest, value_in, with_found}
 use Rattle.back_subst.proofs.FieldPoints.{number-at}
 use Rattle.back_subst.proofs.Rests.{value-other, value-set}
 use Rattle.back_subst.proofs.RowSums.{sum-same}
@@ -35,14 +38,14 @@ module _ (row new : List Value) where
 
   bound-same : (line : LineParts) (f : ℕ) → ReadsSame line f → bound_at line new f ≡ bound_at line row f
   bound-same line f same =
-      ap (λ (r : Result Ratio ℕ). then_some (value_in r) (λ rest. divided rest (neg_ℤ (factor line f))))
+      ap (λ (r : Result Ratio ℕ). (value_in r >>? (λ rest. divided rest (neg_ℤ (factor line f)))))
       (sum-same (slice_set row f Bad) (slice_set new f Bad) (number_fields line.shape) line.factors (whole line.constant) (at-factors (λ k. value_of (slice_set new f Bad) k ≡ value_of (slice_set row f Bad) k) line same.values))
 
   bounding-same : (line : LineParts) (f : ℕ) → ReadsSame line f → is_bounding line new f ≡ is_bounding line row f
   bounding-same line f same = rw same.codes refl
 
   abbrev after : List Value → ℕ → ℕ → LineParts → List LineParts → FoundEnds → Bool → Option Ratio → Result FoundEnds ℕ
-  after values f i line lines ends b o = if b then or_place i o (λ at. ends_from (suc i) lines values f (with_found ends (int_lt (pos 0) (factor line f)) (found_at at line.strict i))) else ends_from (suc i) lines values f ends
+  after values f i line lines ends b o = if b then (ok_or o i >>= (λ at. ends_from (suc i) lines values f (with_found ends (int_lt (pos 0) (factor line f)) (found_at at line.strict i)))) else ends_from (suc i) lines values f ends
 
   ends-same : (f i : ℕ) (lines : List LineParts) (ends : FoundEnds) → ((line : LineParts) → IsIn line lines → ReadsSame line f) → ends_from i lines new f ends ≡ ends_from i lines row f ends
   ends-same f i [] ends same = refl

@@ -1,7 +1,10 @@
 use Rattle.std.specs.Prelude.{ℕ, suc, ℤ, pos, negsuc, ◌-ℤ◌, ◌*ℤ◌, ◌&&◌, ◌||◌, not, Bool, List, [], ◌∷◌, Option, Some, None, Result, Ok, Err, int_lt, if◌then◌else◌, slice_set}
 use lib.IntN.{neg_ℤ}
 use Rattle.std.specs.Ordering.{int_eq}
-use Rattle.fraction128.specs.Formulas.{Ratio, added, divided, middle, then_some}
+use Rattle.std.specs.Option.{ok_or}
+use Rattle.foundation.specs.Results.{◌>>=◌}
+use Rattle.foundation.specs.Options.{◌>>?◌}
+use Rattle.fraction128.specs.Formulas.{Ratio, added, divided, middle}
 use Rattle.edit_model.specs.declared.value.Value.{Value}
 use Rattle.edit_line.specs.CodeFields.{codes_in}
 use Rattle.edit_line.specs.Lines.{LineParts, factor}
@@ -27,7 +30,7 @@ rest_of line row f = sum_at line (slice_set row f Bad)
 
 -- the bound of the line: its rest, divided by the negative of its factor
 abbrev pub bound_at : LineParts → List Value → ℕ → Option Ratio
-bound_at line row f = then_some (value_in (rest_of line row f)) (λ rest. divided rest (neg_ℤ (factor line f)))
+bound_at line row f = value_in (rest_of line row f) >>? (λ rest. divided rest (neg_ℤ (factor line f)))
 
 -- a bound that was found, and the place of its line
 pub record Found : Type 0 where
@@ -66,17 +69,12 @@ abbrev pub with_found : FoundEnds → Bool → Found → FoundEnds
 with_found ends lower new =
     if lower then record { lower = Some (tighter (pos 1) ends.lower new); upper = ends.upper } else record { lower = ends.lower; upper = Some (tighter (negsuc 0) ends.upper new) }
 
--- the next answer, or the place of the line
-abbrev pub or_place : {A B : Type 0} → ℕ → Option A → (A → Result B ℕ) → Result B ℕ
-or_place place None next = Err place
-or_place place (Some a) next = next a
-
 -- the bounds of the lines, from place i on
 abbrev pub ends_from : ℕ → List LineParts → List Value → ℕ → FoundEnds → Result FoundEnds ℕ
 ends_from i [] row f ends = Ok ends
 ends_from i (line ∷ lines) row f ends =
     if is_bounding line row f
-    then or_place i (bound_at line row f) (λ at. ends_from (suc i) lines row f (with_found ends (int_lt (pos 0) (factor line f)) (found_at at line.strict i)))
+    then ok_or (bound_at line row f) i >>= (λ at. ends_from (suc i) lines row f (with_found ends (int_lt (pos 0) (factor line f)) (found_at at line.strict i)))
     else ends_from (suc i) lines row f ends
 
 -- the middle of both bounds, or one further in, where there is no other
@@ -86,7 +84,7 @@ step_in side x (Some other) = middle x other.at
 
 -- the number at a bound, where that keeps the target out
 abbrev pub number_at : ℤ → Found → Option Found → Result Ratio ℕ
-number_at side b other = if b.strict then or_place b.line (step_in side b.at other) (λ x. Ok x) else Ok b.at
+number_at side b other = if b.strict then ok_or (step_in side b.at other) b.line else Ok b.at
 
 -- the number at a bound that keeps the target out, and else the next answer
 abbrev pub unless_out : ℤ → Option Found → Option Found → Ratio → Result Ratio ℕ → Result Ratio ℕ

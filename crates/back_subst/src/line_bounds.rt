@@ -2,7 +2,8 @@
 ghost use Rattle.std.specs.Prelude.{◌≡◌, ◌≢◌, ◌<◌, ◌==◌, pos, All, length, map};
 ghost use Rattle.std.specs.List.{position};
 ghost use lib.IntN.{neg_ℤ};
-ghost use Rattle.fraction128.specs.Formulas.{answered, divided, then_some};
+ghost use Rattle.foundation.specs.Options.{◌>>?◌};
+ghost use Rattle.fraction128.specs.Formulas.{answered, divided};
 ghost use Rattle.fraction128.specs.Range.{InRange};
 ghost use Rattle.edit_model.specs.RowPoints.{code_in};
 ghost use Rattle.edit_model.specs.Rows.{IsRow, value_of};
@@ -95,7 +96,7 @@ fn bound_at(survey: &Survey, line: &Line, row: &Row, factor: i128) -> Result<Fra
     requires row { IsRow survey.now.fields row.now }
     requires in_range { InRange factor }
     requires not_zero { factor ≢ pos 0 }
-    ensures { answered result ≡ then_some (value_in (sum_at line.now row.now)) (λ rest. divided rest (neg_ℤ factor)) }
+    ensures { answered result ≡ (value_in (sum_at line.now row.now) >>? (λ rest. divided rest (neg_ℤ factor))) }
 {
     match value_at(survey, line, row) {
         Ok(rest) => rest.divide(-factor),

@@ -1,5 +1,6 @@
 use Rattle.std.proofs.Common.{◌≡◌, ◌↔◌, ℕ, zero, suc, ◌||◌, Bool, true, false, not, if◌then◌else◌, List, [], ◌∷◌, All, Result, Ok, Err, refl, sym, ap, ◌∙◌, subst, arith}
 use Rattle.std.specs.List.{list_any}
+use Rattle.foundation.specs.Results.{◌>>=◌, fault_as}
 use Rattle.edit_model.specs.Points.{Point}
 use Rattle.edit_model.specs.declared.value.Value.{Value}
 use Rattle.edit_line.specs.Lines.{AllHold, LineHolds, LineParts, amount}
@@ -13,7 +14,7 @@ use Rattle.edit_line.proofs.Enough.{is_enough-Decides}
 use Rattle.edit_line.proofs.SetLaws.{is_inside-Decides}
 use Rattle.edit_line.proofs.SumLaws.{fails_at-truth}
 use Rattle.categ_combine.specs.BoxLists.{Avoids, with_box}
-use Rattle.categ_combine.specs.FailingBoxes.{boxes_from, failing_boxes, or_line}
+use Rattle.categ_combine.specs.FailingBoxes.{boxes_from, failing_boxes, line_fault}
 use Rattle.edit_line.proofs.OtherFields.{inside-grows}
 use Rattle.categ_combine.proofs.ReducedBoxes.{any-with_box}
 
@@ -75,7 +76,7 @@ module _ (shape : List Domain) (row : List Value) (p : Point) where
       mine : IsKnown line
       mine = known 0 line (omega arith)
 
-      by : (t : Result Bool ℕ) → fails_at line row ≡ t → or_line i t (λ fails. boxes_from (suc i) lines row (if fails then with_box kept line.sets else kept)) ≡ Ok boxes
+      by : (t : Result Bool ℕ) → fails_at line row ≡ t → (fault_as (line_fault i) t >>= (λ fails. boxes_from (suc i) lines row (if fails then with_box kept line.sets else kept))) ≡ Ok boxes
           → ((kept' : List (List ℕ)) → boxes_from (suc i) lines row kept' ≡ Ok boxes → (caught boxes ≡ false) ↔ ((caught kept' ≡ false) × AllHold lines p))
           → (caught boxes ≡ false) ↔ ((caught kept ≡ false) × AllHold (line ∷ lines) p)
       by (Err f) told made rest = absurd (cc)

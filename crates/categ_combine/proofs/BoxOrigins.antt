@@ -1,6 +1,7 @@
 use Rattle.std.proofs.Common.{◌≡◌, ◌⊎◌, inl, inr, ℕ, zero, suc, ◌+◌, ◌<◌, Bool, true, false, not, if◌then◌else◌, List, [], ◌∷◌, ◌++◌, All, Option, Some, None, IsSomeAnd, Result, Ok, Err, bit_and, length, slice_get, slice_index_or, slice_set, length-append, refl, sym, ap, ◌∙◌, subst, arith}
 use Rattle.std.specs.List.{fold, list_any}
 use Rattle.std.proofs.lemmas.Bool.Decides.{Decides-eqb}
+use Rattle.foundation.specs.Results.{◌>>=◌, fault_as}
 use Rattle.edit_model.specs.Points.{has_code}
 use Rattle.edit_model.specs.declared.value.Value.{Value}
 use Rattle.edit_line.specs.Boxes.{BoxParts, box_of}
@@ -18,7 +19,7 @@ use Rattle.edit_line.proofs.BoolLaws.{both_true}
 use Rattle.categ_combine.specs.BoxLists.{AreBoxesOver, sets_of}
 use Rattle.categ_combine.specs.Covers.{cover_count, covered_from, covers_from, first_cover, from_of, is_whole_at, joined, joined_for, meets_but, cover_parts, row_of, takes_part, unchanged_one, with_code_from}
 use Rattle.categ_combine.specs.Each.{each_from}
-use Rattle.categ_combine.specs.FailingBoxes.{failing_from, or_line, taken}
+use Rattle.categ_combine.specs.FailingBoxes.{failing_from, line_fault, taken}
 use Rattle.categ_combine.specs.Fixing.{fixed_from, fixed_one}
 use Rattle.categ_combine.specs.Origins.{ComesFromCover, ComesFromFix, ComesFromLine, HaveInCommon, IsUnchanged, whole_box}
 use Rattle.categ_combine.specs.Steps.{IsDone}
@@ -64,7 +65,7 @@ module _ (lines : List Derived) (row : List Value) where
             (some_at (λ (x : Derived). (fails_at x.line row ≡ Ok true) × (box_of d.line.shape d.line.sets ≡ box_of x.line.shape x.line.sets)) (slice_get lines i) d (first-at lines i d rest at) (is, refl))
       ]
 
-      by : (r : Result Bool ℕ) → fails_at d.line row ≡ r → or_line i r (λ fails. failing_from (suc i) rest row (taken kept i d.line fails)) ≡ Ok boxes
+      by : (r : Result Bool ℕ) → fails_at d.line row ≡ r → (fault_as (line_fault i) r >>= (λ fails. failing_from (suc i) rest row (taken kept i d.line fails))) ≡ Ok boxes
           → ((fails : Bool) → ((e : BoxFrom) → IsIn e (taken kept i d.line fails) → FromLine e) → failing_from (suc i) rest row (taken kept i d.line fails) ≡ Ok boxes → FromLine b) → FromLine b
       by (Ok fails) is h next = next fails (more fails is) h
       by (Err f) is h next = absurd (cc)

@@ -1,5 +1,6 @@
 use Rattle.std.proofs.Common.{◌≡◌, ◌⊎◌, inl, inr, ℕ, zero, suc, slice_index_or, not, Bool, true, false, if◌then◌else◌, List, [], ◌∷◌, ◌++◌, All, Result, Ok, Err, refl, sym, ap, ◌∙◌, subst, arith}
 use Rattle.std.specs.List.{fold, list_any}
+use Rattle.foundation.specs.Results.{◌>>=◌, fault_as}
 use Rattle.edit_line.specs.Reductions.{IsIn}
 use Rattle.edit_line.specs.Shapes.{Domain}
 use Rattle.edit_line.specs.declared.derived.Derived.{Derived}
@@ -12,7 +13,7 @@ use Rattle.edit_model.specs.Points.{has_code}
 use Rattle.categ_combine.specs.BoxLists.{AreBoxesOver, sets_of, with_from}
 use Rattle.categ_combine.specs.Covers.{cover_count, covered_from, covers_from, first_cover, from_of, is_whole_at, unchanged_one, with_code_from}
 use Rattle.categ_combine.specs.Each.{each_from}
-use Rattle.categ_combine.specs.FailingBoxes.{failing_from, or_line, taken}
+use Rattle.categ_combine.specs.FailingBoxes.{failing_from, line_fault, taken}
 use Rattle.categ_combine.specs.Fixing.{fixed_from, fixed_one}
 use Rattle.categ_combine.specs.Steps.{IsDone}
 use Rattle.categ_combine.specs.declared.covered.Covered.{Covered}
@@ -94,7 +95,7 @@ module _ (shape : List Domain) where
       next true = over-with_from kept (from_of d.line.shape d.line.sets (Failing i)) over (are 0 d (omega arith))
       next false = over
 
-      by : (t : Result Bool ℕ) → ((fails : Bool) → failing_from (suc i) lines row (taken kept i d.line fails) ≡ Ok boxes → AreBoxesOver shape boxes) → or_line i t (λ fails. failing_from (suc i) lines row (taken kept i d.line fails)) ≡ Ok boxes → AreBoxesOver shape boxes
+      by : (t : Result Bool ℕ) → ((fails : Bool) → failing_from (suc i) lines row (taken kept i d.line fails) ≡ Ok boxes → AreBoxesOver shape boxes) → (fault_as (line_fault i) t >>= (λ fails. failing_from (suc i) lines row (taken kept i d.line fails))) ≡ Ok boxes → AreBoxesOver shape boxes
       by (Ok fails) rest h = rest fails h
       by (Err f) rest h = absurd (cc)
 

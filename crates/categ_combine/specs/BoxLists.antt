@@ -1,9 +1,10 @@
-use Rattle.std.specs.Prelude.{◌≡◌, ◌<◌, ℕ, not, Bool, List, [], ◌∷◌, ◌++◌, All, IsTrue, if◌then◌else◌, map}
-use Rattle.std.specs.List.{filter, fold, list_any}
+use Rattle.std.specs.Prelude.{◌≡◌, ◌<◌, ℕ, not, Bool, false, List, [], ◌∷◌, All, IsTrue, map}
+use Rattle.std.specs.List.{fold, list_any}
 use Rattle.edit_model.specs.Points.{Point}
 use Rattle.edit_line.specs.Sets.{are_subsets, are_codes_in}
 use Rattle.edit_line.specs.Shapes.{Domain, codes_at}
 use Rattle.edit_line.specs.CodeFields.{TakesCodes, size_of}
+use Rattle.edit_line.specs.Reductions.{kept_with}
 use Rattle.categ_combine.specs.declared.box_from.BoxFrom.{BoxFrom}
 
 -- A box's sets, one for each categorical field in declared order, stand for the box.
@@ -16,23 +17,17 @@ avoid boxes codes = not (list_any (λ b. are_codes_in b codes) boxes)
 abbrev pub Avoids : List Domain → List (List ℕ) → Point → Type 0
 Avoids shape boxes p = IsTrue (avoid boxes (codes_at shape p))
 
--- the kept boxes with one more, unless it lies inside one of them; those that lie inside it are removed
+-- the kept boxes with one more: a box covers those that lie inside it
 abbrev pub with_box : List (List ℕ) → List ℕ → List (List ℕ)
-with_box kept box =
-    if list_any (λ b. are_subsets box b) kept
-    then kept
-    else filter (λ b. not (are_subsets b box)) kept ++ box ∷ []
+with_box kept box = kept_with (λ a b. are_subsets b a) (λ a. false) kept box
 
 -- the boxes without those that lie inside another
 abbrev pub reduce_boxes : List (List ℕ) → List (List ℕ)
 reduce_boxes boxes = fold with_box [] boxes
 
--- the same of boxes with their origins
+-- the kept boxes with one more, each with its origin
 abbrev pub with_from : List BoxFrom → BoxFrom → List BoxFrom
-with_from kept new =
-    if list_any (λ (b : BoxFrom). are_subsets new.code_box.sets b.code_box.sets) kept
-    then kept
-    else filter (λ (b : BoxFrom). not (are_subsets b.code_box.sets new.code_box.sets)) kept ++ new ∷ []
+with_from kept new = kept_with (λ (a b : BoxFrom). are_subsets b.code_box.sets a.code_box.sets) (λ (a : BoxFrom). false) kept new
 
 -- the boxes, with their origins, without those that lie inside another
 abbrev pub reduce_from : List BoxFrom → List BoxFrom

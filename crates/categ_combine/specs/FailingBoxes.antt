@@ -1,4 +1,5 @@
 use Rattle.std.specs.Prelude.{ℕ, suc, Bool, List, [], ◌∷◌, Result, Ok, Err, if◌then◌else◌}
+use Rattle.foundation.specs.Results.{◌>>=◌, fault_as}
 use Rattle.edit_model.specs.declared.value.Value.{Value}
 use Rattle.edit_line.specs.Lines.{LineParts}
 use Rattle.edit_line.specs.Sums.{fails_at}
@@ -13,16 +14,16 @@ pub record LineFault : Type 0 where
   pub line : ℕ
   pub field : ℕ
 
--- what comes after a line's test, or the fault of the line at this place
-abbrev pub or_line : {A : Type 0} → ℕ → Result Bool ℕ → (Bool → Result A LineFault) → Result A LineFault
-or_line i (Ok fails) next = next fails
-or_line i (Err f) next = Err (record { line = i; field = f })
+-- the sum of the line at this place leaves the range at the field
+abbrev pub line_fault : ℕ → ℕ → LineFault
+line_fault i f = record { line = i; field = f }
 
 -- the sets of the failing lines, from place i on, taken in order into the kept boxes
 abbrev pub boxes_from : ℕ → List LineParts → List Value → List (List ℕ) → Result (List (List ℕ)) LineFault
 boxes_from i [] row kept = Ok kept
-boxes_from i (line ∷ lines) row kept =
-    or_line i (fails_at line row) (λ fails. boxes_from (suc i) lines row (if fails then with_box kept line.sets else kept))
+boxes_from i (line ∷ lines) row kept = do
+    fails ← fault_as (line_fault i) (fails_at line row)
+    boxes_from (suc i) lines row (if fails then with_box kept line.sets else kept)
 
 -- the boxes of a record: the sets of the lines that fail there, reduced; or the first line whose sum leaves the range
 abbrev pub failing_boxes : List LineParts → List Value → Result (List (List ℕ)) LineFault
@@ -37,4 +38,6 @@ taken kept i line fails = if fails then with_from kept (from_of line.shape line.
 -- the failing lines' boxes, from place i on, taken in order into the kept ones
 abbrev pub failing_from : ℕ → List Derived → List Value → List BoxFrom → Result (List BoxFrom) LineFault
 failing_from i [] row kept = Ok kept
-failing_from i (d ∷ lines) row kept = or_line i (fails_at d.line row) (λ fails. failing_from (suc i) lines row (taken kept i d.line fails))
+failing_from i (d ∷ lines) row kept = do
+    fails ← fault_as (line_fault i) (fails_at d.line row)
+    failing_from (suc i) lines row (taken kept i d.line fails)

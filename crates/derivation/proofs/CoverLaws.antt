@@ -1,6 +1,7 @@
 use Rattle.std.proofs.Common.{◌≡◌, ℕ, zero, suc, ◌+◌, ◌<◌, ◌==◌, ◌&&◌, ◌||◌, Bool, true, false, if◌then◌else◌, List, [], ◌∷◌, Option, Some, None, length, map, drop, slice_get, slice_index, slice_index_or, refl, sym, ap, ◌∙◌, subst, add-one, arith}
 use Rattle.std.proofs.Math.Seq.{drop-cons}
 use Rattle.std.proofs.lemmas.Bool.Decides.{Decides-eqb}
+use Rattle.foundation.specs.Options.{◌>>?◌}
 use Rattle.edit_model.specs.Points.{Point, has_code}
 use Rattle.edit_line.specs.CodeFields.{place_of, size_from, size_of}
 use Rattle.edit_line.specs.Combinations.{meets}
@@ -8,7 +9,6 @@ use Rattle.edit_line.specs.Sets.{are_codes_in}
 use Rattle.edit_line.specs.Shapes.{Categorical, Domain, HasCodes, Numerical, code_fields, codes_at, codes_from, has_field, place_in}
 use Rattle.edit_line.proofs.OtherFields.{inside_but, inside_but-meets}
 use Rattle.edit_line.proofs.BoolLaws.{both_true}
-use Rattle.fraction128.specs.Formulas.{then_some}
 use Rattle.derivation.specs.ValidSteps.{as_box, common_from, only_if, part_with}
 use Rattle.derivation.specs.declared.proved.Proved.{Proved}
 
@@ -17,7 +17,7 @@ use Rattle.derivation.specs.declared.proved.Proved.{Proved}
 -- ---- values that may not be there
 
 -- what was made of a value was made of one that is there
-pub was-some : {A B : Type 0} (o : Option A) (make : A → Option B) (b : B) → then_some o make ≡ Some b → (a : A) × (o ≡ Some a) × (make a ≡ Some b)
+pub was-some : {A B : Type 0} (o : Option A) (make : A → Option B) (b : B) → (o >>? make) ≡ Some b → (a : A) × (o ≡ Some a) × (make a ≡ Some b)
 was-some None make b e = absurd (cc)
 was-some (Some a) make b e = (a, refl, e)
 
@@ -70,7 +70,7 @@ pub common-more : (earlier : List Proved) (at code : ℕ) (parts common sets nex
     → common_from earlier at code (drop code parts) common ≡ whole → common_from earlier at (code + 1) (drop (code + 1) parts) next ≡ whole
 common-more earlier at code parts common sets next whole below here next_is before = rw (add-one) (
     ap (λ (ns : List ℕ). common_from earlier at (suc code) (drop (suc code) parts) ns) next_is
-    ∙ ap (λ (o : Option (List ℕ)). then_some o (λ ns. common_from earlier at (suc code) (drop (suc code) parts) (meets common ns))) here
+    ∙ ap (λ (o : Option (List ℕ)). (o >>? (λ ns. common_from earlier at (suc code) (drop (suc code) parts) (meets common ns)))) here
     ∙ ap (λ (ps : List ℕ). common_from earlier at code ps common) (sym (drop-cons parts code 0 below))
     ∙ before
     )

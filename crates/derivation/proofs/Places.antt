@@ -1,6 +1,8 @@
 use Rattle.std.proofs.Common.{◌≡◌, ℕ, suc, ◌+◌, ◌<◌, ◌⊎◌, inl, inr, List, [], ◌∷◌, ◌++◌, Option, Some, None, Result, Ok, Err, length, length-append, refl, ap, arith}
+use Rattle.std.specs.Option.{ok_or}
+use Rattle.foundation.specs.Results.{◌>>=◌}
 use Rattle.derivation.specs.Premises.{Premises}
-use Rattle.derivation.specs.ValidSteps.{last_from, last_proved, or_place, proved_by, proved_from, steps_result}
+use Rattle.derivation.specs.ValidSteps.{last_from, last_proved, proved_by, proved_from, steps_result}
 use Rattle.derivation.specs.declared.proved.Proved.{Proved}
 use Rattle.derivation.specs.declared.step.Step.{Step}
 
@@ -12,7 +14,7 @@ length-proved_from p earlier [] all e = let same : earlier ≡ all = cc in omega
 length-proved_from p earlier (step ∷ steps) all e = by (proved_by p earlier step) (λ proved h. length-proved_from p (earlier ++ proved ∷ []) steps all h) e
   where
     by : (made : Option Proved) → ((proved : Proved) → proved_from p (earlier ++ proved ∷ []) steps ≡ Ok all → length all ≡ length (earlier ++ proved ∷ []) + length steps)
-        → or_place (length earlier) made (λ proved. proved_from p (earlier ++ proved ∷ []) steps) ≡ Ok all → length all ≡ length earlier + suc (length steps)
+        → (ok_or made (length earlier) >>= (λ proved. proved_from p (earlier ++ proved ∷ []) steps)) ≡ Ok all → length all ≡ length earlier + suc (length steps)
     by None later h = absurd (cc)
     by (Some proved) later h = omega (arith, later proved h, length-append earlier (proved ∷ []))
 
@@ -22,7 +24,7 @@ place-proved_from p earlier [] place e = absurd (cc)
 place-proved_from p earlier (step ∷ steps) place e = by (proved_by p earlier step) (λ proved h. place-proved_from p (earlier ++ proved ∷ []) steps place h) e
   where
     by : (made : Option Proved) → ((proved : Proved) → proved_from p (earlier ++ proved ∷ []) steps ≡ Err place → place < length (earlier ++ proved ∷ []) + length steps)
-        → or_place (length earlier) made (λ proved. proved_from p (earlier ++ proved ∷ []) steps) ≡ Err place → place < length earlier + suc (length steps)
+        → (ok_or made (length earlier) >>= (λ proved. proved_from p (earlier ++ proved ∷ []) steps)) ≡ Err place → place < length earlier + suc (length steps)
     by None later h = let same : length earlier ≡ place = cc in omega arith
     by (Some proved) later h = omega (arith, later proved h, length-append earlier (proved ∷ []))
 

@@ -1,5 +1,8 @@
 use Rattle.std.proofs.Common.{◌≡◌, ℕ, zero, suc, ◌⊎◌, inl, inr, ◌<◌, ◌==◌, ◌&&◌, not, Bool, true, false, if◌then◌else◌, List, [], ◌∷◌, ◌++◌, Option, Some, None, Result, Ok, Err, length, ℤ, slice_get, slice_index_or, slice_set, refl, sym, ap, ◌∙◌, subst, arith}
 use Rattle.std.proofs.lemmas.Bool.Decides.{Decides-eqb}
+use Rattle.std.specs.Option.{ok_or}
+use Rattle.foundation.specs.Results.{◌>>=◌}
+use Rattle.foundation.specs.Options.{◌>>?◌}
 use Rattle.edit_model.specs.Corrections.{differs_from}
 use Rattle.edit_model.specs.FieldSets.{has_number}
 use Rattle.edit_model.specs.Points.{Point, has_code}
@@ -23,8 +26,7 @@ use Rattle.edit_line.proofs.SetLaws.{is_inside-Decides}
 use Rattle.edit_line.proofs.TakenCombinations.{combined-holds}
 use Rattle.derivation.specs.Premises.{AgreesAt, HasKept, Premises, usable_lines}
 use Rattle.derivation.specs.Shown.{IsOver, IsShown}
-use Rattle.fraction128.specs.Formulas.{then_some}
-use Rattle.derivation.specs.ValidSteps.{as_box, as_line, combined_line, common_from, covered_box, failed_box, fails_at_kept, fixed_box, given_line, has_value, last_from, last_proved, only_if, or_place, proved_by, proved_from, steps_result, whole_box}
+use Rattle.derivation.specs.ValidSteps.{as_box, as_line, combined_line, common_from, covered_box, failed_box, fails_at_kept, fixed_box, given_line, has_value, last_from, last_proved, only_if, proved_by, proved_from, steps_result, whole_box}
 use Rattle.derivation.specs.declared.proved.Proved.{Proved}
 use Rattle.derivation.specs.declared.proved.Proved.TheVariants as proved
 use Rattle.derivation.specs.declared.step.Step.{Step}
@@ -109,7 +111,7 @@ module _ (p : Premises) where
   given-known : AreOver p.shape p.given → (place : ℕ) (x : Proved) → given_line p place ≡ Some x → IsKnown p x
   given-known over place x e = by (slice_index_or p.usable place false) refl e
     where
-      by : (b : Bool) → slice_index_or p.usable place false ≡ b → (if b then then_some (slice_get p.given place) (λ line. Some (proved.Line line)) else None) ≡ Some x → IsKnown p x
+      by : (b : Bool) → slice_index_or p.usable place false ≡ b → (if b then (slice_get p.given place >>? (λ line. Some (proved.Line line))) else None) ≡ Some x → IsKnown p x
       by false is h = absurd (cc)
       by true is h =
           let (line, found, made) = was-some (slice_get p.given place) (λ line. Some (proved.Line line)) x h in
@@ -139,7 +141,7 @@ module _ (p : Premises) where
     where
       by : (b : Bool) → (has_field (code_fields p.shape) field && (length parts == size_of p.shape field)) ≡ b
           → (if b
-          then then_some (common_from earlier (place_of p.shape field) 0 parts (whole_sets p.shape)) (λ common. only_if (none_is_empty (slice_set common (place_of p.shape field) (whole_of p.shape field))) (whole_box p.shape field common))
+          then (common_from earlier (place_of p.shape field) 0 parts (whole_sets p.shape) >>? (λ common. only_if (none_is_empty (slice_set common (place_of p.shape field) (whole_of p.shape field))) (whole_box p.shape field common)))
           else None)
           ≡ Some x
           → IsKnown p x
@@ -158,7 +160,7 @@ module _ (p : Premises) where
     where
       by : (b : Bool) → (has_field (code_fields p.shape) field && has_number p.kept field) ≡ b
           → (if b
-          then then_some (as_box (slice_get earlier part)) (λ sets. only_if (has_value (slice_index_or sets (place_of p.shape field) 0) (value_of p.row field)) (whole_box p.shape field sets))
+          then (as_box (slice_get earlier part) >>? (λ sets. only_if (has_value (slice_index_or sets (place_of p.shape field) 0) (value_of p.row field)) (whole_box p.shape field sets)))
           else None)
           ≡ Some x
           → IsKnown p x
@@ -200,7 +202,7 @@ module _ (p : Premises) (fields : List Field) (shape : p.shape ≡ shape_of fiel
   all-known earlier (one ∷ steps) all known e = by (proved_by p earlier one) refl (λ x more h. all-known (earlier ++ x ∷ []) steps all more h) e
     where
       by : (made : Option Proved) → proved_by p earlier one ≡ made → ((x : Proved) → AllKnown p (earlier ++ x ∷ []) → proved_from p (earlier ++ x ∷ []) steps ≡ Ok all → AllKnown p all)
-          → or_place (length earlier) made (λ x. proved_from p (earlier ++ x ∷ []) steps) ≡ Ok all → AllKnown p all
+          → (ok_or made (length earlier) >>= (λ x. proved_from p (earlier ++ x ∷ []) steps)) ≡ Ok all → AllKnown p all
       by None is later h = absurd (cc)
       by (Some x) is later h = later x (more-known earlier one x known is) h
 

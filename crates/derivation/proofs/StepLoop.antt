@@ -1,10 +1,12 @@
 use Rattle.std.proofs.Common.{◌≡◌, ℕ, suc, ◌+◌, ◌<◌, List, [], ◌∷◌, ◌++◌, Option, Some, None, Result, Ok, drop, get_or, length, map, refl, sym, ap, ◌∙◌, inl, inr, add-one, arith}
 use Rattle.std.proofs.Math.Seq.{drop-cons}
 use Rattle.std.proofs.lemmas.List.Elements.{All-cons}
+use Rattle.std.specs.Option.{ok_or}
+use Rattle.foundation.specs.Results.{◌>>=◌}
 use Rattle.derivation.specs.inner.Meanings.{AllOver, meaning}
 use Rattle.derivation.specs.Premises.{Premises}
 use Rattle.derivation.specs.Shown.{IsOver}
-use Rattle.derivation.specs.ValidSteps.{last_from, or_place, proved_by, proved_from}
+use Rattle.derivation.specs.ValidSteps.{last_from, proved_by, proved_from}
 use Rattle.derivation.specs.declared.known.Known.{Known}
 use Rattle.derivation.specs.declared.proved.Proved.{Proved}
 use Rattle.derivation.specs.declared.step.Step.{Step}
@@ -14,12 +16,12 @@ use Rattle.derivation.proofs.Soundness.{AllKnown}
 
 module _ (p : Premises) (steps : List Step) (earlier : List Proved) (i : ℕ) (whole : Result (List Proved) ℕ) (before : proved_from p earlier (drop i steps) ≡ whole) where
   -- the next step
-  next : (one : Step) → i < length steps → one ≡ get_or steps i one → or_place (length earlier) (proved_by p earlier one) (λ x. proved_from p (earlier ++ x ∷ []) (drop (suc i) steps)) ≡ whole
-  next one below is = ap (λ (s : Step). or_place (length earlier) (proved_by p earlier s) (λ x. proved_from p (earlier ++ x ∷ []) (drop (suc i) steps))) is ∙ sym (ap (λ (ss : List Step). proved_from p earlier ss) (drop-cons steps i one below)) ∙ before
+  next : (one : Step) → i < length steps → one ≡ get_or steps i one → (ok_or (proved_by p earlier one) (length earlier) >>= (λ x. proved_from p (earlier ++ x ∷ []) (drop (suc i) steps))) ≡ whole
+  next one below is = ap (λ (s : Step). (ok_or (proved_by p earlier s) (length earlier) >>= (λ x. proved_from p (earlier ++ x ∷ []) (drop (suc i) steps)))) is ∙ sym (ap (λ (ss : List Step). proved_from p earlier ss) (drop-cons steps i one below)) ∙ before
 
   -- a valid one goes on with what it proves
   pub valid-more : (one : Step) (x : Proved) → i < length steps → one ≡ get_or steps i one → Some x ≡ proved_by p earlier one → proved_from p (earlier ++ x ∷ []) (drop (i + 1) steps) ≡ whole
-  valid-more one x below is some = rw (add-one) (ap (λ (o : Option Proved). or_place (length earlier) o (λ x. proved_from p (earlier ++ x ∷ []) (drop (suc i) steps))) some ∙ next one below is)
+  valid-more one x below is some = rw (add-one) (ap (λ (o : Option Proved). (ok_or o (length earlier) >>= (λ x. proved_from p (earlier ++ x ∷ []) (drop (suc i) steps)))) some ∙ next one below is)
 
 -- the last of what was proved
 pub last-push : (before : Option Proved) (all : List Proved) (x : Proved) → last_from before (all ++ x ∷ []) ≡ Ok x

@@ -1,5 +1,7 @@
 use Rattle.std.specs.Prelude.{◌≡◌, ℕ, suc, ℤ, ◌==◌, ◌&&◌, Bool, false, List, [], ◌∷◌, ◌++◌, Option, Some, None, Result, Ok, Err, length, if◌then◌else◌, slice_get, slice_index_or, slice_set}
-use Rattle.fraction128.specs.Formulas.{then_some}
+use Rattle.std.specs.Option.{ok_or}
+use Rattle.foundation.specs.Results.{◌>>=◌}
+use Rattle.foundation.specs.Options.{◌>>?◌}
 use Rattle.edit_model.specs.FieldSets.{has_number}
 use Rattle.edit_model.specs.Rows.{value_of}
 use Rattle.edit_model.specs.declared.value.Value.{Value}
@@ -43,7 +45,7 @@ only_if test value = if test then Some value else None
 
 -- the given line at the place, if it is usable
 abbrev pub given_line : Premises → ℕ → Option Proved
-given_line p place = if slice_index_or p.usable place false then then_some (slice_get p.given place) (λ line. Some (proved.Line line)) else None
+given_line p place = if slice_index_or p.usable place false then slice_get p.given place >>? (λ line. Some (proved.Line line)) else None
 
 -- ---- a positive combination of two lines
 
@@ -74,12 +76,13 @@ whole_box shape field sets = proved.Box (box_of shape (slice_set sets (place_of 
 
 -- the box that was proved at a place, if it has the code at the field
 abbrev pub part_with : List Proved → ℕ → ℕ → ℕ → Option (List ℕ)
-part_with earlier at code part = then_some (as_box (slice_get earlier part)) (λ sets. only_if (has_code (slice_index_or sets at 0) code) sets)
+part_with earlier at code part = as_box (slice_get earlier part) >>? (λ sets. only_if (has_code (slice_index_or sets at 0) code) sets)
 
 -- what the boxes of these parts, one for each code from this one on, have in common with the sets so far
 abbrev pub common_from : List Proved → ℕ → ℕ → List ℕ → List ℕ → Option (List ℕ)
 common_from earlier at code [] common = Some common
-common_from earlier at code (part ∷ parts) common = then_some (part_with earlier at code part) (λ sets. common_from earlier at (suc code) parts (meets common sets))
+common_from earlier at code (part ∷ parts) common =
+    part_with earlier at code part >>? (λ sets. common_from earlier at (suc code) parts (meets common sets))
 
 -- the box of these sets, made whole at the field, if no set of it is empty
 abbrev pub covered_sets : List Domain → ℕ → List ℕ → Option Proved
@@ -89,7 +92,7 @@ covered_sets shape field common = only_if (none_is_empty (slice_set common (plac
 abbrev pub covered_box : Premises → List Proved → ℕ → List ℕ → Option Proved
 covered_box p earlier field parts =
     if has_field (code_fields p.shape) field && (length parts == size_of p.shape field)
-    then then_some (common_from earlier (place_of p.shape field) 0 parts (whole_sets p.shape)) (λ common. covered_sets p.shape field common)
+    then common_from earlier (place_of p.shape field) 0 parts (whole_sets p.shape) >>? (λ common. covered_sets p.shape field common)
     else None
 
 -- whether a set has the code that is the value
@@ -106,7 +109,7 @@ fixed_sets shape field v sets = only_if (has_value (slice_index_or sets (place_o
 abbrev pub fixed_box : Premises → List Proved → ℕ → ℕ → Option Proved
 fixed_box p earlier field part =
     if has_field (code_fields p.shape) field && has_number p.kept field
-    then then_some (as_box (slice_get earlier part)) (λ sets. fixed_sets p.shape field (value_of p.row field) sets)
+    then as_box (slice_get earlier part) >>? (λ sets. fixed_sets p.shape field (value_of p.row field) sets)
     else None
 
 -- ---- lists of steps
@@ -115,20 +118,17 @@ fixed_box p earlier field part =
 abbrev pub proved_by : Premises → List Proved → Step → Option Proved
 proved_by p earlier (step.Given place) = given_line p place
 proved_by p earlier (step.Combine a m b n g) =
-    then_some (as_line (slice_get earlier a)) (λ s. then_some (as_line (slice_get earlier b)) (λ t. combined_line m n g s t))
-proved_by p earlier (step.Fail a) = then_some (as_line (slice_get earlier a)) (λ line. failed_box p line)
+    as_line (slice_get earlier a) >>? (λ s. as_line (slice_get earlier b) >>? (λ t. combined_line m n g s t))
+proved_by p earlier (step.Fail a) = as_line (slice_get earlier a) >>? (λ line. failed_box p line)
 proved_by p earlier (step.Cover field parts) = covered_box p earlier field parts
 proved_by p earlier (step.Fix field part) = fixed_box p earlier field part
-
--- what comes of a step, or its place where it proves nothing
-abbrev pub or_place : ℕ → Option Proved → (Proved → Result (List Proved) ℕ) → Result (List Proved) ℕ
-or_place place None next = Err place
-or_place place (Some proved) next = next proved
 
 -- what the steps prove, each from all before it; or the place of the first that is invalid
 abbrev pub proved_from : Premises → List Proved → List Step → Result (List Proved) ℕ
 proved_from p earlier [] = Ok earlier
-proved_from p earlier (step ∷ steps) = or_place (length earlier) (proved_by p earlier step) (λ proved. proved_from p (earlier ++ proved ∷ []) steps)
+proved_from p earlier (step ∷ steps) = do
+    proved ← ok_or (proved_by p earlier step) (length earlier)
+    proved_from p (earlier ++ proved ∷ []) steps
 
 -- the last one, and place 0 where there is none
 abbrev pub last_from : Option Proved → List Proved → Result Proved ℕ
@@ -138,8 +138,7 @@ last_from before (proved ∷ later) = last_from (Some proved) later
 
 -- the last of what was proved, or the place of the first invalid step
 abbrev pub last_proved : Result (List Proved) ℕ → Result Proved ℕ
-last_proved (Ok all) = last_from None all
-last_proved (Err place) = Err place
+last_proved all_proved = all_proved >>= (λ all. last_from None all)
 
 -- what the last of the steps proves, where all are valid; or the place of the first that is not, which is 0 where there are no steps
 abbrev pub steps_result : Premises → List Step → Result Proved ℕ

@@ -3,6 +3,8 @@ use Rattle.std.specs.Bool.{one_answer}
 use Rattle.std.specs.Ordering.{int_eq}
 use Rattle.std.proofs.lemmas.Bool.Decides.{Decides-int_eq}
 use Rattle.std.proofs.lemmas.Int.{ints}
+use Rattle.std.specs.Option.{ok_or}
+use Rattle.foundation.specs.Results.{◌>>=◌}
 use Rattle.fraction128.proofs.Whole.{parts, ring, same_dif}
 use Rattle.fraction128.specs.Formulas.{Ratio, ratio_of}
 use Rattle.fraction128.specs.declared.fraction.Fraction.{Fraction}
@@ -15,7 +17,7 @@ use Rattle.edit_model.specs.declared.value.Value.{Value}
 use Rattle.edit_line.specs.Lines.{IsEnough, LineParts, amount, weighted}
 use Rattle.edit_line.specs.Shapes.{number_fields}
 use Rattle.edit_line.specs.Subsumption.{is_enough}
-use Rattle.edit_line.specs.Sums.{AgreesWith, AtFactors, HasNumbers, fails_at, fails_by, next_sum, or_field, sum_at, sum_from, whole}
+use Rattle.edit_line.specs.Sums.{AgreesWith, AtFactors, HasNumbers, fails_at, fails_by, next_sum, sum_at, sum_from, whole}
 use Rattle.edit_line.specs.declared.overflow.LineOverflow.{LineOverflow}
 use Rattle.edit_model.proofs.TrialLaws.{IsOverPoint, nothing_more, over_one, some_same, sum_with-over}
 use Rattle.edit_line.proofs.Enough.{IsEnough-times, IsEnough_cancel, is_enough-Decides}
@@ -23,7 +25,7 @@ use Rattle.edit_line.proofs.Enough.{IsEnough-times, IsEnough_cancel, is_enough-D
 -- A line's sum at a record is its amount at each point that agrees with the record.
 
 -- a sum that leads on to an answer
-field_on : (f : ℕ) (o : Option Ratio) (next : Ratio → Result Ratio ℕ) (s : Ratio) → or_field f o next ≡ Ok s → (sum : Ratio) × (o ≡ Some sum) × (next sum ≡ Ok s)
+field_on : (f : ℕ) (o : Option Ratio) (next : Ratio → Result Ratio ℕ) (s : Ratio) → (ok_or o f >>= next) ≡ Ok s → (sum : Ratio) × (o ≡ Some sum) × (next sum ≡ Ok s)
 field_on f None next s e = absurd (cc)
 field_on f (Some sum) next s e = (sum, refl, e)
 

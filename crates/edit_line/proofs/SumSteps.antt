@@ -3,12 +3,14 @@ use Rattle.std.specs.Ordering.{int_eq}
 use Rattle.std.proofs.Math.Seq.{drop-cons}
 use Rattle.std.proofs.lemmas.Bool.Decides.{Decides-int_eq}
 use Rattle.std.proofs.lemmas.List.{drop_all}
+use Rattle.std.specs.Option.{ok_or}
+use Rattle.foundation.specs.Results.{◌>>=◌}
 use Rattle.fraction128.specs.Formulas.{Ratio, answered, ratio_of}
 use Rattle.fraction128.specs.declared.fraction.Fraction.{Fraction}
 use Rattle.edit_model.specs.Rows.{value_of}
 use Rattle.edit_model.specs.Trials.{sum_with}
 use Rattle.edit_model.specs.declared.value.Value.{Value}
-use Rattle.edit_line.specs.Sums.{next_sum, or_field, sum_from}
+use Rattle.edit_line.specs.Sums.{next_sum, sum_from}
 
 -- Steps of a sum: what a call answers, and what the sum is from there on.
 
@@ -26,7 +28,7 @@ next-nothing a v sum is = ap (λ b. if b then Some sum else sum_with sum a v) ((
 
 -- the sum from a place on
 pub sum_from-at : (fields : List ℕ) (factors : List ℤ) (row : List Value) (sum : Ratio) (i e : ℕ) (d : ℤ) → i < length fields → i < length factors
-    → sum_from (drop i fields) (drop i factors) row sum ≡ or_field (get_or fields i e) (next_sum (get_or factors i d) (value_of row (get_or fields i e)) sum) (λ next. sum_from (drop (i + 1) fields) (drop (i + 1) factors) row next)
+    → sum_from (drop i fields) (drop i factors) row sum ≡ (ok_or (next_sum (get_or factors i d) (value_of row (get_or fields i e)) sum) (get_or fields i e) >>= (λ next. sum_from (drop (i + 1) fields) (drop (i + 1) factors) row next))
 sum_from-at fields factors row sum i e d below within =
     rw (add-one) (ap (λ fs. sum_from fs (drop i factors) row sum) (drop-cons fields i e below) ∙ ap (λ (as_ : List ℤ). sum_from (get_or fields i e ∷ drop (suc i) fields) as_ row sum) (drop-cons factors i d within))
 
@@ -49,16 +51,16 @@ module _ {E : Type 0} (a given : ℤ) (v read : Value) (sum : Ratio) (r : Result
 
 module _ (fields : List ℕ) (factors : List ℤ) (row : List Value) (sum : Ratio) (whole : Result Ratio ℕ) (i f : ℕ) (a : ℤ) (below : i < length fields) (many : length factors ≡ length fields)
     (field_is : f ≡ get_or fields i 0) (factor_is : a ≡ get_or factors i (pos 0)) where
-  here : sum_from (drop i fields) (drop i factors) row sum ≡ whole → or_field f (next_sum a (value_of row f) sum) (λ next. sum_from (drop (i + 1) fields) (drop (i + 1) factors) row next) ≡ whole
+  here : sum_from (drop i fields) (drop i factors) row sum ≡ whole → (ok_or (next_sum a (value_of row f) sum) f >>= (λ next. sum_from (drop (i + 1) fields) (drop (i + 1) factors) row next)) ≡ whole
   here before =
-      ap (λ n. or_field n (next_sum a (value_of row n) sum) (λ next. sum_from (drop (i + 1) fields) (drop (i + 1) factors) row next)) field_is
-      ∙ ap (λ (k : ℤ). or_field (get_or fields i 0) (next_sum k (value_of row (get_or fields i 0)) sum) (λ next. sum_from (drop (i + 1) fields) (drop (i + 1) factors) row next)) factor_is
+      ap (λ n. (ok_or (next_sum a (value_of row n) sum) n >>= (λ next. sum_from (drop (i + 1) fields) (drop (i + 1) factors) row next))) field_is
+      ∙ ap (λ (k : ℤ). (ok_or (next_sum k (value_of row (get_or fields i 0)) sum) (get_or fields i 0) >>= (λ next. sum_from (drop (i + 1) fields) (drop (i + 1) factors) row next))) factor_is
       ∙ sym (sum_from-at fields factors row sum i 0 (pos 0) below (omega arith)) ∙ before
 
   -- a sum that leaves the range ends the loop at its field
   pub overflow-there : sum_from (drop i fields) (drop i factors) row sum ≡ whole → next_sum a (value_of row f) sum ≡ None → whole ≡ Err f
-  overflow-there before none = sym (here before) ∙ ap (λ (o : Option Ratio). or_field f o (λ next. sum_from (drop (i + 1) fields) (drop (i + 1) factors) row next)) none
+  overflow-there before none = sym (here before) ∙ ap (λ (o : Option Ratio). (ok_or o f >>= (λ next. sum_from (drop (i + 1) fields) (drop (i + 1) factors) row next))) none
 
   -- and else the loop goes on
   pub sum-more : (next : Ratio) → sum_from (drop i fields) (drop i factors) row sum ≡ whole → next_sum a (value_of row f) sum ≡ Some next → sum_from (drop (i + 1) fields) (drop (i + 1) factors) row next ≡ whole
-  sum-more next before some = sym (ap (λ (o : Option Ratio). or_field f o (λ next. sum_from (drop (i + 1) fields) (drop (i + 1) factors) row next)) some) ∙ here before
+  sum-more next before some = sym (ap (λ (o : Option Ratio). (ok_or o f >>= (λ next. sum_from (drop (i + 1) fields) (drop (i + 1) factors) row next))) some) ∙ here before

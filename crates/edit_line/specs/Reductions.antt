@@ -1,16 +1,20 @@
-use Rattle.std.specs.Prelude.{◌≡◌, ◌⊎◌, ◌||◌, not, true, false, List, [], ◌∷◌, ◌++◌, map, if◌then◌else◌}
+use Rattle.std.specs.Prelude.{◌≡◌, ◌⊎◌, ◌||◌, not, Bool, true, false, List, [], ◌∷◌, ◌++◌, map, if◌then◌else◌}
 use Rattle.std.specs.List.{filter, fold, list_any}
 use Rattle.edit_line.specs.Lines.{Follows, LineParts}
 use Rattle.edit_line.specs.Subsumption.{is_trivial, subsumes}
 use Rattle.edit_line.specs.declared.derived.Derived.{Derived}
 use Rattle.edit_line.specs.declared.derived.Origin.{Origin}
 
--- the kept lines with one more, unless it is trivial or one of them subsumes it; those that it subsumes are removed
-abbrev pub with_line : List LineParts → LineParts → List LineParts
-with_line kept line =
-    if is_trivial line || list_any (λ a. subsumes a line) kept
+-- the kept elements with a new one, unless that says nothing, or one of them covers it; those that it covers are removed
+abbrev pub kept_with : {X : Type 0} → (X → X → Bool) → (X → Bool) → List X → X → List X
+kept_with covers says_nothing kept new =
+    if says_nothing new || list_any (λ a. covers a new) kept
     then kept
-    else filter (λ b. not (subsumes line b)) kept ++ line ∷ []
+    else filter (λ b. not (covers new b)) kept ++ new ∷ []
+
+-- the kept lines with one more: a trivial line says nothing, and a line covers those that it subsumes
+abbrev pub with_line : List LineParts → LineParts → List LineParts
+with_line kept line = kept_with subsumes is_trivial kept line
 
 -- the lines without trivial and subsumed ones
 abbrev pub reduce : List LineParts → List LineParts
@@ -20,12 +24,9 @@ reduce lines = fold with_line [] lines
 abbrev pub derived_from : LineParts → Origin → Derived
 derived_from line origin = record { line = line; origin = origin }
 
--- the same of lines with their origins
+-- the kept lines with one more, each with its origin
 abbrev pub with_derived : List Derived → Derived → List Derived
-with_derived kept new =
-    if is_trivial new.line || list_any (λ (a : Derived). subsumes a.line new.line) kept
-    then kept
-    else filter (λ (b : Derived). not (subsumes new.line b.line)) kept ++ new ∷ []
+with_derived kept new = kept_with (λ (a b : Derived). subsumes a.line b.line) (λ (a : Derived). is_trivial a.line) kept new
 
 -- the derived lines, with their origins, without trivial and subsumed ones
 abbrev pub reduce_derived : List Derived → List Derived

@@ -1,5 +1,7 @@
 use Rattle.std.specs.Prelude.{◌≢◌, ℕ, ℤ, ◌&&◌, ◌||◌, not, Bool, true, List, ◌∷◌, Option, Some, None, Result, Ok, Err, pos, if◌then◌else◌}
 use Rattle.std.specs.Ordering.{int_eq}
+use Rattle.std.specs.Option.{ok_or}
+use Rattle.foundation.specs.Results.{◌>>=◌}
 use Rattle.fraction128.specs.Formulas.{Ratio}
 use Rattle.edit_model.specs.Points.{Point}
 use Rattle.edit_model.specs.RowPoints.{Agrees}
@@ -32,14 +34,11 @@ AgreesWith row p line = AtFactors (λ f. Agrees row p f) (number_fields line.sha
 abbrev pub next_sum : ℤ → Value → Ratio → Option Ratio
 next_sum a v sum = if int_eq a (pos 0) then Some sum else sum_with sum a v
 
--- the next sum, or the field at which a number leaves the range
-abbrev pub or_field : ℕ → Option Ratio → (Ratio → Result Ratio ℕ) → Result Ratio ℕ
-or_field f None next = Err f
-or_field f (Some sum) next = next sum
-
 -- the sum so far, and the factors times the record's numbers at their fields, in declared order; or the first field at which a number leaves the range
 abbrev pub sum_from : List ℕ → List ℤ → List Value → Ratio → Result Ratio ℕ
-sum_from (f ∷ fields) (a ∷ factors) row sum = or_field f (next_sum a (value_of row f) sum) (λ next. sum_from fields factors row next)
+sum_from (f ∷ fields) (a ∷ factors) row sum = do
+    next ← ok_or (next_sum a (value_of row f) sum) f
+    sum_from fields factors row next
 sum_from _ _ row sum = Ok sum
 
 -- a whole number, over 1

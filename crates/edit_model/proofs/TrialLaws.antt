@@ -4,11 +4,12 @@ use Rattle.std.specs.List.{list_any}
 use Rattle.std.specs.Prelude.{◌==◌}
 use Rattle.std.proofs.lemmas.Bool.Decides.{Decides-int_eq, Decides-eqb}
 use Rattle.std.proofs.lemmas.Int.{ints}
+use Rattle.foundation.specs.Options.{◌>>?◌}
 use Rattle.fraction128.proofs.CommonDenominator.{over_product, over_sum}
 use Rattle.fraction128.proofs.RatioLaws.{added-value, scaled-value}
 use Rattle.fraction128.proofs.Signs.{above-*, above_cancel, at_least-*, at_least_cancel, same_cancel}
 use Rattle.fraction128.proofs.Whole.{parts, ring, same_dif}
-use Rattle.fraction128.specs.Formulas.{Ratio, added, ratio_of, scaled, then_some}
+use Rattle.fraction128.specs.Formulas.{Ratio, added, ratio_of, scaled}
 use Rattle.fraction128.specs.declared.fraction.Fraction.{Fraction}
 use Rattle.edit_model.specs.Points.{Point, compares, linear_sum, rule_holds, sum_of_terms, test_holds}
 use Rattle.edit_model.specs.RowPoints.{Agrees, code_in}
@@ -28,7 +29,7 @@ use Rattle.edit_model.specs.declared.value.Value.TheVariants.{Code, Number, Bad}
 -- What is tried at a record is the truth of the rule at each point that agrees with the record.
 
 -- a value that leads on to an answer
-pub led_on : {A B : Type 0} (o : Option A) (next : A → Option B) (b : B) → then_some o next ≡ Some b → (a : A) × (o ≡ Some a) × (next a ≡ Some b)
+pub led_on : {A B : Type 0} (o : Option A) (next : A → Option B) (b : B) → (o >>? next) ≡ Some b → (a : A) × (o ≡ Some a) × (next a ≡ Some b)
 led_on None next b e = absurd (cc)
 led_on (Some a) next b e = (a, refl, e)
 

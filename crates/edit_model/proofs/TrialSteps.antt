@@ -1,6 +1,7 @@
 use Rattle.std.proofs.Common.{◌≡◌, ℤ, pos, ◌*ℤ◌, Option, Some, Result, Ok, sym, ap, ◌∙◌}
+use Rattle.foundation.specs.Options.{◌>>?◌}
 use Rattle.fraction128.proofs.CommonDenominator.{whole_is}
-use Rattle.fraction128.specs.Formulas.{Ratio, added, answered, ratio_of, scaled, then_some}
+use Rattle.fraction128.specs.Formulas.{Ratio, added, answered, ratio_of, scaled}
 use Rattle.fraction128.specs.declared.fraction.Fraction.{Fraction}
 use Rattle.edit_model.specs.Trials.{sum_with}
 use Rattle.edit_model.specs.declared.value.Value.{Value}
@@ -13,7 +14,7 @@ pub with_number : {E F : Type 0} (sum x y : Fraction) (k given : ℤ) (v : Value
     → answered first ≡ scaled (ratio_of x) given → first ≡ Ok y → answered second ≡ added (ratio_of sum) (ratio_of y) → answered second ≡ sum_with (ratio_of sum) k v
 with_number sum x y k given v first second is same product was total =
     let scale_is : scaled (ratio_of x) k ≡ Some (ratio_of y) = ap (λ (n : ℤ). scaled (ratio_of x) n) (sym same) ∙ sym product ∙ ap answered was in
-    rw is (total ∙ ap (λ (o : Option Ratio). then_some o (λ z. added (ratio_of sum) z)) (sym scale_is))
+    rw is (total ∙ ap (λ (o : Option Ratio). (o >>? (λ z. added (ratio_of sum) z))) (sym scale_is))
 
 -- a whole number over 1
 pub over_one : (x : Fraction) (n given : ℤ) → given ≡ n → x.numerator *ℤ pos 1 ≡ given *ℤ x.denominator → ratio_of x ≡ record { numerator = n; denominator = pos 1 }

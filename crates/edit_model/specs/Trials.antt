@@ -1,5 +1,6 @@
 use Rattle.std.specs.Prelude.{ℕ, ℤ, ◌<◌, not, Bool, true, List, [], ◌∷◌, Option, Some, All, length, pos, if◌then◌else◌}
-use Rattle.fraction128.specs.Formulas.{Ratio, added, ratio_of, scaled, then_some}
+use Rattle.foundation.specs.Options.{◌>>?◌}
+use Rattle.fraction128.specs.Formulas.{Ratio, added, ratio_of, scaled}
 use Rattle.edit_model.specs.Points.{Point, compares, has_code}
 use Rattle.edit_model.specs.RowPoints.{Agrees, code_in}
 use Rattle.edit_model.specs.Rows.{value_of}
@@ -49,14 +50,14 @@ pub record AgreesWith (row : List Value) (p : Point) (rule : Rule) : Type 0 wher
 
 -- the sum so far, and a value times a factor; a value that is no number adds nothing
 abbrev pub sum_with : Ratio → ℤ → Value → Option Ratio
-sum_with sum k (Number x) = then_some (scaled (ratio_of x) k) (λ y. added sum y)
+sum_with sum k (Number x) = scaled (ratio_of x) k >>? (λ product. added sum product)
 sum_with sum k (Code c) = Some sum
 sum_with sum k Bad = Some sum
 
 -- the sum so far, and the values times the factors of the terms, in the order of the terms
 abbrev pub sum_over : List Term → List Value → Ratio → Option Ratio
 sum_over [] row sum = Some sum
-sum_over (term ∷ terms) row sum = then_some (sum_with sum term.factor (value_of row term.field)) (λ next. sum_over terms row next)
+sum_over (term ∷ terms) row sum = sum_with sum term.factor (value_of row term.field) >>? (λ next. sum_over terms row next)
 
 -- the constant over 1, and then the terms
 abbrev pub sum_at : Linear → List Value → Option Ratio
@@ -68,13 +69,14 @@ code_test negated set code = if negated then not (has_code set code) else has_co
 
 -- whether a test is true at a record; None where a number of its sum leaves the range
 abbrev pub test_at : Test → List Value → Option Bool
-test_at (test.Number linear) row = then_some (sum_at linear row) (λ sum. Some (compares linear.compare sum.numerator))
+test_at (test.Number linear) row = sum_at linear row >>? (λ sum. Some (compares linear.compare sum.numerator))
 test_at (test.Codes field negated set) row = Some (code_test negated set (code_in (value_of row field)))
 
 -- the conditions are tried in order up to the first false one, and where none is false the conclusion is; None at a test whose sum leaves the range
 abbrev pub tests_at : List Test → Test → List Value → Option Bool
 tests_at [] conclusion row = test_at conclusion row
-tests_at (condition ∷ conditions) conclusion row = then_some (test_at condition row) (λ holds. if holds then tests_at conditions conclusion row else Some true)
+tests_at (condition ∷ conditions) conclusion row =
+    test_at condition row >>? (λ holds. if holds then tests_at conditions conclusion row else Some true)
 
 -- whether a rule holds at a record; None where a number of a sum that is tried leaves the range
 abbrev pub rule_at : Rule → List Value → Option Bool

@@ -1,6 +1,6 @@
 use Rattle.std.proofs.Common.{◌≡◌, ℕ, suc, true, if◌then◌else◌, List, [], ◌∷◌, Option, Some, None, IsSomeAnd, Ok, map, slice_get, slice_index_or, sym, ap, ◌∙◌}
 use Rattle.std.proofs.lemmas.Bool.Decides.{Decides-eqb}
-use Rattle.fraction128.specs.Formulas.{then_some}
+use Rattle.foundation.specs.Options.{◌>>?◌}
 use Rattle.edit_model.specs.FieldSets.{has_number}
 use Rattle.edit_model.specs.Points.{has_code}
 use Rattle.edit_model.specs.Rows.{value_of}
@@ -46,7 +46,7 @@ pub first-made : (p : Premises) (lines : List Derived) → ((d : Derived) → Is
 first-made p lines over kept code_box (box.Failing i) comes =
     let (d, at, said) = some_with (λ (d : Derived). (fails_at d.line p.row ≡ Ok true) × (code_box ≡ box_of d.line.shape d.line.sets)) (slice_get lines i) comes in
     let there = in-get d lines i at in
-    ap (λ (o : Option Proved). then_some (as_line o) (λ line. failed_box p line)) (line-value lines i d at)
+    ap (λ (o : Option Proved). (as_line o >>? (λ line. failed_box p line))) (line-value lines i d at)
     ∙ ap (λ b. if b then Some (proved.Box (box_of p.shape d.line.sets)) else None) (true-both _ _ (kept d there) (ap (λ r. is_true r) said.0))
     ∙ ap (λ (s : List Domain). Some (proved.Box (box_of s d.line.sets))) (sym (over d there))
     ∙ ap (λ (b : BoxParts). Some (proved.Box b)) (sym said.1)
@@ -69,8 +69,8 @@ module _ (p : Premises) (boxes : List BoxFrom) (f : ℕ) (categorical : has_fiel
   fixed-made code kept own code_box (box.Unchanged i) comes = unchanged-made i code_box comes
   fixed-made code kept own code_box (box.Fixed i) comes =
       let (b, at, said) = some_with (λ (b : BoxFrom). (has_code (slice_index_or b.code_box.sets (place_of p.shape f) 0) code ≡ true) × (code_box ≡ whole_box p.shape f b.code_box.sets)) (slice_get boxes i) comes in
-      ap (λ t. if t then then_some (as_box (slice_get (box_values boxes) i)) (λ sets. fixed_sets p.shape f (value_of p.row f) sets) else None) (true-both _ _ categorical kept)
-      ∙ ap (λ (o : Option Proved). then_some (as_box o) (λ sets. fixed_sets p.shape f (value_of p.row f) sets)) (box-value boxes i b at)
+      ap (λ t. if t then (as_box (slice_get (box_values boxes) i) >>? (λ sets. fixed_sets p.shape f (value_of p.row f) sets)) else None) (true-both _ _ categorical kept)
+      ∙ ap (λ (o : Option Proved). (as_box o >>? (λ sets. fixed_sets p.shape f (value_of p.row f) sets))) (box-value boxes i b at)
       ∙ ap (λ (v : Value). fixed_sets p.shape f v b.code_box.sets) own
       ∙ ap (λ t. if t then Some (proved.Box (whole_box p.shape f b.code_box.sets)) else None) said.0
       ∙ ap (λ (x : BoxParts). Some (proved.Box x)) (sym said.1)
@@ -83,11 +83,11 @@ module _ (p : Premises) (boxes : List BoxFrom) (f : ℕ) (categorical : has_fiel
   common-made code [] sets common have = ap (λ (s : List ℕ). Some s) (sym have)
   common-made code (i ∷ parts) sets common have =
       let (b, at, said) = some_with (λ (b : BoxFrom). (has_code (slice_index_or b.code_box.sets (place_of p.shape f) 0) code ≡ true) × HaveInCommon boxes (place_of p.shape f) (suc code) parts (meets sets b.code_box.sets) common) (slice_get boxes i) have in
-      ap (λ (o : Option (List ℕ)). then_some o (λ own. common_from (box_values boxes) (place_of p.shape f) (suc code) parts (meets sets own))) (part i b at said.0) ∙ common-made (suc code) parts (meets sets b.code_box.sets) common said.1
+      ap (λ (o : Option (List ℕ)). (o >>? (λ own. common_from (box_values boxes) (place_of p.shape f) (suc code) parts (meets sets own)))) (part i b at said.0) ∙ common-made (suc code) parts (meets sets b.code_box.sets) common said.1
     where
       part : (i : ℕ) (b : BoxFrom) → slice_get boxes i ≡ Some b → has_code (slice_index_or b.code_box.sets (place_of p.shape f) 0) code ≡ true → part_with (box_values boxes) (place_of p.shape f) code i ≡ Some b.code_box.sets
       part i b at has =
-          ap (λ (o : Option Proved). then_some (as_box o) (λ own. if has_code (slice_index_or own (place_of p.shape f) 0) code then Some own else None)) (box-value boxes i b at)
+          ap (λ (o : Option Proved). (as_box o >>? (λ own. if has_code (slice_index_or own (place_of p.shape f) 0) code then Some own else None))) (box-value boxes i b at)
           ∙ ap (λ t. if t then Some b.code_box.sets else None) has
 
   pub covered-made : (code_box : BoxParts) (o : BoxOrigin) → ComesFromCover p.shape boxes f code_box o → IsMadeBy p (box_values boxes) (proved.Box code_box) (box_by f o)
@@ -95,7 +95,7 @@ module _ (p : Premises) (boxes : List BoxFrom) (f : ℕ) (categorical : has_fiel
   covered-made code_box (box.Unchanged i) comes = unchanged-made i code_box comes
   covered-made code_box (box.Fixed i) comes = absurd comes
   covered-made code_box (box.Cover parts) comes =
-      ap (λ t. if t then then_some (common_from (box_values boxes) (place_of p.shape f) 0 parts (whole_sets p.shape)) (λ common. covered_sets p.shape f common) else None) (true-both _ _ categorical ((Decides-eqb _ _).1 comes.one_each))
-      ∙ ap (λ (o : Option (List ℕ)). then_some o (λ common. covered_sets p.shape f common)) (common-made 0 parts (whole_sets p.shape) comes.common comes.common_is)
+      ap (λ t. if t then (common_from (box_values boxes) (place_of p.shape f) 0 parts (whole_sets p.shape) >>? (λ common. covered_sets p.shape f common)) else None) (true-both _ _ categorical ((Decides-eqb _ _).1 comes.one_each))
+      ∙ ap (λ (o : Option (List ℕ)). (o >>? (λ common. covered_sets p.shape f common))) (common-made 0 parts (whole_sets p.shape) comes.common comes.common_is)
       ∙ ap (λ t. if t then Some (proved.Box (whole_box p.shape f comes.common)) else None) (ap (λ (x : BoxParts). none_is_empty x.sets) (sym comes.box_is) ∙ comes.codes)
       ∙ ap (λ (x : BoxParts). Some (proved.Box x)) (sym comes.box_is)

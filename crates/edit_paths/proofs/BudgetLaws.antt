@@ -1,10 +1,11 @@
 use Rattle.std.proofs.Common.{Bool, List, None, Some, [], ap, arith, false, if◌then◌else◌, nat_lt, refl, true, ℕ, ◌&&◌, ◌++◌, ◌+◌, ◌∙◌, ◌∷◌, ◌≡◌, ◌≤◌}
 use Rattle.std.proofs.lemmas.Bool.Decides.{Decides-ltb}
 use Rattle.std.proofs.lemmas.List.Sums.{sum_by-append, sum_by-cons}
+use Rattle.std.specs.Option.{unwrap_or}
 use Rattle.edit_model.specs.Points.{Point}
 use Rattle.edit_paths.specs.Cases.{Case, IsCase, Meets}
 use Rattle.edit_paths.specs.Certificates.{certificate_of}
-use Rattle.edit_paths.specs.Outcomes.{end_by, or_later, outcome_from, outcome_of, total_work, work_up_to}
+use Rattle.edit_paths.specs.Outcomes.{end_by, outcome_from, outcome_of, total_work, work_up_to}
 use Rattle.edit_paths.specs.ReachedPaths.{reached_paths}
 use Rattle.edit_paths.specs.Works.{work_of, work_of_all}
 use Rattle.edit_paths.specs.Paths.{is_complete}
@@ -32,13 +33,13 @@ module _ (c : Case) (budget : ℕ) where
     where
       by : (over : Bool) → nat_lt budget (work_of_all c taken + work_of c path) ≡ over → (s : PathState) → state_of c path ≡ s → (full : Bool) → is_complete c path ≡ full
           → (work_of_all c (taken ++ path ∷ []) + work_up_to c paths ≤ budget → outcome_from c budget (taken ++ path ∷ []) paths ≡ outcome.Budget q work → ⊥)
-          → or_later (if over then Some (outcome.Budget path (work_of_all c taken)) else end_by c taken path s) (outcome_from c budget (taken ++ path ∷ []) paths) ≡ outcome.Budget q work → ⊥
+          → (unwrap_or (if over then Some (outcome.Budget path (work_of_all c taken)) else end_by c taken path s) (outcome_from c budget (taken ++ path ∷ []) paths)) ≡ outcome.Budget q work → ⊥
       by true passed s is full whole rest h = let more = (Decides-ltb budget _).0 passed in omega (arith, more, enough)
       by false passed (Overflows event) is full whole rest h = absurd (cc)
       by false passed Open is full whole rest h = at (is_complete c path) refl rest h
         where
           at : (full : Bool) → is_complete c path ≡ full → (work_of_all c (taken ++ path ∷ []) + work_up_to c paths ≤ budget → outcome_from c budget (taken ++ path ∷ []) paths ≡ outcome.Budget q work → ⊥)
-              → or_later (if full then Some (outcome.Change path (path_weight c.survey.fields path) (record { leaves = certificate_of c (if nat_lt 0 (path_weight c.survey.fields path) then taken else []) })) else None) (outcome_from c budget (taken ++ path ∷ []) paths) ≡ outcome.Budget q work → ⊥
+              → (unwrap_or (if full then Some (outcome.Change path (path_weight c.survey.fields path) (record { leaves = certificate_of c (if nat_lt 0 (path_weight c.survey.fields path) then taken else []) })) else None) (outcome_from c budget (taken ++ path ∷ []) paths)) ≡ outcome.Budget q work → ⊥
           at true e rest h = absurd (cc)
           at false e rest h =
               rest (omega (arith, enough, work-more taken path, ap (λ b. work_of c path + (if b && is_open (state_of c path) then 0 else work_up_to c paths)) e)) h

@@ -2,7 +2,7 @@ use Rattle.std.proofs.Common.{◌≡◌, ◌≢◌, ◌&&◌, ◌⊎◌, inl, in
 use Rattle.std.specs.List.{AllByRecursion, filter}
 use Rattle.std.proofs.lemmas.Bool.Decides.{Decides-eqb}
 use Rattle.std.proofs.lemmas.List.{map-append}
-use Rattle.fraction128.specs.Formulas.{then_some}
+use Rattle.foundation.specs.Options.{◌>>?◌}
 use Rattle.edit_model.specs.Corrections.{is_first, path_order}
 use Rattle.edit_model.specs.FieldSets.{has_number}
 use Rattle.edit_model.specs.Rows.{is_bad, value_of}
@@ -77,7 +77,7 @@ module _ (c : Case) (is : IsCase c) (given : List LineParts) (usable : List Bool
     usable_is : AreUsable (premises_at (tree_case c.survey given usable c.row None) path) c.edits
     usable_is e there =
         let (at, may) = are e there in
-        ap (λ b. if b then then_some (slice_get given e.0) (λ line. Some (proved.Line line)) else None) may ∙ ap (λ (o : Option LineParts). then_some o (λ line. Some (proved.Line line))) at
+        ap (λ b. if b then (slice_get given e.0 >>? (λ line. Some (proved.Line line))) else None) may ∙ ap (λ (o : Option LineParts). (o >>? (λ line. Some (proved.Line line)))) at
 
     line-leaf : (weight : Option ℕ) (i : ℕ) → state_of c path ≡ ClosedLine i → IsValid weight path (why.Line (steps_to (line_history c path) i))
     line-leaf weight i e =

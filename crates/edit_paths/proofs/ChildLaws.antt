@@ -4,6 +4,7 @@ use Rattle.std.proofs.Math.Seq.{get_or-append_right, take-append_seam}
 use Rattle.std.proofs.lemmas.List.{get_or_append_left, get_or_past}
 use Rattle.std.proofs.lemmas.Bool.Decides.{Decides-eqb}
 use Rattle.std.proofs.lemmas.List.Sums.{fold-append, sum_by-append, sum_by-cons}
+use Rattle.foundation.specs.Results.{◌>>=◌, fault_as}
 use Rattle.edit_line.specs.EditSets.{base_lines}
 use Rattle.edit_line.specs.Reductions.{IsIn, reduce_derived}
 use Rattle.edit_line.specs.Shapes.{code_fields, has_field, number_fields, shape_of}
@@ -15,7 +16,7 @@ use Rattle.categ_combine.specs.Fixing.{fixed_from}
 use Rattle.categ_combine.specs.FailingBoxes.{failing_from}
 use Rattle.edit_line.specs.declared.derived.Derived.{Derived}
 use Rattle.linear_elim.specs.Steps.{step_result}
-use Rattle.linear_elim.specs.Systems.{chosen_fields, next_result, system_of}
+use Rattle.linear_elim.specs.Systems.{chosen_fields, overflow_at, system_of}
 use Rattle.edit_model.specs.FieldSets.{has_number}
 use Rattle.categ_combine.specs.declared.box_from.BoxFrom.{BoxFrom}
 use Rattle.edit_paths.specs.Cases.{Case}
@@ -233,7 +234,7 @@ module _ (c : Case) (path : List Bool) (b : Bool) (short : length path < field_c
 
   -- one more step of the system of the path before; so an overflow is one of the last step, in the system before
   pub child-system : b ≡ true → length path < number_count c → (lines : List Derived) → system_of c.edits (changed_numbers c path) ≡ Ok lines
-      → system_of c.edits (changed_numbers c (path ++ b ∷ [])) ≡ next_result (slice_index_or (number_fields (shape_of c.survey.fields)) (length path) 0) (step_result lines (slice_index_or (number_fields (shape_of c.survey.fields)) (length path) 0)) (λ next. Ok next)
+      → system_of c.edits (changed_numbers c (path ++ b ∷ [])) ≡ (fault_as (overflow_at (slice_index_or (number_fields (shape_of c.survey.fields)) (length path) 0)) (step_result lines (slice_index_or (number_fields (shape_of c.survey.fields)) (length path) 0)) >>= (λ next. Ok next))
   child-system changed few lines made =
       ap (λ (fs : List ℕ). system_of c.edits fs) (child-numbers few ∙ ap (λ x. changed_numbers c path ++ (if x then slice_index_or (number_fields (shape_of c.survey.fields)) (length path) 0 ∷ [] else [])) changed)
       ∙ fold-joined (reduce_derived (base_lines c.edits)) (changed_numbers c path) (slice_index_or (number_fields (shape_of c.survey.fields)) (length path) 0 ∷ []) lines made

@@ -2,6 +2,7 @@ use Rattle.std.proofs.Common.{Bool, List, None, Some, [], ap, append-nil, append
 use Rattle.std.proofs.lemmas.Bool.Decides.{Decides-eqb}
 use Rattle.std.proofs.Math.Seq.{take-suc}
 use Rattle.std.proofs.lemmas.List.{length-take-le, length-map, take-append-drop}
+use Rattle.std.specs.Option.{unwrap_or}
 use Rattle.edit_model.specs.Corrections.{differs_from, is_first, path_order, word_of}
 use Rattle.edit_model.specs.Points.{Point}
 use Rattle.edit_model.specs.Rows.{value_of}
@@ -11,7 +12,7 @@ use Rattle.edit_line.proofs.Members.{in-either}
 use Rattle.edit_paths.specs.Cases.{Case, IsCase, Meets}
 use Rattle.edit_paths.specs.Choices.{IsChoice}
 use Rattle.edit_paths.specs.Certificates.{certificate_of}
-use Rattle.edit_paths.specs.Outcomes.{end_by, or_later, outcome_from, outcome_of}
+use Rattle.edit_paths.specs.Outcomes.{end_by, outcome_from, outcome_of}
 use Rattle.edit_paths.specs.ReachedPaths.{is_before, reached_paths}
 use Rattle.edit_paths.specs.Works.{work_of, work_of_all}
 use Rattle.edit_paths.specs.Paths.{AgreesAlong, field_count, is_complete}
@@ -98,13 +99,13 @@ module _ (c : Case) (budget : ℕ) where
       by (nat_lt budget (work_of_all c taken + work_of c path)) (state_of c path) refl (λ h. found-from (taken ++ path ∷ []) paths chosen weight cert h) e
     where
       by : (over : Bool) (s : PathState) → state_of c path ≡ s → (outcome_from c budget (taken ++ path ∷ []) paths ≡ outcome.Change chosen weight cert → FoundAt c (taken ++ path ∷ []) paths chosen weight cert)
-          → or_later (if over then Some (outcome.Budget path (work_of_all c taken)) else end_by c taken path s) (outcome_from c budget (taken ++ path ∷ []) paths) ≡ outcome.Change chosen weight cert → FoundAt c taken (path ∷ paths) chosen weight cert
+          → (unwrap_or (if over then Some (outcome.Budget path (work_of_all c taken)) else end_by c taken path s) (outcome_from c budget (taken ++ path ∷ []) paths)) ≡ outcome.Change chosen weight cert → FoundAt c taken (path ∷ paths) chosen weight cert
       by true s is rest h = absurd (cc)
       by false (Overflows event) is rest h = absurd (cc)
       by false Open is rest h = at (is_complete c path) refl rest h
         where
           at : (full : Bool) → is_complete c path ≡ full → (outcome_from c budget (taken ++ path ∷ []) paths ≡ outcome.Change chosen weight cert → FoundAt c (taken ++ path ∷ []) paths chosen weight cert)
-              → or_later (if full then Some (outcome.Change path (path_weight c.survey.fields path) (record { leaves = certificate_of c (if nat_lt 0 (path_weight c.survey.fields path) then taken else []) })) else None) (outcome_from c budget (taken ++ path ∷ []) paths) ≡ outcome.Change chosen weight cert
+              → (unwrap_or (if full then Some (outcome.Change path (path_weight c.survey.fields path) (record { leaves = certificate_of c (if nat_lt 0 (path_weight c.survey.fields path) then taken else []) })) else None) (outcome_from c budget (taken ++ path ∷ []) paths)) ≡ outcome.Change chosen weight cert
               → FoundAt c taken (path ∷ paths) chosen weight cert
           at true full rest h =
               let same : path ≡ chosen = cc in
@@ -134,13 +135,13 @@ module _ (c : Case) (budget : ℕ) where
       by (nat_lt budget (work_of_all c taken + work_of c path)) (state_of c path) refl (λ h. none-from (taken ++ path ∷ []) paths cert h) e
     where
       by : (over : Bool) (s : PathState) → state_of c path ≡ s → (outcome_from c budget (taken ++ path ∷ []) paths ≡ outcome.Contradictory cert → (p : List Bool) → IsIn p paths → EndsNot c p)
-          → or_later (if over then Some (outcome.Budget path (work_of_all c taken)) else end_by c taken path s) (outcome_from c budget (taken ++ path ∷ []) paths) ≡ outcome.Contradictory cert → EndsNot c p
+          → (unwrap_or (if over then Some (outcome.Budget path (work_of_all c taken)) else end_by c taken path s) (outcome_from c budget (taken ++ path ∷ []) paths)) ≡ outcome.Contradictory cert → EndsNot c p
       by true s is rest h = absurd (cc)
       by false (Overflows event) is rest h = absurd (cc)
       by false Open is rest h = at (is_complete c path) refl rest h
         where
           at : (full : Bool) → is_complete c path ≡ full → (outcome_from c budget (taken ++ path ∷ []) paths ≡ outcome.Contradictory cert → (p : List Bool) → IsIn p paths → EndsNot c p)
-              → or_later (if full then Some (outcome.Change path (path_weight c.survey.fields path) (record { leaves = certificate_of c (if nat_lt 0 (path_weight c.survey.fields path) then taken else []) })) else None) (outcome_from c budget (taken ++ path ∷ []) paths) ≡ outcome.Contradictory cert
+              → (unwrap_or (if full then Some (outcome.Change path (path_weight c.survey.fields path) (record { leaves = certificate_of c (if nat_lt 0 (path_weight c.survey.fields path) then taken else []) })) else None) (outcome_from c budget (taken ++ path ∷ []) paths)) ≡ outcome.Contradictory cert
               → EndsNot c p
           at true full rest h = absurd (cc)
           at false full rest h = in_first path p paths (λ event is_over. absurd (cc (sym is ∙ is_over)), λ opened whole. cc (sym full ∙ whole)) (rest h) there
@@ -154,13 +155,13 @@ module _ (c : Case) (budget : ℕ) where
       by (nat_lt budget (work_of_all c taken + work_of c path)) (state_of c path) (λ h. none-cert (taken ++ path ∷ []) paths cert h ∙ ap (λ (ps : List (List Bool)). certificate_of c ps) (append_assoc taken (path ∷ []) paths)) e
     where
       by : (over : Bool) (s : PathState) → (outcome_from c budget (taken ++ path ∷ []) paths ≡ outcome.Contradictory cert → cert.leaves ≡ certificate_of c (taken ++ path ∷ paths))
-          → or_later (if over then Some (outcome.Budget path (work_of_all c taken)) else end_by c taken path s) (outcome_from c budget (taken ++ path ∷ []) paths) ≡ outcome.Contradictory cert → cert.leaves ≡ certificate_of c (taken ++ path ∷ paths)
+          → (unwrap_or (if over then Some (outcome.Budget path (work_of_all c taken)) else end_by c taken path s) (outcome_from c budget (taken ++ path ∷ []) paths)) ≡ outcome.Contradictory cert → cert.leaves ≡ certificate_of c (taken ++ path ∷ paths)
       by true s rest h = absurd (cc)
       by false (Overflows event) rest h = absurd (cc)
       by false Open rest h = at (is_complete c path) rest h
         where
           at : (full : Bool) → (outcome_from c budget (taken ++ path ∷ []) paths ≡ outcome.Contradictory cert → cert.leaves ≡ certificate_of c (taken ++ path ∷ paths))
-              → or_later (if full then Some (outcome.Change path (path_weight c.survey.fields path) (record { leaves = certificate_of c (if nat_lt 0 (path_weight c.survey.fields path) then taken else []) })) else None) (outcome_from c budget (taken ++ path ∷ []) paths) ≡ outcome.Contradictory cert
+              → (unwrap_or (if full then Some (outcome.Change path (path_weight c.survey.fields path) (record { leaves = certificate_of c (if nat_lt 0 (path_weight c.survey.fields path) then taken else []) })) else None) (outcome_from c budget (taken ++ path ∷ []) paths)) ≡ outcome.Contradictory cert
               → cert.leaves ≡ certificate_of c (taken ++ path ∷ paths)
           at true rest h = absurd (cc)
           at false rest h = rest h

@@ -2,6 +2,7 @@ use Rattle.std.proofs.Common.{◌≡◌, ◌==◌, ◌++◌, ℕ, zero, suc, ◌
 use Rattle.std.specs.List.{filter, fold, position}
 use Rattle.std.proofs.Math.Seq.{take-length, take-suc}
 use Rattle.std.proofs.lemmas.List.{get_or_append_left, get_or_past, length-take-le, nil_from_length}
+use Rattle.foundation.specs.Results.{◌>>=◌, fault_as}
 use Rattle.edit_model.specs.Corrections.{path_order}
 use Rattle.edit_line.specs.Boxes.{are_whole}
 use Rattle.edit_line.specs.Shapes.{code_fields, number_fields, shape_of}
@@ -11,9 +12,9 @@ use Rattle.edit_line.specs.declared.place.Place.{Place}
 use Rattle.edit_line.proofs.ListPlaces.{StandsAt, first-at, later-at, whole-at}
 use Rattle.linear_elim.specs.Overflows.{IsFirstOverflow}
 use Rattle.linear_elim.specs.Steps.{StepOverflow, step_result}
-use Rattle.linear_elim.specs.Systems.{SystemOverflow, next_result, system_of}
+use Rattle.linear_elim.specs.Systems.{SystemOverflow, overflow_at, system_of}
 use Rattle.linear_elim.proofs.OverflowLaws.{step-overflows}
-use Rattle.categ_combine.specs.FailingBoxes.{LineFault, failing_from, or_line, taken}
+use Rattle.categ_combine.specs.FailingBoxes.{LineFault, failing_from, line_fault, taken}
 use Rattle.categ_combine.specs.declared.box_from.BoxFrom.{BoxFrom}
 use Rattle.bound_cert.specs.Paths.{changes, keeps_bad, path_place}
 use Rattle.bound_cert.specs.declared.outcome.Event.TheVariants as event
@@ -52,7 +53,7 @@ module _ (c : Case) (path : List Bool) (line f : ℕ) where
   boxes-name whole i (d ∷ rest) kept fault at h line_is field_is =
       by (fails_at d.line c.row) refl h (λ fails e. boxes-name whole (suc i) rest (taken kept i d.line fails) fault (later-at whole i d rest at) e line_is field_is)
     where
-      by : (r : Result Bool ℕ) → fails_at d.line c.row ≡ r → or_line i r (λ fails. failing_from (suc i) rest c.row (taken kept i d.line fails)) ≡ Err fault
+      by : (r : Result Bool ℕ) → fails_at d.line c.row ≡ r → (fault_as (line_fault i) r >>= (λ fails. failing_from (suc i) rest c.row (taken kept i d.line fails))) ≡ Err fault
           → ((fails : Bool) → failing_from (suc i) rest c.row (taken kept i d.line fails) ≡ Err fault → Named whole) → Named whole
       by (Ok b) fails h later = later b h
       by (Err g) fails h later =
@@ -157,7 +158,7 @@ module _ (c : Case) (before : List Bool) (b : Bool) (short : length before < fie
       same-field : length before < number_count c → slice_index_or (number_fields (shape_of c.survey.fields)) (length before) 0 ≡ slice_index_or (path_order c.survey.fields) (length before) 0
       same-field few = sym (get_or_append_left (number_fields (shape_of c.survey.fields)) (code_fields (shape_of c.survey.fields)) 0 (length before) few) ∙ ap (λ (fs : List ℕ). slice_index_or fs (length before) 0) (sym (order-shape c.survey.fields))
 
-      stopped : (f : ℕ) (r : Result (List Derived) StepOverflow) → next_result f r (λ next. Ok next) ≡ Err o → r ≡ Err o.step
+      stopped : (f : ℕ) (r : Result (List Derived) StepOverflow) → (fault_as (overflow_at f) r >>= (λ next. Ok next)) ≡ Err o → r ≡ Err o.step
       stopped f (Ok next) h = absurd (cc)
       stopped f (Err s) h = let same : (record { field = f; step = s }) ≡ o = cc in ap (λ (x : SystemOverflow). Err x.step) same
 

@@ -1,4 +1,5 @@
 use Rattle.std.proofs.Common.{◌≡◌, ℕ, Bool, if◌then◌else◌, List, [], ◌∷◌, Some, None, Result, Ok, Err, map, slice_get, refl, sym, ap, ◌∙◌, subst}
+use Rattle.foundation.specs.Results.{◌>>=◌, fault_as}
 use Rattle.edit_line.specs.Combinations.{sum_of}
 use Rattle.edit_line.specs.Divisors.{divided_by}
 use Rattle.edit_line.specs.EditSets.{base_lines, edits_of}
@@ -12,7 +13,7 @@ use Rattle.edit_line.proofs.ListPlaces.{get-map, some_with}
 use Rattle.edit_line.proofs.Members.{in-all}
 use Rattle.linear_elim.specs.Origins.{ComesFrom, IsEdit, IsTakenSum}
 use Rattle.linear_elim.specs.Steps.{StepOverflow, step_result}
-use Rattle.linear_elim.specs.Systems.{fold_result, next_result, system_of}
+use Rattle.linear_elim.specs.Systems.{fold_result, overflow_at, system_of}
 use Rattle.linear_elim.proofs.MadeLaws.{start-edits}
 use Rattle.linear_elim.proofs.OriginLaws.{origins-result}
 use Rattle.linear_elim.proofs.ResultLaws.{HaveShape-result}
@@ -78,7 +79,7 @@ lines-made p shape history before lines (f ∷ fields) last over made here e =
     by (step_result lines f) refl e (λ next over_next made_next h.
     lines-made p shape (with_lines history lines) (line_values lines ∷ before) next fields last over_next (list-made p (last_of before) (λ (d : Derived). proved.Line d.line) (λ (d : Derived). line_by d.origin) lines here, made) made_next h)
   where
-    by : (r : Result (List Derived) StepOverflow) → step_result lines f ≡ r → next_result f r (λ next. fold_result next fields) ≡ Ok last
+    by : (r : Result (List Derived) StepOverflow) → step_result lines f ≡ r → (fault_as (overflow_at f) r >>= (λ next. fold_result next fields)) ≡ Ok last
         → ((next : List Derived) → HaveShape shape (lines_of next) → LinesMade p (line_values lines) next → fold_result next fields ≡ Ok last
         → (values : Elements) × IsMade p (lines_from (with_lines history lines) next fields) values × (last_of values ≡ line_values last))
         → (values : Elements) × IsMade p (and_next (with_lines history lines) r (λ next. lines_from (with_lines history lines) next fields)) values × (last_of values ≡ line_values last)

@@ -3,6 +3,7 @@ use Rattle.std.specs.List.{filter, fold, position}
 use Rattle.std.specs.Ordering.{int_eq}
 use Rattle.std.proofs.lemmas.Bool.Decides.{Decides-eqb, Decides-int_eq}
 use Rattle.std.proofs.lemmas.List.{nil_from_length}
+use Rattle.foundation.specs.Results.{◌>>=◌, fault_as}
 use Rattle.fraction128.proofs.Signs.{same_cancel}
 use Rattle.fraction128.proofs.Whole.{swap_last}
 use Rattle.edit_model.specs.Corrections.{Differs, differs_from, path_order}
@@ -23,7 +24,7 @@ use Rattle.edit_line.proofs.PointCodes.{HasCodes-same}
 use Rattle.edit_line.proofs.ShapeLaws.{HasCodes-fields, HasCodes-shape, length-wholes}
 use Rattle.linear_elim.specs.Systems.{SystemOverflow, system_of}
 use Rattle.categ_combine.specs.BoxLists.{Avoids, avoid, sets_of}
-use Rattle.categ_combine.specs.FailingBoxes.{LineFault, failing_from, or_line, taken}
+use Rattle.categ_combine.specs.FailingBoxes.{LineFault, failing_from, line_fault, taken}
 use Rattle.categ_combine.specs.declared.box_from.BoxFrom.{BoxFrom}
 use Rattle.categ_combine.proofs.BoxSets.{none-passes}
 use Rattle.bound_cert.specs.Paths.{changes, keeps, keeps_bad}
@@ -66,7 +67,7 @@ module _ (c : Case) (is : IsCase c) (path : List Bool) where
     where
       by : (asks : Bool) (r : Result Bool ℕ) → asks ≡ true → (first_failing c path (suc i) lines ≡ Open → failing_from (suc i) lines c.row [] ≡ Ok boxes → boxes ≡ [])
           → (if asks then closed_by i r (first_failing c path (suc i) lines) else first_failing c path (suc i) lines) ≡ Open
-          → or_line i r (λ fails. failing_from (suc i) lines c.row (taken [] i d.line fails)) ≡ Ok boxes → boxes ≡ []
+          → (fault_as (line_fault i) r >>= (λ fails. failing_from (suc i) lines c.row (taken [] i d.line fails))) ≡ Ok boxes → boxes ≡ []
       by true (Ok true) asks rest h t = absurd (cc)
       by true (Ok false) asks rest h t = rest h t
       by true (Err f) asks rest h t = absurd (cc)

@@ -4,12 +4,13 @@ use Rattle.std.specs.List.Sorted.{IsPermutation}
 use Rattle.std.proofs.lemmas.Bool.Decides.{Decides-eqb}
 use Rattle.std.proofs.lemmas.List.Sorted.{IsPermutation-refl, IsPermutation-sym, sum_by-IsPermutation}
 use Rattle.std.proofs.lemmas.List.Sums.{sum_by-cons}
+use Rattle.std.specs.Option.{unwrap_or}
 use Rattle.edit_line.specs.Reductions.{IsIn}
 use Rattle.edit_line.proofs.Members.{in-either, in-left, in-right}
 use Rattle.edit_line.proofs.Members.{in-flat_map-out}
 use Rattle.edit_paths.specs.Cases.{Case}
 use Rattle.edit_paths.specs.ReachedPaths.{IsReached, changed_next, in_order, is_before, kept_next, placed, reached_from, reached_paths}
-use Rattle.edit_paths.specs.Outcomes.{end_at, or_later, outcome_from, outcome_of}
+use Rattle.edit_paths.specs.Outcomes.{end_at, outcome_from, outcome_of}
 use Rattle.edit_paths.specs.Paths.{field_count, is_complete}
 use Rattle.edit_paths.specs.PathStates.{is_open}
 use Rattle.edit_paths.specs.States.{state_of}
@@ -240,7 +241,7 @@ module _ (c : Case) where
 
   -- one turn of a search: the first end is the next path that is taken
   pub search-turn : (budget : ℕ) (taken : List (List Bool)) (path : List Bool) (ends rest : List (List Bool)) → length path ≤ field_count c → IsPermutation ends (path ∷ rest) → ((x : List Bool) → IsIn x rest → is_before c.survey.fields path x ≡ true)
-      → outcome_from c budget taken (order (reached_beyond c ends)) ≡ or_later (end_at c budget taken path) (outcome_from c budget (taken ++ path ∷ []) (order (reached_beyond c (next_paths c path ++ rest))))
+      → outcome_from c budget taken (order (reached_beyond c ends)) ≡ (unwrap_or (end_at c budget taken path) (outcome_from c budget (taken ++ path ∷ []) (order (reached_beyond c (next_paths c path ++ rest)))))
   search-turn budget taken path ends rest fits moved least = ap (λ (ps : List (List Bool)). outcome_from c budget taken ps) (first-end path ends rest fits moved least)
 
   -- it begins at the empty path

@@ -2,9 +2,11 @@ use Rattle.std.proofs.Common.{Bool, List, None, Ok, Option, Some, [], ap, arith,
 use Rattle.std.specs.List.{fold, list_any}
 use Rattle.std.proofs.lemmas.Bool.Decides.{Decides-eqb}
 use Rattle.std.proofs.lemmas.List.{length-map, map-append}
+use Rattle.std.specs.Option.{ok_or}
+use Rattle.foundation.specs.Results.{◌>>=◌}
+use Rattle.foundation.specs.Options.{◌>>?◌}
 use Rattle.edit_model.specs.FieldSets.{has_number}
 use Rattle.edit_model.specs.Rows.{value_of}
-use Rattle.fraction128.specs.Formulas.{then_some}
 use Rattle.edit_line.specs.CodeFields.{place_of, size_of}
 use Rattle.edit_line.specs.Lines.{LineParts}
 use Rattle.edit_line.specs.Reductions.{IsIn}
@@ -14,7 +16,7 @@ use Rattle.edit_line.proofs.Members.{in-any, in-get, in-left, in-right}
 use Rattle.edit_line.proofs.SetLaws.{both_true}
 use Rattle.derivation.proofs.CoverLaws.{was-some}
 use Rattle.derivation.specs.Premises.{Premises}
-use Rattle.derivation.specs.ValidSteps.{as_box, as_line, common_from, covered_sets, fixed_sets, last_from, last_proved, or_place, part_with, proved_by, proved_from, steps_result}
+use Rattle.derivation.specs.ValidSteps.{as_box, as_line, common_from, covered_sets, fixed_sets, last_from, last_proved, part_with, proved_by, proved_from, steps_result}
 use Rattle.derivation.specs.declared.proved.Proved.{Proved}
 use Rattle.derivation.specs.declared.step.Step.{Step}
 use Rattle.derivation.specs.declared.step.Step.TheVariants.{Combine, Cover, Fail, Fix, Given}
@@ -27,8 +29,8 @@ use Rattle.edit_paths.specs.declared.making.Written.{Written}
 
 -- ---- what was proved by steps with other numbers
 
-then_same : {A B : Type 0} (o : Option A) (a : A) (next : A → Option B) (r : Option B) → o ≡ Some a → next a ≡ r → then_some o next ≡ r
-then_same o a next r e h = ap (λ o. then_some o next) e ∙ h
+then_same : {A B : Type 0} (o : Option A) (a : A) (next : A → Option B) (r : Option B) → o ≡ Some a → next a ≡ r → (o >>? next) ≡ r
+then_same o a next r e h = ap (λ o. (o >>? next)) e ∙ h
 
 line_there : (o : Option Proved) (line : LineParts) → as_line o ≡ Some line → (u : Proved) × (o ≡ Some u)
 line_there None line e = absurd (cc)
@@ -72,8 +74,8 @@ module _ (p : Premises) (before later : List Proved) (number : ℕ → ℕ) wher
       same = ap (λ n. has_field (code_fields p.shape) field && (n == size_of p.shape field)) (sym (length-map parts number))
 
       by : (b d : Bool) → b ≡ d
-          → (if b then then_some (common_from before (place_of p.shape field) 0 parts (whole_sets p.shape)) (λ common. covered_sets p.shape field common) else None) ≡ Some v
-          → (if d then then_some (common_from later (place_of p.shape field) 0 (map number parts) (whole_sets p.shape)) (λ common. covered_sets p.shape field common) else None) ≡ Some v
+          → (if b then (common_from before (place_of p.shape field) 0 parts (whole_sets p.shape) >>? (λ common. covered_sets p.shape field common)) else None) ≡ Some v
+          → (if d then (common_from later (place_of p.shape field) 0 (map number parts) (whole_sets p.shape) >>? (λ common. covered_sets p.shape field common)) else None) ≡ Some v
       by true true e h =
           let (common, made, rest) = was-some (common_from before (place_of p.shape field) 0 parts (whole_sets p.shape)) _ v h in
           then_same (common_from later (place_of p.shape field) 0 (map number parts) (whole_sets p.shape)) common _ (Some v) (common-moved (place_of p.shape field) 0 parts (whole_sets p.shape) common there made) rest
@@ -81,8 +83,8 @@ module _ (p : Premises) (before later : List Proved) (number : ℕ → ℕ) wher
       by false d e h = absurd (cc)
   step-moved (Fix field part) v there e = by (has_field (code_fields p.shape) field && has_number p.kept field) e
     where
-      by : (b : Bool) → (if b then then_some (as_box (slice_get before part)) (λ sets. fixed_sets p.shape field (value_of p.row field) sets) else None) ≡ Some v
-          → (if b then then_some (as_box (slice_get later (number part))) (λ sets. fixed_sets p.shape field (value_of p.row field) sets) else None) ≡ Some v
+      by : (b : Bool) → (if b then (as_box (slice_get before part) >>? (λ sets. fixed_sets p.shape field (value_of p.row field) sets)) else None) ≡ Some v
+          → (if b then (as_box (slice_get later (number part)) >>? (λ sets. fixed_sets p.shape field (value_of p.row field) sets)) else None) ≡ Some v
       by true h = let (sets, at, rest) = was-some (as_box (slice_get before part)) _ v h in then_same (as_box (slice_get later (number part))) sets _ (Some v) (box-moved part sets (there part (inl refl)) at) rest
       by false h = absurd (cc)
 
@@ -119,12 +121,12 @@ module _ (p : Premises) (before : List Proved) where
   step-parts (Fail b) v e a there = let (line, at, rest) = was-some (as_line (slice_get before b)) _ v e in one a b (line_there (slice_get before b) line at) there
   step-parts (Cover field parts) v e a there = by (has_field (code_fields p.shape) field && (length parts == size_of p.shape field)) e
     where
-      by : (b : Bool) → (if b then then_some (common_from before (place_of p.shape field) 0 parts (whole_sets p.shape)) (λ common. covered_sets p.shape field common) else None) ≡ Some v → HasPart a
+      by : (b : Bool) → (if b then (common_from before (place_of p.shape field) 0 parts (whole_sets p.shape) >>? (λ common. covered_sets p.shape field common)) else None) ≡ Some v → HasPart a
       by true h = let (common, made, rest) = was-some (common_from before (place_of p.shape field) 0 parts (whole_sets p.shape)) _ v h in common-parts (place_of p.shape field) 0 parts (whole_sets p.shape) common made a there
       by false h = absurd (cc)
   step-parts (Fix field part) v e a there = by (has_field (code_fields p.shape) field && has_number p.kept field) e
     where
-      by : (b : Bool) → (if b then then_some (as_box (slice_get before part)) (λ sets. fixed_sets p.shape field (value_of p.row field) sets) else None) ≡ Some v → HasPart a
+      by : (b : Bool) → (if b then (as_box (slice_get before part) >>? (λ sets. fixed_sets p.shape field (value_of p.row field) sets)) else None) ≡ Some v → HasPart a
       by true h = let (sets, at, rest) = was-some (as_box (slice_get before part)) _ v h in one a part (box_there (slice_get before part) sets at) there
       by false h = absurd (cc)
 
@@ -210,12 +212,12 @@ module _ (p : Premises) (all : Elements) where
   proved-more : (earlier : List Proved) (steps : List Step) (values : List Proved) (step : Step) (v : Proved) → proved_from p earlier steps ≡ Ok values → proved_by p values step ≡ Some v → proved_from p earlier (steps ++ step ∷ []) ≡ Ok (values ++ v ∷ [])
   proved-more earlier [] values step v e h =
       let same : earlier ≡ values = cc in
-      ap (λ (o : Option Proved). or_place (length earlier) o (λ proved. Ok (earlier ++ proved ∷ []))) (ap (λ (vs : List Proved). proved_by p vs step) same ∙ h) ∙ ap (λ (vs : List Proved). Ok (vs ++ v ∷ [])) same
+      ap (λ (o : Option Proved). (ok_or o (length earlier) >>= (λ proved. Ok (earlier ++ proved ∷ [])))) (ap (λ (vs : List Proved). proved_by p vs step) same ∙ h) ∙ ap (λ (vs : List Proved). Ok (vs ++ v ∷ [])) same
   proved-more earlier (s ∷ steps) values step v e h = by (proved_by p earlier s) e (λ proved rest. proved-more (earlier ++ proved ∷ []) steps values step v rest h)
     where
-      by : (o : Option Proved) → or_place (length earlier) o (λ proved. proved_from p (earlier ++ proved ∷ []) steps) ≡ Ok values
+      by : (o : Option Proved) → (ok_or o (length earlier) >>= (λ proved. proved_from p (earlier ++ proved ∷ []) steps)) ≡ Ok values
           → ((proved : Proved) → proved_from p (earlier ++ proved ∷ []) steps ≡ Ok values → proved_from p (earlier ++ proved ∷ []) (steps ++ step ∷ []) ≡ Ok (values ++ v ∷ []))
-          → or_place (length earlier) o (λ proved. proved_from p (earlier ++ proved ∷ []) (steps ++ step ∷ [])) ≡ Ok (values ++ v ∷ [])
+          → (ok_or o (length earlier) >>= (λ proved. proved_from p (earlier ++ proved ∷ []) (steps ++ step ∷ []))) ≡ Ok (values ++ v ∷ [])
       by None t rest = absurd (cc)
       by (Some proved) t rest = rest proved t
 

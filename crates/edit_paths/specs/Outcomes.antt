@@ -1,4 +1,5 @@
 use Rattle.std.specs.Prelude.{ℕ, ◌+◌, ◌++◌, ◌&&◌, Bool, List, [], ◌∷◌, Option, Some, None, if◌then◌else◌, nat_lt}
+use Rattle.std.specs.Option.{unwrap_or}
 use Rattle.bound_cert.specs.Paths.{path_weight}
 use Rattle.bound_cert.specs.declared.outcome.Outcome.{Outcome}
 use Rattle.bound_cert.specs.declared.outcome.Outcome.TheVariants as outcome
@@ -26,15 +27,11 @@ abbrev pub end_at : Case → ℕ → List (List Bool) → List Bool → Option O
 end_at c budget taken path =
     if nat_lt budget (work_of_all c taken + work_of c path) then Some (outcome.Budget path (work_of_all c taken)) else end_by c taken path (state_of c path)
 
--- the first end, or that of the later paths
-abbrev pub or_later : Option Outcome → Outcome → Outcome
-or_later (Some end) later = end
-or_later None later = later
-
 -- the paths are taken in order after those taken; the first that ends the search gives the outcome
 abbrev pub outcome_from : Case → ℕ → List (List Bool) → List (List Bool) → Outcome
 outcome_from c budget taken [] = outcome.Contradictory (record { leaves = certificate_of c taken })
-outcome_from c budget taken (path ∷ paths) = or_later (end_at c budget taken path) (outcome_from c budget (taken ++ path ∷ []) paths)
+outcome_from c budget taken (path ∷ paths) =
+    unwrap_or (end_at c budget taken path) (outcome_from c budget (taken ++ path ∷ []) paths)
 
 -- the outcome of a record: the reached paths are taken in order
 abbrev pub outcome_of : Case → ℕ → Outcome

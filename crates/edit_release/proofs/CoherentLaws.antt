@@ -1,6 +1,8 @@
 use Rattle.std.proofs.Common.{◌≡◌, ◌++◌, ℕ, zero, suc, Bool, true, List, [], ◌∷◌, Option, Some, None, Result, Ok, Err, length, slice_get, ℤ, pos, ◌<ℤ◌, int_lt, refl, sym, option_map}
 use Rattle.std.specs.List.{AllByRecursion}
-use Rattle.fraction128.specs.Formulas.{then_some}
+use Rattle.std.specs.Option.{ok_or}
+use Rattle.foundation.specs.Results.{◌>>=◌}
+use Rattle.foundation.specs.Options.{◌>>?◌}
 use Rattle.edit_model.specs.Parts.{SurveyParts}
 use Rattle.edit_model.specs.Rows.{IsRow}
 use Rattle.edit_model.specs.Surveys.{IsWellFormed}
@@ -10,7 +12,7 @@ use Rattle.edit_line.specs.Divisors.{divided_by}
 use Rattle.edit_line.proofs.BoolLaws.{both_true}
 use Rattle.edit_line.proofs.Enough.{is_enough-Decides}
 use Rattle.derivation.specs.Premises.{Premises}
-use Rattle.derivation.specs.ValidSteps.{AreValidSteps, as_line, combined_line, last_proved, or_place, proved_by, proved_from}
+use Rattle.derivation.specs.ValidSteps.{AreValidSteps, as_line, combined_line, last_proved, proved_by, proved_from}
 use Rattle.derivation.specs.declared.proved.Proved.{Proved}
 use Rattle.derivation.specs.declared.proved.Proved.TheVariants as proved
 use Rattle.derivation.specs.declared.step.Step.{Step}
@@ -42,7 +44,7 @@ use Rattle.donor_search.specs.CleanRows.{row_at}
 module _ (p : Premises) where
   combined-positive : (earlier : List Proved) (a : ℕ) (m : ℤ) (b : ℕ) (n g : ℤ) (x : Proved) → proved_by p earlier (step.Combine a m b n g) ≡ Some x → (pos 0 <ℤ m) × (pos 0 <ℤ n) × (pos 0 <ℤ g)
   combined-positive earlier a m b n g x e =
-      let (s, first, after_first) = was-some (as_line (slice_get earlier a)) (λ s. then_some (as_line (slice_get earlier b)) (λ t. combined_line m n g s t)) x e in
+      let (s, first, after_first) = was-some (as_line (slice_get earlier a)) (λ s. (as_line (slice_get earlier b) >>? (λ t. combined_line m n g s t))) x e in
       let (t, second, made) = was-some (as_line (slice_get earlier b)) (λ t. combined_line m n g s t) x after_first in
       let (may, same) = was-true (may_combine m n g s t) (proved.Line (divided_by g (sum_of m n s t))) x made in
       let (m_above, after_m) = both_true (int_lt (pos 0) m) _ may in
@@ -65,7 +67,7 @@ module _ (p : Premises) where
   positive-from earlier (one ∷ steps) all e = by (proved_by p earlier one) refl (λ x. positive-from (earlier ++ x ∷ []) steps all) e
     where
       by : (o : Option Proved) → proved_by p earlier one ≡ o → ((x : Proved) → proved_from p (earlier ++ x ∷ []) steps ≡ Ok all → ArePositiveSteps steps)
-          → or_place (length earlier) o (λ x. proved_from p (earlier ++ x ∷ []) steps) ≡ Ok all → ArePositiveSteps (one ∷ steps)
+          → (ok_or o (length earlier) >>= (λ x. proved_from p (earlier ++ x ∷ []) steps)) ≡ Ok all → ArePositiveSteps (one ∷ steps)
       by None is rest h = absurd (cc)
       by (Some x) is rest h = (step-positive earlier one x is, rest x h)
 

@@ -1,5 +1,7 @@
 use Rattle.std.proofs.Common.{◌≡◌, ℕ, zero, suc, nat_le, nat_lt, Bool, true, List, [], ◌∷◌, inl, inr, Option, Some, None, Result, Ok, Err, length, slice_get, ℤ, refl, ap, ◌∙◌, subst, arith}
 use Rattle.std.proofs.lemmas.Bool.Decides.{Decides-ltb, nat_tests}
+use Rattle.std.specs.Option.{ok_or}
+use Rattle.foundation.specs.Results.{◌>>=◌}
 use Rattle.fraction128.specs.Formulas.{Ratio}
 use Rattle.edit_model.specs.Corrections.{is_numerical}
 use Rattle.edit_model.specs.Rows.{value_of}
@@ -10,7 +12,7 @@ use Rattle.edit_line.specs.Lines.{LineParts}
 use Rattle.edit_line.specs.Places.{place_named}
 use Rattle.edit_line.specs.Reductions.{IsIn}
 use Rattle.edit_line.specs.Shapes.{number_fields, shape_of}
-use Rattle.edit_line.specs.Sums.{fails_at, fails_by, next_sum, or_field, sum_at, sum_from, whole}
+use Rattle.edit_line.specs.Sums.{fails_at, fails_by, next_sum, sum_at, sum_from, whole}
 use Rattle.edit_line.specs.declared.derived.Derived.{Derived}
 use Rattle.edit_line.specs.declared.place.Place.{Place}
 use Rattle.edit_line.proofs.BoolLaws.{true-both}
@@ -39,7 +41,7 @@ sum-names [] factors row sum f e = absurd (cc)
 sum-names (g ∷ fields) [] row sum f e = absurd (cc)
 sum-names (g ∷ fields) (a ∷ factors) row sum f e = by (next_sum a (value_of row g) sum) (λ next. sum-names fields factors row next f) e
   where
-    by : (o : Option Ratio) → ((next : Ratio) → sum_from fields factors row next ≡ Err f → IsIn f fields) → or_field g o (λ next. sum_from fields factors row next) ≡ Err f → IsIn f (g ∷ fields)
+    by : (o : Option Ratio) → ((next : Ratio) → sum_from fields factors row next ≡ Err f → IsIn f fields) → (ok_or o g >>= (λ next. sum_from fields factors row next)) ≡ Err f → IsIn f (g ∷ fields)
     by None rest h = inl (cc)
     by (Some next) rest h = inr (rest next h)
 

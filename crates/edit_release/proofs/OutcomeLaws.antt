@@ -1,6 +1,7 @@
 use Rattle.std.proofs.Common.{◌≡◌, ◌≤◌, ◌+◌, ◌++◌, not, nat_lt, ℕ, zero, suc, Bool, true, false, if◌then◌else◌, List, [], ◌∷◌, Some, None, refl, sym, ap, ◌∙◌, arith}
 use Rattle.std.proofs.lemmas.Bool.Decides.{Decides-eqb, nat_tests}
 use Rattle.std.proofs.lemmas.List.Sums.{sum_by-append, sum_by-cons}
+use Rattle.std.specs.Option.{unwrap_or}
 use Rattle.edit_line.proofs.BoolLaws.{true-both}
 use Rattle.bound_cert.specs.Paths.{path_weight}
 use Rattle.bound_cert.specs.declared.cert.Cert.{Cert}
@@ -8,7 +9,7 @@ use Rattle.bound_cert.specs.declared.outcome.Outcome.TheVariants as outcome
 use Rattle.proof_grammar.specs.Limits.{clean_leaves}
 use Rattle.edit_paths.specs.Cases.{Case}
 use Rattle.edit_paths.specs.Certificates.{certificate_of, leaves_from}
-use Rattle.edit_paths.specs.Outcomes.{end_by, or_later, outcome_from, outcome_of}
+use Rattle.edit_paths.specs.Outcomes.{end_by, outcome_from, outcome_of}
 use Rattle.edit_paths.specs.Paths.{field_count, is_complete}
 use Rattle.edit_paths.specs.ReachedPaths.{reached_paths}
 use Rattle.edit_paths.specs.States.{state_of}
@@ -58,13 +59,13 @@ module _ (c : Case) (budget : ℕ) where
 
       by : (over : Bool) → nat_lt budget (work_of_all c taken + work_of c path) ≡ over → (s : PathState)
           → (work_of_all c (taken ++ path ∷ []) ≤ budget → outcome_from c budget (taken ++ path ∷ []) paths ≡ outcome.Budget q work → work ≤ budget)
-          → or_later (if over then Some (outcome.Budget path (work_of_all c taken)) else end_by c taken path s) (outcome_from c budget (taken ++ path ∷ []) paths) ≡ outcome.Budget q work → work ≤ budget
+          → (unwrap_or (if over then Some (outcome.Budget path (work_of_all c taken)) else end_by c taken path s) (outcome_from c budget (taken ++ path ∷ []) paths)) ≡ outcome.Budget q work → work ≤ budget
       by true over s rest h = let same : work_of_all c taken ≡ work = cc in omega (arith, within, same)
       by false below (Overflows event) rest h = absurd (cc)
       by false below Open rest h = at (is_complete c path) (rest (more below)) h
         where
           at : (full : Bool) → (outcome_from c budget (taken ++ path ∷ []) paths ≡ outcome.Budget q work → work ≤ budget)
-              → or_later (if full then Some (outcome.Change path (path_weight c.survey.fields path) (record { leaves = certificate_of c (if nat_lt 0 (path_weight c.survey.fields path) then taken else []) })) else None) (outcome_from c budget (taken ++ path ∷ []) paths) ≡ outcome.Budget q work
+              → (unwrap_or (if full then Some (outcome.Change path (path_weight c.survey.fields path) (record { leaves = certificate_of c (if nat_lt 0 (path_weight c.survey.fields path) then taken else []) })) else None) (outcome_from c budget (taken ++ path ∷ []) paths)) ≡ outcome.Budget q work
               → work ≤ budget
           at true rest h = absurd (cc)
           at false rest h = rest h

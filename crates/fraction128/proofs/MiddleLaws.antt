@@ -1,7 +1,8 @@
 use Rattle.std.proofs.Common.{◌≡◌, ◌≢◌, ℤ, pos, ◌<ℤ◌, ◌+ℤ◌, ◌*ℤ◌, Option, Some, None, Result, Ok, Err, sym, ap, ◌∙◌, arith}
 use Rattle.std.specs.Result.{IsErr}
 use Rattle.std.proofs.lemmas.Int.{ints}
-use Rattle.fraction128.specs.Formulas.{Ratio, added, answered, divided, middle, ratio_of, then_some}
+use Rattle.foundation.specs.Options.{◌>>?◌}
+use Rattle.fraction128.specs.Formulas.{Ratio, added, answered, divided, middle, ratio_of}
 use Rattle.fraction128.specs.declared.fraction.Fraction.{Fraction}
 use Rattle.fraction128.proofs.QuotientLaws.{divided-value}
 use Rattle.fraction128.proofs.RatioLaws.{added-value}
@@ -34,7 +35,7 @@ middle-value x y z x_above y_above e = by (added x y) (added-value x y) e
     by : (o : Option Ratio)
         → ((s : Ratio) → pos 0 <ℤ x.denominator → pos 0 <ℤ y.denominator → o ≡ Some s
         → (s.numerator *ℤ (x.denominator *ℤ y.denominator) ≡ (x.numerator *ℤ y.denominator +ℤ y.numerator *ℤ x.denominator) *ℤ s.denominator) × (pos 0 <ℤ s.denominator))
-        → then_some o (λ sum. divided sum (pos 2)) ≡ Some z
+        → (o >>? (λ sum. divided sum (pos 2))) ≡ Some z
         → (pos 2 *ℤ z.numerator *ℤ (x.denominator *ℤ y.denominator) ≡ (x.numerator *ℤ y.denominator +ℤ y.numerator *ℤ x.denominator) *ℤ z.denominator) × (pos 0 <ℤ z.denominator)
     by None sum h = absurd (cc)
     by (Some s) sum h =
@@ -45,9 +46,9 @@ middle-value x y z x_above y_above e = by (added x y) (added-value x y) e
 -- what is answered for the half of a sum is the middle
 pub half-answered : {E : Type 0} (x y w : Fraction) (r : Result Fraction E) → Some (ratio_of w) ≡ added (ratio_of x) (ratio_of y) → answered r ≡ divided (ratio_of w) (pos 2)
     → answered r ≡ middle (ratio_of x) (ratio_of y)
-half-answered x y w r sum half = half ∙ ap (λ (o : Option Ratio). then_some o (λ s. divided s (pos 2))) sum
+half-answered x y w r sum half = half ∙ ap (λ (o : Option Ratio). (o >>? (λ s. divided s (pos 2)))) sum
 
 -- and where there is no sum there is no middle
 pub refused-answered : {E : Type 0} (x y : Ratio) (r : Result Fraction E) → IsErr r → None ≡ added x y → answered r ≡ middle x y
 refused-answered x y (Ok z) refused none = absurd (cc)
-refused-answered x y (Err e) refused none = ap (λ (o : Option Ratio). then_some o (λ s. divided s (pos 2))) none
+refused-answered x y (Err e) refused none = ap (λ (o : Option Ratio). (o >>? (λ s. divided s (pos 2)))) none

@@ -1,6 +1,7 @@
 use Rattle.std.specs.Prelude.{ℤ, pos, ◌+ℤ◌, ◌*ℤ◌, ◌^◌, Bool, Option, Some, None, Result, Ok, Err, List, [], ◌∷◌, nat_lt, int_div, int_lt, unsigned_abs, if◌then◌else◌}
 use lib.IntN.{neg_ℤ}
 use Rattle.std.specs.List.{list_all}
+use Rattle.foundation.specs.Options.{◌>>?◌}
 use Rattle.fraction128.specs.Arithmetic.{sum_of_quotients}
 use Rattle.fraction128.specs.Divisor.{int_gcd}
 use Rattle.fraction128.specs.declared.fraction.Fraction.{Fraction}
@@ -18,11 +19,6 @@ ratio_of x = record { numerator = x.numerator; denominator = x.denominator }
 abbrev pub answered : {E : Type 0} → Result Fraction E → Option Ratio
 answered (Ok x) = Some (ratio_of x)
 answered (Err e) = None
-
--- the next value, if there is this one
-abbrev pub then_some : {A B : Type 0} → Option A → (A → Option B) → Option B
-then_some None next = None
-then_some (Some a) next = next a
 
 -- whether each number is in range
 abbrev pub are_in_range : List ℤ → Bool
@@ -58,4 +54,4 @@ divided x k =
 
 -- half of the sum of two fractions; None where a number of the formula of the sum or of its half leaves the range
 abbrev pub middle : Ratio → Ratio → Option Ratio
-middle x y = then_some (added x y) (λ sum. divided sum (pos 2))
+middle x y = added x y >>? (λ sum. divided sum (pos 2))

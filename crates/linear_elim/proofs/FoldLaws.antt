@@ -1,5 +1,6 @@
 use Rattle.std.proofs.Common.{◌≡◌, ◌↔◌, ℕ, List, [], ◌∷◌, ◌++◌, All, map, Result, Ok, Err, refl, sym, ap, ◌∙◌, subst}
 use Rattle.std.proofs.lemmas.List.Elements.{All-map}
+use Rattle.foundation.specs.Results.{◌>>=◌, fault_as}
 use Rattle.edit_model.specs.Points.{Point}
 use Rattle.edit_line.specs.EditSets.{AreEdits, EditsParts, base_lines}
 use Rattle.edit_line.specs.Lines.{AllHold, AreOver, HaveShape, IsLine, LineParts}
@@ -8,7 +9,7 @@ use Rattle.edit_line.specs.Shapes.{Domain, IsNumerical}
 use Rattle.edit_line.specs.declared.derived.Derived.{Derived}
 use Rattle.edit_line.proofs.ReductionLaws.{all-reduce, reduce-lines, reduced-same}
 use Rattle.linear_elim.specs.Steps.{StepOverflow, step_result}
-use Rattle.linear_elim.specs.Systems.{SystemOverflow, chosen_fields, fold_result, next_result, system_at, system_of}
+use Rattle.linear_elim.specs.Systems.{SystemOverflow, chosen_fields, fold_result, overflow_at, system_at, system_of}
 use Rattle.linear_elim.proofs.ChosenFields.{HasOneMore, chosen-more}
 use Rattle.linear_elim.proofs.ResultLaws.{HaveShape-result, base-plain, ok_same}
 use Rattle.linear_elim.proofs.ShapeLaws.{HaveShape-lines}
@@ -21,8 +22,8 @@ pub fold-joined : (lines : List Derived) (fs gs : List ℕ) (ys : List Derived) 
 fold-joined lines [] gs ys is = ap (λ (ls : List Derived). fold_result ls gs) (cc)
 fold-joined lines (f ∷ fs) gs ys is = by (step_result lines f) is (λ next. fold-joined next fs gs ys)
   where
-    by : (r : Result (List Derived) StepOverflow) → next_result f r (λ next. fold_result next fs) ≡ Ok ys
-        → ((next : List Derived) → fold_result next fs ≡ Ok ys → fold_result next (fs ++ gs) ≡ fold_result ys gs) → next_result f r (λ next. fold_result next (fs ++ gs)) ≡ fold_result ys gs
+    by : (r : Result (List Derived) StepOverflow) → (fault_as (overflow_at f) r >>= (λ next. fold_result next fs)) ≡ Ok ys
+        → ((next : List Derived) → fold_result next fs ≡ Ok ys → fold_result next (fs ++ gs) ≡ fold_result ys gs) → (fault_as (overflow_at f) r >>= (λ next. fold_result next (fs ++ gs))) ≡ fold_result ys gs
     by (Ok next) is rest = rest next is
     by (Err fault) is rest = absurd (cc)
 
@@ -30,8 +31,8 @@ pub fold-fault : (lines : List Derived) (fs gs : List ℕ) (fault : SystemOverfl
 fold-fault lines [] gs fault is = absurd (cc)
 fold-fault lines (f ∷ fs) gs fault is = by (step_result lines f) is (λ next. fold-fault next fs gs fault)
   where
-    by : (r : Result (List Derived) StepOverflow) → next_result f r (λ next. fold_result next fs) ≡ Err fault
-        → ((next : List Derived) → fold_result next fs ≡ Err fault → fold_result next (fs ++ gs) ≡ Err fault) → next_result f r (λ next. fold_result next (fs ++ gs)) ≡ Err fault
+    by : (r : Result (List Derived) StepOverflow) → (fault_as (overflow_at f) r >>= (λ next. fold_result next fs)) ≡ Err fault
+        → ((next : List Derived) → fold_result next fs ≡ Err fault → fold_result next (fs ++ gs) ≡ Err fault) → (fault_as (overflow_at f) r >>= (λ next. fold_result next (fs ++ gs))) ≡ Err fault
     by (Ok next) is rest = rest next is
     by (Err other) is rest = ap (λ e. Err e) (cc)
 
@@ -40,7 +41,7 @@ pub fold-next : (lines : List Derived) (before : List ℕ) (last : ℕ) (ys : Li
     → (reached : List Derived) × (fold_result lines before ≡ Ok reached) × (step_result reached last ≡ Ok ys)
 fold-next lines before last ys is = by (fold_result lines before) refl
   where
-    of_step : (r : Result (List Derived) StepOverflow) → next_result last r (λ next. Ok next) ≡ Ok ys → r ≡ Ok ys
+    of_step : (r : Result (List Derived) StepOverflow) → (fault_as (overflow_at last) r >>= (λ next. Ok next)) ≡ Ok ys → r ≡ Ok ys
     of_step (Ok next) e = ap (λ (ds : List Derived). Ok ds) (ok_same next ys (fold_result next []) refl e)
     of_step (Err fault) e = absurd (cc)
 
@@ -51,10 +52,10 @@ fold-next lines before last ys is = by (fold_result lines before) refl
 -- and where the step stops, the fold stops there
 pub fold-stopped : (lines : List Derived) (before : List ℕ) (last : ℕ) (reached : List Derived) (fault : StepOverflow) → fold_result lines before ≡ Ok reached → step_result reached last ≡ Err fault
     → fold_result lines (before ++ last ∷ []) ≡ Err (record { field = last; step = fault })
-fold-stopped lines before last reached fault is stops = fold-joined lines before (last ∷ []) reached is ∙ ap (λ r. next_result last r (λ next. Ok next)) stops
+fold-stopped lines before last reached fault is stops = fold-joined lines before (last ∷ []) reached is ∙ ap (λ r. (fault_as (overflow_at last) r >>= (λ next. Ok next))) stops
 
 -- the system without a later field more is one step from the system before
-pub system-next : (edits : EditsParts) (bits more last : ℕ) (lines : List Derived) → IsNumerical edits.shape last → HasOneMore bits more last → system_at edits bits ≡ Ok lines → system_at edits more ≡ next_result last (step_result lines last) (λ next. Ok next)
+pub system-next : (edits : EditsParts) (bits more last : ℕ) (lines : List Derived) → IsNumerical edits.shape last → HasOneMore bits more last → system_at edits bits ≡ Ok lines → system_at edits more ≡ (fault_as (overflow_at last) (step_result lines last) >>= (λ next. Ok next))
 system-next edits bits more last lines number one is =
     ap (λ fs. system_of edits.lines fs) (chosen-more edits.shape bits more last number one) ∙ fold-joined (reduce_derived (base_lines edits.lines)) (chosen_fields edits.shape bits) (last ∷ []) lines is
 
@@ -63,7 +64,7 @@ pub HaveShape-folded : (shape : List Domain) (lines : List Derived) (fs : List �
 HaveShape-folded shape lines [] ys is over = subst (λ (ls : List Derived). HaveShape shape (lines_of ls)) (cc) over
 HaveShape-folded shape lines (f ∷ fs) ys is over = by (step_result lines f) refl is (λ next. HaveShape-folded shape next fs ys)
   where
-    by : (r : Result (List Derived) StepOverflow) → step_result lines f ≡ r → next_result f r (λ next. fold_result next fs) ≡ Ok ys
+    by : (r : Result (List Derived) StepOverflow) → step_result lines f ≡ r → (fault_as (overflow_at f) r >>= (λ next. fold_result next fs)) ≡ Ok ys
         → ((next : List Derived) → fold_result next fs ≡ Ok ys → HaveShape shape (lines_of next) → HaveShape shape (lines_of ys)) → HaveShape shape (lines_of ys)
     by (Ok next) was is rest = rest next is (HaveShape-result shape lines f next was over)
     by (Err fault) was is rest = absurd (cc)

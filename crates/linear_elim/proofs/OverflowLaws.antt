@@ -1,4 +1,5 @@
 use Rattle.std.proofs.Common.{◌≡◌, ◌+◌, ◌<◌, Bool, true, false, if◌then◌else◌, slice_get, ℕ, zero, suc, ℤ, pos, List, [], ◌∷◌, get_or, Option, Some, None, Result, Ok, Err, refl, sym, ap, ◌∙◌, subst, arith}
+use Rattle.foundation.specs.Results.{◌>>=◌, fault_as}
 use Rattle.edit_line.specs.EditSets.{base_lines}
 use Rattle.edit_line.specs.Lines.{LineParts}
 use Rattle.edit_line.specs.Places.{place_named}
@@ -8,7 +9,7 @@ use Rattle.edit_line.specs.declared.derived.Derived.{Derived}
 use Rattle.edit_line.specs.Combinations.{numbers, first_overflow, sum_fits, unless_overflow}
 use Rattle.linear_elim.specs.Combinations.{combined_with, first_multiplier, is_lower, second_multiplier}
 use Rattle.linear_elim.specs.Overflows.{AllPairsFit, IsFirstOverflow, IsFirstPlace, IsFoldOverflow, overflow_of}
-use Rattle.linear_elim.specs.Systems.{SystemOverflow, fold_result, next_result, system_of}
+use Rattle.linear_elim.specs.Systems.{SystemOverflow, fold_result, overflow_at, system_of}
 use Rattle.linear_elim.proofs.ResultLaws.{followed}
 use Rattle.linear_elim.specs.Steps.{StepOverflow, collect, flat_from, followed_by, is_opposite, pair_result, paired, reduced_result, row_result, step_result, with_more}
 
@@ -222,7 +223,7 @@ pub fold-overflows : (lines : List Derived) (fields : List ℕ) (o : SystemOverf
 fold-overflows lines [] o e = absurd (cc)
 fold-overflows lines (f ∷ fields) o e = by (step_result lines f) refl e (λ next. fold-overflows next fields o)
   where
-    by : (r : Result (List Derived) StepOverflow) → step_result lines f ≡ r → next_result f r (λ next. fold_result next fields) ≡ Err o
+    by : (r : Result (List Derived) StepOverflow) → step_result lines f ≡ r → (fault_as (overflow_at f) r >>= (λ next. fold_result next fields)) ≡ Err o
         → ((next : List Derived) → fold_result next fields ≡ Err o → IsFoldOverflow next fields o) → IsFoldOverflow lines (f ∷ fields) o
     by (Err fault) is e later =
         let same : record { field = f; step = fault } ≡ o = err_same _ o _ refl e in
@@ -241,7 +242,7 @@ fold-overflows lines (f ∷ fields) o e = by (step_result lines f) refl e (λ ne
           after = found.after;
           fields_are = ap (λ (fs : List ℕ). f ∷ fs) found.fields_are;
           reached = found.reached;
-          reached_are = ap (λ (r : Result (List Derived) StepOverflow). next_result f r (λ more. fold_result more found.before)) is ∙ found.reached_are;
+          reached_are = ap (λ (r : Result (List Derived) StepOverflow). (fault_as (overflow_at f) r >>= (λ more. fold_result more found.before))) is ∙ found.reached_are;
           overflow = found.overflow;
         }
 

@@ -1,11 +1,12 @@
 use Rattle.std.proofs.Common.{◌≡◌, ℕ, List, [], ◌∷◌, Result, Ok, Err, refl, sym, subst}
+use Rattle.foundation.specs.Results.{◌>>=◌, fault_as}
 use Rattle.edit_line.specs.Lines.{LineParts}
 use Rattle.edit_line.specs.Reductions.{AreOwn, lines_of, reduce_derived}
 use Rattle.edit_line.specs.declared.derived.Derived.{Derived}
 use Rattle.edit_line.proofs.OwnLaws.{own-filter, own-reduced, reduce-own}
 use Rattle.linear_elim.specs.Combinations.{is_flat}
 use Rattle.linear_elim.specs.Steps.{StepOverflow, eliminated_result, flat_from, reduced_result, step_result}
-use Rattle.linear_elim.specs.Systems.{fold_result, next_result}
+use Rattle.linear_elim.specs.Systems.{fold_result, overflow_at}
 use Rattle.linear_elim.proofs.ResultLaws.{flat-plain, ok_same}
 
 -- The lines of the fold are reduced, and so are those without a field.
@@ -31,7 +32,7 @@ pub own-folded : (lines : List Derived) (fs : List ℕ) (ys : List Derived) → 
 own-folded lines [] ys is own = subst (λ (ls : List Derived). AreOwn (lines_of ls)) (cc) own
 own-folded lines (f ∷ fs) ys is own = by (step_result lines f) refl is (λ next. own-folded next fs ys)
   where
-    by : (r : Result (List Derived) StepOverflow) → step_result lines f ≡ r → next_result f r (λ next. fold_result next fs) ≡ Ok ys
+    by : (r : Result (List Derived) StepOverflow) → step_result lines f ≡ r → (fault_as (overflow_at f) r >>= (λ next. fold_result next fs)) ≡ Ok ys
         → ((next : List Derived) → fold_result next fs ≡ Ok ys → AreOwn (lines_of next) → AreOwn (lines_of ys)) → AreOwn (lines_of ys)
     by (Ok next) was is rest = rest next is (own-step lines f next was)
     by (Err fault) was is rest = absurd (cc)

@@ -1,5 +1,6 @@
 use Rattle.std.proofs.Common.{pos, ◌≡◌, ◌↔◌, Bool, true, false, if◌then◌else◌, ℕ, suc, List, [], ◌∷◌, ◌++◌, All, Option, Some, None, Result, Ok, Err, map, refl, sym, ap, ◌∙◌, subst}
 use Rattle.std.specs.List.{filter, flat_map, fold}
+use Rattle.foundation.specs.Results.{◌>>=◌, fault_as}
 use Rattle.edit_model.specs.Points.{Point}
 use Rattle.edit_line.specs.EditSets.{base_lines}
 use Rattle.edit_line.specs.Lines.{AllHold, Follows, HaveShape, LineParts, factor}
@@ -12,7 +13,7 @@ use Rattle.edit_line.specs.Combinations.{first_overflow, numbers, unless_overflo
 use Rattle.linear_elim.specs.Combinations.{combination, combined_with, first_multiplier, is_flat, is_lower, second_multiplier}
 use Rattle.linear_elim.specs.PointChanges.{CanHoldAt, CanHoldIn}
 use Rattle.linear_elim.specs.Steps.{StepOverflow, collect, eliminated, eliminated_result, flat_from, followed_by, is_opposite, pair_result, paired, reduced_result, row_result, step, step_result, with_more}
-use Rattle.linear_elim.specs.Systems.{fold_result, next_result, system, system_of}
+use Rattle.linear_elim.specs.Systems.{fold_result, overflow_at, system, system_of}
 use Rattle.linear_elim.proofs.StepLaws.{HaveShape-step, step-flat, step-follows, step-holds, step-lifts}
 use Rattle.linear_elim.proofs.SystemLaws.{HaveShape-system, system-follows, system-holds, system-lifts}
 
@@ -126,7 +127,7 @@ pub fold-plain : (lines : List Derived) (fields : List ℕ) (ys : List Derived) 
 fold-plain lines [] ys e = ap (λ (ds : List Derived). lines_of ds) (ok_same ys _ _ e refl)
 fold-plain lines (f ∷ fields) ys e = by (step_result lines f) refl e (λ next. fold-plain next fields ys)
   where
-    by : (r : Result (List Derived) StepOverflow) → step_result lines f ≡ r → next_result f r (λ next. fold_result next fields) ≡ Ok ys
+    by : (r : Result (List Derived) StepOverflow) → step_result lines f ≡ r → (fault_as (overflow_at f) r >>= (λ next. fold_result next fields)) ≡ Ok ys
         → ((next : List Derived) → fold_result next fields ≡ Ok ys → lines_of ys ≡ fold step (lines_of next) fields) → lines_of ys ≡ fold step (step (lines_of lines) f) fields
     by (Ok next) is e rest = rest next e ∙ ap (λ (ls : List LineParts). fold step ls fields) (step-plain lines f next is)
     by (Err fault) is e rest = absurd (cc)

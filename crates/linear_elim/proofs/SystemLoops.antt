@@ -1,11 +1,12 @@
 use Rattle.std.proofs.Common.{◌≡◌, ℕ, zero, suc, ◌+◌, ◌<◌, ◌≤◌, Bool, true, false, if◌then◌else◌, List, [], ◌∷◌, ◌++◌, get_or, length, drop, map, filter, Result, Ok, Err, refl, sym, ap, ◌∙◌, subst, arith, add-one}
 use Rattle.std.proofs.Math.Seq.{drop-cons}
 use Rattle.std.proofs.lemmas.List.{drop_all}
+use Rattle.foundation.specs.Results.{◌>>=◌, fault_as}
 use Rattle.edit_model.specs.FieldSets.{has_number}
 use Rattle.edit_line.specs.Shapes.{Domain, domain_with, number_fields, numbers_from}
 use Rattle.edit_line.specs.declared.derived.Derived.{Derived}
 use Rattle.linear_elim.specs.Steps.{StepOverflow, step_result}
-use Rattle.linear_elim.specs.Systems.{SystemOverflow, chosen_fields, count_after, fold_count, fold_result, next_result}
+use Rattle.linear_elim.specs.Systems.{SystemOverflow, chosen_fields, count_after, fold_count, fold_result, overflow_at}
 use Rattle.linear_elim.proofs.FoldLaws.{fold-fault, fold-joined}
 
 -- The fold of the step over fields: what was done, and what is left.
@@ -42,7 +43,7 @@ pub count-joined : (lines : List Derived) (fs gs : List ℕ) (ys : List Derived)
 count-joined lines [] gs ys is = let same : lines ≡ ys = cc in ap (λ (ls : List Derived). fold_count ls gs) same ∙ omega arith
 count-joined lines (f ∷ fs) gs ys is = let rest = by (step_result lines f) is (λ next. count-joined next fs gs ys) in omega (arith, rest)
   where
-    by : (r : Result (List Derived) StepOverflow) → next_result f r (λ next. fold_result next fs) ≡ Ok ys
+    by : (r : Result (List Derived) StepOverflow) → (fault_as (overflow_at f) r >>= (λ next. fold_result next fs)) ≡ Ok ys
         → ((next : List Derived) → fold_result next fs ≡ Ok ys → fold_count next (fs ++ gs) ≡ fold_count next fs + fold_count ys gs)
         → count_after r (λ next. fold_count next (fs ++ gs)) ≡ count_after r (λ next. fold_count next fs) + fold_count ys gs
     by (Ok next) is rest = rest next is

@@ -1,5 +1,6 @@
 use Rattle.std.specs.Prelude.{ℕ, suc, ◌+◌, ◌&&◌, Bool, List, [], ◌∷◌, ◌++◌, All, Result, Ok, Err, length, map, if◌then◌else◌}
 use Rattle.std.specs.List.{filter, flat_map}
+use Rattle.foundation.specs.Results.{◌>>=◌}
 use Rattle.edit_line.specs.Lines.{LineParts}
 use Rattle.edit_line.specs.Places.{place_named}
 use Rattle.edit_line.specs.Reductions.{reduce, reduce_derived}
@@ -42,13 +43,11 @@ OneShape lines = All (λ (s : Derived). All (λ (t : Derived). SameShape s.line 
 
 -- the elements before, and then those that the answer gives
 abbrev pub with_more : {X F : Type 0} → List X → Result (List X) F → Result (List X) F
-with_more before (Ok more) = Ok (before ++ more)
-with_more before (Err fault) = Err fault
+with_more before answer = answer >>= (λ more. Ok (before ++ more))
 
 -- both lists joined, or the first fault
 abbrev pub followed_by : {X F : Type 0} → Result (List X) F → Result (List X) F → Result (List X) F
-followed_by (Ok first) rest = with_more first rest
-followed_by (Err fault) rest = Err fault
+followed_by answer rest = answer >>= (λ first. with_more first rest)
 
 -- what the function gives for each element and its number, counted from i: all lists joined, or the first fault
 abbrev pub collect : {X Y F : Type 0} → (ℕ → X → Result (List Y) F) → ℕ → List X → Result (List Y) F
@@ -82,8 +81,7 @@ eliminated_result lines f = with_more (flat_from f 0 lines) (collect (row_result
 
 -- the lines reduced, where there are any
 abbrev pub reduced_result : {F : Type 0} → Result (List Derived) F → Result (List Derived) F
-reduced_result (Ok lines) = Ok (reduce_derived lines)
-reduced_result (Err fault) = Err fault
+reduced_result answer = answer >>= (λ lines. Ok (reduce_derived lines))
 
 -- elimination of a numerical field: the step's lines with their origins, reduced, or the first pair and place that leave the range
 abbrev pub step_result : List Derived → ℕ → Result (List Derived) StepOverflow

@@ -1,5 +1,6 @@
 use Rattle.std.specs.Prelude.{◌≡◌, ℕ, ◌+◌, List, [], ◌∷◌, Result, Ok, Err, IsTrue}
 use Rattle.std.specs.List.{filter, fold}
+use Rattle.foundation.specs.Results.{◌>>=◌, fault_as}
 use Rattle.edit_model.specs.FieldSets.{has_number}
 use Rattle.edit_line.specs.EditSets.{EditsParts, base_lines}
 use Rattle.edit_line.specs.Lines.{LineParts}
@@ -21,15 +22,16 @@ pub record SystemOverflow : Type 0 where
   pub field : ℕ
   pub step : StepOverflow
 
--- the next step, or the overflow with its field
-abbrev pub next_result : ℕ → Result (List Derived) StepOverflow → (List Derived → Result (List Derived) SystemOverflow) → Result (List Derived) SystemOverflow
-next_result f (Ok lines) next = next lines
-next_result f (Err fault) next = Err (record { field = f; step = fault })
+-- the step at this field overflows so
+abbrev pub overflow_at : ℕ → StepOverflow → SystemOverflow
+overflow_at f overflow = record { field = f; step = overflow }
 
 -- the steps at the fields, one after the other, or the first overflow with its field
 abbrev pub fold_result : List Derived → List ℕ → Result (List Derived) SystemOverflow
 fold_result lines [] = Ok lines
-fold_result lines (f ∷ fields) = next_result f (step_result lines f) (λ next. fold_result next fields)
+fold_result lines (f ∷ fields) = do
+    next ← fault_as (overflow_at f) (step_result lines f)
+    fold_result next fields
 
 -- the derived system of the edits without these fields: the fold of the step over them, from the reduced edits
 abbrev pub system_of : List (ℕ × LineParts) → List ℕ → Result (List Derived) SystemOverflow

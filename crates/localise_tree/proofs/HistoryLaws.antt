@@ -1,13 +1,14 @@
 use Rattle.std.proofs.Common.{All, ◌≡◌, ◌≢◌, ◌++◌, ◌||◌, ℕ, zero, suc, ◌<◌, ◌≤◌, Bool, cond, true, false, not, if◌then◌else◌, List, [], ◌∷◌, Result, Ok, Err, length, slice_index_or, refl, sym, ap, ◌∙◌, inl, inr, arith}
 use Rattle.std.proofs.lemmas.List.{get_or_past}
 use Rattle.std.specs.List.{filter, fold}
+use Rattle.foundation.specs.Results.{◌>>=◌, fault_as}
 use Rattle.edit_line.specs.EditSets.{base_lines}
 use Rattle.edit_line.specs.Lines.{HaveShape}
 use Rattle.edit_line.specs.Reductions.{IsIn, lines_of, reduce_derived}
 use Rattle.edit_line.specs.Shapes.{Domain, code_fields, number_fields, shape_of}
 use Rattle.edit_line.specs.declared.derived.Derived.{Derived}
 use Rattle.linear_elim.specs.Steps.{StepOverflow, step_result}
-use Rattle.linear_elim.specs.Systems.{fold_result, next_result, system_of}
+use Rattle.linear_elim.specs.Systems.{fold_result, overflow_at, system_of}
 use Rattle.categ_combine.specs.declared.box_from.BoxFrom.{BoxFrom}
 use Rattle.edit_model.specs.Corrections.{path_order}
 use Rattle.bound_cert.specs.Paths.{changes, path_place}
@@ -33,7 +34,7 @@ lines-more : (before : History) (lines : List Derived) (fields : List ℕ) (f : 
 lines-more before lines [] f = by (step_result lines f)
   where
     by : (r : Result (List Derived) StepOverflow)
-        → and_next (with_lines before lines) r (λ next. with_lines (with_lines before lines) next) ≡ with_system (with_lines before lines) (next_result f r (λ next. Ok next))
+        → and_next (with_lines before lines) r (λ next. with_lines (with_lines before lines) next) ≡ with_system (with_lines before lines) ((fault_as (overflow_at f) r >>= (λ next. Ok next)))
     by (Ok next) = refl
     by (Err overflow) = refl
 lines-more before lines (g ∷ fields) f = by (step_result lines g) (λ next. lines-more (with_lines before lines) next fields f)
@@ -41,7 +42,7 @@ lines-more before lines (g ∷ fields) f = by (step_result lines g) (λ next. li
     by : (r : Result (List Derived) StepOverflow)
         → ((next : List Derived) → lines_from (with_lines before lines) next (fields ++ f ∷ []) ≡ with_system (lines_from (with_lines before lines) next fields) (fold_result next (fields ++ f ∷ [])))
         → and_next (with_lines before lines) r (λ next. lines_from (with_lines before lines) next (fields ++ f ∷ []))
-        ≡ with_system (and_next (with_lines before lines) r (λ next. lines_from (with_lines before lines) next fields)) (next_result g r (λ next. fold_result next (fields ++ f ∷ [])))
+        ≡ with_system (and_next (with_lines before lines) r (λ next. lines_from (with_lines before lines) next fields)) ((fault_as (overflow_at g) r >>= (λ next. fold_result next (fields ++ f ∷ []))))
     by (Ok next) more = more next
     by (Err overflow) more = refl
 

@@ -1,10 +1,11 @@
 use Rattle.std.proofs.Common.{◌≡◌, inl, inr, ℕ, ◌<◌, ◌≤◌, Bool, List, [], ◌∷◌, ◌++◌, Some, None, length, refl, sym, ap, ◌∙◌, subst, arith}
 use Rattle.std.specs.List.{fold}
 use Rattle.std.proofs.lemmas.List.Sorted.{IsPermutation-refl, IsPermutation-sym}
+use Rattle.std.specs.Option.{unwrap_or}
 use Rattle.edit_line.specs.Reductions.{IsIn}
 use Rattle.bound_cert.specs.declared.outcome.Outcome.{Outcome}
 use Rattle.edit_paths.specs.Cases.{Case}
-use Rattle.edit_paths.specs.Outcomes.{end_at, or_later, outcome_from, outcome_of}
+use Rattle.edit_paths.specs.Outcomes.{end_at, outcome_from, outcome_of}
 use Rattle.edit_paths.specs.Paths.{field_count}
 use Rattle.edit_paths.specs.ReachedPaths.{in_order, is_before, placed}
 use Rattle.edit_paths.specs.Walks.{next_paths}
@@ -29,11 +30,11 @@ module _ (c : Case) (budget : ℕ) where
     searching : IsSearching c budget taken (path ∷ rest)
     searching = subst (λ (ps : List (List Bool)). IsSearching c budget taken ps) is before
 
-    turn : or_later (end_at c budget taken path) (outcome_from c budget (taken ++ path ∷ []) (in_order (is_before c.survey.fields) (reached_beyond c (next_paths c path ++ rest)))) ≡ outcome_of c budget
+    turn : (unwrap_or (end_at c budget taken path) (outcome_from c budget (taken ++ path ∷ []) (in_order (is_before c.survey.fields) (reached_beyond c (next_paths c path ++ rest))))) ≡ outcome_of c budget
     turn = sym (search-turn c budget taken path (path ∷ rest) rest (searching.fit path (inl refl)) (IsPermutation-refl (path ∷ rest)) searching.sorted.0) ∙ searching.rest
 
     pub searching-ends : (o : Outcome) → end_at c budget taken path ≡ Some o → o ≡ outcome_of c budget
-    searching-ends o e = ap (λ end. or_later end (outcome_from c budget (taken ++ path ∷ []) (in_order (is_before c.survey.fields) (reached_beyond c (next_paths c path ++ rest))))) (sym e) ∙ turn
+    searching-ends o e = ap (λ end. (unwrap_or end (outcome_from c budget (taken ++ path ∷ []) (in_order (is_before c.survey.fields) (reached_beyond c (next_paths c path ++ rest)))))) (sym e) ∙ turn
 
     module _ (new : List (List Bool)) (made : new ≡ fold (placed (is_before c.survey.fields)) rest (next_paths c path)) where
       same : in_order (is_before c.survey.fields) (reached_beyond c new) ≡ in_order (is_before c.survey.fields) (reached_beyond c (next_paths c path ++ rest))
@@ -50,7 +51,7 @@ module _ (c : Case) (budget : ℕ) where
         rest =
             ap (λ (ps : List (List Bool)). outcome_from c budget ps (in_order (is_before c.survey.fields) (reached_beyond c new))) more
             ∙ ap (λ (ps : List (List Bool)). outcome_from c budget (taken ++ path ∷ []) ps) same
-            ∙ ap (λ end. or_later end (outcome_from c budget (taken ++ path ∷ []) (in_order (is_before c.survey.fields) (reached_beyond c (next_paths c path ++ rest))))) (sym none) ∙ turn;
+            ∙ ap (λ end. (unwrap_or end (outcome_from c budget (taken ++ path ∷ []) (in_order (is_before c.survey.fields) (reached_beyond c (next_paths c path ++ rest)))))) (sym none) ∙ turn;
       }
         where
           new-fit : (x : List Bool) → IsIn x (fold (placed (is_before c.survey.fields)) rest (next_paths c path)) → length x ≤ field_count c

@@ -1,9 +1,10 @@
 use Rattle.std.proofs.Common.{ap, Bool, List, None, Some, [], false, if◌then◌else◌, inl, inr, nat_lt, refl, sym, true, ℕ, ◌++◌, ◌+◌, ◌∙◌, ◌∷◌, ◌≡◌}
+use Rattle.std.specs.Option.{unwrap_or}
 use Rattle.edit_line.specs.Reductions.{IsIn}
 use Rattle.bound_cert.specs.Paths.{path_weight}
 use Rattle.edit_paths.specs.Certificates.{certificate_of}
 use Rattle.edit_paths.specs.Cases.{Case}
-use Rattle.edit_paths.specs.Outcomes.{end_by, or_later, outcome_from, outcome_of}
+use Rattle.edit_paths.specs.Outcomes.{end_by, outcome_from, outcome_of}
 use Rattle.edit_paths.specs.Paths.{is_complete}
 use Rattle.edit_paths.specs.ReachedPaths.{reached_paths}
 use Rattle.edit_paths.specs.States.{state_of}
@@ -36,7 +37,7 @@ module _ (c : Case) (budget : ℕ) where
     where
       by : (over : Bool) (s : PathState) → state_of c first ≡ s
           → (outcome_from c budget (taken ++ first ∷ []) paths ≡ outcome.Overflow path e → StopsIn c paths path e)
-          → or_later (if over then Some (outcome.Budget first (work_of_all c taken)) else end_by c taken first s) (outcome_from c budget (taken ++ first ∷ []) paths) ≡ outcome.Overflow path e
+          → (unwrap_or (if over then Some (outcome.Budget first (work_of_all c taken)) else end_by c taken first s) (outcome_from c budget (taken ++ first ∷ []) paths)) ≡ outcome.Overflow path e
           → StopsIn c (first ∷ paths) path e
       by true s state rest h = absurd (cc)
       by false (Overflows d) state rest h =
@@ -46,7 +47,7 @@ module _ (c : Case) (budget : ℕ) where
       by false Open state rest h = at (is_complete c first) rest h
         where
           at : (full : Bool) → (outcome_from c budget (taken ++ first ∷ []) paths ≡ outcome.Overflow path e → StopsIn c paths path e)
-              → or_later (if full then Some (outcome.Change first (path_weight c.survey.fields first) (record { leaves = certificate_of c (if nat_lt 0 (path_weight c.survey.fields first) then taken else []) })) else None) (outcome_from c budget (taken ++ first ∷ []) paths) ≡ outcome.Overflow path e
+              → (unwrap_or (if full then Some (outcome.Change first (path_weight c.survey.fields first) (record { leaves = certificate_of c (if nat_lt 0 (path_weight c.survey.fields first) then taken else []) })) else None) (outcome_from c budget (taken ++ first ∷ []) paths)) ≡ outcome.Overflow path e
               → StopsIn c (first ∷ paths) path e
           at true rest h = absurd (cc)
           at false rest h = later first paths path e (rest h)

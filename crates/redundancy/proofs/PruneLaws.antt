@@ -1,6 +1,6 @@
 use Rattle.std.proofs.Common.{◌≡◌, ◌&&◌, ◌⊎◌, inl, inr, ℕ, zero, suc, ◌+◌, ◌<◌, Bool, true, false, not, if◌then◌else◌, nat_lt, List, [], ◌∷◌, ◌++◌, All, IsTrue, Option, Some, None, Result, Ok, drop, length, map, slice_get, slice_index_or, refl, sym, ap, ◌∙◌, subst, arith}
 use Rattle.std.proofs.lemmas.List.{drop-map, length-map}
-use Rattle.fraction128.specs.Formulas.{then_some}
+use Rattle.foundation.specs.Options.{◌>>?◌}
 use Rattle.edit_model.specs.FieldSets.{has_number}
 use Rattle.edit_model.specs.Parts.{SurveyParts}
 use Rattle.edit_model.specs.Points.{HasCodesFrom, Point}
@@ -141,7 +141,7 @@ module _ (survey : SurveyParts) (lines : List LineParts) (left : List Bool) (lin
   are_usable e there =
       let (k, number, at, used) = usable-place 0 (given_lines lines line) (usable_flags left line) e there in
       let same : e.0 ≡ k = number ∙ omega arith in
-      ap (λ n. given_line p n) same ∙ ap (λ b. if b then then_some (slice_get p.given k) (λ l. Some (proved.Line l)) else None) used ∙ ap (λ (o : Option LineParts). then_some o (λ l. Some (proved.Line l))) at
+      ap (λ n. given_line p n) same ∙ ap (λ b. if b then (slice_get p.given k >>? (λ l. Some (proved.Line l))) else None) used ∙ ap (λ (o : Option LineParts). (o >>? (λ l. Some (proved.Line l)))) at
 
   none_kept : (n f : ℕ) → has_number 0 f ≡ keeps c.survey.fields (changing n) f
   none_kept n f = has-none f ∙ sym (keeps-none c n f)

@@ -2,6 +2,7 @@ use Rattle.std.proofs.Common.{◌≡◌, ◌==◌, inl, inr, ℕ, zero, suc, ◌
 use Rattle.std.specs.List.{fold}
 use Rattle.std.proofs.Math.Seq.{get_or-append_seam}
 use Rattle.std.proofs.lemmas.Bool.Decides.{Decides-eqb}
+use Rattle.foundation.specs.Results.{◌>>=◌, fault_as}
 use Rattle.edit_model.specs.Corrections.{path_order}
 use Rattle.edit_model.specs.RowPoints.{code_in}
 use Rattle.edit_model.specs.Rows.{value_of}
@@ -13,7 +14,7 @@ use Rattle.edit_line.specs.declared.derived.Derived.{Derived}
 use Rattle.edit_line.proofs.FieldLists.{there-has}
 use Rattle.edit_line.proofs.Members.{in-right}
 use Rattle.linear_elim.specs.Steps.{StepOverflow, pairs_count, step_result}
-use Rattle.linear_elim.specs.Systems.{SystemOverflow, fold_result, next_result, system_of}
+use Rattle.linear_elim.specs.Systems.{SystemOverflow, fold_result, overflow_at, system_of}
 use Rattle.linear_elim.proofs.FoldLaws.{fold-joined}
 use Rattle.categ_combine.specs.BoxLists.{sets_of}
 use Rattle.categ_combine.specs.Covers.{cover_count, covered_from}
@@ -50,7 +51,7 @@ lines-more before lines [] f last next e made =
     ap (λ r. and_next (with_lines before lines) r (λ more. lines_from (with_lines before lines) more [])) (ap (λ (ls : List Derived). step_result ls f) same ∙ made)
 lines-more before lines (g ∷ fs) f last next e made = by (step_result lines g) e (λ more h. lines-more (with_lines before lines) more fs f last next h made)
   where
-    by : (r : Result (List Derived) StepOverflow) → next_result g r (λ next. fold_result next fs) ≡ Ok last
+    by : (r : Result (List Derived) StepOverflow) → (fault_as (overflow_at g) r >>= (λ next. fold_result next fs)) ≡ Ok last
         → ((more : List Derived) → fold_result more fs ≡ Ok last → lines_from (with_lines before lines) more (fs ++ f ∷ []) ≡ with_lines (lines_from (with_lines before lines) more fs) next)
         → and_next (with_lines before lines) r (λ more. lines_from (with_lines before lines) more (fs ++ f ∷ [])) ≡ with_lines (and_next (with_lines before lines) r (λ more. lines_from (with_lines before lines) more fs)) next
     by (Ok more) h rest = rest more h
@@ -298,7 +299,7 @@ module _ (c : Case) (is : IsCase c) (budget : ℕ) where
           ∙ ap (λ b. 1 + (if b then pairs_count (lines_along c (changing n)) f else cover_count (shape_of c.survey.fields) (sets_of (boxes_along c (changing n))) f)) there
           ∙ ap (λ r. 1 + pairs_count (or_empty r) f) system
 
-      stepped : fold_result start (done ++ f ∷ []) ≡ next_result f (step_result lines f) (λ next. Ok next)
+      stepped : fold_result start (done ++ f ∷ []) ≡ (fault_as (overflow_at f) (step_result lines f) >>= (λ next. Ok next))
       stepped = fold-joined start done (f ∷ []) lines made
 
       by : (r : Result (List Derived) StepOverflow) → step_result lines f ≡ r
@@ -307,10 +308,10 @@ module _ (c : Case) (is : IsCase c) (budget : ℕ) where
           → verdict_by c (changing (suc n)) (state_of c (changing (suc n))) (open_from more (suc n) (length (fields ++ code_fields (shape_of c.survey.fields))))
           ≡ or_overflow r (λ next. number_walk (shape_of c.survey.fields) c.row budget more (with_lines (lines_from [] start done) next) next fields)
       by (Ok next) is_next rest =
-          rest next is_next (stepped ∙ ap (λ r. next_result f r (λ next. Ok next)) is_next) ∙ ap (λ (h : History). number_walk (shape_of c.survey.fields) c.row budget more h next fields) (lines-more [] start done f lines next made is_next)
+          rest next is_next (stepped ∙ ap (λ r. (fault_as (overflow_at f) r >>= (λ next. Ok next))) is_next) ∙ ap (λ (h : History). number_walk (shape_of c.survey.fields) c.row budget more h next fields) (lines-more [] start done f lines next made is_next)
       by (Err o) is_next rest =
           ap (λ s. verdict_by c (changing (suc n)) s (open_from more (suc n) (length (fields ++ code_fields (shape_of c.survey.fields)))))
-          (state-by (suc n) (Err (record { field = f; step = o })) (system-first (suc n) (done ++ f ∷ []) fields split_next (same-length done f n size) ∙ stepped ∙ ap (λ r. next_result f r (λ next. Ok next)) is_next))
+          (state-by (suc n) (Err (record { field = f; step = o })) (system-first (suc n) (done ++ f ∷ []) fields split_next (same-length done f n size) ∙ stepped ∙ ap (λ r. (fault_as (overflow_at f) r >>= (λ next. Ok next))) is_next))
 
   -- the verdict is that of the walk field by field
   pub verdict-walk : verdict_of c budget ≡ within budget 1 (number_walk (shape_of c.survey.fields) c.row budget 1 (with_lines [] start) start numbers)

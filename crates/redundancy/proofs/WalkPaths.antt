@@ -3,6 +3,8 @@ use Rattle.std.specs.List.{filter, list_all, list_any, position, position_or_len
 use Rattle.std.specs.Ordering.{int_eq}
 use Rattle.std.proofs.Math.Seq.{take-append_seam}
 use Rattle.std.proofs.lemmas.List.{get_or_past, take_all}
+use Rattle.std.specs.Option.{ok_or}
+use Rattle.foundation.specs.Results.{◌>>=◌}
 use Rattle.fraction128.specs.Formulas.{Ratio}
 use Rattle.edit_model.specs.Corrections.{path_order}
 use Rattle.edit_model.specs.Rows.{is_bad, value_of}
@@ -13,7 +15,7 @@ use Rattle.edit_line.specs.Lines.{HaveShape, LineParts}
 use Rattle.edit_line.specs.Reductions.{IsIn, lines_of}
 use Rattle.edit_line.specs.Shapes.{Domain, code_fields, number_fields, shape_of, whole_sets}
 use Rattle.edit_line.specs.Subsumption.{has_no_factor, is_enough, is_false}
-use Rattle.edit_line.specs.Sums.{fails_at, fails_by, or_field, stands_only, sum_from, whole}
+use Rattle.edit_line.specs.Sums.{fails_at, fails_by, stands_only, sum_from, whole}
 use Rattle.edit_line.specs.declared.derived.Derived.{Derived}
 use Rattle.edit_line.proofs.BoolLaws.{or_none}
 use Rattle.edit_line.proofs.Members.{in-filter-out}
@@ -156,7 +158,7 @@ no-sum (f ∷ fields) [] row sum none = refl
 no-sum (f ∷ fields) (a ∷ factors) row sum none = by (int_eq a (pos 0)) refl none (λ h. no-sum fields factors row sum h)
   where
     by : (b : Bool) → int_eq a (pos 0) ≡ b → (b && list_all (λ a. int_eq a (pos 0)) factors) ≡ true → (list_all (λ a. int_eq a (pos 0)) factors ≡ true → sum_from fields factors row sum ≡ Ok sum)
-        → or_field f (if b then Some sum else sum_with sum a (value_of row f)) (λ next. sum_from fields factors row next) ≡ Ok sum
+        → (ok_or (if b then Some sum else sum_with sum a (value_of row f)) f >>= (λ next. sum_from fields factors row next)) ≡ Ok sum
     by true e rest h = h rest
     by false e rest h = absurd (cc)
 

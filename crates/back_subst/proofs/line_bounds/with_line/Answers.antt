@@ -1,7 +1,8 @@
 use Rattle.std.proofs.Common.{◌≡◌, ◌≢◌, ◌<◌, Ok, int_lt, length, get_or, ℤ, List, pos, sym, ap, ◌∙◌, arith, FitsSigned, to_z, of_z, rules}
 use mir.Syntax.{w128}
 use Rattle.std.proofs.lemmas.Int.{to_z-of_z}
-use Rattle.fraction128.specs.Formulas.{answered, divided, ratio_of, then_some}
+use Rattle.foundation.specs.Options.{◌>>?◌}
+use Rattle.fraction128.specs.Formulas.{answered, divided, ratio_of}
 use Rattle.edit_line.specs.Lines.{factor}
 use Rattle.edit_line.specs.Shapes.{number_fields, shape_of}
 use Rattle.edit_line.specs.Sums.{sum_at}
@@ -55,7 +56,7 @@ returns-in-Ok c =
     let fits : FitsSigned w128 (get_or c.factors.result.now c.args.place (pos 0)) = search rules in
     let own = read at fits in
     let some : factor line f ≢ pos 0 = λ none. c.if-factor-eq0.false (ap (of_z w128) (sym (to_z-of_z w128 _ fits) ∙ own ∙ none)) in
-    let bound = c.bound_at.ensures ∙ ap (λ (k : ℤ). then_some (value_in (sum_at line row)) (λ s. divided s (neg_ℤ k))) own in
+    let bound = c.bound_at.ensures ∙ ap (λ (k : ℤ). (value_in (sum_at line row) >>? (λ s. divided s (neg_ℤ k)))) own in
     ap Ok (
     c.with.ensures ∙ ap (λ (k : ℤ). with_found (ends_of c.args.bounds) (int_lt (pos 0) k) (found_at (ratio_of c.in-Ok.at) c.strict.result c.args.i)) own
     ∙ ap (λ s. with_found (ends_of c.args.bounds) (int_lt (pos 0) (factor line f)) (found_at (ratio_of c.in-Ok.at) s c.args.i)) c.strict.ensures
@@ -71,5 +72,5 @@ returns-in-Err c =
     let fits : FitsSigned w128 (get_or c.factors.result.now c.args.place (pos 0)) = search rules in
     let own = read at fits in
     let some : factor line f ≢ pos 0 = λ none. c.if-factor-eq0.false (ap (of_z w128) (sym (to_z-of_z w128 _ fits) ∙ own ∙ none)) in
-    let bound = c.bound_at.ensures ∙ ap (λ (k : ℤ). then_some (value_in (sum_at line row)) (λ s. divided s (neg_ℤ k))) own in
+    let bound = c.bound_at.ensures ∙ ap (λ (k : ℤ). (value_in (sum_at line row) >>? (λ s. divided s (neg_ℤ k)))) own in
     without-bound c.args.i f line row (ends_of c.args.bounds) (sym c.if-not-has_codes_of.ensures) some c.requires.blank (answered c.bound_at.result) bound (ap answered c.in-Err.is)

@@ -1,0 +1,8 @@
+-- Values that may be missing, one after the other.
+use Rattle.std.specs.Prelude.{Option, Some, None}
+
+-- the next value, if there is this one
+infixl 10 ◌>>?◌
+abbrev pub ◌>>?◌ : {A B : Type 0} → Option A → (A → Option B) → Option B
+None >>? next = None
+(Some value) >>? next = next value
