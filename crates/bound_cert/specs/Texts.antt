@@ -6,7 +6,8 @@ use Rattle.bound_cert.specs.declared.fault.CertFault.TheVariants.{Bad, OutOfMemo
 -- what is printed of the leaf at fault, and of the step there, if one is named
 abbrev pub place_text : ℕ → Option ℕ → List ℕ
 place_text leaf None = codes "the leaf at place " ++ (decimal leaf ++ codes " is not valid")
-place_text leaf (Some step) = codes "the step at place " ++ (decimal step ++ (codes " of the leaf at place " ++ (decimal leaf ++ codes " is not valid")))
+place_text leaf (Some step) =
+    codes "the step at place " ++ (decimal step ++ (codes " of the leaf at place " ++ (decimal leaf ++ codes " is not valid")))
 
 -- what is printed of a fault
 abbrev pub text_of : CertFault → List ℕ

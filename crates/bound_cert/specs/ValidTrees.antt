@@ -33,7 +33,9 @@ tree_case survey given usable row weight = record { survey = survey; given = giv
 
 -- no correction is lighter: each point at which the usable lines hold changes the record by the weight at least; without a weight, there is no such point
 abbrev pub NoneIsLighter : TreeCase → Type 0
-NoneIsLighter c = (p : Point) → HasCodesFrom 0 c.survey.fields p → AllHold (usable_lines c.given c.usable) p → IsSomeAnd c.weight (λ w. w ≤ change_weight c.survey c.row p)
+NoneIsLighter c = (p : Point)
+    → HasCodesFrom 0 c.survey.fields p → AllHold (usable_lines c.given c.usable) p
+    → IsSomeAnd c.weight (λ w. w ≤ change_weight c.survey c.row p)
 
 -- ---- valid trees
 
@@ -46,12 +48,16 @@ abbrev pub Refutes : Premises → Proved → Type 0
 Refutes p (proved.Line line) = (line.sets ≡ whole_sets p.shape) × (fails_at_kept p.row p.kept line ≡ true)
 Refutes p (proved.Box code_box) = code_box.sets ≡ whole_sets p.shape
 
+-- valid steps prove this last, and it leaves no point
+abbrev pub AreRefuting : Premises → List Step → Proved → Type 0
+AreRefuting p steps proved = AreValidSteps p steps proved × Refutes p proved
+
 -- a leaf is valid: its path is heavy enough, or keeps a field at which the record has no value, or valid steps refute it
 abbrev pub IsValidLeaf : TreeCase → List Bool → LeafWhy → Type 0
 IsValidLeaf c path why.Bound = IsSomeAnd c.weight (λ w. w ≤ path_weight c.survey.fields path)
 IsValidLeaf c path why.BadKept = keeps_bad c.survey.fields c.row path ≡ true
-IsValidLeaf c path (why.Line steps) = (line : LineParts) × AreValidSteps (premises_at c path) steps (proved.Line line) × Refutes (premises_at c path) (proved.Line line)
-IsValidLeaf c path (why.Box steps) = (code_box : BoxParts) × AreValidSteps (premises_at c path) steps (proved.Box code_box) × Refutes (premises_at c path) (proved.Box code_box)
+IsValidLeaf c path (why.Line steps) = (line : LineParts) × AreRefuting (premises_at c path) steps (proved.Line line)
+IsValidLeaf c path (why.Box steps) = (code_box : BoxParts) × AreRefuting (premises_at c path) steps (proved.Box code_box)
 
 -- the leaves are, in order, those of one full tree, none deeper than there are fields, and each is valid
 pub record IsValidTree (c : TreeCase) (leaves : List Leaf) : Type 0 where
@@ -83,7 +89,8 @@ IsFaultBehind c before [] place step = ⊥
 IsFaultBehind c before (leaf ∷ later) zero step =
     ((is_right c before leaf.path later ≡ false) × (step ≡ None))
     ⊎ ((is_right c before leaf.path later ≡ true) × ¬ IsValidLeaf c leaf.path leaf.why × (step ≡ invalid_step c leaf.path leaf.why))
-IsFaultBehind c before (leaf ∷ later) (suc place) step = (is_right c before leaf.path later ≡ true) × IsValidLeaf c leaf.path leaf.why × IsFaultBehind c (Some leaf.path) later place step
+IsFaultBehind c before (leaf ∷ later) (suc place) step =
+    (is_right c before leaf.path later ≡ true) × IsValidLeaf c leaf.path leaf.why × IsFaultBehind c (Some leaf.path) later place step
 
 -- the tree is at fault first at this leaf, and there at this step, if it is one; for no leaves, at leaf 0
 abbrev pub IsFirstFault : TreeCase → List Leaf → ℕ → Option ℕ → Type 0
@@ -102,3 +109,7 @@ steps_in (why.Box steps) = steps
 -- the place is that of a leaf, and the step, if one is named, one of that leaf
 abbrev pub IsNamedIn : List Leaf → ℕ → Option ℕ → Type 0
 IsNamedIn leaves place step = IsSomeAnd (slice_get leaves place) (λ leaf. IfSome step (λ s. s < length (steps_in leaf.why)))
+
+-- the place and the step are of these leaves; of no leaves the place is 0, and no step is named
+abbrev pub IsNamed : List Leaf → ℕ → Option ℕ → Type 0
+IsNamed leaves place step = ((leaves ≡ []) × (place ≡ 0) × (step ≡ None)) ⊎ IsNamedIn leaves place step

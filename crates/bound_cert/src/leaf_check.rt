@@ -1,13 +1,13 @@
 //! Whether a leaf is valid.
-ghost use Rattle.std.specs.Prelude.{◌≡◌, ◌<◌, ◌≤◌, ◌&&◌, ◌==◌, IfOk, IsSomeAnd, None, Some, drop, if◌then◌else◌, length, nat_le, option_map, true};
+ghost use Rattle.std.specs.Prelude.{◌≡◌, ◌<◌, ◌≤◌, ◌==◌, IfOk, IsSomeAnd, None, Some, drop, if◌then◌else◌, length, option_map, true};
 ghost use Rattle.std.specs.Bool.{Decides};
 ghost use Rattle.edit_line.specs.Shapes.{shape_of};
 ghost use Rattle.derivation.specs.Premises.{HasKept};
 ghost use Rattle.derivation.specs.declared.proved.Proved.{Proved};
 ghost use Rattle.bound_cert.specs.Paths.{path_weight};
-ghost use Rattle.bound_cert.specs.Trees.{all_changed, may_stand};
+ghost use Rattle.bound_cert.specs.Trees.{all_changed};
 ghost use Rattle.bound_cert.specs.ValidTrees.{Refutes};
-ghost use Rattle.bound_cert.specs.inner.Tasks.{IsTask, SaysOf, SaysOfPlace, case, premises_with};
+ghost use Rattle.bound_cert.specs.inner.Tasks.{IsTask, SaysOf, SaysOfPlace, case, premises_with, stands_right};
 ghost use Rattle.bound_cert.specs.declared.cert.LeafWhy.{LeafWhy};
 ghost use Rattle.bound_cert.specs.declared.verdict.Verdict.{Verdict};
 
@@ -44,7 +44,7 @@ pub(crate) fn verdict_at(
 
 // Whether the path stands right behind the one before, and, where it is the last, at the end.
 fn is_right(survey: &Survey, before: Option<&[bool]>, path: &[bool], last: bool) -> bool
-    ensures { result ≡ (may_stand (option_map (λ b. b.now) before.entry) path.now && ((if last then all_changed path.now else true) && nat_le (length path.now) (length survey.now.fields))) }
+    ensures { result ≡ stands_right (option_map (λ b. b.now) before.entry) path.now last (length survey.now.fields) }
 {
     may_stand(before, path) && (may_end(path, last) && path.len() <= survey.fields().len())
 }

@@ -1,11 +1,10 @@
 //! What a path says of a survey's fields and of a record.
 ghost use Rattle.std.specs.Prelude.{◌≡◌, ◌<◌, ◌≤◌, ◌&&◌, if◌then◌else◌, length, not};
 ghost use Rattle.edit_model.specs.Rows.{IsRow, is_bad, value_of};
-ghost use Rattle.edit_model.specs.FieldSets.{with_number};
 ghost use Rattle.edit_model.specs.Words.{weight_at};
 ghost use Rattle.derivation.specs.Premises.{HasKept};
 ghost use Rattle.bound_cert.specs.Paths.{keeps_bad, kept_set, path_weight};
-ghost use Rattle.bound_cert.specs.inner.Places.{field_at};
+ghost use Rattle.bound_cert.specs.inner.Places.{field_at, keeps_value, with_kept};
 
 use edit_model::{FieldSet, Row, Survey};
 
@@ -77,7 +76,7 @@ fn keeps_bad_at(survey: &Survey, row: &Row, place: usize, changed: bool) -> bool
 fn keeps_value_at(survey: &Survey, row: &Row, place: usize, changed: bool) -> bool
     requires short { place < length survey.now.fields }
     requires row { IsRow survey.now.fields row.now }
-    ensures { result ≡ (not changed && not (is_bad (value_of row.now (field_at survey.now.fields place)))) }
+    ensures { result ≡ keeps_value survey.now.fields row.now place changed }
 {
     !changed && !is_bad_at(survey, row, place)
 }
@@ -86,7 +85,7 @@ fn keeps_value_at(survey: &Survey, row: &Row, place: usize, changed: bool) -> bo
 fn with_kept(set: FieldSet, survey: &Survey, row: &Row, place: usize, changed: bool) -> FieldSet
     requires short { place < length survey.now.fields }
     requires row { IsRow survey.now.fields row.now }
-    ensures { result ≡ (if not changed && not (is_bad (value_of row.now (field_at survey.now.fields place))) then with_number set (field_at survey.now.fields place) else set) }
+    ensures { result ≡ with_kept set survey.now.fields row.now place changed }
 {
     let _fields = survey.fields(); // read for what it says: there are at most 64
     if keeps_value_at(survey, row, place, changed) {

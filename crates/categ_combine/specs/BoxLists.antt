@@ -1,4 +1,4 @@
-use Rattle.std.specs.Prelude.{◌≡◌, ◌<◌, ℕ, not, Bool, false, List, [], ◌∷◌, All, IsTrue, map}
+use Rattle.std.specs.Prelude.{◌≡◌, ◌<◌, ℕ, not, Bool, false, List, [], All, IsTrue, map}
 use Rattle.std.specs.List.{fold, list_any}
 use Rattle.edit_model.specs.Points.{Point}
 use Rattle.edit_line.specs.Sets.{are_subsets, are_codes_in}

@@ -1,11 +1,10 @@
 use Rattle.std.specs.Prelude.{ℕ, ◌+◌, ◌*◌, ◌&&◌, not, Bool, List, [], ◌∷◌, ◌++◌, if◌then◌else◌, length, map, nat_eq, slice_index_or, slice_set}
 use Rattle.std.specs.List.{filter, flat_map, fold}
-use Rattle.edit_model.specs.Points.{has_code}
 use Rattle.edit_line.specs.Boxes.{box_of}
 use Rattle.edit_line.specs.Sets.{none_is_empty}
 use Rattle.edit_line.specs.Shapes.{Domain, whole_sets}
 use Rattle.categ_combine.specs.BoxLists.{reduce_boxes, reduce_from}
-use Rattle.edit_line.specs.CodeFields.{codes_of, place_of, whole_of}
+use Rattle.edit_line.specs.CodeFields.{codes_of, has_code_at, place_of, whole_of}
 use Rattle.edit_line.specs.Combinations.{meets}
 use Rattle.categ_combine.specs.Each.{each_from}
 use Rattle.categ_combine.specs.declared.box_from.BoxFrom.{BoxFrom}
@@ -22,16 +21,23 @@ is_whole_at place whole box = nat_eq (slice_index_or box place 0) whole
 
 -- whether the box takes part for the code: it is not whole at the place, and has the code there
 abbrev pub takes_part : ℕ → ℕ → ℕ → List ℕ → Bool
-takes_part place whole code box = not (is_whole_at place whole box) && has_code (slice_index_or box place 0) code
+takes_part place whole code box = not (is_whole_at place whole box) && has_code_at place code box
+
+-- the boxes that take part for the code
+abbrev pub parts_for : ℕ → ℕ → ℕ → List (List ℕ) → List (List ℕ)
+parts_for place whole code boxes = filter (takes_part place whole code) boxes
+
+-- what a box has in common with each of these on the other fields, as far as no set of it is empty
+abbrev pub joined_with : ℕ → ℕ → List (List ℕ) → List ℕ → List (List ℕ)
+joined_with place whole boxes p = filter none_is_empty (map (λ b. meets_but place whole p b) boxes)
 
 -- the covers of the codes so far and of one more: their intersections with the boxes that have it, as far as they are not empty
 abbrev pub with_code : ℕ → ℕ → List (List ℕ) → List (List ℕ) → ℕ → List (List ℕ)
-with_code place whole boxes covers code =
-    reduce_boxes (flat_map (λ p. filter none_is_empty (map (λ b. meets_but place whole p b) (filter (takes_part place whole code) boxes))) covers)
+with_code place whole boxes covers code = reduce_boxes (flat_map (joined_with place whole (parts_for place whole code boxes)) covers)
 
 -- the covers of all codes: of no code yet there is the box of all codes
 abbrev pub covers_of : List Domain → List (List ℕ) → ℕ → List ℕ → List (List ℕ)
-covers_of shape boxes f codes = fold (λ covers code. with_code (place_of shape f) (whole_of shape f) boxes covers code) (whole_sets shape ∷ []) codes
+covers_of shape boxes f codes = fold (with_code (place_of shape f) (whole_of shape f) boxes) (whole_sets shape ∷ []) codes
 
 -- elimination of a categorical field: the boxes that are whole there, and the covers of the others (the edits that they imply, Fellegi and Holt 1976)
 abbrev pub covered : List Domain → List (List ℕ) → ℕ → List (List ℕ)
@@ -42,13 +48,13 @@ covered shape boxes f =
 abbrev pub code_pairs : ℕ → ℕ → List (List ℕ) → List (List ℕ) → List ℕ → ℕ
 code_pairs place whole boxes covers [] = 0
 code_pairs place whole boxes covers (code ∷ codes) =
-    length covers * length (filter (takes_part place whole code) boxes) + code_pairs place whole boxes (with_code place whole boxes covers code) codes
+    length covers * length (parts_for place whole code boxes) + code_pairs place whole boxes (with_code place whole boxes covers code) codes
 
 -- the pairs of the elimination of the field
 abbrev pub cover_count : List Domain → List (List ℕ) → ℕ → ℕ
 cover_count shape boxes f = code_pairs (place_of shape f) (whole_of shape f) boxes (whole_sets shape ∷ []) (codes_of shape f)
 
--- ---- the same of boxes with their origins
+-- ---- covers of boxes with their origins
 
 -- the box with these sets and this origin
 abbrev pub from_of : List Domain → List ℕ → BoxOrigin → BoxFrom
@@ -66,11 +72,15 @@ abbrev pub unchanged_one : ℕ → ℕ → ℕ → BoxFrom → List BoxFrom
 unchanged_one place whole i b =
     if is_whole_at place whole b.code_box.sets then from_of b.code_box.shape b.code_box.sets (Unchanged i) ∷ [] else []
 
+-- the cover with the box at a place as its next part, where these sets are what is left
+abbrev pub next_cover : BoxFrom → List ℕ → ℕ → BoxFrom
+next_cover p sets i = from_of p.code_box.shape sets (Cover (cover_parts p.origin ++ i ∷ []))
+
 -- the cover with the box at a place as its next part, where that leaves codes
 abbrev pub joined : ℕ → ℕ → BoxFrom → ℕ → BoxFrom → List BoxFrom
 joined place whole p i b =
     let sets = meets_but place whole p.code_box.sets b.code_box.sets in
-    if none_is_empty sets then from_of p.code_box.shape sets (Cover (cover_parts p.origin ++ i ∷ [])) ∷ [] else []
+    if none_is_empty sets then next_cover p sets i ∷ [] else []
 
 -- the cover with the box at a place, where that takes part for the code
 abbrev pub joined_for : ℕ → ℕ → ℕ → BoxFrom → ℕ → BoxFrom → List BoxFrom
@@ -90,7 +100,7 @@ first_cover shape = from_of shape (whole_sets shape) (Cover [])
 
 -- the covers of the codes
 abbrev pub covers_from : List Domain → List BoxFrom → ℕ → List ℕ → List BoxFrom
-covers_from shape boxes f codes = fold (λ covers code. with_code_from (place_of shape f) (whole_of shape f) boxes covers code) (first_cover shape ∷ []) codes
+covers_from shape boxes f codes = fold (with_code_from (place_of shape f) (whole_of shape f) boxes) (first_cover shape ∷ []) codes
 
 -- elimination of a categorical field, with origins
 abbrev pub covered_from : List Domain → List BoxFrom → ℕ → List BoxFrom

@@ -1,4 +1,4 @@
-use Rattle.std.specs.Prelude.{ℕ, suc, Bool, List, [], ◌∷◌, Result, Ok, Err, if◌then◌else◌}
+use Rattle.std.specs.Prelude.{ℕ, suc, Bool, List, [], ◌∷◌, Result, Ok, if◌then◌else◌}
 use Rattle.foundation.specs.Results.{◌>>=◌, fault_as}
 use Rattle.edit_model.specs.declared.value.Value.{Value}
 use Rattle.edit_line.specs.Lines.{LineParts}
@@ -29,7 +29,7 @@ boxes_from i (line ∷ lines) row kept = do
 abbrev pub failing_boxes : List LineParts → List Value → Result (List (List ℕ)) LineFault
 failing_boxes lines row = boxes_from 0 lines row []
 
--- ---- the same of boxes with their origins
+-- ---- failing boxes with their origins
 
 -- the kept boxes, with the sets of a line at a place where it fails
 abbrev pub taken : List BoxFrom → ℕ → LineParts → Bool → List BoxFrom

@@ -4,7 +4,7 @@ ghost use Rattle.std.specs.List.{fold};
 ghost use Rattle.edit_line.specs.Sets.{AreSets, none_is_empty};
 ghost use Rattle.edit_line.specs.Shapes.{domains, whole_sets};
 ghost use Rattle.categ_combine.specs.BoxLists.{AreBoxesOver, with_from};
-ghost use Rattle.categ_combine.specs.Covers.{from_of, joined_for, meets_but, cover_parts, row_of, takes_part, with_code_from};
+ghost use Rattle.categ_combine.specs.Covers.{cover_parts, joined_for, meets_but, next_cover, row_of, takes_part, with_code_from};
 
 use crate::box_from::{BoxFrom, BoxOrigin};
 use crate::code_field::set_at;
@@ -80,7 +80,8 @@ fn take_joined(
 ) -> Result<(), OutOfMemory>
     requires cover { cover.now.code_box.shape ≡ domains spot.now.shape }
     requires other { b.now.code_box.shape ≡ domains spot.now.shape }
-    ensures { OnOk result (next.new.items ≡ fold with_from next.old.items (joined_for spot.now.place spot.now.whole code cover.now place b.now)) }
+    ensures { OnOk result (next.new.items
+        ≡ fold with_from next.old.items (joined_for spot.now.place spot.now.whole code cover.now place b.now)) }
 {
     if !takes_part(b, spot, code) {
         return Ok(());
@@ -121,7 +122,7 @@ fn take_sets(
     place: u64,
 ) -> Result<(), OutOfMemory>
     requires { AreSets sets.now (whole_sets cover.now.code_box.shape) }
-    ensures { OnOk result (next.new.items ≡ with_from next.old.items (from_of cover.now.code_box.shape sets.now (BoxOrigin.Cover (cover_parts cover.now.origin ++ place ∷ [])))) }
+    ensures { OnOk result (next.new.items ≡ with_from next.old.items (next_cover cover.now sets.now place)) }
 {
     if lie_inside(sets, next) {
         return Ok(());

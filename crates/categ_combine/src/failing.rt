@@ -6,7 +6,7 @@ ghost use Rattle.edit_line.specs.Reductions.{lines_of};
 ghost use Rattle.edit_line.specs.Shapes.{shape_of};
 ghost use Rattle.edit_line.specs.Sums.{AgreesWith};
 ghost use Rattle.categ_combine.specs.BoxLists.{AreBoxesOver, Avoids, sets_of};
-ghost use Rattle.categ_combine.specs.FailingBoxes.{failing_boxes, failing_from, taken};
+ghost use Rattle.categ_combine.specs.FailingBoxes.{failing_boxes, failing_from, line_fault, taken};
 ghost use Rattle.categ_combine.specs.Origins.{ComesFromLine};
 ghost use Rattle.categ_combine.specs.declared.fault.BoxFault.TheVariants.{Overflow};
 
@@ -34,8 +34,10 @@ pub fn boxes_of(
     ensures exact { IfOk result (λ boxes. failing_from 0 lines.now row.now [] ≡ Ok boxes.items) }
     ensures over { IfOk result (λ boxes. AreBoxesOver (shape_of survey.now.fields) boxes.items) }
     ensures sets { IfOk result (λ boxes. failing_boxes (lines_of lines.now) row.now ≡ Ok (sets_of boxes.items)) }
-    ensures overflow { (line field : ℕ) → result ≡ Err (Overflow line field) → failing_from 0 lines.now row.now [] ≡ Err (record { line = line; field = field }) }
-    ensures overflow_sets { (line field : ℕ) → result ≡ Err (Overflow line field) → failing_boxes (lines_of lines.now) row.now ≡ Err (record { line = line; field = field }) }
+    ensures overflow { (line field : ℕ) → result ≡ Err (Overflow line field)
+        → failing_from 0 lines.now row.now [] ≡ Err (line_fault line field) }
+    ensures overflow_sets { (line field : ℕ) → result ≡ Err (Overflow line field)
+        → failing_boxes (lines_of lines.now) row.now ≡ Err (line_fault line field) }
     ensures origins { IfOk result (λ boxes. All (λ b. ComesFromLine lines.now row.now b.code_box b.origin) boxes.items) }
     ensures forbid { IfOk result (λ boxes. (p : Point)
         → All (λ derived. AgreesWith row.now p derived.line) lines.now

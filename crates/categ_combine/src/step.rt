@@ -1,4 +1,4 @@
-ghost use Rattle.std.specs.Prelude.{◌≡◌, ◌<◌, ◌≤◌, ◌*◌, ◌↔◌, [], ◌∷◌, ◌++◌, All, IfNone, IfOk, IfSome, List, OnOk, length, ℕ};
+ghost use Rattle.std.specs.Prelude.{◌≡◌, ◌<◌, ◌≤◌, ◌*◌, ◌↔◌, [], ◌∷◌, All, IfNone, IfOk, IfSome, List, OnOk, length, ℕ};
 ghost use Rattle.std.specs.List.{filter, fold};
 ghost use Rattle.edit_model.specs.Points.{Point};
 ghost use Rattle.edit_line.specs.Boxes.{IsBox};
@@ -108,7 +108,7 @@ fn covers_of(
 ) -> Result<Option<Covers>, OutOfMemory>
     requires { AreBoxesOver (domains spot.now.shape) boxes.now }
     ensures covers { IfOk result (λ found. IfSome found (λ covers. covers.boxes.items
-        ≡ fold (λ covers code. with_code_from spot.now.place spot.now.whole boxes.now covers code) (first_cover (domains spot.now.shape) ∷ []) (codes_up 0 size))) }
+        ≡ fold (with_code_from spot.now.place spot.now.whole boxes.now) (first_cover (domains spot.now.shape) ∷ []) (codes_up 0 size))) }
     ensures pairs { IfOk result (λ found. IfSome found (λ covers. (covers.pairs ≤ most) × (covers.pairs
         ≡ code_pairs spot.now.place spot.now.whole (sets_of boxes.now) (whole_sets (domains spot.now.shape) ∷ []) (codes_up 0 size)))) }
     ensures passed { IfOk result (λ found. IfNone found (most

@@ -1,4 +1,4 @@
-use Rattle.std.specs.Prelude.{◌≡◌, ℕ, suc, ℤ, ◌==◌, ◌&&◌, Bool, false, List, [], ◌∷◌, ◌++◌, Option, Some, None, Result, Ok, Err, length, if◌then◌else◌, slice_get, slice_index_or, slice_set}
+use Rattle.std.specs.Prelude.{◌≡◌, ℕ, suc, ℤ, ◌==◌, ◌&&◌, Bool, false, List, [], ◌∷◌, ◌++◌, Option, Some, None, Result, Ok, Err, length, if◌then◌else◌, slice_get, slice_index_or}
 use Rattle.std.specs.Option.{ok_or}
 use Rattle.foundation.specs.Results.{◌>>=◌}
 use Rattle.foundation.specs.Options.{◌>>?◌}
@@ -8,7 +8,7 @@ use Rattle.edit_model.specs.declared.value.Value.{Value}
 use Rattle.edit_model.specs.declared.value.Value.TheVariants.{Bad, Code, Number}
 use Rattle.edit_model.specs.Points.{has_code}
 use Rattle.edit_line.specs.Boxes.{box_of}
-use Rattle.edit_line.specs.CodeFields.{place_of, size_of, whole_of}
+use Rattle.edit_line.specs.CodeFields.{has_code_at, place_of, size_of, whole_at}
 use Rattle.edit_line.specs.Combinations.{may_combine, meets, sum_of}
 use Rattle.edit_line.specs.Divisors.{divided_by}
 use Rattle.edit_line.specs.Lines.{LineParts}
@@ -72,11 +72,11 @@ failed_box p line = only_if (fails_at_kept p.row p.kept line) (proved.Box (box_o
 
 -- the box of these sets, made whole at the field
 abbrev pub whole_box : List Domain → ℕ → List ℕ → Proved
-whole_box shape field sets = proved.Box (box_of shape (slice_set sets (place_of shape field) (whole_of shape field)))
+whole_box shape field sets = proved.Box (box_of shape (whole_at shape field sets))
 
 -- the box that was proved at a place, if it has the code at the field
 abbrev pub part_with : List Proved → ℕ → ℕ → ℕ → Option (List ℕ)
-part_with earlier at code part = as_box (slice_get earlier part) >>? (λ sets. only_if (has_code (slice_index_or sets at 0) code) sets)
+part_with earlier at code part = as_box (slice_get earlier part) >>? (λ sets. only_if (has_code_at at code sets) sets)
 
 -- what the boxes of these parts, one for each code from this one on, have in common with the sets so far
 abbrev pub common_from : List Proved → ℕ → ℕ → List ℕ → List ℕ → Option (List ℕ)
@@ -86,7 +86,7 @@ common_from earlier at code (part ∷ parts) common =
 
 -- the box of these sets, made whole at the field, if no set of it is empty
 abbrev pub covered_sets : List Domain → ℕ → List ℕ → Option Proved
-covered_sets shape field common = only_if (none_is_empty (slice_set common (place_of shape field) (whole_of shape field))) (whole_box shape field common)
+covered_sets shape field common = only_if (none_is_empty (whole_at shape field common)) (whole_box shape field common)
 
 -- the box of what the parts have in common on the other fields, whole at the field: with each code there, the codes are in a part. There is one part for each code of the field, in declared order
 abbrev pub covered_box : Premises → List Proved → ℕ → List ℕ → Option Proved

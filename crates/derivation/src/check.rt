@@ -4,7 +4,7 @@ ghost use Rattle.edit_line.specs.Lines.{AreOver};
 ghost use Rattle.edit_line.specs.Shapes.{shape_of};
 ghost use Rattle.derivation.specs.inner.Bases.{IsBasis, premises};
 ghost use Rattle.derivation.specs.inner.Meanings.{AllOver, meaning, meant};
-ghost use Rattle.derivation.specs.Premises.{HasKept, premises_of};
+ghost use Rattle.derivation.specs.Premises.{HasKept, premises_over};
 ghost use Rattle.derivation.specs.Shown.{IsOver, IsShown};
 ghost use Rattle.derivation.specs.ValidSteps.{AreValidSteps, IsFirstInvalid, last_proved, proved_by, proved_from};
 
@@ -42,10 +42,11 @@ pub fn check_steps(
     requires over { AreOver (shape_of survey.now.fields) given.now }
     requires row { IsRow survey.now.fields row.now }
     requires kept { HasKept row.now kept }
-    ensures proved { IfOk result (λ proved. AreValidSteps (premises_of (shape_of survey.now.fields) given.now usable.now row.now kept) steps.now proved) }
-    ensures bad { (place : ℕ) → result ≡ Err (StepsFault.Bad place) → IsFirstInvalid (premises_of (shape_of survey.now.fields) given.now usable.now row.now kept) steps.now place }
+    ensures proved { IfOk result (λ proved. AreValidSteps (premises_over survey.now given.now usable.now row.now kept) steps.now proved) }
+    ensures bad { (place : ℕ) → result ≡ Err (StepsFault.Bad place)
+        → IsFirstInvalid (premises_over survey.now given.now usable.now row.now kept) steps.now place }
     ensures named { (place : ℕ) → result ≡ Err (StepsFault.Bad place) → ((steps.now ≡ []) × (place ≡ 0)) ⊎ (place < length steps.now) }
-    ensures shown { IfOk result (λ proved. IsShown (premises_of (shape_of survey.now.fields) given.now usable.now row.now kept) proved) }
+    ensures shown { IfOk result (λ proved. IsShown (premises_over survey.now given.now usable.now row.now kept) proved) }
     ensures over { IfOk result (λ proved. IsOver (shape_of survey.now.fields) proved) }
 {
     let basis = Basis {

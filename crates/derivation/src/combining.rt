@@ -36,7 +36,8 @@ pub(crate) fn combined<'a>(
     by: Multipliers,
 ) -> Result<Option<Known<'a>>, OutOfMemory>
     requires { AllOver (shape_of basis.now.survey.now.fields) known.now }
-    ensures { IfOk result (λ made. meant made ≡ proved_by (premises basis.now) (map meaning known.now) (Step.Combine a by.first b by.second by.divisor)) }
+    ensures { IfOk result (λ made. meant made
+        ≡ proved_by (premises basis.now) (map meaning known.now) (Step.Combine a by.first b by.second by.divisor)) }
 {
     let Some(s) = line_at(known, a) else {
         return Ok(None);

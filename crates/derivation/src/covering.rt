@@ -71,8 +71,10 @@ fn common_sets(
     requires basis { IsBasis basis.now }
     requires over { AllOver (shape_of basis.now.survey.now.fields) known.now }
     requires few { length parts.now ≤ 64 }
-    ensures common { IfOk result (λ found. option_map (λ v. v.items) found ≡ common_from (map meaning known.now) place 0 parts.now (whole_sets (shape_of basis.now.survey.now.fields))) }
-    ensures within { IfOk result (λ found. IfSome found (λ sets. AreWithin sets.items (whole_sets (shape_of basis.now.survey.now.fields)))) }
+    ensures common { IfOk result (λ found. option_map (λ v. v.items) found
+        ≡ common_from (map meaning known.now) place 0 parts.now (whole_sets (shape_of basis.now.survey.now.fields))) }
+    ensures within { IfOk result (λ found. IfSome found (λ sets.
+        AreWithin sets.items (whole_sets (shape_of basis.now.survey.now.fields)))) }
 {
     let mut common = Shape::of(basis.survey).whole_sets(alloc)?;
     for (code, part) in parts.iter().enumerate() {

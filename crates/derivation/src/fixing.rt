@@ -58,7 +58,8 @@ fn fixed_at<'a>(
     requires basis { IsBasis basis.now }
     requires over { code_box.now.shape ≡ shape_of basis.now.survey.now.fields }
     requires place { place_there (code_fields (shape_of basis.now.survey.now.fields)) field ≡ Some place }
-    ensures { IfOk result (λ made. meant made ≡ fixed_sets (shape_of basis.now.survey.now.fields) field (value_of basis.now.row.now field) code_box.now.sets) }
+    ensures { IfOk result (λ made. meant made
+        ≡ fixed_sets (shape_of basis.now.survey.now.fields) field (value_of basis.now.row.now field) code_box.now.sets) }
 {
     let _fields = basis.survey.fields(); // read for what it says: a record has a value for each
     if !has_value(code_box.sets()[place], basis.row.value(field)) {

@@ -1,5 +1,5 @@
-use Rattle.std.specs.Prelude.{ℕ, zero, suc, ◌<◌, ◌==◌, List, [], ◌∷◌, if◌then◌else◌, map, slice_index_or}
-use Rattle.edit_model.specs.Points.{Point}
+use Rattle.std.specs.Prelude.{ℕ, zero, suc, ◌<◌, ◌==◌, Bool, List, [], ◌∷◌, if◌then◌else◌, map, slice_index_or, slice_set}
+use Rattle.edit_model.specs.Points.{Point, has_code}
 use Rattle.edit_model.specs.RowPoints.{code_in}
 use Rattle.edit_model.specs.Rows.{value_of}
 use Rattle.edit_model.specs.declared.value.Value.{Value}
@@ -35,6 +35,14 @@ place_of shape f = place_in (code_fields shape) f
 -- the set of all codes of the field
 abbrev pub whole_of : List Domain → ℕ → ℕ
 whole_of shape f = slice_index_or (whole_sets shape) (place_of shape f) 0
+
+-- the sets, made whole at the field
+abbrev pub whole_at : List Domain → ℕ → List ℕ → List ℕ
+whole_at shape f sets = slice_set sets (place_of shape f) (whole_of shape f)
+
+-- whether the set at a place has the code
+abbrev pub has_code_at : ℕ → ℕ → List ℕ → Bool
+has_code_at place code sets = has_code (slice_index_or sets place 0) code
 
 -- the point with this code at the field
 abbrev pub with_code_at : Point → ℕ → ℕ → Point

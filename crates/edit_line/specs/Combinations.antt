@@ -22,7 +22,8 @@ combined m n first [] = map (λ a. m *ℤ a) first
 
 -- m times s and n times t, where both sets meet, and strict where one is
 abbrev pub sum_of : ℤ → ℤ → LineParts → LineParts → LineParts
-sum_of m n s t = parts_of s.shape (meets s.sets t.sets) (combined m n s.factors t.factors) (m *ℤ s.constant +ℤ n *ℤ t.constant) (s.strict || t.strict)
+sum_of m n s t =
+    parts_of s.shape (meets s.sets t.sets) (combined m n s.factors t.factors) (m *ℤ s.constant +ℤ n *ℤ t.constant) (s.strict || t.strict)
 
 -- the line is m times s and n times t, divided by g
 pub record IsCombined (m n g : ℤ) (s t line : LineParts) : Type 0 where
@@ -70,7 +71,12 @@ unless_overflow (Some place) value = Err place
 abbrev pub divides : ℤ → LineParts → Bool
 divides g line = list_all (λ z. int_eq (int_rem z g) (pos 0)) (numbers line)
 
--- whether m times s and n times t, divided by g, may be taken: m, n and g are above 0, the lines have codes of each field in common, no product and no sum leaves the range, and g divides all numbers
+-- whether m times s and n times t have codes of each field in common, no product and no sum leaves the range, and g divides all numbers
+abbrev pub may_sum : ℤ → ℤ → ℤ → LineParts → LineParts → Bool
+may_sum m n g s t =
+    all_meet s.sets t.sets && (is_none (first_overflow 0 m n (numbers s) (numbers t)) && divides g (sum_of m n s t))
+
+-- whether m times s and n times t, divided by g, may be taken: m, n and g are above 0, and the sum may be
 abbrev pub may_combine : ℤ → ℤ → ℤ → LineParts → LineParts → Bool
 may_combine m n g s t =
-    int_lt (pos 0) m && (int_lt (pos 0) n && (int_lt (pos 0) g && (all_meet s.sets t.sets && (is_none (first_overflow 0 m n (numbers s) (numbers t)) && divides g (sum_of m n s t)))))
+    int_lt (pos 0) m && (int_lt (pos 0) n && (int_lt (pos 0) g && may_sum m n g s t))

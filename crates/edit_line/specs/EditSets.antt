@@ -20,6 +20,10 @@ pub record AreEdits (shape : List Domain) (lines : List (ℕ × LineParts)) : Ty
 abbrev pub edits_of : List Domain → List (ℕ × LineParts) → EditsParts
 edits_of shape lines = record { shape = shape; lines = lines }
 
+-- the edits as lines, without their numbers
+abbrev pub lines_without : List (ℕ × LineParts) → List LineParts
+lines_without edits = map (λ (e : ℕ × LineParts). e.1) edits
+
 -- the numbered edits as lines with their origins
 abbrev pub base_lines : List (ℕ × LineParts) → List Derived
 base_lines edits = map (λ (e : ℕ × LineParts). record { line = e.1; origin = Base e.0 }) edits

@@ -20,9 +20,13 @@ same_shape first second = pointwise same_domain first second
 abbrev pub same_strict : Bool → Bool → Bool
 same_strict first second = if first then second else not second
 
+-- whether two lines ask for the same linear part
+abbrev pub same_linear : LineParts → LineParts → Bool
+same_linear a b = same_all a.factors b.factors && (int_eq a.constant b.constant && same_strict a.strict b.strict)
+
 -- whether two lines are equal
 abbrev pub same_line : LineParts → LineParts → Bool
-same_line a b = same_shape a.shape b.shape && (pointwise nat_eq a.sets b.sets && (same_all a.factors b.factors && (int_eq a.constant b.constant && same_strict a.strict b.strict)))
+same_line a b = same_shape a.shape b.shape && (pointwise nat_eq a.sets b.sets && same_linear a b)
 
 -- whether two numbered lines are equal
 abbrev pub same_numbered : (ℕ × LineParts) → (ℕ × LineParts) → Bool

@@ -1,4 +1,4 @@
-use Rattle.std.specs.Prelude.{◌≢◌, ℕ, ℤ, ◌&&◌, ◌||◌, not, Bool, true, List, ◌∷◌, Option, Some, None, Result, Ok, Err, pos, if◌then◌else◌}
+use Rattle.std.specs.Prelude.{◌≢◌, ℕ, ℤ, ◌&&◌, ◌||◌, not, Bool, true, List, ◌∷◌, Option, Some, Result, Ok, Err, pos, if◌then◌else◌}
 use Rattle.std.specs.Ordering.{int_eq}
 use Rattle.std.specs.Option.{ok_or}
 use Rattle.foundation.specs.Results.{◌>>=◌}

@@ -1,11 +1,11 @@
 //! Sets of codes, as bits: a set for each categorical field, in declared order.
-ghost use Rattle.std.specs.Prelude.{◌≡◌, ◌≤◌, ◌++◌, [], ◌∷◌, false, List, ℕ, IfNone, IfOk, IfSome, drop, length, nat_eq};
-ghost use Rattle.std.specs.Cmp.Lexicographic.{pointwise};
+ghost use Rattle.std.specs.Prelude.{◌≡◌, ◌≤◌, IfNone, IfOk, IfSome, length};
+ghost use Rattle.edit_line.specs.inner.WholePlaces.{IsNotWhole, IsWholeUpTo};
 ghost use Rattle.edit_model.specs.Points.{has_code};
 ghost use Rattle.edit_line.specs.Boxes.{are_whole};
 ghost use Rattle.edit_line.specs.Combinations.{all_meet, meets};
 ghost use Rattle.edit_line.specs.Sets.{are_subsets, none_is_empty};
-ghost use Rattle.edit_line.specs.Shapes.{domain_with, domains, whole_sets};
+ghost use Rattle.edit_line.specs.Shapes.{domains};
 
 use crate::shape::{Shape, whole_set};
 use foundation::OutOfMemory;
@@ -90,8 +90,8 @@ pub(crate) fn are_whole(shape: Shape, sets: &[u64]) -> bool
 // The place behind the set of so many codes, where that is whole. Where there are no codes there is no set.
 fn behind_whole(sets: &[u64], place: usize, count: u8) -> Option<usize>
     requires { count ≤ 64 }
-    ensures some { IfSome result (λ next. (rest : List ℕ) → pointwise nat_eq (drop place sets.now) (whole_sets (domain_with count ∷ []) ++ rest) ≡ pointwise nat_eq (drop next sets.now) rest) }
-    ensures none { IfNone result ((rest : List ℕ) → pointwise nat_eq (drop place sets.now) (whole_sets (domain_with count ∷ []) ++ rest) ≡ false) }
+    ensures some { IfSome result (λ next. IsWholeUpTo sets.now place count next) }
+    ensures none { IfNone result (IsNotWhole sets.now place count) }
 {
     if count == 0 {
         return Some(place);

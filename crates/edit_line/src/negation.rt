@@ -1,5 +1,6 @@
 //! The negation of a line, as lines.
-ghost use Rattle.std.specs.Prelude.{◌≡◌, ◌<◌, ◌↔◌, ◌++◌, ◌∷◌, [], ◌==◌, All, IfOk, OnOk, bit_xor, if◌then◌else◌, length, map, neg_ℤ, slice_index_or, slice_set};
+ghost use Rattle.std.specs.Prelude.{◌≡◌, ◌<◌, ◌↔◌, ◌++◌, All, IfOk, OnOk, length, map, neg_ℤ, slice_index_or};
+ghost use Rattle.edit_line.specs.inner.OutsideLines.{outside_line};
 ghost use Rattle.fraction128.specs.Range.{InRange};
 ghost use Rattle.edit_model.specs.Points.{Point};
 ghost use Rattle.edit_line.specs.Lines.{AllHold, IsLine, LineHolds};
@@ -83,7 +84,8 @@ fn push_never(
     requires wholes { wholes.now ≡ whole_sets line.now.shape }
     requires place { place < length line.now.sets }
     requires set { set ≡ slice_index_or line.now.sets place 0 }
-    ensures { OnOk result (negation.new.items ≡ negation.old.items ++ (if set == slice_index_or wholes.now place 0 then [] else never line.now.shape (slice_set (whole_sets line.now.shape) place (bit_xor (slice_index_or wholes.now place 0) set)) ∷ [])) }
+    ensures { OnOk result (negation.new.items
+        ≡ negation.old.items ++ outside_line line.now.shape place set (slice_index_or wholes.now place 0)) }
 {
     let _fit = line.sets(); // read for what it says
     let whole = wholes[place];

@@ -1,5 +1,3 @@
-pub mod Bounds
-pub mod Changes
 pub mod CleanRecords
 pub mod Corrections
 pub mod Faults

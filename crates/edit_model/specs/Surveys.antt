@@ -6,6 +6,7 @@ use Rattle.edit_model.specs.declared.field.Field.{Field}
 use Rattle.edit_model.specs.declared.field.Kind.{Kind}
 use Rattle.edit_model.specs.declared.field.Kind.TheVariants as kind
 use Rattle.edit_model.specs.declared.rule.Compare.TheVariants.{Eq}
+use Rattle.edit_model.specs.declared.rule.Linear.{Linear}
 use Rattle.edit_model.specs.declared.rule.Rule.{Rule}
 use Rattle.edit_model.specs.declared.rule.Term.{Term}
 use Rattle.edit_model.specs.declared.rule.Test.{Test}
@@ -26,7 +27,8 @@ is_name (b ∷ bs) = is_letter b && list_all (λ c. is_letter c || (is_digit c |
 
 -- the words of the rule language, which name no field
 abbrev pub reserved_words : List (List ℕ)
-reserved_words = codes "number" ∷ codes "code" ∷ codes "weight" ∷ codes "scale" ∷ codes "in" ∷ codes "not" ∷ codes "if" ∷ codes "and" ∷ codes "then" ∷ []
+reserved_words =
+    codes "number" ∷ codes "code" ∷ codes "weight" ∷ codes "scale" ∷ codes "in" ∷ codes "not" ∷ codes "if" ∷ codes "and" ∷ codes "then" ∷ []
 
 -- 1 to 32 bytes in the form of a name, and no word of the rule language
 pub record IsName (name : List ℕ) : Type 0 where
@@ -38,10 +40,18 @@ pub record IsName (name : List ℕ) : Type 0 where
 abbrev pub is_code : List ℕ → Bool
 is_code bs = list_all (λ c. is_letter c || (is_digit c || ((c == 95) || ((c == 45) || (c == 46))))) bs
 
--- a scale within its limits, or 1 to 64 distinct codes of 1 to 32 bytes
+-- 1 to 32 bytes in the form of a code
+abbrev pub IsCode : List ℕ → Type 0
+IsCode bs = IsTrue (is_code bs) × (1 ≤ length bs) × (length bs ≤ 32)
+
+-- 1 to 64 codes, no two of them equal
+abbrev pub AreCodes : List (List ℕ) → Type 0
+AreCodes codes = (1 ≤ length codes) × (length codes ≤ 64) × All IsCode codes × AllPairs (λ a b. a ≢ b) codes
+
+-- a scale within its limits, or codes
 abbrev pub IsKind : Kind → Type 0
 IsKind (kind.Number scale) = (1 ≤ scale) × (scale ≤ 10 ^ 12)
-IsKind (kind.Code codes) = (1 ≤ length codes) × (length codes ≤ 64) × All (λ c. IsTrue (is_code c) × (1 ≤ length c) × (length c ≤ 32)) codes × AllPairs (λ a b. a ≢ b) codes
+IsKind (kind.Code codes) = AreCodes codes
 
 -- a name, a weight and a kind within the limits
 pub record IsField (f : Field) : Type 0 where
@@ -64,9 +74,14 @@ pub record IsTerm (fields : List Field) (t : Term) : Type 0 where
   pub numerical : IsSomeAnd (slice_get fields t.field) (λ f. IsNumber f.kind)
   pub factor : (t.factor ≢ pos 0) × (unsigned_abs t.factor ≤ 10 ^ 9)
 
--- a linear test in rising field order, or a test on a field's own codes
+-- terms in rising field order and a constant, all within their limits
+abbrev pub IsLinear : List Field → Linear → Type 0
+IsLinear fields l =
+    IsStrictlyIncreasing (map (λ (t : Term). t.field) l.terms) × All (IsTerm fields) l.terms × (unsigned_abs l.constant ≤ 10 ^ 15)
+
+-- a linear test, or a test on a field's own codes
 abbrev pub IsTest : List Field → Test → Type 0
-IsTest fields (Number l) = IsStrictlyIncreasing (map (λ (t : Term). t.field) l.terms) × All (IsTerm fields) l.terms × (unsigned_abs l.constant ≤ 10 ^ 15)
+IsTest fields (Number l) = IsLinear fields l
 IsTest fields (Codes field negated set) = IsSomeAnd (slice_get fields field) (λ f. IsSetOf f.kind set)
 
 -- a test on codes

@@ -37,9 +37,10 @@ term_factor (term ∷ terms) f = if term.field == f then term.factor else term_f
 abbrev pub line_of : List Domain → List ℕ → Linear → Bool → LineParts
 line_of shape sets e strict = reduced (parts_of shape sets (map (term_factor e.terms) (number_fields shape)) e.constant strict)
 
--- the same of the negative of the sum
+-- the line that says that the negative of the sum is at least 0, or above it, where the codes are in the sets
 abbrev pub negative_line_of : List Domain → List ℕ → Linear → Bool → LineParts
-negative_line_of shape sets e strict = reduced (parts_of shape sets (map (λ f. neg_ℤ (term_factor e.terms f)) (number_fields shape)) (neg_ℤ e.constant) strict)
+negative_line_of shape sets e strict =
+    reduced (parts_of shape sets (map (λ f. neg_ℤ (term_factor e.terms f)) (number_fields shape)) (neg_ℤ e.constant) strict)
 
 -- the lines that say that the sum compares with 0 so, where the codes are in the sets
 abbrev pub compare_lines : List Domain → List ℕ → Linear → Compare → List LineParts
@@ -57,22 +58,35 @@ contrary_lines shape sets e Le = line_of shape sets e true ∷ []
 contrary_lines shape sets e Lt = line_of shape sets e false ∷ []
 contrary_lines shape sets e Eq = []
 
+-- the lines that say that a linear test is true, where the codes are in the sets
+abbrev pub lines_for : List Domain → List ℕ → Linear → List LineParts
+lines_for shape sets e = compare_lines shape sets e e.compare
+
+-- the lines that say that it is not
+abbrev pub lines_against : List Domain → List ℕ → Linear → List LineParts
+lines_against shape sets e = contrary_lines shape sets e e.compare
+
 -- the lines of a conclusion, where the codes are in the sets
 abbrev pub conclusion_lines : List Domain → List ℕ → Test → List LineParts
-conclusion_lines shape sets (Number e) = compare_lines shape sets e e.compare
+conclusion_lines shape sets (Number e) = lines_for shape sets e
 conclusion_lines shape sets (Codes field negated codes) = never shape (narrowed shape sets field (not negated) codes) ∷ []
 
 -- the lines of a comparison as the last condition: where the conclusion fails, so must it
 abbrev pub condition_lines : List Domain → List ℕ → Linear → Test → List LineParts
-condition_lines shape sets e (Codes field negated codes) = contrary_lines shape (narrowed shape sets field (not negated) codes) e e.compare
+condition_lines shape sets e (Codes field negated codes) = lines_against shape (narrowed shape sets field (not negated) codes) e
 condition_lines shape sets e (Number c) = []
 
 -- IF the conditions that are left THEN the conclusion, where the codes are in the sets
 abbrev pub implied_lines : List Domain → List ℕ → List Test → Test → List LineParts
 implied_lines shape sets [] conclusion = conclusion_lines shape sets conclusion
-implied_lines shape sets (Codes field negated codes ∷ conditions) conclusion = implied_lines shape (narrowed shape sets field negated codes) conditions conclusion
+implied_lines shape sets (Codes field negated codes ∷ conditions) conclusion =
+    implied_lines shape (narrowed shape sets field negated codes) conditions conclusion
 implied_lines shape sets (Number e ∷ conditions) conclusion = condition_lines shape sets e conclusion
+
+-- the lines of a rule, those with an empty set too
+abbrev pub all_lines_of : List Domain → Rule → List LineParts
+all_lines_of shape rule = implied_lines shape (whole_sets shape) rule.conditions rule.conclusion
 
 -- the normal form of a rule: its lines, but for those with an empty set (Fellegi and Holt 1976, for code tests)
 abbrev pub rule_lines_of : List Domain → Rule → List LineParts
-rule_lines_of shape rule = filter (λ line. none_is_empty line.sets) (implied_lines shape (whole_sets shape) rule.conditions rule.conclusion)
+rule_lines_of shape rule = filter (λ line. none_is_empty line.sets) (all_lines_of shape rule)

@@ -3,7 +3,7 @@ ghost use Rattle.std.specs.Prelude.{◌≡◌, [], ◌∷◌, All, OnOk};
 ghost use Rattle.edit_line.specs.Negations.{never};
 ghost use Rattle.edit_line.specs.Sets.{AreWithin, none_is_empty};
 ghost use Rattle.edit_line.specs.Shapes.{whole_sets};
-ghost use Rattle.edit_normal.specs.NormalForm.{compare_lines, condition_lines, conclusion_lines, contrary_lines, implied_lines};
+ghost use Rattle.edit_normal.specs.NormalForm.{all_lines_of, conclusion_lines, condition_lines, lines_against, lines_for};
 ghost use Rattle.edit_normal.specs.inner.Sides.{joined_by, side_line};
 ghost use Rattle.edit_normal.specs.inner.Fits.{FitsCodes};
 
@@ -26,7 +26,7 @@ pub(crate) fn push_rule(
 ) -> Result<(), OutOfMemory>
     requires conditions { All (FitsCodes layout.now) rule.now.conditions }
     requires conclusion { FitsCodes layout.now rule.now.conclusion }
-    ensures { OnOk result (lines.new.items ≡ joined_by lines.old.items number (implied_lines layout.now (whole_sets layout.now) rule.now.conditions rule.now.conclusion)) }
+    ensures { OnOk result (lines.new.items ≡ joined_by lines.old.items number (all_lines_of layout.now rule.now)) }
 {
     let mut sets = Vec::from_slice(alloc, layout.wholes())?;
     for condition in rule.conditions.as_slice() {
@@ -82,7 +82,8 @@ fn push_condition(
 ) -> Result<(), OutOfMemory>
     requires within { AreWithin sets.items (whole_sets layout.now) }
     requires fits { FitsCodes layout.now conclusion.now }
-    ensures { OnOk result (lines.new.items ≡ joined_by lines.old.items rule (condition_lines layout.now sets.items linear.now conclusion.now)) }
+    ensures { OnOk result (lines.new.items
+        ≡ joined_by lines.old.items rule (condition_lines layout.now sets.items linear.now conclusion.now)) }
 {
     match conclusion {
         Test::Number(_) => Ok(()),
@@ -107,7 +108,7 @@ fn push_compare(
     lines: &mut Vec<RuleLine>,
 ) -> Result<(), OutOfMemory>
     requires { AreWithin sets.now (whole_sets layout.now) }
-    ensures { OnOk result (lines.new.items ≡ joined_by lines.old.items rule (compare_lines layout.now sets.now linear.now linear.now.compare)) }
+    ensures { OnOk result (lines.new.items ≡ joined_by lines.old.items rule (lines_for layout.now sets.now linear.now)) }
 {
     match linear.compare {
         Compare::Ge => push_side(alloc, layout, sets, linear, Side::AtLeast, rule, lines),
@@ -131,7 +132,7 @@ fn push_contrary(
     lines: &mut Vec<RuleLine>,
 ) -> Result<(), OutOfMemory>
     requires { AreWithin sets.now (whole_sets layout.now) }
-    ensures { OnOk result (lines.new.items ≡ joined_by lines.old.items rule (contrary_lines layout.now sets.now linear.now linear.now.compare)) }
+    ensures { OnOk result (lines.new.items ≡ joined_by lines.old.items rule (lines_against layout.now sets.now linear.now)) }
 {
     match linear.compare {
         Compare::Ge => push_side(alloc, layout, sets, linear, Side::Below, rule, lines),

@@ -18,7 +18,8 @@ pub record IsTakenSum (m n g : ℤ) (s t line : LineParts) : Type 0 where
 abbrev pub ComesFrom : List Derived → LineParts → Origin → Type 0
 ComesFrom lines line (Base number) = ⊥
 ComesFrom lines line (Same i) = IsSomeAnd (slice_get lines i) (λ (s : Derived). line ≡ s.line)
-ComesFrom lines line (Pair i m j n g) = IsSomeAnd (slice_get lines i) (λ (s : Derived). IsSomeAnd (slice_get lines j) (λ (t : Derived). IsTakenSum m n g s.line t.line line))
+ComesFrom lines line (Pair i m j n g) =
+    IsSomeAnd (slice_get lines i) (λ (s : Derived). IsSomeAnd (slice_get lines j) (λ (t : Derived). IsTakenSum m n g s.line t.line line))
 
 -- each line comes from the list as its origin says
 abbrev pub AllComeFrom : List Derived → List Derived → Type 0

@@ -1,12 +1,16 @@
-use Rattle.std.specs.Prelude.{◌≡◌, ℕ, ◌<◌, true, false, List, ◌∷◌, ◌++◌, Option, Some, None, Ok, get_or, length, pos, slice_get, ℤ}
+use Rattle.std.specs.Prelude.{◌≡◌, ℕ, ◌<◌, true, false, List, ◌∷◌, ◌++◌, Option, Some, None, IfSome, Ok, get_or, length, pos, slice_get, ℤ}
 use Rattle.edit_line.specs.Lines.{LineParts}
+use Rattle.edit_line.specs.EditSets.{EditsParts, base_lines}
+use Rattle.edit_line.specs.Reductions.{reduce_derived}
 use Rattle.edit_line.specs.Places.{place_named}
 use Rattle.edit_line.specs.Shapes.{number_fields}
 use Rattle.edit_line.specs.declared.derived.Derived.{Derived}
 use Rattle.edit_line.specs.Combinations.{first_overflow, numbers, sum_fits}
 use Rattle.linear_elim.specs.Combinations.{first_multiplier, is_lower, second_multiplier}
 use Rattle.linear_elim.specs.Steps.{StepOverflow, is_opposite}
-use Rattle.linear_elim.specs.Systems.{SystemOverflow, fold_result}
+use Rattle.linear_elim.specs.Systems.{SystemOverflow, chosen_fields, fold_result}
+use Rattle.linear_elim.specs.Told.{told_system}
+use Rattle.linear_elim.specs.declared.fault.SystemFault.{SystemFault}
 
 -- s and t are combined at the field
 pub record AreCombined (f : ℕ) (s t : LineParts) : Type 0 where
@@ -19,7 +23,8 @@ overflow_of s t f = first_overflow 0 (first_multiplier s t f) (second_multiplier
 
 -- no number leaves the range in the pairs of these two lines of the list
 abbrev pub PairFits : List Derived → ℕ → ℕ → ℕ → Type 0
-PairFits lines f i j = (s t : Derived) → slice_get lines i ≡ Some s → slice_get lines j ≡ Some t → AreCombined f s.line t.line → overflow_of s.line t.line f ≡ None
+PairFits lines f i j = (s t : Derived)
+    → slice_get lines i ≡ Some s → slice_get lines j ≡ Some t → AreCombined f s.line t.line → overflow_of s.line t.line f ≡ None
 
 -- no number of any combination leaves the range
 abbrev pub AllPairsFit : List Derived → ℕ → Type 0
@@ -31,6 +36,10 @@ pub record IsFirstPlace (m n : ℤ) (first second : List ℤ) (place : ℕ) : Ty
   pub within : place < length first
   pub earlier : (k : ℕ) → k < place → sum_fits m n (get_or first k (pos 0)) (get_or second k (pos 0)) ≡ true
 
+-- the number at this place of the combination of s and t leaves the range, and no earlier one does
+abbrev pub LeavesFirstAt : LineParts → LineParts → ℕ → ℕ → Type 0
+LeavesFirstAt s t f place = IsFirstPlace (first_multiplier s t f) (second_multiplier s t f) (numbers s) (numbers t) place
+
 -- the overflow is at the first pair of lines whose combination leaves the range, and at the first place there
 pub record IsFirstOverflow (lines : List Derived) (f : ℕ) (o : StepOverflow) : Type 0 where
   pub s : Derived
@@ -40,7 +49,7 @@ pub record IsFirstOverflow (lines : List Derived) (f : ℕ) (o : StepOverflow) :
   pub combined : AreCombined f s.line t.line
   pub number : ℕ
   pub leaves : overflow_of s.line t.line f ≡ Some number
-  pub first_place : IsFirstPlace (first_multiplier s.line t.line f) (second_multiplier s.line t.line f) (numbers s.line) (numbers t.line) number
+  pub first_place : LeavesFirstAt s.line t.line f number
   pub place : o.place ≡ place_named (number_fields s.line.shape) number
   pub earlier_rows : (i j : ℕ) → i < o.first → PairFits lines f i j
   pub earlier_pairs : (j : ℕ) → j < o.second → PairFits lines f o.first j
@@ -53,3 +62,8 @@ pub record IsFoldOverflow (lines : List Derived) (fields : List ℕ) (o : System
   pub reached : List Derived
   pub reached_are : fold_result lines before ≡ Ok reached
   pub overflow : IsFirstOverflow reached o.field o.step
+
+-- the fault tells the first overflow of the system of the edits without the fields of the set; want of memory tells nothing
+abbrev pub TellsOverflow : EditsParts → ℕ → SystemFault → Type 0
+TellsOverflow edits fields fault = IfSome (told_system fault) (λ o. IsFoldOverflow
+    (reduce_derived (base_lines edits.lines)) (chosen_fields edits.shape fields) o)

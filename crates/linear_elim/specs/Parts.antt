@@ -1,7 +1,7 @@
-use Rattle.std.specs.Prelude.{◌≡◌, ◌↔◌, ℕ, true, List, All, map, pos}
+use Rattle.std.specs.Prelude.{◌≡◌, ◌↔◌, ℕ, true, List, All, pos}
 use Rattle.edit_model.specs.FieldSets.{has_number}
 use Rattle.edit_model.specs.Points.{Point}
-use Rattle.edit_line.specs.EditSets.{EditsParts}
+use Rattle.edit_line.specs.EditSets.{EditsParts, lines_without}
 use Rattle.edit_line.specs.Lines.{AllHold, HaveShape, LineParts, factor}
 use Rattle.edit_line.specs.Reductions.{lines_of}
 use Rattle.edit_line.specs.declared.derived.Derived.{Derived}
@@ -17,9 +17,14 @@ parts_of_system edits fields lines = record { edits = edits; fields = fields; li
 abbrev pub IsOver : SystemParts → Type 0
 IsOver system = HaveShape system.edits.shape (lines_of system.lines)
 
--- at each point the lines hold exactly where some values at the fields, in place of the point's own, make all edits hold
+-- at each point the lines hold exactly where some values at the fields of the set, in place of the point's own, make all edits hold
+abbrev pub AreLifted : EditsParts → ℕ → List Derived → Type 0
+AreLifted edits fields lines =
+    (p : Point) → AllHold (lines_of lines) p ↔ CanHoldIn (lines_without edits.lines) (chosen_fields edits.shape fields) p
+
+-- the lines of a system are those of its edits and fields
 abbrev pub Lifts : SystemParts → Type 0
-Lifts system = (p : Point) → AllHold (lines_of system.lines) p ↔ CanHoldIn (map (λ (e : ℕ × LineParts). e.1) system.edits.lines) (chosen_fields system.edits.shape system.fields) p
+Lifts system = AreLifted system.edits system.fields system.lines
 
 -- the field stands in none of the lines
 abbrev pub AreFlat : ℕ → List LineParts → Type 0

@@ -73,7 +73,10 @@ row_result f lines i s = if is_lower f s.line then collect (pair_result f i s) 0
 -- the lines without the field, in order, each with its number, counted from i
 abbrev pub flat_from : ℕ → ℕ → List Derived → List Derived
 flat_from f i [] = []
-flat_from f i (s ∷ lines) = if is_flat f s.line then record { line = s.line; origin = Same i } ∷ flat_from f (suc i) lines else flat_from f (suc i) lines
+flat_from f i (s ∷ lines) =
+    if is_flat f s.line
+    then record { line = s.line; origin = Same i } ∷ flat_from f (suc i) lines
+    else flat_from f (suc i) lines
 
 -- the lines without the field and then the combinations, or the first pair and place that leave the range
 abbrev pub eliminated_result : List Derived → ℕ → Result (List Derived) StepOverflow
@@ -90,8 +93,12 @@ step_result lines f = reduced_result (eliminated_result lines f)
 -- ---- how many pairs are combined
 
 -- the number of lines that are opposite to s and meet it
+abbrev pub opposites : ℕ → Derived → List Derived → ℕ
+opposites f s lines = length (filter (λ (t : Derived). is_opposite f s.line t.line) lines)
+
+-- the number of pairs of s, where it bounds the field from below
 abbrev pub row_count : ℕ → List Derived → Derived → ℕ
-row_count f lines s = if is_lower f s.line then length (filter (λ (t : Derived). is_opposite f s.line t.line) lines) else 0
+row_count f lines s = if is_lower f s.line then opposites f s lines else 0
 
 -- the sum of the counts of these lines
 abbrev pub rows_count : ℕ → List Derived → List Derived → ℕ

@@ -73,6 +73,10 @@ pub record SystemParts : Type 0 where
 abbrev pub system_at : EditsParts → ℕ → Result (List Derived) SystemOverflow
 system_at edits bits = system_of edits.lines (chosen_fields edits.shape bits)
 
+-- the number of pairs that the system of the edits without the fields of the set combines
+abbrev pub pairs_at : EditsParts → ℕ → ℕ
+pairs_at edits bits = system_count edits.lines (chosen_fields edits.shape bits)
+
 -- the lines are the system of the edits without the fields
 pub record IsSystem (system : SystemParts) : Type 0 where
   pub numerical : AreNumerical system.edits.shape system.fields

@@ -1,5 +1,5 @@
-ghost use Rattle.std.specs.Prelude.{◌≡◌, ◌↔◌, ◌+◌, ◌++◌, ◌≤◌, ◌<◌, [], ◌∷◌, All, OnOk, IfOk, List, length, true, if◌then◌else◌, IfErr, IfSome};
-ghost use Rattle.std.specs.List.{filter, fold, slice_get};
+ghost use Rattle.std.specs.Prelude.{◌≡◌, ◌↔◌, ◌+◌, ◌++◌, ◌≤◌, ◌<◌, [], ◌∷◌, All, OnOk, IfOk, List, true, if◌then◌else◌, IfErr, IfSome};
+ghost use Rattle.std.specs.List.{fold, slice_get};
 ghost use Rattle.edit_model.specs.Points.{Point};
 ghost use Rattle.edit_line.specs.Lines.{AllHold, HaveShape};
 ghost use Rattle.edit_line.specs.Reductions.{AreOwn, lines_of, reduce_derived, with_derived};
@@ -9,7 +9,7 @@ ghost use Rattle.linear_elim.specs.Combinations.{is_lower, is_upper};
 ghost use Rattle.linear_elim.specs.Origins.{AllComeFrom};
 ghost use Rattle.linear_elim.specs.Overflows.{AllPairsFit, IsFirstOverflow};
 ghost use Rattle.linear_elim.specs.PointChanges.{CanHoldAt};
-ghost use Rattle.linear_elim.specs.Steps.{OneShape, collect, flat_from, is_opposite, pair_result, pairs_count, row_count, row_result, step_result};
+ghost use Rattle.linear_elim.specs.Steps.{OneShape, collect, flat_from, is_opposite, opposites, pair_result, pairs_count, row_count, row_result, step_result};
 ghost use Rattle.linear_elim.specs.Told.{told_step};
 ghost use Rattle.linear_elim.specs.inner.Taken.{TakesIn};
 ghost use Rattle.linear_elim.specs.inner.Uppers.{found_count, found_result, places_from};
@@ -280,9 +280,10 @@ fn take_row<L: Ledger>(
     requires over { All (λ t. t.line.shape ≡ domains column.now.shape) lines.now }
     requires uppers { uppers.now ≡ places_from (is_upper column.now.field) 0 lines.now }
     requires line_over { line.old.shape ≡ domains column.now.shape }
-    ensures exact { TakesIn told_step kept.old kept.new result (collect (pair_result column.now.field s.entry.place s.entry.derived.now) 0 lines.now) }
-    ensures counted { OnOk result (steps.new ≡ steps.old + length (filter (λ t. is_opposite column.now.field s.entry.derived.now.line t.line) lines.now)) }
-    ensures few { steps.new ≤ steps.old + length (filter (λ t. is_opposite column.now.field s.entry.derived.now.line t.line) lines.now) }
+    ensures exact { TakesIn told_step kept.old kept.new result
+        (collect (pair_result column.now.field s.entry.place s.entry.derived.now) 0 lines.now) }
+    ensures counted { OnOk result (steps.new ≡ steps.old + opposites column.now.field s.entry.derived.now lines.now) }
+    ensures few { steps.new ≤ steps.old + opposites column.now.field s.entry.derived.now lines.now }
     ensures over { line.new.shape ≡ line.old.shape }
 {
     for place in uppers {
@@ -310,8 +311,10 @@ fn take_at<L: Ledger>(
     requires s_over { s.derived.now.line.shape ≡ domains column.now.shape }
     requires over { All (λ t. t.line.shape ≡ domains column.now.shape) lines.now }
     requires line_over { line.old.shape ≡ domains column.now.shape }
-    ensures exact { TakesIn told_step kept.old kept.new result (found_result (pair_result column.now.field s.entry.place s.entry.derived.now) place (slice_get lines.now place)) }
-    ensures counted { steps.new ≡ steps.old + found_count (is_opposite column.now.field s.entry.derived.now.line) (slice_get lines.now place) }
+    ensures exact { TakesIn told_step kept.old kept.new result
+        (found_result (pair_result column.now.field s.entry.place s.entry.derived.now) place (slice_get lines.now place)) }
+    ensures counted { steps.new
+        ≡ steps.old + found_count (is_opposite column.now.field s.entry.derived.now.line) (slice_get lines.now place) }
     ensures over { line.new.shape ≡ line.old.shape }
 {
     match lines.get(place) {
@@ -338,8 +341,10 @@ fn take_pair<L: Ledger>(
     requires s_over { s.derived.now.line.shape ≡ domains column.now.shape }
     requires t_over { t.derived.now.line.shape ≡ domains column.now.shape }
     requires line_over { line.old.shape ≡ domains column.now.shape }
-    ensures exact { TakesIn told_step kept.old kept.new result (pair_result column.now.field s.entry.place s.entry.derived.now t.entry.place t.entry.derived.now) }
-    ensures counted { steps.new ≡ steps.old + (if is_opposite column.now.field s.entry.derived.now.line t.entry.derived.now.line then 1 else 0) }
+    ensures exact { TakesIn told_step kept.old kept.new result
+        (pair_result column.now.field s.entry.place s.entry.derived.now t.entry.place t.entry.derived.now) }
+    ensures counted { steps.new
+        ≡ steps.old + (if is_opposite column.now.field s.entry.derived.now.line t.entry.derived.now.line then 1 else 0) }
     ensures over { line.new.shape ≡ line.old.shape }
 {
     if !is_opposite(column, &s.derived.line, &t.derived.line) {

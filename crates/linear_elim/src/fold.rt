@@ -1,20 +1,13 @@
-ghost use Rattle.std.specs.Prelude.{◌≡◌, ◌+◌, ◌≤◌, ◌<◌, ◌↔◌, [], ◌∷◌, All, IfOk, OnOk, map, IfErr, IfSome};
+ghost use Rattle.std.specs.Prelude.{◌≡◌, ◌+◌, ◌≤◌, ◌<◌, IfOk, OnOk, IfErr};
 ghost use Rattle.std.specs.Arc.{arc_value};
-ghost use Rattle.std.specs.List.{filter};
-ghost use Rattle.edit_model.specs.FieldSets.{has_number};
-ghost use Rattle.edit_model.specs.Points.{Point};
-ghost use Rattle.edit_line.specs.Lines.{AllHold};
-ghost use Rattle.edit_line.specs.EditSets.{base_lines};
-ghost use Rattle.edit_line.specs.Reductions.{AreOwn, lines_of, reduce_derived};
-ghost use Rattle.edit_line.specs.Shapes.{domain_with, number_fields, numbers_from};
+ghost use Rattle.edit_line.specs.Reductions.{AreOwn, lines_of};
 ghost use Rattle.linear_elim.specs.Answers.{Answers};
-ghost use Rattle.linear_elim.specs.Overflows.{IsFoldOverflow};
-ghost use Rattle.linear_elim.specs.Parts.{IsMade, parts_of_system};
-ghost use Rattle.linear_elim.specs.PointChanges.{CanHoldIn};
+ghost use Rattle.linear_elim.specs.Overflows.{TellsOverflow};
+ghost use Rattle.linear_elim.specs.Parts.{AreLifted, IsMade, parts_of_system};
 ghost use Rattle.linear_elim.specs.Steps.{OneShape};
-ghost use Rattle.linear_elim.specs.Systems.{AreNumerical, chosen_fields, fold_count, fold_result, system_at, system_count};
+ghost use Rattle.linear_elim.specs.Systems.{AreNumerical, chosen_fields, fold_count, fold_result, pairs_at, system_at, system_count};
 ghost use Rattle.linear_elim.specs.Told.{told_system};
-ghost use Rattle.linear_elim.specs.inner.FoldLines.{so_far};
+ghost use Rattle.linear_elim.specs.inner.FoldLines.{next_fields, so_far};
 
 use crate::elimination::reduced_step;
 use crate::fault::{StepFault, SystemFault};
@@ -38,12 +31,12 @@ pub fn fold_system<L: Ledger>(
     requires { AreNumerical (arc_value edits.now).shape fields }
     ensures edits { IfOk result (λ system. system.edits ≡ arc_value edits.now) }
     ensures fields { IfOk result (λ system. system.fields ≡ fields) }
-    ensures lifts { IfOk result (λ system. (p : Point) → AllHold (lines_of system.lines) p ↔ CanHoldIn (map (λ e. e.1) (arc_value edits.now).lines) (chosen_fields (arc_value edits.now).shape fields) p) }
+    ensures lifts { IfOk result (λ system. AreLifted (arc_value edits.now) fields system.lines) }
     ensures made { IfOk result (λ system. IsMade system) }
     ensures exact { Answers (λ system. system.lines) told_system result (system_at (arc_value edits.now) fields) }
-    ensures overflow { IfErr result (λ fault. IfSome (told_system fault) (λ o. IsFoldOverflow (reduce_derived (base_lines (arc_value edits.now).lines)) (chosen_fields (arc_value edits.now).shape fields) o)) }
-    ensures counted { OnOk result (steps.new ≡ steps.old + system_count (arc_value edits.now).lines (chosen_fields (arc_value edits.now).shape fields)) }
-    ensures few { steps.new ≤ steps.old + system_count (arc_value edits.now).lines (chosen_fields (arc_value edits.now).shape fields) }
+    ensures overflow { IfErr result (λ fault. TellsOverflow (arc_value edits.now) fields fault) }
+    ensures counted { OnOk result (steps.new ≡ steps.old + pairs_at (arc_value edits.now) fields) }
+    ensures few { steps.new ≤ steps.old + pairs_at (arc_value edits.now) fields }
 {
     match fold_lines(alloc, edits, fields, steps) {
         Ok(lines) => Ok(System::of(share(edits)?, fields, lines)),
@@ -121,9 +114,11 @@ fn next_lines<L: Ledger>(
     requires shape { OneShape (so_far (λ v. v.items) base.now lines) }
     requires own { AreOwn (lines_of (so_far (λ v. v.items) base.now lines)) }
     requires field { field < 64 }
-    ensures exact { Answers (λ next. so_far (λ v. v.items) base.now next) told_system result (fold_result (so_far (λ v. v.items) base.now lines) (filter (has_number fields) (numbers_from field (domain_with count ∷ [])))) }
-    ensures counted { OnOk result (steps.new ≡ steps.old + fold_count (so_far (λ v. v.items) base.now lines) (filter (has_number fields) (numbers_from field (domain_with count ∷ [])))) }
-    ensures few { steps.new ≤ steps.old + fold_count (so_far (λ v. v.items) base.now lines) (filter (has_number fields) (numbers_from field (domain_with count ∷ []))) }
+    ensures exact { Answers (λ next. so_far (λ v. v.items) base.now next) told_system result
+        (fold_result (so_far (λ v. v.items) base.now lines) (next_fields fields field count)) }
+    ensures counted { OnOk result (steps.new
+        ≡ steps.old + fold_count (so_far (λ v. v.items) base.now lines) (next_fields fields field count)) }
+    ensures few { steps.new ≤ steps.old + fold_count (so_far (λ v. v.items) base.now lines) (next_fields fields field count) }
 {
     if count > 0 || !fields.has(field) {
         return Ok(lines);

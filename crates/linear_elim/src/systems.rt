@@ -3,7 +3,7 @@ ghost use Rattle.std.specs.Arc.{arc_value};
 ghost use Rattle.edit_line.specs.EditSets.{EditsParts};
 ghost use Rattle.linear_elim.specs.Answers.{Answers};
 ghost use Rattle.linear_elim.specs.Helds.{system_held};
-ghost use Rattle.linear_elim.specs.Systems.{AreNumerical, chosen_fields, system_at, system_count};
+ghost use Rattle.linear_elim.specs.Systems.{AreNumerical, pairs_at, system_at};
 ghost use Rattle.linear_elim.specs.Told.{told_system};
 
 use crate::fault::SystemFault;
@@ -39,7 +39,7 @@ pub trait Systems {
         ensures edits { IfOk result (λ held. (system_held held).edits ≡ arc_value edits.now) }
         ensures fields { IfOk result (λ held. (system_held held).fields ≡ fields) }
         ensures exact { Answers (λ held. (system_held held).lines) told_system result (system_at (arc_value edits.now) fields) }
-        ensures few { steps.new ≤ steps.old + system_count (arc_value edits.now).lines (chosen_fields (arc_value edits.now).shape fields) }
+        ensures few { steps.new ≤ steps.old + pairs_at (arc_value edits.now) fields }
         ensures serves { (e : EditsParts) → serves self.old e → serves self.new e }
         ensures keeps { (f : ℕ) → keeps self.old f ≡ true → keeps self.new f ≡ true }
         ensures kept { OnOk result (keeps self.new fields ≡ true) };
@@ -67,8 +67,8 @@ impl Systems for Recompute {
         ensures edits { IfOk result (λ held. (system_held held).edits ≡ arc_value edits.now) }
         ensures fields { IfOk result (λ held. (system_held held).fields ≡ fields) }
         ensures exact { Answers (λ held. (system_held held).lines) told_system result (system_at (arc_value edits.now) fields) }
-        ensures counted { OnOk result (steps.new ≡ steps.old + system_count (arc_value edits.now).lines (chosen_fields (arc_value edits.now).shape fields)) }
-        ensures few { steps.new ≤ steps.old + system_count (arc_value edits.now).lines (chosen_fields (arc_value edits.now).shape fields) }
+        ensures counted { OnOk result (steps.new ≡ steps.old + pairs_at (arc_value edits.now) fields) }
+        ensures few { steps.new ≤ steps.old + pairs_at (arc_value edits.now) fields }
     {
         match fold_system(alloc, edits, fields, steps) {
             Ok(system) => Ok(Held::Own(system)),

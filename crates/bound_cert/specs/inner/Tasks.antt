@@ -1,8 +1,9 @@
-use Rattle.std.specs.Prelude.{◌≡◌, ℕ, zero, suc, Bool, true, List, [], ◌∷◌, Option, Some, None, length}
+use Rattle.std.specs.Prelude.{◌≡◌, ℕ, zero, suc, Bool, true, List, [], ◌∷◌, Option, Some, None, length, ◌&&◌, if◌then◌else◌, nat_le}
 use Rattle.edit_model.specs.Rows.{IsRow}
 use Rattle.edit_line.specs.Lines.{AreOver}
 use Rattle.edit_line.specs.Shapes.{shape_of}
 use Rattle.derivation.specs.Premises.{Premises, premises_of}
+use Rattle.bound_cert.specs.Trees.{all_changed, may_stand}
 use Rattle.bound_cert.specs.ValidTrees.{TreeCase, IsFaultBehind, IsValidLeaf, tree_case, invalid_step, is_right}
 use Rattle.bound_cert.specs.declared.cert.Leaf.{Leaf}
 use Rattle.bound_cert.specs.declared.cert.LeafWhy.{LeafWhy}
@@ -32,6 +33,10 @@ path_before leaves zero = None
 path_before [] (suc i) = None
 path_before (leaf ∷ leaves) (suc zero) = Some leaf.path
 path_before (leaf ∷ leaves) (suc (suc i)) = path_before leaves (suc i)
+
+-- whether a path stands right behind the one before, and, if it is the last one, at the end; a path has no more letters than this
+abbrev pub stands_right : Option (List Bool) → List Bool → Bool → ℕ → Bool
+stands_right before path last most = may_stand before path && ((if last then all_changed path else true) && nat_le (length path) most)
 
 -- what the verdict says of a leaf whose path is right
 abbrev pub SaysOf : TreeCase → List Bool → LeafWhy → Verdict → Type 0

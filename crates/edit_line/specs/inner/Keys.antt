@@ -23,14 +23,18 @@ keys_of lines = map (λ (d : Derived). key_of d.line.factors) lines
 abbrev pub may_subsume : ℕ → ℕ → Bool
 may_subsume first second = (first == second) || (first == 0)
 
--- none of the first lines, so many, subsumes the line
+-- whether one of the lines subsumes the line
+abbrev pub any_over : LineParts → List Derived → Bool
+any_over line lines = list_any (λ (a : Derived). subsumes a.line line) lines
+
+-- none of the lines before this place subsumes the line
 abbrev pub NoneOver : ℕ → LineParts → List Derived → Type 0
-NoneOver count line lines = list_any (λ (a : Derived). subsumes a.line line) (drop count lines) ≡ list_any (λ (a : Derived). subsumes a.line line) lines
+NoneOver place line lines = any_over line (drop place lines) ≡ any_over line lines
 
 -- the lines that the line does not subsume
 abbrev pub not_under : LineParts → List Derived → List Derived
 not_under line lines = filter (λ (b : Derived). not (subsumes line b.line)) lines
 
--- the line subsumes none of the first lines, so many
+-- the line subsumes none of the lines before this place
 abbrev pub NoneUnder : ℕ → LineParts → List Derived → Type 0
-NoneUnder count line lines = take count lines ++ not_under line (drop count lines) ≡ not_under line lines
+NoneUnder place line lines = take place lines ++ not_under line (drop place lines) ≡ not_under line lines

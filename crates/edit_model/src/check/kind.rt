@@ -1,5 +1,5 @@
-ghost use Rattle.std.specs.Prelude.{◌≡◌, ◌≢◌, ◌≤◌, ◌↔◌, All, AllPairs, IsTrue, length};
-ghost use Rattle.edit_model.specs.Surveys.{IsKind, is_code};
+ghost use Rattle.std.specs.Prelude.{◌≢◌, ◌↔◌, All, AllPairs, IsTrue};
+ghost use Rattle.edit_model.specs.Surveys.{AreCodes, IsKind};
 
 use crate::check::name::is_code_name;
 use crate::field::Kind;
@@ -32,7 +32,7 @@ fn are_distinct(names: &[Name]) -> bool
 
 // Whether the codes are 1 to 64, each in the form of a code, and distinct.
 fn are_codes(codes: &[Name]) -> bool
-    ensures { IsTrue result ↔ ((1 ≤ length codes.now) × (length codes.now ≤ 64) × All (λ c. IsTrue (is_code c) × (1 ≤ length c) × (length c ≤ 32)) codes.now × AllPairs (λ a b. a ≢ b) codes.now) }
+    ensures { IsTrue result ↔ AreCodes codes.now }
 {
     !codes.is_empty()
         && codes.len() <= MOST_CODES

@@ -36,7 +36,8 @@ fn are_rising(terms: &[Term]) -> bool
 
 /// Whether the terms are in rising field order and within the limits, and the constant is.
 pub(crate) fn is_linear(fields: &[Field], linear: &Linear) -> bool
-    ensures { IsTrue result ↔ (IsStrictlyIncreasing (map (λ t. t.field) linear.now.terms) × All (IsTerm fields.now) linear.now.terms × (unsigned_abs linear.now.constant ≤ 10 ^ 15)) }
+    ensures { IsTrue result ↔ (IsStrictlyIncreasing (map (λ t. t.field) linear.now.terms)
+        × All (IsTerm fields.now) linear.now.terms × (unsigned_abs linear.now.constant ≤ 10 ^ 15)) }
 {
     let terms = linear.terms.as_slice();
     are_rising(terms)
