@@ -1,6 +1,7 @@
 ghost use Rattle.std.specs.Prelude.{◌≡◌, IfOk};
 ghost use Rattle.edit_line.specs.Sets.{AreSets};
-ghost use Rattle.edit_line.specs.Shapes.{domains, whole_sets};
+ghost use Rattle.edit_line.specs.Domains.{domains};
+ghost use Rattle.edit_line.specs.Shapes.{whole_sets};
 
 use edit_line::{CodeBox, Shape};
 use foundation::{OutOfMemory, Sequence};

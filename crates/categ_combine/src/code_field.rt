@@ -1,7 +1,7 @@
 ghost use Rattle.std.specs.Prelude.{◌≡◌, ◌≤◌, IfOk, length, nat_lt, slice_index_or, take};
 ghost use Rattle.std.specs.List.{filter};
 ghost use Rattle.edit_line.specs.Boxes.{IsBox};
-ghost use Rattle.edit_line.specs.Shapes.{domains};
+ghost use Rattle.edit_line.specs.Domains.{domains};
 ghost use Rattle.edit_line.specs.CodeFields.{TakesCodes, place_of, whole_of};
 
 use crate::box_from::BoxFrom;

@@ -2,7 +2,8 @@
 ghost use Rattle.std.specs.Prelude.{◌≡◌, ◌++◌, [], ◌∷◌, true, IfOk, OnOk};
 ghost use Rattle.std.specs.List.{fold};
 ghost use Rattle.edit_line.specs.Sets.{AreSets, none_is_empty};
-ghost use Rattle.edit_line.specs.Shapes.{domains, whole_sets};
+ghost use Rattle.edit_line.specs.Domains.{domains};
+ghost use Rattle.edit_line.specs.Shapes.{whole_sets};
 ghost use Rattle.categ_combine.specs.BoxLists.{AreBoxesOver, with_from};
 ghost use Rattle.categ_combine.specs.Covers.{cover_parts, joined_for, meets_but, next_cover, row_of, takes_part, with_code_from};
 

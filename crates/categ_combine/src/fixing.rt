@@ -2,7 +2,8 @@ ghost use Rattle.std.specs.Prelude.{◌≡◌, ◌<◌, ◌↔◌, All, IfOk, Li
 ghost use Rattle.std.specs.List.{fold};
 ghost use Rattle.edit_model.specs.Points.{Point};
 ghost use Rattle.edit_line.specs.Boxes.{IsBox, box_of};
-ghost use Rattle.edit_line.specs.Shapes.{Domain, HasCodes, domains};
+ghost use Rattle.edit_line.specs.Domains.{domains};
+ghost use Rattle.edit_line.specs.Shapes.{Domain, HasCodes};
 ghost use Rattle.categ_combine.specs.BoxLists.{AreBoxesOver, Avoids, HaveCode, reduce_from, sets_of, with_from};
 ghost use Rattle.categ_combine.specs.inner.FitBoxes.{AreBoxes};
 ghost use Rattle.edit_line.specs.CodeFields.{size_of, with_code_at};

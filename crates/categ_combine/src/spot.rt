@@ -1,4 +1,4 @@
-ghost use Rattle.edit_line.specs.Shapes.{domains};
+ghost use Rattle.edit_line.specs.Domains.{domains};
 ghost use Rattle.categ_combine.specs.inner.Spots.{IsSpot};
 
 use edit_line::Shape;

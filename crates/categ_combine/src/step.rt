@@ -2,7 +2,8 @@ ghost use Rattle.std.specs.Prelude.{◌≡◌, ◌<◌, ◌≤◌, ◌*◌, ◌�
 ghost use Rattle.std.specs.List.{filter, fold};
 ghost use Rattle.edit_model.specs.Points.{Point};
 ghost use Rattle.edit_line.specs.Boxes.{IsBox};
-ghost use Rattle.edit_line.specs.Shapes.{Domain, HasCodes, domains, whole_sets};
+ghost use Rattle.edit_line.specs.Domains.{domains};
+ghost use Rattle.edit_line.specs.Shapes.{Domain, HasCodes, whole_sets};
 ghost use Rattle.categ_combine.specs.BoxLists.{AreBoxesOver, Avoids, HaveCodeField, reduce_from, sets_of, with_from};
 ghost use Rattle.categ_combine.specs.inner.FitBoxes.{AreBoxes};
 ghost use Rattle.edit_line.specs.CodeFields.{TakesCodes, codes_up, size_of, with_code_at};

@@ -2,6 +2,7 @@ pub mod Boxes
 pub mod CodeFields
 pub mod Combinations
 pub mod Divisors
+pub mod Domains
 pub mod EditSets
 pub mod Equality
 pub mod Lines

@@ -4,7 +4,6 @@ use Rattle.edit_model.specs.Points.{Point}
 use Rattle.edit_model.specs.declared.field.Field.{Field}
 use Rattle.edit_model.specs.declared.field.Kind.{Kind}
 use Rattle.edit_model.specs.declared.field.Kind.TheVariants as kind
-use Rattle.edit_line.specs.declared.shape.Shape.{Shape}
 
 -- what values a field takes: fractions, or one of so many codes
 pub data Domain : Type 0 where
@@ -19,10 +18,6 @@ domain_with (suc k) = Categorical (suc k)
 -- the domains of the first fields, so many, from the number of codes of each
 abbrev pub domains_of : ℕ → List ℕ → List Domain
 domains_of count codes = map domain_with (take count codes)
-
--- the domains of the fields of a shape
-abbrev pub domains : Shape → List Domain
-domains shape = domains_of shape.count shape.codes
 
 -- the number of codes of a kind of field, none where it is numerical
 abbrev pub code_count : Kind → ℕ

@@ -1,7 +1,8 @@
 ghost use Rattle.std.specs.Prelude.{◌≡◌, ◌↔◌, IfOk, true};
 ghost use Rattle.edit_line.specs.Boxes.{IsBox, are_whole, box_of};
 ghost use Rattle.edit_line.specs.Sets.{AreSets};
-ghost use Rattle.edit_line.specs.Shapes.{domains, shape_of, whole_sets};
+ghost use Rattle.edit_line.specs.Domains.{domains};
+ghost use Rattle.edit_line.specs.Shapes.{shape_of, whole_sets};
 
 use crate::code_sets::are_whole;
 use crate::shape::Shape;
@@ -20,6 +21,7 @@ pub struct CodeBox {
 
 impl Model for CodeBox {
     ghost use Rattle.edit_line.specs.Boxes.{BoxParts, IsBox, box_of};
+    ghost use Rattle.edit_line.specs.Domains.{domains};
 
     ghost Value = { BoxParts };
 

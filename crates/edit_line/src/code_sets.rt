@@ -5,7 +5,7 @@ ghost use Rattle.edit_model.specs.Points.{has_code};
 ghost use Rattle.edit_line.specs.Boxes.{are_whole};
 ghost use Rattle.edit_line.specs.Combinations.{all_meet, meets};
 ghost use Rattle.edit_line.specs.Sets.{are_subsets, none_is_empty};
-ghost use Rattle.edit_line.specs.Shapes.{domains};
+ghost use Rattle.edit_line.specs.Domains.{domains};
 
 use crate::shape::{Shape, whole_set};
 use foundation::OutOfMemory;

@@ -2,7 +2,8 @@ ghost use Rattle.std.specs.Prelude.{◌≡◌, All, IfOk};
 ghost use Rattle.edit_line.specs.EditSets.{AreEdits, IsReducedOf, base_lines, edits_of};
 ghost use Rattle.edit_line.specs.Lines.{IsLine};
 ghost use Rattle.edit_line.specs.Reductions.{lines_of, reduce_derived};
-ghost use Rattle.edit_line.specs.Shapes.{domains, shape_of};
+ghost use Rattle.edit_line.specs.Domains.{domains};
+ghost use Rattle.edit_line.specs.Shapes.{shape_of};
 
 use crate::derived::{Derived, Origin};
 use crate::line::Line;
@@ -24,6 +25,7 @@ pub struct Edits {
 
 impl Model for Edits {
     ghost use Rattle.edit_line.specs.EditSets.{EditsParts, IsReducedOf, edits_of};
+    ghost use Rattle.edit_line.specs.Domains.{domains};
 
     ghost Value = { EditsParts };
 

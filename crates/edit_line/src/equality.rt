@@ -2,7 +2,7 @@
 ghost use Rattle.std.specs.Prelude.{◌≡◌, ◌↔◌, ℕ, length, true};
 ghost use Rattle.std.specs.Cmp.Lexicographic.{pointwise};
 ghost use Rattle.edit_line.specs.Equality.{same_edits, same_line, same_numbered, same_shape, same_strict};
-ghost use Rattle.edit_line.specs.Shapes.{domains};
+ghost use Rattle.edit_line.specs.Domains.{domains};
 
 use crate::edits::Edits;
 use crate::line::Line;

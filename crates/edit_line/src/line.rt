@@ -5,7 +5,8 @@ ghost use Rattle.edit_line.specs.Divisors.{divided_by, reduced};
 ghost use Rattle.edit_line.specs.Divisors as divisors;
 ghost use Rattle.edit_line.specs.Lines.{IsLine, LineParts, parts_of};
 ghost use Rattle.edit_line.specs.Sets.{AreSets};
-ghost use Rattle.edit_line.specs.Shapes.{domains, number_fields, shape_of, whole_sets};
+ghost use Rattle.edit_line.specs.Domains.{domains};
+ghost use Rattle.edit_line.specs.Shapes.{number_fields, shape_of, whole_sets};
 
 use crate::code_sets::narrow;
 use crate::division::{divide_all, divisor_of, quotient};
@@ -31,6 +32,7 @@ pub struct Line {
 
 impl Model for Line {
     ghost use Rattle.edit_line.specs.Lines.{IsLine, LineParts, parts_of};
+    ghost use Rattle.edit_line.specs.Domains.{domains};
 
     ghost Value = { LineParts };
 

@@ -1,6 +1,6 @@
 ghost use Rattle.std.specs.Prelude.{◌≡◌, ◌≤◌, ◌-◌, ◌^◌, ◌++◌, [], ◌∷◌, All, IfOk, OnOk, length, map};
 ghost use Rattle.edit_line.specs.CodeFields.{size_of};
-ghost use Rattle.edit_line.specs.Shapes.{code_count, domain_with, domains, shape_of, whole_sets};
+ghost use Rattle.edit_line.specs.Shapes.{code_count, domain_with, domains_of, shape_of, whole_sets};
 
 use edit_model::{Kind, Survey};
 use foundation::OutOfMemory;
@@ -19,7 +19,7 @@ pub struct Shape {
 impl Shape {
     /// The shape of the survey. No memory.
     pub fn of(survey: &Survey) -> Shape
-        ensures { domains result ≡ shape_of survey.now.fields }
+        ensures { domains_of result.count result.codes ≡ shape_of survey.now.fields }
     {
         let mut codes = [0; 64];
         let fields = survey.fields();
@@ -34,7 +34,7 @@ impl Shape {
 
     /// The number of codes of each field, in declared order; 0 where the field is numerical. No memory.
     pub fn code_counts(&self) -> &[u8]
-        ensures domains { map domain_with result.now ≡ domains self.now }
+        ensures domains { map domain_with result.now ≡ domains_of self.now.count self.now.codes }
         ensures few { length result.now ≤ 64 }
         ensures few_codes { All (λ k. k ≤ 64) result.now }
     {
@@ -43,7 +43,7 @@ impl Shape {
 
     /// How many codes the field has, none where it is not categorical. No memory.
     pub fn size_of(&self, field: u32) -> u8
-        ensures size { result ≡ size_of (domains self.now) field }
+        ensures size { result ≡ size_of (domains_of self.now.count self.now.codes) field }
         ensures few { result ≤ 64 }
     {
         let counts = self.code_counts();
@@ -57,7 +57,7 @@ impl Shape {
 
     /// The set of all codes, as bits, of each categorical field, in declared order.
     pub fn whole_sets(&self, alloc: Global) -> Result<Vec<u64>, OutOfMemory>
-        ensures { IfOk result (λ sets. sets.items ≡ whole_sets (domains self.now)) }
+        ensures { IfOk result (λ sets. sets.items ≡ whole_sets (domains_of self.now.count self.now.codes)) }
     {
         let mut sets = Vec::new(alloc);
         for count in self.code_counts() {

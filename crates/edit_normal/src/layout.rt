@@ -1,5 +1,6 @@
 ghost use Rattle.std.specs.Prelude.{◌≡◌, ◌<◌, IfOk};
-ghost use Rattle.edit_line.specs.Shapes.{code_fields, domains, number_fields, place_in, shape_of, whole_sets};
+ghost use Rattle.edit_line.specs.Domains.{domains};
+ghost use Rattle.edit_line.specs.Shapes.{code_fields, number_fields, place_in, shape_of, whole_sets};
 
 use edit_line::Shape;
 use edit_model::Survey;
@@ -21,6 +22,7 @@ impl Model for Layout {
     ghost use Rattle.std.specs.Prelude.{List};
     ghost use Rattle.edit_line.specs.Shapes.{Domain};
     ghost use Rattle.edit_normal.specs.inner.Layouts.{IsLayout};
+    ghost use Rattle.edit_line.specs.Domains.{domains};
 
     ghost Value = { List Domain };
 

@@ -1,6 +1,7 @@
 ghost use Rattle.std.specs.Prelude.{◌≡◌, ◌<◌, ◌≤◌, ◌%◌, ◌+◌, ◌++◌, [], ◌∷◌, IfOk, IsTrue, OnOk, codes};
 ghost use Rattle.edit_line.specs.EditSets.{edits_of};
-ghost use Rattle.edit_line.specs.Shapes.{Categorical, Numerical, domain_of, domains, shape_of};
+ghost use Rattle.edit_line.specs.Domains.{domains};
+ghost use Rattle.edit_line.specs.Shapes.{Categorical, Numerical, domain_of, shape_of};
 ghost use Rattle.edit_model.specs.Surveys.{IsField, is_letter};
 ghost use Rattle.elimination_bench.specs.inner.Differences.{count_of, difference, difference_line, differences, lower_field, next_draw, numbers_of, set_of, shape_with, upper_field};
 

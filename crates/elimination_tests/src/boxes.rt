@@ -1,7 +1,7 @@
 //! Boxes of records, and what is left of them without a field.
 ghost use Rattle.std.specs.Prelude.{◌≡◌, ◌<◌, true};
 ghost use Rattle.edit_line.specs.CodeFields.{size_of};
-ghost use Rattle.edit_line.specs.Shapes.{domains};
+ghost use Rattle.edit_line.specs.Domains.{domains};
 ghost use Rattle.categ_combine.specs.BoxLists.{AreBoxesOver};
 
 use super::reading::{

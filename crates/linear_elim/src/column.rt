@@ -2,7 +2,8 @@ ghost use Rattle.std.specs.Prelude.{◌≡◌, ◌≤◌, length, map};
 ghost use Rattle.fraction128.specs.Range.{InRange};
 ghost use Rattle.edit_line.specs.Lines.{factor};
 ghost use Rattle.edit_line.specs.Places.{place_named};
-ghost use Rattle.edit_line.specs.Shapes.{domain_with, domains, number_fields, place_in};
+ghost use Rattle.edit_line.specs.Domains.{domains};
+ghost use Rattle.edit_line.specs.Shapes.{domain_with, number_fields, place_in};
 ghost use Rattle.linear_elim.specs.Combinations.{is_flat, is_lower, is_upper};
 
 use edit_line::{Line, Place, Shape};

@@ -2,7 +2,7 @@ ghost use Rattle.std.specs.Prelude.{◌≡◌, ◌<ℤ◌, int_div, neg_ℤ, pos
 ghost use Rattle.fraction128.specs.Divisor.{int_gcd};
 ghost use Rattle.fraction128.specs.Range.{InRange};
 ghost use Rattle.edit_line.specs.Combinations.{all_meet};
-ghost use Rattle.edit_line.specs.Shapes.{domains};
+ghost use Rattle.edit_line.specs.Domains.{domains};
 ghost use Rattle.edit_line.specs.declared.derived.Origin.TheVariants.{Pair};
 ghost use Rattle.linear_elim.specs.Combinations.{combine_result, is_lower, is_upper};
 ghost use Rattle.linear_elim.specs.inner.ToldCombinations.{told_combination};

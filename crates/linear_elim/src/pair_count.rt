@@ -1,6 +1,6 @@
 ghost use Rattle.std.specs.Prelude.{◌≡◌, ◌≤◌, All, length};
 ghost use Rattle.edit_line.specs.Reductions.{lines_of};
-ghost use Rattle.edit_line.specs.Shapes.{domains};
+ghost use Rattle.edit_line.specs.Domains.{domains};
 ghost use Rattle.linear_elim.specs.Steps.{OneShape, combinations, is_opposite, pairs_count, row_count};
 
 use crate::column::Column;

@@ -1,6 +1,7 @@
 use Rattle.std.proofs.Common.{◌≡◌, ◌<◌, length, rules, ap, arith, slice_index_or, ◌∙◌}
 use Rattle.std.proofs.lemmas.List.{get_or_read}
-use Rattle.edit_line.specs.Shapes.{domains, whole_sets}
+use Rattle.edit_line.specs.Domains.{domains}
+use Rattle.edit_line.specs.Shapes.{whole_sets}
 use Rattle.edit_line.proofs.ShapeLaws.{length-wholes}
 use Rattle.edit_line.specs.CodeFields.{whole_of}
 use Rattle.edit_line.proofs.PointCodes.{place_of-below}

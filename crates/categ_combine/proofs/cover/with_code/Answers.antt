@@ -1,7 +1,7 @@
 use Rattle.std.proofs.Common.{◌≡◌, List, ap, arith, subst, sym, ◌∙◌}
 use Rattle.std.specs.List.{flat_map}
 use Rattle.std.proofs.lemmas.List.{take_all}
-use Rattle.edit_line.specs.Shapes.{domains}
+use Rattle.edit_line.specs.Domains.{domains}
 use Rattle.categ_combine.specs.BoxLists.{AreBoxesOver, reduce_from}
 use Rattle.categ_combine.specs.Covers.{row_of, with_code_from}
 use Rattle.categ_combine.specs.declared.box_from.BoxFrom.{BoxFrom}

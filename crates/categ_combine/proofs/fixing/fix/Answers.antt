@@ -1,6 +1,7 @@
 use Rattle.std.proofs.Common.{◌≡◌, ◌<◌, ◌↔◌, All, List, sym, subst, ◌∙◌}
 use Rattle.edit_model.specs.Points.{Point}
-use Rattle.edit_line.specs.Shapes.{Domain, HasCodes, domains}
+use Rattle.edit_line.specs.Domains.{domains}
+use Rattle.edit_line.specs.Shapes.{Domain, HasCodes}
 use Rattle.categ_combine.specs.BoxLists.{AreBoxesOver, Avoids, reduce_from, sets_of}
 use Rattle.categ_combine.specs.inner.FitBoxes.{AreBoxes}
 use Rattle.edit_line.specs.CodeFields.{size_of, with_code_at}

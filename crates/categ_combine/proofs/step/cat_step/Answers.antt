@@ -1,6 +1,7 @@
 use Rattle.std.proofs.Common.{◌≡◌, ◌<◌, ◌↔◌, ℕ, All, List, ap, arith, sym, subst, ◌∙◌}
 use Rattle.edit_model.specs.Points.{Point}
-use Rattle.edit_line.specs.Shapes.{Domain, HasCodes, domains}
+use Rattle.edit_line.specs.Domains.{domains}
+use Rattle.edit_line.specs.Shapes.{Domain, HasCodes}
 use Rattle.categ_combine.specs.BoxLists.{AreBoxesOver, Avoids, sets_of}
 use Rattle.categ_combine.specs.inner.FitBoxes.{AreBoxes}
 use Rattle.edit_line.specs.CodeFields.{TakesCodes, size_of, with_code_at}

@@ -1,5 +1,5 @@
 use Rattle.std.proofs.Common.{arith}
-use Rattle.edit_line.specs.Shapes.{domains}
+use Rattle.edit_line.specs.Domains.{domains}
 use Rattle.categ_combine.proofs.CoverLoops.{so_far-next, so_far-passed}
 use Rattle.categ_combine.proofs.step.covers_of.Goals as goal
 

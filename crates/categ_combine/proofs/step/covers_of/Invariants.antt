@@ -1,4 +1,4 @@
-use Rattle.edit_line.specs.Shapes.{domains}
+use Rattle.edit_line.specs.Domains.{domains}
 use Rattle.categ_combine.proofs.CoverLoops.{IsSoFar}
 use Rattle.categ_combine.proofs.step.covers_of.Given as goal
 

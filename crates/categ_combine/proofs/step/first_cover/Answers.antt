@@ -1,6 +1,7 @@
 use Rattle.std.proofs.Common.{sym, subst, take, ℕ, List}
 use Rattle.edit_line.specs.Sets.{AreSets}
-use Rattle.edit_line.specs.Shapes.{domains, whole_sets}
+use Rattle.edit_line.specs.Domains.{domains}
+use Rattle.edit_line.specs.Shapes.{whole_sets}
 use Rattle.categ_combine.proofs.SpotLaws.{wholes-are}
 use Rattle.categ_combine.proofs.step.first_cover.Goals as goal
 

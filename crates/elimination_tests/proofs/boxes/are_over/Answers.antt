@@ -1,7 +1,7 @@
 use Rattle.std.proofs.Common.{◌≡◌, List, rules, arith, subst}
 use Rattle.std.proofs.lemmas.List.{take_all}
 use Rattle.std.proofs.lemmas.List.Elements.{All-more}
-use Rattle.edit_line.specs.Shapes.{domains}
+use Rattle.edit_line.specs.Domains.{domains}
 use Rattle.categ_combine.specs.BoxLists.{AreBoxesOver}
 use Rattle.categ_combine.specs.declared.box_from.BoxFrom.{BoxFrom}
 use Rattle.elimination_tests.proofs.boxes.are_over.Goals as goal

@@ -1,5 +1,5 @@
 use Rattle.std.proofs.Common.{take}
-use Rattle.edit_line.specs.Shapes.{domains}
+use Rattle.edit_line.specs.Domains.{domains}
 use Rattle.categ_combine.specs.BoxLists.{AreBoxesOver}
 use Rattle.elimination_tests.proofs.boxes.are_over.Given as goal
 

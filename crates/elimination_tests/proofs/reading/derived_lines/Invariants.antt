@@ -1,5 +1,5 @@
 use Rattle.std.proofs.Common.{◌≡◌, All}
-use Rattle.edit_line.specs.Shapes.{domains}
+use Rattle.edit_line.specs.Domains.{domains}
 use Rattle.edit_line.specs.declared.derived.Derived.{Derived}
 use Rattle.elimination_tests.proofs.reading.derived_lines.Given as goal
 

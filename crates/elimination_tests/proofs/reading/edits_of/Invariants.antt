@@ -1,7 +1,7 @@
 use Rattle.std.proofs.Common.{◌≡◌, ℕ, All, map}
 use Rattle.std.specs.List.{range_with_len}
 use Rattle.edit_line.specs.Lines.{LineParts}
-use Rattle.edit_line.specs.Shapes.{domains}
+use Rattle.edit_line.specs.Domains.{domains}
 use Rattle.elimination_tests.proofs.reading.edits_of.Given as goal
 
 abbrev pub invariant-loop-place : goal.invariant-loop-place

@@ -1,5 +1,5 @@
 use Rattle.std.proofs.Common.{◌≡◌, ◌+◌, drop}
-use Rattle.edit_line.specs.Shapes.{domains}
+use Rattle.edit_line.specs.Domains.{domains}
 use Rattle.linear_elim.specs.Steps.{collect, pairs_count, row_result, rows_count, step_result}
 use Rattle.linear_elim.specs.inner.Taken.{taken_in}
 use Rattle.linear_elim.proofs.elimination.combined_step.Given as goal

@@ -2,7 +2,7 @@ use Rattle.std.proofs.Common.{FitsSigned, rules, sym, subst}
 use Rattle.std.proofs.lemmas.Int.{to_z-of_z}
 use mir.Syntax.{w128}
 use Rattle.edit_line.specs.Lines.{IsLine, LineParts, parts_of}
-use Rattle.edit_line.specs.Shapes.{domains}
+use Rattle.edit_line.specs.Domains.{domains}
 use Rattle.edit_line.proofs.DivisionLaws.{IsLine-divided, divided-is}
 use Rattle.edit_line.proofs.line.Line.divide_by.Goals as goal
 

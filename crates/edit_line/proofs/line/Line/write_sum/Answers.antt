@@ -4,7 +4,8 @@ use mir.Syntax.{w128}
 use Rattle.edit_line.specs.Combinations.{combined, meets}
 use Rattle.edit_line.specs.Lines.{LineParts}
 use Rattle.edit_line.specs.Sets.{AreSets}
-use Rattle.edit_line.specs.Shapes.{Domain, domains, whole_sets}
+use Rattle.edit_line.specs.Domains.{domains}
+use Rattle.edit_line.specs.Shapes.{Domain, whole_sets}
 use Rattle.edit_line.proofs.LineSums.{no-place, place-first, place-last, sum-is, sum-line}
 use Rattle.edit_line.proofs.SetLaws.{same-sets}
 use Rattle.edit_line.proofs.line.Line.write_sum.Goals as goal
