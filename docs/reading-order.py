@@ -1,9 +1,10 @@
 #!/usr/bin/env python3
 """Keeps the tables of reading-order.md true.
 
-For each promise the page names calls; this script follows their clauses through the definitions that
-they cite, over all crates, and writes the table of the files in which these stand: how many lines of
-each file are reached (definitions and the comments above them), of how many lines. Files come in an
+For each promise the page names calls, and for some of them which clauses carry it; this script follows these
+clauses through the definitions that they cite, over all crates, and writes the table of the files in which
+these stand: how many lines of each file are reached (definitions and the comments above them), of how many
+lines. The last row says how many of the lines are definitions, without the comments. Files come in an
 order in which each stands behind those that its definitions cite.
 
     docs/reading-order.py            writes the tables anew
@@ -20,7 +21,7 @@ USE = re.compile(r'^\s*(?:ghost )?use (Rattle\.[\w.]+?)(?:\.\{([^}]*)\}| as (\w+
 HEAD = re.compile(r'^(?:(?:abbrev|unfoldable|record|data|pub)\s+)+(\S+)')
 WORD = re.compile(r'[^\s(){}\[\].,;:∷λ→×=]+')
 CALLS = re.compile(r'^Calls: (.*)$', re.M)
-CALL = re.compile(r'`([\w:]+)` of `([\w/.]+)`')
+CALL = re.compile(r'`([\w:]+)`(?: \(([`\w, ]+)\))? of `([\w/.]+)`')
 
 
 def page_of(name):
@@ -59,7 +60,7 @@ class Page:
         self.definitions, self.owner = {}, {}
         name, comment = None, []
         for line in text.split('\n'):
-            if line.startswith('use ') or not line.strip():
+            if line.startswith(('use ', 'pub use ')) or not line.strip():
                 continue
             if line.startswith('--'):
                 comment = [] if line.startswith('-- ----') else comment + [line]
@@ -97,6 +98,9 @@ def cited_in(text, names, aliases, path=None, page=None):
             found.add((path, page.owner[word]))
         if word in names:
             found.add(names[word])
+    for name, target in names.items():
+        if '◌' in name and (name.strip('◌') in text or name == '◌>>=◌' and '←' in text):
+            found.add(target)
     for alias, target in aliases.items():
         for word in re.findall(r'\b' + re.escape(alias) + r'\.(\w+)', text):
             found.add((target, word))
@@ -117,21 +121,25 @@ def reached(starts):
     return edges
 
 
-def contract(text, start):
-    """The clauses of the function that starts there."""
+def contract(text, start, chosen=None):
+    """The clauses of the function that starts there; of some of these names, if names are given."""
     end = re.compile(r'^\s*\{\s*$|;\s*$|\{\}\s*$', re.M)
     stop = end.search(text, start)
     part = text[start:stop.end() if stop else len(text)]
-    return '\n'.join(re.findall(r'(?:ensures|requires)[^{]*\{((?:[^{}]|\{[^{}]*\})*)\}', part))
+    clauses = re.findall(r'(?:ensures|requires)([^{]*)\{((?:[^{}]|\{[^{}]*\})*)\}', part)
+    missing = set(chosen or ()) - {name.strip() for name, _ in clauses}
+    if missing:
+        raise SystemExit(f'no clause {", ".join(sorted(missing))}')
+    return '\n'.join(clause for name, clause in clauses if chosen is None or name.strip() in chosen)
 
 
-def contract_starts(file, function):
+def contract_starts(file, function, chosen):
     text = open(os.path.join(TOP, 'crates', *file.split('/')), encoding='utf-8').read()
     at = re.search(r'\bfn ' + function.split('::')[-1] + r'\b', text)
     if at is None:
         raise SystemExit(f'{file} has no function {function}')
     names, aliases = imports(text)
-    return cited_in(contract(text, at.start()), names, aliases)
+    return cited_in(contract(text, at.start(), chosen), names, aliases)
 
 
 def crate_order():
@@ -157,14 +165,16 @@ def ordered(edges):
 def table(starts):
     edges = reached(starts)
     rows = ['| File of `crates/` | Lines to read | of |', '|---|---|---|']
-    total = 0
+    total = plain = 0
     for path in ordered(edges):
         page = Page.at(path)
-        lines = sum(len(page.definitions[name]) for p, name in edges if p == path)
+        reach = [line for p, name in edges if p == path for line in page.definitions[name]]
+        lines = len(reach)
         total += lines
+        plain += sum(not is_comment(line) for line in reach)
         name = os.path.relpath(path, os.path.join(TOP, 'crates'))
         rows.append(f'| `{name}` | {lines} | {page.lines} |')
-    rows.append(f'| all | {total} | |')
+    rows.append(f'| all | {total}, of them {plain} of definitions | |')
     return '\n'.join(rows)
 
 
@@ -175,10 +185,17 @@ def all_pages(inner):
             yield from (os.path.join(folder, f) for f in sorted(files) if f.endswith('.antt') and f not in ('Lib.antt', 'inner.antt'))
 
 
+def is_comment(line):
+    return line.lstrip().startswith('--')
+
+
+def defined(inner):
+    """How many lines the definitions of all files have, without comments and imports."""
+    return sum(not is_comment(line) for p in all_pages(inner) for lines in Page.at(p).definitions.values() for line in lines)
+
+
 def counted():
-    public = sum(Page.at(p).lines for p in all_pages(False))
-    inner = sum(Page.at(p).lines for p in all_pages(True))
-    return f'All files of `specs/` have {public:,} lines, and those of `specs/inner/`, which private contracts alone cite, {inner:,}.'
+    return f'All definitions of `specs/` have {defined(False):,} lines, and those of `specs/inner/`, which private contracts alone cite, {defined(True):,}.'
 
 
 def written(text):
@@ -187,10 +204,10 @@ def written(text):
     made = [parts[0]]
     for part in parts[1:]:
         starts = set()
-        for function, file in CALL.findall(CALLS.match(part).group(1)):
-            starts |= contract_starts(file, function)
+        for function, clauses, file in CALL.findall(CALLS.match(part).group(1)):
+            starts |= contract_starts(file, function, re.findall(r'\w+', clauses) or None)
         made.append(re.sub(r'(?ms)^\| File of.*?\n(?=\n|\Z)', lambda _: table(starts) + '\n', part, count=1))
-    return re.sub(r'(?m)^All files of `specs/` have .*$', lambda _: counted(), ''.join(made))
+    return re.sub(r'(?m)^All definitions of `specs/` have .*$', lambda _: counted(), ''.join(made))
 
 
 def open_calls(text):
