@@ -19,7 +19,7 @@ leaf_paths (Fork kept changed) = behind false (leaf_paths kept) ++ behind true (
 abbrev pub AreLeafPaths : List (List Bool) → Type 0
 AreLeafPaths paths = (tree : Tree) × (paths ≡ leaf_paths tree)
 
--- ---- the same, leaf by leaf
+-- ---- leaf paths, one after the other
 
 -- whether the path keeps all its fields
 abbrev pub all_kept : List Bool → Bool

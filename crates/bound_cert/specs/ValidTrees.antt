@@ -27,7 +27,7 @@ pub record TreeCase : Type 0 where
   pub row : List Value
   pub weight : Option ℕ
 
--- the same of these parts
+-- the case of these parts
 abbrev pub tree_case : SurveyParts → List LineParts → List Bool → List Value → Option ℕ → TreeCase
 tree_case survey given usable row weight = record { survey = survey; given = given; usable = usable; row = row; weight = weight }
 

@@ -32,7 +32,7 @@ no_values fields = map (λ f. Bad) fields
 abbrev pub refutation_of : List Domain → List LineParts → List Bool → LineParts → List Value → Premises
 refutation_of shape lines left line row = premises_of shape (given_lines lines line) (usable_flags left line) row 0
 
--- true, so many times
+-- a list of this length, of trues alone
 abbrev pub trues : ℕ → List Bool
 trues zero = []
 trues (suc n) = true ∷ trues n

@@ -10,7 +10,8 @@ use Rattle.edit_line.specs.Lines.{IsEnough, LineHolds, LineParts, amount, weight
 use Rattle.edit_line.specs.Sets.{AreCodesIn, HasCode}
 use Rattle.edit_line.specs.Shapes.{Domain, beside, codes_at, numerators_at}
 use Rattle.edit_line.proofs.Enough.{IsEnough-at_least, IsEnough_cancel}
-use Rattle.edit_line.specs.Combinations.{IsCombined, all_meet, combined, meets}
+use Rattle.edit_line.specs.Combinations.{all_meet, combined, meets}
+use Rattle.edit_line.proofs.PositiveSums.{IsCombined}
 
 -- A positive combination of two lines holds where both hold.
 

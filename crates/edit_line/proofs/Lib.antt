@@ -17,6 +17,7 @@ pub mod NegationLines
 pub mod OtherFields
 pub mod OwnLaws
 pub mod PointCodes
+pub mod PositiveSums
 pub mod ReductionLaws
 pub mod RowFields
 pub mod SetLaws

@@ -8,7 +8,8 @@ use Rattle.std.proofs.lemmas.List.Folds.{list_all-append}
 use Rattle.fraction128.proofs.DivisorLaws.{quotient-exact}
 use Rattle.fraction128.proofs.Whole.{comm, parts, ring, same_dif}
 use Rattle.edit_model.specs.Points.{Point}
-use Rattle.edit_line.specs.Combinations.{IsCombined, IsPositiveSum, all_meet, divides, first_overflow, may_combine, numbers, sum_of}
+use Rattle.edit_line.specs.Combinations.{all_meet, divides, first_overflow, may_combine, numbers, sum_of}
+use Rattle.edit_line.proofs.PositiveSums.{IsCombined, IsPositiveSum}
 use Rattle.edit_line.specs.Divisors.{divided_by, divisor_of, gcd_all, or_one}
 use Rattle.edit_line.specs.Lines.{LineHolds, LineParts}
 use Rattle.edit_line.proofs.BoolLaws.{true-both}

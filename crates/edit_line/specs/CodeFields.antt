@@ -5,7 +5,7 @@ use Rattle.edit_model.specs.Rows.{value_of}
 use Rattle.edit_model.specs.declared.value.Value.{Value}
 use Rattle.edit_line.specs.Shapes.{Categorical, Domain, Numerical, code_fields, place_in, whole_sets}
 
--- the codes from the given one on, so many
+-- this number of codes, one after the other, from the given one on
 abbrev pub codes_up : ℕ → ℕ → List ℕ
 codes_up code zero = []
 codes_up code (suc k) = code ∷ codes_up (suc code) k

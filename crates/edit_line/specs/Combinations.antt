@@ -25,22 +25,6 @@ abbrev pub sum_of : ℤ → ℤ → LineParts → LineParts → LineParts
 sum_of m n s t =
     parts_of s.shape (meets s.sets t.sets) (combined m n s.factors t.factors) (m *ℤ s.constant +ℤ n *ℤ t.constant) (s.strict || t.strict)
 
--- the line is m times s and n times t, divided by g
-pub record IsCombined (m n g : ℤ) (s t line : LineParts) : Type 0 where
-  pub shape : line.shape ≡ s.shape
-  pub same : t.shape ≡ s.shape
-  pub sets : line.sets ≡ meets s.sets t.sets
-  pub factors : map (λ c. g *ℤ c) line.factors ≡ combined m n s.factors t.factors
-  pub constant : g *ℤ line.constant ≡ m *ℤ s.constant +ℤ n *ℤ t.constant
-  pub strict : line.strict ≡ (s.strict || t.strict)
-
--- the line is a positive multiple of s and a positive multiple of t, divided by a positive number
-pub record IsPositiveSum (m n g : ℤ) (s t line : LineParts) : Type 0 where
-  pub m_above : pos 0 <ℤ m
-  pub n_above : pos 0 <ℤ n
-  pub g_above : pos 0 <ℤ g
-  pub combined : IsCombined m n g s t line
-
 -- ---- the numbers formed on the way
 
 -- whether a whole number is of absolute value at most 2 ^ 127 - 1

@@ -5,17 +5,17 @@ use Rattle.edit_model.specs.declared.field.Field.{Field}
 use Rattle.edit_model.specs.declared.field.Kind.{Kind}
 use Rattle.edit_model.specs.declared.field.Kind.TheVariants as kind
 
--- what values a field takes: fractions, or one of so many codes
+-- what values a field takes: fractions, or the codes below a number
 pub data Domain : Type 0 where
   Numerical : Domain
   Categorical : ℕ → Domain
 
--- the domain of a field with so many codes; none stands for a numerical field
+-- the domain of a field with this number of codes, which is numerical where that is 0
 abbrev pub domain_with : ℕ → Domain
 domain_with zero = Numerical
 domain_with (suc k) = Categorical (suc k)
 
--- the domains of the first fields, so many, from the number of codes of each
+-- the domains of the fields of a shape, from the count of the fields and the number of codes of each
 abbrev pub domains_of : ℕ → List ℕ → List Domain
 domains_of count codes = map domain_with (take count codes)
 

@@ -32,7 +32,7 @@ pub use edits::Edits;
 pub use kept::Kept;
 pub use line::Line;
 pub use overflow::LineOverflow;
-pub use place::Place;
+pub use place::{Place, place_among};
 pub use reduction::reduce;
 pub use shape::Shape;
 pub use subsumption::{is_false, subsumes};

@@ -1,3 +1,6 @@
+ghost use Rattle.std.specs.Prelude.{◌≡◌};
+ghost use Rattle.edit_line.specs.Shapes.{place_in};
+
 /// A place among the numbers of a line.
 #[derive(Clone, Copy, Debug, PartialEq, Eq)]
 pub enum Place {
@@ -5,4 +8,16 @@ pub enum Place {
     Field(u32),
     /// The constant.
     Constant,
+}
+
+/// The place of a field among these, past the end where it is none of them. No memory.
+pub fn place_among(fields: &[u32], field: u32) -> usize
+    ensures { result ≡ place_in fields.now field }
+{
+    for (place, other) in fields.iter().enumerate() {
+        if *other == field {
+            return place;
+        }
+    }
+    fields.len()
 }

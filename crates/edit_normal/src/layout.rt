@@ -2,7 +2,7 @@ ghost use Rattle.std.specs.Prelude.{◌≡◌, ◌<◌, IfOk};
 ghost use Rattle.edit_line.specs.Domains.{domains};
 ghost use Rattle.edit_line.specs.Shapes.{code_fields, number_fields, place_in, shape_of, whole_sets};
 
-use edit_line::Shape;
+use edit_line::{Shape, place_among};
 use edit_model::Survey;
 use foundation::OutOfMemory;
 use std::alloc::Global;
@@ -75,16 +75,4 @@ impl Layout {
     {
         place_among(&self.categories, field)
     }
-}
-
-// The place of the field in the list, past the end where it is not there.
-fn place_among(fields: &[u32], field: u32) -> usize
-    ensures { result ≡ place_in fields.now field }
-{
-    for (place, other) in fields.iter().enumerate() {
-        if *other == field {
-            return place;
-        }
-    }
-    fields.len()
 }

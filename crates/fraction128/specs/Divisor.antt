@@ -1,6 +1,6 @@
 use Rattle.std.specs.Prelude.{ℕ, zero, suc, ◌%◌, ℤ, pos, unsigned_abs}
 
--- Euclid's remainders, so many at most
+-- the last of Euclid's remainders, after this number of divisions at most
 abbrev pub gcd_within : ℕ → ℕ → ℕ → ℕ
 gcd_within zero a b = a
 gcd_within (suc steps) a zero = a
@@ -10,6 +10,6 @@ gcd_within (suc steps) a (suc b) = gcd_within steps (suc b) (a % suc b)
 unfoldable pub gcd : ℕ → ℕ → ℕ
 gcd a b = gcd_within (suc b) a b
 
--- the same of whole numbers with a sign
+-- the greatest common divisor of whole numbers, whatever their signs
 abbrev pub int_gcd : ℤ → ℤ → ℤ
 int_gcd a b = pos (gcd (unsigned_abs a) (unsigned_abs b))

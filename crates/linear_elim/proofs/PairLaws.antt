@@ -10,7 +10,8 @@ use Rattle.edit_line.specs.Divisors.{divisor_of, reduced}
 use Rattle.edit_line.specs.Lines.{HasShape, LineParts, factor}
 use Rattle.edit_line.specs.Shapes.{Domain, beside, number_fields}
 use Rattle.edit_line.proofs.DivisionLaws.{divides-constant, divides-factors, divisor-above}
-use Rattle.edit_line.specs.Combinations.{IsCombined, IsPositiveSum, combined, sum_of}
+use Rattle.edit_line.specs.Combinations.{combined, sum_of}
+use Rattle.edit_line.proofs.PositiveSums.{IsCombined, IsPositiveSum}
 use Rattle.linear_elim.specs.Combinations.{combination, first_multiplier, second_multiplier}
 use Rattle.linear_elim.proofs.BetweenLaws.{above_neg}
 use Rattle.edit_line.proofs.CombinationLaws.{beside-combined, beside-scaled, length-combined, length-meets}

@@ -1,5 +1,6 @@
 use Rattle.std.proofs.Common.{◌≡◌, true, ℕ, None, ℤ, pos, ◌<ℤ◌, refl, sym, subst}
-use Rattle.edit_line.specs.Combinations.{IsPositiveSum, first_overflow, numbers, sum_of}
+use Rattle.edit_line.specs.Combinations.{first_overflow, numbers, sum_of}
+use Rattle.edit_line.proofs.PositiveSums.{IsPositiveSum}
 use Rattle.edit_line.specs.Divisors.{reduced}
 use Rattle.edit_line.specs.Lines.{LineParts, factor}
 use Rattle.edit_line.proofs.BoolLaws.{both_true}
