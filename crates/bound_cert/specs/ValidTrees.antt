@@ -48,16 +48,14 @@ abbrev pub Refutes : Premises → Proved → Type 0
 Refutes p (proved.Line line) = (line.sets ≡ whole_sets p.shape) × (fails_at_kept p.row p.kept line ≡ true)
 Refutes p (proved.Box code_box) = code_box.sets ≡ whole_sets p.shape
 
--- valid steps prove this last, and it leaves no point
-abbrev pub AreRefuting : Premises → List Step → Proved → Type 0
-AreRefuting p steps proved = AreValidSteps p steps proved × Refutes p proved
-
 -- a leaf is valid: its path is heavy enough, or keeps a field at which the record has no value, or valid steps refute it
 abbrev pub IsValidLeaf : TreeCase → List Bool → LeafWhy → Type 0
 IsValidLeaf c path why.Bound = IsSomeAnd c.weight (λ w. w ≤ path_weight c.survey.fields path)
 IsValidLeaf c path why.BadKept = keeps_bad c.survey.fields c.row path ≡ true
-IsValidLeaf c path (why.Line steps) = (line : LineParts) × AreRefuting (premises_at c path) steps (proved.Line line)
-IsValidLeaf c path (why.Box steps) = (code_box : BoxParts) × AreRefuting (premises_at c path) steps (proved.Box code_box)
+IsValidLeaf c path (why.Line steps) = (line : LineParts)
+    × AreValidSteps (premises_at c path) steps (proved.Line line) × Refutes (premises_at c path) (proved.Line line)
+IsValidLeaf c path (why.Box steps) = (code_box : BoxParts)
+    × AreValidSteps (premises_at c path) steps (proved.Box code_box) × Refutes (premises_at c path) (proved.Box code_box)
 
 -- the leaves are, in order, those of one full tree, none deeper than there are fields, and each is valid
 pub record IsValidTree (c : TreeCase) (leaves : List Leaf) : Type 0 where
