@@ -6,6 +6,7 @@ import os
 import pathlib
 import random
 import re
+import resource
 import subprocess
 import sys
 import tempfile
@@ -30,11 +31,12 @@ CHECKED = ("rules", "records", "released", "proof")
 
 EDIT = ["edit", "--rules", "rules", "--records", "records", "--reasons", "reasons", "--released", "released", "--proof", "proof"]
 CHECK = ["check", "--rules", "rules", "--records", "records", "--released", "released", "--proof", "proof"]
+RULES = ["rules", "--rules", "rules"]
 
 # Of the small files that are changed in thousands of ways, every so many edits that end with 0 or 1 are checked too.
 CHECK_EVERY = 4
 
-SUMMARY = re.compile(r"records (\d+) clean (\d+) changed (\d+) unresolved (\d+) weight \d+\n")
+SUMMARY = re.compile(r"records (\d+) clean (\d+) changed (\d+) unresolved (\d+) weight \d+\nclaims (\d+) given (\d+)\n")
 REJECTED = re.compile(r"fault: proof line (\d+) (Grammar|Head|Drop|Cert|RowText|Claims)\n")
 
 
@@ -58,13 +60,29 @@ class Attack:
         seen = " ".join(f"{status}:{count}" for status, count in sorted(self.seen.items()))
         print(f"{self.group}: {self.count} runs, {self.checks} of them checks, slowest {self.slowest:.2f} s, statuses {seen}", flush=True)
 
-    def words(self, words, expected, size=0, wrong_values=0):
-        """Runs the program with these words; expected are the statuses that are right. The answer is the status and what is printed."""
+    def peak(self, words):
+        """The most memory, in bytes, that a run with these words maps."""
+        run = subprocess.Popen([self.program, *words], stdout=subprocess.DEVNULL, stderr=subprocess.DEVNULL, cwd=self.folder)
+        most = 0
+        while run.poll() is None:
+            try:
+                status = pathlib.Path(f"/proc/{run.pid}/status").read_text()
+            except OSError:
+                break
+            most = max([most] + [int(size) << 10 for size in re.findall(r"VmPeak:\s*(\d+) kB", status)])
+            time.sleep(0.002)
+        run.wait()
+        return most
+
+    def words(self, words, expected, size=0, wrong_values=0, memory=None):
+        """Runs the program with these words, and perhaps within so many bytes of memory; expected are the statuses that are right.
+        The answer is the status and what is printed."""
+        limit = None if memory is None else lambda: resource.setrlimit(resource.RLIMIT_AS, (memory, memory))
         begin = time.perf_counter()
         allowed = SECONDS + size * SECONDS_A_BYTE + wrong_values * SECONDS_A_WRONG_VALUE
         try:
             run = subprocess.run([self.program, *words], stdout=subprocess.PIPE, stderr=subprocess.DEVNULL,
-                                 cwd=self.folder, timeout=20 * allowed + 10)
+                                 cwd=self.folder, timeout=20 * allowed + 10, preexec_fn=limit)
         except subprocess.TimeoutExpired:
             raise Failed(f"{self.group}: no end after {20 * allowed + 10:.0f} seconds")
         seconds = time.perf_counter() - begin
@@ -98,6 +116,17 @@ class Attack:
             if self.released % self.check_every == 0:
                 self.check_edit(printed, expected & {7}, wrong_values)
             self.released += 1
+        return status
+
+    def rules(self, rules, expected):
+        """Runs `rules` on this rule file. It changes no file, and prints the lines where it ends with 0, and else one line."""
+        (self.folder / "rules").write_bytes(rules)
+        before = self.state()
+        status, printed = self.words(RULES, expected, len(rules))
+        if self.state() != before:
+            raise Failed(f"{self.group}: `rules` changed a file")
+        if status != 0 and printed.count("\n") != 1:
+            raise Failed(f"{self.group}: `rules` ended with {status} and printed {printed[:200]!r}")
         return status
 
     def check_edit(self, summary, refused, wrong_values):
@@ -153,6 +182,7 @@ def random_files(attack, examples, dice):
         alphabet = dice.choice(alphabets)
         text = bytes(dice.choice(alphabet) for _ in range(dice.choice([1, 10, 100, 1000, 4000])))
         attack.files(text, records, ANY)
+        attack.rules(text, {0, 3})
         attack.files(rules, text, ANY)
         attack.files(rules, records.split(b"\n")[0] + b"\n" + text, ANY)
     attack.end()
@@ -163,6 +193,7 @@ def cut_files(attack, examples, dice):
     for rules, records in pairs(examples):
         for length in range(len(rules)):
             attack.files(rules[:length], records, ANY)
+            attack.rules(rules[:length], {0, 3})
         for length in range(len(records)):
             attack.files(rules, records[:length], ANY)
     attack.end()
@@ -176,6 +207,8 @@ def changed_files(attack, examples, dice):
                 for byte in {0, 9, 10, 13, 34, 35, 44, 45, 48, 65, 239, 255, dice.randrange(256)}:
                     other = text[:place] + bytes([byte]) + text[place + 1:]
                     attack.files(*((other, records) if is_rules else (rules, other)), ANY)
+                    if is_rules:
+                        attack.rules(other, {0, 3})
     attack.end()
 
 
@@ -277,10 +310,22 @@ def proofs(attack, examples, dice):
             attack.proof(proof[:length], {9})
         for place in some(range(len(proof)), dice):
             attack.proof(proof[:place] + bytes([dice.choice(PROOF_BYTES)]) + proof[place + 1:], {0, 9})
+        for changed in some(list(with_other_numbers(proof)), dice):
+            attack.proof(changed, {0, 9})
     attack.files(b"number A\nnumber B\ncode C in {x, y}\nA + B = 10\n", b"A,B,C\n3,4,x\n", {0})
     for proof, expected in large_proofs(MOST_BYTES // 4):
         attack.proof(proof, expected)
     attack.end()
+
+
+def with_other_numbers(proof):
+    """The proof with each of its numbers in turn replaced by 0, 1, the greatest of 64 and of 128 bits, and the numbers beside it."""
+    found = list(re.finditer(rb"\d+", proof))
+    for number, match in enumerate(found):
+        others = {b"0", b"1", b"%d" % (2 ** 64 - 1), b"%d" % (2 ** 127 - 1)}
+        others |= {other.group() for other in found[max(number - 1, 0):number + 2]}
+        for other in sorted(others - {match.group()}):
+            yield proof[:match.start()] + other + proof[match.end():]
 
 
 def some(places, dice):
@@ -329,11 +374,26 @@ def large_proofs(size):
     yield SUM_PROOF + many(b"\n"), {9}
 
 
+def little_memory(attack, examples, dice):
+    """Edits, checks and `rules` that may take a tenth, a half and nine tenths of the memory that they need."""
+    attack.begin("little memory")
+    rules = (examples / "business.rules").read_bytes()
+    header, *rows = (examples / "business.csv").read_bytes().splitlines(True)
+    records = header + b"".join(rows) * (20000 // len(rows))
+    attack.files(rules, records, {0, 1})
+    for words in (EDIT, CHECK, RULES):
+        needed = attack.peak(words)
+        for tenths in (1, 5, 9):
+            attack.words(words, {0, 1, 7}, len(records) * 8, memory=needed * tenths // 10)
+        attack.files(rules, records, {0, 1})
+    attack.end()
+
+
 def words(attack, examples, dice):
     attack.begin("words and names")
     attack.files(b"number A\n", b"A\n1\n", {0})
     (attack.folder / "folder").mkdir()
-    for good, options in ((EDIT, [("--rules", 5), ("--records", 5), ("--reasons", 6), ("--released", 6), ("--proof", 6)]),
+    for good, options in ((RULES, [("--rules", 5)]), (EDIT, [("--rules", 5), ("--records", 5), ("--reasons", 6), ("--released", 6), ("--proof", 6)]),
                           (CHECK, [("--rules", 5), ("--records", 5), ("--released", 5), ("--proof", 5)])):
         attack.words(good, {0})
         for length in range(len(good)):
@@ -351,7 +411,12 @@ def words(attack, examples, dice):
         attack.words([good[0].encode(), b"--rules", b"\xff"], {2})
     for budget, status in (("1", 1), ("2", 0), ("007", 0), ("1000000000", 0), ("0", 2), ("1000000001", 2), ("99999999999", 2), ("+5", 2), ("", 2), ("1e3", 2)):
         attack.words(EDIT + ["--budget", budget], {status})
-    attack.words(CHECK + ["--budget", "5"], {2})
+    for option, most in (("--limit", 1000), ("--near", 64)):
+        for word, status in (("1", 0), ("007", 0), (str(most), 0), ("0", 2), (str(most + 1), 2), ("99999999999", 2), ("+5", 2), ("", 2), ("1e3", 2)):
+            attack.words(EDIT + ["--budget", "9", option, word], {status})
+    for option in ("--budget", "--limit", "--near"):
+        attack.words(CHECK + [option, "5"], {2})
+        attack.words(RULES + [option, "5"], {2})
     attack.words(CHECK + ["--reasons", "why"], {2})
     attack.end()
 
@@ -361,7 +426,7 @@ def main():
     with tempfile.TemporaryDirectory() as folder:
         attack = Attack(program, folder)
         try:
-            for group in (words, random_files, cut_files, changed_files, proofs, limits, hard_files):
+            for group in (words, little_memory, random_files, cut_files, changed_files, proofs, limits, hard_files):
                 group(attack, examples, random.Random(seed))
         except Failed as failure:
             kept = pathlib.Path(tempfile.mkdtemp(prefix="hostile-"))
