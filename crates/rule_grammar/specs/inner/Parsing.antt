@@ -146,7 +146,8 @@ term_at _ = None
 
 -- sign term
 abbrev pub signed_term_at : List Token → Reading SignedTerm
-signed_term_at ts = then_read (sign_at ts) (λ s after_sign. then_read (term_at after_sign) (λ t left. Some (record { sign = s; term = t }, left)))
+signed_term_at ts =
+    then_read (sign_at ts) (λ s after_sign. then_read (term_at after_sign) (λ t left. Some (record { sign = s; term = t }, left)))
 
 -- the sum that begins with this sign and this term
 abbrev pub sum_after : Option Sign → TermText → List Token → Reading SumText
@@ -188,7 +189,8 @@ in_list_at ts = if begins (is_word keyword.In) ts then list_at (rest_of ts) else
 -- the test of two sums whose left one is this
 abbrev pub compared_at : SumText → List Token → Reading TestText
 compared_at left ts =
-    then_read (compare_at ts) (λ compare after_mark. then_read (sum_at after_mark) (λ right last. Some (test.Sums left compare right, last)))
+    then_read (compare_at ts) (λ compare behind.
+    then_read (sum_at behind) (λ right last. Some (test.Sums left compare right, last)))
 
 -- the test of two sums that begins with this name
 abbrev pub sums_after : List ℕ → List Token → Reading TestText
