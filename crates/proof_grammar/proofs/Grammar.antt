@@ -17,7 +17,7 @@ use Rattle.proof_grammar.specs.declared.heads.LeafHead.TheVariants.{BadAt, Bound
 use Rattle.proof_grammar.specs.declared.heads.RowHead.{RowHead}
 use Rattle.proof_grammar.specs.declared.heads.RowHead.TheVariants.{BudgetAt, ChangeAt, CleanAt, ContradictoryAt, EventAt, GiftAt}
 use Rattle.proof_grammar.specs.declared.heads.RunLimits.{RunLimits}
-use Rattle.proof_grammar.specs.Heads.{AreLimits, IsLeafHead, IsRowHead, IsVerdictHead, leaf_head, leaves_behind, limits_line, row_head, steps_behind, verdict_head}
+use Rattle.proof_grammar.proofs.HeadLines.{AreLimits, IsLeafHead, IsRowHead, IsVerdictHead, leaf_head, leaves_behind, limits_line, row_head, steps_behind, verdict_head}
 use Rattle.proof_grammar.specs.Limits.{AreFit, IsChange, IsEntry, IsLeaf, IsLong, IsOutcome, IsPlain, IsRowProof, IsStep, clean_leaves}
 use Rattle.proof_grammar.specs.ProofLines.{Line, claim_line, count_line, end_line, leaf_lines, proof_lines, row_lines, step_line, verdict_lines, version_line}
 use Rattle.proof_grammar.proofs.FileForms.{claim_form, count_form, end_form, limits_form, verdict_form, version_form}

@@ -1,4 +1,4 @@
-use Rattle.std.proofs.Common.{◌≡◌, inl, inr, ℕ, ◌==◌, ◌||◌, Bool, true, false, if◌then◌else◌, List, [], ◌∷◌, Some, None, codes, map, refl, sym, ap, ◌∙◌, subst, arith}
+use Rattle.std.proofs.Common.{◌≡◌, ℕ, ◌==◌, ◌||◌, Bool, true, false, if◌then◌else◌, List, [], ◌∷◌, Some, None, codes, map, refl, sym, ap, ◌∙◌, subst, arith}
 use Rattle.std.specs.Fmt.{decimal}
 use Rattle.std.specs.List.{list_all}
 use Rattle.std.specs.Str.{bytes_eq}
@@ -7,13 +7,13 @@ use Rattle.std.proofs.lemmas.Slice.Eq.{bytes_eq-Decides}
 use Rattle.edit_line.proofs.BoolLaws.{both_true}
 use Rattle.proof_grammar.specs.declared.heads.LeafHead.{LeafHead}
 use Rattle.proof_grammar.specs.declared.heads.LeafHead.TheVariants.{BadAt, BoundAt, BoxAt, LineAt}
-use Rattle.proof_grammar.specs.Heads.{IsLeafHead, leaf_head}
+use Rattle.proof_grammar.proofs.HeadLines.{IsLeafHead, leaf_head}
 use Rattle.proof_grammar.specs.Limits.{IsLong}
 use Rattle.proof_grammar.specs.ProofLines.{Line, letter, path_word}
-use Rattle.proof_grammar.specs.LeafReading.{bad_in, bound_in, box_in, leaf_in, line_in}
+use Rattle.proof_grammar.specs.inner.LeafReading.{bad_in, bound_in, box_in, leaf_in, line_in}
 use Rattle.proof_grammar.specs.Words.{is_changed, is_path_letter, path_said}
 use Rattle.proof_grammar.proofs.Productions.{LineForm}
-use Rattle.proof_grammar.proofs.StepForms.{chosen}
+use Rattle.proof_grammar.proofs.StepForms.{first-found}
 use Rattle.proof_grammar.proofs.WordForms.{end-found, long_form, next-again, next-found}
 
 -- The forms of a path and of a leaf's first line.
@@ -99,19 +99,9 @@ box-found ws head e =
 
 pub head-found : (l : Line) (head : LeafHead) → leaf_in l ≡ Some head → IsLeafHead head × (l ≡ leaf_head head)
 head-found [] head e = absurd (cc (e))
-head-found (w ∷ ws) head e = elim (chosen w (codes "bound") (bound_in ws) _ head e) [
-  | inl (is, h) ↦ worded (codes "bound") is (bound-found ws head h)
-  | inr e1 ↦ elim (chosen w (codes "bad") (bad_in ws) _ head e1) [
-    | inl (is, h) ↦ worded (codes "bad") is (bad-found ws head h)
-    | inr e2 ↦ elim (chosen w (codes "line") (line_in ws) _ head e2) [
-      | inl (is, h) ↦ worded (codes "line") is (line-found ws head h)
-      | inr e3 ↦ elim (chosen w (codes "box") (box_in ws) None head e3) [ inl (is, h) ↦ worded (codes "box") is (box-found ws head h) | inr e4 ↦ absurd (cc (e4)) ]
-    ]
-  ]
-]
-  where
-    worded : (word : List ℕ) → w ≡ word → Found head word ws → IsLeafHead head × (w ∷ ws ≡ leaf_head head)
-    worded word is (fits, same) = (fits, ap (λ (v : List ℕ). v ∷ ws) is ∙ same)
+head-found (w ∷ ws) head e =
+    first-found IsLeafHead leaf_head ((codes "bound", bound_in) ∷ (codes "bad", bad_in) ∷ (codes "line", line_in) ∷ (codes "box", box_in) ∷ [])
+    (bound-found, (bad-found, (line-found, (box-found, tt)))) w ws head e
 
 pub head-again : (head : LeafHead) → IsLeafHead head → leaf_in (leaf_head head) ≡ Some head
 head-again (BoundAt path) fits = next-again IsPath path_word path_form path [] _ tt

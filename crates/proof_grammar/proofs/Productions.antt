@@ -1,6 +1,6 @@
 use Rattle.std.proofs.Common.{◌≡◌, ◌≢◌, ℕ, zero, suc, List, [], ◌∷◌, ◌++◌, Option, Some, None, Result, Ok, Err, refl, sym, ap, ◌∙◌, subst, append_assoc, append-nil}
 use Rattle.std.specs.List.{flat_map}
-use Rattle.proof_grammar.specs.Readings.{Reading, line_read, paired, read_line, read_many, seen, then_read}
+use Rattle.proof_grammar.specs.inner.Readings.{Reading, line_read, read_line, read_many, seen, then_read}
 
 -- Productions: what they print, how they are read at the front of lines, and where reading stops. Each law is proved once for each way of joining them.
 
@@ -37,6 +37,11 @@ pub record Production {L X : Type 0} (Good : X → Type 0) (print : X → List L
   pub again : (x : X) (rest : List L) → Good x → read (print x ++ rest) ≡ Ok (x, rest)
   pub found : (ls : List L) (x : X) (rest : List L) → read ls ≡ Ok (x, rest) → Good x × (ls ≡ print x ++ rest)
   pub stops : (ls left : List L) → read ls ≡ Err left → Stops Good print read ls left
+
+-- a value that was read before, beside what is read
+abbrev pub paired : {L X Y : Type 0} → X → Reading L Y → Reading L (X × Y)
+paired x (Err left) = Err left
+paired x (Ok (y, rest)) = Ok ((x, y), rest)
 
 -- ---- all of the lines
 

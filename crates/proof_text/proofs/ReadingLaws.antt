@@ -1,13 +1,24 @@
-use Rattle.std.proofs.Common.{◌≡◌, ℕ, suc, inl, inr, List, [], ◌∷◌, ◌++◌, Option, None, Result, Ok, Err, refl, sym, ap, ◌∙◌, subst, append_assoc, arith}
+use Rattle.std.proofs.Common.{◌≡◌, ℕ, suc, inl, inr, List, [], ◌∷◌, ◌++◌, Option, Some, None, Result, Ok, Err, refl, sym, ap, ◌∙◌, subst, append_assoc, arith}
 use Rattle.proof_grammar.specs.ProofLines.{Line}
 use Rattle.proof_grammar.specs.declared.fault.ProofFault.{ProofFault}
 use Rattle.proof_grammar.specs.declared.fault.ProofFault.TheVariants as fault
 use Rattle.proof_grammar.specs.declared.words.Stop.{Stop}
 use Rattle.proof_grammar.specs.declared.words.Stop.TheVariants as stop
-use Rattle.proof_grammar.specs.Readings.{EndsAt, LinesLeft, Reading, Reads, Settles, line_read, onto, read_line, read_many, seen, then_read}
+use Rattle.proof_grammar.specs.LinesLeft.{EndsAt, LinesLeft, Settles}
+use Rattle.proof_grammar.specs.inner.Readings.{Reading, Reads, line_read, read_line, read_many, seen, then_read}
 use Rattle.proof_grammar.specs.Words.{ReadsAs}
 
 -- What readers of lines answer.
+
+-- the values that were read before, and those that are read
+abbrev pub onto : {L X : Type 0} → List X → Reading L (List X) → Reading L (List X)
+onto xs (Err left) = Err left
+onto xs (Ok (ys, rest)) = Ok (xs ++ ys, rest)
+
+-- the words that were read before, and those that are read
+abbrev pub appended : {X : Type 0} → List X → Option (List X) → Option (List X)
+appended xs None = None
+appended xs (Some ys) = Some (xs ++ ys)
 
 -- a line that was taken, and what was read of it
 pub line-reads : {X : Type 0} (said : Line → Option X) (old new : LinesLeft) (ws : Line) (read : Result X Stop) (result : Result X ProofFault) → old.left ≡ ws ∷ new.left → new.all ≡ old.all → ReadsAs read (said ws) → Settles read new result

@@ -1,42 +1,24 @@
 //! The lines of claims.
 ghost use Rattle.proof_grammar.specs.Cuts.{split};
-ghost use Rattle.proof_grammar.specs.FileReading.{claim_behind, claim_in};
-ghost use Rattle.proof_grammar.specs.Readings.{Reads, read_line, read_many};
-ghost use Rattle.proof_grammar.specs.Words.{ReadsAs, all_in, named_short};
+ghost use Rattle.proof_grammar.specs.inner.FileReading.{claim_behind, claim_in};
+ghost use Rattle.proof_grammar.specs.inner.Readings.{read_line};
+ghost use Rattle.proof_grammar.specs.Words.{ReadsAs, named_short};
+ghost use Rattle.proof_grammar.specs.inner.WordLists.{all_in};
 
 use super::fitted::fitted;
+use super::parts::Part;
 use donor_book::Entry;
 use foundation::Sequence;
 use proof_grammar::{Lines, ProofFault, Stop, Words, named_short, settle};
 use std::alloc::Global;
 
-/// So many claims, a line each. Memory is taken for each when its line was read.
-pub(super) fn claims(
-    alloc: Global,
-    lines: &mut Lines,
-    count: u64,
-) -> Result<Sequence<Entry>, ProofFault>
-    ensures { Reads result lines.old lines.new (read_many (read_line claim_in) count lines.old.left) }
-{
-    let mut claims = Vec::new(alloc);
-    for _ in 0..count {
-        let claim = match next_claim(alloc, lines) {
-            Ok(claim) => claim,
-            Err(fault) => return Err(fault),
-        };
-        let Ok(()) = claims.push(claim) else {
-            return Err(ProofFault::OutOfMemory);
-        };
-    }
-    Ok(fitted(claims))
-}
+impl Part for Entry {
+    ghost reading = { read_line claim_in };
 
-// The claim of the next line.
-fn next_claim(alloc: Global, lines: &mut Lines) -> Result<Entry, ProofFault>
-    ensures { Reads result lines.old lines.new (read_line claim_in lines.old.left) }
-{
-    let line = lines.next()?;
-    settle(lines, claim(alloc, line))
+    fn read(alloc: Global, lines: &mut Lines) -> Result<Entry, ProofFault> {
+        let line = lines.next()?;
+        settle(lines, claim(alloc, line))
+    }
 }
 
 // The claim of a line.

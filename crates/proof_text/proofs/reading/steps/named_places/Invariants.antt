@@ -1,5 +1,7 @@
 use Rattle.std.proofs.Common.{◌≡◌, length}
-use Rattle.proof_grammar.specs.Words.{all_in, appended, named_long}
+use Rattle.proof_grammar.specs.Words.{named_long}
+use Rattle.proof_grammar.specs.inner.WordLists.{all_in}
+use Rattle.proof_text.proofs.ReadingLaws.{appended}
 use Rattle.proof_text.proofs.reading.steps.named_places.Given as goal
 
 abbrev pub decreases-loop-word : goal.decreases-loop-word

@@ -6,11 +6,12 @@ use Rattle.bound_cert.specs.declared.cert.LeafWhy.TheVariants as why
 use Rattle.proof_grammar.specs.declared.heads.LeafHead.{LeafHead}
 use Rattle.proof_grammar.specs.declared.heads.LeafHead.TheVariants.{BadAt, BoundAt, BoxAt, LineAt}
 use Rattle.proof_grammar.specs.ProofLines.{Line}
-use Rattle.proof_grammar.specs.StepReading.{step_in}
-use Rattle.proof_grammar.specs.Readings.{Reading, read_line, read_many, seen, then_read}
-use Rattle.proof_grammar.specs.Words.{ended, long_said, path_said, then_in, word_in}
+use Rattle.proof_grammar.specs.inner.StepReading.{step_in}
+use Rattle.proof_grammar.specs.inner.Readings.{Reading, read_line, read_many, seen, then_read}
+use Rattle.proof_grammar.specs.Words.{ended, long_said, path_said, word_in}
+use Rattle.proof_grammar.specs.inner.WordLists.{then_in}
 
--- How leaves are read. The contracts of the reader alone cite this page.
+-- How leaves are read.
 
 abbrev pub bound_in : Line → Option LeafHead
 bound_in ws = then_in (word_in path_said ws) (λ path ws. ended (BoundAt path) ws)
