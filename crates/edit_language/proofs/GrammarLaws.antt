@@ -276,7 +276,7 @@ pub told_of_line : (line : List ℕ) (before : SurveyParts) (number : ℕ) (s : 
 told_of_line line before number s (faults.At at kind) says told = (told.0, least_of_line line before s kind says told.1)
 told_of_line line before number s faults.OutOfMemory says told = tt
 
--- the same of an answer
+-- an answer that tells the fault of the statement tells that of its line
 pub told_by_line : {A : Type 0} (line : List ℕ) (before : SurveyParts) (number : ℕ) (s : Written) (answer : Result A RulesFault) → Says line s → IfErr answer (λ fault. IsFaultOfStatement s before number fault) → IfErr answer (λ fault. IsFaultOfLine line before number fault)
 told_by_line line before number s (Ok x) says told = tt
 told_by_line line before number s (Err fault) says told = told_of_line line before number s fault says told

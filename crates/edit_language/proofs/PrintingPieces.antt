@@ -83,7 +83,7 @@ opens_both {from} {mid} {to} {a} {b} {s} {u} first second = record {
 pub spells_from : {from to : Bool} {text : List ℕ} {tokens : List Token} → Opens from to text tokens → Spells from to text tokens
 spells_from opens = record { plain = opens.plain; read = λ rest _. opens.read rest }
 
--- the same text, put together in another way
+-- an equal text, put together in another way, spells the tokens too
 pub respelled : {from to : Bool} {tokens : List Token} (a b : List ℕ) → a ≡ b → Spells from to b tokens → Spells from to a tokens
 respelled {from} {to} {tokens} a b same spells = subst (λ (text : List ℕ). Spells from to text tokens) (sym same) spells
 

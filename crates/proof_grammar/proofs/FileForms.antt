@@ -46,7 +46,7 @@ behind-found ws entry e =
     let (row, w1, r_fits, e1, h1) = next-found IsShort named named_short_form ws _ entry e in
     let (reply, w2, o_fits, e2, h2) = next-found IsOption named_or_0 option_form w1 _ entry h1 in by row reply w1 w2 r_fits o_fits e1 e2 (all_in named_short w2) refl h2
   where
-    by : (row : ℕ) (reply : Option ℕ) (w1 w2 : Line) → IsShort row → IsOption reply → ws ≡ named row ∷ w1 → w1 ≡ named_or_0 reply ∷ w2 → (r : Option (List ℕ)) → all_in named_short w2 ≡ r → option_map (λ (ranking : List ℕ). entry_of row reply ranking) r ≡ Some entry
+    by : (row : ℕ) (reply : Option ℕ) (w1 w2 : Line) → IsShort row → IsOption reply → ws ≡ named row ∷ w1 → w1 ≡ named_or_0 reply ∷ w2 → (r : Option (List ℕ)) → all_in named_short w2 ≡ r → option_map (entry_of row reply) r ≡ Some entry
         → IsEntry entry × (codes "claim" ∷ ws ≡ claim_line entry)
     by row reply w1 w2 r_fits o_fits e1 e2 None is h = absurd (cc (h))
     by row reply w1 w2 r_fits o_fits e1 e2 (Some ranking) is h =
@@ -60,7 +60,7 @@ claim-found (w ∷ ws) entry e = first-found IsEntry claim_line ((codes "claim",
 
 pub claim-again : (entry : Entry) → IsEntry entry → claim_in (claim_line entry) ≡ Some entry
 claim-again entry fits =
-    next-again IsShort named named_short_form entry.row_no _ _ fits.0 ∙ next-again IsOption named_or_0 option_form entry.reply _ _ fits.1 ∙ ap (option_map (λ (ranking : List ℕ). entry_of entry.row_no entry.reply ranking)) (all-again IsShort named named_short_form entry.ranking fits.2)
+    next-again IsShort named named_short_form entry.row_no _ _ fits.0 ∙ next-again IsOption named_or_0 option_form entry.reply _ _ fits.1 ∙ ap (option_map (entry_of entry.row_no entry.reply)) (all-again IsShort named named_short_form entry.ranking fits.2)
 
 abbrev pub claim_form : LineForm IsEntry claim_line
 claim_form = record { read = claim_in; sample = record { row_no = 0; ranking = []; reply = None }; sound_sample = (omega arith, tt, tt); again = claim-again; found = claim-found }

@@ -88,7 +88,7 @@ row-reads ls = joined (λ pair. row_of pair.0 pair.1) (read_line row_in) (read_l
     behind (EventAt path event) rest = refl
     behind (ContradictoryAt n) rest = ap (λ (r : Reading Line (List Leaf)). seen (λ leaves. row_of (ContradictoryAt n) leaves) r) (leaves n rest)
 
--- ---- a count, and so many
+-- ---- a count, and as many values as it says
 
 pub counted-reads : {X : Type 0} (Good : X → Type 0) (print : X → List Line) (head : ℕ → Line) (form : LineForm IsLong head) (one : Production Good print) (read : List Line → Reading Line X) → ((ls : List Line) → one.read ls ≡ read ls) → (ls : List Line)
     → (counted Good print head form one).read ls ≡ counted_reading form.read read ls

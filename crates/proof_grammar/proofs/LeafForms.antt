@@ -10,7 +10,7 @@ use Rattle.proof_grammar.specs.declared.heads.LeafHead.TheVariants.{BadAt, Bound
 use Rattle.proof_grammar.proofs.HeadLines.{IsLeafHead, leaf_head}
 use Rattle.proof_grammar.specs.Limits.{IsLong}
 use Rattle.proof_grammar.specs.ProofLines.{Line, letter, path_word}
-use Rattle.proof_grammar.specs.inner.LeafReading.{bad_in, bound_in, box_in, leaf_in, line_in}
+use Rattle.proof_grammar.specs.inner.LeafReading.{bad_in, bound_in, box_in, leaf_in, line_in, path_and_number_in, path_in}
 use Rattle.proof_grammar.specs.Words.{is_changed, is_path_letter, path_said}
 use Rattle.proof_grammar.proofs.Productions.{LineForm}
 use Rattle.proof_grammar.proofs.StepForms.{first-found}
@@ -66,36 +66,35 @@ path-found (b ∷ bs) path e = by (bytes_eq (b ∷ bs) (codes "-")) refl e
 abbrev pub path_form : LineForm {L = List ℕ} IsPath path_word
 path_form = record { read = path_said; sample = []; sound_sample = tt; again = path-again; found = path-found }
 
+-- ---- a path alone, and a path and a number
+
+pub path-alone : {X : Type 0} (to : List Bool → X) (ws : Line) (x : X) → path_in to ws ≡ Some x → (path : List Bool) × (to path ≡ x) × (ws ≡ path_word path ∷ [])
+path-alone to ws x e =
+    let (path, w1, fits, e1, h1) = next-found IsPath path_word path_form ws _ x e in
+    let (own, none) = end-found (to path) x w1 h1 in (path, own, e1 ∙ ap (λ (v : Line). path_word path ∷ v) none)
+
+pub path-and-number : {X : Type 0} (to : List Bool → ℕ → X) (ws : Line) (x : X) → path_and_number_in to ws ≡ Some x → (path : List Bool) × (n : ℕ) × IsLong n × (to path n ≡ x) × (ws ≡ path_word path ∷ decimal n ∷ [])
+path-and-number to ws x e =
+    let (path, w1, fits, e1, h1) = next-found IsPath path_word path_form ws _ x e in
+    let (n, w2, n_fits, e2, h2) = next-found IsLong decimal long_form w1 _ x h1 in
+    let (own, none) = end-found (to path n) x w2 h2 in (path, n, n_fits, own, e1 ∙ ap (λ (v : Line). path_word path ∷ v) (e2 ∙ ap (λ (v : Line). decimal n ∷ v) none))
+
 -- ---- heads
 
 abbrev Found : LeafHead → List ℕ → Line → Type 0
 Found head word ws = IsLeafHead head × (word ∷ ws ≡ leaf_head head)
 
 bound-found : (ws : Line) (head : LeafHead) → bound_in ws ≡ Some head → Found head (codes "bound") ws
-bound-found ws head e =
-    let (path, w1, fits, e1, h1) = next-found IsPath path_word path_form ws _ head e in
-    let (own, none) = end-found (BoundAt path) head w1 h1 in
-    (subst IsLeafHead own (omega arith), ap (λ (v : Line). codes "bound" ∷ v) (e1 ∙ ap (λ (v : Line). path_word path ∷ v) none) ∙ ap leaf_head own)
+bound-found ws head e = let (path, own, words) = path-alone (λ p. BoundAt p) ws head e in (subst IsLeafHead own (omega arith), ap (λ (v : Line). codes "bound" ∷ v) words ∙ ap leaf_head own)
 
 bad-found : (ws : Line) (head : LeafHead) → bad_in ws ≡ Some head → Found head (codes "bad") ws
-bad-found ws head e =
-    let (path, w1, fits, e1, h1) = next-found IsPath path_word path_form ws _ head e in
-    let (own, none) = end-found (BadAt path) head w1 h1 in
-    (subst IsLeafHead own (omega arith), ap (λ (v : Line). codes "bad" ∷ v) (e1 ∙ ap (λ (v : Line). path_word path ∷ v) none) ∙ ap leaf_head own)
+bad-found ws head e = let (path, own, words) = path-alone (λ p. BadAt p) ws head e in (subst IsLeafHead own (omega arith), ap (λ (v : Line). codes "bad" ∷ v) words ∙ ap leaf_head own)
 
 line-found : (ws : Line) (head : LeafHead) → line_in ws ≡ Some head → Found head (codes "line") ws
-line-found ws head e =
-    let (path, w1, fits, e1, h1) = next-found IsPath path_word path_form ws _ head e in
-    let (n, w2, n_fits, e2, h2) = next-found IsLong decimal long_form w1 _ head h1 in
-    let (own, none) = end-found (LineAt path n) head w2 h2 in
-    (subst IsLeafHead own n_fits, ap (λ (v : Line). codes "line" ∷ v) (e1 ∙ ap (λ (v : Line). path_word path ∷ v) (e2 ∙ ap (λ (v : Line). decimal n ∷ v) none)) ∙ ap leaf_head own)
+line-found ws head e = let (path, n, fits, own, words) = path-and-number (λ p m. LineAt p m) ws head e in (subst IsLeafHead own fits, ap (λ (v : Line). codes "line" ∷ v) words ∙ ap leaf_head own)
 
 box-found : (ws : Line) (head : LeafHead) → box_in ws ≡ Some head → Found head (codes "box") ws
-box-found ws head e =
-    let (path, w1, fits, e1, h1) = next-found IsPath path_word path_form ws _ head e in
-    let (n, w2, n_fits, e2, h2) = next-found IsLong decimal long_form w1 _ head h1 in
-    let (own, none) = end-found (BoxAt path n) head w2 h2 in
-    (subst IsLeafHead own n_fits, ap (λ (v : Line). codes "box" ∷ v) (e1 ∙ ap (λ (v : Line). path_word path ∷ v) (e2 ∙ ap (λ (v : Line). decimal n ∷ v) none)) ∙ ap leaf_head own)
+box-found ws head e = let (path, n, fits, own, words) = path-and-number (λ p m. BoxAt p m) ws head e in (subst IsLeafHead own fits, ap (λ (v : Line). codes "box" ∷ v) words ∙ ap leaf_head own)
 
 pub head-found : (l : Line) (head : LeafHead) → leaf_in l ≡ Some head → IsLeafHead head × (l ≡ leaf_head head)
 head-found [] head e = absurd (cc (e))

@@ -263,7 +263,7 @@ module _ {L X Y : Type 0} (Good : X → Type 0) (print : X → List L) (Next : X
     stops = both-stops;
   }
 
--- ---- the same values, seen otherwise
+-- ---- values turned into others
 
 -- two ways to see the values, and what they print
 pub record View {L X Y : Type 0} (Good : X → Type 0) (print : X → List L) (Fine : Y → Type 0) (print_as : Y → List L) : Type 0 where
@@ -332,9 +332,9 @@ module _ {L X Y : Type 0} (Good : X → Type 0) (print : X → List L) (Fine : Y
     stops = seen-stops;
   }
 
--- ---- so many
+-- ---- a number of values, one after another
 
--- so many, each of them good
+-- `n` values, each of them good
 abbrev pub AreMany : {X : Type 0} → (X → Type 0) → ℕ → List X → Type 0
 AreMany Good zero [] = Unit {0}
 AreMany Good (suc n) (x ∷ xs) = Good x × AreMany Good n xs
@@ -377,7 +377,7 @@ module _ {L X : Type 0} (Good : X → Type 0) (print : X → List L) (A : Produc
       back [] are = absurd are
       back (x ∷ xs) are = (are, refl, refl)
 
-  -- so many of them
+  -- `n` of them
   unfoldable pub many : (n : ℕ) → Production (AreMany Good n) (flat_map print)
   many zero = none
   many (suc n) = as_seen _ _ _ _ (one_more n) (follow Good print (λ _. AreMany Good n) (λ _. flat_map print) A (λ _. many n))

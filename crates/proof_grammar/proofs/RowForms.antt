@@ -7,7 +7,7 @@ use Rattle.proof_grammar.proofs.HeadLines.{IsRowHead, row_head}
 use Rattle.proof_grammar.specs.Limits.{IsLong, IsPlace, IsShort}
 use Rattle.proof_grammar.specs.ProofLines.{Line, gift_words, named, path_word, place_word}
 use Rattle.proof_grammar.specs.inner.RowReading.{budget_in, change_in, clean_in, contradictory_in, gift_in, row_in, step_event_in, test_event_in}
-use Rattle.proof_grammar.proofs.LeafForms.{IsPath, path_form}
+use Rattle.proof_grammar.proofs.LeafForms.{IsPath, path-and-number, path_form}
 use Rattle.proof_grammar.proofs.MoreWordForms.{IsLess, gift-next, gift-then, place_form, positive_form}
 use Rattle.proof_grammar.proofs.Productions.{LineForm}
 use Rattle.proof_grammar.proofs.StepForms.{first-found}
@@ -45,11 +45,7 @@ gift-found ws head e =
     )
 
 budget-found : (ws : Line) (head : RowHead) → budget_in ws ≡ Some head → Found head (codes "budget") ws
-budget-found ws head e =
-    let (path, w1, p_fits, e1, h1) = next-found IsPath path_word path_form ws _ head e in
-    let (work, w2, w_fits, e2, h2) = next-found IsLong decimal long_form w1 _ head h1 in
-    let (own, none) = end-found (BudgetAt path work) head w2 h2 in
-    (subst IsRowHead own w_fits, ap (λ (v : Line). codes "budget" ∷ v) (e1 ∙ ap (λ (v : Line). path_word path ∷ v) (e2 ∙ ap (λ (v : Line). decimal work ∷ v) none)) ∙ ap row_head own)
+budget-found ws head e = let (path, work, fits, own, words) = path-and-number (λ p m. BudgetAt p m) ws head e in (subst IsRowHead own fits, ap (λ (v : Line). codes "budget" ∷ v) words ∙ ap row_head own)
 
 step-found : (ws : Line) (head : RowHead) → step_event_in ws ≡ Some head → Found head (codes "step") ws
 step-found ws head e =

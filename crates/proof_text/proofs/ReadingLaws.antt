@@ -38,7 +38,7 @@ none-reads said old new (fault.At line) none (inl left, number) = (old.left, ap 
 none-reads said old new (fault.At line) none (inr left, number) = (old.left, ap (read_line said) left ∙ ap (line_read [] []) none ∙ ap (λ ls. Err ls) (sym left), number)
 none-reads said old new fault.OutOfMemory none ends = absurd ends
 
--- one more of so many
+-- one more value, and those behind it
 pub many-more : {L X : Type 0} (read : List L → Reading L X) (n : ℕ) (xs : List X) (x : X) (ls rest : List L) → read ls ≡ Ok (x, rest) → onto xs (read_many read (suc n) ls) ≡ onto (xs ++ x ∷ []) (read_many read n rest)
 many-more {L} {X} read n xs x ls rest is = ap (λ r. onto xs (then_read r (λ y later. seen (λ ys. y ∷ ys) (read_many read n later)))) is ∙ by (read_many read n rest)
   where
@@ -46,11 +46,11 @@ many-more {L} {X} read n xs x ls rest is = ap (λ r. onto xs (then_read r (λ y 
     by (Err left) = refl
     by (Ok (ys, later)) = ap (λ zs. Ok (zs, later)) (sym (append_assoc xs (x ∷ []) ys))
 
--- where one of so many stops, all do
+-- where the reading of one value stops, that of all does
 pub many-stops : {L X : Type 0} (read : List L → Reading L X) (n : ℕ) (xs : List X) (ls left : List L) → read ls ≡ Err left → onto xs (read_many read (suc n) ls) ≡ Err left
 many-stops read n xs ls left is = ap (λ r. onto xs (then_read r (λ y later. seen (λ ys. y ∷ ys) (read_many read n later)))) is
 
--- a turn of the loop over so many
+-- a turn of the loop that reads one value after another
 pub many-kept : {X : Type 0} (read : List Line → Reading Line X) (n m : ℕ) (xs ys : List X) (x : X) (ls rest : List Line) (whole : Reading Line (List X)) → suc m ≡ n → ys ≡ xs ++ x ∷ [] → onto xs (read_many read n ls) ≡ whole → read ls ≡ Ok (x, rest)
     → onto ys (read_many read m rest) ≡ whole
 many-kept read n m xs ys x ls rest whole count more kept is =

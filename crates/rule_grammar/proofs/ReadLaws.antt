@@ -31,7 +31,7 @@ pub spells_behind : {X : Type 0} (front : List Token) (spelling : X → List Tok
 spells_behind front spelling ts None one = tt
 spells_behind front spelling ts (Some found) one = ap (λ l. front ++ l) one ∙ sym (append_assoc front (spelling found.0) found.1)
 
--- the same reading under another spelling
+-- a reading under another spelling
 pub spells_as : {X Y : Type 0} (spelling : X → List Token) (other : Y → List Token) (made : X → Y) (ts : List Token) (reading : Reading X) → ((x : X) → other (made x) ≡ spelling x) → Spells spelling ts reading → Spells other ts (then_read reading (λ x left. Some (made x, left)))
 spells_as spelling other made ts None same one = tt
 spells_as spelling other made ts (Some found) same one = rw (same found.0) one

@@ -38,7 +38,7 @@ entry_of row reply ranking = record { row_no = row; ranking = ranking; reply = r
 abbrev pub claim_behind : Line → Option Entry
 claim_behind ws =
     then_in (word_in named_short ws) (λ row ws.
-    then_in (word_in named_short_or_0 ws) (λ reply ws. option_map (λ (ranking : List ℕ). entry_of row reply ranking) (all_in named_short ws)))
+    then_in (word_in named_short_or_0 ws) (λ reply ws. option_map (entry_of row reply) (all_in named_short ws)))
 
 abbrev pub claim_in : Line → Option Entry
 claim_in [] = None

@@ -2,14 +2,12 @@
 ghost use Rattle.proof_grammar.specs.Cuts.{split};
 ghost use Rattle.proof_grammar.specs.inner.FileReading.{claim_behind, claim_in};
 ghost use Rattle.proof_grammar.specs.inner.Readings.{read_line};
-ghost use Rattle.proof_grammar.specs.Words.{ReadsAs, named_short};
-ghost use Rattle.proof_grammar.specs.inner.WordLists.{all_in};
+ghost use Rattle.proof_grammar.specs.Words.{ReadsAs};
 
-use super::fitted::fitted;
+use super::names::all_named;
 use super::parts::Part;
 use donor_book::Entry;
-use foundation::Sequence;
-use proof_grammar::{Lines, ProofFault, Stop, Words, named_short, settle};
+use proof_grammar::{Lines, ProofFault, Stop, Words, settle};
 use std::alloc::Global;
 
 impl Part for Entry {
@@ -42,26 +40,10 @@ fn behind_claim(alloc: Global, words: &mut Words) -> Result<Entry, Stop>
 {
     let row_no = words.named_short()?;
     let reply = words.named_short_or_none()?;
-    let ranking = named_rows(alloc, words)?;
+    let ranking = all_named(alloc, words)?;
     Ok(Entry {
         row_no,
         ranking,
         reply,
     })
-}
-
-// The rows that all words name.
-fn named_rows(alloc: Global, words: &mut Words) -> Result<Sequence<u32>, Stop>
-    ensures { ReadsAs result (all_in named_short words.old) }
-{
-    let mut rows = Vec::new(alloc);
-    while let Some(word) = words.next() {
-        let Some(row) = named_short(word) else {
-            return Err(Stop::Form);
-        };
-        let Ok(()) = rows.push(row) else {
-            return Err(Stop::OutOfMemory);
-        };
-    }
-    Ok(fitted(rows))
 }

@@ -2,14 +2,12 @@
 ghost use Rattle.proof_grammar.specs.Cuts.{split};
 ghost use Rattle.proof_grammar.specs.inner.StepReading.{combine_in, cover_in, fail_in, fix_in, given_in, step_in};
 ghost use Rattle.proof_grammar.specs.inner.Readings.{read_line};
-ghost use Rattle.proof_grammar.specs.Words.{ReadsAs, named_long};
-ghost use Rattle.proof_grammar.specs.inner.WordLists.{all_in};
+ghost use Rattle.proof_grammar.specs.Words.{ReadsAs};
 
-use super::fitted::fitted;
+use super::names::all_named;
 use super::parts::Part;
 use derivation::Step;
-use foundation::Sequence;
-use proof_grammar::{Lines, ProofFault, Stop, Words, named_long, settle};
+use proof_grammar::{Lines, ProofFault, Stop, Words, settle};
 use std::alloc::Global;
 
 impl Part for Step {
@@ -80,24 +78,8 @@ fn cover(alloc: Global, words: &mut Words) -> Result<Step, Stop>
     ensures { ReadsAs result (cover_in words.old) }
 {
     let field = words.named_short()?;
-    let parts = named_places(alloc, words)?;
+    let parts = all_named(alloc, words)?;
     Ok(Step::Cover { field, parts })
-}
-
-// The places that all words name.
-fn named_places(alloc: Global, words: &mut Words) -> Result<Sequence<u64>, Stop>
-    ensures { ReadsAs result (all_in named_long words.old) }
-{
-    let mut places = Vec::new(alloc);
-    while let Some(word) = words.next() {
-        let Some(place) = named_long(word) else {
-            return Err(Stop::Form);
-        };
-        let Ok(()) = places.push(place) else {
-            return Err(Stop::OutOfMemory);
-        };
-    }
-    Ok(fitted(places))
 }
 
 // A field whose code is fixed.
