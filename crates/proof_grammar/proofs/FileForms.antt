@@ -55,8 +55,9 @@ behind-found ws entry e =
         (subst IsEntry own (r_fits, o_fits, all), ap (λ (v : Line). codes "claim" ∷ v) (e1 ∙ ap (λ (v : Line). named row ∷ v) (e2 ∙ ap (λ (v : Line). named_or_0 reply ∷ v) words)) ∙ ap claim_line own)
 
 pub claim-found : (l : Line) (entry : Entry) → claim_in l ≡ Some entry → IsEntry entry × (l ≡ claim_line entry)
-claim-found [] entry e = absurd (cc (e))
-claim-found (w ∷ ws) entry e = first-found IsEntry claim_line ((codes "claim", claim_behind) ∷ []) (behind-found, tt) w ws entry e
+claim-found l entry e =
+    let (u, ws, fits, is, h) = next-found Always (λ (u : Unit {0}). codes "claim") (fixed_form (codes "claim")) l _ entry e in
+    let (good, same) = behind-found ws entry h in (good, is ∙ same)
 
 pub claim-again : (entry : Entry) → IsEntry entry → claim_in (claim_line entry) ≡ Some entry
 claim-again entry fits =

@@ -41,8 +41,7 @@ claim_behind ws =
     then_in (word_in named_short_or_0 ws) (λ reply ws. option_map (entry_of row reply) (all_in named_short ws)))
 
 abbrev pub claim_in : Line → Option Entry
-claim_in [] = None
-claim_in (w ∷ ws) = if bytes_eq w (codes "claim") then claim_behind ws else None
+claim_in ws = then_in (word_in (fixed_said (codes "claim")) ws) (λ u ws. claim_behind ws)
 
 -- ---- the file
 

@@ -24,14 +24,8 @@ fn claim(alloc: Global, line: &[u8]) -> Result<Entry, Stop>
     ensures { ReadsAs result (claim_in (split 32 line.now)) }
 {
     let mut words = Words::new(line);
-    let Some(kind) = words.next() else {
-        return Err(Stop::Form);
-    };
-    if kind == b"claim".as_slice() {
-        behind_claim(alloc, &mut words)
-    } else {
-        Err(Stop::Form)
-    }
+    words.fixed(b"claim")?;
+    behind_claim(alloc, &mut words)
 }
 
 // The row that claims, the donor that it was given, and its ranking.
