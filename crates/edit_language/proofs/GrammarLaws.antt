@@ -22,7 +22,7 @@ use Rattle.rule_grammar.specs.declared.token.Sign.{Sign}
 use Rattle.rule_grammar.specs.declared.token.Token.{Token}
 use Rattle.edit_language.specs.Faults.{has_fault, kind_number}
 use Rattle.edit_language.specs.Grammar.{Adds, AddsAll, HasFault, IsLeastFault, IsRuleText, IsRulesFault, Says, SaysNothing, no_statements}
-use Rattle.edit_language.specs.Lines.{has_bad_byte, is_bad_byte, lines_of, read_part}
+use Rattle.edit_language.specs.Lines.{has_bad_byte, is_bad_byte, read_part, text_lines}
 use Rattle.edit_language.specs.Meaning.{extended}
 use Rattle.edit_language.specs.Reading.{IsFaultOf, IsNoRuleText, IsOnlyFaultOf}
 use Rattle.edit_language.specs.declared.fault.RulesFault.{RulesFault}
@@ -169,7 +169,7 @@ all_once (line ∷ lines) before a b first second =
 
 -- a text is the rule text of one survey
 pub rule_text_once : (bytes : List ℕ) (a b : SurveyParts) → IsRuleText bytes a → IsRuleText bytes b → a ≡ b
-rule_text_once bytes a b first second = all_once (lines_of bytes) no_statements a b first second
+rule_text_once bytes a b first second = all_once (text_lines bytes) no_statements a b first second
 
 -- lines of which one has a fault add up to nothing
 fault_stops_all : (earlier : List (List ℕ)) (line : List ℕ) (later : List (List ℕ)) (before at after : SurveyParts) (kind : RulesKind) → AddsAll earlier before at → HasFault line at kind → AddsAll (earlier ++ line ∷ later) before after → ⊥
@@ -212,7 +212,7 @@ rules_fault_once bytes m n k l first second =
 -- the lines that are read make the draft, and the rest of the text has the other lines
 pub record IsReadTo (bytes rest : List ℕ) (number : ℕ) (draft : SurveyParts) : Type 0 where
   pub earlier : List (List ℕ)
-  pub split : lines_of bytes ≡ earlier ++ slice_split (λ b. b == 10) rest
+  pub split : text_lines bytes ≡ earlier ++ slice_split (λ b. b == 10) rest
   pub counted : length earlier ≡ number
   pub read : AddsAll earlier no_statements draft
   pub within : number + length rest ≤ length bytes
@@ -266,7 +266,7 @@ fault_at_last bytes rest number draft kind so_far none fault =
 -- all lines are read
 pub read_all : (bytes rest : List ℕ) (number : ℕ) (draft survey : SurveyParts) → IsReadTo bytes rest number draft → position_or_len (λ b. b == 10) rest ≡ length rest → Adds rest draft survey → IsRuleText bytes survey
 read_all bytes rest number draft survey so_far none adds =
-    let lines : lines_of bytes ≡ so_far.earlier ++ rest ∷ [] = so_far.split ∙ ap (λ (lines : List (List ℕ)). so_far.earlier ++ lines) (last_line rest none) in
+    let lines : text_lines bytes ≡ so_far.earlier ++ rest ∷ [] = so_far.split ∙ ap (λ (lines : List (List ℕ)). so_far.earlier ++ lines) (last_line rest none) in
     subst (λ (ls : List (List ℕ)). AddsAll ls no_statements survey) (sym lines) (adds_more so_far.earlier rest no_statements draft survey so_far.read adds)
 
 -- ---- what an answer says
@@ -276,7 +276,7 @@ pub told_of_line : (line : List ℕ) (before : SurveyParts) (number : ℕ) (s : 
 told_of_line line before number s (faults.At at kind) says told = (told.0, least_of_line line before s kind says told.1)
 told_of_line line before number s faults.OutOfMemory says told = tt
 
--- the same of an answer
+-- an answer that tells the fault of the statement tells that of its line
 pub told_by_line : {A : Type 0} (line : List ℕ) (before : SurveyParts) (number : ℕ) (s : Written) (answer : Result A RulesFault) → Says line s → IfErr answer (λ fault. IsFaultOfStatement s before number fault) → IfErr answer (λ fault. IsFaultOfLine line before number fault)
 told_by_line line before number s (Ok x) says told = tt
 told_by_line line before number s (Err fault) says told = told_of_line line before number s fault says told

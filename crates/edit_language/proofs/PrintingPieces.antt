@@ -11,11 +11,11 @@ use Rattle.std.specs.Int.{IsInRange}
 use Rattle.std.specs.List.{list_all, prefix_len}
 use Rattle.std.specs.Str.Parse.{AllDigits}
 use Rattle.edit_model.specs.Surveys.{IsName, is_digit, is_letter, is_name}
+use Rattle.rule_grammar.proofs.Keywords.{each_keyword}
 use Rattle.rule_grammar.specs.Names.{IsCodeText}
 use Rattle.rule_grammar.specs.Tokens.{decimals_len, is_code_byte, is_inside_after, is_word_byte, whole_numeral}
 use Rattle.rule_grammar.specs.inner.Fronts.{tokens_from}
 use Rattle.rule_grammar.specs.declared.token.Keyword.{Keyword}
-use Rattle.rule_grammar.specs.declared.token.Keyword.TheVariants as keyword
 use Rattle.rule_grammar.specs.declared.token.Numeral.TheVariants as numeral
 use Rattle.rule_grammar.specs.declared.token.Token.{Token}
 use Rattle.rule_grammar.specs.declared.token.Token.TheVariants as token
@@ -83,7 +83,7 @@ opens_both {from} {mid} {to} {a} {b} {s} {u} first second = record {
 pub spells_from : {from to : Bool} {text : List ℕ} {tokens : List Token} → Opens from to text tokens → Spells from to text tokens
 spells_from opens = record { plain = opens.plain; read = λ rest _. opens.read rest }
 
--- the same text, put together in another way
+-- an equal text, put together in another way, spells the tokens too
 pub respelled : {from to : Bool} {tokens : List Token} (a b : List ℕ) → a ≡ b → Spells from to b tokens → Spells from to a tokens
 respelled {from} {to} {tokens} a b same spells = subst (λ (text : List ℕ). Spells from to text tokens) (sym same) spells
 
@@ -111,15 +111,7 @@ pub blank_opens : (inside : Bool) → Opens inside inside (32 ∷ []) []
 blank_opens inside = record { plain = refl; read = λ rest. tokens_from_blank inside 32 rest refl }
 
 keyword_plain : (k : Keyword) → IsPlain (keyword_text k)
-keyword_plain keyword.Number = refl
-keyword_plain keyword.Code = refl
-keyword_plain keyword.Weight = refl
-keyword_plain keyword.Scale = refl
-keyword_plain keyword.In = refl
-keyword_plain keyword.Not = refl
-keyword_plain keyword.If = refl
-keyword_plain keyword.And = refl
-keyword_plain keyword.Then = refl
+keyword_plain = each_keyword (λ (k : Keyword). IsPlain (keyword_text k)) refl refl refl refl refl refl refl refl refl
 
 -- a keyword and a blank
 pub keyword_opens : (k : Keyword) → Opens false false (keyword_text k ++ 32 ∷ []) (token.Keyword k ∷ [])

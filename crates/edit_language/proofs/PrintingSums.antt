@@ -130,7 +130,7 @@ names_differ fields i j d distinct i_below j_below =
 pub name_at_is : (fields : List Field) (i : ℕ) (d : Field) → i < length fields → name_at fields i ≡ (get_or fields i d).name
 name_at_is fields i d below = rw (slice_get-get_or fields i d below) refl
 
--- each term's field is one of the first ones, so many
+-- each term's field is one of the first `n`
 abbrev pub AreBelow : ℕ → List Term → Type 0
 AreBelow n [] = ⊤
 AreBelow n (t ∷ ts) = (t.field < n) × AreBelow n ts

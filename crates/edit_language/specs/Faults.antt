@@ -7,8 +7,8 @@ use Rattle.edit_model.specs.Corrections.{is_numerical}
 use Rattle.edit_model.specs.Parts.{SurveyParts}
 use Rattle.edit_model.specs.declared.field.Field.{Field}
 use Rattle.edit_model.specs.declared.field.Kind.{Kind}
-use Rattle.edit_model.specs.declared.rule.Compare.TheVariants.{Ge, Gt, Le, Lt, Eq}
-use Rattle.rule_grammar.specs.declared.statement.Declaration.{Declaration as Declared}
+use Rattle.edit_model.specs.declared.rule.Compare.TheVariants.{Eq}
+use Rattle.rule_grammar.specs.declared.statement.CodeList.{CodeList}
 use Rattle.rule_grammar.specs.declared.statement.Declaration.TheVariants as declaration
 use Rattle.rule_grammar.specs.declared.statement.RuleText.{RuleText}
 use Rattle.rule_grammar.specs.declared.statement.SignedTerm.{SignedTerm}
@@ -55,7 +55,8 @@ kind_name ConditionForm = codes "ConditionForm"
 
 -- how a fault is told
 abbrev pub fault_text : RulesFault → List ℕ
-fault_text (fault.At line kind) = codes "line " ++ decimal line ++ codes " kind " ++ decimal (kind_number kind) ++ codes " " ++ kind_name kind
+fault_text (fault.At line kind) =
+    codes "line " ++ decimal line ++ codes " kind " ++ decimal (kind_number kind) ++ codes " " ++ kind_name kind
 fault_text fault.OutOfMemory = codes "out of memory"
 
 -- ---- names
@@ -79,7 +80,7 @@ is_known_term fields (term.Product factor times field) = is_number_name fields f
 is_known_term fields (term.Field field) = is_number_name fields field
 is_known_term fields (term.Constant number) = true
 
--- the same of all terms of a sum
+-- whether each term of the sum has a numerical field, if it has one
 abbrev pub is_known_sum : List Field → SumText → Bool
 is_known_sum fields s = list_all (λ (t : SignedTerm). is_known_term fields t.term) (terms_of s)
 
@@ -90,9 +91,13 @@ is_known_test fields (written.Sums left compare right) = is_known_sum fields lef
 
 -- ---- codes
 
+-- whether each code of the list is one of the field's
+abbrev pub are_known_codes : List Field → List ℕ → CodeList → Bool
+are_known_codes fields field list = list_all (λ code. is_listed (codes_of (field_named fields field)) code) (listed list)
+
 -- whether the field of a code test is known, and one of its codes is none of the field's
 abbrev pub has_unknown_code : List Field → TestText → Bool
-has_unknown_code fields (written.Codes field negated list) = is_code_name fields field && not (list_all (λ code. is_listed (codes_of (field_named fields field)) code) (listed list))
+has_unknown_code fields (written.Codes field negated list) = is_code_name fields field && not (are_known_codes fields field list)
 has_unknown_code fields (written.Sums left compare right) = false
 
 -- whether a text stands twice in the list
@@ -127,13 +132,25 @@ is_large_term (term.Constant number) = is_above (10 ^ 15) number
 abbrev pub is_large_sum : SumText → Bool
 is_large_sum s = list_any (λ (t : SignedTerm). is_large_term t.term) (terms_of s)
 
--- a field's factors, added up, are at most 10^9 in absolute value, and the constants, added up, at most 10^15
+-- whether the factors of the field with this name, added up, are above 10^9 in absolute value
+abbrev pub is_large_factor : SumText → SumText → List ℕ → Bool
+is_large_factor left right name = nat_lt (10 ^ 9) (unsigned_abs (moved_factor left right name))
+
+abbrev pub has_large_factor : List Field → SumText → SumText → Bool
+has_large_factor fields left right = list_any (λ (f : Field). is_large_factor left right f.name) fields
+
+-- whether the constants, added up, are above 10^15 in absolute value
+abbrev pub is_large_constant : SumText → SumText → Bool
+is_large_constant left right = nat_lt (10 ^ 15) (unsigned_abs (moved_constant left right))
+
+-- whether a number of two sums, or what is added up of them, is out of its limits
+abbrev pub are_large_sums : List Field → SumText → SumText → Bool
+are_large_sums fields left right =
+    is_large_sum left || (is_large_sum right || (has_large_factor fields left right || is_large_constant left right))
+
 abbrev pub is_large_test : List Field → TestText → Bool
 is_large_test fields (written.Codes field negated list) = false
-is_large_test fields (written.Sums left compare right) =
-    is_large_sum left || (is_large_sum right
-    || (list_any (λ (f : Field). nat_lt (10 ^ 9) (unsigned_abs (moved_factor left right f.name))) fields
-    || nat_lt (10 ^ 15) (unsigned_abs (moved_constant left right))))
+is_large_test fields (written.Sums left compare right) = are_large_sums fields left right
 
 -- ---- conditions
 
@@ -147,7 +164,9 @@ is_equation other = false
 
 -- a number test among the conditions is the only one, is no equation, and implies a code test
 abbrev pub has_form : RuleText → Bool
-has_form r = not (list_any is_sums r.conditions) || ((length r.conditions == 1) && (not (list_any is_equation r.conditions) && not (is_sums r.conclusion)))
+has_form r =
+    not (list_any is_sums r.conditions)
+    || ((length r.conditions == 1) && (not (list_any is_equation r.conditions) && not (is_sums r.conclusion)))
 
 -- ---- the faults of a statement
 
@@ -169,14 +188,16 @@ has_code_twice (statement.Rule r) = list_any has_double_code (tests_in (statemen
 
 -- whether a weight, a scale, or a number of a test is out of its limits
 abbrev pub is_out_of_range : List Field → Written → Bool
-is_out_of_range fields (statement.Declaration (declaration.Number name weight scale)) = is_outside 1000 weight || is_outside (10 ^ 12) scale
+is_out_of_range fields (statement.Declaration (declaration.Number name weight scale)) =
+    is_outside 1000 weight || is_outside (10 ^ 12) scale
 is_out_of_range fields (statement.Declaration (declaration.Code name weight list)) = is_outside 1000 weight
 is_out_of_range fields (statement.Rule r) = list_any (is_large_test fields) (tests_in (statement.Rule r))
 
 -- whether the statement declares the 65th field or more than 64 codes, or is the 501st rule
 abbrev pub is_too_many : SurveyParts → Written → Bool
 is_too_many before (statement.Declaration (declaration.Number name weight scale)) = nat_le 64 (length before.fields)
-is_too_many before (statement.Declaration (declaration.Code name weight list)) = nat_le 64 (length before.fields) || nat_lt 64 (length (listed list))
+is_too_many before (statement.Declaration (declaration.Code name weight list)) =
+    nat_le 64 (length before.fields) || nat_lt 64 (length (listed list))
 is_too_many before (statement.Rule r) = nat_le 500 (length before.rules)
 
 -- whether a number test stands among the conditions where it may not
@@ -184,7 +205,7 @@ abbrev pub has_wrong_form : Written → Bool
 has_wrong_form (statement.Declaration d) = false
 has_wrong_form (statement.Rule r) = not (has_form r)
 
--- whether the statement, after the lines before it, has a fault of this kind; bad bytes and syntax are faults of a line, not of a statement
+-- whether the statement, after the lines before it, has a fault of this kind; bad bytes and syntax are faults of a line
 abbrev pub has_fault : SurveyParts → Written → RulesKind → Bool
 has_fault before s UnknownField = not (list_all (is_known_test before.fields) (tests_in s))
 has_fault before s DoubleField = is_declared_again before.fields s

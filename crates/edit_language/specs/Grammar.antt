@@ -5,7 +5,7 @@ use Rattle.rule_grammar.specs.Statements.{statement_tokens}
 use Rattle.rule_grammar.specs.Tokens.{tokens_of}
 use Rattle.rule_grammar.specs.declared.statement.Statement.{Statement as Written}
 use Rattle.edit_language.specs.Faults.{has_fault, kind_number}
-use Rattle.edit_language.specs.Lines.{has_bad_byte, lines_of, read_part}
+use Rattle.edit_language.specs.Lines.{has_bad_byte, read_part, text_lines}
 use Rattle.edit_language.specs.Meaning.{extended}
 use Rattle.edit_language.specs.declared.fault.RulesKind.{RulesKind}
 use Rattle.edit_language.specs.declared.fault.RulesKind.TheVariants.{BadByte, Syntax}
@@ -42,7 +42,7 @@ AddsAll (line ∷ lines) before after = (next : SurveyParts) × Adds line before
 
 -- a rule text: its lines, one after the other, make the survey
 abbrev pub IsRuleText : List ℕ → SurveyParts → Type 0
-IsRuleText bytes survey = AddsAll (lines_of bytes) no_statements survey
+IsRuleText bytes survey = AddsAll (text_lines bytes) no_statements survey
 
 -- something stands on the line, and it is no statement
 pub record SaysNothing (line : List ℕ) : Type 0 where
@@ -66,7 +66,7 @@ pub record IsRulesFault (bytes : List ℕ) (number : ℕ) (kind : RulesKind) : T
   pub line : List ℕ
   pub later : List (List ℕ)
   pub before : SurveyParts
-  pub split : lines_of bytes ≡ earlier ++ line ∷ later
+  pub split : text_lines bytes ≡ earlier ++ line ∷ later
   pub counted : number ≡ length earlier + 1
   pub read : AddsAll earlier no_statements before
   pub fault : IsLeastFault line before kind

@@ -11,8 +11,8 @@ abbrev pub without_mark : List ℕ → List ℕ
 without_mark bytes = if starts_with nat_eq bytes order_mark then drop 3 bytes else bytes
 
 -- the lines of a text: what stands before, between and after its line feeds
-abbrev pub lines_of : List ℕ → List (List ℕ)
-lines_of bytes = slice_split (λ b. b == 10) (without_mark bytes)
+abbrev pub text_lines : List ℕ → List (List ℕ)
+text_lines bytes = slice_split (λ b. b == 10) (without_mark bytes)
 
 -- the line without a carriage return at its end
 abbrev pub without_return : List ℕ → List ℕ

@@ -7,6 +7,8 @@ use Rattle.edit_model.specs.Parts.{SurveyParts}
 use Rattle.edit_model.specs.declared.field.Field.{Field}
 use Rattle.edit_model.specs.declared.field.Kind.{Kind}
 use Rattle.edit_model.specs.declared.field.Kind.TheVariants as kind
+use Rattle.edit_model.specs.declared.rule.Compare.{Compare}
+use Rattle.edit_model.specs.declared.rule.Linear.{Linear}
 use Rattle.edit_model.specs.declared.rule.Rule.{Rule}
 use Rattle.edit_model.specs.declared.rule.Term.{Term}
 use Rattle.edit_model.specs.declared.rule.Test.{Test}
@@ -35,7 +37,7 @@ abbrev pub number_in : Numeral → ℕ
 number_in (numeral.Whole n) = n
 number_in numeral.OutOfRange = 0
 
--- the same of a weight or a scale; 1 where it is not written
+-- the number of a weight or a scale; 1 where it is not written
 abbrev pub number_or_one : Option Numeral → ℕ
 number_or_one None = 1
 number_or_one (Some n) = number_in n
@@ -122,10 +124,16 @@ code_set (code ∷ codes) list = (if is_listed list code then 1 else 0) + 2 * co
 
 -- ---- statements
 
+-- both sums moved to the left side, and compared with 0
+abbrev pub linear_of : List Field → SumText → Compare → SumText → Linear
+linear_of fields left compare right =
+    record { terms = moved_terms left right 0 fields; constant = moved_constant left right; compare = compare }
+
 -- the test over these fields
 abbrev pub test_of : List Field → TestText → Test
-test_of fields (written.Codes field negated list) = test.Codes (unwrap_or (number_named fields field) 0) negated (code_set (codes_of (field_named fields field)) (listed list))
-test_of fields (written.Sums left compare right) = test.Number (record { terms = moved_terms left right 0 fields; constant = moved_constant left right; compare = compare })
+test_of fields (written.Codes field negated list) =
+    test.Codes (unwrap_or (number_named fields field) 0) negated (code_set (codes_of (field_named fields field)) (listed list))
+test_of fields (written.Sums left compare right) = test.Number (linear_of fields left compare right)
 
 -- the edit over these fields
 abbrev pub rule_of : List Field → RuleText → Rule
@@ -133,7 +141,8 @@ rule_of fields r = record { conditions = map (test_of fields) r.conditions; conc
 
 -- the field that is declared
 abbrev pub field_of : Declared → Field
-field_of (declaration.Number name weight scale) = record { name = name; weight = number_or_one weight; kind = kind.Number (number_or_one scale) }
+field_of (declaration.Number name weight scale) =
+    record { name = name; weight = number_or_one weight; kind = kind.Number (number_or_one scale) }
 field_of (declaration.Code name weight list) = record { name = name; weight = number_or_one weight; kind = kind.Code (listed list) }
 
 -- the survey with one field or one edit more

@@ -1,5 +1,5 @@
 -- A survey as a rule text: one way of writing it, of the many that are read.
-use Rattle.std.specs.Prelude.{ℕ, ℤ, suc, ◌==◌, ◌++◌, List, [], ◌∷◌, pos, int_lt, unsigned_abs, slice_get, codes, if◌then◌else◌}
+use Rattle.std.specs.Prelude.{ℕ, ℤ, suc, Bool, ◌==◌, ◌++◌, List, [], ◌∷◌, pos, int_lt, unsigned_abs, slice_get, codes, if◌then◌else◌}
 use Rattle.std.specs.Fmt.{decimal, signed_decimal}
 use Rattle.std.specs.Int.{bit_at}
 use Rattle.std.specs.List.{flat_map}
@@ -52,9 +52,17 @@ sign_text z = if int_lt z (pos 0) then codes "-" else []
 abbrev pub joint_text : ℤ → List ℕ
 joint_text z = if int_lt z (pos 0) then codes " - " else codes " + "
 
+-- what stands before a term: of the first its minus sign, and of a later one what joins it to the term before
+abbrev pub lead_text : Bool → ℤ → List ℕ
+lead_text first z = if first then sign_text z else joint_text z
+
 -- a term without its sign
 abbrev pub term_text : List Field → Term → List ℕ
 term_text fields t = product_text (unsigned_abs t.factor) (name_at fields t.field)
+
+-- a term of this field and factor, and what stands before it
+abbrev pub whole_term_text : Bool → List Field → ℕ → ℤ → List ℕ
+whole_term_text first fields field factor = lead_text first factor ++ product_text (unsigned_abs factor) (name_at fields field)
 
 -- the terms behind the first
 abbrev pub later_terms_text : List Field → List Term → List ℕ
@@ -86,9 +94,14 @@ linear_text fields l = sum_text fields l.terms l.constant ++ compare_text l.comp
 
 -- ---- statements
 
+-- what stands between a field and its codes
+abbrev pub in_text : Bool → List ℕ
+in_text negated = if negated then codes " not in " else codes " in "
+
 abbrev pub test_text : List Field → Test → List ℕ
 test_text fields (test.Number l) = linear_text fields l
-test_text fields (test.Codes field negated set) = name_at fields field ++ (if negated then codes " not in " else codes " in ") ++ braced (codes_of_set set 0 (codes_of (slice_get fields field)))
+test_text fields (test.Codes field negated set) =
+    name_at fields field ++ in_text negated ++ braced (codes_of_set set 0 (codes_of (slice_get fields field)))
 
 -- the conditions behind the first
 abbrev pub later_conditions_text : List Field → List Test → List ℕ

@@ -1,3 +1,4 @@
+pub mod CodeTables
 pub mod FirstFault
 pub mod LineFaults
 pub mod Sums

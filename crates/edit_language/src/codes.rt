@@ -2,6 +2,7 @@
 ghost use Rattle.std.specs.Prelude.{◌≡◌, ◌≢◌, ◌∷◌, ◌++◌, [], ◌≤◌, ◌<◌, ◌^◌, All, IfOk, MatchBool, length, if◌then◌else◌};
 ghost use Rattle.edit_language.specs.Faults.{has_double, has_double_code};
 ghost use Rattle.edit_language.specs.Meaning.{code_set, listed};
+ghost use Rattle.edit_language.specs.inner.CodeTables.{Inserts};
 
 use crate::names::is_listed;
 use edit_model::Name;
@@ -37,7 +38,7 @@ impl CodeTable {
 
     // Puts the code last, and answers whether it is new.
     fn insert(&mut self, alloc: Global, code: &Name) -> Result<bool, OutOfMemory>
-        ensures { IfOk result (λ added. MatchBool added ((self.new ≡ self.old ++ code.now ∷ []) × All (λ n. n ≢ code.now) self.old) (¬ All (λ n. n ≢ code.now) self.old)) }
+        ensures { IfOk result (λ added. Inserts added self.old code.now self.new) }
     {
         let key = Vec::from_slice(alloc, code.as_bytes())?;
         Ok(self.codes.insert(key)?)

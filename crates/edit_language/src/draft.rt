@@ -128,7 +128,7 @@ impl Draft {
         }
     }
 
-    /// Takes what the last line says, behind so many other lines. An empty line says nothing.
+    /// Takes what the last line says, which has `earlier` lines before it. An empty line says nothing.
     pub(crate) fn take_last_line(
         &mut self,
         alloc: Global,

@@ -5,7 +5,7 @@ ghost use Rattle.std.specs.Str.{bytes_eq};
 ghost use Rattle.edit_model.specs.Parts.{parts_of};
 ghost use Rattle.edit_language.specs.Faults.{has_double_code, has_form, is_equation, is_known_test, is_large_test, is_sums};
 ghost use Rattle.edit_language.specs.inner.FirstFault.{tests_of};
-ghost use Rattle.edit_language.specs.inner.FirstFault.{declaration_fault, fault_of, has_known_codes, rule_fault};
+ghost use Rattle.edit_language.specs.inner.FirstFault.{IsDeclarationFault, declaration_fault, fault_of, has_known_codes, rule_fault};
 
 use crate::codes::{has_double, has_double_code};
 use crate::fault::RulesKind;
@@ -46,7 +46,7 @@ fn number_fault(
     weight: Option<Numeral>,
     scale: Option<Numeral>,
 ) -> Option<RulesKind>
-    ensures { (rules : List Rule) → result ≡ declaration_fault (parts_of fields.now rules) (Declaration.Number name.now weight scale) }
+    ensures { IsDeclarationFault fields.now (Declaration.Number name.now weight scale) result }
 {
     if is_declared(fields, name) {
         Some(RulesKind::DoubleField)
@@ -67,7 +67,7 @@ fn code_fault(
     weight: Option<Numeral>,
     list: &CodeList,
 ) -> Result<Option<RulesKind>, OutOfMemory>
-    ensures { IfOk result (λ fault. (rules : List Rule) → fault ≡ declaration_fault (parts_of fields.now rules) (Declaration.Code name.now weight list.now)) }
+    ensures { IfOk result (IsDeclarationFault fields.now (Declaration.Code name.now weight list.now)) }
 {
     if is_declared(fields, name) {
         Ok(Some(RulesKind::DoubleField))
@@ -82,7 +82,7 @@ fn code_fault(
     }
 }
 
-// The same of all these tests.
+// Whether each name of these tests is of a field of the kind that its place needs.
 fn are_known_tests(fields: &[Field], tests: &[TestText]) -> bool
     ensures { result ≡ list_all (λ t. is_known_test fields.now t) tests.now }
 {
@@ -143,7 +143,7 @@ fn is_large_test(fields: &[Field], test: &TestText) -> bool
     }
 }
 
-// The same of any of these tests.
+// Whether a number of any of these tests is out of its limits.
 fn are_large_tests(fields: &[Field], tests: &[TestText]) -> bool
     ensures { result ≡ list_any (λ t. is_large_test fields.now t) tests.now }
 {

@@ -45,7 +45,7 @@ fn test_of(alloc: Global, fields: &[Field], test: &TestText) -> Result<Test, Out
     }
 }
 
-// The same of all these tests.
+// The tests over these fields, in order.
 fn tests_of(alloc: Global, fields: &[Field], tests: &[TestText]) -> Result<Vec<Test>, OutOfMemory>
     requires few { length fields.now ≤ 64 }
     requires fields { All IsField fields.now }

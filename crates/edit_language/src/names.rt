@@ -57,7 +57,7 @@ fn is_known_term(fields: &[Field], term: &TermText) -> bool
     }
 }
 
-// The same of all these terms.
+// Whether each of these terms has a numerical field, if it has one.
 fn are_known_terms(fields: &[Field], terms: &[SignedTerm]) -> bool
     ensures { result ≡ list_all (λ t. is_known_term fields.now t.term) terms.now }
 {
@@ -66,7 +66,7 @@ fn are_known_terms(fields: &[Field], terms: &[SignedTerm]) -> bool
         .all(|signed| is_known_term(fields, &signed.term))
 }
 
-// The same of all terms of a sum.
+// Whether each term of the sum has a numerical field, if it has one.
 fn is_known_sum(fields: &[Field], sum: &SumText) -> bool
     ensures { result ≡ is_known_sum fields.now sum.now }
 {

@@ -2,9 +2,9 @@
 ghost use Rattle.std.specs.Prelude.{◌≡◌, ◌++◌, ◌∷◌, [], ◌+◌, ◌*◌, ◌^◌, ◌≤◌, ◌||◌, false, length, nat_lt, option_map, pos, unsigned_abs, if◌then◌else◌, IfOk, OnOk};
 ghost use Rattle.std.specs.List.{list_any};
 ghost use Rattle.std.specs.Ordering.{int_eq};
-ghost use Rattle.edit_language.specs.Faults.{is_large_sum, is_large_term};
+ghost use Rattle.edit_language.specs.Faults.{are_large_sums, has_large_factor, is_large_constant, is_large_factor, is_large_sum, is_large_term};
 ghost use Rattle.edit_language.specs.Meaning.{constant_in, factor_in, moved_constant, moved_factor, moved_terms, signed, terms_of};
-ghost use Rattle.edit_language.specs.inner.Sums.{part_in, parts_added, parts_moved};
+ghost use Rattle.edit_language.specs.inner.Sums.{part_in, parts_added, parts_moved, with_term};
 
 use crate::numbers::{is_above, number_in};
 use edit_model::{Field, Name, Term};
@@ -29,14 +29,14 @@ fn is_large_term(term: &TermText) -> bool
     }
 }
 
-// The same of any of these terms.
+// Whether a number of any of these terms is above its limit.
 fn are_large_terms(terms: &[SignedTerm]) -> bool
     ensures { result ≡ list_any (λ t. is_large_term t.term) terms.now }
 {
     terms.iter().any(|signed| is_large_term(&signed.term))
 }
 
-// The same of any term of a sum.
+// Whether a number of any term of the sum is above its limit.
 fn is_large_sum(sum: &SumText) -> bool
     ensures { result ≡ is_large_sum sum.now }
 {
@@ -112,7 +112,7 @@ fn parts_added(name: Option<&Name>, terms: &[SignedTerm]) -> i128
     total
 }
 
-// The same of all terms of a sum.
+// What all terms of a sum are to the field with this name, or to the constant.
 fn sum_added(name: Option<&Name>, sum: &SumText) -> i128
     requires { is_large_sum sum.now ≡ false }
     ensures value { result ≡ parts_added (option_map (λ n. n.now) name.entry) (terms_of sum.now) }
@@ -124,7 +124,7 @@ fn sum_added(name: Option<&Name>, sum: &SumText) -> i128
     first + rest
 }
 
-// The same of the left side without the right.
+// What the left side without the right is to the field with this name, or to the constant.
 fn parts_moved(name: Option<&Name>, left: &SumText, right: &SumText) -> i128
     requires left { is_large_sum left.now ≡ false }
     requires right { is_large_sum right.now ≡ false }
@@ -156,16 +156,16 @@ fn moved_constant(left: &SumText, right: &SumText) -> i128
 fn is_large_factor(left: &SumText, right: &SumText, name: &Name) -> bool
     requires left { is_large_sum left.now ≡ false }
     requires right { is_large_sum right.now ≡ false }
-    ensures { result ≡ nat_lt (10 ^ 9) (unsigned_abs (moved_factor left.now right.now name.now)) }
+    ensures { result ≡ is_large_factor left.now right.now name.now }
 {
     u128::from(MOST_FACTOR) < moved_factor(left, right, name).unsigned_abs()
 }
 
-// The same of any field.
+// Whether the factor of any field is above its limit once it is added up.
 fn are_large_factors(fields: &[Field], left: &SumText, right: &SumText) -> bool
     requires left { is_large_sum left.now ≡ false }
     requires right { is_large_sum right.now ≡ false }
-    ensures { result ≡ list_any (λ f. nat_lt (10 ^ 9) (unsigned_abs (moved_factor left.now right.now f.name))) fields.now }
+    ensures { result ≡ has_large_factor fields.now left.now right.now }
 {
     for field in fields {
         if is_large_factor(left, right, &field.name) {
@@ -175,18 +175,18 @@ fn are_large_factors(fields: &[Field], left: &SumText, right: &SumText) -> bool
     false
 }
 
-// The same of the constant.
+// Whether the constant is above its limit once it is added up.
 fn is_large_constant(left: &SumText, right: &SumText) -> bool
     requires left { is_large_sum left.now ≡ false }
     requires right { is_large_sum right.now ≡ false }
-    ensures { result ≡ nat_lt (10 ^ 15) (unsigned_abs (moved_constant left.now right.now)) }
+    ensures { result ≡ is_large_constant left.now right.now }
 {
     u128::from(MOST_CONSTANT) < moved_constant(left, right).unsigned_abs()
 }
 
 /// Whether a number of the test, or a factor or the constant that is added up, is out of its limits.
 pub(crate) fn are_large_sums(fields: &[Field], left: &SumText, right: &SumText) -> bool
-    ensures { result ≡ (is_large_sum left.now || (is_large_sum right.now || (list_any (λ f. nat_lt (10 ^ 9) (unsigned_abs (moved_factor left.now right.now f.name))) fields.now || nat_lt (10 ^ 15) (unsigned_abs (moved_constant left.now right.now))))) }
+    ensures { result ≡ are_large_sums fields.now left.now right.now }
 {
     is_large_sum(left)
         || is_large_sum(right)
@@ -196,7 +196,7 @@ pub(crate) fn are_large_sums(fields: &[Field], left: &SumText, right: &SumText) 
 
 // Puts the term last where its factor is not 0.
 fn push_term(terms: &mut Vec<Term>, field: u32, factor: i64) -> Result<(), OutOfMemory>
-    ensures { OnOk result (terms.new.items ≡ (if int_eq factor (pos 0) then terms.old.items else terms.old.items ++ record { field = field; factor = factor } ∷ [])) }
+    ensures { OnOk result (terms.new.items ≡ with_term terms.old.items field factor) }
 {
     if factor != 0 {
         terms.push(Term { field, factor })?;
@@ -208,7 +208,7 @@ fn push_term(terms: &mut Vec<Term>, field: u32, factor: i64) -> Result<(), OutOf
 fn small_factor(left: &SumText, right: &SumText, name: &Name) -> i64
     requires left { is_large_sum left.now ≡ false }
     requires right { is_large_sum right.now ≡ false }
-    requires small { nat_lt (10 ^ 9) (unsigned_abs (moved_factor left.now right.now name.now)) ≡ false }
+    requires small { is_large_factor left.now right.now name.now ≡ false }
     ensures { result ≡ moved_factor left.now right.now name.now }
 {
     moved_factor(left, right, name) as i64
@@ -218,7 +218,7 @@ fn small_factor(left: &SumText, right: &SumText, name: &Name) -> i64
 pub(crate) fn small_constant(left: &SumText, right: &SumText) -> i64
     requires left { is_large_sum left.now ≡ false }
     requires right { is_large_sum right.now ≡ false }
-    requires small { nat_lt (10 ^ 15) (unsigned_abs (moved_constant left.now right.now)) ≡ false }
+    requires small { is_large_constant left.now right.now ≡ false }
     ensures { result ≡ moved_constant left.now right.now }
 {
     moved_constant(left, right) as i64
@@ -234,7 +234,7 @@ pub(crate) fn moved_terms(
     requires few { length fields.now ≤ 64 }
     requires left { is_large_sum left.now ≡ false }
     requires right { is_large_sum right.now ≡ false }
-    requires small { list_any (λ f. nat_lt (10 ^ 9) (unsigned_abs (moved_factor left.now right.now f.name))) fields.now ≡ false }
+    requires small { has_large_factor fields.now left.now right.now ≡ false }
     ensures { IfOk result (λ terms. terms.items ≡ moved_terms left.now right.now 0 fields.now) }
 {
     let mut terms = Vec::new(alloc);

@@ -100,33 +100,24 @@ lines-cut (l ∷ ls) all =
     more [] s ss = refl
     more (b ∷ w) s ss = refl
 
+-- a line, and the parts behind it
+line-before : (s t : List ℕ) (ss : List (List ℕ)) (ls : List Line) → split 32 s ∷ lines_of_parts (t ∷ ss) ≡ ls → AllByRecursion (λ l. l ≢ []) ls
+    → ((rest : List Line) → lines_of_parts (t ∷ ss) ≡ rest → AllByRecursion (λ l. l ≢ []) rest → (t ∷ ss) ≢ [] → join 10 (t ∷ ss) ≡ lines_text rest)
+    → s ++ 10 ∷ join 10 (t ∷ ss) ≡ lines_text ls
+line-before s t ss [] is all later = absurd (cc)
+line-before s t ss (l ∷ ls) is all later =
+    let first : split 32 s ≡ l = cc in
+    let rest : lines_of_parts (t ∷ ss) ≡ ls = cc in
+    ap (λ (bs : List ℕ). bs ++ 10 ∷ join 10 (t ∷ ss)) (sym (join-split 32 s) ∙ ap (join 32) first ∙ sym (join-words l))
+    ∙ ap (λ (bs : List ℕ). words_text l ++ 10 ∷ bs) (later ls rest all.1 (λ none. absurd (cc))) ∙ sym (append_assoc (words_text l) (10 ∷ []) (lines_text ls))
+
 parts-text : (parts : List (List ℕ)) (ls : List Line) → lines_of_parts parts ≡ ls → AllByRecursion (λ l. l ≢ []) ls → parts ≢ [] → join 10 parts ≡ lines_text ls
 parts-text [] ls is all some = absurd (some refl)
 parts-text ([] ∷ []) ls is all some = ap lines_text is
 parts-text ((b ∷ s) ∷ []) [] is all some = absurd (cc)
 parts-text ((b ∷ s) ∷ []) (l ∷ ls) is all some = let none : l ≡ [] = cc in absurd (all.0 none)
-parts-text ([] ∷ t ∷ ss) ls is all some = behind_ [] t ss ls is all (parts-text (t ∷ ss))
-  where
-    behind_ : (s t : List ℕ) (ss : List (List ℕ)) (ls : List Line) → split 32 s ∷ lines_of_parts (t ∷ ss) ≡ ls → AllByRecursion (λ l. l ≢ []) ls
-        → ((rest : List Line) → lines_of_parts (t ∷ ss) ≡ rest → AllByRecursion (λ l. l ≢ []) rest → (t ∷ ss) ≢ [] → join 10 (t ∷ ss) ≡ lines_text rest)
-        → s ++ 10 ∷ join 10 (t ∷ ss) ≡ lines_text ls
-    behind_ s t ss [] is all later = absurd (cc)
-    behind_ s t ss (l ∷ ls) is all later =
-        let first : split 32 s ≡ l = cc in
-        let rest : lines_of_parts (t ∷ ss) ≡ ls = cc in
-        ap (λ (bs : List ℕ). bs ++ 10 ∷ join 10 (t ∷ ss)) (sym (join-split 32 s) ∙ ap (join 32) first ∙ sym (join-words l))
-        ∙ ap (λ (bs : List ℕ). words_text l ++ 10 ∷ bs) (later ls rest all.1 (λ none. absurd (cc))) ∙ sym (append_assoc (words_text l) (10 ∷ []) (lines_text ls))
-parts-text ((b ∷ s) ∷ t ∷ ss) ls is all some = behind_ (b ∷ s) t ss ls is all (parts-text (t ∷ ss))
-  where
-    behind_ : (s t : List ℕ) (ss : List (List ℕ)) (ls : List Line) → split 32 s ∷ lines_of_parts (t ∷ ss) ≡ ls → AllByRecursion (λ l. l ≢ []) ls
-        → ((rest : List Line) → lines_of_parts (t ∷ ss) ≡ rest → AllByRecursion (λ l. l ≢ []) rest → (t ∷ ss) ≢ [] → join 10 (t ∷ ss) ≡ lines_text rest)
-        → s ++ 10 ∷ join 10 (t ∷ ss) ≡ lines_text ls
-    behind_ s t ss [] is all later = absurd (cc)
-    behind_ s t ss (l ∷ ls) is all later =
-        let first : split 32 s ≡ l = cc in
-        let rest : lines_of_parts (t ∷ ss) ≡ ls = cc in
-        ap (λ (bs : List ℕ). bs ++ 10 ∷ join 10 (t ∷ ss)) (sym (join-split 32 s) ∙ ap (join 32) first ∙ sym (join-words l))
-        ∙ ap (λ (bs : List ℕ). words_text l ++ 10 ∷ bs) (later ls rest all.1 (λ none. absurd (cc))) ∙ sym (append_assoc (words_text l) (10 ∷ []) (lines_text ls))
+parts-text ([] ∷ t ∷ ss) ls is all some = line-before [] t ss ls is all (parts-text (t ∷ ss))
+parts-text ((b ∷ s) ∷ t ∷ ss) ls is all some = line-before (b ∷ s) t ss ls is all (parts-text (t ∷ ss))
 
 -- bytes whose lines have words are the text of their lines
 pub text-of-lines : (bytes : List ℕ) (ls : List Line) → lines_in bytes ≡ ls → AllByRecursion (λ l. l ≢ []) ls → bytes ≡ lines_text ls

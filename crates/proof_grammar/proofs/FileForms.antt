@@ -1,15 +1,16 @@
-use Rattle.std.proofs.Common.{◌≡◌, inl, inr, ℕ, List, [], ◌∷◌, Option, Some, None, codes, refl, ap, ◌∙◌, subst, arith}
+use Rattle.std.proofs.Common.{◌≡◌, ℕ, List, [], ◌∷◌, Option, Some, None, codes, option_map, refl, ap, ◌∙◌, subst, arith}
 use Rattle.std.specs.Fmt.{decimal}
 use Rattle.donor_book.specs.declared.claim.Entry.{Entry}
 use Rattle.proof_grammar.specs.declared.heads.RunLimits.{RunLimits}
-use Rattle.proof_grammar.specs.FileReading.{claim_behind, claim_in, claims_of, count_in, drop_in, end_in, keep_in, limits_in, verdict_in, version_in}
-use Rattle.proof_grammar.specs.Heads.{AreLimits, IsVerdictHead, limits_line, verdict_head}
+use Rattle.proof_grammar.specs.inner.FileReading.{claim_behind, claim_in, count_in, drop_in, end_in, entry_of, keep_in, limits_in, verdict_in, version_in}
+use Rattle.proof_grammar.proofs.HeadLines.{AreLimits, IsVerdictHead, limits_line, verdict_head}
 use Rattle.proof_grammar.specs.Limits.{IsEntry, IsLong, IsShort}
 use Rattle.proof_grammar.specs.ProofLines.{Line, claim_line, end_line, named, named_or_0, version_line}
-use Rattle.proof_grammar.specs.Words.{all_in, named_short}
+use Rattle.proof_grammar.specs.Words.{named_short}
+use Rattle.proof_grammar.specs.inner.WordLists.{all_in}
 use Rattle.proof_grammar.proofs.MoreWordForms.{Always, IsOption, fixed_form, option_form}
 use Rattle.proof_grammar.proofs.Productions.{LineForm}
-use Rattle.proof_grammar.proofs.StepForms.{chosen}
+use Rattle.proof_grammar.proofs.StepForms.{first-found}
 use Rattle.proof_grammar.proofs.WordForms.{all-again, all-found, end-found, long_form, named_short_form, next-again, next-found, short_form}
 
 -- The forms of the lines of verdicts and claims, and of those that stand once in a file.
@@ -29,13 +30,7 @@ drop-found ws head e =
 
 pub verdict-found : (l : Line) (head : Option ℕ) → verdict_in l ≡ Some head → IsVerdictHead head × (l ≡ verdict_head head)
 verdict-found [] head e = absurd (cc (e))
-verdict-found (w ∷ ws) head e = elim (chosen w (codes "keep") (keep_in ws) _ head e) [
-  | inl (is, h) ↦ worded (codes "keep") is (keep-found ws head h)
-  | inr e1 ↦ elim (chosen w (codes "drop") (drop_in ws) None head e1) [ inl (is, h) ↦ worded (codes "drop") is (drop-found ws head h) | inr e2 ↦ absurd (cc (e2)) ]
-]
-  where
-    worded : (word : List ℕ) → w ≡ word → Found head word ws → IsVerdictHead head × (w ∷ ws ≡ verdict_head head)
-    worded word is (fits, same) = (fits, ap (λ (v : List ℕ). v ∷ ws) is ∙ same)
+verdict-found (w ∷ ws) head e = first-found IsVerdictHead verdict_head ((codes "keep", keep_in) ∷ (codes "drop", drop_in) ∷ []) (keep-found, (drop-found, tt)) w ws head e
 
 pub verdict-again : (head : Option ℕ) → IsVerdictHead head → verdict_in (verdict_head head) ≡ Some head
 verdict-again None fits = refl
@@ -51,7 +46,7 @@ behind-found ws entry e =
     let (row, w1, r_fits, e1, h1) = next-found IsShort named named_short_form ws _ entry e in
     let (reply, w2, o_fits, e2, h2) = next-found IsOption named_or_0 option_form w1 _ entry h1 in by row reply w1 w2 r_fits o_fits e1 e2 (all_in named_short w2) refl h2
   where
-    by : (row : ℕ) (reply : Option ℕ) (w1 w2 : Line) → IsShort row → IsOption reply → ws ≡ named row ∷ w1 → w1 ≡ named_or_0 reply ∷ w2 → (r : Option (List ℕ)) → all_in named_short w2 ≡ r → claims_of row reply r ≡ Some entry
+    by : (row : ℕ) (reply : Option ℕ) (w1 w2 : Line) → IsShort row → IsOption reply → ws ≡ named row ∷ w1 → w1 ≡ named_or_0 reply ∷ w2 → (r : Option (List ℕ)) → all_in named_short w2 ≡ r → option_map (entry_of row reply) r ≡ Some entry
         → IsEntry entry × (codes "claim" ∷ ws ≡ claim_line entry)
     by row reply w1 w2 r_fits o_fits e1 e2 None is h = absurd (cc (h))
     by row reply w1 w2 r_fits o_fits e1 e2 (Some ranking) is h =
@@ -60,15 +55,13 @@ behind-found ws entry e =
         (subst IsEntry own (r_fits, o_fits, all), ap (λ (v : Line). codes "claim" ∷ v) (e1 ∙ ap (λ (v : Line). named row ∷ v) (e2 ∙ ap (λ (v : Line). named_or_0 reply ∷ v) words)) ∙ ap claim_line own)
 
 pub claim-found : (l : Line) (entry : Entry) → claim_in l ≡ Some entry → IsEntry entry × (l ≡ claim_line entry)
-claim-found [] entry e = absurd (cc (e))
-claim-found (w ∷ ws) entry e = elim (chosen w (codes "claim") (claim_behind ws) None entry e) [
-  | inl (is, h) ↦ let (fits, same) = behind-found ws entry h in (fits, ap (λ (v : List ℕ). v ∷ ws) is ∙ same)
-  | inr e1 ↦ absurd (cc (e1))
-]
+claim-found l entry e =
+    let (u, ws, fits, is, h) = next-found Always (λ (u : Unit {0}). codes "claim") (fixed_form (codes "claim")) l _ entry e in
+    let (good, same) = behind-found ws entry h in (good, is ∙ same)
 
 pub claim-again : (entry : Entry) → IsEntry entry → claim_in (claim_line entry) ≡ Some entry
 claim-again entry fits =
-    next-again IsShort named named_short_form entry.row_no _ _ fits.0 ∙ next-again IsOption named_or_0 option_form entry.reply _ _ fits.1 ∙ ap (claims_of entry.row_no entry.reply) (all-again IsShort named named_short_form entry.ranking fits.2)
+    next-again IsShort named named_short_form entry.row_no _ _ fits.0 ∙ next-again IsOption named_or_0 option_form entry.reply _ _ fits.1 ∙ ap (option_map (entry_of entry.row_no entry.reply)) (all-again IsShort named named_short_form entry.ranking fits.2)
 
 abbrev pub claim_form : LineForm IsEntry claim_line
 claim_form = record { read = claim_in; sample = record { row_no = 0; ranking = []; reply = None }; sound_sample = (omega arith, tt, tt); again = claim-again; found = claim-found }

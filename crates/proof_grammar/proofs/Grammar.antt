@@ -17,7 +17,7 @@ use Rattle.proof_grammar.specs.declared.heads.LeafHead.TheVariants.{BadAt, Bound
 use Rattle.proof_grammar.specs.declared.heads.RowHead.{RowHead}
 use Rattle.proof_grammar.specs.declared.heads.RowHead.TheVariants.{BudgetAt, ChangeAt, CleanAt, ContradictoryAt, EventAt, GiftAt}
 use Rattle.proof_grammar.specs.declared.heads.RunLimits.{RunLimits}
-use Rattle.proof_grammar.specs.Heads.{AreLimits, IsLeafHead, IsRowHead, IsVerdictHead, leaf_head, leaves_behind, limits_line, row_head, steps_behind, verdict_head}
+use Rattle.proof_grammar.proofs.HeadLines.{AreLimits, IsLeafHead, IsRowHead, IsVerdictHead, leaf_head, leaves_behind, limits_line, row_head, steps_behind, verdict_head}
 use Rattle.proof_grammar.specs.Limits.{AreFit, IsChange, IsEntry, IsLeaf, IsLong, IsOutcome, IsPlain, IsRowProof, IsStep, clean_leaves}
 use Rattle.proof_grammar.specs.ProofLines.{Line, claim_line, count_line, end_line, leaf_lines, proof_lines, row_lines, step_line, verdict_lines, version_line}
 use Rattle.proof_grammar.proofs.FileForms.{claim_form, count_form, end_form, limits_form, verdict_form, version_form}
@@ -41,7 +41,7 @@ pub fit-many : {X : Type 0} (Good : X → Type 0) (xs : List X) → AllByRecursi
 fit-many Good [] all = tt
 fit-many Good (x ∷ xs) all = (all.0, fit-many Good xs all.1)
 
--- so many good ones fit where their number does
+-- good values fit where their number does
 pub are-fit : {X : Type 0} (Good : X → Type 0) (n : ℕ) (xs : List X) → IsLong n → AreMany Good n xs → (length xs ≡ n) × AreFit Good xs
 are-fit Good n xs long are = let (count, all) = many-fit Good n xs are in (count, (subst (λ (k : ℕ). k < 2 ^ 64) (sym count) long, all))
 
@@ -203,7 +203,7 @@ records_count n = codes "records" ∷ decimal n ∷ []
 abbrev pub claims_count : ℕ → Line
 claims_count n = codes "claims" ∷ decimal n ∷ []
 
--- a count, and so many
+-- a count, and as many values as it says
 unfoldable pub counted_view : {X : Type 0} (Good : X → Type 0) (print : X → List Line) (head : ℕ → Line) → View (λ (pair : ℕ × List X). IsLong pair.0 × AreMany Good pair.0 pair.1) (λ pair. head pair.0 ∷ [] ++ flat_map print pair.1) (AreFit Good) (λ xs. head (length xs) ∷ flat_map print xs)
 counted_view {X} Good print head = record {
   to = λ pair. pair.1;

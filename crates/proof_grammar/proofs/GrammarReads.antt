@@ -8,13 +8,14 @@ use Rattle.proof_grammar.specs.declared.heads.LeafHead.TheVariants.{BadAt, Bound
 use Rattle.proof_grammar.specs.declared.heads.RowHead.{RowHead}
 use Rattle.proof_grammar.specs.declared.heads.RowHead.TheVariants.{BudgetAt, ChangeAt, CleanAt, ContradictoryAt, EventAt, GiftAt}
 use Rattle.proof_grammar.specs.declared.heads.RunLimits.{RunLimits}
-use Rattle.proof_grammar.specs.FileReading.{behind_verdict, claim_in, count_in, counted_reading, file_reading, limits_in, lists_reading, verdict_in, verdict_reading, version_in}
-use Rattle.proof_grammar.specs.Heads.{leaves_behind, steps_behind}
-use Rattle.proof_grammar.specs.LeafReading.{behind_leaf, leaf_in, leaf_reading}
+use Rattle.proof_grammar.specs.inner.FileReading.{behind_verdict, claim_in, count_in, counted_reading, file_reading, limits_in, lists_reading, verdict_in, verdict_reading, version_in}
+use Rattle.proof_grammar.proofs.HeadLines.{leaves_behind, steps_behind}
+use Rattle.proof_grammar.specs.inner.LeafReading.{behind_leaf, leaf_in, leaf_reading}
 use Rattle.proof_grammar.specs.Limits.{IsEntry, IsLeaf, IsLong, IsRowProof, IsStep}
 use Rattle.proof_grammar.specs.ProofLines.{Line, claim_line, leaf_lines, row_lines, step_line, verdict_lines}
-use Rattle.proof_grammar.specs.Readings.{Reading, paired, read_line, read_many, seen, then_read}
-use Rattle.proof_grammar.specs.RowReading.{behind_row, row_in, row_reading}
+use Rattle.proof_grammar.proofs.Productions.{paired}
+use Rattle.proof_grammar.specs.inner.Readings.{Reading, read_line, read_many, seen, then_read}
+use Rattle.proof_grammar.specs.inner.RowReading.{behind_row, row_in, row_reading}
 use Rattle.proof_grammar.proofs.FileForms.{count_form}
 use Rattle.proof_grammar.proofs.Grammar.{IsVerdict, Lists, behind_rows, behind_verdicts, behind_version, claims_count, counted, counted_view, ending, leaf, leaf_of, leaf_view, lines_count, lists, plain_entry, proof, proof_of, proof_view, records_count, row, row_of, row_view, steps, steps_of_verdict, verdict, verdict_of, verdict_view}
 use Rattle.proof_grammar.proofs.Productions.{LineForm, Production, as_seen, follow, line, many, many-reads, none}
@@ -87,7 +88,7 @@ row-reads ls = joined (λ pair. row_of pair.0 pair.1) (read_line row_in) (read_l
     behind (EventAt path event) rest = refl
     behind (ContradictoryAt n) rest = ap (λ (r : Reading Line (List Leaf)). seen (λ leaves. row_of (ContradictoryAt n) leaves) r) (leaves n rest)
 
--- ---- a count, and so many
+-- ---- a count, and as many values as it says
 
 pub counted-reads : {X : Type 0} (Good : X → Type 0) (print : X → List Line) (head : ℕ → Line) (form : LineForm IsLong head) (one : Production Good print) (read : List Line → Reading Line X) → ((ls : List Line) → one.read ls ≡ read ls) → (ls : List Line)
     → (counted Good print head form one).read ls ≡ counted_reading form.read read ls

@@ -1,4 +1,4 @@
-use Rattle.std.proofs.Common.{◌≡◌, inl, inr, ℕ, ◌==◌, ◌||◌, Bool, true, false, if◌then◌else◌, List, [], ◌∷◌, Some, None, codes, map, refl, sym, ap, ◌∙◌, subst, arith}
+use Rattle.std.proofs.Common.{◌≡◌, ℕ, ◌==◌, ◌||◌, Bool, true, false, if◌then◌else◌, List, [], ◌∷◌, Some, None, codes, map, refl, sym, ap, ◌∙◌, subst, arith}
 use Rattle.std.specs.Fmt.{decimal}
 use Rattle.std.specs.List.{list_all}
 use Rattle.std.specs.Str.{bytes_eq}
@@ -7,13 +7,13 @@ use Rattle.std.proofs.lemmas.Slice.Eq.{bytes_eq-Decides}
 use Rattle.edit_line.proofs.BoolLaws.{both_true}
 use Rattle.proof_grammar.specs.declared.heads.LeafHead.{LeafHead}
 use Rattle.proof_grammar.specs.declared.heads.LeafHead.TheVariants.{BadAt, BoundAt, BoxAt, LineAt}
-use Rattle.proof_grammar.specs.Heads.{IsLeafHead, leaf_head}
+use Rattle.proof_grammar.proofs.HeadLines.{IsLeafHead, leaf_head}
 use Rattle.proof_grammar.specs.Limits.{IsLong}
 use Rattle.proof_grammar.specs.ProofLines.{Line, letter, path_word}
-use Rattle.proof_grammar.specs.LeafReading.{bad_in, bound_in, box_in, leaf_in, line_in}
+use Rattle.proof_grammar.specs.inner.LeafReading.{bad_in, bound_in, box_in, leaf_in, line_in, path_and_number_in, path_in}
 use Rattle.proof_grammar.specs.Words.{is_changed, is_path_letter, path_said}
 use Rattle.proof_grammar.proofs.Productions.{LineForm}
-use Rattle.proof_grammar.proofs.StepForms.{chosen}
+use Rattle.proof_grammar.proofs.StepForms.{first-found}
 use Rattle.proof_grammar.proofs.WordForms.{end-found, long_form, next-again, next-found}
 
 -- The forms of a path and of a leaf's first line.
@@ -66,52 +66,41 @@ path-found (b ∷ bs) path e = by (bytes_eq (b ∷ bs) (codes "-")) refl e
 abbrev pub path_form : LineForm {L = List ℕ} IsPath path_word
 path_form = record { read = path_said; sample = []; sound_sample = tt; again = path-again; found = path-found }
 
+-- ---- a path alone, and a path and a number
+
+pub path-alone : {X : Type 0} (to : List Bool → X) (ws : Line) (x : X) → path_in to ws ≡ Some x → (path : List Bool) × (to path ≡ x) × (ws ≡ path_word path ∷ [])
+path-alone to ws x e =
+    let (path, w1, fits, e1, h1) = next-found IsPath path_word path_form ws _ x e in
+    let (own, none) = end-found (to path) x w1 h1 in (path, own, e1 ∙ ap (λ (v : Line). path_word path ∷ v) none)
+
+pub path-and-number : {X : Type 0} (to : List Bool → ℕ → X) (ws : Line) (x : X) → path_and_number_in to ws ≡ Some x → (path : List Bool) × (n : ℕ) × IsLong n × (to path n ≡ x) × (ws ≡ path_word path ∷ decimal n ∷ [])
+path-and-number to ws x e =
+    let (path, w1, fits, e1, h1) = next-found IsPath path_word path_form ws _ x e in
+    let (n, w2, n_fits, e2, h2) = next-found IsLong decimal long_form w1 _ x h1 in
+    let (own, none) = end-found (to path n) x w2 h2 in (path, n, n_fits, own, e1 ∙ ap (λ (v : Line). path_word path ∷ v) (e2 ∙ ap (λ (v : Line). decimal n ∷ v) none))
+
 -- ---- heads
 
 abbrev Found : LeafHead → List ℕ → Line → Type 0
 Found head word ws = IsLeafHead head × (word ∷ ws ≡ leaf_head head)
 
 bound-found : (ws : Line) (head : LeafHead) → bound_in ws ≡ Some head → Found head (codes "bound") ws
-bound-found ws head e =
-    let (path, w1, fits, e1, h1) = next-found IsPath path_word path_form ws _ head e in
-    let (own, none) = end-found (BoundAt path) head w1 h1 in
-    (subst IsLeafHead own (omega arith), ap (λ (v : Line). codes "bound" ∷ v) (e1 ∙ ap (λ (v : Line). path_word path ∷ v) none) ∙ ap leaf_head own)
+bound-found ws head e = let (path, own, words) = path-alone (λ p. BoundAt p) ws head e in (subst IsLeafHead own (omega arith), ap (λ (v : Line). codes "bound" ∷ v) words ∙ ap leaf_head own)
 
 bad-found : (ws : Line) (head : LeafHead) → bad_in ws ≡ Some head → Found head (codes "bad") ws
-bad-found ws head e =
-    let (path, w1, fits, e1, h1) = next-found IsPath path_word path_form ws _ head e in
-    let (own, none) = end-found (BadAt path) head w1 h1 in
-    (subst IsLeafHead own (omega arith), ap (λ (v : Line). codes "bad" ∷ v) (e1 ∙ ap (λ (v : Line). path_word path ∷ v) none) ∙ ap leaf_head own)
+bad-found ws head e = let (path, own, words) = path-alone (λ p. BadAt p) ws head e in (subst IsLeafHead own (omega arith), ap (λ (v : Line). codes "bad" ∷ v) words ∙ ap leaf_head own)
 
 line-found : (ws : Line) (head : LeafHead) → line_in ws ≡ Some head → Found head (codes "line") ws
-line-found ws head e =
-    let (path, w1, fits, e1, h1) = next-found IsPath path_word path_form ws _ head e in
-    let (n, w2, n_fits, e2, h2) = next-found IsLong decimal long_form w1 _ head h1 in
-    let (own, none) = end-found (LineAt path n) head w2 h2 in
-    (subst IsLeafHead own n_fits, ap (λ (v : Line). codes "line" ∷ v) (e1 ∙ ap (λ (v : Line). path_word path ∷ v) (e2 ∙ ap (λ (v : Line). decimal n ∷ v) none)) ∙ ap leaf_head own)
+line-found ws head e = let (path, n, fits, own, words) = path-and-number (λ p m. LineAt p m) ws head e in (subst IsLeafHead own fits, ap (λ (v : Line). codes "line" ∷ v) words ∙ ap leaf_head own)
 
 box-found : (ws : Line) (head : LeafHead) → box_in ws ≡ Some head → Found head (codes "box") ws
-box-found ws head e =
-    let (path, w1, fits, e1, h1) = next-found IsPath path_word path_form ws _ head e in
-    let (n, w2, n_fits, e2, h2) = next-found IsLong decimal long_form w1 _ head h1 in
-    let (own, none) = end-found (BoxAt path n) head w2 h2 in
-    (subst IsLeafHead own n_fits, ap (λ (v : Line). codes "box" ∷ v) (e1 ∙ ap (λ (v : Line). path_word path ∷ v) (e2 ∙ ap (λ (v : Line). decimal n ∷ v) none)) ∙ ap leaf_head own)
+box-found ws head e = let (path, n, fits, own, words) = path-and-number (λ p m. BoxAt p m) ws head e in (subst IsLeafHead own fits, ap (λ (v : Line). codes "box" ∷ v) words ∙ ap leaf_head own)
 
 pub head-found : (l : Line) (head : LeafHead) → leaf_in l ≡ Some head → IsLeafHead head × (l ≡ leaf_head head)
 head-found [] head e = absurd (cc (e))
-head-found (w ∷ ws) head e = elim (chosen w (codes "bound") (bound_in ws) _ head e) [
-  | inl (is, h) ↦ worded (codes "bound") is (bound-found ws head h)
-  | inr e1 ↦ elim (chosen w (codes "bad") (bad_in ws) _ head e1) [
-    | inl (is, h) ↦ worded (codes "bad") is (bad-found ws head h)
-    | inr e2 ↦ elim (chosen w (codes "line") (line_in ws) _ head e2) [
-      | inl (is, h) ↦ worded (codes "line") is (line-found ws head h)
-      | inr e3 ↦ elim (chosen w (codes "box") (box_in ws) None head e3) [ inl (is, h) ↦ worded (codes "box") is (box-found ws head h) | inr e4 ↦ absurd (cc (e4)) ]
-    ]
-  ]
-]
-  where
-    worded : (word : List ℕ) → w ≡ word → Found head word ws → IsLeafHead head × (w ∷ ws ≡ leaf_head head)
-    worded word is (fits, same) = (fits, ap (λ (v : List ℕ). v ∷ ws) is ∙ same)
+head-found (w ∷ ws) head e =
+    first-found IsLeafHead leaf_head ((codes "bound", bound_in) ∷ (codes "bad", bad_in) ∷ (codes "line", line_in) ∷ (codes "box", box_in) ∷ [])
+    (bound-found, (bad-found, (line-found, (box-found, tt)))) w ws head e
 
 pub head-again : (head : LeafHead) → IsLeafHead head → leaf_in (leaf_head head) ≡ Some head
 head-again (BoundAt path) fits = next-again IsPath path_word path_form path [] _ tt

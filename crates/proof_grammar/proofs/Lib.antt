@@ -2,6 +2,7 @@ pub mod Cutting
 pub mod Grammar
 pub mod GrammarReads
 pub mod FileForms
+pub mod HeadLines
 pub mod LeafForms
 pub mod MoreWordForms
 pub mod NumberLaws

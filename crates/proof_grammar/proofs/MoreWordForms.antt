@@ -10,8 +10,9 @@ use Rattle.bound_cert.specs.declared.outcome.GiftFault.{GiftFault}
 use Rattle.bound_cert.specs.declared.outcome.GiftFault.TheVariants as gift
 use Rattle.proof_grammar.specs.Limits.{IsGift, IsLong, IsPlace, IsShort}
 use Rattle.proof_grammar.specs.ProofLines.{Line, gift_words, named, named_or_0, place_word}
-use Rattle.proof_grammar.specs.RowReading.{gift_fault_behind, gift_fault_in}
-use Rattle.proof_grammar.specs.Words.{decimal_said, fixed_said, named_or_none, named_short_or_0, place_said, positive_said, said_place, then_in}
+use Rattle.proof_grammar.specs.inner.RowReading.{gift_fault_behind, gift_fault_in}
+use Rattle.proof_grammar.specs.Words.{decimal_said, fixed_said, named_or_none, named_short_or_0, place_said, positive_said, said_place}
+use Rattle.proof_grammar.specs.inner.WordLists.{then_in}
 use Rattle.proof_grammar.proofs.Productions.{LineForm}
 use Rattle.proof_grammar.proofs.WordForms.{name-is, named-again, named-found, named_long_form, named_short_form, next-again, next-found}
 use Rattle.proof_grammar.proofs.WordLaws.{decimal_said-again, decimal_said-found}

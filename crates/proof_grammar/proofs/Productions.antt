@@ -1,6 +1,6 @@
 use Rattle.std.proofs.Common.{◌≡◌, ◌≢◌, ℕ, zero, suc, List, [], ◌∷◌, ◌++◌, Option, Some, None, Result, Ok, Err, refl, sym, ap, ◌∙◌, subst, append_assoc, append-nil}
 use Rattle.std.specs.List.{flat_map}
-use Rattle.proof_grammar.specs.Readings.{Reading, line_read, paired, read_line, read_many, seen, then_read}
+use Rattle.proof_grammar.specs.inner.Readings.{Reading, line_read, read_line, read_many, seen, then_read}
 
 -- Productions: what they print, how they are read at the front of lines, and where reading stops. Each law is proved once for each way of joining them.
 
@@ -37,6 +37,11 @@ pub record Production {L X : Type 0} (Good : X → Type 0) (print : X → List L
   pub again : (x : X) (rest : List L) → Good x → read (print x ++ rest) ≡ Ok (x, rest)
   pub found : (ls : List L) (x : X) (rest : List L) → read ls ≡ Ok (x, rest) → Good x × (ls ≡ print x ++ rest)
   pub stops : (ls left : List L) → read ls ≡ Err left → Stops Good print read ls left
+
+-- a value that was read before, beside what is read
+abbrev pub paired : {L X Y : Type 0} → X → Reading L Y → Reading L (X × Y)
+paired x (Err left) = Err left
+paired x (Ok (y, rest)) = Ok ((x, y), rest)
 
 -- ---- all of the lines
 
@@ -258,7 +263,7 @@ module _ {L X Y : Type 0} (Good : X → Type 0) (print : X → List L) (Next : X
     stops = both-stops;
   }
 
--- ---- the same values, seen otherwise
+-- ---- values turned into others
 
 -- two ways to see the values, and what they print
 pub record View {L X Y : Type 0} (Good : X → Type 0) (print : X → List L) (Fine : Y → Type 0) (print_as : Y → List L) : Type 0 where
@@ -327,9 +332,9 @@ module _ {L X Y : Type 0} (Good : X → Type 0) (print : X → List L) (Fine : Y
     stops = seen-stops;
   }
 
--- ---- so many
+-- ---- a number of values, one after another
 
--- so many, each of them good
+-- `n` values, each of them good
 abbrev pub AreMany : {X : Type 0} → (X → Type 0) → ℕ → List X → Type 0
 AreMany Good zero [] = Unit {0}
 AreMany Good (suc n) (x ∷ xs) = Good x × AreMany Good n xs
@@ -372,7 +377,7 @@ module _ {L X : Type 0} (Good : X → Type 0) (print : X → List L) (A : Produc
       back [] are = absurd are
       back (x ∷ xs) are = (are, refl, refl)
 
-  -- so many of them
+  -- `n` of them
   unfoldable pub many : (n : ℕ) → Production (AreMany Good n) (flat_map print)
   many zero = none
   many (suc n) = as_seen _ _ _ _ (one_more n) (follow Good print (λ _. AreMany Good n) (λ _. flat_map print) A (λ _. many n))

@@ -1,16 +1,16 @@
-use Rattle.std.proofs.Common.{◌≡◌, inl, inr, ℕ, suc, List, [], ◌∷◌, ◌++◌, Some, None, codes, refl, ap, ◌∙◌, subst}
+use Rattle.std.proofs.Common.{◌≡◌, ℕ, suc, List, [], ◌∷◌, ◌++◌, Some, codes, refl, ap, ◌∙◌, subst}
 use Rattle.std.specs.Fmt.{decimal}
 use Rattle.bound_cert.specs.declared.outcome.Event.TheVariants as event
 use Rattle.proof_grammar.specs.declared.heads.RowHead.{RowHead}
 use Rattle.proof_grammar.specs.declared.heads.RowHead.TheVariants.{BudgetAt, ChangeAt, CleanAt, ContradictoryAt, EventAt, GiftAt}
-use Rattle.proof_grammar.specs.Heads.{IsRowHead, row_head}
+use Rattle.proof_grammar.proofs.HeadLines.{IsRowHead, row_head}
 use Rattle.proof_grammar.specs.Limits.{IsLong, IsPlace, IsShort}
 use Rattle.proof_grammar.specs.ProofLines.{Line, gift_words, named, path_word, place_word}
-use Rattle.proof_grammar.specs.RowReading.{budget_in, change_in, clean_in, contradictory_in, gift_in, row_in, step_event_in, test_event_in}
-use Rattle.proof_grammar.proofs.LeafForms.{IsPath, path_form}
+use Rattle.proof_grammar.specs.inner.RowReading.{budget_in, change_in, clean_in, contradictory_in, gift_in, row_in, step_event_in, test_event_in}
+use Rattle.proof_grammar.proofs.LeafForms.{IsPath, path-and-number, path_form}
 use Rattle.proof_grammar.proofs.MoreWordForms.{IsLess, gift-next, gift-then, place_form, positive_form}
 use Rattle.proof_grammar.proofs.Productions.{LineForm}
-use Rattle.proof_grammar.proofs.StepForms.{chosen}
+use Rattle.proof_grammar.proofs.StepForms.{first-found}
 use Rattle.proof_grammar.proofs.WordForms.{end-found, long_form, named_long_form, named_short_form, next-again, next-found}
 
 -- The form of a row's first line.
@@ -45,11 +45,7 @@ gift-found ws head e =
     )
 
 budget-found : (ws : Line) (head : RowHead) → budget_in ws ≡ Some head → Found head (codes "budget") ws
-budget-found ws head e =
-    let (path, w1, p_fits, e1, h1) = next-found IsPath path_word path_form ws _ head e in
-    let (work, w2, w_fits, e2, h2) = next-found IsLong decimal long_form w1 _ head h1 in
-    let (own, none) = end-found (BudgetAt path work) head w2 h2 in
-    (subst IsRowHead own w_fits, ap (λ (v : Line). codes "budget" ∷ v) (e1 ∙ ap (λ (v : Line). path_word path ∷ v) (e2 ∙ ap (λ (v : Line). decimal work ∷ v) none)) ∙ ap row_head own)
+budget-found ws head e = let (path, work, fits, own, words) = path-and-number (λ p m. BudgetAt p m) ws head e in (subst IsRowHead own fits, ap (λ (v : Line). codes "budget" ∷ v) words ∙ ap row_head own)
 
 step-found : (ws : Line) (head : RowHead) → step_event_in ws ≡ Some head → Found head (codes "step") ws
 step-found ws head e =
@@ -78,28 +74,10 @@ contradictory-found ws head e =
 
 pub row-found : (l : Line) (head : RowHead) → row_in l ≡ Some head → IsRowHead head × (l ≡ row_head head)
 row-found [] head e = absurd (cc (e))
-row-found (w ∷ ws) head e = elim (chosen w (codes "clean") (clean_in ws) _ head e) [
-  | inl (is, h) ↦ worded (codes "clean") is (clean-found ws head h)
-  | inr e1 ↦ elim (chosen w (codes "change") (change_in ws) _ head e1) [
-    | inl (is, h) ↦ worded (codes "change") is (change-found ws head h)
-    | inr e2 ↦ elim (chosen w (codes "gift") (gift_in ws) _ head e2) [
-      | inl (is, h) ↦ worded (codes "gift") is (gift-found ws head h)
-      | inr e3 ↦ elim (chosen w (codes "budget") (budget_in ws) _ head e3) [
-        | inl (is, h) ↦ worded (codes "budget") is (budget-found ws head h)
-        | inr e4 ↦ elim (chosen w (codes "step") (step_event_in ws) _ head e4) [
-          | inl (is, h) ↦ worded (codes "step") is (step-found ws head h)
-          | inr e5 ↦ elim (chosen w (codes "test") (test_event_in ws) _ head e5) [
-            | inl (is, h) ↦ worded (codes "test") is (test-found ws head h)
-            | inr e6 ↦ elim (chosen w (codes "contradictory") (contradictory_in ws) None head e6) [ inl (is, h) ↦ worded (codes "contradictory") is (contradictory-found ws head h) | inr e7 ↦ absurd (cc (e7)) ]
-          ]
-        ]
-      ]
-    ]
-  ]
-]
-  where
-    worded : (word : List ℕ) → w ≡ word → Found head word ws → IsRowHead head × (w ∷ ws ≡ row_head head)
-    worded word is (fits, same) = (fits, ap (λ (v : List ℕ). v ∷ ws) is ∙ same)
+row-found (w ∷ ws) head e =
+    first-found IsRowHead row_head
+    ((codes "clean", clean_in) ∷ (codes "change", change_in) ∷ (codes "gift", gift_in) ∷ (codes "budget", budget_in) ∷ (codes "step", step_event_in) ∷ (codes "test", test_event_in) ∷ (codes "contradictory", contradictory_in) ∷ [])
+    (clean-found, (change-found, (gift-found, (budget-found, (step-found, (test-found, (contradictory-found, tt))))))) w ws head e
 
 pub row-again : (head : RowHead) → IsRowHead head → row_in (row_head head) ≡ Some head
 row-again CleanAt fits = refl

@@ -1,5 +1,6 @@
-use Rattle.std.proofs.Common.{◌≡◌, ◌⊎◌, inl, inr, ℕ, Bool, true, false, if◌then◌else◌, List, [], ◌∷◌, Option, Some, None, codes, refl, ap, ◌∙◌, subst, arith}
+use Rattle.std.proofs.Common.{◌≡◌, ◌⊎◌, inl, inr, ℕ, Bool, true, false, if◌then◌else◌, List, [], ◌∷◌, Option, Some, None, codes, option_map, refl, ap, ◌∙◌, subst, arith}
 use Rattle.std.specs.Fmt.{signed_decimal}
+use Rattle.std.specs.List.{AllByRecursion}
 use Rattle.std.specs.Str.{bytes_eq}
 use Rattle.std.proofs.lemmas.Slice.Eq.{bytes_eq-Decides}
 use Rattle.fraction128.specs.Range.{InRange}
@@ -7,8 +8,9 @@ use Rattle.derivation.specs.declared.step.Step.{Step}
 use Rattle.derivation.specs.declared.step.Step.TheVariants as step
 use Rattle.proof_grammar.specs.Limits.{IsLong, IsShort, IsStep}
 use Rattle.proof_grammar.specs.ProofLines.{Line, named, step_line}
-use Rattle.proof_grammar.specs.StepReading.{combine_in, cover_in, covers, fail_in, fix_in, given_in, step_in}
-use Rattle.proof_grammar.specs.Words.{all_in, named_long}
+use Rattle.proof_grammar.specs.inner.StepReading.{combine_in, cover_in, fail_in, fix_in, given_in, step_in}
+use Rattle.proof_grammar.specs.Words.{named_long}
+use Rattle.proof_grammar.specs.inner.WordLists.{all_in}
 use Rattle.proof_grammar.proofs.Productions.{LineForm}
 use Rattle.proof_grammar.proofs.WordForms.{IsDivisor, all-again, all-found, divisor_form, end-found, named_long_form, named_short_form, next-again, next-found, whole_form}
 
@@ -22,6 +24,23 @@ chosen w word here other y e = by (bytes_eq w word) refl e
     by : (b : Bool) → bytes_eq w word ≡ b → (if b then here else other) ≡ Some y → ((w ≡ word) × (here ≡ Some y)) ⊎ (other ≡ Some y)
     by true is h = inl ((bytes_eq-Decides w word).0 is, h)
     by false is h = inr h
+
+-- what is read behind a first word, of several that each have a reading of their own
+abbrev pub first_of : {Y : Type 0} → List (List ℕ × (Line → Option Y)) → List ℕ → Line → Option Y
+first_of [] w ws = None
+first_of (kind ∷ kinds) w ws = if bytes_eq w kind.0 then kind.1 ws else first_of kinds w ws
+
+-- what is read behind this word is good, and its line begins with the word
+abbrev pub IsFound : {Y : Type 0} → (Y → Type 0) → (Y → Line) → List ℕ × (Line → Option Y) → Type 0
+IsFound {Y} Good print kind = (ws : Line) (y : Y) → kind.1 ws ≡ Some y → Good y × (kind.0 ∷ ws ≡ print y)
+
+pub first-found : {Y : Type 0} (Good : Y → Type 0) (print : Y → Line) (kinds : List (List ℕ × (Line → Option Y))) → AllByRecursion (IsFound Good print) kinds → (w : List ℕ) (ws : Line) (y : Y) → first_of kinds w ws ≡ Some y
+    → Good y × (w ∷ ws ≡ print y)
+first-found Good print [] all w ws y e = absurd (cc (e))
+first-found Good print (kind ∷ kinds) all w ws y e = elim (chosen w kind.0 (kind.1 ws) (first_of kinds w ws) y e) [
+  | inl (is, h) ↦ let (fits, same) = all.0 ws y h in (fits, ap (λ (v : List ℕ). v ∷ ws) is ∙ same)
+  | inr later ↦ first-found Good print kinds all.1 w ws y later
+]
 
 -- ---- found
 
@@ -63,7 +82,7 @@ combine-found ws s e =
 cover-found : (ws : Line) (s : Step) → cover_in ws ≡ Some s → Found s (codes "cover") ws
 cover-found ws s e = let (f, w1, fits, e1, h1) = next-found IsShort named named_short_form ws _ s e in by f w1 fits e1 (all_in named_long w1) refl h1
   where
-    by : (f : ℕ) (w1 : Line) → IsShort f → ws ≡ named f ∷ w1 → (r : Option (List ℕ)) → all_in named_long w1 ≡ r → covers f r ≡ Some s → Found s (codes "cover") ws
+    by : (f : ℕ) (w1 : Line) → IsShort f → ws ≡ named f ∷ w1 → (r : Option (List ℕ)) → all_in named_long w1 ≡ r → option_map (λ (parts : List ℕ). step.Cover f parts) r ≡ Some s → Found s (codes "cover") ws
     by f w1 fits e1 None is h = absurd (cc (h))
     by f w1 fits e1 (Some parts) is h =
         let own : step.Cover f parts ≡ s = cc (h) in
@@ -72,22 +91,9 @@ cover-found ws s e = let (f, w1, fits, e1, h1) = next-found IsShort named named_
 
 pub step-found : (l : Line) (s : Step) → step_in l ≡ Some s → IsStep s × (l ≡ step_line s)
 step-found [] s e = absurd (cc (e))
-step-found (w ∷ ws) s e = elim (chosen w (codes "given") (given_in ws) _ s e) [
-  | inl (is, h) ↦ worded (codes "given") is (given-found ws s h)
-  | inr e1 ↦ elim (chosen w (codes "combine") (combine_in ws) _ s e1) [
-    | inl (is, h) ↦ worded (codes "combine") is (combine-found ws s h)
-    | inr e2 ↦ elim (chosen w (codes "fail") (fail_in ws) _ s e2) [
-      | inl (is, h) ↦ worded (codes "fail") is (fail-found ws s h)
-      | inr e3 ↦ elim (chosen w (codes "cover") (cover_in ws) _ s e3) [
-        | inl (is, h) ↦ worded (codes "cover") is (cover-found ws s h)
-        | inr e4 ↦ elim (chosen w (codes "fix") (fix_in ws) None s e4) [ inl (is, h) ↦ worded (codes "fix") is (fix-found ws s h) | inr e5 ↦ absurd (cc (e5)) ]
-      ]
-    ]
-  ]
-]
-  where
-    worded : (word : List ℕ) → w ≡ word → Found s word ws → IsStep s × (w ∷ ws ≡ step_line s)
-    worded word is (fits, same) = (fits, ap (λ (v : List ℕ). v ∷ ws) is ∙ same)
+step-found (w ∷ ws) s e =
+    first-found IsStep step_line ((codes "given", given_in) ∷ (codes "combine", combine_in) ∷ (codes "fail", fail_in) ∷ (codes "cover", cover_in) ∷ (codes "fix", fix_in) ∷ [])
+    (given-found, (combine-found, (fail-found, (cover-found, (fix-found, tt))))) w ws s e
 
 -- ---- read again
 
@@ -97,7 +103,7 @@ step-again (step.Combine a m b n g) (a_fits, m_fits, b_fits, n_fits, g_fits, abo
     next-again IsLong named named_long_form a _ _ a_fits ∙ next-again InRange signed_decimal whole_form m _ _ m_fits ∙ next-again IsLong named named_long_form b _ _ b_fits ∙ next-again InRange signed_decimal whole_form n _ _ n_fits
     ∙ next-again IsDivisor signed_decimal divisor_form g [] _ (g_fits, above)
 step-again (step.Fail i) fits = next-again IsLong named named_long_form i [] _ fits
-step-again (step.Cover field parts) fits = next-again IsShort named named_short_form field _ _ fits.0 ∙ ap (covers field) (all-again IsLong named named_long_form parts fits.1)
+step-again (step.Cover field parts) fits = next-again IsShort named named_short_form field _ _ fits.0 ∙ ap (option_map (λ (parts : List ℕ). step.Cover field parts)) (all-again IsLong named named_long_form parts fits.1)
 step-again (step.Fix field part) fits = next-again IsShort named named_short_form field _ _ fits.0 ∙ next-again IsLong named named_long_form part [] _ fits.1
 
 abbrev pub step_form : LineForm IsStep step_line

@@ -5,7 +5,8 @@ use Rattle.std.proofs.lemmas.Bool.Decides.{Decides-ltb}
 use Rattle.fraction128.specs.Range.{InRange}
 use Rattle.proof_grammar.specs.Limits.{IsLong, IsShort}
 use Rattle.proof_grammar.specs.ProofLines.{Line, named}
-use Rattle.proof_grammar.specs.Words.{all_in, below, consed, decimal_said, divisor_said, ended, named_below, not_negative, then_in, whole_said, with_rest, word_in}
+use Rattle.proof_grammar.specs.Words.{below, decimal_said, divisor_said, ended, named_below, not_negative, whole_said, with_rest, word_in}
+use Rattle.proof_grammar.specs.inner.WordLists.{all_in, consed, then_in}
 use Rattle.proof_grammar.proofs.NumberLaws.{positive-Decides}
 use Rattle.proof_grammar.proofs.Productions.{LineForm}
 use Rattle.proof_grammar.proofs.WordLaws.{decimal_said-again, decimal_said-found, whole_said-again, whole_said-found}

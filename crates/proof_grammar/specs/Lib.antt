@@ -1,12 +1,8 @@
 pub mod Cuts
-pub mod FileReading
 pub mod FirstFaults
-pub mod Heads
-pub mod LeafReading
 pub mod Limits
+pub mod LinesLeft
 pub mod ProofLines
-pub mod Readings
-pub mod RowReading
-pub mod StepReading
 pub mod Texts
 pub mod Words
+pub mod inner

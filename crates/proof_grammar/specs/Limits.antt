@@ -38,14 +38,15 @@ IsStep (step.Fail a) = IsLong a
 IsStep (step.Cover field parts) = IsShort field × AllByRecursion IsLong parts
 IsStep (step.Fix field part) = IsShort field × IsLong part
 
-abbrev pub IsReason : LeafWhy → Type 0
-IsReason why.Bound = Unit {0}
-IsReason why.BadKept = Unit {0}
-IsReason (why.Line steps) = AreFit IsStep steps
-IsReason (why.Box steps) = AreFit IsStep steps
+-- what is asked of the steps of a leaf's reason, where it has some
+abbrev pub OfSteps : (List Step → Type 0) → LeafWhy → Type 0
+OfSteps Fit why.Bound = Unit {0}
+OfSteps Fit why.BadKept = Unit {0}
+OfSteps Fit (why.Line steps) = Fit steps
+OfSteps Fit (why.Box steps) = Fit steps
 
 abbrev pub IsLeaf : Leaf → Type 0
-IsLeaf leaf = IsReason leaf.why
+IsLeaf leaf = OfSteps (AreFit IsStep) leaf.why
 
 abbrev pub IsPlace : Place → Type 0
 IsPlace Constant = Unit {0}

@@ -59,7 +59,7 @@ step_line (step.Fail a) = codes "fail" ∷ named a ∷ []
 step_line (step.Cover field parts) = codes "cover" ∷ named field ∷ map named parts
 step_line (step.Fix field part) = codes "fix" ∷ named field ∷ named part ∷ []
 
--- words and a count, and then the lines of so many steps
+-- words and the number of steps, and then a line for each step
 abbrev pub with_steps : Line → List Step → List Line
 with_steps words steps = (words ++ decimal (length steps) ∷ []) ∷ map step_line steps
 
@@ -72,7 +72,7 @@ leaf_lines leaf = reason_lines (path_word leaf.path) leaf.why
     reason_lines path (why.Line steps) = with_steps (codes "line" ∷ path ∷ []) steps
     reason_lines path (why.Box steps) = with_steps (codes "box" ∷ path ∷ []) steps
 
--- words and a count, and then the lines of so many leaves
+-- words and the number of leaves, and then the lines of each leaf
 abbrev pub with_leaves : Line → List Leaf → List Line
 with_leaves words leaves = (words ++ decimal (length leaves) ∷ []) ∷ flat_map leaf_lines leaves
 

@@ -1,4 +1,4 @@
-use Rattle.std.specs.Prelude.{◌≡◌, ℕ, zero, suc, ◌-◌, ◌^◌, ◌==◌, ◌||◌, ◌&&◌, Bool, if◌then◌else◌, nat_lt, List, [], ◌∷◌, ◌++◌, Option, Some, None, Result, Ok, Err, ℤ, pos, int_le, neg_ℤ, codes, map}
+use Rattle.std.specs.Prelude.{◌≡◌, ℕ, zero, suc, ◌-◌, ◌^◌, ◌==◌, ◌||◌, ◌&&◌, Bool, if◌then◌else◌, nat_lt, List, [], ◌∷◌, Option, Some, None, Result, Ok, Err, ℤ, pos, int_le, neg_ℤ, codes, map}
 use Rattle.std.specs.Fmt.{decimal, signed_decimal}
 use Rattle.std.specs.List.{list_all}
 use Rattle.std.specs.Str.{bytes_eq}
@@ -35,7 +35,7 @@ named_below limit None = None
 named_below limit (Some zero) = None
 named_below limit (Some (suc n)) = if nat_lt n limit then Some n else None
 
--- the same, or 0 for none
+-- what is named from 1 on, below a limit; or 0 for none
 abbrev pub named_or_none : ℕ → Option ℕ → Option (Option ℕ)
 named_or_none limit None = None
 named_or_none limit (Some zero) = Some None
@@ -69,7 +69,7 @@ whole_of (b ∷ ds) = if b == 45 then neg_ℤ (pos (digits_value 10 ds)) else po
 abbrev pub whole_said : List ℕ → Option ℤ
 whole_said w = if bytes_eq w (signed_decimal (whole_of w)) && in_range (whole_of w) then Some (whole_of w) else None
 
--- the same, not negative
+-- a number that is not negative
 abbrev pub not_negative : Option ℤ → Option ℤ
 not_negative None = None
 not_negative (Some z) = if int_le (pos 0) z then Some z else None
@@ -123,25 +123,10 @@ abbrev pub word_in : {X : Type 0} → (List ℕ → Option X) → Line → Front
 word_in said [] = None
 word_in said (w ∷ ws) = with_rest ws (said w)
 
--- what is read behind the front
-abbrev pub then_in : {X Y : Type 0} → Front X → (X → Line → Option Y) → Option Y
-then_in None next = None
-then_in (Some (x, ws)) next = next x ws
-
 -- nothing is left
 abbrev pub ended : {X : Type 0} → X → Line → Option X
 ended x [] = Some x
 ended x (w ∷ ws) = None
-
--- all words
-abbrev pub consed : {X : Type 0} → Option X → Option (List X) → Option (List X)
-consed None xs = None
-consed (Some x) None = None
-consed (Some x) (Some xs) = Some (x ∷ xs)
-
-abbrev pub all_in : {X : Type 0} → (List ℕ → Option X) → Line → Option (List X)
-all_in said [] = Some []
-all_in said (w ∷ ws) = consed (said w) (all_in said ws)
 
 -- ---- what a reader answers
 
@@ -156,8 +141,3 @@ abbrev pub ReadsAs : {X : Type 0} → Result X Stop → Option X → Type 0
 ReadsAs (Ok x) read = read ≡ Some x
 ReadsAs (Err stop.Form) read = read ≡ None
 ReadsAs (Err stop.OutOfMemory) read = Unit {0}
-
--- what was read, and what is read behind it
-abbrev pub appended : {X : Type 0} → List X → Option (List X) → Option (List X)
-appended xs None = None
-appended xs (Some ys) = Some (xs ++ ys)

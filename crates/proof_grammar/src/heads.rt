@@ -7,9 +7,9 @@ pub enum LeafHead {
     BoundAt(Path),
     /// The path keeps a field without a value.
     BadAt(Path),
-    /// So many steps prove a line that refutes it.
+    /// A line refutes it, which this number of steps proves.
     LineAt(Path, u64),
-    /// So many steps prove a box that refutes it.
+    /// A box refutes it, which this number of steps proves.
     BoxAt(Path, u64),
 }
 
@@ -27,7 +27,7 @@ pub enum RowHead {
     BudgetAt(Path, u64),
     /// A number left the range at this path.
     EventAt(Path, Event),
-    /// No change corrects it, as so many leaves show.
+    /// No change corrects it, as this number of leaves shows.
     ContradictoryAt(u64),
 }
 

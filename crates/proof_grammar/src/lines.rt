@@ -1,7 +1,7 @@
 //! The lines of a text, read one after another.
 ghost use Rattle.std.specs.Prelude.{◌≡◌, ◌∷◌, IfErr, IfOk};
 ghost use Rattle.proof_grammar.specs.Cuts.{split};
-ghost use Rattle.proof_grammar.specs.Readings.{EndsAt, FaultAt, IsEnd, Settles, begun};
+ghost use Rattle.proof_grammar.specs.LinesLeft.{EndsAt, FaultAt, IsEnd, Settles, begun};
 
 use crate::fault::ProofFault;
 use crate::words::{Stop, cut};
@@ -16,7 +16,7 @@ pub struct Lines<'a> {
 
 impl<'a> Model for Lines<'a> {
     ghost use Rattle.std.specs.Prelude.{◌+◌, ◌-◌, ◌<◌, ◌^◌, length};
-    ghost use Rattle.proof_grammar.specs.Readings.{LinesLeft, left_of};
+    ghost use Rattle.proof_grammar.specs.LinesLeft.{LinesLeft, left_of};
 
     ghost Value = { LinesLeft };
 

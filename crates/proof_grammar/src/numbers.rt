@@ -95,7 +95,7 @@ pub fn place(word: &[u8]) -> Option<Place>
     }
 }
 
-/// The same, or the inner None for the word 0.
+/// The number, from 0, of what is named from 1 to 2^32, or the inner None for the word 0.
 pub fn named_short_or_none(word: &[u8]) -> Option<Option<u32>>
     ensures { result ≡ named_short_or_0 word.now }
 {
@@ -128,7 +128,7 @@ pub fn whole(word: &[u8]) -> Option<i128>
     }
 }
 
-/// The same, not negative.
+/// A whole number in range, spelled as it is printed, that is not negative.
 pub fn divisor(word: &[u8]) -> Option<i128>
     ensures { result ≡ divisor_said word.now }
 {

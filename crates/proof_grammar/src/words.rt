@@ -1,5 +1,5 @@
 //! The words of a line, read one after another.
-ghost use Rattle.std.specs.Prelude.{◌≡◌, ◌==◌, ◌<◌, ◌^◌, [], ◌∷◌, IfNone, IfOk, IfSome, length, suc};
+ghost use Rattle.std.specs.Prelude.{◌≡◌, ◌==◌, ◌<◌, ◌^◌, [], ◌∷◌, IfErr, IfNone, IfOk, IfSome, length, suc};
 ghost use Rattle.std.specs.List.{position};
 ghost use Rattle.proof_grammar.specs.Cuts.{split};
 ghost use Rattle.proof_grammar.specs.Words.{ReadsAs, Takes, divisor_said, ended, fixed_said, long_said, named_long, named_short, named_short_or_0, path_said, place_said, positive_said, short_said, whole_said, word_in};
@@ -65,95 +65,68 @@ impl<'a> Words<'a> {
         }
     }
 
+    // The next word, which is taken, where there is one.
+    fn word(&mut self) -> Result<&'a [u8], Stop>
+        ensures word { IfOk result (λ w. self.old ≡ w.now ∷ self.new) }
+        ensures ended { IfErr result (λ stop. (stop ≡ Stop.Form) × (self.old ≡ [])) }
+    {
+        self.next().ok_or(Stop::Form)
+    }
+
     /// A number of 64 bits.
     pub fn long(&mut self) -> Result<u64, Stop>
         ensures { Takes result self.new (word_in long_said self.old) }
     {
-        let Some(word) = self.next() else {
-            return Err(Stop::Form);
-        };
-        match long(word) {
-            Some(number) => Ok(number),
-            None => Err(Stop::Form),
-        }
+        let word = self.word()?;
+        long(word).ok_or(Stop::Form)
     }
 
     /// A number of 32 bits.
     pub fn short(&mut self) -> Result<u32, Stop>
         ensures { Takes result self.new (word_in short_said self.old) }
     {
-        let Some(word) = self.next() else {
-            return Err(Stop::Form);
-        };
-        match short(word) {
-            Some(number) => Ok(number),
-            None => Err(Stop::Form),
-        }
+        let word = self.word()?;
+        short(word).ok_or(Stop::Form)
     }
 
     /// The number, from 0, of what is named from 1 to 2^64.
     pub fn named_long(&mut self) -> Result<u64, Stop>
         ensures { Takes result self.new (word_in named_long self.old) }
     {
-        let Some(word) = self.next() else {
-            return Err(Stop::Form);
-        };
-        match named_long(word) {
-            Some(number) => Ok(number),
-            None => Err(Stop::Form),
-        }
+        let word = self.word()?;
+        named_long(word).ok_or(Stop::Form)
     }
 
     /// The number, from 0, of what is named from 1 to 2^32.
     pub fn named_short(&mut self) -> Result<u32, Stop>
         ensures { Takes result self.new (word_in named_short self.old) }
     {
-        let Some(word) = self.next() else {
-            return Err(Stop::Form);
-        };
-        match named_short(word) {
-            Some(number) => Ok(number),
-            None => Err(Stop::Form),
-        }
+        let word = self.word()?;
+        named_short(word).ok_or(Stop::Form)
     }
 
-    /// The same, or None for the word 0.
+    /// The number, from 0, of what is named from 1 to 2^32, or None for the word 0.
     pub fn named_short_or_none(&mut self) -> Result<Option<u32>, Stop>
         ensures { Takes result self.new (word_in named_short_or_0 self.old) }
     {
-        let Some(word) = self.next() else {
-            return Err(Stop::Form);
-        };
-        match named_short_or_none(word) {
-            Some(number) => Ok(number),
-            None => Err(Stop::Form),
-        }
+        let word = self.word()?;
+        named_short_or_none(word).ok_or(Stop::Form)
     }
 
     /// A whole number in range.
     pub fn whole(&mut self) -> Result<i128, Stop>
         ensures { Takes result self.new (word_in whole_said self.old) }
     {
-        let Some(word) = self.next() else {
-            return Err(Stop::Form);
-        };
-        match whole(word) {
-            Some(number) => Ok(number),
-            None => Err(Stop::Form),
-        }
+        let word = self.word()?;
+        whole(word).ok_or(Stop::Form)
     }
 
     /// A whole number in range that is not negative.
     pub fn divisor(&mut self) -> Result<i128, Stop>
         ensures { Takes result self.new (word_in divisor_said self.old) }
     {
-        let Some(word) = self.next() else {
-            return Err(Stop::Form);
-        };
-        match divisor(word) {
-            Some(number) => Ok(number),
-            None => Err(Stop::Form),
-        }
+        let word = self.word()?;
+        divisor(word).ok_or(Stop::Form)
     }
 
     /// One less than a number of 64 bits that is not 0.
@@ -161,41 +134,27 @@ impl<'a> Words<'a> {
         ensures read { Takes result self.new (word_in positive_said self.old) }
         ensures fits { IfOk result (λ less. suc less < 2 ^ 64) }
     {
-        let Some(word) = self.next() else {
-            return Err(Stop::Form);
-        };
-        match positive(word) {
-            Some(number) => Ok(number),
-            None => Err(Stop::Form),
-        }
+        let word = self.word()?;
+        positive(word).ok_or(Stop::Form)
     }
 
     /// A field from 1 on, or 0 for the constant.
     pub fn place(&mut self) -> Result<Place, Stop>
         ensures { Takes result self.new (word_in place_said self.old) }
     {
-        let Some(word) = self.next() else {
-            return Err(Stop::Form);
-        };
-        match place(word) {
-            Some(number) => Ok(number),
-            None => Err(Stop::Form),
-        }
+        let word = self.word()?;
+        place(word).ok_or(Stop::Form)
     }
 
     /// This word and no other.
     pub fn fixed(&mut self, word: &[u8]) -> Result<(), Stop>
         ensures { Takes result self.new (word_in (fixed_said word.now) self.old) }
     {
-        match self.next() {
-            Some(next) => {
-                if next == word {
-                    Ok(())
-                } else {
-                    Err(Stop::Form)
-                }
-            }
-            None => Err(Stop::Form),
+        let next = self.word()?;
+        if next == word {
+            Ok(())
+        } else {
+            Err(Stop::Form)
         }
     }
 
@@ -203,9 +162,7 @@ impl<'a> Words<'a> {
     pub fn path(&mut self, alloc: Global) -> Result<Path, Stop>
         ensures { Takes result self.new (word_in path_said self.old) }
     {
-        let Some(word) = self.next() else {
-            return Err(Stop::Form);
-        };
+        let word = self.word()?;
         path(alloc, word)
     }
 

@@ -1,10 +1,11 @@
 use Rattle.std.proofs.Common.{◌≡◌, ◌≢◌, ℕ, suc, ◌+◌, List, [], ◌∷◌, Ok, Err, length, sym, ap, ◌∙◌, subst, arith}
 use Rattle.proof_grammar.specs.Cuts.{lines_in}
-use Rattle.proof_grammar.specs.FileReading.{file_reading}
+use Rattle.proof_grammar.specs.inner.FileReading.{file_reading}
 use Rattle.proof_grammar.specs.FirstFaults.{IsFirstFault}
 use Rattle.proof_grammar.specs.Limits.{IsPlain}
 use Rattle.proof_grammar.specs.ProofLines.{Line, proof_text}
-use Rattle.proof_grammar.specs.Readings.{IsEnd, LinesLeft, Reading, Reads, begun}
+use Rattle.proof_grammar.specs.LinesLeft.{IsEnd, LinesLeft, begun}
+use Rattle.proof_grammar.specs.inner.Readings.{Reading, Reads}
 use Rattle.proof_grammar.specs.declared.fault.ProofFault.{ProofFault}
 use Rattle.proof_grammar.specs.declared.fault.ProofFault.TheVariants as fault
 use Rattle.proof_grammar.specs.declared.proof.Proof.{Proof}

@@ -1,13 +1,24 @@
-use Rattle.std.proofs.Common.{◌≡◌, ℕ, suc, inl, inr, List, [], ◌∷◌, ◌++◌, Option, None, Result, Ok, Err, refl, sym, ap, ◌∙◌, subst, append_assoc, arith}
+use Rattle.std.proofs.Common.{◌≡◌, ℕ, suc, inl, inr, List, [], ◌∷◌, ◌++◌, Option, Some, None, Result, Ok, Err, refl, sym, ap, ◌∙◌, subst, append_assoc, arith}
 use Rattle.proof_grammar.specs.ProofLines.{Line}
 use Rattle.proof_grammar.specs.declared.fault.ProofFault.{ProofFault}
 use Rattle.proof_grammar.specs.declared.fault.ProofFault.TheVariants as fault
 use Rattle.proof_grammar.specs.declared.words.Stop.{Stop}
 use Rattle.proof_grammar.specs.declared.words.Stop.TheVariants as stop
-use Rattle.proof_grammar.specs.Readings.{EndsAt, LinesLeft, Reading, Reads, Settles, line_read, onto, read_line, read_many, seen, then_read}
+use Rattle.proof_grammar.specs.LinesLeft.{EndsAt, LinesLeft, Settles}
+use Rattle.proof_grammar.specs.inner.Readings.{Reading, Reads, line_read, read_line, read_many, seen, then_read}
 use Rattle.proof_grammar.specs.Words.{ReadsAs}
 
 -- What readers of lines answer.
+
+-- the values that were read before, and those that are read
+abbrev pub onto : {L X : Type 0} → List X → Reading L (List X) → Reading L (List X)
+onto xs (Err left) = Err left
+onto xs (Ok (ys, rest)) = Ok (xs ++ ys, rest)
+
+-- the words that were read before, and those that are read
+abbrev pub appended : {X : Type 0} → List X → Option (List X) → Option (List X)
+appended xs None = None
+appended xs (Some ys) = Some (xs ++ ys)
 
 -- a line that was taken, and what was read of it
 pub line-reads : {X : Type 0} (said : Line → Option X) (old new : LinesLeft) (ws : Line) (read : Result X Stop) (result : Result X ProofFault) → old.left ≡ ws ∷ new.left → new.all ≡ old.all → ReadsAs read (said ws) → Settles read new result
@@ -27,7 +38,7 @@ none-reads said old new (fault.At line) none (inl left, number) = (old.left, ap 
 none-reads said old new (fault.At line) none (inr left, number) = (old.left, ap (read_line said) left ∙ ap (line_read [] []) none ∙ ap (λ ls. Err ls) (sym left), number)
 none-reads said old new fault.OutOfMemory none ends = absurd ends
 
--- one more of so many
+-- one more value, and those behind it
 pub many-more : {L X : Type 0} (read : List L → Reading L X) (n : ℕ) (xs : List X) (x : X) (ls rest : List L) → read ls ≡ Ok (x, rest) → onto xs (read_many read (suc n) ls) ≡ onto (xs ++ x ∷ []) (read_many read n rest)
 many-more {L} {X} read n xs x ls rest is = ap (λ r. onto xs (then_read r (λ y later. seen (λ ys. y ∷ ys) (read_many read n later)))) is ∙ by (read_many read n rest)
   where
@@ -35,11 +46,11 @@ many-more {L} {X} read n xs x ls rest is = ap (λ r. onto xs (then_read r (λ y 
     by (Err left) = refl
     by (Ok (ys, later)) = ap (λ zs. Ok (zs, later)) (sym (append_assoc xs (x ∷ []) ys))
 
--- where one of so many stops, all do
+-- where the reading of one value stops, that of all does
 pub many-stops : {L X : Type 0} (read : List L → Reading L X) (n : ℕ) (xs : List X) (ls left : List L) → read ls ≡ Err left → onto xs (read_many read (suc n) ls) ≡ Err left
 many-stops read n xs ls left is = ap (λ r. onto xs (then_read r (λ y later. seen (λ ys. y ∷ ys) (read_many read n later)))) is
 
--- a turn of the loop over so many
+-- a turn of the loop that reads one value after another
 pub many-kept : {X : Type 0} (read : List Line → Reading Line X) (n m : ℕ) (xs ys : List X) (x : X) (ls rest : List Line) (whole : Reading Line (List X)) → suc m ≡ n → ys ≡ xs ++ x ∷ [] → onto xs (read_many read n ls) ≡ whole → read ls ≡ Ok (x, rest)
     → onto ys (read_many read m rest) ≡ whole
 many-kept read n m xs ys x ls rest whole count more kept is =

@@ -11,9 +11,9 @@ use Rattle.bound_cert.specs.declared.outcome.GiftFault.{GiftFault}
 use Rattle.bound_cert.specs.declared.outcome.Outcome.{Outcome}
 use Rattle.bound_cert.specs.declared.outcome.Outcome.TheVariants as outcome
 use Rattle.bound_cert.specs.declared.outcome.RowProof.{RowProof}
-use Rattle.proof_grammar.specs.Limits.{AreFit, IsChange, IsLeaf, IsOutcome, IsPlain, IsReason, IsRowProof, IsStep}
+use Rattle.proof_grammar.specs.Limits.{AreFit, IsChange, IsLeaf, IsOutcome, IsPlain, IsRowProof, IsStep, OfSteps}
 use Rattle.proof_grammar.specs.declared.proof.Proof.{Proof}
-use Rattle.proof_text.specs.Sizes.{ArePositiveSteps, AreSizedSteps, IsCoherent, IsCoherentChange, IsCoherentOutcome, IsCoherentRow, IsPositiveLeaf, IsPositiveReason, IsPositiveStep, IsSized, IsSizedChange, IsSizedLeaf, IsSizedOutcome, IsSizedReason, IsSizedRow, IsSizedStep, IsSizedVerdict, IsWide}
+use Rattle.proof_text.specs.Sizes.{ArePositiveSteps, AreSizedSteps, IsCoherent, IsCoherentChange, IsCoherentOutcome, IsCoherentRow, IsPositiveLeaf, IsPositiveStep, IsSized, IsSizedChange, IsSizedLeaf, IsSizedOutcome, IsSizedRow, IsSizedStep, IsSizedVerdict, IsWide}
 
 -- A proof whose numbers are of their types is plain where its combinations and rows are coherent.
 
@@ -38,7 +38,7 @@ plain-step (step.Fix field part) sized positive = sized
 plain-steps : (ss : List Step) → AreSizedSteps ss → ArePositiveSteps ss → AreFit IsStep ss
 plain-steps ss (count, sized) positive = (count, all-both IsSizedStep IsPositiveStep IsStep plain-step ss sized positive)
 
-plain-reason : (reason : LeafWhy) → IsSizedReason reason → IsPositiveReason reason → IsReason reason
+plain-reason : (reason : LeafWhy) → OfSteps AreSizedSteps reason → OfSteps ArePositiveSteps reason → OfSteps (AreFit IsStep) reason
 plain-reason why.Bound sized positive = tt
 plain-reason why.BadKept sized positive = tt
 plain-reason (why.Line steps) sized positive = plain-steps steps sized positive

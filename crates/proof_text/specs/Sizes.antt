@@ -5,12 +5,11 @@ use Rattle.derivation.specs.declared.step.Step.{Step}
 use Rattle.derivation.specs.declared.step.Step.TheVariants as step
 use Rattle.bound_cert.specs.declared.cert.Leaf.{Leaf}
 use Rattle.bound_cert.specs.declared.cert.LeafWhy.{LeafWhy}
-use Rattle.bound_cert.specs.declared.cert.LeafWhy.TheVariants as why
 use Rattle.bound_cert.specs.declared.outcome.GiftFault.{GiftFault}
 use Rattle.bound_cert.specs.declared.outcome.Outcome.{Outcome}
 use Rattle.bound_cert.specs.declared.outcome.Outcome.TheVariants as outcome
 use Rattle.bound_cert.specs.declared.outcome.RowProof.{RowProof}
-use Rattle.proof_grammar.specs.Limits.{AreFit, IsEntry, IsEvent, IsGift, IsLong, IsPlain, IsShort, clean_leaves}
+use Rattle.proof_grammar.specs.Limits.{AreFit, IsEntry, IsEvent, IsGift, IsLong, IsPlain, IsShort, OfSteps, clean_leaves}
 use Rattle.proof_grammar.specs.declared.proof.Proof.{Proof}
 
 -- ---- sizes
@@ -31,14 +30,8 @@ IsSizedStep (step.Fix field part) = IsShort field × IsLong part
 abbrev pub AreSizedSteps : List Step → Type 0
 AreSizedSteps steps = AreFit IsSizedStep steps
 
-abbrev pub IsSizedReason : LeafWhy → Type 0
-IsSizedReason why.Bound = Unit {0}
-IsSizedReason why.BadKept = Unit {0}
-IsSizedReason (why.Line steps) = AreSizedSteps steps
-IsSizedReason (why.Box steps) = AreSizedSteps steps
-
 abbrev pub IsSizedLeaf : Leaf → Type 0
-IsSizedLeaf leaf = IsSizedReason leaf.why
+IsSizedLeaf leaf = OfSteps AreSizedSteps leaf.why
 
 abbrev pub AreSizedLeaves : List Leaf → Type 0
 AreSizedLeaves leaves = AreFit IsSizedLeaf leaves
@@ -85,10 +78,7 @@ abbrev pub ArePositiveSteps : List Step → Type 0
 ArePositiveSteps steps = AllByRecursion IsPositiveStep steps
 
 abbrev pub IsPositiveReason : LeafWhy → Type 0
-IsPositiveReason why.Bound = Unit {0}
-IsPositiveReason why.BadKept = Unit {0}
-IsPositiveReason (why.Line steps) = ArePositiveSteps steps
-IsPositiveReason (why.Box steps) = ArePositiveSteps steps
+IsPositiveReason reason = OfSteps ArePositiveSteps reason
 
 abbrev pub IsPositiveLeaf : Leaf → Type 0
 IsPositiveLeaf leaf = IsPositiveReason leaf.why

@@ -19,7 +19,7 @@ power_is_positive k =
     let grows : 10 ^ 0 ≤ 10 ^ k = pow-le-pow_right {n = 10} (omega arith) least in
     grows
 
--- so many digits spell less than that power of ten
+-- digits that are at most `most` spell less than 10^most
 digits_below : (most : ℕ) (ds : List ℕ) → AreDigits most ds → digits_value 10 ds < 10 ^ most
 digits_below most ds h = omega (arith, digits_value-lt 10 ds h.0, pow-le-pow_right {n = 10} (omega arith) h.1)
 

@@ -6,7 +6,8 @@ use Rattle.record_text.specs.Trimming.{trimmed}
 -- the columns, from number i on, whose header text without blanks at its ends is the name
 abbrev pub columns_from : ℕ → List ℕ → List (List ℕ) → List ℕ
 columns_from i name [] = []
-columns_from i name (text ∷ header) = if bytes_eq (trimmed text) name then i ∷ columns_from (suc i) name header else columns_from (suc i) name header
+columns_from i name (text ∷ header) =
+    if bytes_eq (trimmed text) name then i ∷ columns_from (suc i) name header else columns_from (suc i) name header
 
 -- the columns in which a name stands
 abbrev pub columns_of : List ℕ → List (List ℕ) → List ℕ

@@ -17,12 +17,18 @@ abbrev pub column_fault : ℕ → List Field → List (List ℕ) → Option Shee
 column_fault i [] header = None
 column_fault i (field ∷ fields) header = option_or (field_fault i (columns_of field.name header)) (column_fault (suc i) fields header)
 
--- the fault of the first faulty row, from number i on: it is row 200,000 from 0, or has another number of fields than the header
+-- the fault of the first faulty row, from number i on: it is row 200,000 from 0, or has not as many fields as the header
 abbrev pub row_fault : ℕ → ℕ → List (List (List ℕ)) → Option SheetFault
 row_fault i width [] = None
-row_fault i width (raw ∷ raws) = if i == 200000 then Some TooManyRows else if length raw == width then row_fault (suc i) width raws else Some (RowLength i)
+row_fault i width (raw ∷ raws) =
+    if i == 200000 then Some TooManyRows
+    else if length raw == width then row_fault (suc i) width raws
+    else Some (RowLength i)
 
--- what is wrong with the records of a file: no header, a header of more than 256 columns, a field without its one column, a faulty row; the first of these, and None where nothing is
+-- the first of what is wrong with the records of a file: no header, a header of more than 256 columns, a field without its
+-- one column, a faulty row; None where nothing is
 abbrev pub sheet_fault : List Field → List (List (List ℕ)) → Option SheetFault
 sheet_fault fields [] = Some NoHeader
-sheet_fault fields (first ∷ raws) = if nat_lt 256 (length first) then Some TooManyColumns else option_or (column_fault 0 fields (header_of first)) (row_fault 0 (length first) raws)
+sheet_fault fields (first ∷ raws) =
+    if nat_lt 256 (length first) then Some TooManyColumns
+    else option_or (column_fault 0 fields (header_of first)) (row_fault 0 (length first) raws)

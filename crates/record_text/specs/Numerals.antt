@@ -1,8 +1,8 @@
-use Rattle.std.specs.Prelude.{◌≡◌, ◌⊎◌, ℕ, ℤ, ◌+◌, ◌*◌, ◌^◌, ◌≤◌, ◌==◌, ◌||◌, ◌++◌, Bool, false, List, [], ◌∷◌, length, pos, neg_ℤ, ◌*ℤ◌, if◌then◌else◌}
+use Rattle.std.specs.Prelude.{◌≡◌, ◌⊎◌, ℕ, ◌+◌, ◌*◌, ◌^◌, ◌≤◌, ◌==◌, ◌||◌, ◌++◌, Bool, false, List, [], ◌∷◌, length, pos, neg_ℤ, ◌*ℤ◌, if◌then◌else◌}
 use Rattle.std.specs.Str.Parse.{AllDigits, digits_value}
 use Rattle.fraction128.specs.declared.fraction.Fraction.{Fraction}
 
--- decimal digits, at most so many
+-- decimal digits, at most `most` of them
 abbrev pub AreDigits : ℕ → List ℕ → Type 0
 AreDigits most text = AllDigits 10 text × (length text ≤ most)
 

@@ -20,7 +20,8 @@ pub record SheetParts : Type 0 where
 abbrev pub AreRecordsOf : List ℕ → List (List (List ℕ)) → Type 0
 AreRecordsOf bytes records = AreRecords default_config st.StartRecord (strip_bom (strip_bom bytes)) records
 
--- the sheet that the bytes give for these fields: nothing is wrong with their records, which are the header and the rows; each field stands in its column, and each row has the values of its texts there
+-- the sheet that the bytes give for these fields: nothing is wrong with their records, which are the header and the rows;
+-- each field stands in its column, and each row has the values of its texts there
 pub record IsSheet (fields : List Field) (bytes : List ℕ) (sheet : SheetParts) : Type 0 where
   pub first : List (List ℕ)
   pub given : AreRecordsOf bytes (first ∷ sheet.raws)
@@ -34,3 +35,7 @@ pub record IsSheetFault (fields : List Field) (bytes : List ℕ) (fault : SheetF
   pub records : List (List (List ℕ))
   pub given : AreRecordsOf bytes records
   pub found : sheet_fault fields records ≡ Some fault
+
+-- nothing else is wrong with them
+abbrev pub IsOnlyFault : List Field → List ℕ → SheetFault → Type 0
+IsOnlyFault fields bytes fault = (other : SheetFault) → IsSheetFault fields bytes other → other ≡ fault

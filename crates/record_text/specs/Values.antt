@@ -13,7 +13,8 @@ use Rattle.record_text.specs.Trimming.{trimmed}
 abbrev pub code_number : List (List ℕ) → List ℕ → Option ℕ
 code_number codes text = position (λ code. bytes_eq code text) codes
 
--- what a field's text stands for, without blanks at its ends: the fraction that it spells, or the number of its code, and a Bad value where it is no numeral or no code
+-- what a field's text stands for, without blanks at its ends: the fraction that it spells, or the number of its code, and a
+-- Bad value where it is no numeral or no code
 abbrev pub IsValueText : Kind → List ℕ → Value → Type 0
 IsValueText (kind.Number scale) text (Number x) = IsNumeral (trimmed text) x
 IsValueText (kind.Number scale) text (Code c) = ⊥
@@ -25,10 +26,11 @@ IsValueText (kind.Code codes) text Bad = code_number codes (trimmed text) ≡ No
 -- the value of each field, in declared order, from the row's text in the field's column
 abbrev pub AreValues : List Field → List ℕ → List (List ℕ) → List Value → Type 0
 AreValues [] [] raw [] = Unit {0}
-AreValues (field ∷ fields) (column ∷ columns) raw (v ∷ values) = IsValueText field.kind (slice_index_or raw column []) v × AreValues fields columns raw values
+AreValues (field ∷ fields) (column ∷ columns) raw (v ∷ values) =
+    IsValueText field.kind (slice_index_or raw column []) v × AreValues fields columns raw values
 AreValues _ _ raw _ = ⊥
 
--- the same of each row
+-- the values of each row
 abbrev pub AreRows : List Field → List ℕ → List (List (List ℕ)) → List (List Value) → Type 0
 AreRows fields columns [] [] = Unit {0}
 AreRows fields columns (raw ∷ raws) (row ∷ rows) = AreValues fields columns raw row × AreRows fields columns raws rows

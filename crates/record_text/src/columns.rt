@@ -1,6 +1,7 @@
 ghost use Rattle.std.specs.Prelude.{◌≡◌, ◌≢◌, ◌≤◌, ◌+◌, ◌∷◌, [], IfErr, IfOk, IfSome, ◌<◌, MatchOption, Some, drop, length};
 ghost use Rattle.record_text.specs.Columns.{StandIn, columns_from, columns_of};
 ghost use Rattle.record_text.specs.Faults.{column_fault, field_fault};
+ghost use Rattle.record_text.specs.inner.NextColumns.{IsNextColumn};
 
 use crate::fault::SheetFault;
 use crate::texts::Texts;
@@ -50,7 +51,7 @@ fn find_column(field: u32, name: &[u8], header: &Texts) -> Result<u32, SheetFaul
 fn next_column(from: usize, name: &[u8], header: &Texts) -> Option<usize>
     requires { from ≤ length header.now }
     ensures within { IfSome result (λ column. column < length header.now) }
-    ensures columns { MatchOption result (columns_from from name.now (drop from header.now) ≡ []) (λ column. columns_from from name.now (drop from header.now) ≡ column ∷ columns_from (column + 1) name.now (drop (column + 1) header.now)) }
+    ensures columns { IsNextColumn result from name.now header.now }
 {
     for column in from..header.len() {
         if trimmed(header.get(column)) == name {

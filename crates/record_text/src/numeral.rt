@@ -133,7 +133,7 @@ fn quotient_ratio(above: &[u8], below: &[u8]) -> Option<Ratio>
     })
 }
 
-/// The number that at most so many digits spell, 0 for none.
+/// The number that the digits spell, 0 for none; None where one is no digit, or there are more than `most`.
 fn number_of_digits(digits: &[u8], most: usize) -> Option<u128>
     requires { most ≤ 21 }
     ensures some { IfSome result (λ n. AreDigits most digits.now × (n ≡ digits_value 10 digits.now)) }

@@ -2,8 +2,8 @@ ghost use Rattle.std.specs.Prelude.{◌≡◌, ◌≢◌, ◌<◌, All, IfErr, I
 ghost use Rattle.std.specs.List.{AllByRecursion};
 ghost use Rattle.edit_model.specs.PlainNumbers.{HasPlain};
 ghost use Rattle.edit_model.specs.Surveys.{IsKind};
-ghost use Rattle.record_text.specs.inner.Places.{AreRowsFrom, IsAt, IsRowFault, Place};
-ghost use Rattle.record_text.specs.Sheets.{IsSheet, IsSheetFault, SheetParts};
+ghost use Rattle.record_text.specs.inner.Places.{AreRowsBehind, IsAt, IsRowFault, Place};
+ghost use Rattle.record_text.specs.Sheets.{IsOnlyFault, IsSheet, IsSheetFault, SheetParts};
 ghost use Rattle.record_text.specs.Values.{AreValues};
 
 use crate::columns::{MOST_COLUMNS, find_columns};
@@ -31,7 +31,7 @@ pub fn read_records(alloc: Global, survey: &Survey, bytes: &[u8]) -> Result<Shee
     ensures plain { IfOk result (λ sheet. AllByRecursion HasPlain sheet.rows) }
     ensures fault { IfErr result (λ e. e ≢ SheetFault.OutOfMemory → IsSheetFault survey.now.fields bytes.now e) }
     ensures only { IfOk result (λ sheet. (other : SheetParts) → IsSheet survey.now.fields bytes.now other → other ≡ sheet) }
-    ensures first { IfErr result (λ e. e ≢ SheetFault.OutOfMemory → (other : SheetFault) → IsSheetFault survey.now.fields bytes.now other → other ≡ e) }
+    ensures first { IfErr result (λ e. e ≢ SheetFault.OutOfMemory → IsOnlyFault survey.now.fields bytes.now e) }
     ensures unread { IfErr result (λ e. e ≢ SheetFault.OutOfMemory → (sheet : SheetParts) → ¬ IsSheet survey.now.fields bytes.now sheet) }
 {
     read_sheet(alloc, survey, bytes)
@@ -74,7 +74,7 @@ fn read_rows(
 ) -> Result<(Vec<Texts>, Vec<Row>), SheetFault>
     requires columns { length columns.now ≡ length survey.now.fields }
     requires within { All (λ column. column < width) columns.now }
-    ensures rows { IfOk result (λ parts. (here : Place) → IsAt reader.old here → AreRowsFrom survey.now.fields columns.now width here parts.0.items parts.1.items) }
+    ensures rows { IfOk result (λ parts. AreRowsBehind reader.old survey.now.fields columns.now width parts.0.items parts.1.items) }
     ensures fault { IfErr result (λ e. e ≢ SheetFault.OutOfMemory → (here : Place) → IsAt reader.old here → IsRowFault width here e) }
 {
     let mut raws = Vec::new(alloc);

@@ -1,6 +1,6 @@
 ghost use Rattle.std.specs.Prelude.{◌≡◌, ◌++◌, ◌∷◌, ℕ, List, [], IfOk, OnOk, map};
 ghost use Rattle.record_text.specs.Texts.{records_text};
-ghost use Rattle.record_text.specs.Written.{HasWritten};
+ghost use Rattle.record_text.specs.Written.{HasWritten, WritesMore};
 
 use crate::texts::Texts;
 use csv::{Writer, WriterBuilder};
@@ -42,7 +42,7 @@ impl RecordWriter {
 
     /// Writes a record of these texts.
     pub fn push(&mut self, texts: &Texts) -> Result<(), OutOfMemory>
-        ensures { OnOk result ((bytes : List ℕ) → HasWritten self.old bytes → HasWritten self.new (bytes ++ records_text (texts.now ∷ []))) }
+        ensures { OnOk result (WritesMore self.old self.new (records_text (texts.now ∷ []))) }
     {
         if self.writer.write_byte_record(texts.as_record()).is_err() {
             return Err(OutOfMemory);
@@ -52,7 +52,7 @@ impl RecordWriter {
 
     /// Writes a record of these texts.
     pub fn push_slices(&mut self, texts: &[&[u8]]) -> Result<(), OutOfMemory>
-        ensures { OnOk result ((bytes : List ℕ) → HasWritten self.old bytes → HasWritten self.new (bytes ++ records_text (map (λ text. text.now) texts.now ∷ []))) }
+        ensures { OnOk result (WritesMore self.old self.new (records_text (map (λ text. text.now) texts.now ∷ []))) }
     {
         if self.writer.write_fields(texts).is_err() {
             return Err(OutOfMemory);

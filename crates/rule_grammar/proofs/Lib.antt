@@ -1,5 +1,6 @@
 pub mod CursorSteps
 mod DeclarationLaws
+pub mod Keywords
 pub mod LineLaws
 mod ListLaws
 pub mod LongestTokens

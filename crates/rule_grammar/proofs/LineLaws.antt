@@ -46,3 +46,6 @@ one_line_text text (line.Says s) line.Unreadable is_a is_b = absurd (is_b.1 s is
 one_line_text text line.Unreadable line.Empty is_a is_b = absurd (is_a.0 is_b)
 one_line_text text line.Unreadable (line.Says s) is_a is_b = absurd (is_a.1 s is_b.0)
 one_line_text text line.Unreadable line.Unreadable is_a is_b = refl
+
+-- what each answer of `read_line` says of the text
+pub ruleset line_answers = (line_empty, line_unread, line_left)

@@ -3,34 +3,34 @@ use Rattle.std.proofs.Common.{◌≡◌, refl, sym, ap, subst, ◌∙◌, ℕ, z
 use Rattle.std.specs.List.{flat_map}
 use Rattle.std.proofs.lemmas.List.{append_assoc, append-nil}
 use Rattle.rule_grammar.proofs.ReadLaws.{Shortens, Spells, shortens_read, spells_after}
-use Rattle.rule_grammar.specs.inner.Parsing.{Reading, after, begins, many_at, many_within}
+use Rattle.rule_grammar.specs.inner.Parsing.{Reading, begins, many_at, many_within, then_read}
 use Rattle.rule_grammar.specs.declared.token.Token.{Token}
 
 -- what is read, behind what was read before
 abbrev pub prefixed : {X : Type 0} → List X → Reading (List X) → Reading (List X)
-prefixed done reading = after reading (λ xs left. Some (done ++ xs, left))
+prefixed done reading = then_read reading (λ xs left. Some (done ++ xs, left))
 
 pub prefixed_nothing : {X : Type 0} (reading : Reading (List X)) → prefixed [] reading ≡ reading
 prefixed_nothing None = refl
 prefixed_nothing (Some found) = refl
 
-pub prefixed_first : {X : Type 0} (x : X) (reading : Reading (List X)) → prefixed (x ∷ []) reading ≡ after reading (λ xs left. Some (x ∷ xs, left))
+pub prefixed_first : {X : Type 0} (x : X) (reading : Reading (List X)) → prefixed (x ∷ []) reading ≡ then_read reading (λ xs left. Some (x ∷ xs, left))
 prefixed_first x None = refl
 prefixed_first x (Some found) = refl
 
-prefixed_twice : {X : Type 0} (done : List X) (x : X) (reading : Reading (List X)) → prefixed done (after reading (λ xs last. Some (x ∷ xs, last))) ≡ prefixed (done ++ x ∷ []) reading
+prefixed_twice : {X : Type 0} (done : List X) (x : X) (reading : Reading (List X)) → prefixed done (then_read reading (λ xs last. Some (x ∷ xs, last))) ≡ prefixed (done ++ x ∷ []) reading
 prefixed_twice done x None = refl
 prefixed_twice done x (Some found) = rw append_assoc refl
 
 module _ {X : Type 0} (begin : Token → Bool) (one : List Token → Reading X) where
   -- one more, behind what was read before
-  pub unfold_true : (n : ℕ) (ts : List Token) → begins begin ts ≡ true → many_within begin one (suc n) ts ≡ after (one ts) (λ x left. after (many_within begin one n left) (λ xs last. Some (x ∷ xs, last)))
+  pub unfold_true : (n : ℕ) (ts : List Token) → begins begin ts ≡ true → many_within begin one (suc n) ts ≡ then_read (one ts) (λ x left. then_read (many_within begin one n left) (λ xs last. Some (x ∷ xs, last)))
   unfold_true n ts begun = rw begun refl
 
   pub unfold_false : (n : ℕ) (ts : List Token) → begins begin ts ≡ false → many_within begin one (suc n) ts ≡ Some ([], ts)
   unfold_false n ts over = rw over refl
 
-  enough_on : ((ts : List Token) → Shortens ts (one ts)) → (n m : ℕ) (ts : List Token) → length ts < suc n → length ts < suc m → ((left : List Token) → length left < n → length left < m → many_within begin one n left ≡ many_within begin one m left) → (b : Bool) (reading : Reading X) → one ts ≡ reading → (if b then after reading (λ x left. after (many_within begin one n left) (λ xs last. Some (x ∷ xs, last))) else Some ([], ts)) ≡ (if b then after reading (λ x left. after (many_within begin one m left) (λ xs last. Some (x ∷ xs, last))) else Some ([], ts))
+  enough_on : ((ts : List Token) → Shortens ts (one ts)) → (n m : ℕ) (ts : List Token) → length ts < suc n → length ts < suc m → ((left : List Token) → length left < n → length left < m → many_within begin one n left ≡ many_within begin one m left) → (b : Bool) (reading : Reading X) → one ts ≡ reading → (if b then then_read reading (λ x left. then_read (many_within begin one n left) (λ xs last. Some (x ∷ xs, last))) else Some ([], ts)) ≡ (if b then then_read reading (λ x left. then_read (many_within begin one m left) (λ xs last. Some (x ∷ xs, last))) else Some ([], ts))
   enough_on shortens n m ts below_n below_m same false reading is = refl
   enough_on shortens n m ts below_n below_m same true None is = refl
   enough_on shortens n m ts below_n below_m same true (Some found) is =
@@ -59,12 +59,12 @@ module _ {X : Type 0} (begin : Token → Bool) (one : List Token → Reading X) 
 
   many_within_spells : (spelling : X → List Token) → ((ts : List Token) → Spells spelling ts (one ts)) → (n : ℕ) (ts : List Token) → Spells (flat_map spelling) ts (many_within begin one n ts)
   many_within_spells spelling each zero ts = tt
-  many_within_spells spelling each (suc n) ts = elim (begins begin ts) as (λ b. Spells (flat_map spelling) ts (if b then after (one ts) (λ x left. after (many_within begin one n left) (λ xs last. Some (x ∷ xs, last))) else Some ([], ts))) [
-    | true ↦ spells_after spelling (flat_map spelling) ts (one ts) (λ x left. after (many_within begin one n left) (λ xs last. Some (x ∷ xs, last))) (each ts) (λ x left. more x left (many_within begin one n left) (many_within_spells spelling each n left))
+  many_within_spells spelling each (suc n) ts = elim (begins begin ts) as (λ b. Spells (flat_map spelling) ts (if b then then_read (one ts) (λ x left. then_read (many_within begin one n left) (λ xs last. Some (x ∷ xs, last))) else Some ([], ts))) [
+    | true ↦ spells_after spelling (flat_map spelling) ts (one ts) (λ x left. then_read (many_within begin one n left) (λ xs last. Some (x ∷ xs, last))) (each ts) (λ x left. more x left (many_within begin one n left) (many_within_spells spelling each n left))
     | false ↦ refl
   ]
     where
-      more : (x : X) (left : List Token) (reading : Reading (List X)) → Spells (flat_map spelling) left reading → Spells (flat_map spelling) (spelling x ++ left) (after reading (λ xs last. Some (x ∷ xs, last)))
+      more : (x : X) (left : List Token) (reading : Reading (List X)) → Spells (flat_map spelling) left reading → Spells (flat_map spelling) (spelling x ++ left) (then_read reading (λ xs last. Some (x ∷ xs, last)))
       more x left None one = tt
       more x left (Some found) one = ap (λ l. spelling x ++ l) one ∙ sym (append_assoc (spelling x) (flat_map spelling found.0) found.1)
 
@@ -92,3 +92,6 @@ module _ {X : Type 0} (begin : Token → Bool) (one : List Token → Reading X) 
 
   pub many_back : (extends : Token → Bool) (spelling : X → List Token) → ((x : X) (left : List Token) → begins extends left ≡ false → one (spelling x ++ left) ≡ Some (x, left)) → ((x : X) (left : List Token) → begins begin (spelling x ++ left) ≡ true) → ((x : X) (left : List Token) → begins extends (spelling x ++ left) ≡ false) → ((ts : List Token) → Shortens ts (one ts)) → (left : List Token) → begins begin left ≡ false → begins extends left ≡ false → (xs : List X) → many_at begin one (flat_map spelling xs ++ left) ≡ Some (xs, left)
   many_back extends spelling each begun apart shorter left over clear xs = many_within_back extends spelling each begun apart shorter left over clear xs (suc (length (flat_map spelling xs ++ left))) (omega arith)
+
+-- what a loop that reads one after another needs at each turn and at its end
+pub ruleset many_turns = (many_more, many_ends, many_fails, prefixed_nothing, prefixed_first)

@@ -10,6 +10,7 @@ use Rattle.std.specs.Str.Parse.{digits_value}
 use Rattle.edit_model.specs.Surveys.{IsName, is_digit, is_letter}
 use Rattle.edit_model.specs.declared.rule.Compare.{Compare as Comparison}
 use Rattle.edit_model.specs.declared.rule.Compare.TheVariants.{Ge, Gt, Le, Lt, Eq}
+use Rattle.rule_grammar.proofs.Keywords.{each_keyword}
 use Rattle.rule_grammar.proofs.LongestTokens.{first_is_digit, front_is_longest, suc_not_zero}
 use Rattle.rule_grammar.proofs.TokenSteps.{front_code_is, front_numeral_is, front_of_code, front_of_numeral, front_of_word, front_word_is, letter_is_word, prefix_of_run, prefix_some, tokens_from_step, word_token_is}
 use Rattle.rule_grammar.specs.Names.{IsCodeText}
@@ -17,7 +18,6 @@ use Rattle.rule_grammar.specs.Spellings.{AreLongestTokens, IsDecimal, IsDigits, 
 use Rattle.rule_grammar.specs.Tokens.{Front, after_blanks, front_numeral, front_of, is_code_byte, is_inside_after, is_word_byte, whole_numeral, with_front}
 use Rattle.rule_grammar.specs.inner.Fronts.{front_code, front_word, tokens_from}
 use Rattle.rule_grammar.specs.declared.token.Keyword.{Keyword}
-use Rattle.rule_grammar.specs.declared.token.Keyword.TheVariants as keyword
 use Rattle.rule_grammar.specs.declared.token.Numeral.{Numeral}
 use Rattle.rule_grammar.specs.declared.token.Numeral.TheVariants as amount
 use Rattle.rule_grammar.specs.declared.token.Sign.TheVariants as sign
@@ -32,15 +32,7 @@ IsTokenOf inside t [] = ⊥
 IsTokenOf inside t (b ∷ bs) = (front_of inside b bs).token ≡ t
 
 keyword_token : (k : Keyword) → IsTokenOf false (token.Keyword k) (keyword_text k)
-keyword_token keyword.Number = refl
-keyword_token keyword.Code = refl
-keyword_token keyword.Weight = refl
-keyword_token keyword.Scale = refl
-keyword_token keyword.In = refl
-keyword_token keyword.Not = refl
-keyword_token keyword.If = refl
-keyword_token keyword.And = refl
-keyword_token keyword.Then = refl
+keyword_token = each_keyword (λ (k : Keyword). IsTokenOf false (token.Keyword k) (keyword_text k)) refl refl refl refl refl refl refl refl refl
 
 compare_token : (c : Comparison) → IsTokenOf false (token.Compare c) (compare_text c)
 compare_token Ge = refl

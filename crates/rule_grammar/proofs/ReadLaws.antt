@@ -3,7 +3,8 @@ use Rattle.std.proofs.Common.{◌≡◌, refl, sym, ap, subst, ◌∙◌, ℕ, �
 use Rattle.std.proofs.lemmas.Bool.{eq-eqb, eqb-true}
 use Rattle.std.proofs.lemmas.List.{append_assoc, length-append}
 use Rattle.edit_model.specs.declared.rule.Compare.{Compare as Comparison}
-use Rattle.rule_grammar.specs.inner.Parsing.{Reading, after, begins, code_at, compare_at, name_at, numeral_at, sign_at, is_word, rest_of, word_number}
+use Rattle.rule_grammar.proofs.Keywords.{each_keyword}
+use Rattle.rule_grammar.specs.inner.Parsing.{Reading, begins, code_at, compare_at, is_word, name_at, numeral_at, rest_of, sign_at, then_read, word_number}
 use Rattle.rule_grammar.specs.declared.token.Keyword.{Keyword as Word}
 use Rattle.rule_grammar.specs.declared.token.Keyword.TheVariants as keyword
 use Rattle.rule_grammar.specs.declared.token.Numeral.{Numeral}
@@ -21,7 +22,7 @@ abbrev pub Shortens : {X : Type 0} → List Token → Reading X → Type 0
 Shortens ts None = Unit {0}
 Shortens ts (Some found) = length found.1 < length ts
 
-pub spells_after : {X Y : Type 0} (first : X → List Token) (spelling : Y → List Token) (ts : List Token) (reading : Reading X) (next : X → List Token → Reading Y) → Spells first ts reading → ((x : X) (left : List Token) → Spells spelling (first x ++ left) (next x left)) → Spells spelling ts (after reading next)
+pub spells_after : {X Y : Type 0} (first : X → List Token) (spelling : Y → List Token) (ts : List Token) (reading : Reading X) (next : X → List Token → Reading Y) → Spells first ts reading → ((x : X) (left : List Token) → Spells spelling (first x ++ left) (next x left)) → Spells spelling ts (then_read reading next)
 spells_after first spelling ts None next one more = tt
 spells_after first spelling ts (Some found) next one more = rw one (more found.0 found.1)
 
@@ -30,8 +31,8 @@ pub spells_behind : {X : Type 0} (front : List Token) (spelling : X → List Tok
 spells_behind front spelling ts None one = tt
 spells_behind front spelling ts (Some found) one = ap (λ l. front ++ l) one ∙ sym (append_assoc front (spelling found.0) found.1)
 
--- the same reading under another spelling
-pub spells_as : {X Y : Type 0} (spelling : X → List Token) (other : Y → List Token) (made : X → Y) (ts : List Token) (reading : Reading X) → ((x : X) → other (made x) ≡ spelling x) → Spells spelling ts reading → Spells other ts (after reading (λ x left. Some (made x, left)))
+-- a reading under another spelling
+pub spells_as : {X Y : Type 0} (spelling : X → List Token) (other : Y → List Token) (made : X → Y) (ts : List Token) (reading : Reading X) → ((x : X) → other (made x) ≡ spelling x) → Spells spelling ts reading → Spells other ts (then_read reading (λ x left. Some (made x, left)))
 spells_as spelling other made ts None same one = tt
 spells_as spelling other made ts (Some found) same one = rw (same found.0) one
 
@@ -86,15 +87,7 @@ word_of n =
 
 number_back : (word : Word) → word_of (word_number word) ≡ word
 unfolding word_of
-number_back keyword.Number = refl
-number_back keyword.Code = refl
-number_back keyword.Weight = refl
-number_back keyword.Scale = refl
-number_back keyword.In = refl
-number_back keyword.Not = refl
-number_back keyword.If = refl
-number_back keyword.And = refl
-number_back keyword.Then = refl
+number_back = each_keyword (λ (k : Word). word_of (word_number k) ≡ k) refl refl refl refl refl refl refl refl refl
 
 same_word : (a b : Word) → (word_number a == word_number b) ≡ true → a ≡ b
 same_word a b same = sym (number_back a) ∙ (ap word_of (eqb-true (word_number a) (word_number b) same) ∙ number_back b)

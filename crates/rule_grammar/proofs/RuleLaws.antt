@@ -6,7 +6,7 @@ use Rattle.rule_grammar.proofs.ManyLaws.{many_back, many_spells}
 use Rattle.rule_grammar.proofs.ReadLaws.{Spells, spells_after, spells_as, spells_behind, spells_word, word_begins}
 use Rattle.rule_grammar.proofs.SumLaws.{extends_sum}
 use Rattle.rule_grammar.proofs.TestLaws.{and_test_shortens, and_test_spells, and_test_tokens, test_back, test_begins, test_spells}
-use Rattle.rule_grammar.specs.inner.Parsing.{Reading, after, and_test_at, and_tests_at, begins, conditional_at, is_word, many_at, rest_of, rule_at, test_at, then_at, word_number}
+use Rattle.rule_grammar.specs.inner.Parsing.{Reading, and_test_at, and_tests_at, begins, conditional_at, is_word, many_at, rest_of, rule_at, test_at, then_at, then_read, word_number}
 use Rattle.rule_grammar.specs.Statements.{rule_tokens, test_tokens}
 use Rattle.rule_grammar.specs.declared.statement.RuleText.{RuleText}
 use Rattle.rule_grammar.specs.declared.statement.TestText.{TestText}
@@ -28,27 +28,27 @@ rule_joined first rest last = append_assoc (if_tokens first rest) (token.Keyword
 then_spells : (first : TestText) (rest : List TestText) (ts : List Token) → Spells rule_tokens (if_tokens first rest ++ ts) (then_at (first ∷ rest) ts)
 then_spells first rest ts = by_word (begins (is_word keyword.Then) ts) refl
   where
-    by_word : (found : Bool) → begins (is_word keyword.Then) ts ≡ found → Spells rule_tokens (if_tokens first rest ++ ts) (if found then after (test_at (rest_of ts)) (λ last left. Some (record { conditions = first ∷ rest; conclusion = last }, left)) else None)
+    by_word : (found : Bool) → begins (is_word keyword.Then) ts ≡ found → Spells rule_tokens (if_tokens first rest ++ ts) (if found then then_read (test_at (rest_of ts)) (λ last left. Some (record { conditions = first ∷ rest; conclusion = last }, left)) else None)
     by_word false is = tt
     by_word true is = spells_as (λ last. if_tokens first rest ++ token.Keyword keyword.Then ∷ test_tokens last) rule_tokens (λ last. record { conditions = first ∷ rest; conclusion = last }) (if_tokens first rest ++ ts) (test_at (rest_of ts)) (rule_joined first rest) (spells_behind (if_tokens first rest) (λ last. token.Keyword keyword.Then ∷ test_tokens last) ts (test_at (rest_of ts)) (spells_word keyword.Then test_tokens ts (test_at (rest_of ts)) is (test_spells (rest_of ts))))
 
 conditional_spells : (ts : List Token) → Spells rule_tokens (token.Keyword keyword.If ∷ ts) (conditional_at ts)
-conditional_spells ts = spells_after (λ first. token.Keyword keyword.If ∷ test_tokens first) rule_tokens (token.Keyword keyword.If ∷ ts) (test_at ts) (λ first left. after (and_tests_at first left) then_at) (spells_behind (token.Keyword keyword.If ∷ []) test_tokens ts (test_at ts) (test_spells ts)) from_first
+conditional_spells ts = spells_after (λ first. token.Keyword keyword.If ∷ test_tokens first) rule_tokens (token.Keyword keyword.If ∷ ts) (test_at ts) (λ first left. then_read (and_tests_at first left) then_at) (spells_behind (token.Keyword keyword.If ∷ []) test_tokens ts (test_at ts) (test_spells ts)) from_first
   where
-    with_rest : (first : TestText) (left : List Token) (reading : Reading (List TestText)) → Spells (flat_map and_test_tokens) left reading → Spells rule_tokens ((token.Keyword keyword.If ∷ test_tokens first) ++ left) (after (after reading (λ more last. Some (first ∷ more, last))) then_at)
+    with_rest : (first : TestText) (left : List Token) (reading : Reading (List TestText)) → Spells (flat_map and_test_tokens) left reading → Spells rule_tokens ((token.Keyword keyword.If ∷ test_tokens first) ++ left) (then_read (then_read reading (λ more last. Some (first ∷ more, last))) then_at)
     with_rest first left None one = tt
     with_rest first left (Some found) one =
         let joined = append_assoc (token.Keyword keyword.If ∷ test_tokens first) (flat_map and_test_tokens found.0) found.1 in
         let whole : (token.Keyword keyword.If ∷ test_tokens first) ++ left ≡ if_tokens first found.0 ++ found.1 = ap (λ l. (token.Keyword keyword.If ∷ test_tokens first) ++ l) one ∙ sym joined in
         subst (λ l. Spells rule_tokens l (then_at (first ∷ found.0) found.1)) (sym whole) (then_spells first found.0 found.1)
 
-    from_first : (first : TestText) (left : List Token) → Spells rule_tokens ((token.Keyword keyword.If ∷ test_tokens first) ++ left) (after (and_tests_at first left) then_at)
+    from_first : (first : TestText) (left : List Token) → Spells rule_tokens ((token.Keyword keyword.If ∷ test_tokens first) ++ left) (then_read (and_tests_at first left) then_at)
     from_first first left = with_rest first left (many_at (is_word keyword.And) and_test_at left) (many_spells (is_word keyword.And) and_test_at and_test_tokens and_test_spells left)
 
 pub rule_spells : (ts : List Token) → Spells rule_tokens ts (rule_at ts)
 rule_spells ts = by_word (begins (is_word keyword.If) ts) refl
   where
-    by_word : (found : Bool) → begins (is_word keyword.If) ts ≡ found → Spells rule_tokens ts (if found then conditional_at (rest_of ts) else after (test_at ts) (λ last left. Some (record { conditions = []; conclusion = last }, left)))
+    by_word : (found : Bool) → begins (is_word keyword.If) ts ≡ found → Spells rule_tokens ts (if found then conditional_at (rest_of ts) else then_read (test_at ts) (λ last left. Some (record { conditions = []; conclusion = last }, left)))
     by_word true is = subst (λ all. Spells rule_tokens all (conditional_at (rest_of ts))) (sym (word_begins keyword.If ts is)) (conditional_spells (rest_of ts))
     by_word false is = spells_as test_tokens rule_tokens (λ last. record { conditions = []; conclusion = last }) ts (test_at ts) (λ last. refl) (test_spells ts)
 

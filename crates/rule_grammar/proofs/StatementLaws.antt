@@ -4,7 +4,7 @@ use Rattle.std.proofs.lemmas.List.{append-nil}
 use Rattle.rule_grammar.proofs.DeclarationLaws.{code_field_back, code_field_spells, number_back, number_spells}
 use Rattle.rule_grammar.proofs.ReadLaws.{Spells, spells_as, spells_read, word_begins}
 use Rattle.rule_grammar.proofs.RuleLaws.{rule_back, rule_begins, rule_spells}
-use Rattle.rule_grammar.specs.inner.Parsing.{Reading, after, begins, code_field_at, is_word, number_at, rest_of, rule_at, statement_at}
+use Rattle.rule_grammar.specs.inner.Parsing.{Reading, begins, code_field_at, is_word, number_at, rest_of, rule_at, statement_at, then_read}
 use Rattle.rule_grammar.specs.Statements.{declaration_tokens, rule_tokens, statement_tokens}
 use Rattle.rule_grammar.specs.declared.statement.Declaration.{Declaration as Declared}
 use Rattle.rule_grammar.specs.declared.statement.Declaration.TheVariants as declaration
@@ -17,14 +17,14 @@ use Rattle.rule_grammar.specs.declared.token.Token.{Token}
 pub statement_spells : (ts : List Token) → Spells statement_tokens ts (statement_at ts)
 statement_spells ts = by_number (begins (is_word keyword.Number) ts) refl
   where
-    declared : (all : List Token) (reading : Reading Declared) → Spells declaration_tokens all reading → Spells statement_tokens all (after reading (λ d left. Some (statement.Declaration d, left)))
+    declared : (all : List Token) (reading : Reading Declared) → Spells declaration_tokens all reading → Spells statement_tokens all (then_read reading (λ d left. Some (statement.Declaration d, left)))
     declared all reading one = spells_as declaration_tokens statement_tokens (λ d. statement.Declaration d) all reading (λ d. refl) one
 
-    by_code : (found : Bool) → begins (is_word keyword.Code) ts ≡ found → Spells statement_tokens ts (if found then after (code_field_at (rest_of ts)) (λ d left. Some (statement.Declaration d, left)) else after (rule_at ts) (λ r left. Some (statement.Rule r, left)))
+    by_code : (found : Bool) → begins (is_word keyword.Code) ts ≡ found → Spells statement_tokens ts (if found then then_read (code_field_at (rest_of ts)) (λ d left. Some (statement.Declaration d, left)) else then_read (rule_at ts) (λ r left. Some (statement.Rule r, left)))
     by_code true is = declared ts (code_field_at (rest_of ts)) (subst (λ all. Spells declaration_tokens all (code_field_at (rest_of ts))) (sym (word_begins keyword.Code ts is)) (code_field_spells (rest_of ts)))
     by_code false is = spells_as rule_tokens statement_tokens (λ r. statement.Rule r) ts (rule_at ts) (λ r. refl) (rule_spells ts)
 
-    by_number : (found : Bool) → begins (is_word keyword.Number) ts ≡ found → Spells statement_tokens ts (if found then after (number_at (rest_of ts)) (λ d left. Some (statement.Declaration d, left)) else if begins (is_word keyword.Code) ts then after (code_field_at (rest_of ts)) (λ d left. Some (statement.Declaration d, left)) else after (rule_at ts) (λ r left. Some (statement.Rule r, left)))
+    by_number : (found : Bool) → begins (is_word keyword.Number) ts ≡ found → Spells statement_tokens ts (if found then then_read (number_at (rest_of ts)) (λ d left. Some (statement.Declaration d, left)) else if begins (is_word keyword.Code) ts then then_read (code_field_at (rest_of ts)) (λ d left. Some (statement.Declaration d, left)) else then_read (rule_at ts) (λ r left. Some (statement.Rule r, left)))
     by_number true is = declared ts (number_at (rest_of ts)) (subst (λ all. Spells declaration_tokens all (number_at (rest_of ts))) (sym (word_begins keyword.Number ts is)) (number_spells (rest_of ts)))
     by_number false is = by_code (begins (is_word keyword.Code) ts) refl
 

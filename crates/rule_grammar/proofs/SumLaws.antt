@@ -4,7 +4,7 @@ use Rattle.std.specs.List.{flat_map}
 use Rattle.std.proofs.lemmas.List.{append_assoc}
 use Rattle.rule_grammar.proofs.ManyLaws.{many_back, many_spells}
 use Rattle.rule_grammar.proofs.ReadLaws.{Shortens, Spells, name_spells, shortens_spelled, sign_spells, spells_after, spells_as, spells_behind}
-use Rattle.rule_grammar.specs.inner.Parsing.{after, begins, factor_at, is_sign, many_at, name_at, sign_at, signed_term_at, sum_after, sum_at, term_at}
+use Rattle.rule_grammar.specs.inner.Parsing.{begins, factor_at, is_sign, many_at, name_at, sign_at, signed_term_at, sum_after, sum_at, term_at, then_read}
 use Rattle.rule_grammar.specs.Statements.{sign_tokens, signed_term_tokens, sum_tokens, term_tokens}
 use Rattle.rule_grammar.specs.declared.statement.SignedTerm.{SignedTerm}
 use Rattle.rule_grammar.specs.declared.statement.SumText.{SumText}
@@ -28,7 +28,7 @@ term_spells (token.Numeral number ∷ ts) = factor_spells number ts
 term_spells _ = tt
 
 pub signed_term_spells : (ts : List Token) → Spells signed_term_tokens ts (signed_term_at ts)
-signed_term_spells ts = spells_after (λ s. token.Sign s ∷ []) signed_term_tokens ts (sign_at ts) (λ s after_sign. after (term_at after_sign) (λ t left. Some (record { sign = s; term = t }, left))) (sign_spells ts) (λ s left. spells_as (λ t. token.Sign s ∷ term_tokens t) signed_term_tokens (λ t. record { sign = s; term = t }) (token.Sign s ∷ left) (term_at left) (λ t. refl) (spells_behind (token.Sign s ∷ []) term_tokens left (term_at left) (term_spells left)))
+signed_term_spells ts = spells_after (λ s. token.Sign s ∷ []) signed_term_tokens ts (sign_at ts) (λ s after_sign. then_read (term_at after_sign) (λ t left. Some (record { sign = s; term = t }, left))) (sign_spells ts) (λ s left. spells_as (λ t. token.Sign s ∷ term_tokens t) signed_term_tokens (λ t. record { sign = s; term = t }) (token.Sign s ∷ left) (term_at left) (λ t. refl) (spells_behind (token.Sign s ∷ []) term_tokens left (term_at left) (term_spells left)))
 
 pub signed_term_shortens : (ts : List Token) → Shortens ts (signed_term_at ts)
 signed_term_shortens ts = shortens_spelled signed_term_tokens ts (signed_term_at ts) (λ x. omega arith) (signed_term_spells ts)
@@ -37,8 +37,8 @@ pub sum_after_spells : (s : Option Sign) (t : TermText) (ts : List Token) → Sp
 sum_after_spells s t ts = spells_as (λ more. (sign_tokens s ++ term_tokens t) ++ flat_map signed_term_tokens more) sum_tokens (λ more. record { sign = s; first = t; rest = more }) ((sign_tokens s ++ term_tokens t) ++ ts) (many_at is_sign signed_term_at ts) (λ more. refl) (spells_behind (sign_tokens s ++ term_tokens t) (flat_map signed_term_tokens) ts (many_at is_sign signed_term_at ts) (many_spells is_sign signed_term_at signed_term_tokens signed_term_spells ts))
 
 pub sum_spells : (ts : List Token) → Spells sum_tokens ts (sum_at ts)
-sum_spells ts = elim (begins is_sign ts) as (λ b. Spells sum_tokens ts (if b then after (sign_at ts) (λ s after_sign. after (term_at after_sign) (sum_after (Some s))) else after (term_at ts) (sum_after None))) [
-  | true ↦ spells_after (λ s. token.Sign s ∷ []) sum_tokens ts (sign_at ts) (λ s after_sign. after (term_at after_sign) (sum_after (Some s))) (sign_spells ts) (λ s left. spells_after (λ t. token.Sign s ∷ term_tokens t) sum_tokens (token.Sign s ∷ left) (term_at left) (sum_after (Some s)) (spells_behind (token.Sign s ∷ []) term_tokens left (term_at left) (term_spells left)) (sum_after_spells (Some s)))
+sum_spells ts = elim (begins is_sign ts) as (λ b. Spells sum_tokens ts (if b then then_read (sign_at ts) (λ s after_sign. then_read (term_at after_sign) (sum_after (Some s))) else then_read (term_at ts) (sum_after None))) [
+  | true ↦ spells_after (λ s. token.Sign s ∷ []) sum_tokens ts (sign_at ts) (λ s after_sign. then_read (term_at after_sign) (sum_after (Some s))) (sign_spells ts) (λ s left. spells_after (λ t. token.Sign s ∷ term_tokens t) sum_tokens (token.Sign s ∷ left) (term_at left) (sum_after (Some s)) (spells_behind (token.Sign s ∷ []) term_tokens left (term_at left) (term_spells left)) (sum_after_spells (Some s)))
   | false ↦ spells_after term_tokens sum_tokens ts (term_at ts) (sum_after None) (term_spells ts) (sum_after_spells None)
 ]
 

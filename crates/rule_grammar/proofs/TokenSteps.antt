@@ -10,6 +10,7 @@ use Rattle.std.specs.Prelude.{◌≢◌, ◌==◌, All, codes}
 use Rattle.std.specs.Str.{bytes_eq}
 use Rattle.edit_model.specs.Surveys.{IsName, is_digit, is_letter, reserved_words}
 use Rattle.edit_model.specs.declared.rule.Compare.{Compare as Comparison}
+use Rattle.rule_grammar.proofs.Keywords.{each_keyword}
 use Rattle.rule_grammar.specs.Names.{IsCodeText}
 pub use Rattle.rule_grammar.specs.Spellings.{keyword_text}
 use Rattle.rule_grammar.specs.Tokens.{Front, after_blanks, decimals_len, front_compare, front_numeral, front_of, is_blank, is_code_byte, is_inside_after, is_word_byte, tokens_within, whole_numeral, with_front, word_token}
@@ -168,15 +169,7 @@ word_token_is word free =
     rw (other (codes "number") (free 0 [] (omega arith)), other (codes "code") (free 1 [] (omega arith)), other (codes "weight") (free 2 [] (omega arith)), other (codes "scale") (free 3 [] (omega arith)), other (codes "in") (free 4 [] (omega arith)), other (codes "not") (free 5 [] (omega arith)), other (codes "if") (free 6 [] (omega arith)), other (codes "and") (free 7 [] (omega arith)), other (codes "then") (free 8 [] (omega arith))) refl
 
 pub word_token_keyword : (k : Keyword) → word_token (keyword_text k) ≡ token.Keyword k
-word_token_keyword keyword.Number = refl
-word_token_keyword keyword.Code = refl
-word_token_keyword keyword.Weight = refl
-word_token_keyword keyword.Scale = refl
-word_token_keyword keyword.In = refl
-word_token_keyword keyword.Not = refl
-word_token_keyword keyword.If = refl
-word_token_keyword keyword.And = refl
-word_token_keyword keyword.Then = refl
+word_token_keyword = each_keyword (λ (k : Keyword). word_token (keyword_text k) ≡ token.Keyword k) refl refl refl refl refl refl refl refl refl
 
 -- ---- the tokens of a text that begins with a word, a code or a numeral
 

@@ -55,9 +55,13 @@ abbrev pub IsNumeralText : Amount → List ℕ → Type 0
 IsNumeralText (amount.Whole number) bytes = IsDigits bytes × (number ≡ digits_value 10 bytes) × (number ≤ 10 ^ 15)
 IsNumeralText amount.OutOfRange bytes = (IsDigits bytes × (10 ^ 15 < digits_value 10 bytes)) ⊎ IsDecimal bytes
 
+-- a mark outside braces begins with `>`, `<`, `=`, `+`, `-`, `*` or `{`
+abbrev pub begins_mark : ℕ → Bool
+begins_mark b = (b == 62) || ((b == 60) || ((b == 61) || ((b == 43) || ((b == 45) || ((b == 42) || (b == 123))))))
+
 -- whether a token outside braces, or inside, begins with the byte
 abbrev pub begins_token : Bool → ℕ → Bool
-begins_token false b = is_letter b || (is_digit b || ((b == 62) || ((b == 60) || ((b == 61) || ((b == 43) || ((b == 45) || ((b == 42) || (b == 123))))))))
+begins_token false b = is_letter b || (is_digit b || begins_mark b)
 begins_token true b = is_code_byte b || ((b == 44) || (b == 125))
 
 -- one byte that begins no token
@@ -90,4 +94,5 @@ pub record IsLongestToken (inside : Bool) (text : List ℕ) (t : Token) (rest : 
 -- the tokens of a text, from left to right, with blanks between them that mean nothing: each is the longest that can be read
 abbrev pub AreLongestTokens : Bool → List ℕ → List Token → Type 0
 AreLongestTokens inside text [] = after_blanks text ≡ []
-AreLongestTokens inside text (t ∷ ts) = (rest : List ℕ) × IsLongestToken inside (after_blanks text) t rest × AreLongestTokens (is_inside_after inside t) rest ts
+AreLongestTokens inside text (t ∷ ts) =
+    (rest : List ℕ) × IsLongestToken inside (after_blanks text) t rest × AreLongestTokens (is_inside_after inside t) rest ts

@@ -50,7 +50,7 @@ word_token word =
     else if bytes_eq word (codes "then") then token.Keyword keyword.Then
     else token.Name word
 
--- how long the run of such bytes at the front is, at most 32
+-- how many bytes `inside` takes in a row at the front, at most 32
 abbrev pub run_len : (ℕ → Bool) → List ℕ → ℕ
 run_len inside text = min 32 (prefix_len inside text)
 
@@ -83,7 +83,8 @@ front_numeral text =
 -- a comparison with `=` behind its first byte, or without
 abbrev pub front_compare : Comparison → Comparison → List ℕ → Front
 front_compare wide strict [] = record { token = token.Compare strict; rest = [] }
-front_compare wide strict (b ∷ bs) = if b == 61 then record { token = token.Compare wide; rest = bs } else record { token = token.Compare strict; rest = b ∷ bs }
+front_compare wide strict (b ∷ bs) =
+    if b == 61 then record { token = token.Compare wide; rest = bs } else record { token = token.Compare strict; rest = b ∷ bs }
 
 -- the token of one byte outside braces
 abbrev pub mark_token : ℕ → Token
@@ -129,7 +130,7 @@ with_front inside (b ∷ bs) more =
     let front = front_of inside b bs in
     front.token ∷ more (is_inside_after inside front.token) front.rest
 
--- the tokens of a text, so many at most
+-- the first tokens of a text, at most `n`
 abbrev pub tokens_within : ℕ → Bool → List ℕ → List Token
 tokens_within zero inside text = []
 tokens_within (suc n) inside text = with_front inside (after_blanks text) (tokens_within n)

@@ -21,7 +21,7 @@ pub enum LineText {
 }
 
 /// Reads the text of a line: what stands before its comment. Its tokens are the longest that can be read.
-#[tactic(auto, using(crate::proofs::LineLaws::line_empty, crate::proofs::LineLaws::line_unread, crate::proofs::LineLaws::line_left, crate::proofs::LongestTokens::tokens_are_longest))]
+#[tactic(auto, using(crate::proofs::LineLaws::line_answers, crate::proofs::LongestTokens::tokens_are_longest))]
 pub fn read_line(alloc: Global, text: &[u8]) -> Result<LineText, OutOfMemory>
     ensures text { IfOk result (λ line. IsLineText text.now line) }
     ensures longest { OnOk result (AreLongestTokens false text.now (tokens_of text.now)) }

@@ -2,8 +2,9 @@
 use Rattle.std.specs.Prelude.{◌≡◌, ◌≤◌, ◌^◌, ◌||◌, not, Bool, true, Option, Some, None, List, [], ◌∷◌, length, nat_le, nat_lt, if◌then◌else◌}
 use Rattle.std.specs.List.{list_all, list_any}
 use Rattle.std.specs.Str.{bytes_eq}
-use Rattle.edit_model.specs.Parts.{SurveyParts}
+use Rattle.edit_model.specs.Parts.{SurveyParts, parts_of}
 use Rattle.edit_model.specs.declared.field.Field.{Field}
+use Rattle.edit_model.specs.declared.rule.Rule.{Rule}
 use Rattle.rule_grammar.specs.declared.statement.Declaration.{Declaration as Declared}
 use Rattle.rule_grammar.specs.declared.statement.Declaration.TheVariants as declaration
 use Rattle.rule_grammar.specs.declared.statement.RuleText.{RuleText}
@@ -11,8 +12,8 @@ use Rattle.rule_grammar.specs.declared.statement.Statement.{Statement as Written
 use Rattle.rule_grammar.specs.declared.statement.Statement.TheVariants as statement
 use Rattle.rule_grammar.specs.declared.statement.TestText.{TestText}
 use Rattle.rule_grammar.specs.declared.statement.TestText.TheVariants as written
-use Rattle.edit_language.specs.Faults.{has_double, has_double_code, has_fault, has_form, is_known_test, is_large_test, is_outside, kind_number, tests_in}
-use Rattle.edit_language.specs.Meaning.{codes_of, field_named, is_listed, listed}
+use Rattle.edit_language.specs.Faults.{are_known_codes, has_double, has_double_code, has_fault, has_form, is_known_test, is_large_test, is_outside, kind_number, tests_in}
+use Rattle.edit_language.specs.Meaning.{listed}
 use Rattle.edit_language.specs.declared.fault.RulesKind.{RulesKind}
 use Rattle.edit_language.specs.declared.fault.RulesKind.TheVariants.{UnknownField, DoubleField, UnknownCode, DoubleCode, NumberRange, TooMany, ConditionForm}
 
@@ -22,7 +23,7 @@ tests_of r = tests_in (statement.Rule r)
 
 -- whether each code of a code test is a code of its field
 abbrev pub has_known_codes : List Field → TestText → Bool
-has_known_codes fields (written.Codes field negated list) = list_all (λ code. is_listed (codes_of (field_named fields field)) code) (listed list)
+has_known_codes fields (written.Codes field negated list) = are_known_codes fields field list
 has_known_codes fields (written.Sums left compare right) = true
 
 -- the kind of the first test that is true
@@ -41,6 +42,10 @@ declaration_fault survey (declaration.Code name weight list) = first_true (
     ∷ (has_double (listed list), DoubleCode)
     ∷ (is_outside 1000 weight, NumberRange)
     ∷ (nat_le 64 (length survey.fields) || nat_lt 64 (length (listed list)), TooMany) ∷ [])
+
+-- this is found of the declaration behind these fields, whatever the rules before it are
+abbrev pub IsDeclarationFault : List Field → Declared → Option RulesKind → Type 0
+IsDeclarationFault fields d fault = (rules : List Rule) → fault ≡ declaration_fault (parts_of fields rules) d
 
 -- a rule over the fields before it
 abbrev pub rule_fault : SurveyParts → RuleText → Option RulesKind

@@ -12,7 +12,7 @@ abbrev pub IsFaultOfLine : List ℕ → SurveyParts → ℕ → RulesFault → T
 IsFaultOfLine line before number (fault.At at kind) = (at ≡ number) × IsLeastFault line before kind
 IsFaultOfLine line before number fault.OutOfMemory = Unit {0}
 
--- the same of the statement on the line of this number
+-- the statement on the line of this number has the fault, after the lines before it, and none of a lesser kind
 abbrev pub IsFaultOfStatement : Written → SurveyParts → ℕ → RulesFault → Type 0
 IsFaultOfStatement statement before number (fault.At at kind) = (at ≡ number) × IsLeastOf before statement kind
 IsFaultOfStatement statement before number fault.OutOfMemory = Unit {0}

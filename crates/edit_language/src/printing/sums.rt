@@ -1,7 +1,7 @@
 //! Sums of terms and their comparison with 0.
 ghost use Rattle.std.specs.Prelude.{◌≡◌, ◌++◌, OnOk, if◌then◌else◌, unsigned_abs};
 ghost use Rattle.std.specs.Fmt.{decimal, signed_decimal};
-ghost use Rattle.edit_language.specs.Printing.{compare_text, joint_text, later_constant_text, later_terms_text, linear_text, name_at, product_text, sign_text, sum_text, terms_text};
+ghost use Rattle.edit_language.specs.Printing.{compare_text, joint_text, later_constant_text, later_terms_text, lead_text, linear_text, name_at, product_text, sign_text, sum_text, terms_text, whole_term_text};
 
 use edit_model::{Compare, Field, Linear, Term};
 use foundation::OutOfMemory;
@@ -30,7 +30,7 @@ pub fn write_term(
     field: u32,
     factor: i128,
 ) -> Result<(), OutOfMemory>
-    ensures { OnOk result (text.new.items ≡ text.old.items ++ (if first then sign_text factor else joint_text factor) ++ product_text (unsigned_abs factor) (name_at fields.now field)) }
+    ensures { OnOk result (text.new.items ≡ text.old.items ++ whole_term_text first fields.now field factor) }
 {
     text.extend_from_slice(lead_text(first, factor))?;
     write_product(text, factor.unsigned_abs(), name_at(fields, field))
@@ -152,7 +152,7 @@ fn write_product(text: &mut Vec<u8>, factor: u128, name: &[u8]) -> Result<(), Ou
 
 // What stands before a number: its sign, or what joins it to the terms before it.
 fn lead_text(first: bool, number: i128) -> &'static [u8]
-    ensures { result.now ≡ (if first then sign_text number else joint_text number) }
+    ensures { result.now ≡ lead_text first number }
 {
     if first {
         sign_text(number)

@@ -1,14 +1,10 @@
 //! The lines of a whole file.
-ghost use Rattle.std.specs.Prelude.{codes};
 ghost use Rattle.proof_grammar.specs.Cuts.{split};
-ghost use Rattle.proof_grammar.specs.FileReading.{behind_version, budget_behind, claim_in, claims_reading, count_in, counted_reading, end_in, file_reading, limits_in, lists_reading, near_behind, rows_reading, verdict_reading, version_in};
-ghost use Rattle.proof_grammar.specs.Readings.{Reads, read_line};
-ghost use Rattle.proof_grammar.specs.RowReading.{row_reading};
+ghost use Rattle.proof_grammar.specs.inner.FileReading.{behind_version, budget_behind, claims_reading, count_in, counted_reading, end_in, file_reading, limits_in, lists_reading, near_behind, rows_reading, version_in};
+ghost use Rattle.proof_grammar.specs.inner.Readings.{Reads, read_line};
 ghost use Rattle.proof_grammar.specs.Words.{ReadsAs};
 
-use super::claims::claims;
-use super::rows::rows;
-use super::verdicts::verdicts;
+use super::parts::{Part, parts};
 use bound_cert::RowProof;
 use derivation::Step;
 use donor_book::Entry;
@@ -40,7 +36,7 @@ fn behind_version(alloc: Global, lines: &mut Lines) -> Result<Proof, ProofFault>
 fn behind_limits(alloc: Global, lines: &mut Lines, limits: RunLimits) -> Result<Proof, ProofFault>
     ensures { Reads result lines.old lines.new (lists_reading limits lines.old.left) }
 {
-    match counted_verdicts(alloc, lines) {
+    match counted(alloc, lines, b"lines") {
         Ok(verdicts) => behind_verdicts(alloc, lines, limits, verdicts),
         Err(fault) => Err(fault),
     }
@@ -55,7 +51,7 @@ fn behind_verdicts(
 ) -> Result<Proof, ProofFault>
     ensures { Reads result lines.old lines.new (rows_reading limits verdicts lines.old.left) }
 {
-    match counted_rows(alloc, lines) {
+    match counted(alloc, lines, b"records") {
         Ok(rows) => behind_rows(alloc, lines, limits, verdicts, rows),
         Err(fault) => Err(fault),
     }
@@ -71,7 +67,7 @@ fn behind_rows(
 ) -> Result<Proof, ProofFault>
     ensures { Reads result lines.old lines.new (claims_reading limits verdicts rows lines.old.left) }
 {
-    let claims = match counted_claims(alloc, lines) {
+    let claims = match counted(alloc, lines, b"claims") {
         Ok(claims) => claims,
         Err(fault) => return Err(fault),
     };
@@ -88,35 +84,16 @@ fn behind_rows(
     }
 }
 
-// The count of the verdicts, and so many.
-fn counted_verdicts(
+// The count behind this word, and as many parts.
+fn counted<P: Part>(
     alloc: Global,
     lines: &mut Lines,
-) -> Result<Sequence<Option<Sequence<Step>>>, ProofFault>
-    ensures { Reads result lines.old lines.new (counted_reading (count_in (codes "lines")) verdict_reading lines.old.left) }
+    word: &[u8],
+) -> Result<Sequence<P>, ProofFault>
+    ensures { Reads result lines.old lines.new (counted_reading (count_in word.now) P.reading lines.old.left) }
 {
-    match next_count(lines, b"lines") {
-        Ok(count) => verdicts(alloc, lines, count),
-        Err(fault) => Err(fault),
-    }
-}
-
-// The count of the rows, and so many.
-fn counted_rows(alloc: Global, lines: &mut Lines) -> Result<Sequence<RowProof>, ProofFault>
-    ensures { Reads result lines.old lines.new (counted_reading (count_in (codes "records")) row_reading lines.old.left) }
-{
-    match next_count(lines, b"records") {
-        Ok(count) => rows(alloc, lines, count),
-        Err(fault) => Err(fault),
-    }
-}
-
-// The count of the claims, and so many.
-fn counted_claims(alloc: Global, lines: &mut Lines) -> Result<Sequence<Entry>, ProofFault>
-    ensures { Reads result lines.old lines.new (counted_reading (count_in (codes "claims")) (read_line claim_in) lines.old.left) }
-{
-    match next_count(lines, b"claims") {
-        Ok(count) => claims(alloc, lines, count),
+    match next_count(lines, word) {
+        Ok(count) => parts(alloc, lines, count),
         Err(fault) => Err(fault),
     }
 }

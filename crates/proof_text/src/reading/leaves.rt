@@ -1,46 +1,24 @@
 //! The lines of leaves.
 ghost use Rattle.proof_grammar.specs.Cuts.{split};
-ghost use Rattle.proof_grammar.specs.LeafReading.{bad_in, behind_leaf, bound_in, box_in, leaf_in, leaf_reading, line_in};
-ghost use Rattle.proof_grammar.specs.Readings.{Reads, read_line, read_many};
+ghost use Rattle.proof_grammar.specs.inner.LeafReading.{bad_in, behind_leaf, bound_in, box_in, leaf_in, leaf_reading, line_in};
+ghost use Rattle.proof_grammar.specs.inner.Readings.{Reads, read_line};
 ghost use Rattle.proof_grammar.specs.Words.{ReadsAs};
 
-use super::fitted::fitted;
-use super::steps::steps;
+use super::parts::{Part, parts};
 use bound_cert::{Leaf, LeafWhy, Path};
-use foundation::Sequence;
 use proof_grammar::{LeafHead, Lines, ProofFault, Stop, Words, settle};
 use std::alloc::Global;
 
-/// So many leaves. Memory is taken for each when its lines were read.
-pub(super) fn leaves(
-    alloc: Global,
-    lines: &mut Lines,
-    count: u64,
-) -> Result<Sequence<Leaf>, ProofFault>
-    ensures { Reads result lines.old lines.new (read_many leaf_reading count lines.old.left) }
-{
-    let mut leaves = Vec::new(alloc);
-    for _ in 0..count {
-        let leaf = match leaf(alloc, lines) {
-            Ok(leaf) => leaf,
+impl Part for Leaf {
+    ghost reading = { leaf_reading };
+
+    fn read(alloc: Global, lines: &mut Lines) -> Result<Leaf, ProofFault> {
+        let head = match next_head(alloc, lines) {
+            Ok(head) => head,
             Err(fault) => return Err(fault),
         };
-        let Ok(()) = leaves.push(leaf) else {
-            return Err(ProofFault::OutOfMemory);
-        };
+        behind_head(alloc, lines, head)
     }
-    Ok(fitted(leaves))
-}
-
-// The leaf at the front.
-fn leaf(alloc: Global, lines: &mut Lines) -> Result<Leaf, ProofFault>
-    ensures { Reads result lines.old lines.new (leaf_reading lines.old.left) }
-{
-    let head = match next_head(alloc, lines) {
-        Ok(head) => head,
-        Err(fault) => return Err(fault),
-    };
-    behind_head(alloc, lines, head)
 }
 
 // The leaf of a head, whose steps are at the front.
@@ -56,14 +34,14 @@ fn behind_head(alloc: Global, lines: &mut Lines, head: LeafHead) -> Result<Leaf,
             path,
             why: LeafWhy::BadKept,
         }),
-        LeafHead::LineAt(path, count) => match steps(alloc, lines, count) {
+        LeafHead::LineAt(path, count) => match parts(alloc, lines, count) {
             Ok(steps) => Ok(Leaf {
                 path,
                 why: LeafWhy::Line(steps),
             }),
             Err(fault) => Err(fault),
         },
-        LeafHead::BoxAt(path, count) => match steps(alloc, lines, count) {
+        LeafHead::BoxAt(path, count) => match parts(alloc, lines, count) {
             Ok(steps) => Ok(Leaf {
                 path,
                 why: LeafWhy::Box(steps),

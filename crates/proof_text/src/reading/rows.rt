@@ -1,47 +1,26 @@
 //! The lines of rows.
 ghost use Rattle.std.specs.Prelude.{◌≡◌, IfErr, IfOk};
 ghost use Rattle.proof_grammar.specs.Cuts.{split};
-ghost use Rattle.proof_grammar.specs.Readings.{Reads, read_line, read_many};
-ghost use Rattle.proof_grammar.specs.RowReading.{WeighsLong, behind_row, budget_in, change_in, clean_proof, contradictory_in, gift_fault_in, gift_in, row_in, row_reading, step_event_in, test_event_in};
+ghost use Rattle.proof_grammar.specs.inner.Readings.{Reads, read_line};
+ghost use Rattle.proof_grammar.specs.inner.RowReading.{WeighsLong, behind_row, budget_in, change_in, clean_proof, contradictory_in, gift_fault_in, gift_in, row_in, row_reading, step_event_in, test_event_in};
 ghost use Rattle.proof_grammar.specs.Words.{ReadsAs, Takes};
 
-use super::fitted::fitted;
-use super::leaves::leaves;
+use super::parts::{Part, parts};
 use bound_cert::{Cert, Event, GiftFault, Leaf, LeafWhy, Outcome, Path, RowProof};
 use foundation::Sequence;
 use proof_grammar::{Lines, ProofFault, RowHead, Stop, Words, settle};
 use std::alloc::Global;
 
-/// So many rows. Memory is taken for each when its lines were read.
-pub(super) fn rows(
-    alloc: Global,
-    lines: &mut Lines,
-    count: u64,
-) -> Result<Sequence<RowProof>, ProofFault>
-    ensures { Reads result lines.old lines.new (read_many row_reading count lines.old.left) }
-{
-    let mut rows = Vec::new(alloc);
-    for _ in 0..count {
-        let row = match row(alloc, lines) {
-            Ok(row) => row,
+impl Part for RowProof {
+    ghost reading = { row_reading };
+
+    fn read(alloc: Global, lines: &mut Lines) -> Result<RowProof, ProofFault> {
+        let head = match next_head(alloc, lines) {
+            Ok(head) => head,
             Err(fault) => return Err(fault),
         };
-        let Ok(()) = rows.push(row) else {
-            return Err(ProofFault::OutOfMemory);
-        };
+        behind_head(alloc, lines, head)
     }
-    Ok(fitted(rows))
-}
-
-// The row at the front.
-fn row(alloc: Global, lines: &mut Lines) -> Result<RowProof, ProofFault>
-    ensures { Reads result lines.old lines.new (row_reading lines.old.left) }
-{
-    let head = match next_head(alloc, lines) {
-        Ok(head) => head,
-        Err(fault) => return Err(fault),
-    };
-    behind_head(alloc, lines, head)
 }
 
 // The row of a head, whose leaves are at the front.
@@ -51,7 +30,7 @@ fn behind_head(alloc: Global, lines: &mut Lines, head: RowHead) -> Result<RowPro
 {
     match head {
         RowHead::CleanAt => clean_row(alloc),
-        RowHead::ChangeAt(less, path, count) => match leaves(alloc, lines, count) {
+        RowHead::ChangeAt(less, path, count) => match parts(alloc, lines, count) {
             Ok(leaves) => Ok(RowProof {
                 outcome: Outcome::Change {
                     path,
@@ -62,7 +41,7 @@ fn behind_head(alloc: Global, lines: &mut Lines, head: RowHead) -> Result<RowPro
             }),
             Err(fault) => Err(fault),
         },
-        RowHead::GiftAt(weight, path, gift, count) => match leaves(alloc, lines, count) {
+        RowHead::GiftAt(weight, path, gift, count) => match parts(alloc, lines, count) {
             Ok(leaves) => Ok(RowProof {
                 outcome: Outcome::Change {
                     path,
@@ -81,7 +60,7 @@ fn behind_head(alloc: Global, lines: &mut Lines, head: RowHead) -> Result<RowPro
             outcome: Outcome::Overflow { path, event },
             gift: None,
         }),
-        RowHead::ContradictoryAt(count) => match leaves(alloc, lines, count) {
+        RowHead::ContradictoryAt(count) => match parts(alloc, lines, count) {
             Ok(leaves) => Ok(RowProof {
                 outcome: Outcome::Contradictory {
                     cert: Cert { leaves },

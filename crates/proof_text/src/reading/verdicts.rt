@@ -1,46 +1,25 @@
 //! The lines of verdicts.
 ghost use Rattle.proof_grammar.specs.Cuts.{split};
-ghost use Rattle.proof_grammar.specs.FileReading.{behind_verdict, verdict_in, verdict_reading};
-ghost use Rattle.proof_grammar.specs.Readings.{Reads, read_line, read_many};
+ghost use Rattle.proof_grammar.specs.inner.FileReading.{behind_verdict, verdict_in, verdict_reading};
+ghost use Rattle.proof_grammar.specs.inner.Readings.{Reads, read_line};
 ghost use Rattle.proof_grammar.specs.Words.{ReadsAs};
 
-use super::fitted::fitted;
-use super::steps::steps;
+use super::parts::{Part, parts};
 use derivation::Step;
 use foundation::Sequence;
 use proof_grammar::{Lines, ProofFault, Stop, Words, settle};
 use std::alloc::Global;
 
-/// So many verdicts. Memory is taken for each when its lines were read.
-pub(super) fn verdicts(
-    alloc: Global,
-    lines: &mut Lines,
-    count: u64,
-) -> Result<Sequence<Option<Sequence<Step>>>, ProofFault>
-    ensures { Reads result lines.old lines.new (read_many verdict_reading count lines.old.left) }
-{
-    let mut verdicts = Vec::new(alloc);
-    for _ in 0..count {
-        let verdict = match verdict(alloc, lines) {
-            Ok(verdict) => verdict,
+impl Part for Option<Sequence<Step>> {
+    ghost reading = { verdict_reading };
+
+    fn read(alloc: Global, lines: &mut Lines) -> Result<Option<Sequence<Step>>, ProofFault> {
+        let head = match next_head(lines) {
+            Ok(head) => head,
             Err(fault) => return Err(fault),
         };
-        let Ok(()) = verdicts.push(verdict) else {
-            return Err(ProofFault::OutOfMemory);
-        };
+        behind_head(alloc, lines, head)
     }
-    Ok(fitted(verdicts))
-}
-
-// The verdict at the front.
-fn verdict(alloc: Global, lines: &mut Lines) -> Result<Option<Sequence<Step>>, ProofFault>
-    ensures { Reads result lines.old lines.new (verdict_reading lines.old.left) }
-{
-    let head = match next_head(lines) {
-        Ok(head) => head,
-        Err(fault) => return Err(fault),
-    };
-    behind_head(alloc, lines, head)
 }
 
 // The verdict of a head, whose steps are at the front.
@@ -53,7 +32,7 @@ fn behind_head(
 {
     match head {
         None => Ok(None),
-        Some(count) => match steps(alloc, lines, count) {
+        Some(count) => match parts(alloc, lines, count) {
             Ok(steps) => Ok(Some(steps)),
             Err(fault) => Err(fault),
         },

@@ -1,4 +1,4 @@
-use Rattle.std.specs.Prelude.{◌≡◌, ℕ, Bool, true, false, List, [], Some, None}
+use Rattle.std.specs.Prelude.{◌≡◌, ℕ, Bool, true, false, List, [], Option, Some, None}
 use Rattle.std.specs.Borrow.{Bor}
 use Rattle.csv.specs.Machine.{next_record}
 use Rattle.csv.specs.Reading.{AreRecords, Ready, default_config, is_flexible, reader_config, reader_state, reader_trim, source_of}
@@ -16,7 +16,8 @@ pub record Place : Type 0 where
   pub state : State
   pub left : List ℕ
 
--- csv's reader stands at the place; it reads by its default settings, but for records that may differ in length, and takes the first record as any other
+-- csv's reader stands at the place; it reads by its default settings, but for records that may differ in length, and takes
+-- the first record as any other
 pub record IsAt (reader : Reader (Bor (List ℕ))) (here : Place) : Type 0 where
   pub plain : reader_trim reader ≡ trim.None
   pub config : reader_config reader ≡ default_config
@@ -25,16 +26,25 @@ pub record IsAt (reader : Reader (Bor (List ℕ))) (here : Place) : Type 0 where
   pub state : reader_state reader ≡ here.state
   pub left : source_of (λ bytes. Some bytes.now) reader ≡ Some here.left
 
+-- the texts of the record at a place, and the place behind it; None where there is no further record
+abbrev pub record_at : Place → Option (List (List ℕ) × State × List ℕ)
+record_at here = next_record default_config here.state [] [] here.left
+
 -- what one read does: it finds the next record's texts, and the reader stands behind them, or there is no further record
 abbrev pub Reads : Place → Bool → List (List ℕ) → Reader (Bor (List ℕ)) → Type 0
-Reads here true texts reader = (there : Place) × IsAt reader there × (next_record default_config here.state [] [] here.left ≡ Some (texts, there.state, there.left))
-Reads here false texts reader = next_record default_config here.state [] [] here.left ≡ None
+Reads here true texts reader = (there : Place) × IsAt reader there × (record_at here ≡ Some (texts, there.state, there.left))
+Reads here false texts reader = record_at here ≡ None
 
 -- these are all the records from a place on, none of them is faulty, and these are their values
-pub record AreRowsFrom (fields : List Field) (columns : List ℕ) (width : ℕ) (here : Place) (raws : List (List (List ℕ))) (rows : List (List Value)) : Type 0 where
+pub record AreRowsFrom (fields : List Field) (columns : List ℕ) (width : ℕ) (here : Place)
+    (raws : List (List (List ℕ))) (rows : List (List Value)) : Type 0 where
   pub records : AreRecords default_config here.state here.left raws
   pub faultless : row_fault 0 width raws ≡ None
   pub values : AreRows fields columns raws rows
+
+-- these are all the records from where csv's reader stands, none of them is faulty, and these are their values
+abbrev pub AreRowsBehind : Reader (Bor (List ℕ)) → List Field → List ℕ → ℕ → List (List (List ℕ)) → List (List Value) → Type 0
+AreRowsBehind reader fields columns width raws rows = (here : Place) → IsAt reader here → AreRowsFrom fields columns width here raws rows
 
 -- the first faulty record from a place on has this fault
 pub record IsRowFault (width : ℕ) (here : Place) (fault : SheetFault) : Type 0 where

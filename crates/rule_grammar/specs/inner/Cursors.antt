@@ -13,7 +13,7 @@ left_of (Some token) inside rest = token ∷ tokens_from inside rest
 abbrev pub IsFront : Front → Token → List ℕ → Type 0
 IsFront front token rest = (token ≡ front.token) × (rest ≡ front.rest)
 
--- the same of a text that begins with no blank
+-- the token at the front of a text that begins with no blank, and the text after it
 abbrev pub IsFrontOf : Bool → List ℕ → Token → List ℕ → Type 0
 IsFrontOf inside [] token rest = ⊥
 IsFrontOf inside (b ∷ bs) token rest = IsFront (front_of inside b bs) token rest

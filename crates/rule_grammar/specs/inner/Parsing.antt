@@ -31,16 +31,16 @@ abbrev pub Reads : {X : Type 0} → Reading X → List Token → Option X → Ty
 Reads reading left (Some x) = reading ≡ Some (x, left)
 Reads reading left None = reading ≡ None
 
--- the same of a call that may be out of memory
+-- a call that may be out of memory read this, and left these tokens
 abbrev pub Parses : {X : Type 0} → Reading X → List Token → Result X Stop → Type 0
 Parses reading left (Ok x) = reading ≡ Some (x, left)
 Parses reading left (Err stop.Unreadable) = reading ≡ None
 Parses reading left (Err stop.OutOfMemory) = Unit {0}
 
 -- what is read behind a first thing, which it may name
-abbrev pub after : {X Y : Type 0} → Reading X → (X → List Token → Reading Y) → Reading Y
-after None next = None
-after (Some found) next = next found.0 found.1
+abbrev pub then_read : {X Y : Type 0} → Reading X → (X → List Token → Reading Y) → Reading Y
+then_read None next = None
+then_read (Some found) next = next found.0 found.1
 
 -- ---- single tokens
 
@@ -76,7 +76,7 @@ abbrev pub is_comma : Token → Bool
 is_comma token.Comma = true
 is_comma _ = false
 
--- whether the first token is such a one
+-- whether there is a first token that `is_such` takes
 abbrev pub begins : (Token → Bool) → List Token → Bool
 begins is_such [] = false
 begins is_such (t ∷ ts) = is_such t
@@ -118,15 +118,15 @@ compare_at _ = None
 
 -- ---- one after another
 
--- those at the front that begin so, fewer than `n`
+-- one after another, as long as `begin` takes the first token, fewer than `n`
 abbrev pub many_within : {X : Type 0} → (Token → Bool) → (List Token → Reading X) → ℕ → List Token → Reading (List X)
 many_within begin one zero ts = None
 many_within begin one (suc n) ts =
     if begins begin ts
-    then after (one ts) (λ x left. after (many_within begin one n left) (λ xs last. Some (x ∷ xs, last)))
+    then then_read (one ts) (λ x left. then_read (many_within begin one n left) (λ xs last. Some (x ∷ xs, last)))
     else Some ([], ts)
 
--- those at the front that begin so; each takes a token at least, so there are at most as many as tokens
+-- one after another, as long as `begin` takes the first token; each takes a token at least, so there are at most as many as tokens
 abbrev pub many_at : {X : Type 0} → (Token → Bool) → (List Token → Reading X) → List Token → Reading (List X)
 many_at begin one ts = many_within begin one (suc (length ts)) ts
 
@@ -135,7 +135,7 @@ many_at begin one ts = many_within begin one (suc (length ts)) ts
 -- the term that begins with this numeral
 abbrev pub factor_at : Numeral → List Token → Reading TermText
 factor_at number (token.Name field ∷ ts) = Some (term.Product number false field, ts)
-factor_at number (token.Times ∷ ts) = after (name_at ts) (λ field left. Some (term.Product number true field, left))
+factor_at number (token.Times ∷ ts) = then_read (name_at ts) (λ field left. Some (term.Product number true field, left))
 factor_at number ts = Some (term.Constant number, ts)
 
 -- term = NUM [ "*" ] NAME | NAME | NUM
@@ -146,17 +146,18 @@ term_at _ = None
 
 -- sign term
 abbrev pub signed_term_at : List Token → Reading SignedTerm
-signed_term_at ts = after (sign_at ts) (λ s after_sign. after (term_at after_sign) (λ t left. Some (record { sign = s; term = t }, left)))
+signed_term_at ts =
+    then_read (sign_at ts) (λ s after_sign. then_read (term_at after_sign) (λ t left. Some (record { sign = s; term = t }, left)))
 
 -- the sum that begins with this sign and this term
 abbrev pub sum_after : Option Sign → TermText → List Token → Reading SumText
-sum_after s t ts = after (many_at is_sign signed_term_at ts) (λ more left. Some (record { sign = s; first = t; rest = more }, left))
+sum_after s t ts = then_read (many_at is_sign signed_term_at ts) (λ more left. Some (record { sign = s; first = t; rest = more }, left))
 
 -- sum = [ sign ] term { sign term }
 abbrev pub sum_at : List Token → Reading SumText
 sum_at ts =
-    if begins is_sign ts then after (sign_at ts) (λ s after_sign. after (term_at after_sign) (sum_after (Some s)))
-    else after (term_at ts) (sum_after None)
+    if begins is_sign ts then then_read (sign_at ts) (λ s after_sign. then_read (term_at after_sign) (sum_after (Some s)))
+    else then_read (term_at ts) (sum_after None)
 
 -- ---- lists of codes
 
@@ -172,11 +173,11 @@ close_at list _ = None
 
 -- the list that begins with this code, behind its first brace
 abbrev pub codes_at : List ℕ → List Token → Reading CodeList
-codes_at code ts = after (many_at is_comma comma_code_at ts) (λ codes left. close_at (record { first = code; rest = codes }) left)
+codes_at code ts = then_read (many_at is_comma comma_code_at ts) (λ codes left. close_at (record { first = code; rest = codes }) left)
 
 -- list = "{" CODE { "," CODE } "}"
 abbrev pub list_at : List Token → Reading CodeList
-list_at (token.Open ∷ ts) = after (code_at ts) codes_at
+list_at (token.Open ∷ ts) = then_read (code_at ts) codes_at
 list_at _ = None
 
 -- `in` and a list
@@ -187,15 +188,17 @@ in_list_at ts = if begins (is_word keyword.In) ts then list_at (rest_of ts) else
 
 -- the test of two sums whose left one is this
 abbrev pub compared_at : SumText → List Token → Reading TestText
-compared_at left ts = after (compare_at ts) (λ compare after_mark. after (sum_at after_mark) (λ right last. Some (test.Sums left compare right, last)))
+compared_at left ts =
+    then_read (compare_at ts) (λ compare behind.
+    then_read (sum_at behind) (λ right last. Some (test.Sums left compare right, last)))
 
 -- the test of two sums that begins with this name
 abbrev pub sums_after : List ℕ → List Token → Reading TestText
-sums_after field ts = after (sum_after None (term.Field field) ts) compared_at
+sums_after field ts = then_read (sum_after None (term.Field field) ts) compared_at
 
 -- the test of codes of this field
 abbrev pub codes_after : List ℕ → Bool → List Token → Reading TestText
-codes_after field negated ts = after (in_list_at ts) (λ list left. Some (test.Codes field negated list, left))
+codes_after field negated ts = then_read (in_list_at ts) (λ list left. Some (test.Codes field negated list, left))
 
 -- the test that begins with this name
 abbrev pub test_after : List ℕ → List Token → Reading TestText
@@ -207,8 +210,8 @@ test_after field ts =
 -- test = NAME [ "not" ] "in" list | sum compare sum
 abbrev pub test_at : List Token → Reading TestText
 test_at ts =
-    if begins is_name_token ts then after (name_at ts) test_after
-    else after (sum_at ts) compared_at
+    if begins is_name_token ts then then_read (name_at ts) test_after
+    else then_read (sum_at ts) compared_at
 
 -- ---- rules
 
@@ -218,39 +221,50 @@ and_test_at ts = if begins (is_word keyword.And) ts then test_at (rest_of ts) el
 
 -- the conditions that begin with this one
 abbrev pub and_tests_at : TestText → List Token → Reading (List TestText)
-and_tests_at first ts = after (many_at (is_word keyword.And) and_test_at ts) (λ more left. Some (first ∷ more, left))
+and_tests_at first ts = then_read (many_at (is_word keyword.And) and_test_at ts) (λ more left. Some (first ∷ more, left))
+
+-- the rule with these conditions, behind its `then`
+abbrev pub concluded_at : List TestText → List Token → Reading RuleText
+concluded_at tests ts = then_read (test_at ts) (λ last left. Some (record { conditions = tests; conclusion = last }, left))
 
 -- `then` and a test, behind these conditions
 abbrev pub then_at : List TestText → List Token → Reading RuleText
-then_at tests ts = if begins (is_word keyword.Then) ts then after (test_at (rest_of ts)) (λ last left. Some (record { conditions = tests; conclusion = last }, left)) else None
+then_at tests ts = if begins (is_word keyword.Then) ts then concluded_at tests (rest_of ts) else None
 
 -- a rule with conditions, behind its `if`
 abbrev pub conditional_at : List Token → Reading RuleText
-conditional_at ts = after (test_at ts) (λ first left. after (and_tests_at first left) then_at)
+conditional_at ts = then_read (test_at ts) (λ first left. then_read (and_tests_at first left) then_at)
 
 -- rule = test | "if" test { "and" test } "then" test
 abbrev pub rule_at : List Token → Reading RuleText
-rule_at ts = if begins (is_word keyword.If) ts then conditional_at (rest_of ts) else after (test_at ts) (λ last left. Some (record { conditions = []; conclusion = last }, left))
+rule_at ts = if begins (is_word keyword.If) ts then conditional_at (rest_of ts) else concluded_at [] ts
 
 -- ---- declarations
 
 -- a keyword and its numeral, or nothing
 abbrev pub option_at : Word → List Token → Reading (Option Numeral)
-option_at word ts = if begins (is_word word) ts then after (numeral_at (rest_of ts)) (λ number left. Some (Some number, left)) else Some (None, ts)
+option_at word ts =
+    if begins (is_word word) ts then then_read (numeral_at (rest_of ts)) (λ number left. Some (Some number, left)) else Some (None, ts)
 
 -- the declaration of a number, behind its first word
 abbrev pub number_at : List Token → Reading Declared
-number_at ts = after (name_at ts) (λ name left. after (option_at keyword.Weight left) (λ weight more. after (option_at keyword.Scale more) (λ scale last. Some (declaration.Number name weight scale, last))))
+number_at ts =
+    then_read (name_at ts) (λ name left.
+    then_read (option_at keyword.Weight left) (λ weight more.
+    then_read (option_at keyword.Scale more) (λ scale last. Some (declaration.Number name weight scale, last))))
 
 -- the declaration of codes, behind its first word
 abbrev pub code_field_at : List Token → Reading Declared
-code_field_at ts = after (name_at ts) (λ name left. after (option_at keyword.Weight left) (λ weight more. after (in_list_at more) (λ list last. Some (declaration.Code name weight list, last))))
+code_field_at ts =
+    then_read (name_at ts) (λ name left.
+    then_read (option_at keyword.Weight left) (λ weight more.
+    then_read (in_list_at more) (λ list last. Some (declaration.Code name weight list, last))))
 
 -- ---- statements
 
 -- a declaration or a rule
 abbrev pub statement_at : List Token → Reading Written
 statement_at ts =
-    if begins (is_word keyword.Number) ts then after (number_at (rest_of ts)) (λ d left. Some (statement.Declaration d, left))
-    else if begins (is_word keyword.Code) ts then after (code_field_at (rest_of ts)) (λ d left. Some (statement.Declaration d, left))
-    else after (rule_at ts) (λ r left. Some (statement.Rule r, left))
+    if begins (is_word keyword.Number) ts then then_read (number_at (rest_of ts)) (λ d left. Some (statement.Declaration d, left))
+    else if begins (is_word keyword.Code) ts then then_read (code_field_at (rest_of ts)) (λ d left. Some (statement.Declaration d, left))
+    else then_read (rule_at ts) (λ r left. Some (statement.Rule r, left))

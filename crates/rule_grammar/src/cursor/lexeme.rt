@@ -65,7 +65,7 @@ fn lexeme_outside<'a>(text: &'a [u8]) -> Option<Lexeme<'a>>
     }
 }
 
-// The same inside braces.
+// The lexeme at the front of a text inside braces that begins with no blank.
 fn lexeme_in_braces<'a>(text: &'a [u8]) -> Option<Lexeme<'a>>
     ensures some { IfSome result (λ l. IsFrontOf true text.now l.token l.rest.now) }
     ensures none { IfNone result (text.now ≡ []) }

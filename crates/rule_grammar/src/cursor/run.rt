@@ -34,7 +34,7 @@ pub(super) fn word_len(text: &[u8]) -> usize
     word_bytes_len(&text[..text.len().min(LONGEST)])
 }
 
-/// How many bytes the code at the front has, in the same way.
+/// How many bytes the code at the front has. None is looked at past the longest.
 pub(super) fn code_len(text: &[u8]) -> usize
     ensures count { result ≡ code_len text.now }
     ensures within { result ≤ length text.now }

@@ -21,7 +21,7 @@ fn and_test(alloc: Global, cursor: &mut Cursor) -> Result<TestText, Fault>
 }
 
 /// The conditions behind the first, each with its `and`, as many as there are.
-#[tactic(auto, using(crate::proofs::ManyLaws::many_more, crate::proofs::ManyLaws::many_ends, crate::proofs::ManyLaws::many_fails, crate::proofs::ManyLaws::prefixed_first, crate::proofs::TestLaws::and_test_shortens))]
+#[tactic(auto, using(crate::proofs::ManyLaws::many_turns, crate::proofs::TestLaws::and_test_shortens))]
 fn and_tests(
     alloc: Global,
     cursor: &mut Cursor,

@@ -20,7 +20,7 @@ fn comma_code(cursor: &mut Cursor) -> Option<Name>
 }
 
 /// The codes at the front, each behind a comma, as many as there are.
-#[tactic(auto, using(crate::proofs::ManyLaws::many_more, crate::proofs::ManyLaws::many_ends, crate::proofs::ManyLaws::many_fails, crate::proofs::ManyLaws::prefixed_nothing, crate::proofs::ListLaws::comma_code_shortens))]
+#[tactic(auto, using(crate::proofs::ManyLaws::many_turns, crate::proofs::ListLaws::comma_code_shortens))]
 fn comma_codes(alloc: Global, cursor: &mut Cursor) -> Result<Sequence<Name>, Fault>
     ensures { Parses (many_at is_comma comma_code_at cursor.old) cursor.new result }
 {

@@ -50,7 +50,7 @@ fn signed_term(cursor: &mut Cursor) -> Option<SignedTerm>
 }
 
 /// The signed terms at the front, as many as there are.
-#[tactic(auto, using(crate::proofs::ManyLaws::many_more, crate::proofs::ManyLaws::many_ends, crate::proofs::ManyLaws::many_fails, crate::proofs::ManyLaws::prefixed_nothing, crate::proofs::SumLaws::signed_term_shortens))]
+#[tactic(auto, using(crate::proofs::ManyLaws::many_turns, crate::proofs::SumLaws::signed_term_shortens))]
 fn signed_terms(alloc: Global, cursor: &mut Cursor) -> Result<Sequence<SignedTerm>, Fault>
     ensures { Parses (many_at is_sign signed_term_at cursor.old) cursor.new result }
 {

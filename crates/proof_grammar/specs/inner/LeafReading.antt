@@ -1,4 +1,4 @@
-use Rattle.std.specs.Prelude.{ℕ, if◌then◌else◌, List, [], ◌∷◌, Option, None, Ok, codes}
+use Rattle.std.specs.Prelude.{Bool, ℕ, if◌then◌else◌, List, [], ◌∷◌, Option, None, Ok, codes}
 use Rattle.std.specs.Str.{bytes_eq}
 use Rattle.derivation.specs.declared.step.Step.{Step}
 use Rattle.bound_cert.specs.declared.cert.Leaf.{Leaf}
@@ -6,27 +6,34 @@ use Rattle.bound_cert.specs.declared.cert.LeafWhy.TheVariants as why
 use Rattle.proof_grammar.specs.declared.heads.LeafHead.{LeafHead}
 use Rattle.proof_grammar.specs.declared.heads.LeafHead.TheVariants.{BadAt, BoundAt, BoxAt, LineAt}
 use Rattle.proof_grammar.specs.ProofLines.{Line}
-use Rattle.proof_grammar.specs.StepReading.{step_in}
-use Rattle.proof_grammar.specs.Readings.{Reading, read_line, read_many, seen, then_read}
-use Rattle.proof_grammar.specs.Words.{ended, long_said, path_said, then_in, word_in}
+use Rattle.proof_grammar.specs.inner.StepReading.{step_in}
+use Rattle.proof_grammar.specs.inner.Readings.{Reading, read_line, read_many, seen, then_read}
+use Rattle.proof_grammar.specs.Words.{ended, long_said, path_said, word_in}
+use Rattle.proof_grammar.specs.inner.WordLists.{then_in}
 
--- How leaves are read. The contracts of the reader alone cite this page.
+-- How leaves are read.
+
+-- a path alone
+abbrev pub path_in : {X : Type 0} → (List Bool → X) → Line → Option X
+path_in to ws = then_in (word_in path_said ws) (λ path ws. ended (to path) ws)
+
+-- a path and a number
+abbrev pub path_and_number_in : {X : Type 0} → (List Bool → ℕ → X) → Line → Option X
+path_and_number_in to ws =
+    then_in (word_in path_said ws) (λ path ws.
+    then_in (word_in long_said ws) (λ n ws. ended (to path n) ws))
 
 abbrev pub bound_in : Line → Option LeafHead
-bound_in ws = then_in (word_in path_said ws) (λ path ws. ended (BoundAt path) ws)
+bound_in ws = path_in (λ path. BoundAt path) ws
 
 abbrev pub bad_in : Line → Option LeafHead
-bad_in ws = then_in (word_in path_said ws) (λ path ws. ended (BadAt path) ws)
+bad_in ws = path_in (λ path. BadAt path) ws
 
 abbrev pub line_in : Line → Option LeafHead
-line_in ws =
-    then_in (word_in path_said ws) (λ path ws.
-    then_in (word_in long_said ws) (λ n ws. ended (LineAt path n) ws))
+line_in ws = path_and_number_in (λ path n. LineAt path n) ws
 
 abbrev pub box_in : Line → Option LeafHead
-box_in ws =
-    then_in (word_in path_said ws) (λ path ws.
-    then_in (word_in long_said ws) (λ n ws. ended (BoxAt path n) ws))
+box_in ws = path_and_number_in (λ path n. BoxAt path n) ws
 
 abbrev pub leaf_in : Line → Option LeafHead
 leaf_in [] = None

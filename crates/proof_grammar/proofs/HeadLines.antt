@@ -9,7 +9,7 @@ use Rattle.proof_grammar.specs.declared.heads.RunLimits.{RunLimits}
 use Rattle.proof_grammar.specs.Limits.{IsEvent, IsGift, IsLong, IsShort}
 use Rattle.proof_grammar.specs.ProofLines.{Line, event_line, gift_words, limits_words, path_word}
 
--- of a verdict: no steps, or so many
+-- of a verdict: None where it is kept, else the number of its steps
 abbrev pub verdict_head : Option ℕ → Line
 verdict_head None = codes "keep" ∷ []
 verdict_head (Some n) = codes "drop" ∷ decimal n ∷ []

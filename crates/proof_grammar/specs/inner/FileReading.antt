@@ -1,4 +1,4 @@
-use Rattle.std.specs.Prelude.{ℕ, if◌then◌else◌, List, [], ◌∷◌, Option, Some, None, Ok, codes}
+use Rattle.std.specs.Prelude.{ℕ, if◌then◌else◌, List, [], ◌∷◌, Option, Some, None, Ok, codes, option_map}
 use Rattle.bound_cert.specs.declared.outcome.RowProof.{RowProof}
 use Rattle.proof_grammar.specs.declared.heads.RunLimits.{RunLimits}
 use Rattle.proof_grammar.specs.declared.proof.Proof.{Proof}
@@ -6,12 +6,13 @@ use Rattle.std.specs.Str.{bytes_eq}
 use Rattle.derivation.specs.declared.step.Step.{Step}
 use Rattle.donor_book.specs.declared.claim.Entry.{Entry}
 use Rattle.proof_grammar.specs.ProofLines.{Line}
-use Rattle.proof_grammar.specs.LeafReading.{steps_reading}
-use Rattle.proof_grammar.specs.Readings.{Reading, read_line, read_many, seen, then_read}
-use Rattle.proof_grammar.specs.Words.{all_in, ended, fixed_said, long_said, named_short, named_short_or_0, short_said, then_in, word_in}
-use Rattle.proof_grammar.specs.RowReading.{row_reading}
+use Rattle.proof_grammar.specs.inner.LeafReading.{steps_reading}
+use Rattle.proof_grammar.specs.inner.Readings.{Reading, read_line, read_many, seen, then_read}
+use Rattle.proof_grammar.specs.Words.{ended, fixed_said, long_said, named_short, named_short_or_0, short_said, word_in}
+use Rattle.proof_grammar.specs.inner.WordLists.{all_in, then_in}
+use Rattle.proof_grammar.specs.inner.RowReading.{row_reading}
 
--- How verdicts and claims are read. The contracts of the reader alone cite this page.
+-- How verdicts and claims are read.
 
 abbrev pub keep_in : Line → Option (Option ℕ)
 keep_in ws = ended None ws
@@ -31,18 +32,16 @@ behind_verdict (Some n) ls = seen Some (steps_reading n ls)
 abbrev pub verdict_reading : List Line → Reading Line (Option (List Step))
 verdict_reading ls = then_read (read_line verdict_in ls) behind_verdict
 
-abbrev pub claims_of : ℕ → Option ℕ → Option (List ℕ) → Option Entry
-claims_of row reply None = None
-claims_of row reply (Some ranking) = Some (record { row_no = row; ranking = ranking; reply = reply })
+abbrev pub entry_of : ℕ → Option ℕ → List ℕ → Entry
+entry_of row reply ranking = record { row_no = row; ranking = ranking; reply = reply }
 
 abbrev pub claim_behind : Line → Option Entry
 claim_behind ws =
     then_in (word_in named_short ws) (λ row ws.
-    then_in (word_in named_short_or_0 ws) (λ reply ws. claims_of row reply (all_in named_short ws)))
+    then_in (word_in named_short_or_0 ws) (λ reply ws. option_map (entry_of row reply) (all_in named_short ws)))
 
 abbrev pub claim_in : Line → Option Entry
-claim_in [] = None
-claim_in (w ∷ ws) = if bytes_eq w (codes "claim") then claim_behind ws else None
+claim_in ws = then_in (word_in (fixed_said (codes "claim")) ws) (λ u ws. claim_behind ws)
 
 -- ---- the file
 
@@ -75,7 +74,7 @@ limits_in ws =
     then_in (word_in (fixed_said (codes "limit")) ws) (λ u ws.
     then_in (word_in short_said ws) near_behind)
 
--- a count, and so many
+-- a count, and as many values as it says
 abbrev pub counted_reading : {X : Type 0} → (Line → Option ℕ) → (List Line → Reading Line X) → List Line → Reading Line (List X)
 counted_reading said read ls = then_read (read_line said ls) (λ n ls. read_many read n ls)
 

@@ -10,11 +10,12 @@ use Rattle.proof_grammar.specs.declared.heads.RowHead.{RowHead}
 use Rattle.proof_grammar.specs.declared.heads.RowHead.TheVariants.{BudgetAt, ChangeAt, CleanAt, ContradictoryAt, EventAt, GiftAt}
 use Rattle.proof_grammar.specs.Limits.{clean_leaves}
 use Rattle.proof_grammar.specs.ProofLines.{Line}
-use Rattle.proof_grammar.specs.LeafReading.{leaf_reading}
-use Rattle.proof_grammar.specs.Readings.{Reading, read_line, read_many, seen, then_read}
-use Rattle.proof_grammar.specs.Words.{Front, ended, long_said, named_long, named_short, named_short_or_0, path_said, place_said, positive_said, then_in, word_in}
+use Rattle.proof_grammar.specs.inner.LeafReading.{leaf_reading, path_and_number_in}
+use Rattle.proof_grammar.specs.inner.Readings.{Reading, read_line, read_many, seen, then_read}
+use Rattle.proof_grammar.specs.Words.{Front, ended, long_said, named_long, named_short, named_short_or_0, path_said, place_said, positive_said, word_in}
+use Rattle.proof_grammar.specs.inner.WordLists.{then_in}
 
--- How rows are read. The contracts of the reader alone cite this page.
+-- How rows are read.
 
 abbrev pub clean_in : Line → Option RowHead
 clean_in ws = ended CleanAt ws
@@ -42,9 +43,7 @@ gift_in ws =
     then_in (word_in long_said ws) (λ n ws. ended (GiftAt weight path fault n) ws))))
 
 abbrev pub budget_in : Line → Option RowHead
-budget_in ws =
-    then_in (word_in path_said ws) (λ path ws.
-    then_in (word_in long_said ws) (λ work ws. ended (BudgetAt path work) ws))
+budget_in ws = path_and_number_in (λ path work. BudgetAt path work) ws
 
 abbrev pub step_event_in : Line → Option RowHead
 step_event_in ws =

@@ -1,11 +1,12 @@
-use Rattle.std.specs.Prelude.{ℕ, if◌then◌else◌, List, [], ◌∷◌, Option, Some, None, codes}
+use Rattle.std.specs.Prelude.{ℕ, if◌then◌else◌, List, [], ◌∷◌, Option, None, codes, option_map}
 use Rattle.std.specs.Str.{bytes_eq}
 use Rattle.derivation.specs.declared.step.Step.{Step}
 use Rattle.derivation.specs.declared.step.Step.TheVariants as step
 use Rattle.proof_grammar.specs.ProofLines.{Line}
-use Rattle.proof_grammar.specs.Words.{all_in, divisor_said, ended, named_long, named_short, then_in, whole_said, word_in}
+use Rattle.proof_grammar.specs.Words.{divisor_said, ended, named_long, named_short, whole_said, word_in}
+use Rattle.proof_grammar.specs.inner.WordLists.{all_in, then_in}
 
--- How the lines of steps are read. The contracts of the reader alone cite this page.
+-- How the lines of steps are read.
 
 abbrev pub given_in : Line → Option Step
 given_in ws = then_in (word_in named_long ws) (λ i ws. ended (step.Given i) ws)
@@ -21,12 +22,8 @@ combine_in ws =
 abbrev pub fail_in : Line → Option Step
 fail_in ws = then_in (word_in named_long ws) (λ a ws. ended (step.Fail a) ws)
 
-abbrev pub covers : ℕ → Option (List ℕ) → Option Step
-covers field None = None
-covers field (Some parts) = Some (step.Cover field parts)
-
 abbrev pub cover_in : Line → Option Step
-cover_in ws = then_in (word_in named_short ws) (λ field ws. covers field (all_in named_long ws))
+cover_in ws = then_in (word_in named_short ws) (λ field ws. option_map (λ (parts : List ℕ). step.Cover field parts) (all_in named_long ws))
 
 abbrev pub fix_in : Line → Option Step
 fix_in ws =

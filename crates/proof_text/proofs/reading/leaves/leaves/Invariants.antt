@@ -1,7 +1,0 @@
-use Rattle.std.proofs.Common.{◌≡◌, ◌-◌}
-use Rattle.proof_grammar.specs.LeafReading.{leaf_reading}
-use Rattle.proof_grammar.specs.Readings.{onto, read_many}
-use Rattle.proof_text.proofs.reading.leaves.leaves.Given as goal
-
-abbrev pub invariant-loop : goal.invariant-loop
-invariant-loop l = (onto l.leaves.items (read_many leaf_reading (l.count - l.counter) l.lines.left) ≡ read_many leaf_reading l.fn.count l.fn.lines.left) × (l.lines.all ≡ l.fn.lines.all)

@@ -1,7 +1,0 @@
-use Rattle.std.proofs.Common.{◌≡◌, ◌-◌}
-use Rattle.proof_grammar.specs.StepReading.{step_in}
-use Rattle.proof_grammar.specs.Readings.{onto, read_line, read_many}
-use Rattle.proof_text.proofs.reading.steps.steps.Given as goal
-
-abbrev pub invariant-loop : goal.invariant-loop
-invariant-loop l = (onto l.steps.items (read_many (read_line step_in) (l.count - l.counter) l.lines.left) ≡ read_many (read_line step_in) l.fn.count l.fn.lines.left) × (l.lines.all ≡ l.fn.lines.all)
