@@ -14,7 +14,7 @@ mod tests;
 mod writing;
 
 pub use laws::{outcome_laws, path_laws};
-pub use levels::Level;
+pub use levels::{Level, box_by, line_by};
 pub use making::{Making, Written};
 pub use state::PathState;
-pub use writing::write_steps;
+pub use writing::{parts_of, write_steps};
