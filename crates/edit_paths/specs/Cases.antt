@@ -10,7 +10,8 @@ use Rattle.edit_line.specs.Lines.{AllHold, LineParts}
 use Rattle.edit_line.specs.Reductions.{IsIn, reduce_derived}
 use Rattle.edit_line.specs.Shapes.{shape_of}
 
--- what error localisation is about: a survey, linear edits over its fields by their numbers, and a record
+-- what the search is about: a survey, the linear edits that it may use, by their numbers, and a record. (A certificate of
+-- what it finds is checked alone, for the case of a tree, whose lines are all that the edits were chosen from.)
 pub record Case : Type 0 where
   pub survey : SurveyParts
   pub edits : List (ℕ × LineParts)

@@ -40,7 +40,7 @@ with_lines before lines = map (λ (d : Derived). line_by d.origin) lines ∷ bef
 abbrev pub with_boxes : History → ℕ → List BoxFrom → History
 with_boxes before field boxes = map (λ (b : BoxFrom). box_by field b.origin) boxes ∷ before
 
--- ---- the steps that prove an element
+-- ---- the steps of a derivation that prove an element
 
 -- how the element at a place was made
 abbrev pub making_at : List Making → ℕ → Making

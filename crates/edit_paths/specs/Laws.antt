@@ -44,7 +44,7 @@ ReachedLaw = (c : Case) (path : List Bool) → IsIn path (reached_paths c) ↔ (
 abbrev pub WalkLaw : Type 0
 WalkLaw = (c : Case) → walk c (length (reached_paths c)) ([] ∷ []) ≡ reached_paths c
 
--- a reached path that overflows in a step does so at its last field, in the system of the path before
+-- a reached path that overflows in a step of elimination does so at its last field, in the system of the path before
 abbrev pub StepOverflowLaw : Type 0
 StepOverflowLaw =
     (c : Case) (path : List Bool) (first second : ℕ) (place : Place) → length path ≤ field_count c → IsReached c path

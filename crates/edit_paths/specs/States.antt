@@ -89,7 +89,7 @@ state_with_boxes c path lines (Ok boxes) =
     then first_failing c path 0 lines
     else whole_state c (fold (boxes_after c path) boxes (treated_codes c path))
 
--- the event of a step's overflow
+-- the event of the overflow of a step of elimination
 abbrev pub step_event : StepOverflow → Event
 step_event o = event.Step o.first o.second o.place
 
