@@ -20,6 +20,7 @@ use crate::how::hows;
 use crate::order::{chosen_backwards, set_of};
 use edit_line::Edits;
 use edit_model::{FieldSet, Row, Survey};
+use edit_paths::case_known;
 use foundation::{OutOfMemory, Sequence, Steps};
 use linear_elim::{SystemFault, Systems};
 use std::alloc::Global;
@@ -70,17 +71,6 @@ pub fn give<S: Systems, L: Ledger>(
         }),
         Err(OutOfMemory) => Err(GiveFault::OutOfMemory),
     }
-}
-
-// The survey, the edits and the record are a case. Nothing is computed.
-fn case_known(survey: &Survey, edits: &Arc<Edits>, row: &Row)
-    requires row { IsRow survey.now.fields row.now }
-    requires shape { (arc_value edits.now).shape ≡ shape_of survey.now.fields }
-    ensures case { IsCase (case_of survey.now (arc_value edits.now) row.now) }
-    ensures few { length survey.now.fields ≤ 64 }
-{
-    let _fields = survey.fields();
-    let _lines = edits.reduced();
 }
 
 // The record with values at its changed fields, after its final test.
