@@ -2,7 +2,7 @@ use Rattle.std.proofs.Common.{◌≡◌, inl, inr, ◌<◌, ◌≤◌, ◌||◌,
 use Rattle.std.specs.List.{filter, sum_by}
 use Rattle.std.proofs.lemmas.Bool.Decides.{Decides-ltb}
 use Rattle.std.proofs.lemmas.List.Sums.{sum_by-cons}
-use Rattle.edit_model.specs.Corrections.{Differs, IsCorrection, code_fields, differs_from, is_numerical, number_fields, path_order}
+use Rattle.edit_model.specs.Corrections.{Differs, IsCorrection, differs_from, path_order}
 use Rattle.edit_model.specs.FieldSets.{has_number}
 use Rattle.edit_model.specs.Parts.{SurveyParts}
 use Rattle.edit_model.specs.Points.{Point}
@@ -13,14 +13,14 @@ use Rattle.edit_model.specs.Words.{weight_at}
 use Rattle.edit_model.specs.declared.field.Field.{Field}
 use Rattle.edit_model.specs.declared.value.Value.{Value}
 use Rattle.edit_model.specs.declared.value.Value.TheVariants.{Bad}
-use Rattle.edit_model.proofs.OrderLaws.{field-below}
 use Rattle.edit_model.proofs.RowLaws.{row-length}
 use Rattle.edit_model.proofs.WordLaws.{changed-weigh}
 use Rattle.edit_line.specs.Reductions.{IsIn}
 use Rattle.edit_line.specs.Shapes.{has_field}
-use Rattle.edit_line.proofs.FieldLists.{has-append, has-there, there-has}
+use Rattle.edit_line.proofs.FieldLists.{has-there, there-has}
 use Rattle.bound_cert.specs.Paths.{changes}
 use Rattle.edit_paths.proofs.ChoiceLaws.{word-at}
+use Rattle.edit_paths.proofs.FieldPlaces.{order-within}
 use Rattle.edit_paths.proofs.PathOrder.{sum-less}
 use Rattle.back_subst.specs.Allowed.{Completes}
 use Rattle.back_subst.specs.Gifts.{IsNeeded, path_of}
@@ -46,14 +46,6 @@ sum-below w s t (i ∷ fields) f each (inr there) has out some = by (s i) refl (
     by true e false h rest = absurd (cc (sym h ∙ each i (inl refl) e))
     by false e true h rest = omega (arith, rest, sum_by-cons w i (filter t fields))
     by false e false h rest = rest
-
--- a field in path order is one of the fields
-order-within : (fields : List Field) (f : ℕ) → has_field (path_order fields) f ≡ true → f < length fields
-order-within fields f there = by (has_field (number_fields fields) f) refl (sym (has-append f (number_fields fields) (code_fields fields)) ∙ there)
-  where
-    by : (b : Bool) → has_field (number_fields fields) f ≡ b → (b || has_field (code_fields fields) f) ≡ true → f < length fields
-    by true e h = field-below is_numerical fields f e
-    by false e h = field-below (λ k. not (is_numerical k)) fields f h
 
 -- each field weighs something
 weight-some : (fields : List Field) (f : ℕ) → All IsField fields → f < length fields → 0 < weight_at fields f

@@ -1,7 +1,7 @@
-use Rattle.std.specs.Prelude.{◌≡◌, ◌≢◌, ◌⊎◌, ◌<◌, ◌≤◌, ℕ, ◌^◌, ◌*ℤ◌, ◌==◌, Bool, true, false, List, Option, Some, None, IfSome, if◌then◌else◌, length, map, take}
+use Rattle.std.specs.Prelude.{◌≡◌, ◌≢◌, ◌⊎◌, ◌<◌, ◌≤◌, ℕ, ◌^◌, ◌*ℤ◌, ◌==◌, Bool, true, false, List, [], Option, Some, None, IfSome, if◌then◌else◌, length, map, take}
 use Rattle.std.specs.List.{filter}
 use Rattle.std.specs.Ordering.{int_eq}
-use Rattle.edit_model.specs.Corrections.{IsCorrection, IsLeastWeight, path_order}
+use Rattle.edit_model.specs.Corrections.{Differs, IsCorrection, IsLeastWeight, path_order}
 use Rattle.edit_model.specs.FieldSets.{has_number}
 use Rattle.edit_model.specs.Parts.{SurveyParts}
 use Rattle.edit_model.specs.Points.{Point}
@@ -17,6 +17,7 @@ use Rattle.bound_cert.specs.Paths.{path_weight}
 use Rattle.edit_paths.specs.Cases.{Case, Meets, case_of, edit_lines}
 use Rattle.edit_paths.specs.States.{IsOpen}
 use Rattle.edit_paths.specs.Works.{work_of}
+use Rattle.back_subst.specs.Allowed.{Completes}
 use Rattle.back_subst.specs.Given.{number_in, target_of}
 use Rattle.back_subst.specs.declared.gift.How.{How}
 use Rattle.back_subst.specs.declared.gift.How.TheVariants.{Default, Donor, Nearest}
@@ -55,7 +56,13 @@ path_of fields changed = map (has_number changed) (path_order fields)
 -- the set weighs no more than any correction does, or the record has no value at any of its fields
 abbrev pub IsNeeded : SurveyParts → List Value → ℕ → Type 0
 IsNeeded survey row changed =
-    IsLeastWeight survey row (path_weight survey.fields (path_of survey.fields changed)) ⊎ ((f : ℕ) → f < length row → has_number changed f ≡ true → value_of row f ≡ Bad)
+    IsLeastWeight survey row (path_weight survey.fields (path_of survey.fields changed))
+    ⊎ ((f : ℕ) → f < length row → has_number changed f ≡ true → value_of row f ≡ Bad)
+
+-- each correction that has the new record's values differs from the record at all fields of the set
+abbrev pub DiffersThroughout : SurveyParts → List Value → ℕ → List Value → Type 0
+DiffersThroughout survey row changed new =
+    (p : Point) (f : ℕ) → Completes survey new [] p → has_number changed f ≡ true → Differs row p f
 
 -- the point has the record's values at all fields outside the set
 abbrev pub AgreesOutside : List Value → ℕ → Point → Type 0
@@ -65,7 +72,9 @@ AgreesOutside row changed p = (f : ℕ) → f < length row → has_number change
 abbrev pub IsCheap : Case → List Bool → Type 0
 IsCheap c path = (k : ℕ) → k ≤ length path → work_of c (take k path) < 2 ^ 64
 
--- what is asked of a record and of its changed fields before values are given: the path that changes just these is open, and its work can be counted; every rule follows from the edits, and each edit holds at each correction that has the record's values at the other fields
+-- what is asked of a record and of its changed fields before values are given: the path that changes just these is open,
+-- and its work can be counted; every rule follows from the edits, and each edit holds at each correction that has the
+-- record's values at the other fields
 pub record CanGive (survey : SurveyParts) (edits : EditsParts) (row : List Value) (changed : ℕ) : Type 0 where
   pub is_row : IsRow survey.fields row
   pub shape : edits.shape ≡ shape_of survey.fields

@@ -13,11 +13,13 @@ pub record Interval : Type 0 where
   pub lower : Option End
   pub upper : Option End
 
--- whether a number is on the inner side of an end: that of the greater numbers (1) of a lower end, that of the lesser (-1) of an upper one
+-- whether a number is on the inner side of an end: that of the greater numbers (1) of a lower end, that of the lesser (-1)
+-- of an upper one
 abbrev pub is_past : ℤ → End → Ratio → Bool
-is_past side end x = is_enough end.strict (side *ℤ (x.numerator *ℤ end.at.denominator -ℤ end.at.numerator *ℤ x.denominator))
+is_past side end x =
+    is_enough end.strict (side *ℤ (x.numerator *ℤ end.at.denominator -ℤ end.at.numerator *ℤ x.denominator))
 
--- the same, where there may be no end
+-- whether a number is on the inner side of an end, if there is one
 abbrev pub is_past_any : ℤ → Option End → Ratio → Bool
 is_past_any side None x = true
 is_past_any side (Some end) x = is_past side end x
@@ -28,7 +30,10 @@ is_within i x = is_past_any (pos 1) i.lower x && is_past_any (negsuc 0) i.upper 
 
 -- halfway between two numbers
 abbrev pub middle : Ratio → Ratio → Ratio
-middle x y = record { numerator = x.numerator *ℤ y.denominator +ℤ y.numerator *ℤ x.denominator; denominator = pos 2 *ℤ (x.denominator *ℤ y.denominator) }
+middle x y = record {
+  numerator = x.numerator *ℤ y.denominator +ℤ y.numerator *ℤ x.denominator;
+  denominator = pos 2 *ℤ (x.denominator *ℤ y.denominator);
+}
 
 -- the middle of both ends, or one further in, where there is no other end
 abbrev pub further_in : ℤ → Ratio → Option End → Ratio
@@ -44,7 +49,8 @@ abbrev pub kept_past : ℤ → Option End → Option End → Ratio → Ratio →
 kept_past side None other target next = next
 kept_past side (Some end) other target next = if is_past side end target then next else nearest_at side end other
 
--- the number of an interval that is given for a target: the target, where it is in the interval, and else the number at the end that it is not past
+-- the number of an interval that is given for a target: the target, where it is in the interval, and else the number at
+-- the end that it is not past
 abbrev pub nearest : Interval → Ratio → Ratio
 nearest i target = kept_past (pos 1) i.lower i.upper target (kept_past (negsuc 0) i.upper i.lower target target)
 
@@ -54,7 +60,12 @@ nearest i target = kept_past (pos 1) i.lower i.upper target (kept_past (negsuc 0
 abbrev pub gap_from : ℤ → Ratio → Ratio → ℤ
 gap_from side x y = side *ℤ (y.numerator *ℤ x.denominator -ℤ x.numerator *ℤ y.denominator)
 
--- no allowed number is outside u, seen from the side, and u is the innermost such fraction: the greatest that none of them is below, or the least that none is above
+-- no allowed number is outside u, seen from the side
+abbrev pub HasNoneOutside : ℤ → (Ratio → Type 0) → Ratio → Type 0
+HasNoneOutside side allowed u = (x : Ratio) → pos 0 <ℤ x.denominator → allowed x → pos 0 ≤ℤ gap_from side u x
+
+-- no allowed number is outside u, seen from the side, and u is the innermost such fraction: the greatest that none of them
+-- is below, or the least that none is above
 pub record IsEndOf (side : ℤ) (allowed : Ratio → Type 0) (u : Ratio) : Type 0 where
-  pub none_outside : (x : Ratio) → pos 0 <ℤ x.denominator → allowed x → pos 0 ≤ℤ gap_from side u x
-  pub innermost : (w : Ratio) → pos 0 <ℤ w.denominator → ((x : Ratio) → pos 0 <ℤ x.denominator → allowed x → pos 0 ≤ℤ gap_from side w x) → pos 0 ≤ℤ gap_from side w u
+  pub none_outside : HasNoneOutside side allowed u
+  pub innermost : (w : Ratio) → pos 0 <ℤ w.denominator → HasNoneOutside side allowed w → pos 0 ≤ℤ gap_from side w u

@@ -12,8 +12,10 @@ use Rattle.back_subst.specs.Allowed.{AgreesBut, AllowsNumber, Completes}
 use Rattle.back_subst.specs.Given.{IsAllOf, IsGivenNumber, IsSame}
 use Rattle.back_subst.specs.Intervals.{End, Interval, IsEndOf, is_within}
 
--- a numerical field, and other numerical fields that are left with it; some correction has the record's values elsewhere, and the edits tell corrections
-pub record IsOpenNumber (survey : SurveyParts) (edits : EditsParts) (row : List Value) (f : ℕ) (left : List ℕ) (p : Point) : Type 0 where
+-- a numerical field, and other numerical fields that are left with it; some correction has the record's values elsewhere,
+-- and the edits tell corrections
+pub record IsOpenNumber (survey : SurveyParts) (edits : EditsParts) (row : List Value) (f : ℕ) (left : List ℕ)
+    (p : Point) : Type 0 where
   pub case : IsCase (case_of survey edits row)
   pub field : IsNumerical (shape_of survey.fields) f
   pub fields : All (IsNumerical (shape_of survey.fields)) left
@@ -24,22 +26,29 @@ pub record IsOpenNumber (survey : SurveyParts) (edits : EditsParts) (row : List 
 
 -- the numbers allowed at such a field are an interval that is not empty, with fractions as its ends
 abbrev pub IntervalLaw : Type 0
-IntervalLaw = (survey : SurveyParts) (edits : EditsParts) (row : List Value) (f : ℕ) (left : List ℕ) (p : Point) → IsOpenNumber survey edits row f left p
+IntervalLaw =
+    (survey : SurveyParts) (edits : EditsParts) (row : List Value) (f : ℕ) (left : List ℕ) (p : Point)
+    → IsOpenNumber survey edits row f left p
     → (i : Interval) × IsAllOf (AllowsNumber survey row (f ∷ left) f) i × ((x : Ratio) × (pos 0 <ℤ x.denominator) × IsTrue (is_within i x))
 
--- an end of the interval of the allowed numbers, at a side, is their end by these numbers alone; and where it has none there, they have none
+-- an end of the interval of the allowed numbers, at a side, is their end by these numbers alone; and where the interval
+-- has none there, they have none
 pub record IsEndAt (side : ℤ) (allowed : Ratio → Type 0) (end : Option End) : Type 0 where
   pub there : (e : End) → end ≡ Some e → IsEndOf side allowed e.at
   pub nowhere : end ≡ None → (w : Ratio) → pos 0 <ℤ w.denominator → ¬ IsEndOf side allowed w
 
 -- the lower end is the greatest fraction that no allowed number is below, and the upper end the least that none is above
 abbrev pub EndLaw : Type 0
-EndLaw = (survey : SurveyParts) (row : List Value) (left : List ℕ) (f : ℕ) (i : Interval) (x : Ratio) → IsAllOf (AllowsNumber survey row left f) i
+EndLaw =
+    (survey : SurveyParts) (row : List Value) (left : List ℕ) (f : ℕ) (i : Interval) (x : Ratio)
+    → IsAllOf (AllowsNumber survey row left f) i
     → pos 0 <ℤ x.denominator → AllowsNumber survey row left f x
     → IsEndAt (pos 1) (AllowsNumber survey row left f) i.lower × IsEndAt (negsuc 0) (AllowsNumber survey row left f) i.upper
 
 -- where some number is allowed, the one that is given is, and it is the target exactly where that is
 abbrev pub TakenLaw : Type 0
-TakenLaw = (survey : SurveyParts) (row : List Value) (left : List ℕ) (f : ℕ) (target x y : Ratio)
+TakenLaw =
+    (survey : SurveyParts) (row : List Value) (left : List ℕ) (f : ℕ) (target x y : Ratio)
     → pos 0 <ℤ target.denominator → pos 0 <ℤ x.denominator → pos 0 <ℤ y.denominator → AllowsNumber survey row left f y
-    → IsGivenNumber (AllowsNumber survey row left f) target x → AllowsNumber survey row left f x × (AllowsNumber survey row left f target ↔ IsSame x target)
+    → IsGivenNumber (AllowsNumber survey row left f) target x
+    → AllowsNumber survey row left f x × (AllowsNumber survey row left f target ↔ IsSame x target)

@@ -67,14 +67,20 @@ no_ends = record { lower = None; upper = None }
 -- the bounds, and one more: a lower one where the factor is positive
 abbrev pub with_found : FoundEnds → Bool → Found → FoundEnds
 with_found ends lower new =
-    if lower then record { lower = Some (tighter (pos 1) ends.lower new); upper = ends.upper } else record { lower = ends.lower; upper = Some (tighter (negsuc 0) ends.upper new) }
+    if lower
+    then record { lower = Some (tighter (pos 1) ends.lower new); upper = ends.upper }
+    else record { lower = ends.lower; upper = Some (tighter (negsuc 0) ends.upper new) }
+
+-- the bounds, and the one that the line at place i gives the field
+abbrev pub with_bound : FoundEnds → LineParts → ℕ → Ratio → ℕ → FoundEnds
+with_bound ends line f at i = with_found ends (int_lt (pos 0) (factor line f)) (found_at at line.strict i)
 
 -- the bounds of the lines, from place i on
 abbrev pub ends_from : ℕ → List LineParts → List Value → ℕ → FoundEnds → Result FoundEnds ℕ
 ends_from i [] row f ends = Ok ends
 ends_from i (line ∷ lines) row f ends =
     if is_bounding line row f
-    then ok_or (bound_at line row f) i >>= (λ at. ends_from (suc i) lines row f (with_found ends (int_lt (pos 0) (factor line f)) (found_at at line.strict i)))
+    then ok_or (bound_at line row f) i >>= (λ at. ends_from (suc i) lines row f (with_bound ends line f at i))
     else ends_from (suc i) lines row f ends
 
 -- the middle of both bounds, or one further in, where there is no other
@@ -94,7 +100,8 @@ unless_out side (Some b) other target next =
 
 -- the number nearest to the target between the bounds
 abbrev pub nearest_found : FoundEnds → Ratio → Result Ratio ℕ
-nearest_found ends target = unless_out (pos 1) ends.lower ends.upper target (unless_out (negsuc 0) ends.upper ends.lower target (Ok target))
+nearest_found ends target =
+    unless_out (pos 1) ends.lower ends.upper target (unless_out (negsuc 0) ends.upper ends.lower target (Ok target))
 
 abbrev pub then_nearest : Result FoundEnds ℕ → Ratio → Result Ratio ℕ
 then_nearest (Ok ends) target = nearest_found ends target

@@ -8,11 +8,10 @@ ghost use Rattle.edit_line.specs.Reductions.{lines_of};
 ghost use Rattle.edit_line.specs.Shapes.{Domain, IsCategorical, code_fields, shape_of};
 ghost use Rattle.categ_combine.specs.BoxLists.{AreBoxesOver, sets_of};
 ghost use Rattle.categ_combine.specs.Covers.{cover_count};
-ghost use Rattle.categ_combine.specs.FailingBoxes.{failing_boxes};
 ghost use Rattle.edit_model.specs.declared.value.Value.TheVariants.{Code};
 ghost use Rattle.back_subst.specs.Given.{IsGivenCode};
-ghost use Rattle.back_subst.specs.inner.Codes.{AreCountableBut, IsFree, boxes_for, is_free_at, settled_by};
-ghost use Rattle.back_subst.specs.inner.UnderWay.{AreBlankBut};
+ghost use Rattle.back_subst.specs.inner.Codes.{IsFirstFree, IsFree, is_free_at, settled_for};
+ghost use Rattle.back_subst.specs.inner.UnderWay.{AreSettled, CanSettle, HasFreeCode, IsCodeFor};
 
 use crate::line_bounds::place_among;
 use categ_combine::{BoxFault, BoxFrom, Covered, boxes_of, cat_step, fix};
@@ -37,13 +36,8 @@ pub(crate) fn code_for(
     requires row { IsRow survey.now.fields row.now }
     requires field { IsCategorical (shape_of survey.now.fields) field }
     requires codes { (f : ℕ) → IsCategorical (shape_of survey.now.fields) f → TakesCodes (shape_of survey.now.fields) f }
-    requires some { (left : List ℕ) × AreBlankBut (shape_of survey.now.fields) row.now left field
-        × (boxes : List (List ℕ)) × (failing_boxes (lines_of lines.now) row.now ≡ Ok boxes)
-        × AreCountableBut (shape_of survey.now.fields) row.now left field boxes
-        × ((code : ℕ) × IsFree (shape_of survey.now.fields) (boxes_for (shape_of survey.now.fields) row.now left field boxes) field code) }
-    ensures { IfOk result (λ code. (boxes : List (List ℕ)) × (failing_boxes (lines_of lines.now) row.now ≡ Ok boxes)
-        × ((left : List ℕ) → AreBlankBut (shape_of survey.now.fields) row.now left field
-        → IsGivenCode (IsFree (shape_of survey.now.fields) (boxes_for (shape_of survey.now.fields) row.now left field boxes) field) target code)) }
+    requires some { HasFreeCode (shape_of survey.now.fields) (lines_of lines.now) row.now field }
+    ensures { IfOk result (λ code. IsCodeFor (shape_of survey.now.fields) (lines_of lines.now) row.now field target code) }
 {
     let boxes = match boxes_of(alloc, survey, lines, row) {
         Ok(boxes) => boxes,
@@ -65,11 +59,10 @@ fn settle_others(
     requires over { AreBoxesOver (shape_of survey.now.fields) boxes.items }
     requires row { IsRow survey.now.fields row.now }
     requires codes { (f : ℕ) → IsCategorical (shape_of survey.now.fields) f → TakesCodes (shape_of survey.now.fields) f }
-    requires few { (left : List ℕ) × AreBlankBut (shape_of survey.now.fields) row.now left but
-        × AreCountableBut (shape_of survey.now.fields) row.now left but (sets_of boxes.items) }
+    requires few { CanSettle (shape_of survey.now.fields) row.now but (sets_of boxes.items) }
     ensures over { IfOk result (λ kept. AreBoxesOver (shape_of survey.now.fields) kept.items) }
-    ensures sets { IfOk result (λ kept. (left : List ℕ) → AreBlankBut (shape_of survey.now.fields) row.now left but
-        → sets_of kept.items ≡ boxes_for (shape_of survey.now.fields) row.now left but (sets_of boxes.items)) }
+    ensures sets { IfOk result (λ kept.
+        AreSettled (shape_of survey.now.fields) row.now but (sets_of boxes.items) (sets_of kept.items)) }
 {
     let mut kept = boxes;
     for field in survey.codes() {
@@ -95,7 +88,7 @@ fn settled(
     requires few { ((c : ℕ) → value_of row.now field ≢ Code c)
         → cover_count (shape_of survey.now.fields) (sets_of boxes.now) field < 2 ^ 64 }
     ensures over { IfOk result (λ kept. AreBoxesOver (shape_of survey.now.fields) kept.items) }
-    ensures sets { IfOk result (λ kept. sets_of kept.items ≡ settled_by (shape_of survey.now.fields) (value_of row.now field) field (sets_of boxes.now)) }
+    ensures sets { IfOk result (λ kept. sets_of kept.items ≡ settled_for (shape_of survey.now.fields) row.now field (sets_of boxes.now)) }
 {
     match row.value(field) {
         Value::Code(code) => fix(alloc, boxes, field, *code),
@@ -124,11 +117,10 @@ fn first_free(survey: &Survey, boxes: &[BoxFrom], field: u32, target: u8) -> u8
     }
 }
 
-/// The first of so many codes that no box has at the place.
+/// The first of the codes of a field of this size that no box has at the place.
 pub(crate) fn first_among(boxes: &[BoxFrom], place: usize, size: u8) -> Option<u8>
     requires { (shape : List Domain) × AreBoxesOver shape boxes.now × (place < length (code_fields shape)) }
-    ensures free { IfSome result (λ code. (code < size) × (is_free_at (sets_of boxes.now) place code ≡ true)
-        × ((c : ℕ) → c < code → is_free_at (sets_of boxes.now) place c ≡ false)) }
+    ensures free { IfSome result (λ code. IsFirstFree (sets_of boxes.now) place size code) }
     ensures none { IfNone result ((c : ℕ) → c < size → is_free_at (sets_of boxes.now) place c ≡ false) }
 {
     for code in 0..size {

@@ -1,7 +1,6 @@
 //! The values that are given to fields of a record, one after the other.
-ghost use Rattle.std.specs.Prelude.{◌≡◌, ◌≢◌, ◌++◌, [], Err, List, Ok, OnOk, option_copied, reverse, true, ℕ};
+ghost use Rattle.std.specs.Prelude.{◌≡◌, ◌≢◌, Err, List, Ok, OnOk, option_copied, reverse, true, ℕ};
 ghost use Rattle.std.specs.Arc.{arc_value};
-ghost use Rattle.edit_model.specs.declared.value.Value as value;
 ghost use Rattle.edit_line.specs.EditSets.{EditsParts};
 ghost use Rattle.edit_line.specs.Lines.{HaveShape};
 ghost use Rattle.edit_line.specs.Reductions.{lines_of};
@@ -11,7 +10,7 @@ ghost use Rattle.linear_elim.specs.Systems.{system_of};
 ghost use Rattle.back_subst.specs.Gifts.{IsDonor};
 ghost use Rattle.back_subst.specs.Given.{target_of};
 ghost use Rattle.back_subst.specs.inner.Systems.{start_lines};
-ghost use Rattle.back_subst.specs.inner.UnderWay.{AreCodesToGive, AreComputedBy, AreOrders, IsGiving, IsUnderWay, StopsAmong};
+ghost use Rattle.back_subst.specs.inner.UnderWay.{AreCodesToGive, AreOrderComputed, AreOrders, GivesCodes, GivesNext, IsGivingSome, StopsGiving};
 ghost use Rattle.back_subst.specs.declared.gift.GiveFault.TheVariants as fault;
 
 use crate::code::code_for;
@@ -44,16 +43,11 @@ pub(crate) fn give_numbers<S: Systems, L: Ledger>(
     requires donor { IsDonor survey.now (option_copied donor) }
     requires in_range { (lines : List derived.Derived) × (system_of (arc_value edits.now).lines (reverse order.now) ≡ Ok lines) }
     requires order { (codes : List ℕ) × AreOrders survey.now.fields codes order.now }
-    requires way { (row : List value.Value) × (given : List ℕ)
-        × IsGiving survey.now (arc_value edits.now) (option_copied donor) row given order.now new.old }
-    ensures given { OnOk result ((row : List value.Value) (given : List ℕ)
-        → IsGiving survey.now (arc_value edits.now) (option_copied donor.entry) row given order.now new.old
-        → IsGiving survey.now (arc_value edits.now) (option_copied donor.entry) row (given ++ order.now) [] new.new) }
-    ensures computed { OnOk result (
-        AreComputedBy (start_lines (arc_value edits.now)) (target_of (option_copied donor.entry)) new.new order.now []) }
-    ensures bound { (f line : ℕ) (row : List value.Value) (given : List ℕ) → result ≡ Err (fault.Bound f line)
-        → IsGiving survey.now (arc_value edits.now) (option_copied donor.entry) row given order.now new.old
-        → StopsAmong survey.now (start_lines (arc_value edits.now)) (target_of (option_copied donor.entry)) row given order.now f line }
+    requires way { IsGivingSome survey.now (arc_value edits.now) (option_copied donor) order.now new.old }
+    ensures given { OnOk result
+        (GivesNext survey.now (arc_value edits.now) (option_copied donor.entry) order.now new.old new.new) }
+    ensures computed { OnOk result (AreOrderComputed (arc_value edits.now) (option_copied donor.entry) order.now new.new) }
+    ensures bound { StopsGiving result survey.now (arc_value edits.now) (option_copied donor.entry) order.now new.old }
     ensures test { (rule : ℕ) → result ≢ Err (fault.Test rule) }
     ensures serves { (e : EditsParts) → S.serves source.old e → S.serves source.new e }
     ensures keeps { (f : ℕ) → S.keeps source.old f ≡ true → S.keeps source.new f ≡ true }
@@ -84,8 +78,8 @@ pub(crate) fn give_codes(
 ) -> Result<(), OutOfMemory>
     requires donor { IsDonor survey.now (option_copied donor) }
     requires ready { AreCodesToGive survey.now (target_of (option_copied donor)) (lines_of lines.now) order.now new.old }
-    ensures { OnOk result ((t : AreCodesToGive survey.now (target_of (option_copied donor.entry)) (lines_of lines.now) order.now new.old)
-        → IsUnderWay survey.now t.edits (target_of (option_copied donor.entry)) t.row order.now t.numbers new.new) }
+    ensures { OnOk result
+        (GivesCodes survey.now (target_of (option_copied donor.entry)) (lines_of lines.now) order.now new.old new.new) }
 {
     for field in order {
         let value = target_of(donor, *field);

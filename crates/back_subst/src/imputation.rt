@@ -1,20 +1,16 @@
 //! Values for all changed fields of a record.
-ghost use Rattle.std.specs.Prelude.{◌≡◌, ◌⊎◌, ◌≤◌, [], ℕ, Err, IfOk, length, true, option_copied};
+ghost use Rattle.std.specs.Prelude.{◌≡◌, ◌≤◌, [], ℕ, IfOk, length, true, option_copied};
 ghost use Rattle.std.specs.Arc.{arc_value};
-ghost use Rattle.edit_model.specs.Corrections.{Differs};
-ghost use Rattle.edit_model.specs.FieldSets.{has_number};
 ghost use Rattle.edit_model.specs.Points.{Point};
 ghost use Rattle.edit_model.specs.Rows.{IsRow};
 ghost use Rattle.edit_line.specs.EditSets.{EditsParts};
 ghost use Rattle.edit_line.specs.Shapes.{shape_of};
 ghost use Rattle.edit_paths.specs.Cases.{IsCase, case_of};
 ghost use Rattle.back_subst.specs.Allowed.{Completes};
-ghost use Rattle.back_subst.specs.Gifts.{CanGive, IsDonor, IsNeeded, hows_of};
-ghost use Rattle.back_subst.specs.GiveFaults.{AllHoldAt, AreComputed, Shows, StopsAtLine, StopsAtRule};
-ghost use Rattle.back_subst.specs.Given.{IsImputed, giving_order, target_of};
-ghost use Rattle.back_subst.specs.inner.UnderWay.{AreOrders, IsGiving};
-ghost use Rattle.back_subst.specs.declared.gift.GiveFault as gives;
-ghost use Rattle.back_subst.specs.declared.gift.GiveFault.TheVariants as fault;
+ghost use Rattle.back_subst.specs.Gifts.{CanGive, DiffersThroughout, IsDonor, IsNeeded, hows_of};
+ghost use Rattle.back_subst.specs.GiveFaults.{AllHoldAt, AreAllComputed, IsDue, OnBound, OnTest, Shows, StopsAtLine, StopsAtRule};
+ghost use Rattle.back_subst.specs.Given.{IsImputed};
+ghost use Rattle.back_subst.specs.inner.UnderWay.{AreOrders, IsAllGiven, IsGiving};
 
 use crate::blank::blanked;
 use crate::final_test::test_rules;
@@ -24,6 +20,7 @@ use crate::how::hows;
 use crate::order::{chosen_backwards, set_of};
 use edit_line::Edits;
 use edit_model::{FieldSet, Row, Survey};
+use edit_paths::case_known;
 use foundation::{OutOfMemory, Sequence, Steps};
 use linear_elim::{SystemFault, Systems};
 use std::alloc::Global;
@@ -53,13 +50,12 @@ pub fn give<S: Systems, L: Ledger>(
     ensures consistent { IfOk result (λ gift. (p : Point) × Completes survey.now gift.row [] p) }
     ensures tested { IfOk result (λ gift. AllHoldAt survey.now gift.row) }
     ensures differs { IfOk result (λ gift. IsNeeded survey.now row.now changed
-        → (p : Point) (f : ℕ) → Completes survey.now gift.row [] p → has_number changed f ≡ true → Differs row.now p f) }
-    ensures bound { (field line : ℕ) → result ≡ Err (fault.Bound field line)
-        → StopsAtLine survey.now (arc_value edits.now) row.now changed (option_copied donor.entry) field line }
-    ensures test { (rule : ℕ) → result ≡ Err (fault.Test rule)
-        → StopsAtRule survey.now (arc_value edits.now) row.now changed (option_copied donor.entry) rule }
-    ensures due { (due : gives.GiveFault) → Shows survey.now (arc_value edits.now) row.now changed (option_copied donor.entry) due
-        → (result ≡ Err due) ⊎ (result ≡ Err fault.OutOfMemory) }
+        → DiffersThroughout survey.now row.now changed gift.row) }
+    ensures bound { OnBound result
+        (λ f line. StopsAtLine survey.now (arc_value edits.now) row.now changed (option_copied donor.entry) f line) }
+    ensures test { OnTest result
+        (λ rule. StopsAtRule survey.now (arc_value edits.now) row.now changed (option_copied donor.entry) rule) }
+    ensures due { IsDue result (λ due. Shows survey.now (arc_value edits.now) row.now changed (option_copied donor.entry) due) }
     ensures serves { (e : EditsParts) → S.serves source.old e → S.serves source.new e }
     ensures keeps { (f : ℕ) → S.keeps source.old f ≡ true → S.keeps source.new f ≡ true }
 {
@@ -75,17 +71,6 @@ pub fn give<S: Systems, L: Ledger>(
         }),
         Err(OutOfMemory) => Err(GiveFault::OutOfMemory),
     }
-}
-
-// The survey, the edits and the record are a case. Nothing is computed.
-fn case_known(survey: &Survey, edits: &Arc<Edits>, row: &Row)
-    requires row { IsRow survey.now.fields row.now }
-    requires shape { (arc_value edits.now).shape ≡ shape_of survey.now.fields }
-    ensures case { IsCase (case_of survey.now (arc_value edits.now) row.now) }
-    ensures few { length survey.now.fields ≤ 64 }
-{
-    let _fields = survey.fields();
-    let _lines = edits.reduced();
 }
 
 // The record with values at its changed fields, after its final test.
@@ -104,14 +89,13 @@ fn imputed<S: Systems, L: Ledger>(
     requires path { CanGive survey.now (arc_value edits.now) row.now changed }
     requires donor { IsDonor survey.now (option_copied donor) }
     requires served { S.serves source.old (arc_value edits.now) }
-    ensures given { IfOk result (λ new. IsGiving survey.now (arc_value edits.now) (option_copied donor.entry) row.now (giving_order survey.now.fields changed) [] new) }
-    ensures computed { IfOk result (λ new.
-        AreComputed (arc_value edits.now) (target_of (option_copied donor.entry)) new (giving_order survey.now.fields changed) []) }
+    ensures given { IfOk result (λ new. IsAllGiven survey.now (arc_value edits.now) (option_copied donor.entry) row.now changed new) }
+    ensures computed { IfOk result (λ new. AreAllComputed survey.now (arc_value edits.now) changed (option_copied donor.entry) new) }
     ensures tested { IfOk result (λ new. AllHoldAt survey.now new) }
-    ensures bound { (field line : ℕ) → result ≡ Err (fault.Bound field line)
-        → StopsAtLine survey.now (arc_value edits.now) row.now changed (option_copied donor.entry) field line }
-    ensures test { (rule : ℕ) → result ≡ Err (fault.Test rule)
-        → StopsAtRule survey.now (arc_value edits.now) row.now changed (option_copied donor.entry) rule }
+    ensures bound { OnBound result
+        (λ f line. StopsAtLine survey.now (arc_value edits.now) row.now changed (option_copied donor.entry) f line) }
+    ensures test { OnTest result
+        (λ rule. StopsAtRule survey.now (arc_value edits.now) row.now changed (option_copied donor.entry) rule) }
     ensures serves { (e : EditsParts) → S.serves source.old e → S.serves source.new e }
     ensures keeps { (f : ℕ) → S.keeps source.old f ≡ true → S.keeps source.new f ≡ true }
 {
@@ -151,7 +135,7 @@ fn with_codes<S: Systems, L: Ledger>(
     requires donor { IsDonor survey.now (option_copied donor) }
     requires served { S.serves source.old (arc_value edits.now) }
     requires order { (orders : AreOrders survey.now.fields codes.now numbers.now) × (orders.changed ≡ changed) }
-    ensures given { IfOk result (λ new. IsGiving survey.now (arc_value edits.now) (option_copied donor.entry) row.now codes.now numbers.now new) }
+    ensures given { IfOk result (λ r. IsGiving survey.now (arc_value edits.now) (option_copied donor.entry) row.now codes.now numbers.now r) }
     ensures serves { (e : EditsParts) → S.serves source.old e → S.serves source.new e }
     ensures keeps { (f : ℕ) → S.keeps source.old f ≡ true → S.keeps source.new f ≡ true }
 {

@@ -9,10 +9,10 @@ ghost use Rattle.edit_line.specs.Reductions.{lines_of};
 ghost use Rattle.edit_line.specs.Shapes.{IsNumerical, shape_of};
 ghost use Rattle.edit_line.specs.declared.derived.Derived as derived;
 ghost use Rattle.linear_elim.specs.Systems.{AreNumerical, system_at};
-ghost use Rattle.back_subst.specs.Given.{number_in};
+ghost use Rattle.back_subst.specs.GiveFaults.{OnBound};
 ghost use Rattle.back_subst.specs.NumberWalk.{number_result};
 ghost use Rattle.back_subst.specs.inner.Sides.{number_told};
-ghost use Rattle.back_subst.specs.inner.Systems.{system_left};
+ghost use Rattle.back_subst.specs.inner.Systems.{number_left};
 ghost use Rattle.back_subst.specs.declared.gift.GiveFault.TheVariants as fault;
 
 use crate::gift::GiveFault;
@@ -47,9 +47,9 @@ pub(crate) fn number_for<S: Systems, L: Ledger>(
     requires numerical { AreNumerical (arc_value edits.now).shape left }
     requires served { S.serves source.old (arc_value edits.now) }
     requires in_range { (lines : List derived.Derived) × (system_at (arc_value edits.now) left ≡ Ok lines) }
-    ensures number { IfOk result (λ x. number_result (system_left (arc_value edits.now) left) row.now field (number_in target.now) ≡ Ok (ratio_of x)) }
-    ensures bound { (f line : ℕ) → result ≡ Err (fault.Bound f line)
-        → (f ≡ field) × (number_result (system_left (arc_value edits.now) left) row.now field (number_in target.now) ≡ Err line) }
+    ensures number { IfOk result (λ x. number_left (arc_value edits.now) left row.now field target.now ≡ Ok (ratio_of x)) }
+    ensures bound { OnBound result
+        (λ f line. (f ≡ field) × (number_left (arc_value edits.now) left row.now field target.now ≡ Err line)) }
     ensures test { (rule : ℕ) → result ≢ Err (fault.Test rule) }
     ensures serves { (e : EditsParts) → S.serves source.old e → S.serves source.new e }
     ensures keeps { (f : ℕ) → S.keeps source.old f ≡ true → S.keeps source.new f ≡ true }

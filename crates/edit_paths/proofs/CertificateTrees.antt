@@ -1,25 +1,19 @@
-use Rattle.std.proofs.Common.{◌≡◌, ◌≢◌, ◌&&◌, ◌⊎◌, inl, inr, ℕ, zero, suc, ◌+◌, ◌≤◌, not, nat_lt, Bool, true, false, if◌then◌else◌, List, [], ◌∷◌, ◌++◌, map, Option, Some, None, length, slice_get, append-nil, append_assoc, refl, sym, ap, ◌∙◌, subst, arith}
-use Rattle.std.specs.List.{AllByRecursion, filter}
+use Rattle.std.proofs.Common.{◌≡◌, ◌&&◌, ◌⊎◌, inl, inr, ℕ, zero, suc, ◌+◌, ◌≤◌, nat_lt, Bool, true, false, if◌then◌else◌, List, [], ◌∷◌, ◌++◌, map, Option, Some, None, length, slice_get, append-nil, append_assoc, refl, sym, ap, ◌∙◌, subst, arith}
+use Rattle.std.specs.List.{AllByRecursion}
 use Rattle.std.proofs.lemmas.Bool.Decides.{Decides-eqb}
 use Rattle.std.proofs.lemmas.List.{map-append}
 use Rattle.foundation.specs.Options.{◌>>?◌}
-use Rattle.edit_model.specs.Corrections.{is_first, path_order}
-use Rattle.edit_model.specs.FieldSets.{has_number}
-use Rattle.edit_model.specs.Rows.{is_bad, value_of}
-use Rattle.edit_model.specs.declared.value.Value.{Value}
-use Rattle.edit_model.specs.declared.value.Value.TheVariants.{Bad, Code, Number}
-use Rattle.edit_model.proofs.FieldSetLaws.{has-set_of}
+use Rattle.edit_model.specs.Corrections.{is_first}
 use Rattle.edit_line.specs.Lines.{LineParts}
 use Rattle.edit_line.specs.Reductions.{IsIn}
-use Rattle.edit_line.specs.Shapes.{has_field, shape_of, whole_sets}
+use Rattle.edit_line.specs.Shapes.{shape_of, whole_sets}
 use Rattle.std.specs.Cmp.Lexicographic.{same_text}
 use Rattle.edit_line.proofs.BoolLaws.{true-both}
-use Rattle.edit_line.proofs.FieldLists.{has-filter}
 use Rattle.edit_line.proofs.Members.{any-in, in-any, in-either}
 use Rattle.edit_line.proofs.SetLaws.{both_true}
 use Rattle.derivation.specs.ValidSteps.{is_true}
 use Rattle.derivation.specs.declared.proved.Proved.TheVariants as proved
-use Rattle.bound_cert.specs.Paths.{keeps, keeps_bad, kept_set, path_weight}
+use Rattle.bound_cert.specs.Paths.{keeps_bad, kept_set, path_weight}
 use Rattle.bound_cert.specs.Trees.{Fork, Tip, Tree, leaf_paths}
 use Rattle.bound_cert.specs.ValidTrees.{IsValidLeaf, IsValidTree, premises_at, tree_case}
 use Rattle.bound_cert.specs.declared.cert.Cert.{Cert}

@@ -1,11 +1,13 @@
-use Rattle.std.proofs.Common.{◌≡◌, ◌++◌, inl, inr, ℕ, zero, suc, ◌<◌, true, if◌then◌else◌, List, [], ◌∷◌, length, append_assoc, length-append, slice_index_or, refl, sym, ap, ◌∙◌, subst, arith}
+use Rattle.std.proofs.Common.{◌≡◌, ◌++◌, inl, inr, ℕ, zero, suc, ◌<◌, ◌||◌, not, Bool, true, false, if◌then◌else◌, List, [], ◌∷◌, length, append_assoc, length-append, slice_index_or, refl, sym, ap, ◌∙◌, subst, arith}
 use Rattle.std.proofs.lemmas.Bool.Decides.{Decides-eqb}
-use Rattle.edit_model.specs.Corrections.{path_order}
-use Rattle.edit_model.proofs.OrderLaws.{order-length}
+use Rattle.edit_model.specs.Corrections as corrections
+use Rattle.edit_model.specs.Corrections.{is_numerical, path_order}
+use Rattle.edit_model.specs.declared.field.Field.{Field}
+use Rattle.edit_model.proofs.OrderLaws.{field-below, order-length}
 use Rattle.edit_line.specs.CodeFields.{place_of}
 use Rattle.edit_line.specs.Reductions.{IsIn}
 use Rattle.edit_line.specs.Shapes.{code_fields, has_field, number_fields, place_in, shape_of}
-use Rattle.edit_line.proofs.FieldLists.{there-has}
+use Rattle.edit_line.proofs.FieldLists.{has-append, there-has}
 use Rattle.edit_line.proofs.Members.{in-right}
 use Rattle.bound_cert.specs.Paths.{path_place}
 use Rattle.bound_cert.proofs.Letters.{AreDistinct, order-distinct, other-field}
@@ -15,13 +17,13 @@ use Rattle.edit_paths.proofs.LetterLaws.{order-shape}
 
 -- The places of the fields in path order: each field has its own, and each place is a field's.
 
-index-in : (fields : List ℕ) (k : ℕ) → k < length fields → IsIn (slice_index_or fields k 0) fields
+pub index-in : (fields : List ℕ) (k : ℕ) → k < length fields → IsIn (slice_index_or fields k 0) fields
 index-in [] k below = absurd (omega arith)
 index-in (f ∷ fields) zero below = inl refl
 index-in (f ∷ fields) (suc k) below = inr (index-in fields k (omega arith))
 
 -- the place of the field that stands at a place
-place-own : (fields : List ℕ) (k : ℕ) → AreDistinct fields → k < length fields → place_in fields (slice_index_or fields k 0) ≡ k
+pub place-own : (fields : List ℕ) (k : ℕ) → AreDistinct fields → k < length fields → place_in fields (slice_index_or fields k 0) ≡ k
 place-own [] k apart below = absurd (omega arith)
 place-own (f ∷ fields) zero apart below = ap (λ b. if b then 0 else suc (place_in fields f)) ((Decides-eqb f f).1 refl)
 place-own (f ∷ fields) (suc k) apart below =
@@ -36,6 +38,15 @@ place-behind (g ∷ first) fields f apart =
 distinct-right : (first second : List ℕ) → AreDistinct (first ++ second) → AreDistinct second
 distinct-right [] second apart = apart
 distinct-right (f ∷ first) second apart = distinct-right first second apart.1
+
+-- a field in path order is one of the fields
+pub order-within : (fields : List Field) (f : ℕ) → has_field (path_order fields) f ≡ true → f < length fields
+order-within fields f there =
+    by (has_field (corrections.number_fields fields) f) refl (sym (has-append f (corrections.number_fields fields) (corrections.code_fields fields)) ∙ there)
+  where
+    by : (b : Bool) → has_field (corrections.number_fields fields) f ≡ b → (b || has_field (corrections.code_fields fields) f) ≡ true → f < length fields
+    by true e h = field-below is_numerical fields f e
+    by false e h = field-below (λ k. not (is_numerical k)) fields f h
 
 -- each place in path order is a field's
 pub place-of : (c : Case) (k : ℕ) → k < field_count c → (f : ℕ) × (has_field (path_order c.survey.fields) f ≡ true) × (path_place c.survey.fields f ≡ k)

@@ -1,4 +1,5 @@
-use Rattle.std.specs.Prelude.{◌≡◌, ℕ, Bool, true, false, List, All, Some, map, slice_get, slice_index_or}
+use Rattle.std.specs.Prelude.{◌≡◌, ◌↔◌, ℕ, Bool, true, false, List, All, Some, map, slice_get, slice_index_or}
+use Rattle.edit_model.specs.Corrections.{IsCorrection}
 use Rattle.edit_model.specs.Parts.{SurveyParts}
 use Rattle.edit_model.specs.Points.{HasCodesFrom, Point}
 use Rattle.edit_model.specs.Rows.{IsRow}
@@ -9,7 +10,8 @@ use Rattle.edit_line.specs.Lines.{AllHold, LineParts}
 use Rattle.edit_line.specs.Reductions.{IsIn, reduce_derived}
 use Rattle.edit_line.specs.Shapes.{shape_of}
 
--- what error localisation is about: a survey, linear edits over its fields by their numbers, and a record
+-- what the search is about: a survey, the linear edits that it may use, by their numbers, and a record. (A certificate of
+-- what it finds is checked alone, for the case of a tree, whose lines are all that the edits were chosen from.)
 pub record Case : Type 0 where
   pub survey : SurveyParts
   pub edits : List (ℕ × LineParts)
@@ -27,7 +29,8 @@ pub record IsCase (c : Case) : Type 0 where
 
 -- each edit stands among the given lines, at its number, and is one of those that may be used
 abbrev pub AreGiven : List LineParts → List Bool → List (ℕ × LineParts) → Type 0
-AreGiven given usable edits = (e : ℕ × LineParts) → IsIn e edits → (slice_get given e.0 ≡ Some e.1) × (slice_index_or usable e.0 false ≡ true)
+AreGiven given usable edits =
+    (e : ℕ × LineParts) → IsIn e edits → (slice_get given e.0 ≡ Some e.1) × (slice_index_or usable e.0 false ≡ true)
 
 -- the edits as lines, without their numbers
 abbrev pub edit_lines : Case → List LineParts
@@ -37,3 +40,7 @@ edit_lines c = map (λ (e : ℕ × LineParts). e.1) c.edits
 pub record Meets (c : Case) (p : Point) : Type 0 where
   pub codes : HasCodesFrom 0 c.survey.fields p
   pub edits : AllHold (edit_lines c) p
+
+-- the edits hold exactly at the corrections
+abbrev pub TellCorrections : SurveyParts → EditsParts → List Value → Type 0
+TellCorrections survey edits row = (p : Point) → Meets (case_of survey edits row) p ↔ IsCorrection survey p

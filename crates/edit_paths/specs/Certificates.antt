@@ -29,7 +29,8 @@ leaves_by c path below (ClosedLine i) = leaf path (why.Line (steps_to (line_hist
 leaves_by c path below (ClosedBox i) = leaf path (why.Box (steps_to (box_history c path) i))
 leaves_by c path below (Overflows e) = []
 
--- the leaves from this path on, with so many fields left, letter by letter, of the tree of the paths that were taken: one that was not taken stands by its weight
+-- the leaves from this path on, where this many fields are left, letter by letter, of the tree of the paths that were
+-- taken: a path that was not taken stands by its weight
 abbrev pub leaves_from : Case → List (List Bool) → ℕ → List Bool → List Leaf
 leaves_from c taken zero path = if has_path taken path then leaves_by c path [] (state_of c path) else leaf path why.Bound
 leaves_from c taken (suc left) path =

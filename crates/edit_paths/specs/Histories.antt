@@ -12,7 +12,8 @@ use Rattle.edit_paths.specs.declared.making.Making.{Making}
 use Rattle.edit_paths.specs.declared.making.Making.TheVariants.{By, Same}
 use Rattle.edit_paths.specs.declared.making.Written.{Written}
 
--- A list of lines or boxes is derived from the list before it. A history is these lists, the last one first; of each element it says how it was made.
+-- A list of lines or boxes is derived from the list before it. A history is these lists, the last one first;
+-- of each element it says how it was made.
 
 -- of each derived list, how its elements were made, the last list first
 abbrev pub History : Type 0
@@ -39,7 +40,7 @@ with_lines before lines = map (λ (d : Derived). line_by d.origin) lines ∷ bef
 abbrev pub with_boxes : History → ℕ → List BoxFrom → History
 with_boxes before field boxes = map (λ (b : BoxFrom). box_by field b.origin) boxes ∷ before
 
--- ---- the steps that prove an element
+-- ---- the steps of a derivation that prove an element
 
 -- how the element at a place was made
 abbrev pub making_at : List Making → ℕ → Making
@@ -88,16 +89,21 @@ renumbered number (Fix field part) = Fix field (number part)
 abbrev pub with_step : Element → (ℕ → Element) → Step → List Written → List Written
 with_step element maker step done = done ++ record { element = element; step = renumbered (λ i. number_in done (maker i)) step } ∷ []
 
--- with the steps of its parts first, the first part first, unless the element has a step
+-- whether one of the steps proves the element
+abbrev pub has_step : Element → List Written → Bool
+has_step element done = list_any (λ (w : Written). is_element w.element element) done
+
+-- the step that makes the element, behind the steps of its parts, those of the first part first; none if the element has a step
 abbrev pub proof_by : Element → (ℕ → Element) → (ℕ → List Written → List Written) → Making → List Written → List Written
 proof_by element maker prove (Same place) done = prove place done
 proof_by element maker prove (By step) done =
-    if list_any (λ (w : Written). is_element w.element element) done then done else with_step element maker step (fold (λ done i. prove i done) done (parts_of step))
+    if has_step element done then done else with_step element maker step (fold (λ done i. prove i done) done (parts_of step))
 
 -- the steps, and those that prove the element at a place of the last list: each element once, parts before the whole, the first part first
 abbrev pub with_proof : History → ℕ → List Written → List Written
 with_proof [] place done = done
-with_proof (list ∷ before) place done = proof_by (length before, place) (λ i. maker before i) (λ i done. with_proof before i done) (making_at list place) done
+with_proof (list ∷ before) place done =
+    proof_by (length before, place) (λ i. maker before i) (λ i done. with_proof before i done) (making_at list place) done
 
 -- the steps that prove the element at a place of the last list
 abbrev pub steps_to : History → ℕ → List Step

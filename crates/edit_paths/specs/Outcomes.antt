@@ -1,6 +1,7 @@
 use Rattle.std.specs.Prelude.{ℕ, ◌+◌, ◌++◌, ◌&&◌, Bool, List, [], ◌∷◌, Option, Some, None, if◌then◌else◌, nat_lt}
 use Rattle.std.specs.Option.{unwrap_or}
 use Rattle.bound_cert.specs.Paths.{path_weight}
+use Rattle.bound_cert.specs.declared.cert.Cert.{Cert}
 use Rattle.bound_cert.specs.declared.outcome.Outcome.{Outcome}
 use Rattle.bound_cert.specs.declared.outcome.Outcome.TheVariants as outcome
 use Rattle.edit_paths.specs.Cases.{Case}
@@ -13,19 +14,26 @@ use Rattle.edit_paths.specs.Works.{work_of, work_of_all}
 use Rattle.edit_paths.specs.declared.state.PathState.{PathState}
 use Rattle.edit_paths.specs.declared.state.PathState.TheVariants.{Open, Overflows}
 
+-- the certificate of a change at the path, by the paths taken before it; without them where it weighs nothing
+abbrev pub change_cert : Case → List (List Bool) → List Bool → Cert
+change_cert c taken path =
+    record { leaves = certificate_of c (if nat_lt 0 (path_weight c.survey.fields path) then taken else []) }
+
 -- where a path ends the search, by its state: a number leaves the range, or it is open and says something of all fields
 abbrev pub end_by : Case → List (List Bool) → List Bool → PathState → Option Outcome
 end_by c taken path (Overflows e) = Some (outcome.Overflow path e)
 end_by c taken path Open =
     if is_complete c path
-    then Some (outcome.Change path (path_weight c.survey.fields path) (record { leaves = certificate_of c (if nat_lt 0 (path_weight c.survey.fields path) then taken else []) }))
+    then Some (outcome.Change path (path_weight c.survey.fields path) (change_cert c taken path))
     else None
 end_by c taken path _ = None
 
 -- where the path ends the search after those taken: the work with it passes the budget, or its state does
 abbrev pub end_at : Case → ℕ → List (List Bool) → List Bool → Option Outcome
 end_at c budget taken path =
-    if nat_lt budget (work_of_all c taken + work_of c path) then Some (outcome.Budget path (work_of_all c taken)) else end_by c taken path (state_of c path)
+    if nat_lt budget (work_of_all c taken + work_of c path)
+    then Some (outcome.Budget path (work_of_all c taken))
+    else end_by c taken path (state_of c path)
 
 -- the paths are taken in order after those taken; the first that ends the search gives the outcome
 abbrev pub outcome_from : Case → ℕ → List (List Bool) → List (List Bool) → Outcome

@@ -48,8 +48,10 @@ last_field c path = slice_index_or (path_order c.survey.fields) (length path - 1
 
 -- the point has the record's value at each field that the path keeps
 abbrev pub AgreesAlong : Case → List Bool → Point → Type 0
-AgreesAlong c path p = (f : ℕ) → IsTrue (has_field (path_order c.survey.fields) f) → keeps c.survey.fields path f ≡ true → Agrees c.row p f
+AgreesAlong c path p =
+    (f : ℕ) → IsTrue (has_field (path_order c.survey.fields) f) → keeps c.survey.fields path f ≡ true → Agrees c.row p f
 
 -- the point differs from the record only at fields that the path changes
 abbrev pub DiffersOnlyOn : Case → List Bool → Point → Type 0
-DiffersOnlyOn c path p = (f : ℕ) → IsTrue (has_field (path_order c.survey.fields) f) → Differs c.row p f → changes c.survey.fields path f ≡ true
+DiffersOnlyOn c path p =
+    (f : ℕ) → IsTrue (has_field (path_order c.survey.fields) f) → Differs c.row p f → changes c.survey.fields path f ≡ true

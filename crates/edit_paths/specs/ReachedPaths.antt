@@ -8,9 +8,11 @@ use Rattle.edit_paths.specs.PathStates.{is_open}
 use Rattle.edit_paths.specs.Paths.{field_count}
 use Rattle.edit_paths.specs.States.{IsOpen, state_of}
 
--- whether a path comes before another, or is the same: by weight, and then letter by letter, kept before changed, a prefix before what extends it
+-- whether a path comes before another, or is the same: by weight, and then letter by letter, kept before changed,
+-- a prefix before what extends it
 abbrev pub is_before : List Field → List Bool → List Bool → Bool
-is_before fields a b = nat_lt (path_weight fields a) (path_weight fields b) || ((path_weight fields a == path_weight fields b) && is_first a b)
+is_before fields a b =
+    nat_lt (path_weight fields a) (path_weight fields b) || ((path_weight fields a == path_weight fields b) && is_first a b)
 
 -- the path is reached: all paths that it extends are open
 abbrev pub IsReached : Case → List Bool → Type 0
@@ -24,7 +26,8 @@ kept_next path = path ++ false ∷ []
 abbrev pub changed_next : List Bool → List Bool
 changed_next path = path ++ true ∷ []
 
--- the reached paths from this one on, with so many fields left, letter by letter: an open path leads on to both paths with one field more
+-- the reached paths from this one on, letter by letter, where this many fields are left: an open path leads on to both
+-- paths with one field more
 abbrev pub reached_from : Case → ℕ → List Bool → List (List Bool)
 reached_from c zero path = path ∷ []
 reached_from c (suc left) path =

@@ -10,8 +10,13 @@ use Rattle.edit_paths.specs.States.{state_of}
 abbrev pub next_paths : Case → List Bool → List (List Bool)
 next_paths c path = if is_open (state_of c path) && not (is_complete c path) then kept_next path ∷ changed_next path ∷ [] else []
 
--- a best-first walk from the ends on, for so many paths: the first end is taken, and the paths that it leads on to are new ends
+-- the ends after the path is taken: the other ends, and the paths that it leads on to, in order
+abbrev pub ends_after : Case → List Bool → List (List Bool) → List (List Bool)
+ends_after c path ends = fold (placed (is_before c.survey.fields)) ends (next_paths c path)
+
+-- a best-first walk from the ends on, for at most this many paths: the first end is taken, and the paths that it leads
+-- on to are new ends
 abbrev pub walk : Case → ℕ → List (List Bool) → List (List Bool)
 walk c zero ends = []
 walk c (suc more) [] = []
-walk c (suc more) (path ∷ ends) = path ∷ walk c more (fold (placed (is_before c.survey.fields)) ends (next_paths c path))
+walk c (suc more) (path ∷ ends) = path ∷ walk c more (ends_after c path ends)

@@ -12,7 +12,9 @@ use Rattle.edit_paths.specs.States.{boxes_along, lines_along}
 -- the pairs of lines, or of covers and boxes, that are combined where the path changes the field next
 abbrev pub pairs_next : Case → List Bool → ℕ → ℕ
 pairs_next c path f =
-    if has_field (number_fields (shape_of c.survey.fields)) f then pairs_count (lines_along c path) f else cover_count (shape_of c.survey.fields) (sets_of (boxes_along c path)) f
+    if has_field (number_fields (shape_of c.survey.fields)) f
+    then pairs_count (lines_along c path) f
+    else cover_count (shape_of c.survey.fields) (sets_of (boxes_along c path)) f
 
 -- the work of a path: 1, and, where its last letter says changed, the pairs that this combines
 abbrev pub work_of : Case → List Bool → ℕ

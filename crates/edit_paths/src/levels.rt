@@ -57,8 +57,8 @@ pub(crate) fn earlier_at(level: &Level, place: u64) -> Option<u64>
     }
 }
 
-// How a line with this origin was made.
-fn line_by(origin: Origin) -> Making
+/// How a line with this origin was made. No memory.
+pub fn line_by(origin: Origin) -> Making
     ensures { result ≡ line_by origin }
 {
     match origin {
@@ -68,8 +68,8 @@ fn line_by(origin: Origin) -> Making
     }
 }
 
-// How a box with this origin was made, where the field was treated last.
-fn box_by(alloc: Global, field: u32, origin: &BoxOrigin) -> Result<Making, OutOfMemory>
+/// How a box with this origin was made, where the field was treated last.
+pub fn box_by(alloc: Global, field: u32, origin: &BoxOrigin) -> Result<Making, OutOfMemory>
     ensures { IfOk result (λ making. making ≡ box_by field origin.now) }
 {
     match origin {

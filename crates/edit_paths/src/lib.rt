@@ -4,6 +4,7 @@
 //! record), and `specs/States.antt`, which says when a path is closed ([`path_laws`]).
 #![tactic(auto)]
 
+mod case;
 mod laws;
 mod levels;
 mod making;
@@ -13,8 +14,9 @@ mod step_list;
 mod tests;
 mod writing;
 
+pub use case::case_known;
 pub use laws::{outcome_laws, path_laws};
-pub use levels::Level;
+pub use levels::{Level, box_by, line_by};
 pub use making::{Making, Written};
 pub use state::PathState;
-pub use writing::write_steps;
+pub use writing::{parts_of, write_steps};

@@ -1,6 +1,5 @@
 ghost use Rattle.std.specs.Prelude.{◌≡◌, ◌++◌, ◌∷◌, [], IfOk, OnOk, false, map};
-ghost use Rattle.std.specs.List.{list_any};
-ghost use Rattle.edit_paths.specs.Histories.{is_element, number_in};
+ghost use Rattle.edit_paths.specs.Histories.{has_step, number_in};
 
 use crate::making::Written;
 use derivation::Step;
@@ -41,7 +40,7 @@ impl StepList {
 
     /// Whether the element has a step. No memory.
     pub(crate) fn has(&self, element: (u64, u64)) -> bool
-        ensures { result ≡ list_any (λ w. is_element w.element element) self.now }
+        ensures { result ≡ has_step element self.now }
     {
         self.numbers.contains_key(&element)
     }
@@ -58,7 +57,7 @@ impl StepList {
 
     /// Appends the step of an element that has none; on a refusal of memory the list is as before.
     pub(crate) fn push(&mut self, element: (u64, u64), step: Step) -> Result<(), OutOfMemory>
-        requires { list_any (λ w. is_element w.element element) self.old ≡ false }
+        requires { has_step element self.old ≡ false }
         ensures { OnOk result (self.new ≡ self.old ++ record { element = element; step = step } ∷ []) }
     {
         let number = self.written.len() as u64;

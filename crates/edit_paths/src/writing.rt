@@ -70,8 +70,8 @@ fn maker(levels: &[Level], place: u64) -> (u64, u64)
     }
 }
 
-// The places that a step builds on, in order.
-fn parts_of(alloc: Global, step: &Step) -> Result<Vec<u64>, OutOfMemory>
+/// The places that a step builds on, in order.
+pub fn parts_of(alloc: Global, step: &Step) -> Result<Vec<u64>, OutOfMemory>
     ensures { IfOk result (λ parts. parts.items ≡ parts_of step.now) }
 {
     match step {

@@ -1,36 +1,24 @@
 -- The fields that a path changes, one place of the path order after the other.
-use Rattle.std.proofs.Common.{◌≡◌, ℕ, zero, suc, ◌+◌, ◌<◌, ◌≤◌, ◌==◌, ◌&&◌, ◌||◌, not, Bool, true, false, if◌then◌else◌, List, [], ◌∷◌, ◌++◌, get_or, length, take, inl, inr, refl, sym, ap, ◌∙◌, arith}
+use Rattle.std.proofs.Common.{◌≡◌, ℕ, zero, suc, ◌+◌, ◌<◌, ◌≤◌, ◌==◌, ◌&&◌, ◌||◌, Bool, true, false, if◌then◌else◌, List, [], ◌∷◌, ◌++◌, get_or, length, take, refl, sym, ap, ◌∙◌, arith}
 use Rattle.std.specs.Prelude.{All}
 use Rattle.std.specs.List.{filter}
 use Rattle.std.proofs.lemmas.Bool.Decides.{Decides-eqb}
 use Rattle.std.proofs.lemmas.List.{append-nil, take_all, take_more}
 use Rattle.std.proofs.lemmas.List.Elements.{filter-append}
-use Rattle.edit_model.specs.Corrections.{code_fields, is_numerical, number_fields, path_order}
+use Rattle.edit_model.specs.Corrections.{path_order}
 use Rattle.edit_model.specs.FieldSets.{has_field, has_number}
 use Rattle.edit_model.specs.declared.field.Field.{Field}
-use Rattle.edit_model.proofs.OrderLaws.{field-below, order-length}
-use Rattle.edit_line.specs.Reductions.{IsIn}
+use Rattle.edit_model.proofs.OrderLaws.{order-length}
 use Rattle.edit_line.specs.Shapes.{place_in}
 use Rattle.edit_line.proofs.FieldLists.{has-append, there-has}
-use Rattle.edit_line.proofs.Members.{all-in, in-either, in-filter-out}
+use Rattle.edit_line.proofs.Members.{all-in, in-filter-out}
 use Rattle.bound_cert.specs.Paths.{changes}
 use Rattle.bound_cert.specs.Trees.{all_kept}
-use Rattle.bound_cert.proofs.Letters.{AreDistinct, order-distinct, other-field}
+use Rattle.bound_cert.proofs.Letters.{order-distinct}
+use Rattle.edit_paths.proofs.FieldPlaces.{order-within, place-own}
 use Rattle.edit_report.specs.Ends.{changed_fields}
 
 -- ---- letters and their fields
-
-index-in : (fields : List ℕ) (k : ℕ) → k < length fields → IsIn (get_or fields k 0) fields
-index-in [] k below = absurd (omega arith)
-index-in (f ∷ fields) zero below = inl refl
-index-in (f ∷ fields) (suc k) below = inr (index-in fields k (omega arith))
-
--- the place of the field that stands at a place
-place-own : (fields : List ℕ) (k : ℕ) → AreDistinct fields → k < length fields → place_in fields (get_or fields k 0) ≡ k
-place-own [] k apart below = absurd (omega arith)
-place-own (f ∷ fields) zero apart below = ap (λ b. if b then 0 else suc (place_in fields f)) ((Decides-eqb f f).1 refl)
-place-own (f ∷ fields) (suc k) apart below =
-    ap (λ b. if b then 0 else suc (place_in fields (get_or fields k 0))) (other-field f (get_or fields k 0) fields apart.0 (index-in fields k (omega arith))) ∙ ap suc (place-own fields k apart.1 (omega arith))
 
 -- whether the field at a place is changed, its letter says
 letter-at : (fields : List Field) (path : List Bool) (i : ℕ) → i < length (path_order fields) → changes fields path (get_or (path_order fields) i 0) ≡ get_or path i false
@@ -109,12 +97,9 @@ module _ (fields : List Field) (path : List Bool) where
   pub list-all : (items : List ℕ) (i : ℕ) → length fields ≤ i → items ≡ filter (changes fields path) (take i (path_order fields)) → items ≡ changed_fields fields path
   list-all items i past before = before ∙ ap (filter (changes fields path)) (take_all i (path_order fields) (omega (arith, past, order-length fields)))
 
-order-within : (fields : List Field) (f : ℕ) → IsIn f (path_order fields) → f < length fields
-order-within fields f there = elim (in-either f (number_fields fields) (code_fields fields) there) [ inl a ↦ field-below is_numerical fields f (there-has f _ a) | inr b ↦ field-below (λ k. not (is_numerical k)) fields f (there-has f _ b) ]
-
 -- changed fields are fields
 pub changed-within : (fields : List Field) (path : List Bool) → All (λ (f : ℕ). f < length fields) (changed_fields fields path)
-changed-within fields path = all-in _ (changed_fields fields path) (λ f there. order-within fields f (in-filter-out (changes fields path) f (path_order fields) there).0)
+changed-within fields path = all-in _ (changed_fields fields path) (λ f there. order-within fields f (there-has f (path_order fields) (in-filter-out (changes fields path) f (path_order fields) there).0))
 
 -- ---- a path that keeps all its fields
 

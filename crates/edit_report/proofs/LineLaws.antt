@@ -1,5 +1,5 @@
 -- How many rows and lines there are.
-use Rattle.std.proofs.Common.{IfSome, ◌≡◌, ℕ, suc, ◌+◌, ◌&&◌, Bool, true, false, if◌then◌else◌, List, [], ◌∷◌, ◌++◌, Option, Some, None, length, length-append, refl, ap, ◌∙◌, arith, subst}
+use Rattle.std.proofs.Common.{IfSome, ◌≡◌, ℕ, suc, ◌+◌, ◌&&◌, Bool, true, false, if◌then◌else◌, List, [], ◌∷◌, Option, Some, None, length, length-append, refl, ap, ◌∙◌, arith, subst}
 use Rattle.std.specs.Prelude.{is_none, is_some}
 use Rattle.std.specs.List.{filter}
 use Rattle.edit_model.specs.Corrections.{path_order}

@@ -23,7 +23,8 @@ path_found (Contradictory cert) = []
 abbrev pub changed_fields : List Field → List Bool → List ℕ
 changed_fields fields path = filter (changes fields path) (path_order fields)
 
--- a record of the survey, and how the value at each field that the path changes was found; the path says something of no more fields than there are
+-- a record of the survey, and how the value at each field that the path changes was found; the path says something of no
+-- more fields than the survey has
 pub record IsGift (fields : List Field) (path : List Bool) (gift : Gift) : Type 0 where
   pub short : length path ≤ length fields
   pub row : IsRow fields gift.row

@@ -68,7 +68,8 @@ cause_text (Contradictory cert) = codes "contradictory"
 
 -- the lines at which a number left the range in the search, and the field there
 abbrev pub event_text : List Field → Event → List ℕ
-event_text fields (Step first second at) = codes " lines " ++ (number_text first ++ (codes " " ++ (number_text second ++ (codes " at " ++ place_text fields at))))
+event_text fields (Step first second at) =
+    codes " lines " ++ (number_text first ++ (codes " " ++ (number_text second ++ (codes " at " ++ place_text fields at))))
 event_text fields (Test line field) = codes " line " ++ (number_text line ++ (codes " at " ++ name_of fields field))
 
 -- where a number left the range when values were given
@@ -91,20 +92,33 @@ abbrev pub unresolved_line : List Field → ℕ → RowProof → List (List ℕ)
 unresolved_line fields number found =
     number_text number ∷ cause_text found.outcome ∷ [] ∷ [] ∷ [] ∷ [] ∷ detail_text fields found.outcome found.gift ∷ []
 
--- the line of a changed field: its name, the text that was read, that of the new value, the donor, and how the value was found
+-- the texts of the line of a changed field: the record's number, the field's name, the text that was read, that of the new
+-- value, the donor's number, and how the value was found
+abbrev pub line_texts : List ℕ → List ℕ → List ℕ → List ℕ → List ℕ → List ℕ → List (List ℕ)
+line_texts number name before after donor how = number ∷ codes "changed" ∷ name ∷ before ∷ after ∷ donor ∷ how ∷ []
+
+-- the text that was read for the field
+abbrev pub text_before : List ℕ → List (List ℕ) → ℕ → List ℕ
+text_before columns texts f = slice_index_or texts (slice_index_or columns f 0) []
+
+-- the line of a changed field
 abbrev pub changed_line : List Field → List ℕ → ℕ → List (List ℕ) → Option ℕ → List Value → ℕ → How → List (List ℕ)
 changed_line fields columns number texts donor new f how =
-    number_text number ∷ codes "changed" ∷ name_of fields f ∷ slice_index_or texts (slice_index_or columns f 0) [] ∷ text_at fields new f ∷ donor_text donor ∷ how_text how ∷ []
+    line_texts (number_text number) (name_of fields f) (text_before columns texts f) (text_at fields new f) (donor_text donor)
+    (how_text how)
 
 -- the lines of the changed fields, each with how its value was found
 abbrev pub changed_lines : List Field → List ℕ → ℕ → List (List ℕ) → Option ℕ → List Value → List ℕ → List How → List (List (List ℕ))
-changed_lines fields columns number texts donor new (f ∷ changed) (how ∷ hows) = changed_line fields columns number texts donor new f how ∷ changed_lines fields columns number texts donor new changed hows
+changed_lines fields columns number texts donor new (f ∷ changed) (how ∷ hows) =
+    changed_line fields columns number texts donor new f how
+    ∷ changed_lines fields columns number texts donor new changed hows
 changed_lines fields columns number texts donor new _ _ = []
 
 -- the lines of a record, by whether it was given values
 abbrev pub lines_with : List Field → List ℕ → ℕ → List (List ℕ) → RowProof → Option ℕ → Option Gift → List (List (List ℕ))
 lines_with fields columns number texts found donor None = unresolved_line fields number found ∷ []
-lines_with fields columns number texts found donor (Some gift) = changed_lines fields columns number texts donor gift.row (changed_fields fields (path_found found.outcome)) gift.how
+lines_with fields columns number texts found donor (Some gift) =
+    changed_lines fields columns number texts donor gift.row (changed_fields fields (path_found found.outcome)) gift.how
 
 -- the lines of a record: one for each field that is changed, in path order, and one for a record that is not released
 abbrev pub reasons_of : List Field → List ℕ → ℕ → List (List ℕ) → RowEnd → List (List (List ℕ))
@@ -118,7 +132,8 @@ reasons_header = codes "record" ∷ codes "cause" ∷ codes "field" ∷ codes "b
 
 -- the lines of the records from this number on, in order
 abbrev pub reasons_from : List Field → List ℕ → ℕ → List (List (List ℕ)) → List RowEnd → List (List (List ℕ))
-reasons_from fields columns number (texts ∷ raws) (end ∷ ends) = reasons_of fields columns number texts end ++ reasons_from fields columns (suc number) raws ends
+reasons_from fields columns number (texts ∷ raws) (end ∷ ends) =
+    reasons_of fields columns number texts end ++ reasons_from fields columns (suc number) raws ends
 reasons_from fields columns number _ _ = []
 
 -- the reasons file: the header and the lines of all records, as csv writes them

@@ -31,7 +31,8 @@ text_by (Some field) v = text_of field.kind v
 abbrev pub text_at : List Field → List Value → ℕ → List ℕ
 text_at fields row f = text_by (slice_get fields f) (value_of row f)
 
--- the text of a column afterwards: that of the new value, where the field that stands there is changed; else the one that was read
+-- the text of a column afterwards: that of the new value, where the field that stands there is changed, and else the one
+-- that was read
 abbrev pub column_text : List Field → (ℕ → Bool) → List Value → Option ℕ → List ℕ → List ℕ
 column_text fields changed new None read = read
 column_text fields changed new (Some f) read = if changed f then text_at fields new f else read
@@ -39,7 +40,8 @@ column_text fields changed new (Some f) read = if changed f then text_at fields 
 -- the texts of the columns from number j on
 abbrev pub texts_from : List Field → List ℕ → (ℕ → Bool) → List Value → ℕ → List (List ℕ) → List (List ℕ)
 texts_from fields columns changed new j [] = []
-texts_from fields columns changed new j (text ∷ texts) = column_text fields changed new (field_in columns j) text ∷ texts_from fields columns changed new (suc j) texts
+texts_from fields columns changed new j (text ∷ texts) =
+    column_text fields changed new (field_in columns j) text ∷ texts_from fields columns changed new (suc j) texts
 
 -- a released row, column by column
 abbrev pub released_texts : List Field → List ℕ → List Bool → List Value → List (List ℕ) → List (List ℕ)

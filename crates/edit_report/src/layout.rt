@@ -16,8 +16,7 @@ pub(crate) struct Layout {
 
 impl Model for Layout {
     ghost use Rattle.std.specs.Prelude.{length};
-    ghost use Rattle.edit_report.specs.Layouts.{LayoutParts};
-    ghost use Rattle.edit_report.specs.inner.Columns.{AreFieldsIn};
+    ghost use Rattle.edit_report.specs.inner.Columns.{AreFieldsIn, LayoutParts};
 
     ghost Value = { LayoutParts };
 
@@ -61,7 +60,7 @@ impl Layout {
     }
 }
 
-// For each of so many columns the field that stands there.
+// For each column of a row of this width, the field that stands there.
 fn fields_of(
     alloc: Global,
     columns: &[u32],

@@ -1,12 +1,12 @@
 //! The reasons file.
-ghost use Rattle.std.specs.Prelude.{◌≡◌, ◌<◌, ◌++◌, ◌∷◌, [], ℕ, List, None, IfOk, OnOk, codes, length};
+ghost use Rattle.std.specs.Prelude.{◌≡◌, ◌<◌, ◌∷◌, [], ℕ, List, IfOk, OnOk, length};
 ghost use Rattle.record_text.specs.Sheets.{IsSheet};
-ghost use Rattle.record_text.specs.Texts.{records_text};
 ghost use Rattle.record_text.specs.Written.{HasWritten};
 ghost use Rattle.edit_model.specs.Rows.{IsRow};
-ghost use Rattle.edit_report.specs.Ends.{AreEnds, IsEnd, IsGift, changed_fields, path_found};
-ghost use Rattle.edit_report.specs.Layouts.{IsLayout};
-ghost use Rattle.edit_report.specs.Reasons.{changed_line, changed_lines, donor_text, how_text, reasons_header, reasons_of, reasons_text_of, unresolved_line};
+ghost use Rattle.edit_report.specs.Ends.{AreEnds, IsEnd, IsGift, path_found};
+ghost use Rattle.edit_report.specs.Reasons.{line_texts, donor_text, how_text, reasons_header, reasons_text_of, unresolved_line};
+ghost use Rattle.edit_report.specs.inner.Columns.{IsLayout};
+ghost use Rattle.edit_report.specs.inner.Lines.{Adds, field_line, gift_lines, record_lines};
 
 use crate::changed::{changed_fields, path_found};
 use crate::detail::{cause_text, detail_text, name_of, number_text};
@@ -56,7 +56,7 @@ pub fn reasons_text(
 
 // Writes the header.
 fn push_header(writer: &mut RecordWriter) -> Result<(), OutOfMemory>
-    ensures { OnOk result ((bytes : List ℕ) → HasWritten writer.old bytes → HasWritten writer.new (bytes ++ records_text (reasons_header ∷ []))) }
+    ensures { OnOk result (Adds HasWritten writer.old writer.new (reasons_header ∷ [])) }
 {
     writer.push_slices(&[
         b"record", b"cause", b"field", b"before", b"after", b"donor", b"detail",
@@ -74,7 +74,7 @@ fn push_reasons(
     requires layout { IsLayout survey.now.fields layout.now }
     requires width { length record.now.read.now ≡ layout.now.width }
     requires end { IsEnd survey.now.fields record.now.end.now }
-    ensures { OnOk result ((bytes : List ℕ) → HasWritten writer.old bytes → HasWritten writer.new (bytes ++ records_text (reasons_of survey.now.fields layout.now.columns record.now.number record.now.read.now record.now.end.now))) }
+    ensures { OnOk result (Adds HasWritten writer.old writer.new (record_lines survey.now.fields layout.now record.now)) }
 {
     match &record.end.gift {
         None => push_unresolved(alloc, writer, survey, record.number, &record.end.proof),
@@ -90,7 +90,7 @@ fn push_unresolved(
     number: u32,
     found: &RowProof,
 ) -> Result<(), OutOfMemory>
-    ensures { OnOk result ((bytes : List ℕ) → HasWritten writer.old bytes → HasWritten writer.new (bytes ++ records_text (unresolved_line survey.now.fields number found.now ∷ []))) }
+    ensures { OnOk result (Adds HasWritten writer.old writer.new (unresolved_line survey.now.fields number found.now ∷ [])) }
 {
     let number = number_text(alloc, number)?;
     let detail = detail_text(alloc, survey, found)?;
@@ -117,7 +117,7 @@ fn push_changes(
     requires layout { IsLayout survey.now.fields layout.now }
     requires width { length record.now.read.now ≡ layout.now.width }
     requires gift { IsGift survey.now.fields (path_found record.now.end.now.proof.outcome) gift.now }
-    ensures { OnOk result ((bytes : List ℕ) → HasWritten writer.old bytes → HasWritten writer.new (bytes ++ records_text (changed_lines survey.now.fields layout.now.columns record.now.number record.now.read.now record.now.end.now.donor gift.now.row (changed_fields survey.now.fields (path_found record.now.end.now.proof.outcome)) gift.now.how))) }
+    ensures { OnOk result (Adds HasWritten writer.old writer.new (gift_lines survey.now.fields layout.now record.now gift.now)) }
 {
     let changed = changed_fields(alloc, survey, path_found(&record.end.proof.outcome))?;
     let fields = changed.as_slice();
@@ -152,7 +152,8 @@ fn push_change(
     requires width { length record.now.read.now ≡ layout.now.width }
     requires new { IsRow survey.now.fields new.now }
     requires field { field < length survey.now.fields }
-    ensures { OnOk result ((bytes : List ℕ) → HasWritten writer.old bytes → HasWritten writer.new (bytes ++ records_text (changed_line survey.now.fields layout.now.columns record.now.number record.now.read.now record.now.end.now.donor new.now field how ∷ []))) }
+    ensures { OnOk result
+        (Adds HasWritten writer.old writer.new (field_line survey.now.fields layout.now record.now new.now field how ∷ [])) }
 {
     let number = number_text(alloc, record.number)?;
     let after = text_at(alloc, survey, new, field)?;
@@ -172,7 +173,8 @@ fn push_line<'a>(
     donor: &'a [u8],
     how: &'a [u8],
 ) -> Result<(), OutOfMemory>
-    ensures { OnOk result ((bytes : List ℕ) → HasWritten writer.old bytes → HasWritten writer.new (bytes ++ records_text ((number.now ∷ codes "changed" ∷ name.now ∷ before.now ∷ after.now ∷ donor.now ∷ how.now ∷ []) ∷ []))) }
+    ensures { OnOk result
+        (Adds HasWritten writer.old writer.new (line_texts number.now name.now before.now after.now donor.now how.now ∷ [])) }
 {
     writer.push_slices(&[number, b"changed", name, before, after, donor, how])
 }

@@ -1,13 +1,13 @@
 //! The released file.
-ghost use Rattle.std.specs.Prelude.{◌≡◌, ◌<◌, ◌≤◌, ◌++◌, ◌∷◌, [], if◌then◌else◌, ℕ, List, Some, IfOk, OnOk, length, slice_index_or};
+ghost use Rattle.std.specs.Prelude.{◌≡◌, ◌<◌, ◌≤◌, ◌++◌, ◌∷◌, [], ℕ, List, Some, IfOk, OnOk, length};
 ghost use Rattle.edit_model.specs.FieldSets.{has_number};
 ghost use Rattle.edit_model.specs.Rows.{IsRow};
 ghost use Rattle.record_text.specs.Sheets.{IsSheet};
-ghost use Rattle.record_text.specs.Texts.{records_text};
 ghost use Rattle.record_text.specs.Written.{HasWritten};
 ghost use Rattle.edit_report.specs.Ends.{AreEnds, IsEnd};
-ghost use Rattle.edit_report.specs.Layouts.{IsLayout, field_in};
 ghost use Rattle.edit_report.specs.Released.{column_text, released_text_of, released_texts, row_of, row_with, text_at};
+ghost use Rattle.edit_report.specs.inner.Columns.{IsLayout, column_at, row_texts};
+ghost use Rattle.edit_report.specs.inner.Lines.{Adds};
 
 use crate::changed::{all_kept, changed_set, path_found};
 use crate::end::RowEnd;
@@ -53,7 +53,7 @@ fn push_released(
     requires layout { IsLayout survey.now.fields layout.now }
     requires width { length read.now ≡ layout.now.width }
     requires end { IsEnd survey.now.fields end.now }
-    ensures { OnOk result ((bytes : List ℕ) → HasWritten writer.old bytes → HasWritten writer.new (bytes ++ records_text (row_of survey.now.fields layout.now.columns read.now end.now))) }
+    ensures { OnOk result (Adds HasWritten writer.old writer.new (row_of survey.now.fields layout.now.columns read.now end.now)) }
 {
     match &end.gift {
         None => Ok(()),
@@ -78,7 +78,8 @@ fn push_row(
     requires width { length read.now ≡ layout.now.width }
     requires short { length path.now ≤ length survey.now.fields }
     requires new { IsRow survey.now.fields new.now }
-    ensures { OnOk result ((bytes : List ℕ) → HasWritten writer.old bytes → HasWritten writer.new (bytes ++ records_text (released_texts survey.now.fields layout.now.columns path.now new.now read.now ∷ []))) }
+    ensures { OnOk result
+        (Adds HasWritten writer.old writer.new (row_texts survey.now.fields layout.now path.now new.now read.now ∷ [])) }
 {
     if all_kept(path) {
         return writer.push(read);
@@ -127,7 +128,8 @@ fn push_column(
     requires width { length read.now ≡ layout.now.width }
     requires new { IsRow survey.now.fields new.now }
     requires column { column < layout.now.width }
-    ensures { OnOk result (texts.new ≡ texts.old ++ column_text survey.now.fields (has_number changed) new.now (field_in layout.now.columns column) (slice_index_or read.now column []) ∷ []) }
+    ensures { OnOk result (texts.new ≡ texts.old
+        ++ column_at survey.now.fields layout.now.columns changed new.now read.now column ∷ []) }
 {
     match layout.field_at(column) {
         None => texts.push(read.get(column)),
@@ -147,7 +149,7 @@ fn push_text(
 ) -> Result<(), OutOfMemory>
     requires new { IsRow survey.now.fields new.now }
     requires field { field < length survey.now.fields }
-    ensures { OnOk result (texts.new ≡ texts.old ++ (if has_number changed field then text_at survey.now.fields new.now field else read.now) ∷ []) }
+    ensures { OnOk result (texts.new ≡ texts.old ++ column_text survey.now.fields (has_number changed) new.now (Some field) read.now ∷ []) }
 {
     let _fields = survey.fields(); // read for what it says: there are at most 64
     let field = field as u32;

@@ -29,7 +29,7 @@ use Rattle.bound_cert.specs.Paths.{changes, keeps_bad}
 use Rattle.bound_cert.proofs.Letters.{kept-any, kept_in}
 use Rattle.edit_paths.specs.Cases.{Case, IsCase}
 use Rattle.edit_paths.specs.Paths.{before_last, changed_numbers, field_count, last_letter, number_count, treated_codes}
-use Rattle.edit_paths.specs.States.{IsOpen, boxes_after, boxes_along, first_boxes, first_failing, lines_along, or_empty, state_of, state_with_boxes, state_with_system}
+use Rattle.edit_paths.specs.States.{IsOpen, boxes_after, boxes_along, first_boxes, first_failing, lines_along, or_empty, state_of, state_with_boxes, state_with_system, whole_state}
 use Rattle.edit_paths.specs.Works.{pairs_next, work_of}
 use Rattle.edit_paths.specs.declared.state.PathState.TheVariants.{ClosedBad, Open}
 use Rattle.edit_paths.proofs.ChildLaws.{changes-next, child-boxes, child-numbers-same, child-work}
@@ -43,7 +43,7 @@ use Rattle.localise_tree.specs.declared.looks.Basis.TheVariants.{Boxes, Lines}
 use Rattle.localise_tree.specs.declared.looks.Look.{Look}
 use Rattle.localise_tree.specs.inner.Bases.{IsBasis}
 use Rattle.localise_tree.specs.inner.Nodes.{IsLook, TellsLook}
-use Rattle.localise_tree.specs.inner.Tries.{AreBoxes, IsChanged, IsKept, whole_state}
+use Rattle.localise_tree.specs.inner.Tries.{AreBoxes, IsChanged, IsKept}
 use Rattle.localise_tree.proofs.LastLetters.{split-last}
 use Rattle.localise_tree.proofs.NumberPathLaws.{in-index}
 use Rattle.localise_tree.proofs.ProblemLaws.{placed-at}

@@ -1,5 +1,5 @@
-use Rattle.std.specs.Prelude.{◌≡◌, ◌↔◌, ◌≤◌, ℕ, Bool, List, Some, None}
-use Rattle.edit_model.specs.Corrections.{IsCorrection, IsFirstLeast, IsLeastWeight}
+use Rattle.std.specs.Prelude.{◌≡◌, ◌≤◌, ℕ, Bool, List, Some, None}
+use Rattle.edit_model.specs.Corrections.{IsFirstLeast, IsLeastWeight}
 use Rattle.edit_model.specs.Parts.{SurveyParts}
 use Rattle.edit_model.specs.Points.{Point}
 use Rattle.edit_model.specs.declared.value.Value.{Value}
@@ -11,7 +11,7 @@ use Rattle.bound_cert.specs.declared.cert.Cert.{Cert}
 use Rattle.bound_cert.specs.declared.outcome.Event.{Event}
 use Rattle.bound_cert.specs.declared.outcome.Outcome.{Outcome}
 use Rattle.bound_cert.specs.declared.outcome.Outcome.TheVariants as outcome
-use Rattle.edit_paths.specs.Cases.{AreGiven, Case, Meets, case_of}
+use Rattle.edit_paths.specs.Cases.{AreGiven, Case, Meets, TellCorrections}
 use Rattle.edit_paths.specs.Choices.{IsChoice}
 use Rattle.edit_paths.specs.Outcomes.{total_work}
 use Rattle.localise_tree.specs.KeptFields.{KeepsChanged}
@@ -23,10 +23,11 @@ abbrev pub ChoosesFirst : Case → Outcome → Type 0
 ChoosesFirst c o = (path : List Bool) (weight : ℕ) (cert : Cert) → o ≡ outcome.Change path weight cert
     → IsChoice c path × (weight ≡ path_weight c.survey.fields path)
 
--- where the edits hold exactly at the consistent points, the weight of a change is the least of all corrections, and its path the first that has it
+-- where the edits hold exactly at the corrections, the weight of a change is the least of all corrections, and its path
+-- the first that has it
 abbrev pub ChoosesLeast : SurveyParts → EditsParts → List Value → Outcome → Type 0
 ChoosesLeast survey edits row o = (path : List Bool) (weight : ℕ) (cert : Cert) → o ≡ outcome.Change path weight cert
-    → ((p : Point) → Meets (case_of survey edits row) p ↔ IsCorrection survey p)
+    → TellCorrections survey edits row
     → IsLeastWeight survey row weight × IsFirstLeast survey row path
 
 -- the certificate of a change is a valid tree with its weight, whatever the given lines are among which the edits stand
@@ -39,7 +40,7 @@ Certifies c o = (path : List Bool) (weight : ℕ) (cert : Cert) → o ≡ outcom
 abbrev pub NoneMeets : Case → Outcome → Type 0
 NoneMeets c o = (cert : Cert) → o ≡ outcome.Contradictory cert → (p : Point) → ¬ Meets c p
 
--- the certificate of a contradiction is a valid tree without a weight
+-- the certificate of a contradiction is a valid tree without a weight, whatever the given lines are
 abbrev pub Refutes : Case → Outcome → Type 0
 Refutes c o = (cert : Cert) → o ≡ outcome.Contradictory cert
     → (given : List LineParts) (usable : List Bool) → AreGiven given usable c.edits

@@ -19,7 +19,7 @@ use crate::problem::{Problem, field_count};
 use bound_cert::{Cert, Outcome, Path};
 use edit_line::Edits;
 use edit_model::{Row, Survey};
-use edit_paths::PathState;
+use edit_paths::{PathState, case_known};
 use foundation::{OutOfMemory, Steps};
 use linear_elim::Systems;
 use std::alloc::Global;
@@ -60,8 +60,7 @@ pub fn localise<S: Systems, L: Ledger>(
     ensures serves { (e : EditsParts) → S.serves source.old e → S.serves source.new e }
     ensures keeps { (f : ℕ) → S.keeps source.old f ≡ true → S.keeps source.new f ≡ true }
 {
-    let _fields = survey.fields(); // read for what they say: the fields and the edits are in form
-    let _lines = edits.reduced();
+    case_known(survey, edits, row);
     let wholes = edits.shape().whole_sets(alloc)?;
     let problem = Problem {
         survey,
@@ -72,7 +71,7 @@ pub fn localise<S: Systems, L: Ledger>(
     search(alloc, source, &problem, budget, steps)
 }
 
-// The same of a problem.
+// What is found of the record of the problem.
 fn search<S: Systems, L: Ledger>(
     alloc: Global,
     source: &mut S,

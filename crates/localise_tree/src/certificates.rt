@@ -1,14 +1,13 @@
 //! The certificate of an outcome: the leaves of the tree of the paths that were taken.
-ghost use Rattle.std.specs.Prelude.{◌≡◌, ◌-◌, ◌≤◌, ◌++◌, [], ℕ, Bool, List, IfOk, OnOk, length, true};
+ghost use Rattle.std.specs.Prelude.{◌≡◌, ◌≤◌, ◌++◌, ℕ, IfOk, OnOk, length, true};
 ghost use Rattle.std.specs.List.{AllByRecursion};
 ghost use Rattle.edit_line.specs.EditSets.{EditsParts};
-ghost use Rattle.edit_paths.specs.Cases.{Case};
-ghost use Rattle.edit_paths.specs.Certificates.{certificate_of, leaf, leaves_by};
+ghost use Rattle.edit_paths.specs.Certificates.{certificate_of, leaf};
 ghost use Rattle.edit_paths.specs.Paths.{field_count};
-ghost use Rattle.localise_tree.specs.inner.Histories.{HasListsBefore, LeadTo};
-ghost use Rattle.localise_tree.specs.inner.Knowns.{Knows};
+ghost use Rattle.localise_tree.specs.inner.Histories.{AddsClosed, HasListsBefore};
+ghost use Rattle.localise_tree.specs.inner.Knowns.{AddsTree};
 ghost use Rattle.localise_tree.specs.inner.Problems.{IsProblem, case_in, edits_in};
-ghost use Rattle.localise_tree.specs.inner.Takens.{IsTaken, leaves_below, taken_paths};
+ghost use Rattle.localise_tree.specs.inner.Takens.{IsTaken, taken_paths};
 
 use crate::best_first::Taken;
 use crate::histories::push_lists;
@@ -75,8 +74,8 @@ fn push_leaves<S: Systems, L: Ledger>(
     requires before { HasListsBefore (case_in problem.now) letters.old.items levels.old.items }
     ensures letters { OnOk result (letters.new.items ≡ letters.old.items) }
     ensures levels { OnOk result (levels.new.items ≡ levels.old.items) }
-    ensures leaves { OnOk result ((paths : List (List Bool)) → Knows (case_in problem.now) paths known.now
-        → leaves.new.items ≡ leaves.old.items ++ leaves_below (case_in problem.now) paths letters.old.items) }
+    ensures leaves { OnOk result
+        (AddsTree (case_in problem.now) known.now letters.old.items leaves.old.items leaves.new.items) }
     ensures serves { (e : EditsParts) → S.serves source.old e → S.serves source.new e }
     ensures keeps { (f : ℕ) → S.keeps source.old f ≡ true → S.keeps source.new f ≡ true }
 {
@@ -113,8 +112,7 @@ fn push_closed(
     levels: &[Level],
     leaves: &mut Vec<Leaf>,
 ) -> Result<(), OutOfMemory>
-    ensures { OnOk result ((c : Case) → LeadTo c letters.now state levels.now
-        → leaves.new.items ≡ leaves.old.items ++ leaves_by c letters.now [] state) }
+    ensures { OnOk result (AddsClosed letters.now state levels.now leaves.old.items leaves.new.items) }
 {
     match state {
         PathState::Open | PathState::Overflows(_) => Ok(()),

@@ -5,14 +5,13 @@ ghost use Rattle.std.specs.List.{position};
 ghost use Rattle.edit_model.specs.Rows.{value_of};
 ghost use Rattle.edit_line.specs.CodeFields.{TakesCodes};
 ghost use Rattle.edit_line.specs.Shapes.{shape_of};
-ghost use Rattle.categ_combine.specs.BoxLists.{AreBoxesOver, sets_of};
-ghost use Rattle.categ_combine.specs.Covers.{cover_count};
+ghost use Rattle.categ_combine.specs.BoxLists.{AreBoxesOver};
 ghost use Rattle.edit_paths.specs.Paths.{before_last, field_count, number_count};
-ghost use Rattle.edit_paths.specs.States.{IsOpen, boxes_along};
+ghost use Rattle.edit_paths.specs.States.{IsOpen, boxes_along, whole_state};
 ghost use Rattle.edit_paths.specs.Works.{work_of};
 ghost use Rattle.localise_tree.specs.inner.Nodes.{TellsLook};
 ghost use Rattle.localise_tree.specs.inner.Problems.{IsProblem, case_in};
-ghost use Rattle.localise_tree.specs.inner.Tries.{IsChanged, IsKept, whole_state};
+ghost use Rattle.localise_tree.specs.inner.Tries.{IsChanged, IsKept, cover_work};
 
 use crate::looks::{Basis, Look};
 use crate::problem::Problem;
@@ -50,7 +49,7 @@ pub(crate) fn look_at_codes(
     }
 }
 
-// The same where the last field is changed.
+// The look at the path, if its work is no more than may be done, where its last field is changed.
 fn look_at_changed(
     alloc: Global,
     problem: &Problem,
@@ -62,8 +61,7 @@ fn look_at_changed(
     requires over { AreBoxesOver (shape_of problem.now.survey.now.fields) before.now }
     requires takes { TakesCodes (shape_of problem.now.survey.now.fields) field }
     requires some { 0 < most }
-    ensures passed { IfOk result (λ told. IfNone told
-        (most < 1 + cover_count (shape_of problem.now.survey.now.fields) (sets_of before.now) field)) }
+    ensures passed { IfOk result (λ told. IfNone told (most < cover_work (case_in problem.now) before.now field)) }
     ensures look { IfOk result (λ told. IfSome told (λ look. IsChanged (case_in problem.now) before.now field look × (look.work ≤ most))) }
 {
     match cat_step(alloc, before, field, most - 1)? {
@@ -76,7 +74,7 @@ fn look_at_changed(
     }
 }
 
-// The same where it is kept.
+// The look at the path where its last field is kept.
 fn look_at_kept(
     alloc: Global,
     problem: &Problem,

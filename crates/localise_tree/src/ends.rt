@@ -1,17 +1,15 @@
-ghost use Rattle.std.specs.Prelude.{◌≡◌, ℕ, ◌&&◌, ◌≤◌, ◌<◌, ◌++◌, [], ◌∷◌, Bool, IfNone, IfOk, IfSome, OnOk, if◌then◌else◌, length, not, slice_index_or, true};
-ghost use Rattle.std.specs.List.{AllByRecursion, fold, insert};
+ghost use Rattle.std.specs.Prelude.{◌≡◌, ℕ, ◌&&◌, ◌≤◌, ◌<◌, ◌++◌, [], ◌∷◌, IfNone, IfOk, IfSome, OnOk, if◌then◌else◌, length, not, true};
+ghost use Rattle.std.specs.List.{AllByRecursion, insert};
 ghost use Rattle.edit_line.specs.EditSets.{EditsParts};
-ghost use Rattle.edit_model.specs.Corrections.{is_first, path_order};
-ghost use Rattle.edit_model.specs.Words.{weight_at};
+ghost use Rattle.edit_model.specs.Corrections.{is_first};
 ghost use Rattle.edit_paths.specs.PathStates.{is_open};
 ghost use Rattle.edit_paths.specs.Paths.{field_count, is_complete};
-ghost use Rattle.edit_paths.specs.ReachedPaths.{is_before, placed};
+ghost use Rattle.edit_paths.specs.ReachedPaths.{placed};
 ghost use Rattle.edit_paths.specs.States.{state_of};
-ghost use Rattle.edit_paths.specs.Walks.{next_paths};
+ghost use Rattle.edit_paths.specs.Walks.{ends_after};
 ghost use Rattle.edit_paths.specs.declared.state.PathState.TheVariants.{Open};
-ghost use Rattle.localise_tree.specs.KeptFields.{KeepsChanged};
 ghost use Rattle.localise_tree.specs.inner.Bases.{IsBasis};
-ghost use Rattle.localise_tree.specs.inner.Nodes.{AreKept, IsFirstEnd, IsLook, IsNode, before, paths_of};
+ghost use Rattle.localise_tree.specs.inner.Nodes.{AreKept, IsFirstEnd, IsLook, IsNode, StayKept, before, paths_of, weight_in_order};
 ghost use Rattle.localise_tree.specs.inner.Problems.{IsProblem, case_in, edits_in};
 
 use crate::looks::{Basis, Look};
@@ -101,13 +99,11 @@ pub(crate) fn lead_on(
     requires node { IsNode (case_in problem.now) node.now }
     requires look { IsLook (case_in problem.now) node.now.path look }
     requires ends { AllByRecursion (IsNode (case_in problem.now)) ends.old.items }
-    ensures paths { OnOk result (paths_of ends.new.items
-        ≡ fold (placed (is_before problem.now.survey.now.fields)) (paths_of ends.old.items) (next_paths (case_in problem.now) node.now.path)) }
+    ensures paths { OnOk result
+        (paths_of ends.new.items ≡ ends_after (case_in problem.now) node.now.path (paths_of ends.old.items)) }
     ensures nodes { OnOk result (AllByRecursion (IsNode (case_in problem.now)) ends.new.items) }
-    ensures kept { OnOk result ((keeps : ℕ → Bool)
-        → (look.state ≡ Open → KeepsChanged keeps (case_in problem.now) node.now.path)
-        → AreKept keeps (case_in problem.now) ends.old.items
-        → AreKept keeps (case_in problem.now) ends.new.items) }
+    ensures kept { OnOk result
+        (StayKept (case_in problem.now) node.now.path look.state ends.old.items ends.new.items) }
 {
     if !leads_on(problem, node, look.state) {
         return Ok(());
@@ -156,9 +152,7 @@ fn child(
 fn changed_weight(problem: &Problem, place: usize, changed: bool) -> u64
     requires problem { IsProblem problem.now }
     requires place { place < field_count (case_in problem.now) }
-    ensures weight { result ≡ (if changed
-        then weight_at problem.now.survey.now.fields (slice_index_or (path_order problem.now.survey.now.fields) place 0)
-        else 0) }
+    ensures weight { result ≡ (if changed then weight_in_order problem.now.survey.now.fields place else 0) }
     ensures few { result ≤ 1000 }
 {
     if !changed {

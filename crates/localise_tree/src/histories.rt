@@ -11,8 +11,7 @@ ghost use Rattle.edit_paths.specs.Levels.{history_of};
 ghost use Rattle.edit_paths.specs.PathHistories.{line_history};
 ghost use Rattle.edit_paths.specs.Paths.{before_last, field_count, number_count};
 ghost use Rattle.edit_paths.specs.States.{first_boxes, or_empty};
-ghost use Rattle.localise_tree.specs.inner.Bases.{path_system};
-ghost use Rattle.localise_tree.specs.inner.Histories.{HasBoxLists, HasLists, HasListsBefore, HasMore, boxes_by, boxes_in, with_system};
+ghost use Rattle.localise_tree.specs.inner.Histories.{AddsSystem, HasBoxLists, HasLists, HasListsBefore, HasMore, boxes_by, boxes_in};
 ghost use Rattle.localise_tree.specs.inner.Problems.{IsProblem, case_in, edits_in};
 
 use crate::number_paths::system_along;
@@ -93,8 +92,7 @@ fn push_system<S: Systems, L: Ledger>(
 ) -> Result<(), OutOfMemory>
     requires problem { IsProblem problem.now }
     requires served { S.serves source.old (edits_in problem.now) }
-    ensures history { OnOk result (history_of levels.new.items
-        ≡ with_system (history_of levels.old.items) (path_system (case_in problem.now) letters.now)) }
+    ensures history { OnOk result (AddsSystem (case_in problem.now) letters.now levels.old.items levels.new.items) }
     ensures grown { OnOk result (HasMore levels.old.items levels.new.items) }
     ensures serves { (e : EditsParts) → S.serves source.old e → S.serves source.new e }
     ensures keeps { (f : ℕ) → S.keeps source.old f ≡ true → S.keeps source.new f ≡ true }

@@ -28,7 +28,7 @@ pub(crate) enum Basis {
 }
 
 impl Basis {
-    /// The same, owned once more.
+    /// The basis, owned once more: its lines or boxes are not copied.
     pub(crate) fn share(&self) -> Result<Basis, OutOfMemory>
         ensures { IfOk result (λ other. IsSame self.now other) }
     {

@@ -4,14 +4,13 @@ ghost use Rattle.std.specs.Arc.{arc_value};
 ghost use Rattle.edit_line.specs.EditSets.{EditsParts};
 ghost use Rattle.edit_line.specs.Lines.{HasShape};
 ghost use Rattle.edit_line.specs.Shapes.{shape_of};
-ghost use Rattle.edit_line.specs.Sums.{fails_at};
 ghost use Rattle.linear_elim.specs.Answers.{Answers};
 ghost use Rattle.linear_elim.specs.Helds.{system_held};
 ghost use Rattle.linear_elim.specs.Steps.{OneShape};
 ghost use Rattle.linear_elim.specs.Told.{told_system};
 ghost use Rattle.bound_cert.specs.Paths.{keeps_bad, kept_set};
 ghost use Rattle.edit_paths.specs.Paths.{before_last, changed_numbers, field_count, last_letter, number_count};
-ghost use Rattle.edit_paths.specs.States.{asks_kept, closed_by, first_failing, state_of};
+ghost use Rattle.edit_paths.specs.States.{asks_kept, first_failing, state_of, tried_line};
 ghost use Rattle.edit_paths.specs.Works.{work_of};
 ghost use Rattle.edit_paths.specs.declared.state.PathState.{PathState as State};
 ghost use Rattle.edit_paths.specs.declared.state.PathState.TheVariants.{Open};
@@ -195,7 +194,7 @@ fn next_system<S: Systems, L: Ledger>(
     }
 }
 
-// The same system, owned once more.
+// The system, owned once more: its lines are not copied.
 fn share(system: &Arc<Held>) -> Result<Arc<Held>, OutOfMemory>
     ensures { IfOk result (λ other. arc_value other ≡ arc_value system.now) }
 {
@@ -279,8 +278,7 @@ fn tried_line(
     requires held { keeps_bad problem.now.survey.now.fields problem.now.row.now path.now ≡ false }
     requires kept { kept ≡ kept_set problem.now.survey.now.fields problem.now.row.now path.now }
     requires over { HasShape (shape_of problem.now.survey.now.fields) line.now }
-    ensures { (next : State) → or_next result next
-        ≡ (if asks_kept (case_in problem.now) path.now line.now then closed_by place (fails_at line.now problem.now.row.now) next else next) }
+    ensures { (next : State) → or_next result next ≡ tried_line (case_in problem.now) path.now place line.now next }
 {
     if !asks_kept(problem, path, kept, line) {
         return None;

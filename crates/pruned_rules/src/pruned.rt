@@ -1,17 +1,7 @@
-ghost use Rattle.std.specs.Prelude.{◌≡◌, ◌≤◌, ◌↔◌, ◌++◌, ◌∷◌, ℕ, suc, [], IfOk, List, OnOk, Some, drop, if◌then◌else◌, length, map, slice_get};
-ghost use Rattle.edit_model.specs.Points.{HasCodesFrom, IsConsistent, Point};
-ghost use Rattle.edit_line.specs.Lines.{AllHold, Follows, LineParts};
-ghost use Rattle.edit_line.specs.Reductions.{IsIn};
-ghost use Rattle.edit_line.specs.Shapes.{shape_of};
+ghost use Rattle.std.specs.Prelude.{◌≡◌, ◌≤◌, ◌++◌, ◌∷◌, [], IfOk, OnOk, if◌then◌else◌, length, map};
 ghost use Rattle.edit_normal.specs.RuleLines.{normal_lines_of};
-ghost use Rattle.derivation.specs.Premises.{usable_lines};
-ghost use Rattle.derivation.specs.Refutations.{RefutedBy, no_values, refutation_of};
-ghost use Rattle.derivation.specs.declared.step.Step.{Step as Proofstep};
-ghost use Rattle.redundancy.specs.NeededLines.{CanFail};
-ghost use Rattle.redundancy.specs.Verdicts.{is_kept, kept_lines, left_at, usable_from};
-ghost use Rattle.redundancy.specs.declared.verdict.Verdict.TheVariants.{Dropped, Kept};
-ghost use Rattle.redundancy.specs.declared.verdict.Why.TheVariants.{Needed};
-ghost use Rattle.pruned_rules.specs.Pruned.{kept_edits, rule_verdicts};
+ghost use Rattle.redundancy.specs.Verdicts.{AllFollow, AreNeeded, AreRefuted, is_kept, usable_from};
+ghost use Rattle.pruned_rules.specs.Pruned.{SayTheRules, kept_edits, rule_verdicts};
 
 use edit_line::{Edits, Line};
 use edit_model::Survey;
@@ -36,14 +26,9 @@ pub struct PrunedRules {
 pub fn prune_rules(alloc: Global, survey: &Survey) -> Result<PrunedRules, OutOfMemory>
     ensures lines { IfOk result (λ pruned. pruned.lines.items ≡ normal_lines_of survey.now) }
     ensures verdicts { IfOk result (λ pruned. pruned.verdicts.items ≡ rule_verdicts survey.now) }
-    ensures needed { IfOk result (λ pruned. (j : ℕ) (line : LineParts)
-        → slice_get pruned.lines.items j ≡ Some line → slice_get pruned.verdicts.items j ≡ Some (Kept Needed)
-        → CanFail survey.now.fields (usable_lines pruned.lines.items (left_at j (drop (suc j) pruned.verdicts.items))) line) }
-    ensures steps { IfOk result (λ pruned. (j : ℕ) (line : LineParts) (steps : List Proofstep)
-        → slice_get pruned.lines.items j ≡ Some line → slice_get pruned.verdicts.items j ≡ Some (Dropped steps)
-        → RefutedBy (refutation_of (shape_of survey.now.fields) pruned.lines.items (left_at j (drop (suc j) pruned.verdicts.items)) line (no_values survey.now.fields)) steps) }
-    ensures follow { IfOk result (λ pruned. (line : LineParts) → IsIn line (normal_lines_of survey.now)
-        → Follows (kept_lines (normal_lines_of survey.now) (rule_verdicts survey.now)) line) }
+    ensures needed { IfOk result (λ pruned. AreNeeded survey.now.fields pruned.lines.items pruned.verdicts.items) }
+    ensures steps { IfOk result (λ pruned. AreRefuted survey.now.fields pruned.lines.items pruned.verdicts.items) }
+    ensures follow { IfOk result (λ pruned. AllFollow (normal_lines_of survey.now) (rule_verdicts survey.now)) }
 {
     let lines = lines_of_rules(alloc, survey)?;
     let verdicts = prune(alloc, survey, &lines, PRUNING_BUDGET)?;
@@ -57,8 +42,7 @@ impl PrunedRules {
         requires lines { self.now.lines.items ≡ normal_lines_of survey.now }
         requires verdicts { self.now.verdicts.items ≡ rule_verdicts survey.now }
         ensures edits { IfOk result (λ edits. edits ≡ kept_edits survey.now) }
-        ensures same { IfOk result (λ edits. (p : Point)
-            → (HasCodesFrom 0 survey.now.fields p × AllHold (map (λ e. e.1) edits.lines) p) ↔ IsConsistent survey.now p) }
+        ensures same { IfOk result (λ edits. SayTheRules survey.now edits) }
     {
         let _rules = survey.rules(); // read for what it says: they are in form, and at most 500
         let kept = kept_of(alloc, &self.lines, &self.verdicts)?;

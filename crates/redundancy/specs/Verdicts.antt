@@ -1,8 +1,12 @@
-use Rattle.std.specs.Prelude.{ℕ, zero, suc, ◌+◌, ◌++◌, Bool, true, false, List, [], ◌∷◌, if◌then◌else◌, map, nat_lt}
+use Rattle.std.specs.Prelude.{◌≡◌, ℕ, zero, suc, ◌+◌, ◌++◌, Bool, true, false, List, [], ◌∷◌, Some, drop, if◌then◌else◌, map, nat_lt, slice_get}
 use Rattle.edit_model.specs.Parts.{SurveyParts}
-use Rattle.edit_line.specs.Lines.{LineParts}
+use Rattle.edit_model.specs.declared.field.Field.{Field}
+use Rattle.edit_line.specs.Lines.{Follows, LineParts}
+use Rattle.edit_line.specs.Reductions.{IsIn}
+use Rattle.edit_line.specs.Shapes.{shape_of}
 use Rattle.derivation.specs.Premises.{usable_lines}
-use Rattle.derivation.specs.Refutations.{given_lines, left_before, no_values, usable_flags}
+use Rattle.derivation.specs.Refutations.{RefutedBy, given_lines, left_before, no_values, refutation_of, usable_flags}
+use Rattle.derivation.specs.declared.step.Step.{Step}
 use Rattle.edit_paths.specs.Cases.{Case}
 use Rattle.edit_paths.specs.Histories.{steps_to}
 use Rattle.edit_paths.specs.PathHistories.{box_history, line_history}
@@ -11,20 +15,23 @@ use Rattle.edit_paths.specs.States.{state_of}
 use Rattle.edit_paths.specs.Works.{work_of}
 use Rattle.edit_paths.specs.declared.state.PathState.{PathState}
 use Rattle.edit_paths.specs.declared.state.PathState.TheVariants.{ClosedBad, ClosedBox, ClosedLine, Open, Overflows}
+use Rattle.redundancy.specs.NeededLines.{CanFail}
 use Rattle.redundancy.specs.declared.verdict.Verdict.{Verdict}
 use Rattle.redundancy.specs.declared.verdict.Verdict.TheVariants.{Dropped, Kept}
 use Rattle.redundancy.specs.declared.verdict.Why.TheVariants.{Budget, Needed, Overflow}
 
--- Which lines are dropped: those whose negation, with the lines that are left, no point meets, as far as the walk along the path that changes every field finds it.
+-- Which lines are dropped: those whose negation, with the lines that are left, no point meets, as far as the walk along the
+-- path that changes every field finds it.
 
 -- ---- the walk along the path that changes every field
 
--- the path that changes the first fields, so many
+-- the path that changes the first n fields
 abbrev pub changing : ℕ → List Bool
 changing zero = []
 changing (suc n) = changing n ++ true ∷ []
 
--- what a path of the walk tells: a closed one drops the line with the steps that close it, an overflow keeps it, and after an open one the walk goes on
+-- what a path of the walk tells: a closed one drops the line with the steps that close it, an overflow keeps it, and after
+-- an open one the walk goes on
 abbrev pub verdict_by : Case → List Bool → PathState → Verdict → Verdict
 verdict_by c path (ClosedLine i) next = Dropped (steps_to (line_history c path) i)
 verdict_by c path (ClosedBox i) next = Dropped (steps_to (box_history c path) i)
@@ -36,11 +43,16 @@ verdict_by c path Open next = next
 abbrev pub within : ℕ → ℕ → Verdict → Verdict
 within budget work verdict = if nat_lt budget work then Kept Budget else verdict
 
--- the verdict from the path of n fields on, with so many fields left, after so much work
+-- what the path of n fields tells
+abbrev pub verdict_at : Case → ℕ → Verdict → Verdict
+verdict_at c n next = verdict_by c (changing n) (state_of c (changing n)) next
+
+-- the verdict from the path of n fields on, after the work that was spent, where this many fields are left
 abbrev pub verdict_from : Case → ℕ → ℕ → ℕ → ℕ → Verdict
-verdict_from c budget spent n zero = within budget (spent + work_of c (changing n)) (verdict_by c (changing n) (state_of c (changing n)) (Kept Needed))
+verdict_from c budget spent n zero = within budget (spent + work_of c (changing n)) (verdict_at c n (Kept Needed))
 verdict_from c budget spent n (suc left) =
-    within budget (spent + work_of c (changing n)) (verdict_by c (changing n) (state_of c (changing n)) (verdict_from c budget (spent + work_of c (changing n)) (suc n) left))
+    let work = spent + work_of c (changing n) in
+    within budget work (verdict_at c n (verdict_from c budget work (suc n) left))
 
 -- the verdict of the walk from the empty path on
 abbrev pub verdict_of : Case → ℕ → Verdict
@@ -53,7 +65,8 @@ abbrev pub is_kept : Verdict → Bool
 is_kept (Kept why) = true
 is_kept (Dropped steps) = false
 
--- which lines are left when the one at a place is tried, from the verdicts on the later ones: those before it, and the later ones that are kept
+-- which lines are left when the one at a place is tried, from the verdicts on the later ones: those before it, and the
+-- later ones that are kept
 abbrev pub left_at : ℕ → List Verdict → List Bool
 left_at place later = left_before place (map is_kept later)
 
@@ -63,21 +76,48 @@ usable_from i (line ∷ given) (true ∷ usable) = (i, line) ∷ usable_from (su
 usable_from i (line ∷ given) (false ∷ usable) = usable_from (suc i) given usable
 usable_from i _ _ = []
 
--- the lines that are left and then the line's negation, numbered after all lines, at the record without values
+-- the lines that are left and then the line's negation, numbered after all lines
+abbrev pub negation_lines : List LineParts → List Bool → LineParts → List (ℕ × LineParts)
+negation_lines lines left line = usable_from 0 (given_lines lines line) (usable_flags left line)
+
+-- the lines that are left and the line's negation, at the record without values
 abbrev pub negation_case : SurveyParts → List LineParts → List Bool → LineParts → Case
 negation_case survey lines left line =
-    record { survey = survey; edits = usable_from 0 (given_lines lines line) (usable_flags left line); row = no_values survey.fields }
+    record { survey = survey; edits = negation_lines lines left line; row = no_values survey.fields }
 
 -- the verdicts on the lines from a place on: the last line is tried first
 abbrev pub verdicts_from : SurveyParts → List LineParts → ℕ → ℕ → List LineParts → List Verdict
 verdicts_from survey lines budget place [] = []
 verdicts_from survey lines budget place (line ∷ later) =
-    let verdicts = verdicts_from survey lines budget (suc place) later in verdict_of (negation_case survey lines (left_at place verdicts) line) budget ∷ verdicts
+    let verdicts = verdicts_from survey lines budget (suc place) later in
+    verdict_of (negation_case survey lines (left_at place verdicts) line) budget ∷ verdicts
 
 -- the verdicts on all lines
 abbrev pub verdicts_of : SurveyParts → List LineParts → ℕ → List Verdict
 verdicts_of survey lines budget = verdicts_from survey lines budget 0 lines
 
+-- which lines are left when the one at a place is tried, from the verdicts on all lines
+abbrev pub left_for : List Verdict → ℕ → List Bool
+left_for verdicts place = left_at place (drop (suc place) verdicts)
+
 -- the lines that are kept
 abbrev pub kept_lines : List LineParts → List Verdict → List LineParts
 kept_lines lines verdicts = usable_lines lines (map is_kept verdicts)
+
+-- ---- what the verdicts say
+
+-- a line that is kept as needed can fail where the lines hold that are left when it is tried
+abbrev pub AreNeeded : List Field → List LineParts → List Verdict → Type 0
+AreNeeded fields lines verdicts =
+    (j : ℕ) (line : LineParts) → slice_get lines j ≡ Some line → slice_get verdicts j ≡ Some (Kept Needed)
+    → CanFail fields (usable_lines lines (left_for verdicts j)) line
+
+-- the steps of a dropped line refute its negation by the lines that are left when it is tried
+abbrev pub AreRefuted : List Field → List LineParts → List Verdict → Type 0
+AreRefuted fields lines verdicts =
+    (j : ℕ) (line : LineParts) (steps : List Step) → slice_get lines j ≡ Some line → slice_get verdicts j ≡ Some (Dropped steps)
+    → RefutedBy (refutation_of (shape_of fields) lines (left_for verdicts j) line (no_values fields)) steps
+
+-- each line follows from the lines that are kept
+abbrev pub AllFollow : List LineParts → List Verdict → Type 0
+AllFollow lines verdicts = (line : LineParts) → IsIn line lines → Follows (kept_lines lines verdicts) line

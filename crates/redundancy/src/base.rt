@@ -1,10 +1,9 @@
 //! The lines that the walk of a line's negation begins with.
 ghost use Rattle.std.specs.Prelude.{◌≡◌, ◌≤◌, ◌^◌, ◌++◌, ◌∷◌, [], All, IfOk, OnOk, if◌then◌else◌, length};
-ghost use Rattle.derivation.specs.Refutations.{given_lines, usable_flags};
 ghost use Rattle.edit_line.specs.EditSets.{base_lines};
 ghost use Rattle.edit_line.specs.Lines.{IsLine};
 ghost use Rattle.edit_line.specs.Reductions.{lines_of};
-ghost use Rattle.redundancy.specs.Verdicts.{usable_from};
+ghost use Rattle.redundancy.specs.Verdicts.{negation_lines, usable_from};
 
 use edit_line::{Derived, Line, Origin};
 use foundation::OutOfMemory;
@@ -19,7 +18,7 @@ pub(crate) fn base_of(
     line: &Line,
 ) -> Result<Vec<Derived>, OutOfMemory>
     requires { length left.now ≡ length lines.now }
-    ensures base { IfOk result (λ base. base.items ≡ base_lines (usable_from 0 (given_lines lines.now line.now) (usable_flags left.now line.now))) }
+    ensures base { IfOk result (λ base. base.items ≡ base_lines (negation_lines lines.now left.now line.now)) }
     ensures lines { IfOk result (λ base. All IsLine (lines_of base.items)) }
 {
     let negation = line.negation(alloc)?;

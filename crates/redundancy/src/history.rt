@@ -1,11 +1,10 @@
 //! How the lines and the boxes of the walk were made, list by list.
-ghost use Rattle.std.specs.Prelude.{◌≡◌, [], IfOk, OnOk};
-ghost use Rattle.edit_paths.specs.Histories.{box_by, line_by, with_boxes, with_lines};
+ghost use Rattle.std.specs.Prelude.{◌≡◌, [], OnOk};
+ghost use Rattle.edit_paths.specs.Histories.{with_boxes, with_lines};
 
-use categ_combine::{BoxFrom, BoxOrigin};
-use derivation::Step;
-use edit_line::{Derived, Origin};
-use edit_paths::Making;
+use categ_combine::BoxFrom;
+use edit_line::Derived;
+use edit_paths::{Making, box_by, line_by};
 use foundation::{OutOfMemory, Sequence};
 use std::alloc::Global;
 use std::marker::Model;
@@ -47,7 +46,7 @@ impl History {
     {
         let mut list = Vec::with_capacity(alloc, lines.len())?;
         for derived in lines {
-            list.push(line_making(derived.origin))?;
+            list.push(line_by(derived.origin))?;
         }
         self.lists.insert(0, Sequence::from_vec(list))?;
         Ok(())
@@ -64,38 +63,9 @@ impl History {
     {
         let mut list = Vec::with_capacity(alloc, boxes.len())?;
         for b in boxes {
-            list.push(box_making(alloc, field, &b.origin)?)?;
+            list.push(box_by(alloc, field, &b.origin)?)?;
         }
         self.lists.insert(0, Sequence::from_vec(list))?;
         Ok(())
-    }
-}
-
-// How a line with this origin was made.
-fn line_making(origin: Origin) -> Making
-    ensures { result ≡ line_by origin }
-{
-    match origin {
-        Origin::Base(number) => Making::By(Step::Given(number)),
-        Origin::Same(place) => Making::Same(place),
-        Origin::Pair { a, m, b, n, g } => Making::By(Step::Combine { a, m, b, n, g }),
-    }
-}
-
-// How a box with this origin was made, where the field was treated last.
-fn box_making(alloc: Global, field: u32, origin: &BoxOrigin) -> Result<Making, OutOfMemory>
-    ensures { IfOk result (λ making. making ≡ box_by field origin.now) }
-{
-    match origin {
-        BoxOrigin::Failing(place) => Ok(Making::By(Step::Fail(*place))),
-        BoxOrigin::Unchanged(place) => Ok(Making::Same(*place)),
-        BoxOrigin::Fixed(place) => Ok(Making::By(Step::Fix {
-            field,
-            part: *place,
-        })),
-        BoxOrigin::Cover(parts) => Ok(Making::By(Step::Cover {
-            field,
-            parts: Sequence::from_vec(Vec::from_slice(alloc, parts.as_slice())?),
-        })),
     }
 }

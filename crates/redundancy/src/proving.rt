@@ -1,11 +1,11 @@
 //! The steps that prove an element of a derived list: each element once, parts before the whole.
 ghost use Rattle.std.specs.Prelude.{◌≡◌, IfOk, OnOk, map};
-ghost use Rattle.std.specs.List.{list_any, position};
-ghost use Rattle.edit_paths.specs.Histories.{is_element, maker, number_in, parts_of, renumbered, steps_to, with_proof};
+ghost use Rattle.std.specs.List.{position};
+ghost use Rattle.edit_paths.specs.Histories.{has_step, is_element, maker, number_in, renumbered, steps_to, with_proof};
 
 use crate::history::History;
 use derivation::Step;
-use edit_paths::{Making, Written};
+use edit_paths::{Making, Written, parts_of};
 use foundation::{OutOfMemory, Sequence};
 use std::alloc::Global;
 
@@ -64,7 +64,7 @@ fn prove(
 
 // Whether the element has a step. No memory.
 fn has_step(done: &[Written], element: (u64, u64)) -> bool
-    ensures { result ≡ list_any (λ w. is_element w.element element) done.now }
+    ensures { result ≡ has_step element done.now }
 {
     done.iter().any(|one| is_element(one.element, element))
 }
@@ -104,19 +104,6 @@ fn maker(lists: &[Sequence<Making>], place: u64) -> (u64, u64)
         None => maker(before, 0),
         Some(Making::Same(earlier)) => maker(before, *earlier),
         Some(Making::By(_)) => (before.len() as u64, place),
-    }
-}
-
-// The places that a step builds on, in order.
-fn parts_of(alloc: Global, step: &Step) -> Result<Vec<u64>, OutOfMemory>
-    ensures { IfOk result (λ parts. parts.items ≡ parts_of step.now) }
-{
-    match step {
-        Step::Given(_) => Ok(Vec::new(alloc)),
-        Step::Combine { a, b, .. } => Ok(vec![in alloc; *a, *b]?),
-        Step::Fail(place) => Ok(vec![in alloc; *place]?),
-        Step::Cover { parts, .. } => Ok(Vec::from_slice(alloc, parts.as_slice())?),
-        Step::Fix { part, .. } => Ok(vec![in alloc; *part]?),
     }
 }
 

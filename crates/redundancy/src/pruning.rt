@@ -1,15 +1,10 @@
-ghost use Rattle.std.specs.Prelude.{◌≡◌, ◌<◌, ℕ, suc, All, IfOk, List, Some, drop, false, length, slice_get, slice_set};
+ghost use Rattle.std.specs.Prelude.{◌≡◌, ◌<◌, All, IfOk, false, length, slice_set};
 ghost use Rattle.edit_model.specs.Rows.{IsRow};
-ghost use Rattle.derivation.specs.Premises.{usable_lines};
-ghost use Rattle.derivation.specs.Refutations.{RefutedBy, no_values, refutation_of};
-ghost use Rattle.derivation.specs.declared.step.Step.{Step as Proofstep};
-ghost use Rattle.edit_line.specs.Lines.{AreOver, Follows, IsLine, LineParts};
-ghost use Rattle.edit_line.specs.Reductions.{IsIn};
+ghost use Rattle.derivation.specs.Refutations.{no_values};
+ghost use Rattle.edit_line.specs.Lines.{AreOver, IsLine};
 ghost use Rattle.edit_line.specs.Shapes.{shape_of};
-ghost use Rattle.redundancy.specs.NeededLines.{CanFail};
-ghost use Rattle.redundancy.specs.Verdicts.{is_kept, kept_lines, left_at, negation_case, verdict_of, verdicts_of};
-ghost use Rattle.redundancy.specs.declared.verdict.Verdict.TheVariants.{Dropped, Kept};
-ghost use Rattle.redundancy.specs.declared.verdict.Why.TheVariants.{Needed};
+ghost use Rattle.redundancy.specs.Verdicts.{AllFollow, AreNeeded, AreRefuted, is_kept, verdicts_of};
+ghost use Rattle.redundancy.specs.inner.Turns.{IsVerdict};
 
 use crate::base::base_of;
 use crate::verdict::Verdict;
@@ -31,13 +26,9 @@ pub fn prune(
 ) -> Result<Vec<Verdict>, OutOfMemory>
     requires over { AreOver (shape_of survey.now.fields) lines.now }
     ensures exact { IfOk result (λ verdicts. verdicts.items ≡ verdicts_of survey.now lines.now budget) }
-    ensures needed { IfOk result (λ verdicts. (j : ℕ) (line : LineParts)
-        → slice_get lines.now j ≡ Some line → slice_get verdicts.items j ≡ Some (Kept Needed)
-        → CanFail survey.now.fields (usable_lines lines.now (left_at j (drop (suc j) verdicts.items))) line) }
-    ensures steps { IfOk result (λ verdicts. (j : ℕ) (line : LineParts) (steps : List Proofstep)
-        → slice_get lines.now j ≡ Some line → slice_get verdicts.items j ≡ Some (Dropped steps)
-        → RefutedBy (refutation_of (shape_of survey.now.fields) lines.now (left_at j (drop (suc j) verdicts.items)) line (no_values survey.now.fields)) steps) }
-    ensures follow { IfOk result (λ verdicts. (line : LineParts) → IsIn line lines.now → Follows (kept_lines lines.now verdicts.items) line) }
+    ensures needed { IfOk result (λ verdicts. AreNeeded survey.now.fields lines.now verdicts.items) }
+    ensures steps { IfOk result (λ verdicts. AreRefuted survey.now.fields lines.now verdicts.items) }
+    ensures follow { IfOk result (λ verdicts. AllFollow lines.now verdicts.items) }
 {
     read_lines(lines);
     let row = record_without_values(alloc, survey)?;
@@ -78,8 +69,8 @@ fn try_line(
     requires row { IsRow survey.now.fields row.now }
     requires count { length left.old.items ≡ length lines.now }
     requires place { place < length lines.now }
-    ensures verdict { IfOk result (λ verdict. (line : LineParts) → slice_get lines.now place ≡ Some line
-        → verdict ≡ verdict_of (negation_case survey.now lines.now (slice_set left.old.items place false) line) budget) }
+    ensures verdict { IfOk result
+        (λ verdict. IsVerdict survey.now lines.now budget place (slice_set left.old.items place false) verdict) }
     ensures left { IfOk result (λ verdict. left.new.items ≡ slice_set left.old.items place (is_kept verdict)) }
 {
     let _well_formed = survey.fields(); // read for what it says

@@ -1,21 +1,18 @@
 //! The walk along the path that changes every field: the numerical fields are eliminated in declared
 //! order, and then the categorical ones, until something absurd is left, or nothing, or the budget is
 //! passed.
-ghost use Rattle.std.specs.Prelude.{◌≡◌, ◌≤◌, ◌<◌, ◌+◌, [], All, IfNone, IfOk, List, None, Ok};
+ghost use Rattle.std.specs.Prelude.{◌≡◌, ◌≤◌, ◌<◌, ◌+◌, [], All, IfNone, IfOk, None, Ok};
 ghost use Rattle.edit_model.specs.Rows.{IsRow};
-ghost use Rattle.edit_line.specs.CodeFields.{TakesCodes};
 ghost use Rattle.edit_line.specs.Lines.{HaveShape};
 ghost use Rattle.edit_line.specs.Reductions.{AreOwn, lines_of, reduce_derived};
-ghost use Rattle.edit_line.specs.Shapes.{Domain, code_fields, shape_of, whole_sets};
+ghost use Rattle.edit_line.specs.Shapes.{shape_of, whole_sets};
 ghost use Rattle.linear_elim.specs.Answers.{Answers};
-ghost use Rattle.linear_elim.specs.Steps.{OneShape, pairs_count, step_result};
+ghost use Rattle.linear_elim.specs.Steps.{OneShape, step_result};
 ghost use Rattle.linear_elim.specs.Told.{told_step};
-ghost use Rattle.categ_combine.specs.BoxLists.{AreBoxesOver, HaveCodeField, sets_of};
-ghost use Rattle.categ_combine.specs.Covers.{cover_count, covered_from};
-ghost use Rattle.categ_combine.specs.FailingBoxes.{failing_from};
+ghost use Rattle.categ_combine.specs.BoxLists.{AreBoxesOver, HaveCodeField};
 ghost use Rattle.edit_paths.specs.Histories.{steps_to, with_boxes, with_lines};
 ghost use Rattle.redundancy.specs.declared.verdict.Verdict.TheVariants.{Dropped};
-ghost use Rattle.redundancy.specs.inner.Turns.{box_walk, closing_box, closing_line, code_end, code_walk, ended_by, lines_verdict, number_end};
+ghost use Rattle.redundancy.specs.inner.Turns.{AddsWork, AreCovered, IsCodeEnd, all_code_walk, box_walk, closing_box, closing_line, ended_by, lines_verdict, number_end, number_walk, number_work};
 
 use crate::history::History;
 use crate::proving::write_steps;
@@ -100,7 +97,7 @@ fn number_turn(
     ensures ended { IfOk result (λ told. told ≡ number_end wholes.now budget walk.old.spent walk.old.history walk.old.lines.items field) }
     ensures lines { IfOk result (λ told. IfNone told (step_result walk.old.lines.items field ≡ Ok walk.new.lines.items)) }
     ensures history { IfOk result (λ told. IfNone told (walk.new.history ≡ with_lines walk.old.history walk.new.lines.items)) }
-    ensures spent { IfOk result (λ told. IfNone told (walk.new.spent ≡ walk.old.spent + (1 + pairs_count walk.old.lines.items field))) }
+    ensures spent { IfOk result (λ told. IfNone told (walk.new.spent ≡ walk.old.spent + number_work walk.old.lines.items field)) }
     ensures few { IfOk result (λ told. IfNone told (walk.new.spent ≤ budget)) }
 {
     if let Some(place) = closing_line(wholes, &walk.lines) {
@@ -161,7 +158,7 @@ fn boxes_verdict(
     requires row { IsRow survey.now.fields row.now }
     requires wholes { wholes.now ≡ whole_sets (shape_of survey.now.fields) }
     requires spent { walk.spent ≤ budget }
-    ensures { IfOk result (λ verdict. verdict ≡ box_walk (shape_of survey.now.fields) budget walk.spent walk.history walk.lines.items (failing_from 0 walk.lines.items row.now [])) }
+    ensures { IfOk result (λ v. v ≡ number_walk (shape_of survey.now.fields) row.now budget walk.spent walk.history walk.lines.items []) }
 {
     match boxes_of(alloc, survey, &walk.lines, row) {
         Ok(boxes) => verdict_with_boxes(alloc, survey, wholes, walk, boxes, budget),
@@ -182,7 +179,7 @@ fn verdict_with_boxes(
     requires wholes { wholes.now ≡ whole_sets (shape_of survey.now.fields) }
     requires over { AreBoxesOver (shape_of survey.now.fields) boxes.items }
     requires spent { walk.spent ≤ budget }
-    ensures { IfOk result (λ verdict. verdict ≡ box_walk (shape_of survey.now.fields) budget walk.spent walk.history walk.lines.items (Ok boxes.items)) }
+    ensures { IfOk result (λ v. v ≡ box_walk (shape_of survey.now.fields) budget walk.spent walk.history walk.lines.items (Ok boxes.items)) }
 {
     if let Some(place) = closing_line(wholes, &walk.lines) {
         return dropped(alloc, &walk.history, place);
@@ -208,7 +205,7 @@ fn codes_verdict(
     requires wholes { wholes.now ≡ whole_sets (shape_of survey.now.fields) }
     requires over { AreBoxesOver (shape_of survey.now.fields) walk.boxes.items }
     requires spent { walk.spent ≤ budget }
-    ensures { IfOk result (λ verdict. verdict ≡ code_walk (shape_of survey.now.fields) budget walk.spent walk.history walk.boxes.items (code_fields (shape_of survey.now.fields))) }
+    ensures { IfOk result (λ verdict. verdict ≡ all_code_walk (shape_of survey.now.fields) budget walk.spent walk.history walk.boxes.items) }
 {
     let _well_formed = survey.fields(); // read for what it says: each categorical field has a code
     for field in survey.codes() {
@@ -229,13 +226,10 @@ fn code_turn(
 ) -> Result<Option<Verdict>, OutOfMemory>
     requires field { HaveCodeField walk.old.boxes.items field }
     requires spent { walk.old.spent ≤ budget }
-    ensures ended { IfOk result (λ told. (shape : List Domain) → wholes.now ≡ whole_sets shape → AreBoxesOver shape walk.old.boxes.items → TakesCodes shape field
-        → told ≡ code_end shape budget walk.old.spent walk.old.history walk.old.boxes.items field) }
-    ensures boxes { IfOk result (λ told. IfNone told ((shape : List Domain) → AreBoxesOver shape walk.old.boxes.items → TakesCodes shape field
-        → walk.new.boxes.items ≡ covered_from shape walk.old.boxes.items field)) }
+    ensures ended { IfOk result (λ told. IsCodeEnd wholes.now budget walk.old.spent walk.old.history walk.old.boxes.items field told) }
+    ensures boxes { IfOk result (λ told. IfNone told (AreCovered walk.old.boxes.items field walk.new.boxes.items)) }
     ensures history { IfOk result (λ told. IfNone told (walk.new.history ≡ with_boxes walk.old.history field walk.new.boxes.items)) }
-    ensures spent { IfOk result (λ told. IfNone told ((shape : List Domain) → AreBoxesOver shape walk.old.boxes.items → TakesCodes shape field
-        → walk.new.spent ≡ walk.old.spent + (1 + cover_count shape (sets_of walk.old.boxes.items) field))) }
+    ensures spent { IfOk result (λ told. IfNone told (AddsWork walk.old.boxes.items field walk.old.spent walk.new.spent)) }
     ensures few { IfOk result (λ told. IfNone told (walk.new.spent ≤ budget)) }
 {
     if walk.spent == budget {

@@ -2,23 +2,19 @@
 use Rattle.std.proofs.Common.{◌≡◌, ◌∙◌, refl, sym, ap, ℕ, suc, ◌+◌, ◌<◌, ◌&&◌, Bool, true, false, if◌then◌else◌, List, [], ◌∷◌, ◌++◌, drop, get_or, length, ℤ, pos, add-one, append_assoc, arith}
 use Rattle.std.proofs.Math.Seq.{drop-cons}
 use Rattle.std.specs.Ordering.{int_eq}
-use Rattle.std.specs.Prelude.{unsigned_abs}
 use Rattle.edit_model.specs.declared.field.Field.{Field}
 use Rattle.edit_model.specs.declared.rule.Compare.TheVariants.{Ge, Gt}
 use Rattle.edit_model.specs.declared.rule.Term.{Term}
-use Rattle.edit_language.specs.Printing.{compare_text, joint_text, later_constant_text, later_terms_text, linear_text, name_at, product_text, sign_text, sum_text}
+use Rattle.edit_language.specs.Printing.{compare_text, later_constant_text, later_terms_text, linear_text, sum_text}
 use Rattle.edit_line.specs.Lines.{LineParts}
 use Rattle.edit_line.specs.Shapes.{number_fields}
 use Rattle.rule_report.specs.LineTexts.{linear_of, terms_of}
+use Rattle.rule_report.specs.inner.Written.{led_text}
 
 -- what is still to be printed of a sum: all of it, or what stands behind its first term
 abbrev pub rest_text : Bool → List Field → List Term → ℤ → List ℕ
 rest_text true fields terms constant = sum_text fields terms constant
 rest_text false fields terms constant = later_terms_text fields terms ++ later_constant_text constant
-
--- a term with what stands before it
-abbrev pub led_text : Bool → List Field → ℕ → ℤ → List ℕ
-led_text first fields field factor = (if first then sign_text factor else joint_text factor) ++ product_text (unsigned_abs factor) (name_at fields field)
 
 -- of the next field, its term, where its factor is not 0, and then the rest
 step : (first none : Bool) (fields : List Field) (field : ℕ) (factor constant : ℤ) (terms : List Term)

@@ -14,17 +14,27 @@ use Rattle.edit_line.specs.Subsumption.{is_false}
 
 -- the fields that stand in a line, each with its factor
 abbrev pub terms_of : List ℕ → List ℤ → List Term
-terms_of (f ∷ fields) (a ∷ factors) = if int_eq a (pos 0) then terms_of fields factors else record { field = f; factor = a } ∷ terms_of fields factors
+terms_of (f ∷ fields) (a ∷ factors) =
+    if int_eq a (pos 0)
+    then terms_of fields factors
+    else record { field = f; factor = a } ∷ terms_of fields factors
 terms_of _ _ = []
 
 -- for each categorical field whose set is not whole, that its code is in the set
 abbrev pub conditions_of : List ℕ → List ℕ → List ℕ → List Test
-conditions_of (f ∷ fields) (set ∷ sets) (whole ∷ wholes) = if set == whole then conditions_of fields sets wholes else test.Codes f false set ∷ conditions_of fields sets wholes
+conditions_of (f ∷ fields) (set ∷ sets) (whole ∷ wholes) =
+    if set == whole
+    then conditions_of fields sets wholes
+    else test.Codes f false set ∷ conditions_of fields sets wholes
 conditions_of _ _ _ = []
 
 -- the linear part of a line
 abbrev pub linear_of : LineParts → Linear
-linear_of line = record { terms = terms_of (number_fields line.shape) line.factors; constant = line.constant; compare = if line.strict then Gt else Ge }
+linear_of line = record {
+  terms = terms_of (number_fields line.shape) line.factors;
+  constant = line.constant;
+  compare = if line.strict then Gt else Ge;
+}
 
 -- what a line says where its codes are in its sets: `never` where that is never true
 abbrev pub linear_words : List Field → LineParts → List ℕ
@@ -32,4 +42,5 @@ linear_words fields line = if is_false line then codes "never" else linear_text 
 
 -- the text of a line over the fields
 abbrev pub line_text : List Field → LineParts → List ℕ
-line_text fields line = conditions_text fields (conditions_of (code_fields line.shape) line.sets (whole_sets line.shape)) ++ linear_words fields line
+line_text fields line =
+    conditions_text fields (conditions_of (code_fields line.shape) line.sets (whole_sets line.shape)) ++ linear_words fields line

@@ -31,12 +31,17 @@ abbrev pub steps_of : Verdict → List Step
 steps_of (Kept why) = []
 steps_of (Dropped steps) = steps
 
--- of one line: its number, what becomes of it and what it says; and then the steps, if it is dropped
+-- of one line: its number, what becomes of it and what it says
+abbrev pub head_text : List Field → ℕ → LineParts → Verdict → List ℕ
+head_text fields number line verdict = decimal number ++ codes " " ++ verdict_text verdict ++ codes " " ++ line_text fields line
+
+-- of one line: what becomes of it, and then the steps, if it is dropped
 abbrev pub texts_of : List Field → ℕ → LineParts → Verdict → List (List ℕ)
 texts_of fields number line verdict =
-    (decimal number ++ codes " " ++ verdict_text verdict ++ codes " " ++ line_text fields line) ∷ map step_text (steps_of verdict)
+    head_text fields number line verdict ∷ map step_text (steps_of verdict)
 
 -- of the lines from this number on
 abbrev pub texts_from : List Field → ℕ → List LineParts → List Verdict → List (List ℕ)
-texts_from fields number (line ∷ lines) (verdict ∷ verdicts) = texts_of fields number line verdict ++ texts_from fields (suc number) lines verdicts
+texts_from fields number (line ∷ lines) (verdict ∷ verdicts) =
+    texts_of fields number line verdict ++ texts_from fields (suc number) lines verdicts
 texts_from fields number _ _ = []

@@ -22,7 +22,7 @@ pub(crate) fn conditions_of(
     tests_of(alloc, survey.codes(), line.sets(), &wholes)
 }
 
-// The same of the fields, the set of each, and the set of all its codes.
+// The conditions of these fields, by the set of each and the set of all its codes.
 fn tests_of(
     alloc: Global,
     fields: &[u32],

@@ -1,10 +1,9 @@
 //! The lines of a report.
 ghost use Rattle.std.specs.Prelude.{◌≡◌, ◌++◌, ◌∷◌, IfOk, OnOk, codes, map};
-ghost use Rattle.std.specs.Fmt.{decimal};
 ghost use Rattle.edit_line.specs.Lines.{AreOver};
 ghost use Rattle.edit_line.specs.Shapes.{shape_of};
-ghost use Rattle.rule_report.specs.LineTexts.{line_text};
-ghost use Rattle.rule_report.specs.Reports.{step_text, texts_from, texts_of, verdict_text};
+ghost use Rattle.rule_report.specs.Reports.{head_text, step_text, texts_from, texts_of, verdict_text};
+ghost use Rattle.rule_report.specs.inner.Written.{texts_in};
 
 use crate::lines::line_text;
 use derivation::Step;
@@ -45,7 +44,7 @@ fn push_texts(
     verdict: &Verdict,
 ) -> Result<(), OutOfMemory>
     requires { line.now.shape ≡ shape_of survey.now.fields }
-    ensures { OnOk result (map (λ t. t.items) texts.new.items ≡ map (λ t. t.items) texts.old.items ++ texts_of survey.now.fields number line.now verdict.now) }
+    ensures { OnOk result (texts_in texts.new.items ≡ texts_in texts.old.items ++ texts_of survey.now.fields number line.now verdict.now) }
 {
     texts.push(head_text(alloc, survey, number, line, verdict)?)?;
     match verdict {
@@ -63,7 +62,7 @@ fn head_text(
     verdict: &Verdict,
 ) -> Result<Vec<u8>, OutOfMemory>
     requires { line.now.shape ≡ shape_of survey.now.fields }
-    ensures { IfOk result (λ text. text.items ≡ decimal number ++ codes " " ++ verdict_text verdict.now ++ codes " " ++ line_text survey.now.fields line.now) }
+    ensures { IfOk result (λ text. text.items ≡ head_text survey.now.fields number line.now verdict.now) }
 {
     let mut text = Vec::new(alloc);
     let mut buffer = Buffer::new();
@@ -89,7 +88,7 @@ fn verdict_text(verdict: &Verdict) -> &'static [u8]
 
 // Puts the texts of the steps last.
 fn push_steps(alloc: Global, texts: &mut Vec<Vec<u8>>, steps: &[Step]) -> Result<(), OutOfMemory>
-    ensures { OnOk result (map (λ t. t.items) texts.new.items ≡ map (λ t. t.items) texts.old.items ++ map step_text steps.now) }
+    ensures { OnOk result (texts_in texts.new.items ≡ texts_in texts.old.items ++ map step_text steps.now) }
 {
     for step in steps {
         texts.push(step_text(alloc, step)?)?;

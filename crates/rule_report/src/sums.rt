@@ -1,10 +1,11 @@
 //! The linear part of a line.
-ghost use Rattle.std.specs.Prelude.{◌≡◌, ◌++◌, [], ◌&&◌, IfOk, OnOk, if◌then◌else◌, length, pos, unsigned_abs};
+ghost use Rattle.std.specs.Prelude.{◌≡◌, ◌++◌, ◌&&◌, IfOk, OnOk, if◌then◌else◌, length, pos};
 ghost use Rattle.std.specs.Ordering.{int_eq};
 ghost use Rattle.edit_model.specs.declared.rule.Compare.TheVariants.{Ge, Gt};
-ghost use Rattle.edit_language.specs.Printing.{joint_text, linear_text, name_at, product_text, sign_text, sum_text};
+ghost use Rattle.edit_language.specs.Printing.{linear_text, sum_text};
 ghost use Rattle.edit_line.specs.Shapes.{shape_of};
 ghost use Rattle.rule_report.specs.LineTexts.{linear_of, terms_of};
+ghost use Rattle.rule_report.specs.inner.Written.{factor_text};
 
 use edit_language::{compare_text, write_constant, write_term};
 use edit_line::Line;
@@ -64,7 +65,7 @@ fn write_factor(
     field: u32,
     factor: i128,
 ) -> Result<bool, OutOfMemory>
-    ensures text { OnOk result (text.new.items ≡ text.old.items ++ (if int_eq factor (pos 0) then [] else (if first then sign_text factor else joint_text factor) ++ product_text (unsigned_abs factor) (name_at fields.now field))) }
+    ensures text { OnOk result (text.new.items ≡ text.old.items ++ factor_text first fields.now field factor) }
     ensures first { IfOk result (λ next. next ≡ (first && int_eq factor (pos 0))) }
 {
     if factor == 0 {

@@ -39,7 +39,7 @@ fn left_by(boxes: &[BoxFrom]) -> (Option<u8>, [bool; 3])
     (first_among(boxes, 0, 3), free)
 }
 
-/// The same for the boxes of the lines at a record.
+/// What the boxes of the lines that fail at a record leave: the first code, and which of three codes.
 fn codes_told(alloc: Global, plans: &[LinePlan]) -> Result<(Option<u8>, [bool; 3]), Fail> {
     let survey = survey_of(alloc)?;
     let lines = lines_of(alloc, &survey, plans)?;

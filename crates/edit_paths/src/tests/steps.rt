@@ -59,7 +59,7 @@ fn lines<L: Ledger>(alloc: Global, edits: &Arc<Edits>, blank: Blank) -> Result<H
     )
 }
 
-// The same, where nothing is counted.
+// The lines of the edits, reduced, where nothing is counted.
 fn lines_alone(alloc: Global, edits: &Arc<Edits>) -> Result<Held, Fail> {
     lines::<Brand>(alloc, edits, Blank::new(1))
 }

@@ -23,12 +23,12 @@ abbrev pub IsBasis : Case → List Bool → Basis → Type 0
 IsBasis c path (Lines system) = (length path < number_count c) × HasLines c path (arc_value system)
 IsBasis c path (Boxes boxes) = (number_count c ≤ length path) × (arc_value boxes ≡ boxes_along c path)
 
--- it is right for the path before its last letter
+-- the basis is right for the path before its last letter
 abbrev pub IsBasisBefore : Case → List Bool → Basis → Type 0
 IsBasisBefore c path (Lines system) = (length path ≤ number_count c) × HasLines c (before_last path) (arc_value system)
 IsBasisBefore c path (Boxes boxes) = (number_count c < length path) × (arc_value boxes ≡ boxes_along c (before_last path))
 
--- the two say the same
+-- both bases have the same lines, or the same boxes
 abbrev pub IsSame : Basis → Basis → Type 0
 IsSame (Lines first) (Lines second) = arc_value second ≡ arc_value first
 IsSame (Boxes first) (Boxes second) = arc_value second ≡ arc_value first

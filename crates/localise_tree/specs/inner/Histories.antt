@@ -9,7 +9,9 @@ use Rattle.categ_combine.specs.BoxLists.{AreBoxesOver}
 use Rattle.categ_combine.specs.Covers.{covered_from}
 use Rattle.categ_combine.specs.Fixing.{fixed_from}
 use Rattle.categ_combine.specs.declared.box_from.BoxFrom.{BoxFrom}
+use Rattle.bound_cert.specs.declared.cert.Leaf.{Leaf}
 use Rattle.edit_paths.specs.Cases.{Case}
+use Rattle.edit_paths.specs.Certificates.{leaves_by}
 use Rattle.edit_paths.specs.Histories.{History, with_lines}
 use Rattle.edit_paths.specs.Levels.{history_of}
 use Rattle.edit_paths.specs.PathHistories.{box_history, line_history}
@@ -19,6 +21,7 @@ use Rattle.edit_paths.specs.declared.levels.Level.{Level}
 use Rattle.edit_paths.specs.declared.levels.Level.TheVariants.{Boxes, Lines}
 use Rattle.edit_paths.specs.declared.state.PathState.{PathState}
 use Rattle.edit_paths.specs.declared.state.PathState.TheVariants.{ClosedBox, ClosedLine}
+use Rattle.localise_tree.specs.inner.Bases.{path_system}
 
 -- the history, and the lines of the next system, where no number leaves the range
 abbrev pub with_system : History → Result (List Derived) SystemOverflow → History
@@ -37,7 +40,7 @@ abbrev pub own_boxes : Level → List BoxFrom
 own_boxes (Lines held) = []
 own_boxes (Boxes field boxes) = boxes
 
--- those of the last list
+-- the boxes of the last of the lists
 abbrev pub boxes_in : List Level → List BoxFrom
 boxes_in levels = fold (λ (before : List BoxFrom) level. own_boxes level) [] levels
 
@@ -52,7 +55,7 @@ pub record HasLists (c : Case) (path : List Bool) (levels : List Level) : Type 0
   pub lines : length path ≤ number_count c → history_of levels ≡ line_history c path
   pub boxes : number_count c < length path → HasBoxLists c path levels
 
--- they are those of the path before its last letter, and none of the empty path
+-- the lists lead to what the path before the last letter has; there are none for the empty path
 pub record HasListsBefore (c : Case) (path : List Bool) (levels : List Level) : Type 0 where
   pub first : length path ≡ 0 → levels ≡ []
   pub later : 0 < length path → HasLists c (before_last path) levels
@@ -65,3 +68,11 @@ HasMore before after = (more : List Level) × (after ≡ before ++ more)
 pub record LeadTo (c : Case) (path : List Bool) (state : PathState) (levels : List Level) : Type 0 where
   pub line : (i : ℕ) → state ≡ ClosedLine i → history_of levels ≡ line_history c path
   pub box : (i : ℕ) → state ≡ ClosedBox i → history_of levels ≡ box_history c path
+
+-- the lines of the path's system are the next list, where no number leaves the range
+abbrev pub AddsSystem : Case → List Bool → List Level → List Level → Type 0
+AddsSystem c path before after = history_of after ≡ with_system (history_of before) (path_system c path)
+
+-- the leaf of a closed path, by its state, is appended, where the lists lead to what closes it
+abbrev pub AddsClosed : List Bool → PathState → List Level → List Leaf → List Leaf → Type 0
+AddsClosed path state levels before after = (c : Case) → LeadTo c path state levels → after ≡ before ++ leaves_by c path [] state

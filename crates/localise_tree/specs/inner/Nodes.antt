@@ -1,13 +1,16 @@
-use Rattle.std.specs.Prelude.{◌≡◌, ◌*◌, ◌<◌, ◌≤◌, ◌==◌, ◌&&◌, ◌||◌, ℕ, Bool, List, [], ◌∷◌, Option, IfSome, length, map, nat_lt}
+use Rattle.std.specs.Prelude.{◌≡◌, ◌*◌, ◌<◌, ◌≤◌, ◌==◌, ◌&&◌, ◌||◌, ℕ, Bool, List, [], ◌∷◌, Option, IfSome, length, map, nat_lt, slice_index_or}
 use Rattle.std.specs.Arc.{arc_value}
 use Rattle.std.specs.List.{AllByRecursion}
-use Rattle.edit_model.specs.Corrections.{is_first}
+use Rattle.edit_model.specs.Corrections.{is_first, path_order}
+use Rattle.edit_model.specs.Words.{weight_at}
+use Rattle.edit_model.specs.declared.field.Field.{Field}
 use Rattle.linear_elim.specs.declared.held.Held.{Held}
 use Rattle.bound_cert.specs.Paths.{path_weight}
 use Rattle.edit_paths.specs.Cases.{Case}
 use Rattle.edit_paths.specs.Paths.{before_last, field_count}
 use Rattle.edit_paths.specs.States.{IsOpen, state_of}
 use Rattle.edit_paths.specs.Works.{work_of}
+use Rattle.edit_paths.specs.declared.state.PathState.{PathState}
 use Rattle.edit_paths.specs.declared.state.PathState.TheVariants.{Open}
 use Rattle.localise_tree.specs.KeptFields.{KeepsChanged}
 use Rattle.localise_tree.specs.declared.ends.Node.{Node}
@@ -26,7 +29,7 @@ pub record IsNode (c : Case) (node : Node) : Type 0 where
   pub reached : 0 < length node.path → IsOpen c (before_last node.path)
   pub basis : IsBasisBefore c node.path node.before
 
--- their paths
+-- the paths of the ends
 abbrev pub paths_of : List Node → List (List Bool)
 paths_of nodes = map (λ (node : Node). node.path) nodes
 
@@ -34,9 +37,18 @@ paths_of nodes = map (λ (node : Node). node.path) nodes
 abbrev pub before : Node → Node → Bool
 before first second = nat_lt first.weight second.weight || ((first.weight == second.weight) && is_first first.path second.path)
 
--- the source keeps the system of the path before each
+-- the source keeps the system of the path before each end
 abbrev pub AreKept : (ℕ → Bool) → Case → List Node → Type 0
 AreKept keeps c ends = AllByRecursion (λ (node : Node). KeepsChanged keeps c (before_last node.path)) ends
+
+-- where the source keeps what the ends need, and the system of the path if it is open, it keeps what the later ends need
+abbrev pub StayKept : Case → List Bool → PathState → List Node → List Node → Type 0
+StayKept c path state ends later =
+    (keeps : ℕ → Bool) → (state ≡ Open → KeepsChanged keeps c path) → AreKept keeps c ends → AreKept keeps c later
+
+-- the weight of the field at a place of the path order
+abbrev pub weight_in_order : List Field → ℕ → ℕ
+weight_in_order fields place = weight_at fields (slice_index_or (path_order fields) place 0)
 
 -- the basis is this system
 abbrev pub IsOfSystem : Held → Basis → Type 0

@@ -13,7 +13,7 @@ edits_in p = arc_value p.edits.now
 abbrev pub case_in : Problem → Case
 case_in p = case_of p.survey.now (edits_in p) p.row.now
 
--- its parts fit each other
+-- the parts of the problem fit each other
 pub record IsProblem (p : Problem) : Type 0 where
   pub case : IsCase (case_in p)
   pub shape : (edits_in p).shape ≡ shape_of p.survey.now.fields

@@ -10,7 +10,7 @@ use Rattle.localise_tree.specs.declared.best_first.Taken.{Taken}
 abbrev pub IsTaken : Case → Taken → Type 0
 IsTaken c taken = taken.state ≡ state_of c taken.path
 
--- their paths
+-- the paths that were taken
 abbrev pub taken_paths : List Taken → List (List Bool)
 taken_paths taken = map (λ (t : Taken). t.path) taken
 

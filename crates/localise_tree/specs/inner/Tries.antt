@@ -1,16 +1,14 @@
 use Rattle.std.specs.Prelude.{◌≡◌, ℕ, ◌+◌, List, Option, Some, None}
 use Rattle.std.specs.Arc.{arc_value}
-use Rattle.std.specs.List.{position}
 use Rattle.edit_model.specs.declared.value.Value.{Value}
 use Rattle.edit_model.specs.declared.value.Value.TheVariants.{Bad, Code, Number}
-use Rattle.edit_line.specs.Boxes.{are_whole}
 use Rattle.edit_line.specs.Shapes.{shape_of}
 use Rattle.categ_combine.specs.BoxLists.{sets_of}
 use Rattle.categ_combine.specs.Covers.{cover_count, covered_from}
 use Rattle.categ_combine.specs.Fixing.{fixed_from}
 use Rattle.categ_combine.specs.declared.box_from.BoxFrom.{BoxFrom}
 use Rattle.edit_paths.specs.Cases.{Case}
-use Rattle.edit_paths.specs.States.{first_whole}
+use Rattle.edit_paths.specs.States.{whole_state}
 use Rattle.edit_paths.specs.declared.state.PathState.{PathState}
 use Rattle.edit_paths.specs.declared.state.PathState.TheVariants.{ClosedBad}
 use Rattle.localise_tree.specs.declared.looks.Basis.{Basis}
@@ -19,25 +17,25 @@ use Rattle.localise_tree.specs.declared.looks.Look.{Look}
 
 -- ---- a line that is tried
 
--- what decides, or else the next
+-- the state that a tried line decides, or else that of the next lines
 abbrev pub or_next : Option PathState → PathState → PathState
 or_next (Some state) next = state
 or_next None next = next
 
 -- ---- a categorical field that is treated
 
--- what the first box of all codes makes of the path
-abbrev pub whole_state : Case → List BoxFrom → PathState
-whole_state c boxes = first_whole (position (λ (b : BoxFrom). are_whole (shape_of c.survey.fields) b.code_box.sets) boxes)
-
 -- the boxes are these
 abbrev pub AreBoxes : List BoxFrom → Basis → Type 0
 AreBoxes boxes (Lines system) = ⊥
 AreBoxes boxes (Boxes own) = arc_value own ≡ boxes
 
+-- the work of combining the boxes at the field
+abbrev pub cover_work : Case → List BoxFrom → ℕ → ℕ
+cover_work c before f = 1 + cover_count (shape_of c.survey.fields) (sets_of before) f
+
 -- the field was changed: the boxes are combined there
 pub record IsChanged (c : Case) (before : List BoxFrom) (f : ℕ) (look : Look) : Type 0 where
-  pub work : look.work ≡ 1 + cover_count (shape_of c.survey.fields) (sets_of before) f
+  pub work : look.work ≡ cover_work c before f
   pub basis : AreBoxes (covered_from (shape_of c.survey.fields) before f) look.basis
   pub state : look.state ≡ whole_state c (covered_from (shape_of c.survey.fields) before f)
 

@@ -1,8 +1,11 @@
-use Rattle.std.proofs.Common.{[], ◌∙◌, sym, ap, ◌++◌, ◌+◌, ◌≡◌, suc, Err, drop, get_or, option_copied, subst, take, arith}
+use Rattle.std.proofs.Common.{ℕ, List, true, [], ◌∙◌, sym, ap, ◌++◌, ◌+◌, ◌≡◌, suc, Err, drop, get_or, option_copied, subst, take, arith}
 use Rattle.std.specs.Arc.{arc_value}
 use Rattle.std.proofs.lemmas.List.{append-nil, drop_all, take_all}
+use Rattle.edit_model.specs.FieldSets.{has_number}
+use Rattle.edit_model.specs.Parts.{SurveyParts}
 use Rattle.edit_model.specs.declared.value.Value.{Value}
-use Rattle.edit_line.specs.Shapes.{has_field}
+use Rattle.edit_line.specs.EditSets.{EditsParts}
+use Rattle.edit_line.specs.Shapes.{has_field, number_fields, shape_of}
 use Rattle.linear_elim.specs.Systems.{AreNumerical}
 use Rattle.back_subst.specs.Given.{number_in, target_of}
 use Rattle.back_subst.specs.NumberWalk.{number_result}
@@ -13,6 +16,7 @@ use Rattle.back_subst.proofs.NumberTurns.{blank-here, computed-turned, kind-here
 use Rattle.back_subst.proofs.OrderLaws.{left-numerical, parted}
 use Rattle.back_subst.proofs.UnderWayLaws.{donor-within, number-below}
 use Rattle.back_subst.proofs.giving.give_numbers.Goals as goal
+use Rattle.back_subst.proofs.giving.give_numbers.Goals.{After-without-left}
 
 pub set_of-left-requires : goal.set_of-left-requires
 set_of-left-requires g c = c.requires.order.1.numbers_small
@@ -26,117 +30,108 @@ loop-field-init g c = (
   tt,
 )
 
+-- what is known of the field when it is left no more
+module _ (g : _) (c : After-without-left g) where
+  abbrev survey : SurveyParts
+  survey = c.args.survey.now
+
+  abbrev e : EditsParts
+  e = arc_value c.args.edits.now
+
+  abbrev order : List ℕ
+  order = c.args.order.now
+
+  abbrev i : ℕ
+  i = c.loop-field.field-index
+
+  abbrev target : ℕ → Value
+  target = target_of (option_copied c.args.donor)
+
+  way : IsUnderWay survey (start_lines e) target c.requires.way.0 (c.requires.way.1 ++ take i order) (drop i order) c.loop-field.new
+  way = c.loop-field.invariant.3 c.requires.way.0 c.requires.way.1 c.requires.way.2
+
+  numerical : has_field (number_fields (shape_of survey.fields)) (get_or order i 0) ≡ true
+  numerical = numerical-here survey e c.requires.order.0 order c.requires.order.1 i c.loop-field-test.true target c.requires.way.0 c.loop-field.new c.requires.way.1 way
+
+  left-is : (k : ℕ) → has_number c.without-left.result k ≡ has_field (drop (suc i) order) k
+  left-is =
+      left-here survey e c.requires.order.0 order c.requires.order.1 i c.loop-field-test.true target c.requires.way.0 c.loop-field.new c.requires.way.1 way c.loop-field.left c.without-left.result c.loop-field.invariant.2
+      c.without-left.ensures.out c.without-left.ensures.others
+
 pub target_of-target-requires : goal.target_of-target-requires
 target_of-target-requires g c =
-    let survey = c.args.survey.now in
-    let e = arc_value c.args.edits.now in
-    let order = c.args.order.now in
-    let i = c.loop-field.field-index in
-    let target = target_of (option_copied c.args.donor) in
-    let way = c.loop-field.invariant.3 c.requires.way.0 c.requires.way.1 c.requires.way.2 in
-    donor-within survey (option_copied c.args.donor) (get_or order i 0) c.requires.donor (number-below survey.fields _ (numerical-here survey e c.requires.order.0 order c.requires.order.1 i c.loop-field-test.true target c.requires.way.0 c.loop-field.new c.requires.way.1 way))
+    let at = (goal.at.target_of-target-requires g c).After-without-left in
+    donor-within (survey g at) (option_copied c.args.donor) (get_or (order g at) (i g at) 0) c.requires.donor (number-below (survey g at).fields _ (numerical g at))
 
 pub number_for-requires-clause-row : goal.number_for-requires-clause-row
-number_for-requires-clause-row g c = (c.loop-field.invariant.3 c.requires.way.0 c.requires.way.1 c.requires.way.2).is_row
+number_for-requires-clause-row g c = (way g (goal.at.number_for-requires-clause-row g c).After-without-left).is_row
 
 pub number_for-requires-clause-field : goal.number_for-requires-clause-field
-number_for-requires-clause-field g c =
-    let survey = c.args.survey.now in
-    let e = arc_value c.args.edits.now in
-    let order = c.args.order.now in
-    let i = c.loop-field.field-index in
-    let target = target_of (option_copied c.args.donor) in
-    let way = c.loop-field.invariant.3 c.requires.way.0 c.requires.way.1 c.requires.way.2 in
-    numerical-here survey e c.requires.order.0 order c.requires.order.1 i c.loop-field-test.true target c.requires.way.0 c.loop-field.new c.requires.way.1 way
+number_for-requires-clause-field g c = numerical g (goal.at.number_for-requires-clause-field g c).After-without-left
 
 pub number_for-requires-clause-blank : goal.number_for-requires-clause-blank
 number_for-requires-clause-blank g c =
-    let survey = c.args.survey.now in
-    let e = arc_value c.args.edits.now in
-    let order = c.args.order.now in
-    let i = c.loop-field.field-index in
-    let target = target_of (option_copied c.args.donor) in
-    let way = c.loop-field.invariant.3 c.requires.way.0 c.requires.way.1 c.requires.way.2 in
-    blank-here survey e c.requires.order.0 order c.requires.order.1 i c.loop-field-test.true target c.requires.way.0 c.loop-field.new c.requires.way.1 way
+    let at = (goal.at.number_for-requires-clause-blank g c).After-without-left in
+    blank-here (survey g at) (e g at) c.requires.order.0 (order g at) c.requires.order.1 (i g at) c.loop-field-test.true (target g at) c.requires.way.0 c.loop-field.new c.requires.way.1 (way g at)
 
 pub number_for-requires-clause-numerical : goal.number_for-requires-clause-numerical
 number_for-requires-clause-numerical g c =
-    let survey = c.args.survey.now in
-    let e = arc_value c.args.edits.now in
+    let at = (goal.at.number_for-requires-clause-numerical g c).After-without-left in
     let order = c.args.order.now in
     let i = c.loop-field.field-index in
-    let target = target_of (option_copied c.args.donor) in
-    let way = c.loop-field.invariant.3 c.requires.way.0 c.requires.way.1 c.requires.way.2 in
-    let left_is = left-here survey e c.requires.order.0 order c.requires.order.1 i c.loop-field-test.true target c.requires.way.0 c.loop-field.new c.requires.way.1 way c.loop-field.left c.without-left.result c.loop-field.invariant.2
-    c.without-left.ensures.out c.without-left.ensures.others in
-    subst (λ sh. AreNumerical sh c.without-left.result) (sym c.requires.shape) (left-numerical survey.fields c.requires.order.0 order (take i order) (drop (suc i) order) (get_or order i 0) c.requires.order.1 (parted order i c.loop-field-test.true) c.without-left.result left_is)
+    subst (λ sh. AreNumerical sh c.without-left.result) (sym c.requires.shape) (left-numerical (survey g at).fields c.requires.order.0 order (take i order) (drop (suc i) order) (get_or order i 0) c.requires.order.1 (parted order i c.loop-field-test.true) c.without-left.result (left-is g at))
 
 pub number_for-requires-clause-served : goal.number_for-requires-clause-served
 number_for-requires-clause-served g c = c.loop-field.invariant.0 _ c.requires.served
 
 pub number_for-requires-clause-in_range : goal.number_for-requires-clause-in_range
 number_for-requires-clause-in_range g c =
-    let survey = c.args.survey.now in
-    let e = arc_value c.args.edits.now in
-    let order = c.args.order.now in
-    let i = c.loop-field.field-index in
-    let target = target_of (option_copied c.args.donor) in
-    let way = c.loop-field.invariant.3 c.requires.way.0 c.requires.way.1 c.requires.way.2 in
-    let left_is = left-here survey e c.requires.order.0 order c.requires.order.1 i c.loop-field-test.true target c.requires.way.0 c.loop-field.new c.requires.way.1 way c.loop-field.left c.without-left.result c.loop-field.invariant.2
-    c.without-left.ensures.out c.without-left.ensures.others in
-    system-here survey e c.requires.order.0 order c.requires.order.1 i c.loop-field-test.true target c.requires.way.0 c.loop-field.new c.requires.way.1 way c.requires.shape c.without-left.result left_is c.requires.in_range.0 c.requires.in_range.1
+    let at = (goal.at.number_for-requires-clause-in_range g c).After-without-left in
+    system-here (survey g at) (e g at) c.requires.order.0 (order g at) c.requires.order.1 (i g at) c.loop-field-test.true (target g at) c.requires.way.0 c.loop-field.new c.requires.way.1 (way g at)
+    c.requires.shape c.without-left.result (left-is g at) c.requires.in_range.0 c.requires.in_range.1
 
 pub set-requires-clause-row : goal.set-requires-clause-row
-set-requires-clause-row g c = (c.loop-field.invariant.3 c.requires.way.0 c.requires.way.1 c.requires.way.2).is_row
+set-requires-clause-row g c = (way g (goal.at.set-requires-clause-row g c).After-without-left).is_row
 
 pub set-requires-clause-kind : goal.set-requires-clause-kind
 set-requires-clause-kind g c =
-    let survey = c.args.survey.now in
-    let e = arc_value c.args.edits.now in
-    let order = c.args.order.now in
-    let i = c.loop-field.field-index in
-    let target = target_of (option_copied c.args.donor) in
-    let way = c.loop-field.invariant.3 c.requires.way.0 c.requires.way.1 c.requires.way.2 in
-    kind-here survey e c.requires.order.0 order c.requires.order.1 i c.loop-field-test.true target c.requires.way.0 c.loop-field.new c.requires.way.1 way c.in-Ok.x
+    let at = (goal.at.set-requires-clause-kind g c).After-without-left in
+    kind-here (survey g at) (e g at) c.requires.order.0 (order g at) c.requires.order.1 (i g at) c.loop-field-test.true (target g at) c.requires.way.0 c.loop-field.new c.requires.way.1 (way g at) c.in-Ok.x
 
 pub loop-field-preserved : goal.loop-field-preserved
 loop-field-preserved g c =
+    let at = (goal.at.loop-field-preserved g c).After-without-left in
     let survey = c.args.survey.now in
     let e = arc_value c.args.edits.now in
     let order = c.args.order.now in
     let i = c.loop-field.field-index in
     let target = target_of (option_copied c.args.donor) in
-    let way = c.loop-field.invariant.3 c.requires.way.0 c.requires.way.1 c.requires.way.2 in
-    let left_is = left-here survey e c.requires.order.0 order c.requires.order.1 i c.loop-field-test.true target c.requires.way.0 c.loop-field.new c.requires.way.1 way c.loop-field.left c.without-left.result c.loop-field.invariant.2
-    c.without-left.ensures.out c.without-left.ensures.others in
-    let next : suc i ≡ i + 1 = omega arith in (
+    let next : suc i ≡ i + 1 = omega arith in
+    let found = ap (λ (v : Value). number_result (system_left e c.without-left.result) c.loop-field.new (get_or order i 0) (number_in v)) (sym c.target_of-target.ensures) ∙ c.in-Ok.ensures.number in (
       λ d h. c.number_for.ensures.serves d (c.loop-field.invariant.0 d h),
       λ f h. c.number_for.ensures.keeps f (c.loop-field.invariant.1 f h),
-      λ k. left_is k ∙ ap (λ n. has_field (drop n order) k) next,
+      λ k. left-is g at k ∙ ap (λ n. has_field (drop n order) k) next,
       λ row given start.
-          let on = c.loop-field.invariant.3 row given start in
           subst (λ r. IsUnderWay survey (start_lines e) target row (given ++ take (i + 1) order) (drop (i + 1) order) r) (sym c.set.ensures.set)
-          (number-turned survey e c.requires.order.0 order c.requires.order.1 i c.loop-field-test.true target row c.loop-field.new given on c.requires.shape c.without-left.result left_is c.requires.over c.in-Ok.x
-          (ap (λ (v : Value). number_result (system_left e c.without-left.result) c.loop-field.new (get_or order i 0) (number_in v)) (sym c.target_of-target.ensures) ∙ c.in-Ok.ensures.number)),
+          (number-turned survey e c.requires.order.0 order c.requires.order.1 i c.loop-field-test.true target row c.loop-field.new given (c.loop-field.invariant.3 row given start) c.requires.shape c.without-left.result (left-is g at)
+          c.requires.over c.in-Ok.x found),
       subst (λ r. AreComputedBy (start_lines e) target r (take (i + 1) order) (drop (i + 1) order)) (sym c.set.ensures.set)
-          (computed-turned survey e c.requires.order.0 order c.requires.order.1 i c.loop-field-test.true target c.requires.way.0 c.loop-field.new c.requires.way.1 way c.requires.shape c.without-left.result left_is c.requires.over c.in-Ok.x
-          (ap (λ (v : Value). number_result (system_left e c.without-left.result) c.loop-field.new (get_or order i 0) (number_in v)) (sym c.target_of-target.ensures) ∙ c.in-Ok.ensures.number) c.loop-field.invariant.4),
+          (computed-turned survey e c.requires.order.0 order c.requires.order.1 i c.loop-field-test.true target c.requires.way.0 c.loop-field.new c.requires.way.1 (way g at) c.requires.shape c.without-left.result (left-is g at)
+          c.requires.over c.in-Ok.x found c.loop-field.invariant.4),
     )
 
 pub returns-in-Err-clause-bound : goal.returns-in-Err-clause-bound
 returns-in-Err-clause-bound g c = λ f line row given told start.
+    let at = (goal.at.returns-in-Err-clause-bound g c).After-without-left in
     let survey = c.args.survey.now in
     let e = arc_value c.args.edits.now in
     let order = c.args.order.now in
     let i = c.loop-field.field-index in
     let target = target_of (option_copied c.args.donor) in
-    let way = c.loop-field.invariant.3 c.requires.way.0 c.requires.way.1 c.requires.way.2 in
-    let left_is = left-here survey e c.requires.order.0 order c.requires.order.1 i c.loop-field-test.true target c.requires.way.0 c.loop-field.new c.requires.way.1 way c.loop-field.left c.without-left.result c.loop-field.invariant.2
-    c.without-left.ensures.out c.without-left.ensures.others in
     let is : c.in-Err.fault ≡ Bound f line = cc in
     let (same, out) = c.in-Err.ensures.bound f line (ap Err is) in
     subst (λ n. StopsAmong survey (start_lines e) target row given order n line) (sym same)
-    (number-stopped survey e c.requires.order.0 order c.requires.order.1 i c.loop-field-test.true target row c.loop-field.new given (c.loop-field.invariant.3 row given start) c.requires.shape c.without-left.result left_is line c.loop-field.invariant.4
+    (number-stopped survey e c.requires.order.0 order c.requires.order.1 i c.loop-field-test.true target row c.loop-field.new given (c.loop-field.invariant.3 row given start) c.requires.shape c.without-left.result (left-is g at) line c.loop-field.invariant.4
     (ap (λ (v : Value). number_result (system_left e c.without-left.result) c.loop-field.new (get_or order i 0) (number_in v)) (sym c.target_of-target.ensures) ∙ out))
 
 pub returns-clause-given : goal.returns-clause-given

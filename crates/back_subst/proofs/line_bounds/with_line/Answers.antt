@@ -1,8 +1,8 @@
-use Rattle.std.proofs.Common.{◌≡◌, ◌≢◌, ◌<◌, Ok, int_lt, length, get_or, ℤ, List, pos, sym, ap, ◌∙◌, arith, FitsSigned, to_z, of_z, rules}
+use Rattle.std.proofs.Common.{◌≡◌, ◌≢◌, ◌<◌, Option, Ok, int_lt, length, get_or, ℤ, List, pos, sym, ap, ◌∙◌, arith, FitsSigned, to_z, of_z, rules}
 use mir.Syntax.{w128}
 use Rattle.std.proofs.lemmas.Int.{to_z-of_z}
 use Rattle.foundation.specs.Options.{◌>>?◌}
-use Rattle.fraction128.specs.Formulas.{answered, divided, ratio_of}
+use Rattle.fraction128.specs.Formulas.{Ratio, answered, divided, ratio_of}
 use Rattle.edit_line.specs.Lines.{factor}
 use Rattle.edit_line.specs.Shapes.{number_fields, shape_of}
 use Rattle.edit_line.specs.Sums.{sum_at}
@@ -28,6 +28,15 @@ module _ (c : After-factors) where
       to_z-of_z w128 _ fits ∙ ap (λ (fs : List ℤ). get_or fs c.args.place (pos 0)) c.factors.ensures.factors
       ∙ factor-at (shape_of c.args.survey.now.fields) c.args.line.now c.args.field c.args.place c.requires.shape c.factors.ensures.count c.requires.place
 
+  module _ (fits : FitsSigned w128 (get_or c.factors.result.now c.args.place (pos 0))) where
+    stands : (of_z w128 (get_or c.factors.result.now c.args.place (pos 0)) ≢ of_z w128 (pos 0)) → factor c.args.line.now c.args.field ≢ pos 0
+    stands other none = other (ap (of_z w128) (sym (to_z-of_z w128 _ fits) ∙ read fits ∙ none))
+
+    -- what is told of the bound, by the field's factor
+    told : (o : Option Ratio) → o ≡ (value_in (sum_at c.args.line.now c.args.row.now) >>? (λ s. divided s (neg_ℤ (to_z w128 (of_z w128 (get_or c.factors.result.now c.args.place (pos 0)))))))
+        → o ≡ (value_in (sum_at c.args.line.now c.args.row.now) >>? (λ s. divided s (neg_ℤ (factor c.args.line.now c.args.field))))
+    told o is = is ∙ ap (λ (k : ℤ). (value_in (sum_at c.args.line.now c.args.row.now) >>? (λ s. divided s (neg_ℤ k)))) (read fits)
+
 pub offset_bounds-factors-place : goal.offset_bounds-factors-place
 offset_bounds-factors-place c =
     let below = within (goal.at.offset_bounds-factors-place c).After-factors in
@@ -49,28 +58,17 @@ returns-then-factor-eq0 c =
 
 pub returns-in-Ok : goal.returns-in-Ok
 returns-in-Ok c =
-    let line = c.args.line.now in
-    let row = c.args.row.now in
     let f = c.args.field in
     let at = (goal.at.returns-in-Ok c).After-factors in
     let fits : FitsSigned w128 (get_or c.factors.result.now c.args.place (pos 0)) = search rules in
-    let own = read at fits in
-    let some : factor line f ≢ pos 0 = λ none. c.if-factor-eq0.false (ap (of_z w128) (sym (to_z-of_z w128 _ fits) ∙ own ∙ none)) in
-    let bound = c.bound_at.ensures ∙ ap (λ (k : ℤ). (value_in (sum_at line row) >>? (λ s. divided s (neg_ℤ k)))) own in
     ap Ok (
-    c.with.ensures ∙ ap (λ (k : ℤ). with_found (ends_of c.args.bounds) (int_lt (pos 0) k) (found_at (ratio_of c.in-Ok.at) c.strict.result c.args.i)) own
-    ∙ ap (λ s. with_found (ends_of c.args.bounds) (int_lt (pos 0) (factor line f)) (found_at (ratio_of c.in-Ok.at) s c.args.i)) c.strict.ensures
+    c.with.ensures ∙ ap (λ (k : ℤ). with_found (ends_of c.args.bounds) (int_lt (pos 0) k) (found_at (ratio_of c.in-Ok.at) c.strict.result c.args.i)) (read at fits)
+    ∙ ap (λ s. with_found (ends_of c.args.bounds) (int_lt (pos 0) (factor c.args.line.now f)) (found_at (ratio_of c.in-Ok.at) s c.args.i)) c.strict.ensures
     )
-    ∙ with-bound c.args.i f line row (ends_of c.args.bounds) (sym c.if-not-has_codes_of.ensures) some c.requires.blank (answered c.bound_at.result) bound (ratio_of c.in-Ok.at) (ap answered c.in-Ok.is)
+    ∙ with-bound c.args.i f c.args.line.now c.args.row.now (ends_of c.args.bounds) (sym c.if-not-has_codes_of.ensures) (stands at fits c.if-factor-eq0.false) c.requires.blank (answered c.bound_at.result) (told at fits _ c.bound_at.ensures) (ratio_of c.in-Ok.at) (ap answered c.in-Ok.is)
 
 pub returns-in-Err : goal.returns-in-Err
 returns-in-Err c =
-    let line = c.args.line.now in
-    let row = c.args.row.now in
-    let f = c.args.field in
     let at = (goal.at.returns-in-Err c).After-factors in
     let fits : FitsSigned w128 (get_or c.factors.result.now c.args.place (pos 0)) = search rules in
-    let own = read at fits in
-    let some : factor line f ≢ pos 0 = λ none. c.if-factor-eq0.false (ap (of_z w128) (sym (to_z-of_z w128 _ fits) ∙ own ∙ none)) in
-    let bound = c.bound_at.ensures ∙ ap (λ (k : ℤ). (value_in (sum_at line row) >>? (λ s. divided s (neg_ℤ k)))) own in
-    without-bound c.args.i f line row (ends_of c.args.bounds) (sym c.if-not-has_codes_of.ensures) some c.requires.blank (answered c.bound_at.result) bound (ap answered c.in-Err.is)
+    without-bound c.args.i c.args.field c.args.line.now c.args.row.now (ends_of c.args.bounds) (sym c.if-not-has_codes_of.ensures) (stands at fits c.if-factor-eq0.false) c.requires.blank (answered c.bound_at.result) (told at fits _ c.bound_at.ensures) (ap answered c.in-Err.is)

@@ -3,7 +3,8 @@ use Rattle.edit_line.specs.Shapes.{shape_of}
 use Rattle.edit_model.specs.declared.value.Value.{Value}
 use Rattle.localise_tree.specs.declared.looks.Basis.TheVariants.{Boxes}
 use Rattle.localise_tree.specs.inner.Problems.{case_in}
-use Rattle.localise_tree.specs.inner.Tries.{IsKept, whole_state}
+use Rattle.edit_paths.specs.States.{whole_state}
+use Rattle.localise_tree.specs.inner.Tries.{IsKept}
 use Rattle.localise_tree.proofs.RowCodes.{row-code}
 use Rattle.localise_tree.proofs.code_paths.look_at_kept.Goals as goal
 

@@ -1,0 +1,27 @@
+-- The records of the files that are written, one after the other.
+use Rattle.std.specs.Prelude.{ℕ, ◌++◌, List, Some}
+use Rattle.edit_model.specs.declared.field.Field.{Field}
+use Rattle.edit_model.specs.declared.value.Value.{Value}
+use Rattle.back_subst.specs.declared.gift.Gift.{Gift}
+use Rattle.back_subst.specs.declared.gift.How.{How}
+use Rattle.record_text.specs.Texts.{records_text}
+use Rattle.edit_report.specs.Reasons.{changed_line, lines_with, reasons_of}
+use Rattle.edit_report.specs.declared.reasons.Record.{Record}
+use Rattle.edit_report.specs.inner.Columns.{LayoutParts}
+
+-- behind the bytes that were written before, these records are written, where it is said of a writer what it has written
+abbrev pub Adds : {W : Type 0} → (W → List ℕ → Type 0) → W → W → List (List (List ℕ)) → Type 0
+Adds has_written before after records =
+    (bytes : List ℕ) → has_written before bytes → has_written after (bytes ++ records_text records)
+
+-- the lines of a record
+abbrev pub record_lines : List Field → LayoutParts → Record → List (List (List ℕ))
+record_lines fields layout r = reasons_of fields layout.columns r.number r.read.now r.end.now
+
+-- the lines of a record that was given values
+abbrev pub gift_lines : List Field → LayoutParts → Record → Gift → List (List (List ℕ))
+gift_lines fields layout r gift = lines_with fields layout.columns r.number r.read.now r.end.now.proof r.end.now.donor (Some gift)
+
+-- the line of a changed field of a record
+abbrev pub field_line : List Field → LayoutParts → Record → List Value → ℕ → How → List (List ℕ)
+field_line fields layout r new f how = changed_line fields layout.columns r.number r.read.now r.end.now.donor new f how
