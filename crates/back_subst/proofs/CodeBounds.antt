@@ -7,7 +7,7 @@ use Rattle.fraction128.specs.Formulas.{ratio_of}
 use Rattle.fraction128.specs.declared.fraction.Fraction.{Fraction}
 use Rattle.fraction128.proofs.FractionOrder.{IsBelow}
 use Rattle.edit_line.specs.Subsumption.{is_enough}
-use Rattle.back_subst.specs.NumberWalk.{inside_by, is_tighter}
+use Rattle.back_subst.specs.NumberWalk.{inside_by, is_further_in}
 use Rattle.back_subst.specs.inner.Sides.{found_of, side_of}
 use Rattle.back_subst.specs.declared.bound.Bound.{Bound}
 use Rattle.back_subst.proofs.BoundLaws.{minus, once}
@@ -84,15 +84,15 @@ equal_first : (z : ℤ) (rest : Bool) → z ≡ pos 0 → rest ≡ (int_lt (pos 
 equal_first z rest is = rw is refl
 
 module _ (self other : Bound) where
-  pub tighter-less : (lower : Bool) → IsBelow self.at other.at → not lower ≡ is_tighter (side_of lower) (found_of other) (found_of self)
+  pub tighter-less : (lower : Bool) → IsBelow self.at other.at → not lower ≡ is_further_in (side_of lower) (found_of other) (found_of self)
   tighter-less true below = below_first _ _ (subst (λ (z : ℤ). z <ℤ pos 0) (sym (once _)) (less_gap _ _ below))
   tighter-less false below = above_first _ _ (subst (λ (z : ℤ). pos 0 <ℤ z) (sym (minus _)) (more_gap _ _ below))
 
-  pub tighter-greater : (lower : Bool) → IsBelow other.at self.at → lower ≡ is_tighter (side_of lower) (found_of other) (found_of self)
+  pub tighter-greater : (lower : Bool) → IsBelow other.at self.at → lower ≡ is_further_in (side_of lower) (found_of other) (found_of self)
   tighter-greater true above = above_first _ _ (subst (λ (z : ℤ). pos 0 <ℤ z) (sym (once _)) (above_gap _ _ above))
   tighter-greater false above = below_first _ _ (subst (λ (z : ℤ). z <ℤ pos 0) (sym (minus _)) (under_gap _ _ above))
 
-  pub tighter-equal : (lower : Bool) → self.at ≡ other.at → (self.strict && not other.strict) ≡ is_tighter (side_of lower) (found_of other) (found_of self)
+  pub tighter-equal : (lower : Bool) → self.at ≡ other.at → (self.strict && not other.strict) ≡ is_further_in (side_of lower) (found_of other) (found_of self)
   tighter-equal lower same = equal_first _ _ (by lower)
     where
       level : self.at.numerator *ℤ other.at.denominator ≡ other.at.numerator *ℤ self.at.denominator

@@ -15,7 +15,7 @@ use Rattle.edit_line.specs.CodeFields.{size_of, with_code_at}
 use Rattle.edit_line.specs.Lines.{AllHold, HaveShape, LineParts, factor}
 use Rattle.edit_line.specs.Reductions.{IsIn, lines_of}
 use Rattle.edit_line.specs.Shapes.{Categorical, Domain, HasCodes, IsCategorical, IsNumerical, Numerical, code_fields, codes_from, domain_of, has_field, number_fields, shape_of}
-use Rattle.edit_line.specs.Sums.{AgreesWith, HasNumbers, fails_at}
+use Rattle.edit_line.specs.Sums.{AgreesOnLine, HasNumbers, fails_at}
 use Rattle.edit_line.specs.declared.derived.Derived.{Derived}
 use Rattle.edit_line.proofs.Members.{all-in, in-all, in-taken}
 use Rattle.edit_line.proofs.ShapeLaws.{HasCodes-shape}
@@ -153,7 +153,7 @@ module _ (survey : SurveyParts) (edits : List LineParts) (row : List Value) (g :
   avoids-holds : (q : Point) → ((i : ℕ) → has_field (number_fields shape) i ≡ true → has_field numbers i ≡ false → Agrees row q i) → AllHold (system edits numbers) q ↔ Avoids shape boxes q
   avoids-holds q agrees =
       let law = failing-avoids shape row q derived boxes (at_lines (λ l. l.shape ≡ shape) shapes) have_numbers
-      (at_lines (λ l. AgreesWith row q l) (λ l there. at-factors (λ f. Agrees row q f) l (λ i some. let (number, outside) = stands l there i some in agrees i number outside))) made in
+      (at_lines (λ l. AgreesOnLine row q l) (λ l there. at-factors (λ f. Agrees row q f) l (λ i some. let (number, outside) = stands l there i some in agrees i number outside))) made in
       (λ hold. law.0 (subst (λ ls. AllHold ls q) (sym derived_are) hold), λ avoids. subst (λ ls. AllHold ls q) derived_are (law.1 avoids))
 
   -- ---- the record's codes at the fields that are kept

@@ -8,7 +8,7 @@ use Rattle.edit_line.specs.Lines.{IsEnough}
 use Rattle.edit_line.proofs.Enough.{IsEnough-above, IsEnough-at_least, IsEnough-more, IsEnough-times, IsEnough_cancel, is_enough-Decides}
 use Rattle.edit_line.proofs.SetLaws.{both_true}
 use Rattle.linear_elim.proofs.BetweenLaws.{above_neg, by_sign}
-use Rattle.back_subst.specs.Intervals.{End, Interval, IsEndOf, gap_from, is_past_any, is_within, middle}
+use Rattle.back_subst.specs.Intervals.{End, Interval, IsEndOf, gap_from, is_past_any, is_within, halfway}
 use Rattle.back_subst.proofs.IntervalLaws.{depth}
 
 -- The ends of the interval of the allowed numbers, by these numbers alone.
@@ -66,23 +66,23 @@ module _ (side : ℤ) (unit : side *ℤ side ≡ pos 1) (allowed : Ratio → Typ
           clash (gap_from side m w) (subst (λ (z : ℤ). pos 0 ≤ℤ z) (reversed side m.numerator m.denominator w.numerator w.denominator) (bound m m_above m_allowed)) m_w
         where
           m : Ratio
-          m = middle e.at w
+          m = halfway e.at w
 
-          m_above : pos 0 <ℤ (middle e.at w).denominator
+          m_above : pos 0 <ℤ (halfway e.at w).denominator
           m_above = above-* (pos 2) (e.at.denominator *ℤ w.denominator) (omega (arith, ints)) (above-* e.at.denominator w.denominator e.positive above)
 
           -- the middle is inside the end, and w inside the middle
-          m_e : pos 0 <ℤ depth side e (middle e.at w)
+          m_e : pos 0 <ℤ depth side e (halfway e.at w)
           m_e = subst (λ (z : ℤ). pos 0 <ℤ z) (sym (middle-first side e.at.numerator e.at.denominator w.numerator w.denominator)) (above-* (gap_from side e.at w) e.at.denominator further e.positive)
 
-          m_w : pos 0 <ℤ gap_from side (middle e.at w) w
+          m_w : pos 0 <ℤ gap_from side (halfway e.at w) w
           m_w = subst (λ (z : ℤ). pos 0 <ℤ z) (sym (middle-second side e.at.numerator e.at.denominator w.numerator w.denominator)) (above-* (gap_from side e.at w) w.denominator further above)
 
           -- so y is inside the middle
-          m_y : pos 0 <ℤ gap_from side (middle e.at w) y
-          m_y = above_cancel (gap_from side (middle e.at w) y) w.denominator above
+          m_y : pos 0 <ℤ gap_from side (halfway e.at w) y
+          m_y = above_cancel (gap_from side (halfway e.at w) y) w.denominator above
               (subst (λ (z : ℤ). pos 0 <ℤ z) (sym (sum-gaps side m.numerator m.denominator w.numerator w.denominator y.numerator y.denominator) ∙ refl)
-              (summed (gap_from side (middle e.at w) w) y.denominator (gap_from side w y) (middle e.at w).denominator m_w y_above (bound y y_above y_allowed) m_above))
+              (summed (gap_from side (halfway e.at w) w) y.denominator (gap_from side w y) (halfway e.at w).denominator m_w y_above (bound y y_above y_allowed) m_above))
             where
               summed : (a b c d : ℤ) → pos 0 <ℤ a → pos 0 <ℤ b → pos 0 ≤ℤ c → pos 0 <ℤ d → pos 0 <ℤ (a *ℤ b +ℤ c *ℤ d)
               summed a b c d p q r t = more (above-* a b p q) (at_least-* c d r (omega (arith, ints)))
@@ -90,10 +90,10 @@ module _ (side : ℤ) (unit : side *ℤ side ≡ pos 1) (allowed : Ratio → Typ
                   more : {u v : ℤ} → pos 0 <ℤ u → pos 0 ≤ℤ v → pos 0 <ℤ (u +ℤ v)
                   more h g = omega (arith, ints)
 
-          m_allowed : allowed (middle e.at w)
-          m_allowed = (exact (middle e.at w) m_above).1 (
-            subst (λ (o : Option End). is_past_any side o (middle e.at w) ≡ true) (sym is) ((is_enough-Decides e.strict (depth side e (middle e.at w))).1 (IsEnough-above e.strict _ m_e)),
-            past-before (middle e.at w) m_above m_y,
+          m_allowed : allowed (halfway e.at w)
+          m_allowed = (exact (halfway e.at w) m_above).1 (
+            subst (λ (o : Option End). is_past_any side o (halfway e.at w) ≡ true) (sym is) ((is_enough-Decides e.strict (depth side e (halfway e.at w))).1 (IsEnough-above e.strict _ m_e)),
+            past-before (halfway e.at w) m_above m_y,
           )
 
   -- without an end there is no such fraction

@@ -25,9 +25,9 @@ use Rattle.edit_line.proofs.ShapeLaws.{same_codes, same_fields}
 use Rattle.linear_elim.specs.Systems.{system}
 use Rattle.linear_elim.proofs.PointLaws.{number-no_code}
 use Rattle.linear_elim.proofs.SystemLaws.{HaveShape-system}
-use Rattle.back_subst.specs.GiveFaults.{AllHoldAt, AreComputed, AreGivenFirst, IsFirstOut, Shows, StopsAtLine, StopsAtRule}
+use Rattle.back_subst.specs.GiveFaults.{AllHoldAt, AreComputed, AreGivenFirst, IsFirstOut, StopsThere, StopsAtLine, StopsAtRule}
 use Rattle.back_subst.specs.Given.{IsGiven, giving_order, number_in, target_of}
-use Rattle.back_subst.specs.NumberWalk.{FoundEnds, bound_at, ends_from, found_at, is_bounding, no_ends, number_result, then_nearest, with_found}
+use Rattle.back_subst.specs.NumberWalk.{FoundBounds, bound_at, bounds_from, found_at, is_bounding, no_bounds, number_result, then_nearest, with_found}
 use Rattle.back_subst.specs.declared.gift.GiveFault.{GiveFault}
 use Rattle.back_subst.specs.declared.gift.GiveFault.TheVariants.{Bound, OutOfMemory, Test}
 use Rattle.back_subst.specs.inner.Systems.{start_lines}
@@ -53,10 +53,10 @@ module _ (shape : List Domain) (row : List Value) (f : ℕ) (none : has_field (n
       by false true e = refl
       by a false e = absurd (cc (sym none ∙ subst (λ (s : List Domain). has_field (number_fields s) f ≡ true) is (factor-numerical line f (λ zero. absurd (cc (sym e ∙ (Decides-int_eq (factor line f) (pos 0)).1 zero))))))
 
-  no-ends : (i : ℕ) (lines : List LineParts) (ends : FoundEnds) → ((line : LineParts) → IsIn line lines → line.shape ≡ shape) → ends_from i lines row f ends ≡ Ok ends
+  no-ends : (i : ℕ) (lines : List LineParts) (ends : FoundBounds) → ((line : LineParts) → IsIn line lines → line.shape ≡ shape) → bounds_from i lines row f ends ≡ Ok ends
   no-ends i [] ends over = refl
   no-ends i (line ∷ lines) ends over =
-      ap (λ b. if b then (ok_or (bound_at line row f) i >>= (λ at. ends_from (suc i) lines row f (with_found ends (int_lt (pos 0) (factor line f)) (found_at at line.strict i)))) else ends_from (suc i) lines row f ends) (no-bounding line (over line (inl refl)))
+      ap (λ b. if b then (ok_or (bound_at line row f) i >>= (λ at. bounds_from (suc i) lines row f (with_found ends (int_lt (pos 0) (factor line f)) (found_at at line.strict i)))) else bounds_from (suc i) lines row f ends) (no-bounding line (over line (inl refl)))
       ∙ no-ends (suc i) lines ends (λ l there. over l (inr there))
 
 -- ---- the faults
@@ -130,7 +130,7 @@ module _ (survey : SurveyParts) (edits : EditsParts) (row : List Value) (changed
         by : (b : Bool) → has_field (number_fields (shape_of survey.fields)) f ≡ b → b ≡ true
         by true e = refl
         by false e =
-            let ends = no-ends shape so_far f e 0 (system (start_lines edits) (reverse left)) no_ends (λ l there. in-all (λ k. k.shape ≡ shape) l (system (start_lines edits) (reverse left)) (λ j d below. (HaveShape-system shape (start_lines edits) (reverse left) over j d below).same) there) in
+            let ends = no-ends shape so_far f e 0 (system (start_lines edits) (reverse left)) no_bounds (λ l there. in-all (λ k. k.shape ≡ shape) l (system (start_lines edits) (reverse left)) (λ j d below. (HaveShape-system shape (start_lines edits) (reverse left) over j d below).same) there) in
             absurd (cc (sym (ap (λ r. then_nearest r (number_in (target_of donor f))) ends) ∙ stops.out))
 
     numbers : (k : ℕ) → has_field left k ≡ true → has_field (number_fields (shape_of survey.fields)) k ≡ true
@@ -230,7 +230,7 @@ module _ (survey : SurveyParts) (edits : EditsParts) (row : List Value) (changed
       by false l true e = absurd (apart second.tested second.out (first.before q second.tested ((Decides-ltb q r).0 e) second.there))
       by false l false e = grind (arith, l, e)
 
-  pub only-fault : (told due : GiveFault) → Shows survey edits row changed donor told → Shows survey edits row changed donor due → told ≡ due
+  pub only-fault : (told due : GiveFault) → StopsThere survey edits row changed donor told → StopsThere survey edits row changed donor due → told ≡ due
   only-fault (Bound f line) (Bound g place) s t = let same = one-line f line g place s t in ap (λ n. Bound n line) same.0 ∙ ap (λ n. Bound g n) same.1
   only-fault (Bound f line) (Test rule) s t = absurd (line-not_whole f line s t.new (rule-whole rule t))
   only-fault (Test rule) (Bound f line) s t = absurd (line-not_whole f line t s.new (rule-whole rule s))
@@ -241,13 +241,13 @@ module _ (survey : SurveyParts) (edits : EditsParts) (row : List Value) (changed
 
   -- where all values are given and tested, none is shown
   pub no-fault : (new : List Value) → IsRow survey.fields new → ((f : ℕ) → has_number changed f ≡ false → value_of new f ≡ value_of row f) → AreGivenFirst survey (target_of donor) new (giving_order survey.fields changed) []
-      → AreComputed edits (target_of donor) new (giving_order survey.fields changed) [] → AllHoldAt survey new → (due : GiveFault) → Shows survey edits row changed donor due → ⊥
+      → AreComputed edits (target_of donor) new (giving_order survey.fields changed) [] → AllHoldAt survey new → (due : GiveFault) → StopsThere survey edits row changed donor due → ⊥
   no-fault new fits keeps first computed held due shown = by due shown
     where
       whole : IsGivenTo (giving_order survey.fields changed) [] new
       whole = record { order_is = sym (append-nil order); fits = fits; keeps = keeps; first = first; computed = computed-inner edits (target_of donor) new order [] computed }
 
-      by : (due : GiveFault) → Shows survey edits row changed donor due → ⊥
+      by : (due : GiveFault) → StopsThere survey edits row changed donor due → ⊥
       by (Bound f line) s = line-not_whole f line s new whole
       by (Test rule) s =
           let out = subst (λ (values : List Value). IsFirstOut survey values rule) (one-whole new s.new whole (rule-whole rule s)) s.first in
@@ -256,7 +256,7 @@ module _ (survey : SurveyParts) (edits : EditsParts) (row : List Value) (changed
 
   -- a fault that is told is the only one that is shown
   pub told-fault : (told : GiveFault) → ((f line : ℕ) → told ≡ Bound f line → StopsAtLine survey edits row changed donor f line) → ((rule : ℕ) → told ≡ Test rule → StopsAtRule survey edits row changed donor rule)
-      → (due : GiveFault) → Shows survey edits row changed donor due → (told ≡ due) ⊎ (told ≡ OutOfMemory)
+      → (due : GiveFault) → StopsThere survey edits row changed donor due → (told ≡ due) ⊎ (told ≡ OutOfMemory)
   told-fault (Bound f line) bound test due shown = inl (only-fault (Bound f line) due (bound f line refl) shown)
   told-fault (Test rule) bound test due shown = inl (only-fault (Test rule) due (test rule refl) shown)
   told-fault OutOfMemory bound test due shown = inr refl

@@ -5,7 +5,7 @@ use Rattle.edit_model.specs.Parts.{SurveyParts}
 use Rattle.edit_model.specs.Points.{Holds, Point}
 use Rattle.edit_model.specs.Rows.{IsRow, value_of}
 use Rattle.edit_model.specs.Surveys.{IsRule}
-use Rattle.edit_model.specs.Trials.{AgreesOn, AgreesWith, CanTry, HasValues, rule_at}
+use Rattle.edit_model.specs.Trials.{AgreesOnTest, AgreesOnRule, CanTry, HasValues, rule_at}
 use Rattle.edit_model.specs.declared.rule.Rule.{Rule}
 use Rattle.edit_model.specs.declared.rule.Test.{Test}
 use Rattle.edit_model.specs.declared.rule.Test.TheVariants as test
@@ -35,14 +35,14 @@ module _ (survey : SurveyParts) (row : List Value) (is_row : IsRow survey.fields
   pub can-try : (rule : Rule) → IsRule survey.fields rule → CanTry row rule
   can-try rule fits = can_try survey.fields row is_row held rule fits
 
-  agrees-on : (t : Test) → HasValues row t → AgreesOn row p t
+  agrees-on : (t : Test) → HasValues row t → AgreesOnTest row p t
   agrees-on (test.Number linear) has = λ k d below. completes.agrees _ (has k d below).0 refl
   agrees-on (test.Codes field negated set) has = completes.agrees field has.0 refl
 
   -- a rule that can be tried holds
   pub tried : (rule : Rule) (i : ℕ) (b : Bool) → slice_get survey.rules i ≡ Some rule → CanTry row rule → rule_at rule row ≡ Some b → rule_at rule row ≡ Some true
   tried rule i b there can e =
-      let agrees : AgreesWith row p rule = record { conditions = λ k d below. agrees-on _ (can.conditions k d below); conclusion = agrees-on _ can.conclusion } in
+      let agrees : AgreesOnRule row p rule = record { conditions = λ k d below. agrees-on _ (can.conditions k d below); conclusion = agrees-on _ can.conclusion } in
       e ∙ ap Some (rule_at-holds rule row p b can agrees e ∙ one-of (λ r. Holds r p) survey.rules i rule completes.correction.rules there)
 
 -- a rule that is there stands before the end

@@ -26,7 +26,7 @@ use Rattle.edit_line.specs.Sums.{sum_at}
 use Rattle.edit_line.specs.declared.derived.Derived.{Derived}
 use Rattle.linear_elim.proofs.ColumnLaws.{beside-place}
 use Rattle.derivation.proofs.CodePlaces.{place-found, there-has}
-use Rattle.back_subst.specs.NumberWalk.{FoundEnds, bound_at, ends_from, found_at, is_bounding, value_in, with_found}
+use Rattle.back_subst.specs.NumberWalk.{FoundBounds, bound_at, bounds_from, found_at, is_bounding, value_in, with_found}
 use Rattle.back_subst.specs.inner.Sides.{with_line}
 
 -- The bounds of lines, as the code gathers them.
@@ -80,7 +80,7 @@ no-bound line row a f sum = ap (λ s. (value_in s >>? (λ s. divided s (neg_ℤ 
 
 -- ---- one line
 
-module _ (i f : ℕ) (line : LineParts) (row : List Value) (ends : FoundEnds) where
+module _ (i f : ℕ) (line : LineParts) (row : List Value) (ends : FoundBounds) where
   by-bounding : (b : Bool) → is_bounding line row f ≡ b
       → (if b then (ok_or (bound_at line row f) i >>= (λ at. Ok (with_found ends (int_lt (pos 0) (factor line f)) (found_at at line.strict i)))) else Ok ends) ≡ with_line i line row f ends
   by-bounding b e = ap (λ t. if t then (ok_or (bound_at line row f) i >>= (λ at. Ok (with_found ends (int_lt (pos 0) (factor line f)) (found_at at line.strict i)))) else Ok ends) (sym e)
@@ -118,35 +118,35 @@ module _ (i f : ℕ) (line : LineParts) (row : List Value) (ends : FoundEnds) wh
   -- ---- and the lines after it
 
   module _ (rest : List LineParts) where
-    abbrev next : Result FoundEnds ℕ → Result FoundEnds ℕ
-    next (Ok e) = ends_from (suc i) rest row f e
+    abbrev next : Result FoundBounds ℕ → Result FoundBounds ℕ
+    next (Ok e) = bounds_from (suc i) rest row f e
     next (Err p) = Err p
 
     then-ends : (b : Bool) (o : Option Ratio)
         → next (if b then (ok_or o i >>= (λ at. Ok (with_found ends (int_lt (pos 0) (factor line f)) (found_at at line.strict i)))) else Ok ends)
-        ≡ (if b then (ok_or o i >>= (λ at. ends_from (suc i) rest row f (with_found ends (int_lt (pos 0) (factor line f)) (found_at at line.strict i)))) else ends_from (suc i) rest row f ends)
+        ≡ (if b then (ok_or o i >>= (λ at. bounds_from (suc i) rest row f (with_found ends (int_lt (pos 0) (factor line f)) (found_at at line.strict i)))) else bounds_from (suc i) rest row f ends)
     then-ends true None = refl
     then-ends true (Some at) = refl
     then-ends false o = refl
 
-    ends-step : next (with_line i line row f ends) ≡ ends_from i (line ∷ rest) row f ends
+    ends-step : next (with_line i line row f ends) ≡ bounds_from i (line ∷ rest) row f ends
     ends-step = then-ends (is_bounding line row f) (bound_at line row f)
 
-    ends-ok : (ends' : FoundEnds) → Ok ends' ≡ with_line i line row f ends → ends_from (suc i) rest row f ends' ≡ ends_from i (line ∷ rest) row f ends
+    ends-ok : (ends' : FoundBounds) → Ok ends' ≡ with_line i line row f ends → bounds_from (suc i) rest row f ends' ≡ bounds_from i (line ∷ rest) row f ends
     ends-ok ends' e = ap next e ∙ ends-step
 
-module _ (lines : List Derived) (row : List Value) (i f : ℕ) (d : Derived) (ends : FoundEnds) (whole : Result FoundEnds ℕ) (below : i < length lines) (d_is : d ≡ get_or lines i d)
-    (before : ends_from i (lines_of (drop i lines)) row f ends ≡ whole) where
-  here : ends_from i (d.line ∷ lines_of (drop (suc i) lines)) row f ends ≡ whole
+module _ (lines : List Derived) (row : List Value) (i f : ℕ) (d : Derived) (ends : FoundBounds) (whole : Result FoundBounds ℕ) (below : i < length lines) (d_is : d ≡ get_or lines i d)
+    (before : bounds_from i (lines_of (drop i lines)) row f ends ≡ whole) where
+  here : bounds_from i (d.line ∷ lines_of (drop (suc i) lines)) row f ends ≡ whole
   here =
-      ap (λ (e : Derived). ends_from i (e.line ∷ lines_of (drop (suc i) lines)) row f ends) d_is
-      ∙ ap (λ ds. ends_from i (lines_of ds) row f ends) (sym (drop-cons lines i d below)) ∙ before
+      ap (λ (e : Derived). bounds_from i (e.line ∷ lines_of (drop (suc i) lines)) row f ends) d_is
+      ∙ ap (λ ds. bounds_from i (lines_of ds) row f ends) (sym (drop-cons lines i d below)) ∙ before
 
-  pub ends-more : (ends' : FoundEnds) → Ok ends' ≡ with_line i d.line row f ends → ends_from (i + 1) (lines_of (drop (i + 1) lines)) row f ends' ≡ whole
-  ends-more ends' e = ap (λ n. ends_from n (lines_of (drop n lines)) row f ends') next_place ∙ ends-ok i f d.line row ends (lines_of (drop (suc i) lines)) ends' e ∙ here
+  pub ends-more : (ends' : FoundBounds) → Ok ends' ≡ with_line i d.line row f ends → bounds_from (i + 1) (lines_of (drop (i + 1) lines)) row f ends' ≡ whole
+  ends-more ends' e = ap (λ n. bounds_from n (lines_of (drop n lines)) row f ends') next_place ∙ ends-ok i f d.line row ends (lines_of (drop (suc i) lines)) ends' e ∙ here
     where
       next_place : i + 1 ≡ suc i
       next_place = omega arith
 
-pub ends-end : (lines : List Derived) (row : List Value) (i f : ℕ) (ends : FoundEnds) (whole : Result FoundEnds ℕ) → length lines ≤ i → ends_from i (lines_of (drop i lines)) row f ends ≡ whole → Ok ends ≡ whole
-ends-end lines row i f ends whole past before = ap (λ ds. ends_from i (lines_of ds) row f ends) (sym (drop_all i lines past)) ∙ before
+pub ends-end : (lines : List Derived) (row : List Value) (i f : ℕ) (ends : FoundBounds) (whole : Result FoundBounds ℕ) → length lines ≤ i → bounds_from i (lines_of (drop i lines)) row f ends ≡ whole → Ok ends ≡ whole
+ends-end lines row i f ends whole past before = ap (λ ds. bounds_from i (lines_of ds) row f ends) (sym (drop_all i lines past)) ∙ before

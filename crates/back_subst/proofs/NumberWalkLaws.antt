@@ -28,7 +28,7 @@ use Rattle.edit_line.proofs.SetLaws.{both_true, is_inside-Decides}
 use Rattle.linear_elim.proofs.BetweenLaws.{above_neg, by_sign}
 use Rattle.back_subst.specs.Given.{IsGivenNumber, IsSame}
 use Rattle.back_subst.specs.Intervals.{End, further_in, is_past_any, is_within, kept_past}
-use Rattle.back_subst.specs.NumberWalk.{Found, FoundEnds, bound_at, ends_from, found_at, inside_by, is_bounding, no_ends, number_result, rest_of, step_in, then_nearest, tighter, unless_out, value_in, with_found}
+use Rattle.back_subst.specs.NumberWalk.{Found, FoundBounds, bound_at, bounds_from, found_at, inside_by, is_bounding, no_bounds, number_result, rest_of, step_in, then_nearest, tighter, unless_out, value_in, with_found}
 use Rattle.back_subst.specs.inner.Bounds.{AreWithinBounds, BoundsField, IsWithinBound, RestsFit}
 use Rattle.back_subst.proofs.BoundLaws.{bound-depth, further, further-in, multiple}
 
@@ -45,7 +45,7 @@ abbrev pub IsProper : Option Found → Type 0
 IsProper None = Unit {0}
 IsProper (Some b) = pos 0 <ℤ b.at.denominator
 
-abbrev AreProper : FoundEnds → Type 0
+abbrev AreProper : FoundBounds → Type 0
 AreProper ends = IsProper ends.lower × IsProper ends.upper
 
 abbrev end_from : (b : Found) → pos 0 <ℤ b.at.denominator → End
@@ -60,7 +60,7 @@ abbrev past_found : ℤ → Option Found → Ratio → Bool
 past_found side None x = true
 past_found side (Some b) x = is_enough b.strict (inside_by side b x)
 
-abbrev within_found : FoundEnds → Ratio → Bool
+abbrev within_found : FoundBounds → Ratio → Bool
 within_found ends x = past_found (pos 1) ends.lower x && past_found (negsuc 0) ends.upper x
 
 past-any : (side : ℤ) (o : Option Found) (h : IsProper o) (x : Ratio) → is_past_any side (any_from o h) x ≡ past_found side o x
@@ -160,11 +160,11 @@ side_of true = pos 1
 side_of false = negsuc 0
 
 -- one bound more
-with-proper : (ends : FoundEnds) (lower : Bool) (new : Found) → AreProper ends → pos 0 <ℤ new.at.denominator → AreProper (with_found ends lower new)
+with-proper : (ends : FoundBounds) (lower : Bool) (new : Found) → AreProper ends → pos 0 <ℤ new.at.denominator → AreProper (with_found ends lower new)
 with-proper ends true new h above = (tighter-proper (pos 1) ends.lower new h.0 above, h.1)
 with-proper ends false new h above = (h.0, tighter-proper (negsuc 0) ends.upper new h.1 above)
 
-with-within : (ends : FoundEnds) (lower : Bool) (new : Found) → AreProper ends → pos 0 <ℤ new.at.denominator → (x : Ratio) → pos 0 <ℤ x.denominator
+with-within : (ends : FoundBounds) (lower : Bool) (new : Found) → AreProper ends → pos 0 <ℤ new.at.denominator → (x : Ratio) → pos 0 <ℤ x.denominator
     → within_found (with_found ends lower new) x ≡ (within_found ends x && past_found (side_of lower) (Some new) x)
 unfolding side_of
 with-within ends true new h above x x_above = ap (λ b. b && past_found (negsuc 0) ends.upper x) (any-tighter (pos 1) ends.lower new h.0 above x x_above) ∙ turned (past_found (pos 1) ends.lower x) (past_found (pos 1) (Some new) x) (past_found (negsuc 0) ends.upper x)
@@ -254,7 +254,7 @@ was-ok : {A E : Type 0} (r : Result A E) (a : A) → value_in r ≡ Some a → r
 was-ok (Ok b) a e = ap Ok (cc)
 was-ok (Err e) a h = absurd (cc)
 
-was-place : {A : Type 0} (i : ℕ) (o : Option A) (next : A → Result FoundEnds ℕ) (s : FoundEnds) → (ok_or o i >>= next) ≡ Ok s → (a : A) × (o ≡ Some a) × (next a ≡ Ok s)
+was-place : {A : Type 0} (i : ℕ) (o : Option A) (next : A → Result FoundBounds ℕ) (s : FoundBounds) → (ok_or o i >>= next) ≡ Ok s → (a : A) × (o ≡ Some a) × (next a ≡ Ok s)
 was-place i None next s e = absurd (cc)
 was-place i (Some a) next s e = (a, refl, e)
 
@@ -275,23 +275,23 @@ module _ (row : List Value) (f : ℕ) where
       by false e = refl
       by true e = absurd (is.stands ((Decides-int_eq (factor line f) (pos 0)).0 e))
 
-  record IsGathered (lines : List LineParts) (ends found : FoundEnds) : Type 0 where
+  record IsGathered (lines : List LineParts) (ends found : FoundBounds) : Type 0 where
     pub proper : AreProper found
     pub rests : RestsFit lines row f
     pub within : (x : Ratio) → pos 0 <ℤ x.denominator → (within_found found x ≡ true) ↔ ((within_found ends x ≡ true) × AreWithinBounds lines row f x)
 
-  gathered : (i : ℕ) (lines : List LineParts) (ends found : FoundEnds) → AreProper ends → ends_from i lines row f ends ≡ Ok found → IsGathered lines ends found
+  gathered : (i : ℕ) (lines : List LineParts) (ends found : FoundBounds) → AreProper ends → bounds_from i lines row f ends ≡ Ok found → IsGathered lines ends found
   gathered i [] ends found proper e =
       let same : ends ≡ found = cc in
-      subst (λ (s : FoundEnds). IsGathered [] ends s) same (record { proper = proper; rests = λ l none. absurd none; within = λ x above. (λ h. (h, λ l r none. absurd none), λ h. h.0) })
+      subst (λ (s : FoundBounds). IsGathered [] ends s) same (record { proper = proper; rests = λ l none. absurd none; within = λ x above. (λ h. (h, λ l r none. absurd none), λ h. h.0) })
   gathered i (line ∷ lines) ends found proper e = by (is_bounding line row f) refl e (λ ends' proper' made. gathered (suc i) lines ends' found proper' made)
     where
       lower : Bool
       lower = int_lt (pos 0) (factor line f)
 
       by : (b : Bool) → is_bounding line row f ≡ b
-          → (if b then (ok_or (bound_at line row f) i >>= (λ at. ends_from (suc i) lines row f (with_found ends (int_lt (pos 0) (factor line f)) (found_at at line.strict i)))) else ends_from (suc i) lines row f ends) ≡ Ok found
-          → ((ends' : FoundEnds) → AreProper ends' → ends_from (suc i) lines row f ends' ≡ Ok found → IsGathered lines ends' found) → IsGathered (line ∷ lines) ends found
+          → (if b then (ok_or (bound_at line row f) i >>= (λ at. bounds_from (suc i) lines row f (with_found ends (int_lt (pos 0) (factor line f)) (found_at at line.strict i)))) else bounds_from (suc i) lines row f ends) ≡ Ok found
+          → ((ends' : FoundBounds) → AreProper ends' → bounds_from (suc i) lines row f ends' ≡ Ok found → IsGathered lines ends' found) → IsGathered (line ∷ lines) ends found
       by false out made rest =
           let later = rest ends proper made in
           record {
@@ -310,7 +310,7 @@ module _ (row : List Value) (f : ℕ) where
           at : (l : LineParts) → IsIn l (line ∷ lines) → BoundsField l row f → (IsIn l lines → (r : Ratio) × (rest_of l row f ≡ Ok r)) → (r : Ratio) × (rest_of l row f ≡ Ok r)
           at l there bounds next = none l there bounds next
       by true is made rest =
-          let (bound, found_is, more) = was-place i (bound_at line row f) (λ at. ends_from (suc i) lines row f (with_found ends (int_lt (pos 0) (factor line f)) (found_at at line.strict i))) found made in
+          let (bound, found_is, more) = was-place i (bound_at line row f) (λ at. bounds_from (suc i) lines row f (with_found ends (int_lt (pos 0) (factor line f)) (found_at at line.strict i))) found made in
           let (r, rest_value, quotient) = led_on (value_in (rest_of line row f)) (λ rest. divided rest (neg_ℤ (factor line f))) bound found_is in
           let rest_is : rest_of line row f ≡ Ok r = was-ok (rest_of line row f) r rest_value in
           let some : factor line f ≢ pos 0 = (told-bounds line is).stands in
@@ -391,12 +391,12 @@ module _ (side : ℤ) (target : Ratio) where
 
 -- the walk's number is the nearest one within the bounds of the lines
 pub walked-number : (lines : List LineParts) (row : List Value) (f : ℕ) (target r : Ratio) → number_result lines row f target ≡ Ok r → RestsFit lines row f × IsGivenNumber (AreWithinBounds lines row f) target r
-walked-number lines row f target r e = by (ends_from 0 lines row f no_ends) refl e
+walked-number lines row f target r e = by (bounds_from 0 lines row f no_bounds) refl e
   where
-    by : (o : Result FoundEnds ℕ) → ends_from 0 lines row f no_ends ≡ o → then_nearest o target ≡ Ok r → RestsFit lines row f × IsGivenNumber (AreWithinBounds lines row f) target r
+    by : (o : Result FoundBounds ℕ) → bounds_from 0 lines row f no_bounds ≡ o → then_nearest o target ≡ Ok r → RestsFit lines row f × IsGivenNumber (AreWithinBounds lines row f) target r
     by (Err place) is h = absurd (cc)
     by (Ok ends) is h =
-        let all = gathered row f 0 lines no_ends ends (tt, tt) is in (
+        let all = gathered row f 0 lines no_bounds ends (tt, tt) is in (
           all.rests,
           record {
             interval = record { lower = any_from ends.lower all.proper.0; upper = any_from ends.upper all.proper.1 };

@@ -6,7 +6,7 @@ use Rattle.edit_model.specs.FieldSets.{has_number, with_number}
 use Rattle.edit_model.specs.declared.field.Field.{Field}
 use Rattle.edit_model.proofs.FieldSetLaws.{has-with}
 use Rattle.edit_model.proofs.OrderLaws.{order-length}
-use Rattle.edit_model.specs.Parts.{parts_of}
+use Rattle.edit_model.specs.Parts.{survey_of}
 use Rattle.bound_cert.specs.Paths.{path_place}
 use Rattle.edit_paths.specs.Cases.{Case}
 use Rattle.edit_paths.proofs.FieldPlaces.{Placed, fields-placed}
@@ -27,7 +27,7 @@ module _ (c : Case) where
   place-own k below = placed-at 0 k (path_order c.survey.fields) (fields-placed c) below ∙ omega arith
 
 abbrev bare : List Field → Case
-bare fields = record { survey = parts_of fields []; edits = []; row = [] }
+bare fields = record { survey = survey_of fields []; edits = []; row = [] }
 
 distinct-at : (fields : List Field) (i k : ℕ) → i < length (path_order fields) → k < length (path_order fields) → get_or (path_order fields) i 0 ≡ get_or (path_order fields) k 0 → i ≡ k
 distinct-at fields i k i_below k_below same = sym (place-own (bare fields) i i_below) ∙ ap (λ f. path_place fields f) same ∙ place-own (bare fields) k k_below

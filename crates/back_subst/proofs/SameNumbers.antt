@@ -22,7 +22,7 @@ use Rattle.linear_elim.specs.Systems.{system}
 use Rattle.linear_elim.proofs.FlatLaws.{system-flat}
 use Rattle.linear_elim.proofs.PointLaws.{map-agree, number-no_code}
 use Rattle.linear_elim.proofs.SystemLaws.{HaveShape-system}
-use Rattle.back_subst.specs.NumberWalk.{FoundEnds, bound_at, ends_from, found_at, is_bounding, no_ends, number_result, then_nearest, value_in, with_found}
+use Rattle.back_subst.specs.NumberWalk.{FoundBounds, bound_at, bounds_from, found_at, is_bounding, no_bounds, number_result, then_nearest, value_in, with_found}
 use Rattle.back_subst.proofs.FieldPoints.{number-at}
 use Rattle.back_subst.proofs.Rests.{value-other, value-set}
 use Rattle.back_subst.proofs.RowSums.{sum-same}
@@ -44,17 +44,17 @@ module _ (row new : List Value) where
   bounding-same : (line : LineParts) (f : ℕ) → ReadsSame line f → is_bounding line new f ≡ is_bounding line row f
   bounding-same line f same = rw same.codes refl
 
-  abbrev after : List Value → ℕ → ℕ → LineParts → List LineParts → FoundEnds → Bool → Option Ratio → Result FoundEnds ℕ
-  after values f i line lines ends b o = if b then (ok_or o i >>= (λ at. ends_from (suc i) lines values f (with_found ends (int_lt (pos 0) (factor line f)) (found_at at line.strict i)))) else ends_from (suc i) lines values f ends
+  abbrev after : List Value → ℕ → ℕ → LineParts → List LineParts → FoundBounds → Bool → Option Ratio → Result FoundBounds ℕ
+  after values f i line lines ends b o = if b then (ok_or o i >>= (λ at. bounds_from (suc i) lines values f (with_found ends (int_lt (pos 0) (factor line f)) (found_at at line.strict i)))) else bounds_from (suc i) lines values f ends
 
-  ends-same : (f i : ℕ) (lines : List LineParts) (ends : FoundEnds) → ((line : LineParts) → IsIn line lines → ReadsSame line f) → ends_from i lines new f ends ≡ ends_from i lines row f ends
+  ends-same : (f i : ℕ) (lines : List LineParts) (ends : FoundBounds) → ((line : LineParts) → IsIn line lines → ReadsSame line f) → bounds_from i lines new f ends ≡ bounds_from i lines row f ends
   ends-same f i [] ends same = refl
   ends-same f i (line ∷ lines) ends same =
       ap (λ b. after new f i line lines ends b (bound_at line new f)) (bounding-same line f (same line (inl refl)))
       ∙ ap (λ o. after new f i line lines ends (is_bounding line row f) o) (bound-same line f (same line (inl refl)))
       ∙ by (is_bounding line row f) (bound_at line row f) (λ e. ends-same f (suc i) lines e (λ l there. same l (inr there)))
     where
-      by : (b : Bool) (o : Option Ratio) → ((e : FoundEnds) → ends_from (suc i) lines new f e ≡ ends_from (suc i) lines row f e) → after new f i line lines ends b o ≡ after row f i line lines ends b o
+      by : (b : Bool) (o : Option Ratio) → ((e : FoundBounds) → bounds_from (suc i) lines new f e ≡ bounds_from (suc i) lines row f e) → after new f i line lines ends b o ≡ after row f i line lines ends b o
       by true None rest = refl
       by true (Some at) rest = rest (with_found ends (int_lt (pos 0) (factor line f)) (found_at at line.strict i))
       by false o rest = rest ends
@@ -101,4 +101,4 @@ module _ (survey : SurveyParts) (edits : List LineParts) (over : HaveShape (shap
 
   -- so it gives the field the same number, or none at the same line
   pub same-number : (target : Ratio) → number_result (system edits (reverse left)) new f target ≡ number_result (system edits (reverse left)) row f target
-  same-number target = ap (λ (r : Result FoundEnds ℕ). then_nearest r target) (ends-same row new f 0 (system edits (reverse left)) no_ends reads)
+  same-number target = ap (λ (r : Result FoundBounds ℕ). then_nearest r target) (ends-same row new f 0 (system edits (reverse left)) no_bounds reads)

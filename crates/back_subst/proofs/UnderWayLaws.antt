@@ -13,7 +13,7 @@ use Rattle.edit_model.specs.declared.field.Field.{Field}
 use Rattle.edit_model.proofs.OrderLaws.{field-below}
 use Rattle.edit_model.proofs.RowLaws.{row-length}
 use Rattle.edit_line.proofs.FieldLists.{has-append}
-use Rattle.back_subst.specs.Gifts.{IsDonor}
+use Rattle.back_subst.specs.Gifts.{IsDonorRecord}
 use Rattle.back_subst.specs.GiveFaults.{AreGivenFirst}
 use Rattle.back_subst.specs.Given.{AreGiven, IsGiven}
 use Rattle.back_subst.specs.inner.UnderWay.{AreDistinct, IsUnderWay}
@@ -24,7 +24,7 @@ use Rattle.back_subst.proofs.WalkLaws.{IsGiven-rows, SameBut, completes-rows, de
 -- One value more is given.
 
 -- the donor has a value at each field of the survey
-pub donor-within : (survey : SurveyParts) (donor : Option (List Value)) (f : ℕ) → IsDonor survey donor → f < length survey.fields → IfSome donor (λ row. f < length row)
+pub donor-within : (survey : SurveyParts) (donor : Option (List Value)) (f : ℕ) → IsDonorRecord survey donor → f < length survey.fields → IfSome donor (λ row. f < length row)
 donor-within survey None f is below = tt
 donor-within survey (Some row) f is below = omega (arith, below, row-length survey.fields row is.0)
 

@@ -46,8 +46,8 @@ abbrev pub hows_of : SurveyParts → ℕ → Option (List Value) → List Value 
 hows_of survey changed donor new = map (λ f. how_of donor f (value_of new f)) (changed_fields survey changed)
 
 -- the donor, if there is one, is a record of the survey with a value at each field
-abbrev pub IsDonor : SurveyParts → Option (List Value) → Type 0
-IsDonor survey donor = IfSome donor (λ row. IsRow survey.fields row × ((f : ℕ) → f < length row → value_of row f ≢ Bad))
+abbrev pub IsDonorRecord : SurveyParts → Option (List Value) → Type 0
+IsDonorRecord survey donor = IfSome donor (λ row. IsRow survey.fields row × ((f : ℕ) → f < length row → value_of row f ≢ Bad))
 
 -- the path that says something of all fields, and changes those of the set
 abbrev pub path_of : List Field → ℕ → List Bool

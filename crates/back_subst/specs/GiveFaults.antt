@@ -79,10 +79,10 @@ pub record StopsAtRule (survey : SurveyParts) (edits : EditsParts) (row : List V
   pub first : IsFirstOut survey new rule
 
 -- the formulas show the fault: the giving stops there
-abbrev pub Shows : SurveyParts → EditsParts → List Value → ℕ → Option (List Value) → GiveFault → Type 0
-Shows survey edits row changed donor (Bound field line) = StopsAtLine survey edits row changed donor field line
-Shows survey edits row changed donor (Test rule) = StopsAtRule survey edits row changed donor rule
-Shows survey edits row changed donor OutOfMemory = ⊥
+abbrev pub StopsThere : SurveyParts → EditsParts → List Value → ℕ → Option (List Value) → GiveFault → Type 0
+StopsThere survey edits row changed donor (Bound field line) = StopsAtLine survey edits row changed donor field line
+StopsThere survey edits row changed donor (Test rule) = StopsAtRule survey edits row changed donor rule
+StopsThere survey edits row changed donor OutOfMemory = ⊥
 
 -- ---- answers
 

@@ -29,8 +29,8 @@ abbrev pub is_within : Interval → Ratio → Bool
 is_within i x = is_past_any (pos 1) i.lower x && is_past_any (negsuc 0) i.upper x
 
 -- halfway between two numbers
-abbrev pub middle : Ratio → Ratio → Ratio
-middle x y = record {
+abbrev pub halfway : Ratio → Ratio → Ratio
+halfway x y = record {
   numerator = x.numerator *ℤ y.denominator +ℤ y.numerator *ℤ x.denominator;
   denominator = pos 2 *ℤ (x.denominator *ℤ y.denominator);
 }
@@ -38,7 +38,7 @@ middle x y = record {
 -- the middle of both ends, or one further in, where there is no other end
 abbrev pub further_in : ℤ → Ratio → Option End → Ratio
 further_in side x None = record { numerator = x.numerator +ℤ side *ℤ x.denominator; denominator = x.denominator }
-further_in side x (Some other) = middle x other.at
+further_in side x (Some other) = halfway x other.at
 
 -- the number of the interval at this end: the end, or, where it is left out, one further in
 abbrev pub nearest_at : ℤ → End → Option End → Ratio

@@ -46,42 +46,42 @@ abbrev pub inside_by : ℤ → Found → Ratio → ℤ
 inside_by side b x = side *ℤ (x.numerator *ℤ b.at.denominator -ℤ b.at.numerator *ℤ x.denominator)
 
 -- whether a later bound is tighter: it is further in, or is the same number and only it is left out
-abbrev pub is_tighter : ℤ → Found → Found → Bool
-is_tighter side old new =
+abbrev pub is_further_in : ℤ → Found → Found → Bool
+is_further_in side old new =
     let gap = inside_by side old new.at in
     int_lt (pos 0) gap || (int_eq gap (pos 0) && (new.strict && not old.strict))
 
 -- the tighter of two bounds, the earlier one where they are equal
 abbrev pub tighter : ℤ → Option Found → Found → Found
 tighter side None new = new
-tighter side (Some old) new = if is_tighter side old new then new else old
+tighter side (Some old) new = if is_further_in side old new then new else old
 
 -- the bounds so far
-pub record FoundEnds : Type 0 where
+pub record FoundBounds : Type 0 where
   pub lower : Option Found
   pub upper : Option Found
 
-abbrev pub no_ends : FoundEnds
-no_ends = record { lower = None; upper = None }
+abbrev pub no_bounds : FoundBounds
+no_bounds = record { lower = None; upper = None }
 
 -- the bounds, and one more: a lower one where the factor is positive
-abbrev pub with_found : FoundEnds → Bool → Found → FoundEnds
+abbrev pub with_found : FoundBounds → Bool → Found → FoundBounds
 with_found ends lower new =
     if lower
     then record { lower = Some (tighter (pos 1) ends.lower new); upper = ends.upper }
     else record { lower = ends.lower; upper = Some (tighter (negsuc 0) ends.upper new) }
 
 -- the bounds, and the one that the line at place i gives the field
-abbrev pub with_bound : FoundEnds → LineParts → ℕ → Ratio → ℕ → FoundEnds
+abbrev pub with_bound : FoundBounds → LineParts → ℕ → Ratio → ℕ → FoundBounds
 with_bound ends line f at i = with_found ends (int_lt (pos 0) (factor line f)) (found_at at line.strict i)
 
 -- the bounds of the lines, from place i on
-abbrev pub ends_from : ℕ → List LineParts → List Value → ℕ → FoundEnds → Result FoundEnds ℕ
-ends_from i [] row f ends = Ok ends
-ends_from i (line ∷ lines) row f ends =
+abbrev pub bounds_from : ℕ → List LineParts → List Value → ℕ → FoundBounds → Result FoundBounds ℕ
+bounds_from i [] row f ends = Ok ends
+bounds_from i (line ∷ lines) row f ends =
     if is_bounding line row f
-    then ok_or (bound_at line row f) i >>= (λ at. ends_from (suc i) lines row f (with_bound ends line f at i))
-    else ends_from (suc i) lines row f ends
+    then ok_or (bound_at line row f) i >>= (λ at. bounds_from (suc i) lines row f (with_bound ends line f at i))
+    else bounds_from (suc i) lines row f ends
 
 -- the middle of both bounds, or one further in, where there is no other
 abbrev pub step_in : ℤ → Ratio → Option Found → Option Ratio
@@ -99,14 +99,14 @@ unless_out side (Some b) other target next =
     if is_enough b.strict (inside_by side b target) then next else number_at side b other
 
 -- the number nearest to the target between the bounds
-abbrev pub nearest_found : FoundEnds → Ratio → Result Ratio ℕ
+abbrev pub nearest_found : FoundBounds → Ratio → Result Ratio ℕ
 nearest_found ends target =
     unless_out (pos 1) ends.lower ends.upper target (unless_out (negsuc 0) ends.upper ends.lower target (Ok target))
 
-abbrev pub then_nearest : Result FoundEnds ℕ → Ratio → Result Ratio ℕ
+abbrev pub then_nearest : Result FoundBounds ℕ → Ratio → Result Ratio ℕ
 then_nearest (Ok ends) target = nearest_found ends target
 then_nearest (Err place) target = Err place
 
 -- the number that the lines give to the field for the target, or the place of the line at which a number leaves the range
 abbrev pub number_result : List LineParts → List Value → ℕ → Ratio → Result Ratio ℕ
-number_result lines row f target = then_nearest (ends_from 0 lines row f no_ends) target
+number_result lines row f target = then_nearest (bounds_from 0 lines row f no_bounds) target

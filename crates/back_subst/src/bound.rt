@@ -2,7 +2,7 @@ ghost use Rattle.std.specs.Prelude.{◌≡◌};
 ghost use Rattle.fraction128.specs.Formulas.{answered, ratio_of};
 ghost use Rattle.edit_line.specs.Subsumption.{is_enough};
 ghost use Rattle.edit_line.specs.Sums.{whole};
-ghost use Rattle.back_subst.specs.NumberWalk.{inside_by, is_tighter, nearest_found, no_ends, number_at, step_in, tighter, with_found};
+ghost use Rattle.back_subst.specs.NumberWalk.{inside_by, is_further_in, nearest_found, no_bounds, number_at, step_in, tighter, with_found};
 ghost use Rattle.back_subst.specs.inner.Sides.{ends_of, found_any, found_of, number_told, side_of};
 
 use fraction128::{Fraction, Overflow};
@@ -41,7 +41,7 @@ impl Bound {
     /// Whether this bound, which comes later, is tighter than the other: it is further in, or is the
     /// same number and left out where the other is not.
     fn is_tighter(self, lower: bool, other: Bound) -> bool
-        ensures { result ≡ is_tighter (side_of lower) (found_of other) (found_of self) }
+        ensures { result ≡ is_further_in (side_of lower) (found_of other) (found_of self) }
     {
         match self.at.compare(other.at) {
             Ordering::Less => !lower,
@@ -106,7 +106,7 @@ fn inward(lower: bool) -> Fraction
 impl Bounds {
     /// No bounds: all numbers.
     pub fn none() -> Bounds
-        ensures { ends_of result ≡ no_ends }
+        ensures { ends_of result ≡ no_bounds }
     {
         Bounds {
             lower: None,

@@ -7,7 +7,7 @@ ghost use Rattle.edit_line.specs.Reductions.{lines_of};
 ghost use Rattle.edit_line.specs.Shapes.{shape_of};
 ghost use Rattle.edit_line.specs.declared.derived.Derived as derived;
 ghost use Rattle.linear_elim.specs.Systems.{system_of};
-ghost use Rattle.back_subst.specs.Gifts.{IsDonor};
+ghost use Rattle.back_subst.specs.Gifts.{IsDonorRecord};
 ghost use Rattle.back_subst.specs.Given.{target_of};
 ghost use Rattle.back_subst.specs.inner.Systems.{start_lines};
 ghost use Rattle.back_subst.specs.inner.UnderWay.{AreCodesToGive, AreOrderComputed, AreOrders, GivesCodes, GivesNext, IsGivingSome, StopsGiving};
@@ -40,7 +40,7 @@ pub(crate) fn give_numbers<S: Systems, L: Ledger>(
     requires shape { (arc_value edits.now).shape ≡ shape_of survey.now.fields }
     requires over { HaveShape (shape_of survey.now.fields) (start_lines (arc_value edits.now)) }
     requires served { S.serves source.old (arc_value edits.now) }
-    requires donor { IsDonor survey.now (option_copied donor) }
+    requires donor { IsDonorRecord survey.now (option_copied donor) }
     requires in_range { (lines : List derived.Derived) × (system_of (arc_value edits.now).lines (reverse order.now) ≡ Ok lines) }
     requires order { (codes : List ℕ) × AreOrders survey.now.fields codes order.now }
     requires way { IsGivingSome survey.now (arc_value edits.now) (option_copied donor) order.now new.old }
@@ -76,7 +76,7 @@ pub(crate) fn give_codes(
     new: &mut Row,
     donor: Option<&Row>,
 ) -> Result<(), OutOfMemory>
-    requires donor { IsDonor survey.now (option_copied donor) }
+    requires donor { IsDonorRecord survey.now (option_copied donor) }
     requires ready { AreCodesToGive survey.now (target_of (option_copied donor)) (lines_of lines.now) order.now new.old }
     ensures { OnOk result
         (GivesCodes survey.now (target_of (option_copied donor.entry)) (lines_of lines.now) order.now new.old new.new) }

@@ -1,7 +1,7 @@
 //! How the values of a record were found.
 ghost use Rattle.std.specs.Prelude.{◌≡◌, ◌<◌, IfOk, IfSome, length, option_copied};
 ghost use Rattle.edit_model.specs.Rows.{IsRow};
-ghost use Rattle.back_subst.specs.Gifts.{IsDonor, how_of, hows_of, is_target, taken_from};
+ghost use Rattle.back_subst.specs.Gifts.{IsDonorRecord, how_of, hows_of, is_target, taken_from};
 
 use crate::gift::How;
 use crate::value::{code_of, number_of, target_of};
@@ -19,7 +19,7 @@ pub(crate) fn hows(
     row: &Row,
 ) -> Result<Vec<How>, OutOfMemory>
     requires row { IsRow survey.now.fields row.now }
-    requires donor { IsDonor survey.now (option_copied donor) }
+    requires donor { IsDonorRecord survey.now (option_copied donor) }
     ensures { IfOk result (λ how. how.items ≡ hows_of survey.now changed (option_copied donor.entry) row.now) }
 {
     let mut how = Vec::new(alloc);

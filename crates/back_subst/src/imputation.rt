@@ -7,8 +7,8 @@ ghost use Rattle.edit_line.specs.EditSets.{EditsParts};
 ghost use Rattle.edit_line.specs.Shapes.{shape_of};
 ghost use Rattle.edit_paths.specs.Cases.{IsCase, case_of};
 ghost use Rattle.back_subst.specs.Allowed.{Completes};
-ghost use Rattle.back_subst.specs.Gifts.{CanGive, DiffersThroughout, IsDonor, IsNeeded, hows_of};
-ghost use Rattle.back_subst.specs.GiveFaults.{AllHoldAt, AreAllComputed, IsDue, OnBound, OnTest, Shows, StopsAtLine, StopsAtRule};
+ghost use Rattle.back_subst.specs.Gifts.{CanGive, DiffersThroughout, IsDonorRecord, IsNeeded, hows_of};
+ghost use Rattle.back_subst.specs.GiveFaults.{AllHoldAt, AreAllComputed, IsDue, OnBound, OnTest, StopsThere, StopsAtLine, StopsAtRule};
 ghost use Rattle.back_subst.specs.Given.{IsImputed};
 ghost use Rattle.back_subst.specs.inner.UnderWay.{AreOrders, IsAllGiven, IsGiving};
 
@@ -43,7 +43,7 @@ pub fn give<S: Systems, L: Ledger>(
     steps: &mut Steps<L>,
 ) -> Result<Gift, GiveFault>
     requires path { CanGive survey.now (arc_value edits.now) row.now changed }
-    requires donor { IsDonor survey.now (option_copied donor) }
+    requires donor { IsDonorRecord survey.now (option_copied donor) }
     requires served { S.serves source.old (arc_value edits.now) }
     ensures imputed { IfOk result (λ gift. IsImputed survey.now row.now changed (option_copied donor.entry) gift.row) }
     ensures how { IfOk result (λ gift. gift.how ≡ hows_of survey.now changed (option_copied donor.entry) gift.row) }
@@ -55,7 +55,7 @@ pub fn give<S: Systems, L: Ledger>(
         (λ f line. StopsAtLine survey.now (arc_value edits.now) row.now changed (option_copied donor.entry) f line) }
     ensures test { OnTest result
         (λ rule. StopsAtRule survey.now (arc_value edits.now) row.now changed (option_copied donor.entry) rule) }
-    ensures due { IsDue result (λ due. Shows survey.now (arc_value edits.now) row.now changed (option_copied donor.entry) due) }
+    ensures due { IsDue result (λ due. StopsThere survey.now (arc_value edits.now) row.now changed (option_copied donor.entry) due) }
     ensures serves { (e : EditsParts) → S.serves source.old e → S.serves source.new e }
     ensures keeps { (f : ℕ) → S.keeps source.old f ≡ true → S.keeps source.new f ≡ true }
 {
@@ -87,7 +87,7 @@ fn imputed<S: Systems, L: Ledger>(
     requires case { IsCase (case_of survey.now (arc_value edits.now) row.now) }
     requires few { length survey.now.fields ≤ 64 }
     requires path { CanGive survey.now (arc_value edits.now) row.now changed }
-    requires donor { IsDonor survey.now (option_copied donor) }
+    requires donor { IsDonorRecord survey.now (option_copied donor) }
     requires served { S.serves source.old (arc_value edits.now) }
     ensures given { IfOk result (λ new. IsAllGiven survey.now (arc_value edits.now) (option_copied donor.entry) row.now changed new) }
     ensures computed { IfOk result (λ new. AreAllComputed survey.now (arc_value edits.now) changed (option_copied donor.entry) new) }
@@ -132,7 +132,7 @@ fn with_codes<S: Systems, L: Ledger>(
 ) -> Result<Row, OutOfMemory>
     requires case { IsCase (case_of survey.now (arc_value edits.now) row.now) }
     requires path { CanGive survey.now (arc_value edits.now) row.now changed }
-    requires donor { IsDonor survey.now (option_copied donor) }
+    requires donor { IsDonorRecord survey.now (option_copied donor) }
     requires served { S.serves source.old (arc_value edits.now) }
     requires order { (orders : AreOrders survey.now.fields codes.now numbers.now) × (orders.changed ≡ changed) }
     ensures given { IfOk result (λ r. IsGiving survey.now (arc_value edits.now) (option_copied donor.entry) row.now codes.now numbers.now r) }

@@ -13,7 +13,7 @@ ghost use Rattle.edit_line.specs.Reductions.{lines_of};
 ghost use Rattle.edit_line.specs.Sets.{are_codes_in};
 ghost use Rattle.edit_line.specs.Shapes.{IsNumerical, number_fields, place_in, shape_of};
 ghost use Rattle.edit_line.specs.Sums.{sum_at};
-ghost use Rattle.back_subst.specs.NumberWalk.{ends_from, no_ends, value_in};
+ghost use Rattle.back_subst.specs.NumberWalk.{bounds_from, no_bounds, value_in};
 ghost use Rattle.back_subst.specs.inner.Sides.{bounds_told, ends_of, with_line};
 
 use crate::bound::{Bound, Bounds};
@@ -29,7 +29,7 @@ pub fn bounds_of(survey: &Survey, lines: &[Derived], row: &Row, field: u32) -> R
     requires row { IsRow survey.now.fields row.now }
     requires numerical { IsNumerical (shape_of survey.now.fields) field }
     requires blank { value_of row.now field ≡ Bad }
-    ensures { bounds_told result ≡ ends_from 0 (lines_of lines.now) row.now field no_ends }
+    ensures { bounds_told result ≡ bounds_from 0 (lines_of lines.now) row.now field no_bounds }
 {
     let place = place_among(survey.numbers(), field);
     let mut bounds = Bounds::none();

@@ -7,7 +7,7 @@ use Rattle.edit_line.specs.Lines.{AllHold, LineHolds, LineParts, amount}
 use Rattle.edit_line.specs.Sets.{AreCodesIn, are_codes_in}
 use Rattle.edit_line.specs.Shapes.{Domain, codes_at}
 use Rattle.edit_line.specs.Subsumption.{is_enough}
-use Rattle.edit_line.specs.Sums.{AgreesWith, HasNumbers, fails_at}
+use Rattle.edit_line.specs.Sums.{AgreesOnLine, HasNumbers, fails_at}
 use Rattle.edit_line.specs.Reductions.{lines_of}
 use Rattle.edit_line.specs.declared.derived.Derived.{Derived}
 use Rattle.edit_line.proofs.Enough.{is_enough-Decides}
@@ -27,7 +27,7 @@ opposite false h = refl
 module _ (shape : List Domain) (row : List Value) (p : Point) where
   -- what is known of a line
   abbrev IsKnown : LineParts → Type 0
-  IsKnown line = (line.shape ≡ shape) × HasNumbers row line × AgreesWith row p line
+  IsKnown line = (line.shape ≡ shape) × HasNumbers row line × AgreesOnLine row p line
 
   -- some box has the point's codes
   abbrev caught : List (List ℕ) → Bool
@@ -92,14 +92,14 @@ module _ (shape : List Domain) (row : List Value) (p : Point) where
             λ h. law.1 (h.0, λ k d below. h.1 (suc k) d (omega arith)),
           )
 
-  all-known : (lines : List Derived) → All (λ (d : Derived). d.line.shape ≡ shape) lines → All (λ (d : Derived). HasNumbers row d.line) lines → All (λ (d : Derived). AgreesWith row p d.line) lines → All (λ line. IsKnown line) (lines_of lines)
+  all-known : (lines : List Derived) → All (λ (d : Derived). d.line.shape ≡ shape) lines → All (λ (d : Derived). HasNumbers row d.line) lines → All (λ (d : Derived). AgreesOnLine row p d.line) lines → All (λ line. IsKnown line) (lines_of lines)
   all-known [] over held agree k e below = absurd (omega arith)
   all-known (d ∷ lines) over held agree zero e below = (over 0 d (omega arith), held 0 d (omega arith), agree 0 d (omega arith))
   all-known (d ∷ lines) over held agree (suc k) e below =
       all-known lines (λ j g under. over (suc j) g (omega arith)) (λ j g under. held (suc j) g (omega arith)) (λ j g under. agree (suc j) g (omega arith)) k e (omega arith)
 
   -- the lines all hold at the point exactly where its codes avoid the boxes of the record
-  pub failing-avoids : (lines : List Derived) (boxes : List (List ℕ)) → All (λ (d : Derived). d.line.shape ≡ shape) lines → All (λ (d : Derived). HasNumbers row d.line) lines → All (λ (d : Derived). AgreesWith row p d.line) lines
+  pub failing-avoids : (lines : List Derived) (boxes : List (List ℕ)) → All (λ (d : Derived). d.line.shape ≡ shape) lines → All (λ (d : Derived). HasNumbers row d.line) lines → All (λ (d : Derived). AgreesOnLine row p d.line) lines
       → failing_boxes (lines_of lines) row ≡ Ok boxes → AllHold (lines_of lines) p ↔ Avoids shape boxes p
   failing-avoids lines boxes over held agree made =
       let law = caught-from 0 (lines_of lines) [] boxes (all-known lines over held agree) made in

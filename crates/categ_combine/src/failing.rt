@@ -4,7 +4,7 @@ ghost use Rattle.edit_model.specs.Rows.{IsRow};
 ghost use Rattle.edit_line.specs.Lines.{AllHold};
 ghost use Rattle.edit_line.specs.Reductions.{lines_of};
 ghost use Rattle.edit_line.specs.Shapes.{shape_of};
-ghost use Rattle.edit_line.specs.Sums.{AgreesWith};
+ghost use Rattle.edit_line.specs.Sums.{AgreesOnLine};
 ghost use Rattle.categ_combine.specs.BoxLists.{AreBoxesOver, Avoids, sets_of};
 ghost use Rattle.categ_combine.specs.FailingBoxes.{failing_boxes, failing_from, line_fault, taken};
 ghost use Rattle.categ_combine.specs.Origins.{ComesFromLine};
@@ -40,7 +40,7 @@ pub fn boxes_of(
         → failing_boxes (lines_of lines.now) row.now ≡ Err (line_fault line field) }
     ensures origins { IfOk result (λ boxes. All (λ b. ComesFromLine lines.now row.now b.code_box b.origin) boxes.items) }
     ensures forbid { IfOk result (λ boxes. (p : Point)
-        → All (λ derived. AgreesWith row.now p derived.line) lines.now
+        → All (λ derived. AgreesOnLine row.now p derived.line) lines.now
         → AllHold (lines_of lines.now) p ↔ Avoids (shape_of survey.now.fields) (sets_of boxes.items) p) }
 {
     let mut kept = Vec::new(alloc);

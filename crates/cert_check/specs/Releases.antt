@@ -10,7 +10,7 @@ use Rattle.bound_cert.specs.declared.outcome.GiftFault.{GiftFault}
 use Rattle.bound_cert.specs.declared.outcome.Outcome.{Outcome}
 use Rattle.bound_cert.specs.declared.outcome.Outcome.TheVariants.{Budget, Change, Contradictory, Overflow}
 use Rattle.bound_cert.specs.declared.outcome.RowProof.{RowProof}
-use Rattle.proof_grammar.specs.FirstFaults.{IsFirstFault}
+use Rattle.proof_grammar.specs.FirstFaults.{IsFirstFaultyLine}
 use Rattle.proof_grammar.specs.Limits.{IsPlain}
 use Rattle.proof_grammar.specs.ProofLines.{proof_text, row_lines}
 use Rattle.proof_grammar.specs.declared.proof.Proof.{Proof}
@@ -147,7 +147,7 @@ IsNotReleased a line = ((p : Proof) × Fits a p × ((rows : List (List (List ℕ
 
 -- the files are no valid release; the first condition that fails, in the order of the proof but for the released rows, is told with its line; line 0 is none
 abbrev pub IsFirstFailure : Audit → ℕ → Why → Type 0
-IsFirstFailure a line why.Grammar = IsFirstFault a.proof line
+IsFirstFailure a line why.Grammar = IsFirstFaultyLine a.proof line
 IsFirstFailure a line why.Head = OfProof a (λ p. head_fault a p ≡ Some line)
 IsFirstFailure a line why.Drop = OfProof a (λ p. (head_fault a p ≡ None) × (drop_fault a.survey p ≡ Some line))
 IsFirstFailure a line why.Cert = IsRecordFault a line why.Cert

@@ -4,7 +4,7 @@ use Rattle.std.proofs.lemmas.List.{length-replicate}
 use Rattle.std.proofs.lemmas.List.Elements.{All-nil, All-push, All-replicate}
 use Rattle.std.proofs.lemmas.List.FromFn.{get_or-map-range_with_len, length-map-range_with_len}
 use Rattle.fraction128.specs.Range.{InRange}
-use Rattle.edit_model.specs.Parts.{parts_of}
+use Rattle.edit_model.specs.Parts.{survey_of}
 use Rattle.edit_model.specs.Rows.{IsRow}
 use Rattle.edit_model.specs.Surveys.{IsField, IsRule, IsWellFormed}
 use Rattle.edit_model.specs.declared.field.Field.{Field}
@@ -35,9 +35,9 @@ pub form-more : (before after : List Field) (field : Field) → after ≡ before
 form-more before after field items form forms = subst (λ (fs : List Field). All IsField fs) (sym items) (All-push IsField before field forms form)
 
 -- they are a survey without rules
-pub well-formed : (n : ℕ) (fields : List Field) (rules : List Rule) → n ≤ 20 → fields ≡ fields_of n → rules ≡ [] → All IsField fields → IsWellFormed (parts_of fields rules)
+pub well-formed : (n : ℕ) (fields : List Field) (rules : List Rule) → n ≤ 20 → fields ≡ fields_of n → rules ≡ [] → All IsField fields → IsWellFormed (survey_of fields rules)
 well-formed n fields rules few same none forms =
-    subst (λ (rs : List Rule). IsWellFormed (parts_of fields rs)) (sym none) (record {
+    subst (λ (rs : List Rule). IsWellFormed (survey_of fields rs)) (sym none) (record {
       few_fields = omega (arith, few, ap (λ (fs : List Field). length fs) same, length-map-range_with_len (λ k. field_named (97 + k)) 0 n);
       few_rules = omega arith;
       names = subst (λ (fs : List Field). AllPairs (λ (f : Field) (g : Field). f.name ≢ g.name) fs) (sym same) (names-apart n);

@@ -1,7 +1,7 @@
 ghost use Rattle.std.specs.Prelude.{◌≡◌, ◌+◌, ◌≤◌, ◌<◌, ◌∷◌, [], IfOk, IsTrue, None, length, string_bytes};
 ghost use Rattle.edit_line.specs.Lines.{AreOver};
 ghost use Rattle.edit_line.specs.Shapes.{shape_of};
-ghost use Rattle.edit_model.specs.Parts.{parts_of};
+ghost use Rattle.edit_model.specs.Parts.{survey_of};
 ghost use Rattle.edit_model.specs.Rows.{IsRow};
 ghost use Rattle.edit_model.specs.Surveys.{IsField, is_letter};
 ghost use Rattle.bound_cert.specs.ValidTrees.{tree_case};
@@ -83,7 +83,7 @@ fn field_count(depth: u32) -> usize
 // A survey of so many numerical fields.
 fn survey_of(alloc: Global, count: usize) -> Result<Survey, OutOfMemory>
     requires { count ≤ 20 }
-    ensures { IfOk result (λ survey. survey ≡ parts_of (fields_of count) []) }
+    ensures { IfOk result (λ survey. survey ≡ survey_of (fields_of count) []) }
 {
     let mut fields = Vec::new(alloc);
     for i in 0..count {

@@ -17,8 +17,8 @@ IsMeasurable (Some scale) (Number x) = IsPlain x
 IsMeasurable _ _ = ⊥
 
 -- the record has a code or a plain number at each kept field
-abbrev pub HasKept : List Yardstick → ℕ → List Value → Type 0
-HasKept yardsticks kept row = (i : ℕ) → i < length yardsticks → has_number kept i ≡ true → IsMeasurable (yardstick_at yardsticks i).scale (value_of row i)
+abbrev pub HasMeasurable : List Yardstick → ℕ → List Value → Type 0
+HasMeasurable yardsticks kept row = (i : ℕ) → i < length yardsticks → has_number kept i ≡ true → IsMeasurable (yardstick_at yardsticks i).scale (value_of row i)
 
 -- two values of field i, which can be measured
 pub record AreMeasurable (yardsticks : List Yardstick) (i : ℕ) (v w : Value) : Type 0 where

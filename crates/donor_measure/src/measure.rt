@@ -2,7 +2,7 @@ ghost use Rattle.std.specs.Prelude.{◌≡◌, ◌<◌, ◌≤◌, ◌*◌, All,
 ghost use Rattle.edit_model.specs.FieldSets.{has_number};
 ghost use Rattle.edit_model.specs.Rows.{value_of};
 ghost use Rattle.donor_measure.specs.Distances.{distance, field_distance};
-ghost use Rattle.donor_measure.specs.Measures.{HasKept, Measures};
+ghost use Rattle.donor_measure.specs.Measures.{HasMeasurable, Measures};
 ghost use Rattle.donor_measure.specs.Yardsticks.{IsYardstick, yardstick_at, yardsticks_of};
 
 use crate::yardstick::Yardsticks;
@@ -37,8 +37,8 @@ impl<F: Fn(u32, &Value, &Value) -> u64> Measure<F> {
     /// No memory.
     pub fn between(&self, a: &Row, b: &Row, kept: FieldSet) -> u64
         requires measures { Measures F.Fn self.now.closure self.now.yardsticks }
-        requires first { HasKept self.now.yardsticks kept a.now }
-        requires second { HasKept self.now.yardsticks kept b.now }
+        requires first { HasMeasurable self.now.yardsticks kept a.now }
+        requires second { HasMeasurable self.now.yardsticks kept b.now }
         ensures { result ≡ distance self.now.yardsticks kept a.now b.now }
     {
         self.sum_within(a, b, kept, u64::MAX)
@@ -48,8 +48,8 @@ impl<F: Fn(u32, &Value, &Value) -> u64> Measure<F> {
     /// then the fields behind the first at which this shows are not looked at. No memory.
     pub fn between_within(&self, a: &Row, b: &Row, kept: FieldSet, most: u64) -> Option<u64>
         requires measures { Measures F.Fn self.now.closure self.now.yardsticks }
-        requires first { HasKept self.now.yardsticks kept a.now }
-        requires second { HasKept self.now.yardsticks kept b.now }
+        requires first { HasMeasurable self.now.yardsticks kept a.now }
+        requires second { HasMeasurable self.now.yardsticks kept b.now }
         ensures some { IfSome result (λ sum. (sum ≡ distance self.now.yardsticks kept a.now b.now) × (sum ≤ most)) }
         ensures none { IfNone result (most < distance self.now.yardsticks kept a.now b.now) }
     {
@@ -62,8 +62,8 @@ impl<F: Fn(u32, &Value, &Value) -> u64> Measure<F> {
     #[inline(never)]
     fn sum_within(&self, a: &Row, b: &Row, kept: FieldSet, most: u64) -> u64
         requires measures { Measures F.Fn self.now.closure self.now.yardsticks }
-        requires first { HasKept self.now.yardsticks kept a.now }
-        requires second { HasKept self.now.yardsticks kept b.now }
+        requires first { HasMeasurable self.now.yardsticks kept a.now }
+        requires second { HasMeasurable self.now.yardsticks kept b.now }
         ensures whole { result ≤ most → result ≡ distance self.now.yardsticks kept a.now b.now }
         ensures more { most < result → most < distance self.now.yardsticks kept a.now b.now }
     {
@@ -84,8 +84,8 @@ impl<F: Fn(u32, &Value, &Value) -> u64> Measure<F> {
         requires field { field < length self.now.yardsticks }
         requires small { field < 64 }
         requires fit { All IsYardstick self.now.yardsticks }
-        requires first { HasKept self.now.yardsticks kept a.now }
-        requires second { HasKept self.now.yardsticks kept b.now }
+        requires first { HasMeasurable self.now.yardsticks kept a.now }
+        requires second { HasMeasurable self.now.yardsticks kept b.now }
         ensures distance { result ≡ (if has_number kept field then field_distance (yardstick_at self.now.yardsticks field) (value_of a.now field) (value_of b.now field) else 0) }
         ensures few { result ≤ 1000 * 1000 }
     {

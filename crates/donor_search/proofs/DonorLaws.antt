@@ -11,12 +11,12 @@ use Rattle.edit_model.specs.declared.field.Kind.{Kind}
 use Rattle.edit_model.specs.declared.field.Kind.TheVariants as kind
 use Rattle.edit_model.specs.declared.value.Value.{Value}
 use Rattle.edit_model.specs.declared.value.Value.TheVariants.{Code, Number, Bad}
-use Rattle.donor_measure.specs.Measures.{HasKept, IsMeasurable}
+use Rattle.donor_measure.specs.Measures.{HasMeasurable, IsMeasurable}
 use Rattle.donor_measure.specs.Yardsticks.{scale_of, yardstick_at, yardstick_of, yardsticks_of}
 use Rattle.edit_model.specs.CleanRecords.{is_clean}
 use Rattle.edit_model.proofs.CleanLaws.{clean-held}
 use Rattle.edit_model.proofs.RowLaws.{row-length}
-use Rattle.donor_search.specs.CleanRows.{CanGive, clean_from, donors_of, row_at}
+use Rattle.donor_search.specs.CleanRows.{IsRankable, clean_from, donors_of, row_at}
 use Rattle.donor_search.proofs.CleanLaws.{is_row_at}
 
 -- Each donor can be measured at every field.
@@ -35,7 +35,7 @@ measurable_at (field ∷ fields) (v ∷ row) is plain zero below held = measurab
 measurable_at (field ∷ fields) (v ∷ row) is plain (suc f) below held = measurable_at fields row is.1 plain.1 f (omega (arith, below)) held
 
 -- a record with plain numbers that has a value at each kept field
-pub has_kept : (fields : List Field) (row : List Value) (kept : ℕ) → IsRow fields row → HasPlain row → ((f : ℕ) → f < length fields → has_number kept f ≡ true → value_of row f ≢ Bad) → HasKept (yardsticks_of fields) kept row
+pub has_kept : (fields : List Field) (row : List Value) (kept : ℕ) → IsRow fields row → HasPlain row → ((f : ℕ) → f < length fields → has_number kept f ≡ true → value_of row f ≢ Bad) → HasMeasurable (yardsticks_of fields) kept row
 has_kept fields row kept is plain held f below has =
     let within : f < length fields = (let l = length-map fields yardstick_of in omega (arith, l, below)) in
     measurable_at fields row is plain f within (held f within has)
@@ -57,14 +57,14 @@ each_clean P survey i (row ∷ rows) each =
     next : (i k : ℕ) → i + suc k ≡ suc i + k
     next i k = omega arith
 
-pub donors_give : (survey : SurveyParts) (rows : List (List Value)) → AllByRecursion (IsRow survey.fields) rows → AllByRecursion HasPlain rows → (kept : ℕ) → All (CanGive (yardsticks_of survey.fields) rows kept) (donors_of survey rows)
-donors_give survey rows are plain kept = each_clean (CanGive (yardsticks_of survey.fields) rows kept) survey 0 rows
-    (λ k below clean. subst (CanGive (yardsticks_of survey.fields) rows kept) (from_zero k) (below, gives k below clean))
+pub donors_give : (survey : SurveyParts) (rows : List (List Value)) → AllByRecursion (IsRow survey.fields) rows → AllByRecursion HasPlain rows → (kept : ℕ) → All (IsRankable (yardsticks_of survey.fields) rows kept) (donors_of survey rows)
+donors_give survey rows are plain kept = each_clean (IsRankable (yardsticks_of survey.fields) rows kept) survey 0 rows
+    (λ k below clean. subst (IsRankable (yardsticks_of survey.fields) rows kept) (from_zero k) (below, gives k below clean))
   where
     from_zero : (k : ℕ) → k ≡ 0 + k
     from_zero k = omega arith
 
-    gives : (k : ℕ) → k < length rows → is_clean survey (row_at rows k) ≡ true → HasKept (yardsticks_of survey.fields) kept (row_at rows k)
+    gives : (k : ℕ) → k < length rows → is_clean survey (row_at rows k) ≡ true → HasMeasurable (yardsticks_of survey.fields) kept (row_at rows k)
     gives k below clean =
         let is = is_row_at survey.fields rows k are below in
         has_kept survey.fields (row_at rows k) kept is (All-from_recursion HasPlain rows plain k [] below)

@@ -2,7 +2,7 @@ use Rattle.std.specs.Prelude.{◌≡◌, ℕ, suc, ◌<◌, ◌++◌, if◌then�
 use Rattle.edit_model.specs.CleanRecords.{is_clean}
 use Rattle.edit_model.specs.Parts.{SurveyParts}
 use Rattle.edit_model.specs.declared.value.Value.{Value}
-use Rattle.donor_measure.specs.Measures.{HasKept}
+use Rattle.donor_measure.specs.Measures.{HasMeasurable}
 use Rattle.donor_measure.specs.declared.yardstick.Yardstick.{Yardstick}
 
 -- the numbers of the clean rows, from number i on
@@ -23,5 +23,5 @@ abbrev pub IsCleanRow : SurveyParts → List (List Value) → ℕ → Type 0
 IsCleanRow survey rows i = (i < length rows) × (is_clean survey (row_at rows i) ≡ true)
 
 -- a donor is a row, and has a code or a plain number at each kept field
-abbrev pub CanGive : List Yardstick → List (List Value) → ℕ → ℕ → Type 0
-CanGive yardsticks rows kept donor = (donor < length rows) × HasKept yardsticks kept (row_at rows donor)
+abbrev pub IsRankable : List Yardstick → List (List Value) → ℕ → ℕ → Type 0
+IsRankable yardsticks rows kept donor = (donor < length rows) × HasMeasurable yardsticks kept (row_at rows donor)

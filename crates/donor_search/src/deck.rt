@@ -5,7 +5,7 @@ ghost use Rattle.edit_model.specs.CleanRecords.{is_clean};
 ghost use Rattle.edit_model.specs.Rows.{IsRow};
 ghost use Rattle.edit_model.specs.PlainNumbers.{HasPlain};
 ghost use Rattle.donor_measure.specs.Yardsticks.{yardsticks_of};
-ghost use Rattle.donor_search.specs.CleanRows.{CanGive, IsCleanRow, donors_of, row_at};
+ghost use Rattle.donor_search.specs.CleanRows.{IsRankable, IsCleanRow, donors_of, row_at};
 
 use edit_model::{Survey, is_clean};
 use foundation::OutOfMemory;
@@ -39,7 +39,7 @@ impl Deck {
         ensures clean { IfOk result (λ deck. deck ≡ donors_of survey.now sheet.now.rows) }
         ensures rows { IfOk result (λ deck. All (IsCleanRow survey.now sheet.now.rows) deck) }
         ensures rising { IfOk result (λ deck. IsStrictlyIncreasing deck) }
-        ensures measurable { IfOk result (λ deck. AllByRecursion HasPlain sheet.now.rows → (kept : ℕ) → All (CanGive (yardsticks_of survey.now.fields) sheet.now.rows kept) deck) }
+        ensures measurable { IfOk result (λ deck. AllByRecursion HasPlain sheet.now.rows → (kept : ℕ) → All (IsRankable (yardsticks_of survey.now.fields) sheet.now.rows kept) deck) }
     {
         let rows = clean_rows(alloc, survey, sheet)?;
         Ok(Deck { rows })

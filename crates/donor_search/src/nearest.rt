@@ -1,7 +1,7 @@
 ghost use Rattle.std.specs.Prelude.{◌≡◌, ◌≤◌, All, IfOk, OnOk, length, map, nat_eq, take};
 ghost use Rattle.std.specs.List.{AllByRecursion, Contains, IsDistinct};
-ghost use Rattle.donor_measure.specs.Measures.{HasKept, Measures};
-ghost use Rattle.donor_search.specs.CleanRows.{CanGive};
+ghost use Rattle.donor_measure.specs.Measures.{HasMeasurable, Measures};
+ghost use Rattle.donor_search.specs.CleanRows.{IsRankable};
 ghost use Rattle.donor_search.specs.Rankings.{IsAmongFirst, IsInOrder, distance_to, is_nearer, placed, ranking_of};
 ghost use Rattle.donor_search.specs.declared.candidate.Candidate.{Candidate as AnyCandidate};
 ghost use Rattle.donor_search.specs.inner.Candidates.{candidate_of, is_before};
@@ -27,8 +27,8 @@ pub fn ranking<F: Fn(u32, &Value, &Value) -> u64>(
     near: u32,
 ) -> Result<Vec<u32>, OutOfMemory>
     requires measures { Measures F.Fn measure.now.closure measure.now.yardsticks }
-    requires row { HasKept measure.now.yardsticks kept row.now }
-    requires donors { All (CanGive measure.now.yardsticks sheet.now.rows kept) deck.now }
+    requires row { HasMeasurable measure.now.yardsticks kept row.now }
+    requires donors { All (IsRankable measure.now.yardsticks sheet.now.rows kept) deck.now }
     ensures ranking { IfOk result (λ ranking. ranking.items ≡ ranking_of measure.now.yardsticks sheet.now.rows deck.now row.now kept near) }
     ensures order { IfOk result (λ ranking. IsInOrder (is_nearer (distance_to measure.now.yardsticks sheet.now.rows row.now kept)) ranking.items) }
     ensures few { IfOk result (λ ranking. length ranking.items ≤ near) }
@@ -62,8 +62,8 @@ fn rank<F: Fn(u32, &Value, &Value) -> u64>(
     near: usize,
 ) -> Result<(), OutOfMemory>
     requires measures { Measures F.Fn measure.now.closure measure.now.yardsticks }
-    requires row { HasKept measure.now.yardsticks kept row.now }
-    requires donor { CanGive measure.now.yardsticks sheet.now.rows kept donor }
+    requires row { HasMeasurable measure.now.yardsticks kept row.now }
+    requires donor { IsRankable measure.now.yardsticks sheet.now.rows kept donor }
     requires few { length nearest.old.items ≤ near }
     requires order { IsInOrder is_before nearest.old.items }
     ensures { OnOk result (nearest.new.items ≡ take near (placed is_before (candidate_of (distance_to measure.now.yardsticks sheet.now.rows row.now kept) donor) nearest.old.items)) }

@@ -10,7 +10,7 @@ use Rattle.edit_model.specs.Surveys.{IsField, IsKind}
 use Rattle.edit_model.specs.declared.field.Field.{Field}
 use Rattle.edit_model.specs.declared.field.Kind.{Kind}
 use Rattle.edit_model.specs.declared.field.Kind.TheVariants as kind
-use Rattle.edit_language.specs.Meaning.{codes_in, codes_of, field_named}
+use Rattle.edit_language.specs.Meaning.{kind_codes, field_codes, field_named}
 
 -- the last of a list fails a test that all of it fail
 pub last_fails : {X : Type 0} (p : X → Bool) (xs : List X) (y : X) → list_any p (xs ++ y ∷ []) ≡ false → p y ≡ false
@@ -23,11 +23,11 @@ last_decides p xs ys y answer same none is =
     sym (list_any-append p xs (y ∷ []) ∙ rw (fails, or-false) (sym is))
 
 -- a field has 64 codes at most
-pub few_codes : (fields : List Field) (name : List ℕ) → All IsField fields → length (codes_of (field_named fields name)) ≤ 64
+pub few_codes : (fields : List Field) (name : List ℕ) → All IsField fields → length (field_codes (field_named fields name)) ≤ 64
 few_codes [] name all = omega arith
-few_codes (f ∷ fields) name all = cond_both (bytes_eq f.name name) (Some f) (field_named fields name) (λ (o : Option Field). length (codes_of o) ≤ 64)
+few_codes (f ∷ fields) name all = cond_both (bytes_eq f.name name) (Some f) (field_named fields name) (λ (o : Option Field). length (field_codes o) ≤ 64)
     (λ _. few f.kind (All-head IsField f fields all).fits) (λ _. few_codes fields name (All-tail IsField f fields all))
   where
-    few : (k : Kind) → IsKind k → length (codes_in k) ≤ 64
+    few : (k : Kind) → IsKind k → length (kind_codes k) ≤ 64
     few (kind.Number scale) fits = omega arith
     few (kind.Code codes) fits = fits.1

@@ -21,7 +21,7 @@ use Rattle.rule_grammar.specs.declared.statement.TestText.TheVariants as test
 use Rattle.rule_grammar.specs.declared.token.Sign.{Sign}
 use Rattle.rule_grammar.specs.declared.token.Token.{Token}
 use Rattle.edit_language.specs.Faults.{has_fault, kind_number}
-use Rattle.edit_language.specs.Grammar.{Adds, AddsAll, HasFault, IsLeastFault, IsRuleText, IsRulesFault, Says, SaysNothing, no_statements}
+use Rattle.edit_language.specs.Grammar.{Adds, AddsAll, HasFault, IsLeastFault, IsRuleText, IsRulesFault, SaysStatement, SaysNothing, no_statements}
 use Rattle.edit_language.specs.Lines.{has_bad_byte, is_bad_byte, read_part, text_lines}
 use Rattle.edit_language.specs.Meaning.{extended}
 use Rattle.edit_language.specs.Reading.{IsFaultOf, IsNoRuleText, IsOnlyFaultOf}
@@ -56,11 +56,11 @@ some_token (statement.Rule r) e = in_rule r.conditions r.conclusion e
     in_rule (first ∷ rest) conclusion e = cc
 
 -- a line says one thing
-pub says_once : (line : List ℕ) (s t : Written) → Says line s → Says line t → s ≡ t
+pub says_once : (line : List ℕ) (s t : Written) → SaysStatement line s → SaysStatement line t → s ≡ t
 says_once line s t first second = one_statement s t (sym first.tokens ∙ second.tokens)
 
 -- a line that says something is not empty
-pub says_some : (line : List ℕ) (s : Written) → Says line s → tokens_of (read_part line) ≡ [] → ⊥
+pub says_some : (line : List ℕ) (s : Written) → SaysStatement line s → tokens_of (read_part line) ≡ [] → ⊥
 says_some line s says empty = some_token s (sym says.tokens ∙ empty)
 
 -- ---- faults
@@ -82,7 +82,7 @@ numbered TooMany = refl
 numbered ConditionForm = refl
 
 -- the fault of a statement is one of its line
-pub fault_of_line : (line : List ℕ) (before : SurveyParts) (s : Written) (kind : RulesKind) → Says line s → has_fault before s kind ≡ true → HasFault line before kind
+pub fault_of_line : (line : List ℕ) (before : SurveyParts) (s : Written) (kind : RulesKind) → SaysStatement line s → has_fault before s kind ≡ true → HasFault line before kind
 fault_of_line line before s BadByte says e = absurd cc
 fault_of_line line before s Syntax says e = absurd cc
 fault_of_line line before s UnknownField says e = (s, says, e)
@@ -95,7 +95,7 @@ fault_of_line line before s ConditionForm says e = (s, says, e)
 
 -- a fault is of one of three sorts
 IsSort : List ℕ → SurveyParts → RulesKind → Type 0
-IsSort line before kind = ((kind ≡ BadByte) × (has_bad_byte line ≡ true)) ⊎ (((kind ≡ Syntax) × SaysNothing line) ⊎ ((s : Written) × Says line s × (has_fault before s kind ≡ true)))
+IsSort line before kind = ((kind ≡ BadByte) × (has_bad_byte line ≡ true)) ⊎ (((kind ≡ Syntax) × SaysNothing line) ⊎ ((s : Written) × SaysStatement line s × (has_fault before s kind ≡ true)))
 
 sort_of : (line : List ℕ) (before : SurveyParts) (kind : RulesKind) → HasFault line before kind → IsSort line before kind
 unfolding IsSort
@@ -110,7 +110,7 @@ sort_of line before TooMany h = inr (inr h)
 sort_of line before ConditionForm h = inr (inr h)
 
 -- the least fault of a statement is that of its line
-pub least_of_line : (line : List ℕ) (before : SurveyParts) (s : Written) (kind : RulesKind) → Says line s → IsLeastOf before s kind → IsLeastFault line before kind
+pub least_of_line : (line : List ℕ) (before : SurveyParts) (s : Written) (kind : RulesKind) → SaysStatement line s → IsLeastOf before s kind → IsLeastFault line before kind
 unfolding IsSort
 least_of_line line before s kind says is = record { has = fault_of_line line before s kind says is.has; least = λ other fault. by other (sort_of line before other fault) }
   where
@@ -272,12 +272,12 @@ read_all bytes rest number draft survey so_far none adds =
 -- ---- what an answer says
 
 -- the fault of a statement, told of its line
-pub told_of_line : (line : List ℕ) (before : SurveyParts) (number : ℕ) (s : Written) (fault : RulesFault) → Says line s → IsFaultOfStatement s before number fault → IsFaultOfLine line before number fault
+pub told_of_line : (line : List ℕ) (before : SurveyParts) (number : ℕ) (s : Written) (fault : RulesFault) → SaysStatement line s → IsFaultOfStatement s before number fault → IsFaultOfLine line before number fault
 told_of_line line before number s (faults.At at kind) says told = (told.0, least_of_line line before s kind says told.1)
 told_of_line line before number s faults.OutOfMemory says told = tt
 
 -- an answer that tells the fault of the statement tells that of its line
-pub told_by_line : {A : Type 0} (line : List ℕ) (before : SurveyParts) (number : ℕ) (s : Written) (answer : Result A RulesFault) → Says line s → IfErr answer (λ fault. IsFaultOfStatement s before number fault) → IfErr answer (λ fault. IsFaultOfLine line before number fault)
+pub told_by_line : {A : Type 0} (line : List ℕ) (before : SurveyParts) (number : ℕ) (s : Written) (answer : Result A RulesFault) → SaysStatement line s → IfErr answer (λ fault. IsFaultOfStatement s before number fault) → IfErr answer (λ fault. IsFaultOfLine line before number fault)
 told_by_line line before number s (Ok x) says told = tt
 told_by_line line before number s (Err fault) says told = told_of_line line before number s fault says told
 
@@ -286,7 +286,7 @@ pub handed_on : {A : Type 0} (answer : Result A RulesFault) (P : RulesFault → 
 handed_on answer P told fault is same holds = rw (is, same) holds
 
 -- what the reader of a line found is what the line says
-pub says_of : (line text : List ℕ) (found : LineText) (s : Written) → text ≡ read_part line → list_any is_bad_byte text ≡ false → found ≡ line_text.Says s → IsLineText text found → Says line s
+pub says_of : (line text : List ℕ) (found : LineText) (s : Written) → text ≡ read_part line → list_any is_bad_byte text ≡ false → found ≡ line_text.Says s → IsLineText text found → SaysStatement line s
 says_of line text found s part clean is read =
     let says : IsLineText text (line_text.Says s) = subst (λ (l : LineText). IsLineText text l) is read in
     record { clean = ap (list_any is_bad_byte) (sym part) ∙ clean; tokens = ap tokens_of (sym part) ∙ says.0 }

@@ -19,7 +19,7 @@ use Rattle.rule_grammar.specs.Statements.{statement_tokens}
 use Rattle.rule_grammar.specs.Tokens.{tokens_of}
 use Rattle.rule_grammar.specs.declared.statement.Statement.{Statement as Written}
 use Rattle.rule_grammar.proofs.TokenSteps.{prefix_of_run}
-use Rattle.edit_language.specs.Grammar.{AddsAll, AddsStatement, IsRuleText, Says, no_statements}
+use Rattle.edit_language.specs.Grammar.{AddsAll, AddsStatement, IsRuleText, SaysStatement, no_statements}
 use Rattle.edit_language.specs.Lines.{is_bad_byte, read_part, without_mark, without_return}
 use Rattle.edit_language.specs.Printing.{field_line, field_lines, printed, rule_line, rule_lines}
 use Rattle.edit_language.proofs.FirstFaultLaws.{none_found}
@@ -63,7 +63,7 @@ whole_read text plain =
     let size : prefix_len (λ b. not (eqb b 35)) text ≡ length text = ap (prefix_len (λ b. not (eqb b 35))) (sym (append-nil text)) ∙ prefix_of_run (λ b. not (eqb b 35)) text [] all refl in
     rw same (rw size (take_all (length text) text (omega arith)))
 
-pub line_says : (text : List ℕ) (statement : Written) → Spells false false text (statement_tokens statement) → Says text statement
+pub line_says : (text : List ℕ) (statement : Written) → Spells false false text (statement_tokens statement) → SaysStatement text statement
 line_says text statement spells =
     let whole = whole_read text spells.plain in
     record {

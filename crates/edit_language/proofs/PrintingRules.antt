@@ -25,7 +25,7 @@ use Rattle.rule_grammar.specs.declared.token.Sign.TheVariants as sign
 use Rattle.rule_grammar.specs.declared.token.Token.{Token}
 use Rattle.rule_grammar.specs.declared.token.Token.TheVariants as token
 use Rattle.rule_grammar.proofs.TokenSteps.{tokens_from_blank, tokens_from_front}
-use Rattle.edit_language.specs.Meaning.{codes_of}
+use Rattle.edit_language.specs.Meaning.{field_codes}
 use Rattle.edit_language.specs.Printing.{braced, codes_of_set, compare_text, conditions_text, joint_text, later_conditions_text, later_constant_text, later_terms_text, name_at, rule_line, sign_text, sum_text, term_text, test_text}
 use Rattle.edit_language.proofs.PrintingFields.{braced_spells}
 use Rattle.edit_language.proofs.PrintingPieces.{IsPlain, Leads, Opens, Spells, blank_opens, keyword_between, keyword_opens, leads_blank, leads_nil, mark_opens, name_spells, number_spells, opens_both, opens_nil, opens_then, plain-append, respelled, spells_from, spells_opens, spells_then, stops_blank}
@@ -132,7 +132,7 @@ compares Eq = compare_behind (61 ∷ []) Eq (mark_spells (61 ∷ []) Eq refl (λ
 -- what a test needs to be printed and read
 abbrev pub IsPrintableTest : List Field → Test → Type 0
 IsPrintableTest fields (test.Number l) = AllByRecursion (IsPrintable fields) l.terms × (unsigned_abs l.constant ≤ 10 ^ 15)
-IsPrintableTest fields (test.Codes field negated set) = IsName (name_at fields field) × (1 ≤ length (codes_of_set set 0 (codes_of (slice_get fields field)))) × AllByRecursion IsCodeText (codes_of_set set 0 (codes_of (slice_get fields field)))
+IsPrintableTest fields (test.Codes field negated set) = IsName (name_at fields field) × (1 ≤ length (codes_of_set set 0 (field_codes (slice_get fields field)))) × AllByRecursion IsCodeText (codes_of_set set 0 (field_codes (slice_get fields field)))
 
 codes_spells : (name : List ℕ) (negated : Bool) (list : List (List ℕ)) → IsName name → 1 ≤ length list → AllByRecursion IsCodeText list
     → Spells false false (name ++ (if negated then codes " not in " else codes " in ") ++ braced list) (token.Name name ∷ ((if negated then token.Keyword keyword.Not ∷ [] else []) ++ token.Keyword keyword.In ∷ list_tokens (code_list list)))
@@ -143,7 +143,7 @@ codes_spells name false list is some all =
 
 pub test_spells : (fields : List Field) (t : Test) → IsPrintableTest fields t → Spells false false (test_text fields t) (test_tokens (written_test fields t))
 test_spells fields (test.Number l) is = let behind = compares l.compare in spells_then (sum_spells fields l.terms l.constant is.0 is.1) behind.leads behind.spells
-test_spells fields (test.Codes field negated set) is = codes_spells (name_at fields field) negated (codes_of_set set 0 (codes_of (slice_get fields field))) is.0 is.1 is.2
+test_spells fields (test.Codes field negated set) is = codes_spells (name_at fields field) negated (codes_of_set set 0 (field_codes (slice_get fields field))) is.0 is.1 is.2
 
 -- ---- rules
 

@@ -27,7 +27,7 @@ use Rattle.rule_grammar.specs.declared.statement.TermText.TheVariants as term
 use Rattle.rule_grammar.specs.declared.token.Numeral.TheVariants as numeral
 use Rattle.edit_language.specs.Faults.{has_double, has_double_code, is_known_term, is_known_test, is_large_term, is_large_test, is_number_name}
 use Rattle.edit_language.specs.inner.FirstFault.{has_known_codes}
-use Rattle.edit_language.specs.Meaning.{codes_in, codes_of, field_named, is_listed, listed, moved_factor, moved_terms, terms_of, test_of}
+use Rattle.edit_language.specs.Meaning.{kind_codes, field_codes, field_named, is_listed, listed, moved_factor, moved_terms, terms_of, test_of}
 use Rattle.edit_language.specs.Printing.{codes_of_set, name_at}
 use Rattle.edit_language.proofs.PrintingCodes.{AreApart, AreOther, all_kept, all_listed, apart_kept, known_codes, no_double, set_printed, some_printed}
 use Rattle.edit_language.proofs.PrintingSums.{AreBelow, AreRisingFrom, AreSmall, GivesFrom, factor_at, factor_small, given_at, moved_constant_back, moved_gives, terms_back}
@@ -188,7 +188,7 @@ apart_from_pairs (c ∷ list) pairs = (
   apart_from_pairs list (λ i j d less below. pairs (suc i) (suc j) d (omega arith) (omega arith)),
 )
 
-codes_back : (k : Kind) (set : ℕ) → IsKind k → IsSetOf k set → AreCodes set (codes_in k) × (is_numerical k ≡ false)
+codes_back : (k : Kind) (set : ℕ) → IsKind k → IsSetOf k set → AreCodes set (kind_codes k) × (is_numerical k ≡ false)
 codes_back (kind.Number scale) set is has = absurd has
 codes_back (kind.Code list) set is has = (record { apart = apart_from_pairs list is.3; texts = recursion_from_All IsCodeText list is.2; some = has.0; below = has.1 }, refl)
 
@@ -196,17 +196,17 @@ listed_list : (list : List (List ℕ)) → 1 ≤ length list → listed (code_li
 listed_list [] some = absurd (omega arith)
 listed_list (c ∷ list) some = refl
 
-code_test_found : (fields : List Field) (i : ℕ) (f : Field) (negated : Bool) (set : ℕ) → slice_get fields i ≡ Some f → IsFound fields i f → IsName f.name → AreCodes set (codes_in f.kind) → is_numerical f.kind ≡ false
+code_test_found : (fields : List Field) (i : ℕ) (f : Field) (negated : Bool) (set : ℕ) → slice_get fields i ≡ Some f → IsFound fields i f → IsName f.name → AreCodes set (kind_codes f.kind) → is_numerical f.kind ≡ false
     → IsReadBack fields (test.Codes i negated set)
 code_test_found fields i f negated set at there is_name codes categorical =
-    let own = codes_in f.kind in
+    let own = kind_codes f.kind in
     let printed = codes_of_set set 0 own in
     let some : 1 ≤ length printed = some_printed set own codes.apart codes.some codes.below in
     let list = listed_list printed some in
     record {
       printable = (subst IsName (sym there.name) is_name, rw at some, rw at (all_kept IsCodeText set 0 own codes.texts));
       known = rw (there.name, there.field, categorical) refl;
-      known_codes = subst (λ (all : List (List ℕ)). list_all (is_listed all) (listed (code_list (codes_of_set set 0 (codes_of (slice_get fields i))))) ≡ true) (sym (ap codes_of (ap (field_named fields) there.name ∙ there.field)))
+      known_codes = subst (λ (all : List (List ℕ)). list_all (is_listed all) (listed (code_list (codes_of_set set 0 (field_codes (slice_get fields i))))) ≡ true) (sym (ap field_codes (ap (field_named fields) there.name ∙ there.field)))
           (rw at (subst (λ (l : List (List ℕ)). list_all (is_listed own) l ≡ true) (sym list) (known_codes set 0 own own (all_listed own))));
       distinct = rw at (subst (λ (l : List (List ℕ)). has_double l ≡ false) (sym list) (no_double printed (apart_kept set 0 own codes.apart)));
       small = refl;

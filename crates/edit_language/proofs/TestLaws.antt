@@ -27,7 +27,7 @@ use Rattle.rule_grammar.specs.declared.token.Sign.{Sign}
 use Rattle.rule_grammar.specs.declared.token.Sign.TheVariants as sign
 use Rattle.edit_language.specs.Faults.{is_code_name, is_field_of_kind, is_known_sum, is_known_term, is_known_test, is_large_test, is_number_name}
 use Rattle.edit_language.specs.inner.FirstFault.{has_known_codes}
-use Rattle.edit_language.specs.Meaning.{code_set, codes_in, codes_of, factor_in, factor_of, field_named, is_listed, listed, moved_factor, moved_terms, number_in, number_named, signed, terms_of, test_of}
+use Rattle.edit_language.specs.Meaning.{code_set, kind_codes, field_codes, factor_in, factor_of, field_named, is_listed, listed, moved_factor, moved_terms, numeral_value, number_named, signed, terms_of, test_of}
 use Rattle.edit_language.proofs.CodeLaws.{code_set_small, code_set_some, equal, unequal}
 
 -- the fields' names differ
@@ -79,7 +79,7 @@ module _ (fields : List Field) (f : Field) (found : field_named fields f.name �
       both_ways (is_numerical f.kind) categorical e)
 
   no_factor : (t : TermText) → is_known_term fields t ≡ true → factor_in f.name t ≡ 0
-  no_factor (term.Product factor times field) known = cond-false (bytes_eq field f.name) (number_in factor) 0 (other_name field known)
+  no_factor (term.Product factor times field) known = cond-false (bytes_eq field f.name) (numeral_value factor) 0 (other_name field known)
   no_factor (term.Field field) known = cond-false (bytes_eq field f.name) 1 0 (other_name field known)
   no_factor (term.Constant number) known = refl
 
@@ -145,16 +145,16 @@ terms_rise left right i (f ∷ more) =
 -- ---- tests
 
 -- a set of known codes fits their field
-codes_fit : (k : Kind) (list : List (List ℕ)) (first : List ℕ) → not (is_numerical k) ≡ true → is_listed list first ≡ true → is_listed (codes_in k) first ≡ true → IsSetOf k (code_set (codes_in k) list)
+codes_fit : (k : Kind) (list : List (List ℕ)) (first : List ℕ) → not (is_numerical k) ≡ true → is_listed list first ≡ true → is_listed (kind_codes k) first ≡ true → IsSetOf k (code_set (kind_codes k) list)
 codes_fit (kind.Number scale) list first categorical there known = absurd cc
 codes_fit (kind.Code codes) list first categorical there known = (code_set_some codes list first known there, code_set_small codes list)
 
-code_test_fits : (fields : List Field) (name : List ℕ) (negated : Bool) (list : List (List ℕ)) (first : List ℕ) → is_code_name fields name ≡ true → is_listed list first ≡ true → is_listed (codes_of (field_named fields name)) first ≡ true
-    → IsTest fields (made.Codes (unwrap_or (number_named fields name) 0) negated (code_set (codes_of (field_named fields name)) list))
+code_test_fits : (fields : List Field) (name : List ℕ) (negated : Bool) (list : List (List ℕ)) (first : List ℕ) → is_code_name fields name ≡ true → is_listed list first ≡ true → is_listed (field_codes (field_named fields name)) first ≡ true
+    → IsTest fields (made.Codes (unwrap_or (number_named fields name) 0) negated (code_set (field_codes (field_named fields name)) list))
 code_test_fits fields name negated list first named there known = by (field_named fields name) refl named known
   where
-    by : (o : Option Field) → field_named fields name ≡ o → is_field_of_kind (λ k. not (is_numerical k)) o ≡ true → is_listed (codes_of o) first ≡ true
-        → IsSomeAnd (slice_get fields (unwrap_or (number_named fields name) 0)) (λ f. IsSetOf f.kind (code_set (codes_of (field_named fields name)) list))
+    by : (o : Option Field) → field_named fields name ≡ o → is_field_of_kind (λ k. not (is_numerical k)) o ≡ true → is_listed (field_codes o) first ≡ true
+        → IsSomeAnd (slice_get fields (unwrap_or (number_named fields name) 0)) (λ f. IsSetOf f.kind (code_set (field_codes (field_named fields name)) list))
     by None found categorical has = absurd cc
     by (Some f) found categorical has = rw (number_is fields name f found, found) (codes_fit f.kind list first categorical there has)
 

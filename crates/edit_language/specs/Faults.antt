@@ -21,7 +21,7 @@ use Rattle.rule_grammar.specs.declared.statement.TestText.{TestText}
 use Rattle.rule_grammar.specs.declared.statement.TestText.TheVariants as written
 use Rattle.rule_grammar.specs.declared.token.Numeral.{Numeral}
 use Rattle.rule_grammar.specs.declared.token.Numeral.TheVariants as numeral
-use Rattle.edit_language.specs.Meaning.{codes_of, field_named, field_of, is_listed, listed, moved_constant, moved_factor, terms_of}
+use Rattle.edit_language.specs.Meaning.{field_codes, field_named, field_of, is_listed, listed, moved_constant, moved_factor, terms_of}
 use Rattle.edit_language.specs.declared.fault.RulesFault.{RulesFault}
 use Rattle.edit_language.specs.declared.fault.RulesFault.TheVariants as fault
 use Rattle.edit_language.specs.declared.fault.RulesKind.{RulesKind}
@@ -93,7 +93,7 @@ is_known_test fields (written.Sums left compare right) = is_known_sum fields lef
 
 -- whether each code of the list is one of the field's
 abbrev pub are_known_codes : List Field → List ℕ → CodeList → Bool
-are_known_codes fields field list = list_all (λ code. is_listed (codes_of (field_named fields field)) code) (listed list)
+are_known_codes fields field list = list_all (λ code. is_listed (field_codes (field_named fields field)) code) (listed list)
 
 -- whether the field of a code test is known, and one of its codes is none of the field's
 abbrev pub has_unknown_code : List Field → TestText → Bool

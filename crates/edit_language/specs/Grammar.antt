@@ -15,7 +15,7 @@ abbrev pub no_statements : SurveyParts
 no_statements = record { fields = []; rules = [] }
 
 -- the line says this
-pub record Says (line : List ℕ) (statement : Written) : Type 0 where
+pub record SaysStatement (line : List ℕ) (statement : Written) : Type 0 where
   pub clean : has_bad_byte line ≡ false
   pub tokens : tokens_of (read_part line) ≡ statement_tokens statement
 
@@ -27,7 +27,7 @@ pub record IsEmptyLine (line : List ℕ) : Type 0 where
 -- the line says something that has no fault after the lines before it, and the survey grows by that
 pub record AddsStatement (line : List ℕ) (before after : SurveyParts) : Type 0 where
   pub statement : Written
-  pub says : Says line statement
+  pub says : SaysStatement line statement
   pub faultless : (kind : RulesKind) → has_fault before statement kind ≡ false
   pub grown : after ≡ extended before statement
 
@@ -53,7 +53,7 @@ pub record SaysNothing (line : List ℕ) : Type 0 where
 abbrev pub HasFault : List ℕ → SurveyParts → RulesKind → Type 0
 HasFault line before BadByte = has_bad_byte line ≡ true
 HasFault line before Syntax = SaysNothing line
-HasFault line before kind = (statement : Written) × Says line statement × (has_fault before statement kind ≡ true)
+HasFault line before kind = (statement : Written) × SaysStatement line statement × (has_fault before statement kind ≡ true)
 
 -- and none of a lesser kind
 pub record IsLeastFault (line : List ℕ) (before : SurveyParts) (kind : RulesKind) : Type 0 where

@@ -33,14 +33,14 @@ use Rattle.rule_grammar.specs.declared.token.Sign.TheVariants as sign
 -- ---- numbers
 
 -- the number that a numeral spells; one that is out of range is a fault of its line, whatever it counts for
-abbrev pub number_in : Numeral → ℕ
-number_in (numeral.Whole n) = n
-number_in numeral.OutOfRange = 0
+abbrev pub numeral_value : Numeral → ℕ
+numeral_value (numeral.Whole n) = n
+numeral_value numeral.OutOfRange = 0
 
 -- the number of a weight or a scale; 1 where it is not written
 abbrev pub number_or_one : Option Numeral → ℕ
 number_or_one None = 1
-number_or_one (Some n) = number_in n
+number_or_one (Some n) = numeral_value n
 
 -- the number with its sign
 abbrev pub signed : Sign → ℕ → ℤ
@@ -51,13 +51,13 @@ signed sign.Minus n = neg_ℤ (pos n)
 
 -- how often a term takes the field of this name
 abbrev pub factor_in : List ℕ → TermText → ℕ
-factor_in name (term.Product factor times field) = if bytes_eq field name then number_in factor else 0
+factor_in name (term.Product factor times field) = if bytes_eq field name then numeral_value factor else 0
 factor_in name (term.Field field) = if bytes_eq field name then 1 else 0
 factor_in name (term.Constant number) = 0
 
 -- what a term is, where it is no field's
 abbrev pub constant_in : TermText → ℕ
-constant_in (term.Constant number) = number_in number
+constant_in (term.Constant number) = numeral_value number
 constant_in other = 0
 
 -- all terms of a sum with their signs; a first term without a sign is added
@@ -100,14 +100,14 @@ abbrev pub field_named : List Field → List ℕ → Option Field
 field_named fields name = find (λ (f : Field). bytes_eq f.name name) fields
 
 -- the codes of a categorical field
-abbrev pub codes_in : Kind → List (List ℕ)
-codes_in (kind.Number scale) = []
-codes_in (kind.Code codes) = codes
+abbrev pub kind_codes : Kind → List (List ℕ)
+kind_codes (kind.Number scale) = []
+kind_codes (kind.Code codes) = codes
 
 -- the codes of the field, none where there is no field
-abbrev pub codes_of : Option Field → List (List ℕ)
-codes_of None = []
-codes_of (Some f) = codes_in f.kind
+abbrev pub field_codes : Option Field → List (List ℕ)
+field_codes None = []
+field_codes (Some f) = kind_codes f.kind
 
 -- all codes of a list
 abbrev pub listed : CodeList → List (List ℕ)
@@ -132,7 +132,7 @@ linear_of fields left compare right =
 -- the test over these fields
 abbrev pub test_of : List Field → TestText → Test
 test_of fields (written.Codes field negated list) =
-    test.Codes (unwrap_or (number_named fields field) 0) negated (code_set (codes_of (field_named fields field)) (listed list))
+    test.Codes (unwrap_or (number_named fields field) 0) negated (code_set (field_codes (field_named fields field)) (listed list))
 test_of fields (written.Sums left compare right) = test.Number (linear_of fields left compare right)
 
 -- the edit over these fields

@@ -16,7 +16,7 @@ use Rattle.edit_model.specs.declared.rule.Rule.{Rule}
 use Rattle.edit_model.specs.declared.rule.Term.{Term}
 use Rattle.edit_model.specs.declared.rule.Test.{Test}
 use Rattle.edit_model.specs.declared.rule.Test.TheVariants as test
-use Rattle.edit_language.specs.Meaning.{codes_of}
+use Rattle.edit_language.specs.Meaning.{field_codes}
 
 -- the name of a field, by its number
 abbrev pub name_at : List Field → ℕ → List ℕ
@@ -101,7 +101,7 @@ in_text negated = if negated then codes " not in " else codes " in "
 abbrev pub test_text : List Field → Test → List ℕ
 test_text fields (test.Number l) = linear_text fields l
 test_text fields (test.Codes field negated set) =
-    name_at fields field ++ in_text negated ++ braced (codes_of_set set 0 (codes_of (slice_get fields field)))
+    name_at fields field ++ in_text negated ++ braced (codes_of_set set 0 (field_codes (slice_get fields field)))
 
 -- the conditions behind the first
 abbrev pub later_conditions_text : List Field → List Test → List ℕ

@@ -25,14 +25,14 @@ pub(crate) struct Draft {
 }
 
 impl Model for Draft {
-    ghost use Rattle.edit_model.specs.Parts.{SurveyParts, parts_of};
+    ghost use Rattle.edit_model.specs.Parts.{SurveyParts, survey_of};
     ghost use Rattle.edit_model.specs.Surveys.{IsWellFormed};
 
     ghost Value = { SurveyParts };
 
-    ghost view = { λ d. parts_of d.fields.items d.rules.items };
+    ghost view = { λ d. survey_of d.fields.items d.rules.items };
 
-    ghost invariant = { λ d. IsWellFormed (parts_of d.fields.items d.rules.items) };
+    ghost invariant = { λ d. IsWellFormed (survey_of d.fields.items d.rules.items) };
 }
 
 impl Draft {

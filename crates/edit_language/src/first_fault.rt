@@ -2,7 +2,7 @@
 ghost use Rattle.std.specs.Prelude.{◌≡◌, List, IfOk};
 ghost use Rattle.std.specs.List.{list_all, list_any};
 ghost use Rattle.std.specs.Str.{bytes_eq};
-ghost use Rattle.edit_model.specs.Parts.{parts_of};
+ghost use Rattle.edit_model.specs.Parts.{survey_of};
 ghost use Rattle.edit_language.specs.Faults.{has_double_code, has_form, is_equation, is_known_test, is_large_test, is_sums};
 ghost use Rattle.edit_language.specs.inner.FirstFault.{tests_of};
 ghost use Rattle.edit_language.specs.inner.FirstFault.{IsDeclarationFault, declaration_fault, fault_of, has_known_codes, rule_fault};
@@ -207,7 +207,7 @@ fn rule_fault(
     rules: &[Rule],
     rule: &RuleText,
 ) -> Result<Option<RulesKind>, OutOfMemory>
-    ensures { IfOk result (λ fault. fault ≡ rule_fault (parts_of fields.now rules.now) rule.now) }
+    ensures { IfOk result (λ fault. fault ≡ rule_fault (survey_of fields.now rules.now) rule.now) }
 {
     if !is_known_rule(fields, rule) {
         Ok(Some(RulesKind::UnknownField))
@@ -232,7 +232,7 @@ fn declaration_fault(
     fields: &[Field],
     declaration: &Declaration,
 ) -> Result<Option<RulesKind>, OutOfMemory>
-    ensures { IfOk result (λ fault. (rules : List Rule) → fault ≡ declaration_fault (parts_of fields.now rules) declaration.now) }
+    ensures { IfOk result (λ fault. (rules : List Rule) → fault ≡ declaration_fault (survey_of fields.now rules) declaration.now) }
 {
     match declaration {
         Declaration::Number {
@@ -251,7 +251,7 @@ pub(crate) fn fault_of(
     rules: &[Rule],
     statement: &Statement,
 ) -> Result<Option<RulesKind>, OutOfMemory>
-    ensures { IfOk result (λ fault. fault ≡ fault_of (parts_of fields.now rules.now) statement.now) }
+    ensures { IfOk result (λ fault. fault ≡ fault_of (survey_of fields.now rules.now) statement.now) }
 {
     match statement {
         Statement::Declaration(declaration) => declaration_fault(alloc, fields, declaration),

@@ -3,7 +3,7 @@ ghost use Rattle.std.specs.Prelude.{◌≡◌, ◌||◌, IfSome, length, option_
 ghost use Rattle.std.specs.List.{list_all};
 ghost use Rattle.edit_language.specs.Faults.{is_code_name, is_known_sum, is_known_term, is_known_test, is_number_name};
 ghost use Rattle.edit_language.specs.inner.FirstFault.{has_known_codes};
-ghost use Rattle.edit_language.specs.Meaning.{codes_in, codes_of, field_named, is_listed, listed, number_named};
+ghost use Rattle.edit_language.specs.Meaning.{kind_codes, field_codes, field_named, is_listed, listed, number_named};
 
 use edit_model::{Field, Kind, Name};
 use rule_grammar::{CodeList, SignedTerm, SumText, TermText, TestText};
@@ -87,7 +87,7 @@ pub(crate) fn is_known_test(fields: &[Field], test: &TestText) -> bool
 
 // The codes of a kind of field, none where it is numerical.
 fn codes_in(kind: &Kind) -> &[Name]
-    ensures { result.now ≡ codes_in kind.now }
+    ensures { result.now ≡ kind_codes kind.now }
 {
     match kind {
         Kind::Number { .. } => &[],
@@ -97,7 +97,7 @@ fn codes_in(kind: &Kind) -> &[Name]
 
 /// The codes of the field that has the name, none where there is none.
 pub(crate) fn codes_of<'a>(fields: &'a [Field], name: &Name) -> &'a [Name]
-    ensures { result.now ≡ codes_of (field_named fields.now name.now) }
+    ensures { result.now ≡ field_codes (field_named fields.now name.now) }
 {
     match field_named(fields, name) {
         None => &[],

@@ -1,13 +1,13 @@
 //! The numbers that a statement has, and their limits.
 ghost use Rattle.std.specs.Prelude.{◌≡◌};
 ghost use Rattle.edit_language.specs.Faults.{is_above, is_outside};
-ghost use Rattle.edit_language.specs.Meaning.{number_in, number_or_one};
+ghost use Rattle.edit_language.specs.Meaning.{numeral_value, number_or_one};
 
 use rule_grammar::Numeral;
 
 /// The number that a numeral spells, 0 where it is out of range.
 pub(crate) fn number_in(numeral: Numeral) -> u64
-    ensures { result ≡ number_in numeral }
+    ensures { result ≡ numeral_value numeral }
 {
     match numeral {
         Numeral::Whole(number) => number,

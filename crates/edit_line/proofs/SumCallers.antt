@@ -11,7 +11,7 @@ use Rattle.edit_model.specs.declared.value.Value.{Value}
 use Rattle.edit_model.specs.declared.value.Value.TheVariants.{Code, Number, Bad}
 use Rattle.edit_line.specs.Lines.{LineParts}
 use Rattle.edit_line.specs.Shapes.{Domain, domain_of, number_fields, numbers_from, shape_of}
-use Rattle.edit_line.specs.Sums.{AgreesWith, AtFactors, HasNumbers}
+use Rattle.edit_line.specs.Sums.{AgreesOnLine, AtFactors, HasNumbers}
 use Rattle.edit_line.proofs.FactorLaws.{AtFactors-map}
 
 -- What a caller of `value_at` shows: a record of the survey has the numbers that a line reads, where none of them is Bad.
@@ -55,6 +55,6 @@ agrees-value (Code c) p f agrees = λ bad. absurd (cc)
 agrees-value Bad p f agrees = absurd (cc)
 
 -- so at a point that agrees, the record has the line's numbers
-pub numbers-agreed : (fields : List Field) (row : List Value) (line : LineParts) (p : Point) → line.shape ≡ shape_of fields → IsRow fields row → AgreesWith row p line → HasNumbers row line
+pub numbers-agreed : (fields : List Field) (row : List Value) (line : LineParts) (p : Point) → line.shape ≡ shape_of fields → IsRow fields row → AgreesOnLine row p line → HasNumbers row line
 numbers-agreed fields row line p shape is agrees =
     numbers-held fields row line shape is (AtFactors-map (λ f. Agrees row p f) (λ f. value_of row f ≢ Bad) (λ f. agrees-value (value_of row f) p f) (number_fields line.shape) line.factors agrees)

@@ -17,7 +17,7 @@ use Rattle.edit_model.specs.declared.value.Value.{Value}
 use Rattle.edit_line.specs.Lines.{IsEnough, LineParts, amount, weighted}
 use Rattle.edit_line.specs.Shapes.{number_fields}
 use Rattle.edit_line.specs.Subsumption.{is_enough}
-use Rattle.edit_line.specs.Sums.{AgreesWith, AtFactors, HasNumbers, fails_at, fails_by, next_sum, sum_at, sum_from, whole}
+use Rattle.edit_line.specs.Sums.{AgreesOnLine, AtFactors, HasNumbers, fails_at, fails_by, next_sum, sum_at, sum_from, whole}
 use Rattle.edit_line.specs.declared.overflow.LineOverflow.{LineOverflow}
 use Rattle.edit_model.proofs.TrialLaws.{IsOverPoint, nothing_more, over_one, some_same, sum_with-over}
 use Rattle.edit_line.proofs.Enough.{IsEnough-times, IsEnough_cancel, is_enough-Decides}
@@ -71,7 +71,7 @@ module _ (p : Point) where
       subst (λ (z : ℤ). IsOverPoint p s z) same (sum_from-over fields factors row next s m held.1 agreed.1 here second)
 
   -- the sum of a line is its amount, over the point's denominator
-  pub sum_at-over : (line : LineParts) (row : List Value) (s : Ratio) → HasNumbers row line → AgreesWith row p line → sum_at line row ≡ Ok s
+  pub sum_at-over : (line : LineParts) (row : List Value) (s : Ratio) → HasNumbers row line → AgreesOnLine row p line → sum_at line row ≡ Ok s
       → (s.numerator *ℤ p.denominator ≡ amount line p *ℤ s.denominator) × (pos 0 <ℤ s.denominator)
   unfolding IsOverPoint
   sum_at-over line row s held agreed e =
@@ -87,7 +87,7 @@ alike strict a b d e d_above e_above same =
     )
 
 -- whether a line fails at a record is whether its amount is not enough at a point that agrees with the record
-pub fails_at-truth : (line : LineParts) (row : List Value) (p : Point) (failed : Bool) → HasNumbers row line → AgreesWith row p line → fails_at line row ≡ Ok failed
+pub fails_at-truth : (line : LineParts) (row : List Value) (p : Point) (failed : Bool) → HasNumbers row line → AgreesOnLine row p line → fails_at line row ≡ Ok failed
     → failed ≡ not (is_enough line.strict (amount line p))
 fails_at-truth line row p failed held agreed e = by (sum_at line row) refl e
   where
@@ -115,13 +115,13 @@ module _ (line : LineParts) (row : List Value) (sum : Result Ratio ℕ) (same : 
   overflow-answered (Ok x) e = tt
   overflow-answered (Err fault) e = sym same ∙ e
 
-  pub amount-answered : ((p : Point) → AgreesWith row p line → HasNumbers row line) → (r : Result Fraction LineOverflow) → IfOk r (λ x. sum ≡ Ok (ratio_of x))
-      → IfOk r (λ x. (p : Point) → AgreesWith row p line → x.numerator *ℤ p.denominator ≡ amount line p *ℤ x.denominator)
+  pub amount-answered : ((p : Point) → AgreesOnLine row p line → HasNumbers row line) → (r : Result Fraction LineOverflow) → IfOk r (λ x. sum ≡ Ok (ratio_of x))
+      → IfOk r (λ x. (p : Point) → AgreesOnLine row p line → x.numerator *ℤ p.denominator ≡ amount line p *ℤ x.denominator)
   amount-answered held (Ok x) e = λ p agrees. (sum_at-over p line row (ratio_of x) (held p agrees) agrees (sym same ∙ e)).0
   amount-answered held (Err fault) e = tt
 
 -- whether a line fails, from its sum
-pub fails-answered : (line : LineParts) (row : List Value) (p : Point) (sum : Fraction) (strict enough : Bool) (n : ℤ) → HasNumbers row line → AgreesWith row p line → sum_at line row ≡ Ok (ratio_of sum)
+pub fails-answered : (line : LineParts) (row : List Value) (p : Point) (sum : Fraction) (strict enough : Bool) (n : ℤ) → HasNumbers row line → AgreesOnLine row p line → sum_at line row ≡ Ok (ratio_of sum)
     → strict ≡ line.strict → n ≡ sum.numerator → enough ≡ is_enough strict n → not enough ≡ not (is_enough line.strict (amount line p))
 fails-answered line row p sum strict enough n held agrees e same number is =
     let answer : fails_at line row ≡ Ok (not (is_enough line.strict sum.numerator)) = ap (fails_by line.strict) e in

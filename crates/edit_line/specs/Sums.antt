@@ -27,8 +27,8 @@ abbrev pub HasNumbers : List Value → LineParts → Type 0
 HasNumbers row line = AtFactors (λ f. IsNumberValue (value_of row f)) (number_fields line.shape) line.factors
 
 -- the point has the record's values at the fields that stand in the line
-abbrev pub AgreesWith : List Value → Point → LineParts → Type 0
-AgreesWith row p line = AtFactors (λ f. Agrees row p f) (number_fields line.shape) line.factors
+abbrev pub AgreesOnLine : List Value → Point → LineParts → Type 0
+AgreesOnLine row p line = AtFactors (λ f. Agrees row p f) (number_fields line.shape) line.factors
 
 -- the sum so far, and a factor times a value; the factor 0 adds nothing
 abbrev pub next_sum : ℤ → Value → Ratio → Option Ratio

@@ -8,7 +8,7 @@ ghost use Rattle.edit_model.specs.Trials.{sum_with};
 ghost use Rattle.edit_line.specs.Lines.{amount};
 ghost use Rattle.edit_line.specs.Shapes.{shape_of};
 ghost use Rattle.edit_line.specs.Subsumption.{is_enough};
-ghost use Rattle.edit_line.specs.Sums.{AgreesWith, fails_at, next_sum, sum_at, sum_from, whole};
+ghost use Rattle.edit_line.specs.Sums.{AgreesOnLine, fails_at, next_sum, sum_at, sum_from, whole};
 
 use crate::line::Line;
 use crate::overflow::LineOverflow;
@@ -25,7 +25,7 @@ pub fn value_at(survey: &Survey, line: &Line, row: &Row) -> Result<Fraction, Lin
     ensures value { IfOk result (λ x. sum_at line.now row.now ≡ Ok (ratio_of x)) }
     ensures overflow { IfErr result (λ fault. sum_at line.now row.now ≡ Err fault.field) }
     ensures amount { IfOk result (λ x. (p : Point)
-        → AgreesWith row.now p line.now
+        → AgreesOnLine row.now p line.now
         → x.numerator *ℤ p.denominator ≡ amount line.now p *ℤ x.denominator) }
 {
     sum_over(survey.numbers(), line.factors(), line.constant(), row)
@@ -39,7 +39,7 @@ pub fn fails(survey: &Survey, line: &Line, row: &Row) -> Result<bool, LineOverfl
     ensures answer { IfOk result (λ failed. fails_at line.now row.now ≡ Ok failed) }
     ensures overflow { IfErr result (λ fault. fails_at line.now row.now ≡ Err fault.field) }
     ensures truth { IfOk result (λ failed. (p : Point)
-        → AgreesWith row.now p line.now
+        → AgreesOnLine row.now p line.now
         → failed ≡ not (is_enough line.now.strict (amount line.now p))) }
 {
     let sum = value_at(survey, line, row)?;

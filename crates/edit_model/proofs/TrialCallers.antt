@@ -1,7 +1,7 @@
 use Rattle.std.proofs.Common.{◌≡◌, ◌≢◌, ℕ, zero, suc, ◌<◌, List, [], ◌∷◌, length, get_or, slice_get, IsSomeAnd, refl, arith}
 use Rattle.edit_model.specs.Rows.{IsOfKind, IsRow, value_of}
 use Rattle.edit_model.specs.Surveys.{IsSetOf, IsNumber, IsRule, IsTest}
-use Rattle.edit_model.specs.Trials.{AgreesOn, AgreesWith, CanTry, HasValues, IsCodeValue, IsNumberValue}
+use Rattle.edit_model.specs.Trials.{AgreesOnTest, AgreesOnRule, CanTry, HasValues, IsCodeValue, IsNumberValue}
 use Rattle.edit_model.specs.declared.field.Field.{Field}
 use Rattle.edit_model.specs.declared.field.Kind.{Kind}
 use Rattle.edit_model.specs.declared.field.Kind.TheVariants as kind
@@ -69,12 +69,12 @@ code_held v is bad = by v is bad
     by (Number x) is bad = is
     by Bad is bad = is
 
-agrees_on : (row : List Value) (t : Test) → HasValues row t → AgreesOn row (point_of row) t
+agrees_on : (row : List Value) (t : Test) → HasValues row t → AgreesOnTest row (point_of row) t
 agrees_on row (test.Number linear) has = λ k d below. point_of-agrees row _ (number_held _ (has k d below).1)
 agrees_on row (test.Codes field negated set) has = point_of-agrees row field (code_held _ has.1)
 
 -- the point that a record is agrees with it at a rule that can be tried
-pub point_of-agrees_with : (row : List Value) (rule : Rule) → CanTry row rule → AgreesWith row (point_of row) rule
+pub point_of-agrees_with : (row : List Value) (rule : Rule) → CanTry row rule → AgreesOnRule row (point_of row) rule
 point_of-agrees_with row rule can = record {
   conditions = λ k d below. agrees_on row (get_or rule.conditions k d) (can.conditions k d below);
   conclusion = agrees_on row rule.conclusion can.conclusion;

@@ -15,7 +15,7 @@ use Rattle.edit_model.specs.Points.{Point, compares, linear_sum, rule_holds, sum
 use Rattle.edit_model.specs.RowPoints.{Agrees, code_in}
 use Rattle.edit_model.specs.Rows.{value_of}
 use Rattle.edit_model.specs.Corrections.{differs_from}
-use Rattle.edit_model.specs.Trials.{AgreesOn, AgreesWith, CanTry, HasValues, IsCodeValue, IsNumberValue, code_test, rule_at, sum_at, sum_over, sum_with, test_at, tests_at}
+use Rattle.edit_model.specs.Trials.{AgreesOnTest, AgreesOnRule, CanTry, HasValues, IsCodeValue, IsNumberValue, code_test, rule_at, trial_sum, sum_over, sum_with, test_at, tests_at}
 use Rattle.edit_model.specs.declared.rule.Compare.{Compare}
 use Rattle.edit_model.specs.declared.rule.Compare.TheVariants.{Ge, Gt, Le, Lt, Eq}
 use Rattle.edit_model.specs.declared.rule.Linear.{Linear}
@@ -90,8 +90,8 @@ module _ (p : Point) where
       subst P (regrouped (sum_of_terms terms p) l (p.numerator term.field) term.factor) rest
 
   -- the sum of a test is its linear sum, over the point's denominator
-  sum_at-over : (linear : Linear) (row : List Value) (s : Ratio) → HasValues row (test.Number linear) → AgreesOn row p (test.Number linear)
-      → sum_at linear row ≡ Some s → IsOverPoint s (linear_sum linear p)
+  sum_at-over : (linear : Linear) (row : List Value) (s : Ratio) → HasValues row (test.Number linear) → AgreesOnTest row p (test.Number linear)
+      → trial_sum linear row ≡ Some s → IsOverPoint s (linear_sum linear p)
   unfolding IsOverPoint
   sum_at-over linear row s held agreed e =
       sum_over-over linear.terms row (record { numerator = linear.constant; denominator = pos 1 }) s (linear.constant *ℤ p.denominator) held agreed
@@ -155,10 +155,10 @@ code_at (Number x) p f is same = absurd is
 code_at Bad p f is same = absurd is
 
 -- what a test answers at a record is its truth at a point that agrees with the record
-pub test_at-holds : (t : Test) (row : List Value) (p : Point) (b : Bool) → HasValues row t → AgreesOn row p t → test_at t row ≡ Some b → b ≡ test_holds t p
+pub test_at-holds : (t : Test) (row : List Value) (p : Point) (b : Bool) → HasValues row t → AgreesOnTest row p t → test_at t row ≡ Some b → b ≡ test_holds t p
 unfolding IsOverPoint
 test_at-holds (test.Number linear) row p b held agreed e =
-    let (s, first, second) = led_on (sum_at linear row) (λ sum. Some (compares linear.compare sum.numerator)) b e in
+    let (s, first, second) = led_on (trial_sum linear row) (λ sum. Some (compares linear.compare sum.numerator)) b e in
     let over = sum_at-over p linear row s held agreed first in
     sym (some_same _ b second) ∙ compares_alike linear.compare s.numerator (linear_sum linear p) p.denominator s.denominator p.positive over.1 over.0
 test_at-holds (test.Codes field negated set) row p b held agreed e =
@@ -172,7 +172,7 @@ first_decides false here some_false last b later same rest e = rw (← same) (sy
 
 -- what a rule answers at a record is its truth at a point that agrees with the record
 tests_at-holds : (conditions : List Test) (conclusion : Test) (row : List Value) (p : Point) (b : Bool) → All (HasValues row) conditions → HasValues row conclusion
-    → All (AgreesOn row p) conditions → AgreesOn row p conclusion → tests_at conditions conclusion row ≡ Some b
+    → All (AgreesOnTest row p) conditions → AgreesOnTest row p conclusion → tests_at conditions conclusion row ≡ Some b
     → b ≡ (list_any (λ (t : Test). not (test_holds t p)) conditions || test_holds conclusion p)
 tests_at-holds [] conclusion row p b held last agreed last_agreed e = test_at-holds conclusion row p b last last_agreed e
 tests_at-holds (t ∷ ts) conclusion row p b held last agreed last_agreed e =
@@ -182,5 +182,5 @@ tests_at-holds (t ∷ ts) conclusion row p b held last agreed last_agreed e =
     tests_at-holds ts conclusion row p b (λ k d below. held (suc k) d (omega arith)) last (λ k d below. agreed (suc k) d (omega arith)) last_agreed in
     first_decides first (test_holds t p) (list_any (λ (t : Test). not (test_holds t p)) ts) (test_holds conclusion p) b (tests_at ts conclusion row) here later rest
 
-pub rule_at-holds : (rule : Rule) (row : List Value) (p : Point) (b : Bool) → CanTry row rule → AgreesWith row p rule → rule_at rule row ≡ Some b → b ≡ rule_holds rule p
+pub rule_at-holds : (rule : Rule) (row : List Value) (p : Point) (b : Bool) → CanTry row rule → AgreesOnRule row p rule → rule_at rule row ≡ Some b → b ≡ rule_holds rule p
 rule_at-holds rule row p b can agreed e = tests_at-holds rule.conditions rule.conclusion row p b can.conditions can.conclusion agreed.conditions agreed.conclusion e

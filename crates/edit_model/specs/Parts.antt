@@ -8,5 +8,5 @@ pub record SurveyParts : Type 0 where
   pub rules : List Rule
 
 -- the survey of these fields and rules
-abbrev pub parts_of : List Field → List Rule → SurveyParts
-parts_of fields rules = record { fields = fields; rules = rules }
+abbrev pub survey_of : List Field → List Rule → SurveyParts
+survey_of fields rules = record { fields = fields; rules = rules }

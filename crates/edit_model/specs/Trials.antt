@@ -37,14 +37,14 @@ pub record CanTry (row : List Value) (rule : Rule) : Type 0 where
   pub conclusion : HasValues row rule.conclusion
 
 -- the point has the record's values where the test reads them
-abbrev pub AgreesOn : List Value → Point → Test → Type 0
-AgreesOn row p (test.Number linear) = All (λ (t : Term). Agrees row p t.field) linear.terms
-AgreesOn row p (test.Codes field negated set) = Agrees row p field
+abbrev pub AgreesOnTest : List Value → Point → Test → Type 0
+AgreesOnTest row p (test.Number linear) = All (λ (t : Term). Agrees row p t.field) linear.terms
+AgreesOnTest row p (test.Codes field negated set) = Agrees row p field
 
 -- the point has the record's values where the rule's tests read them
-pub record AgreesWith (row : List Value) (p : Point) (rule : Rule) : Type 0 where
-  pub conditions : All (AgreesOn row p) rule.conditions
-  pub conclusion : AgreesOn row p rule.conclusion
+pub record AgreesOnRule (row : List Value) (p : Point) (rule : Rule) : Type 0 where
+  pub conditions : All (AgreesOnTest row p) rule.conditions
+  pub conclusion : AgreesOnTest row p rule.conclusion
 
 -- ---- a rule that is tried at a record, in numbers of at most 127 bits
 
@@ -60,8 +60,8 @@ sum_over [] row sum = Some sum
 sum_over (term ∷ terms) row sum = sum_with sum term.factor (value_of row term.field) >>? (λ next. sum_over terms row next)
 
 -- the constant over 1, and then the terms
-abbrev pub sum_at : Linear → List Value → Option Ratio
-sum_at linear row = sum_over linear.terms row (record { numerator = linear.constant; denominator = pos 1 })
+abbrev pub trial_sum : Linear → List Value → Option Ratio
+trial_sum linear row = sum_over linear.terms row (record { numerator = linear.constant; denominator = pos 1 })
 
 -- whether a set has a code, or has it not where the test is negated
 abbrev pub code_test : Bool → ℕ → ℕ → Bool
@@ -69,7 +69,7 @@ code_test negated set code = if negated then not (has_code set code) else has_co
 
 -- whether a test is true at a record; None where a number of its sum leaves the range
 abbrev pub test_at : Test → List Value → Option Bool
-test_at (test.Number linear) row = sum_at linear row >>? (λ sum. Some (compares linear.compare sum.numerator))
+test_at (test.Number linear) row = trial_sum linear row >>? (λ sum. Some (compares linear.compare sum.numerator))
 test_at (test.Codes field negated set) row = Some (code_test negated set (code_in (value_of row field)))
 
 -- the conditions are tried in order up to the first false one, and where none is false the conclusion is; None at a test whose sum leaves the range

@@ -1,6 +1,6 @@
 //! Whether the parts of a survey are well formed: one question a function.
 ghost use Rattle.std.specs.Prelude.{◌≢◌, ◌↔◌, All, AllPairs, IsTrue};
-ghost use Rattle.edit_model.specs.Parts.{parts_of};
+ghost use Rattle.edit_model.specs.Parts.{survey_of};
 ghost use Rattle.edit_model.specs.Surveys.{IsField, IsRule, IsWellFormed};
 
 mod field;
@@ -54,7 +54,7 @@ fn have_distinct_names(fields: &[Field]) -> bool
 
 /// Whether the survey of these fields and rules is well formed.
 pub(crate) fn is_well_formed(fields: &[Field], rules: &[Rule]) -> bool
-    ensures { IsTrue result ↔ IsWellFormed (parts_of fields.now rules.now) }
+    ensures { IsTrue result ↔ IsWellFormed (survey_of fields.now rules.now) }
 {
     fields.len() <= MOST_FIELDS
         && rules.len() <= MOST_RULES

@@ -1,6 +1,6 @@
 ghost use Rattle.std.specs.Prelude.{◌≡◌, ◌≢◌, ◌<◌, All, IfNone, IfOk, IfSome, IsSomeAnd, length, slice_get, slice_index_or};
 ghost use Rattle.edit_model.specs.Corrections.{code_fields, number_fields, path_order};
-ghost use Rattle.edit_model.specs.Parts.{SurveyParts, parts_of};
+ghost use Rattle.edit_model.specs.Parts.{SurveyParts, survey_of};
 ghost use Rattle.edit_model.specs.Surveys.{IsWellFormed};
 
 use crate::check::is_well_formed;
@@ -25,20 +25,20 @@ pub struct Survey {
 
 impl Model for Survey {
     ghost use Rattle.edit_model.specs.inner.Indexes.{IsKept};
-    ghost use Rattle.edit_model.specs.Parts.{SurveyParts, parts_of};
+    ghost use Rattle.edit_model.specs.Parts.{SurveyParts, survey_of};
 
     ghost Value = { SurveyParts };
 
-    ghost view = { λ s. parts_of s.fields.items s.rules.items };
+    ghost view = { λ s. survey_of s.fields.items s.rules.items };
 
-    ghost invariant = { λ s. IsKept (parts_of s.fields.items s.rules.items) s.names s.numbers.items s.categories.items };
+    ghost invariant = { λ s. IsKept (survey_of s.fields.items s.rules.items) s.names s.numbers.items s.categories.items };
 }
 
 impl Survey {
     /// The survey of these fields and rules, or Malformed exactly where they are not well formed.
     pub fn new(alloc: Global, fields: Vec<Field>, rules: Vec<Rule>) -> Result<Survey, SurveyFault>
-        ensures ok { IfOk result (λ survey. (survey ≡ parts_of fields.items rules.items) × IsWellFormed survey) }
-        ensures malformed { result ≡ Err SurveyFault.Malformed → ¬ IsWellFormed (parts_of fields.items rules.items) }
+        ensures ok { IfOk result (λ survey. (survey ≡ survey_of fields.items rules.items) × IsWellFormed survey) }
+        ensures malformed { result ≡ Err SurveyFault.Malformed → ¬ IsWellFormed (survey_of fields.items rules.items) }
     {
         if !is_well_formed(&fields, &rules) {
             return Err(SurveyFault::Malformed);
@@ -48,8 +48,8 @@ impl Survey {
 
     /// The survey of these fields and rules, which are well formed.
     pub fn of(alloc: Global, fields: Vec<Field>, rules: Vec<Rule>) -> Result<Survey, OutOfMemory>
-        requires { IsWellFormed (parts_of fields.items rules.items) }
-        ensures { IfOk result (λ survey. survey ≡ parts_of fields.items rules.items) }
+        requires { IsWellFormed (survey_of fields.items rules.items) }
+        ensures { IfOk result (λ survey. survey ≡ survey_of fields.items rules.items) }
     {
         let declared = fields.as_slice();
         let names = name_table(alloc, declared)?;

@@ -4,7 +4,7 @@ ghost use Rattle.fraction128.specs.Formulas.{answered, ratio_of};
 ghost use Rattle.edit_model.specs.Points.{Point, compares, has_code, rule_holds};
 ghost use Rattle.edit_model.specs.RowPoints.{code_in};
 ghost use Rattle.edit_model.specs.Rows.{value_of};
-ghost use Rattle.edit_model.specs.Trials.{AgreesWith, CanTry, HasValues, IsNumberValue, rule_at, sum_at, sum_with, test_at};
+ghost use Rattle.edit_model.specs.Trials.{AgreesOnRule, CanTry, HasValues, IsNumberValue, rule_at, trial_sum, sum_with, test_at};
 
 use crate::row::Row;
 use crate::rule::{Compare, Linear, Rule, Term, Test};
@@ -16,7 +16,7 @@ use fraction128::{Fraction, Overflow};
 /// exactly where a number of the sum of a test that is tried is out of range. No memory.
 pub fn holds(rule: &Rule, row: &Row) -> Result<bool, Overflow>
     requires { CanTry row.now rule.now }
-    ensures truth { IfOk result (λ b. (p : Point) → AgreesWith row.now p rule.now → b ≡ rule_holds rule.now p) }
+    ensures truth { IfOk result (λ b. (p : Point) → AgreesOnRule row.now p rule.now → b ≡ rule_holds rule.now p) }
     ensures in_range { IfOk result (λ b. rule_at rule.now row.now ≡ Some b) }
     ensures overflow { OnErr result (rule_at rule.now row.now ≡ None) }
 {
@@ -50,7 +50,7 @@ fn is_true(test: &Test, row: &Row) -> Result<bool, Overflow>
 // The sum of the test at the record.
 fn sum_of(linear: &Linear, row: &Row) -> Result<Fraction, Overflow>
     requires { All (λ t. (t.field < length row.now) × IsNumberValue (value_of row.now t.field)) linear.now.terms }
-    ensures { answered result ≡ sum_at linear.now row.now }
+    ensures { answered result ≡ trial_sum linear.now row.now }
 {
     let mut sum = constant_of(linear);
     for term in linear.terms.as_slice() {

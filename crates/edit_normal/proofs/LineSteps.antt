@@ -18,7 +18,7 @@ use Rattle.edit_line.specs.Subsumption.{is_enough}
 use Rattle.edit_line.proofs.DivisionLaws.{enough-reduced, reduced-enough}
 use Rattle.edit_line.proofs.Enough.{is_enough-Decides}
 use Rattle.edit_line.proofs.SetLaws.{both_decide, is_inside-Decides}
-use Rattle.edit_normal.specs.NormalForm.{compare_lines, contrary_lines, line_of, negative_line_of, term_factor}
+use Rattle.edit_normal.specs.NormalForm.{compare_lines, contrary_lines, positive_line_of, negative_line_of, term_factor}
 use Rattle.edit_normal.proofs.SumLaws.{HasTerms, amount-negative, amount-sum}
 
 -- When the lines of a comparison hold at a point.
@@ -63,7 +63,7 @@ module _ (shape : List Domain) (sets : List ℕ) (e : Linear) (p : Point) (has :
   sum : ℤ
   sum = linear_sum e p
 
-  positive : (strict : Bool) → Decides (not inside || is_enough strict sum) (LineHolds (line_of shape sets e strict) p)
+  positive : (strict : Bool) → Decides (not inside || is_enough strict sum) (LineHolds (positive_line_of shape sets e strict) p)
   unfolding inside sum
   positive strict =
       divided-Decides (parts_of shape sets (map (term_factor e.terms) (number_fields shape)) e.constant strict) (is_enough strict (linear_sum e p)) p

@@ -12,7 +12,7 @@ use Rattle.edit_line.specs.Shapes.{Domain, shape_of}
 use Rattle.edit_line.proofs.Members.{all-in, in-all, in-filter-out, in-flat_map-out, in-left, in-right}
 use Rattle.edit_line.proofs.ShapeLaws.{HasCodes-shape}
 use Rattle.edit_normal.specs.NormalForm.{rule_lines_of}
-use Rattle.edit_normal.specs.RuleLines.{lines_from, normal_lines_of, numbered}
+use Rattle.edit_normal.specs.RuleLines.{rule_lines_from, normal_lines_of, numbered}
 use Rattle.edit_normal.specs.declared.rule_line.RuleLine.{RuleLine}
 use Rattle.edit_normal.proofs.NormalLaws.{implied-own, normal-Decides}
 use Rattle.edit_normal.proofs.RuleForms.{fits-rule}
@@ -30,13 +30,13 @@ numbered-lines i [] = refl
 numbered-lines i (line ∷ lines) = ap (λ (ls : List LineParts). line ∷ ls) (numbered-lines i lines)
 
 -- the numbered lines of the rules, without their numbers
-lines-alone : (shape : List Domain) (i : ℕ) (rules : List Rule) → map (λ (l : RuleLine). l.line) (lines_from shape i rules) ≡ flat_map (λ rule. rule_lines_of shape rule) rules
+lines-alone : (shape : List Domain) (i : ℕ) (rules : List Rule) → map (λ (l : RuleLine). l.line) (rule_lines_from shape i rules) ≡ flat_map (λ rule. rule_lines_of shape rule) rules
 lines-alone shape i [] = refl
 lines-alone shape i (rule ∷ rules) =
-    lines-append (numbered i (rule_lines_of shape rule)) (lines_from shape (suc i) rules)
-    ∙ ap (λ (ls : List LineParts). ls ++ map (λ (l : RuleLine). l.line) (lines_from shape (suc i) rules)) (numbered-lines i (rule_lines_of shape rule)) ∙ ap (λ (ls : List LineParts). rule_lines_of shape rule ++ ls) (lines-alone shape (suc i) rules)
+    lines-append (numbered i (rule_lines_of shape rule)) (rule_lines_from shape (suc i) rules)
+    ∙ ap (λ (ls : List LineParts). ls ++ map (λ (l : RuleLine). l.line) (rule_lines_from shape (suc i) rules)) (numbered-lines i (rule_lines_of shape rule)) ∙ ap (λ (ls : List LineParts). rule_lines_of shape rule ++ ls) (lines-alone shape (suc i) rules)
 
-pub lines-all : (survey : SurveyParts) (lines : List RuleLine) → lines ≡ lines_from (shape_of survey.fields) 0 survey.rules → map (λ (l : RuleLine). l.line) lines ≡ normal_lines_of survey
+pub lines-all : (survey : SurveyParts) (lines : List RuleLine) → lines ≡ rule_lines_from (shape_of survey.fields) 0 survey.rules → map (λ (l : RuleLine). l.line) lines ≡ normal_lines_of survey
 lines-all survey lines is = ap (λ (ls : List RuleLine). map (λ (l : RuleLine). l.line) ls) is ∙ lines-alone (shape_of survey.fields) 0 survey.rules
 
 -- ---- they are over the survey's fields
@@ -46,7 +46,7 @@ rules-over shape rules = all-in (λ (line : LineParts). line.shape ≡ shape) (f
     let (rule, was, made) = in-flat_map-out (λ (rule : Rule). rule_lines_of shape rule) line rules there in
     in-all (λ (line : LineParts). line.shape ≡ shape) line _ (implied-own shape rule) (in-filter-out (λ (l : LineParts). none_is_empty l.sets) line _ made).0)
 
-pub lines-over : (survey : SurveyParts) (lines : List RuleLine) → lines ≡ lines_from (shape_of survey.fields) 0 survey.rules → AreOver (shape_of survey.fields) (map (λ (l : RuleLine). l.line) lines)
+pub lines-over : (survey : SurveyParts) (lines : List RuleLine) → lines ≡ rule_lines_from (shape_of survey.fields) 0 survey.rules → AreOver (shape_of survey.fields) (map (λ (l : RuleLine). l.line) lines)
 lines-over survey lines is = subst (λ (ls : List LineParts). AreOver (shape_of survey.fields) ls) (sym (lines-all survey lines is)) (rules-over (shape_of survey.fields) survey.rules)
 
 -- ---- what they say

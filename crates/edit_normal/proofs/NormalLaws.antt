@@ -20,7 +20,7 @@ use Rattle.edit_line.specs.Shapes.{Domain, HasCodes, code_fields, codes_at, has_
 use Rattle.edit_line.proofs.ShapeLaws.{length-wholes}
 use Rattle.edit_line.proofs.Members.{all-in, in-all, in-filter, in-filter-out}
 use Rattle.edit_normal.specs.NormalForm.{compare_lines, contrary_lines, implied_lines, narrowed, rule_lines_of}
-use Rattle.edit_normal.specs.RuleLines.{LinesHold, lines_from, numbered}
+use Rattle.edit_normal.specs.RuleLines.{LinesHold, rule_lines_from, numbered}
 use Rattle.edit_normal.specs.declared.rule_line.RuleLine.{RuleLine}
 use Rattle.edit_normal.proofs.LineSteps.{compare-Decides, contrary-Decides, empty-holds, one-Decides}
 use Rattle.edit_line.proofs.NegationLaws.{never-Decides}
@@ -188,23 +188,23 @@ module _ (shape : List Domain) (p : Point) where
       All-cons (λ (m : RuleLine). m.rule ≡ i → LineHolds m.line p) l (first ++ second) (one 0 l (omega arith)) (both-parts i first second (λ j e under. one (suc j) e (omega arith)) two)
 
   -- no line of a later rule has an earlier number
-  later-lines : (i j : ℕ) (rules : List Rule) → j < i → LinesHold (lines_from shape i rules) j p
+  later-lines : (i j : ℕ) (rules : List Rule) → j < i → LinesHold (rule_lines_from shape i rules) j p
   later-lines i j [] before = λ k d below. absurd (omega arith)
   later-lines i j (rule ∷ rules) before = both-parts j (numbered i (rule_lines_of shape rule)) _ (numbered-hold i j _ (λ same. absurd (omega arith))) (later-lines (suc i) j rules (omega arith))
 
   -- the lines with a rule's number hold exactly where the rule's lines do
-  pub lines-at : (i k : ℕ) (rules : List Rule) (rule : Rule) → slice_get rules k ≡ Some rule → LinesHold (lines_from shape i rules) (i + k) p ↔ AllHold (rule_lines_of shape rule) p
+  pub lines-at : (i k : ℕ) (rules : List Rule) (rule : Rule) → slice_get rules k ≡ Some rule → LinesHold (rule_lines_from shape i rules) (i + k) p ↔ AllHold (rule_lines_of shape rule) p
   lines-at i k [] rule there = absurd (cc)
   lines-at i zero (r ∷ rules) rule there =
       let same : r ≡ rule = cc in
       let number : i + 0 ≡ i = omega arith in
-      subst (λ n. LinesHold (lines_from shape i (r ∷ rules)) n p ↔ AllHold (rule_lines_of shape rule) p) (sym number) (
+      subst (λ n. LinesHold (rule_lines_from shape i (r ∷ rules)) n p ↔ AllHold (rule_lines_of shape rule) p) (sym number) (
         λ holds. subst (λ (s : Rule). AllHold (rule_lines_of shape s) p) same (own-lines i _ (first-part i (numbered i (rule_lines_of shape r)) _ holds)),
         λ holds. both-parts i (numbered i (rule_lines_of shape r)) _ (numbered-hold i i _ (λ _. subst (λ (s : Rule). AllHold (rule_lines_of shape s) p) (sym same) holds)) (later-lines (suc i) i rules (omega arith)),
       )
   lines-at i (suc k) (r ∷ rules) rule there =
       let number : suc i + k ≡ i + suc k = omega arith in
-      let rest = subst (λ n. LinesHold (lines_from shape (suc i) rules) n p ↔ AllHold (rule_lines_of shape rule) p) number (lines-at (suc i) k rules rule there) in (
+      let rest = subst (λ n. LinesHold (rule_lines_from shape (suc i) rules) n p ↔ AllHold (rule_lines_of shape rule) p) number (lines-at (suc i) k rules rule there) in (
         λ holds. rest.0 (second-part (i + suc k) (numbered i (rule_lines_of shape r)) _ holds),
         λ holds. both-parts (i + suc k) (numbered i (rule_lines_of shape r)) _ (numbered-hold i (i + suc k) _ (λ same. absurd (omega arith))) (rest.1 holds),
       )
@@ -240,12 +240,12 @@ own-few : (shape : List Domain) (rule : Rule) → length (rule_lines_of shape ru
 own-few shape rule = filtered-few (implied_lines shape (whole_sets shape) rule.conditions rule.conclusion) (implied-few shape (whole_sets shape) rule.conditions rule.conclusion)
 
 -- there are at most twice as many lines as rules
-pub lines-most : (shape : List Domain) (i : ℕ) (rules : List Rule) → length (lines_from shape i rules) ≤ 2 * length rules
+pub lines-most : (shape : List Domain) (i : ℕ) (rules : List Rule) → length (rule_lines_from shape i rules) ≤ 2 * length rules
 lines-most shape i [] = omega arith
 lines-most shape i (rule ∷ rules) =
     omega (
       arith,
-      length-append (numbered i (rule_lines_of shape rule)) (lines_from shape (suc i) rules),
+      length-append (numbered i (rule_lines_of shape rule)) (rule_lines_from shape (suc i) rules),
       length-map {B = RuleLine} (rule_lines_of shape rule) (λ (line : LineParts). record { rule = i; line = line }),
       own-few shape rule,
       lines-most shape (suc i) rules,
@@ -262,19 +262,19 @@ count-other i j (line ∷ lines) apart = sum_by-cons (λ (l : RuleLine). cond (l
     by true e none = absurd (apart ((Decides-eqb i j).0 e))
     by false e none = omega arith
 
-count-later : (shape : List Domain) (i j : ℕ) (rules : List Rule) → j < i → count_by (λ (l : RuleLine). l.rule == j) (lines_from shape i rules) ≡ 0
+count-later : (shape : List Domain) (i j : ℕ) (rules : List Rule) → j < i → count_by (λ (l : RuleLine). l.rule == j) (rule_lines_from shape i rules) ≡ 0
 count-later shape i j [] before = refl
 count-later shape i j (rule ∷ rules) before =
     count-append (λ (l : RuleLine). l.rule == j) (numbered i (rule_lines_of shape rule)) _
-    ∙ ap (λ n. n + count_by (λ (l : RuleLine). l.rule == j) (lines_from shape (suc i) rules)) (count-other i j (rule_lines_of shape rule) (λ same. absurd (omega arith)))
+    ∙ ap (λ n. n + count_by (λ (l : RuleLine). l.rule == j) (rule_lines_from shape (suc i) rules)) (count-other i j (rule_lines_of shape rule) (λ same. absurd (omega arith)))
     ∙ ap (λ n. 0 + n) (count-later shape (suc i) j rules (omega arith))
 
 -- a rule has at most two lines
-pub lines-few : (shape : List Domain) (i j : ℕ) (rules : List Rule) → count_by (λ (l : RuleLine). l.rule == j) (lines_from shape i rules) ≤ 2
+pub lines-few : (shape : List Domain) (i j : ℕ) (rules : List Rule) → count_by (λ (l : RuleLine). l.rule == j) (rule_lines_from shape i rules) ≤ 2
 lines-few shape i j [] = omega arith
 lines-few shape i j (rule ∷ rules) = by (i == j) refl (lines-few shape (suc i) j rules)
   where
-    whole : count_by (λ (l : RuleLine). l.rule == j) (lines_from shape i (rule ∷ rules)) ≡ count_by (λ (l : RuleLine). l.rule == j) (numbered i (rule_lines_of shape rule)) + count_by (λ (l : RuleLine). l.rule == j) (lines_from shape (suc i) rules)
+    whole : count_by (λ (l : RuleLine). l.rule == j) (rule_lines_from shape i (rule ∷ rules)) ≡ count_by (λ (l : RuleLine). l.rule == j) (numbered i (rule_lines_of shape rule)) + count_by (λ (l : RuleLine). l.rule == j) (rule_lines_from shape (suc i) rules)
     whole = count-append (λ (l : RuleLine). l.rule == j) (numbered i (rule_lines_of shape rule)) _
 
     own : count_by (λ (l : RuleLine). l.rule == j) (numbered i (rule_lines_of shape rule)) ≤ 2
@@ -286,7 +286,7 @@ lines-few shape i j (rule ∷ rules) = by (i == j) refl (lines-few shape (suc i)
           own-few shape rule,
         )
 
-    by : (b : Bool) → (i == j) ≡ b → count_by (λ (l : RuleLine). l.rule == j) (lines_from shape (suc i) rules) ≤ 2 → count_by (λ (l : RuleLine). l.rule == j) (lines_from shape i (rule ∷ rules)) ≤ 2
+    by : (b : Bool) → (i == j) ≡ b → count_by (λ (l : RuleLine). l.rule == j) (rule_lines_from shape (suc i) rules) ≤ 2 → count_by (λ (l : RuleLine). l.rule == j) (rule_lines_from shape i (rule ∷ rules)) ≤ 2
     by true e rest =
         let same : i ≡ j = (Decides-eqb i j).0 e in
         let none = count-later shape (suc i) j rules (omega arith) in omega (arith, whole, own, none)

@@ -24,8 +24,8 @@ use Rattle.edit_line.proofs.DivisionLaws.{IsLine-divided}
 use Rattle.edit_line.proofs.Members.{all-in, in-all, in-filter-out, in-flat_map-out, in-map-out}
 use Rattle.edit_line.proofs.NegationLines.{negative-in, never-is}
 use Rattle.edit_line.proofs.SetLaws.{AreSets-within, AreWithin-set, AreWithin-wholes}
-use Rattle.edit_normal.specs.NormalForm.{compare_lines, contrary_lines, implied_lines, line_of, narrowed, negative_line_of, rule_lines_of, term_factor}
-use Rattle.edit_normal.specs.RuleLines.{lines_from, normal_lines_of}
+use Rattle.edit_normal.specs.NormalForm.{compare_lines, contrary_lines, implied_lines, positive_line_of, narrowed, negative_line_of, rule_lines_of, term_factor}
+use Rattle.edit_normal.specs.RuleLines.{rule_lines_from, normal_lines_of}
 use Rattle.edit_normal.specs.declared.rule_line.RuleLine.{RuleLine}
 use Rattle.edit_normal.proofs.MeaningLaws.{lines-all, lines-over}
 use Rattle.edit_normal.proofs.NormalLaws.{lines-most}
@@ -73,7 +73,7 @@ module _ (fields : List Field) where
     }
 
     module _ (e : Linear) (terms : All (IsTerm fields) e.terms) (constant : unsigned_abs e.constant ≤ 10 ^ 15) where
-      sum-line : (strict : Bool) → none_is_empty (line_of (shape_of fields) sets e strict).sets ≡ true → IsLine (line_of (shape_of fields) sets e strict)
+      sum-line : (strict : Bool) → none_is_empty (positive_line_of (shape_of fields) sets e strict).sets ≡ true → IsLine (positive_line_of (shape_of fields) sets e strict)
       sum-line strict = reduced-line _ (parts-line (term_factor e.terms) e.constant strict (λ f. factor-in e.terms f terms) (small-in e.constant constant))
 
       negative-line : (strict : Bool) → none_is_empty (negative_line_of (shape_of fields) sets e strict).sets ≡ true → IsLine (negative_line_of (shape_of fields) sets e strict)
@@ -132,12 +132,12 @@ normal-lines survey formed = all-in IsLine (normal_lines_of survey) (λ line the
     rule-line survey.fields rule (in-all (IsRule survey.fields) rule survey.rules formed.rules was) line made)
 
 pub normal-over : (survey : SurveyParts) → AreOver (shape_of survey.fields) (normal_lines_of survey)
-normal-over survey = subst (λ (ls : List LineParts). AreOver (shape_of survey.fields) ls) (lines-all survey _ refl) (lines-over survey (lines_from (shape_of survey.fields) 0 survey.rules) refl)
+normal-over survey = subst (λ (ls : List LineParts). AreOver (shape_of survey.fields) ls) (lines-all survey _ refl) (lines-over survey (rule_lines_from (shape_of survey.fields) 0 survey.rules) refl)
 
 -- there are at most two for each rule
 pub normal-few : (survey : SurveyParts) → IsWellFormed survey → length (normal_lines_of survey) ≤ 1000
 normal-few survey formed =
-    let numbered = lines_from (shape_of survey.fields) 0 survey.rules in
+    let numbered = rule_lines_from (shape_of survey.fields) 0 survey.rules in
     let same = ap (λ (ls : List LineParts). length ls) (lines-all survey numbered refl) in
     let long = length-map {B = LineParts} numbered (λ (l : RuleLine). l.line) in
     let most = lines-most (shape_of survey.fields) 0 survey.rules in

@@ -19,7 +19,7 @@ use Rattle.edit_normal.specs.inner.Fits.{FitsCodes}
 use Rattle.edit_normal.specs.NormalForm.{implied_lines, rule_lines_of, term_factor}
 use Rattle.edit_normal.specs.inner.Sides.{joined_by}
 use Rattle.edit_normal.specs.declared.rule_line.RuleLine.{RuleLine}
-use Rattle.edit_normal.specs.RuleLines.{LinesHold, lines_from, numbered}
+use Rattle.edit_normal.specs.RuleLines.{LinesHold, rule_lines_from, numbered}
 use Rattle.edit_normal.proofs.NormalLaws.{FitsRule, FitsTest, lines-at, lines-few, normal-Decides}
 use Rattle.edit_normal.proofs.SumLaws.{HasTerms}
 
@@ -106,10 +106,10 @@ module _ (fields : List Field) where
 
   -- the lines of a rule all hold at a point exactly where the rule does
   pub lines-same : (rules : List Rule) (i : ℕ) (rule : Rule) (p : Point) → All (IsRule fields) rules → slice_get rules i ≡ Some rule → HasCodesFrom 0 fields p
-      → LinesHold (lines_from (shape_of fields) 0 rules) i p ↔ Holds rule p
+      → LinesHold (rule_lines_from (shape_of fields) 0 rules) i p ↔ Holds rule p
   lines-same rules i rule p all there held =
       let number : 0 + i ≡ i = omega arith in
-      let at = subst (λ n. LinesHold (lines_from (shape_of fields) 0 rules) n p ↔ AllHold (rule_lines_of (shape_of fields) rule) p) number (lines-at (shape_of fields) p 0 i rules rule there) in
+      let at = subst (λ n. LinesHold (rule_lines_from (shape_of fields) 0 rules) n p ↔ AllHold (rule_lines_of (shape_of fields) rule) p) number (lines-at (shape_of fields) p 0 i rules rule there) in
       let truth = normal-Decides (shape_of fields) rule p (fits-rule rule (at-place rules i rule there all)) (HasCodes-shape 0 fields p held) in
       (λ holds. truth.1 (at.0 holds), λ holds. at.1 (truth.0 holds))
 
@@ -124,23 +124,23 @@ rule-codes fields rules seen shape i rule shape_is same all below here =
 
 -- one rule more
 pub rule-more : (shape own : List Domain) (rules seen : List Rule) (i : ℕ) (rule : Rule) (before after whole : List RuleLine) → own ≡ shape → seen ≡ rules → i < length seen → rule ≡ get_or seen i rule
-    → after ≡ joined_by before i (implied_lines own (whole_sets own) rule.conditions rule.conclusion) → before ++ lines_from shape i (drop i rules) ≡ whole → after ++ lines_from shape (i + 1) (drop (i + 1) rules) ≡ whole
+    → after ≡ joined_by before i (implied_lines own (whole_sets own) rule.conditions rule.conclusion) → before ++ rule_lines_from shape i (drop i rules) ≡ whole → after ++ rule_lines_from shape (i + 1) (drop (i + 1) rules) ≡ whole
 rule-more shape own rules seen i rule before after whole own_is same below here pushed invariant =
     let own_lines : after ≡ before ++ numbered i (rule_lines_of shape rule) = pushed ∙ ap (λ (s : List Domain). before ++ numbered i (rule_lines_of s rule)) own_is in
     let within : i < length rules = omega (arith, ap length same) in
     let split : drop i rules ≡ rule ∷ drop (suc i) rules = drop-cons rules i rule within ∙ ap (λ (r : Rule). r ∷ drop (suc i) rules) (ap (λ (rs : List Rule). get_or rs i rule) (sym same) ∙ sym here) in
-    rw (add-one) (ap (λ (ls : List RuleLine). ls ++ lines_from shape (suc i) (drop (suc i) rules)) own_lines
-    ∙ append_assoc before (numbered i (rule_lines_of shape rule)) (lines_from shape (suc i) (drop (suc i) rules))
-    ∙ ap (λ (rs : List Rule). before ++ lines_from shape i rs) (sym split) ∙ invariant)
+    rw (add-one) (ap (λ (ls : List RuleLine). ls ++ rule_lines_from shape (suc i) (drop (suc i) rules)) own_lines
+    ∙ append_assoc before (numbered i (rule_lines_of shape rule)) (rule_lines_from shape (suc i) (drop (suc i) rules))
+    ∙ ap (λ (rs : List Rule). before ++ rule_lines_from shape i rs) (sym split) ∙ invariant)
 
 -- past the last rule
-pub rules-end : (shape : List Domain) (rules : List Rule) (i : ℕ) (lines whole : List RuleLine) → length rules ≤ i → lines ++ lines_from shape i (drop i rules) ≡ whole → lines ≡ whole
-rules-end shape rules i lines whole past invariant = sym (append-nil lines) ∙ ap (λ (rs : List Rule). lines ++ lines_from shape i rs) (sym (drop_all i rules past)) ∙ invariant
+pub rules-end : (shape : List Domain) (rules : List Rule) (i : ℕ) (lines whole : List RuleLine) → length rules ≤ i → lines ++ rule_lines_from shape i (drop i rules) ≡ whole → lines ≡ whole
+rules-end shape rules i lines whole past invariant = sym (append-nil lines) ∙ ap (λ (rs : List Rule). lines ++ rule_lines_from shape i rs) (sym (drop_all i rules past)) ∙ invariant
 
 -- what is said of the lines of all rules
-pub lines-answered : (fields : List Field) (rules : List Rule) (lines : List RuleLine) → lines ≡ lines_from (shape_of fields) 0 rules → All (IsRule fields) rules
+pub lines-answered : (fields : List Field) (rules : List Rule) (lines : List RuleLine) → lines ≡ rule_lines_from (shape_of fields) 0 rules → All (IsRule fields) rules
     → (i : ℕ) (rule : Rule) (p : Point) → slice_get rules i ≡ Some rule → HasCodesFrom 0 fields p → LinesHold lines i p ↔ Holds rule p
 lines-answered fields rules lines is all i rule p there held = subst (λ (ls : List RuleLine). LinesHold ls i p ↔ Holds rule p) (sym is) (lines-same fields rules i rule p all there held)
 
-pub few-answered : (shape : List Domain) (rules : List Rule) (lines : List RuleLine) → lines ≡ lines_from shape 0 rules → (i : ℕ) → count_by (λ (l : RuleLine). l.rule == i) lines ≤ 2
+pub few-answered : (shape : List Domain) (rules : List Rule) (lines : List RuleLine) → lines ≡ rule_lines_from shape 0 rules → (i : ℕ) → count_by (λ (l : RuleLine). l.rule == i) lines ≤ 2
 few-answered shape rules lines is i = subst (λ (ls : List RuleLine). count_by (λ (l : RuleLine). l.rule == i) ls ≤ 2) (sym is) (lines-few shape 0 i rules)

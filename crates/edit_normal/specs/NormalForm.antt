@@ -34,8 +34,8 @@ term_factor [] f = pos 0
 term_factor (term ∷ terms) f = if term.field == f then term.factor else term_factor terms f
 
 -- the line that says that the sum of a linear test is at least 0, or above it, where the codes are in the sets
-abbrev pub line_of : List Domain → List ℕ → Linear → Bool → LineParts
-line_of shape sets e strict = reduced (parts_of shape sets (map (term_factor e.terms) (number_fields shape)) e.constant strict)
+abbrev pub positive_line_of : List Domain → List ℕ → Linear → Bool → LineParts
+positive_line_of shape sets e strict = reduced (parts_of shape sets (map (term_factor e.terms) (number_fields shape)) e.constant strict)
 
 -- the line that says that the negative of the sum is at least 0, or above it, where the codes are in the sets
 abbrev pub negative_line_of : List Domain → List ℕ → Linear → Bool → LineParts
@@ -44,18 +44,18 @@ negative_line_of shape sets e strict =
 
 -- the lines that say that the sum compares with 0 so, where the codes are in the sets
 abbrev pub compare_lines : List Domain → List ℕ → Linear → Compare → List LineParts
-compare_lines shape sets e Ge = line_of shape sets e false ∷ []
-compare_lines shape sets e Gt = line_of shape sets e true ∷ []
+compare_lines shape sets e Ge = positive_line_of shape sets e false ∷ []
+compare_lines shape sets e Gt = positive_line_of shape sets e true ∷ []
 compare_lines shape sets e Le = negative_line_of shape sets e false ∷ []
 compare_lines shape sets e Lt = negative_line_of shape sets e true ∷ []
-compare_lines shape sets e Eq = line_of shape sets e false ∷ negative_line_of shape sets e false ∷ []
+compare_lines shape sets e Eq = positive_line_of shape sets e false ∷ negative_line_of shape sets e false ∷ []
 
 -- the lines that say that the sum does not compare with 0 so; an equation is no condition
 abbrev pub contrary_lines : List Domain → List ℕ → Linear → Compare → List LineParts
 contrary_lines shape sets e Ge = negative_line_of shape sets e true ∷ []
 contrary_lines shape sets e Gt = negative_line_of shape sets e false ∷ []
-contrary_lines shape sets e Le = line_of shape sets e true ∷ []
-contrary_lines shape sets e Lt = line_of shape sets e false ∷ []
+contrary_lines shape sets e Le = positive_line_of shape sets e true ∷ []
+contrary_lines shape sets e Lt = positive_line_of shape sets e false ∷ []
 contrary_lines shape sets e Eq = []
 
 -- the lines that say that a linear test is true, where the codes are in the sets

@@ -13,9 +13,9 @@ abbrev pub numbered : ℕ → List LineParts → List RuleLine
 numbered i lines = map (λ line. record { rule = i; line = line }) lines
 
 -- the normal lines of each rule, with its number counted from i, in order
-abbrev pub lines_from : List Domain → ℕ → List Rule → List RuleLine
-lines_from shape i [] = []
-lines_from shape i (rule ∷ rules) = numbered i (rule_lines_of shape rule) ++ lines_from shape (suc i) rules
+abbrev pub rule_lines_from : List Domain → ℕ → List Rule → List RuleLine
+rule_lines_from shape i [] = []
+rule_lines_from shape i (rule ∷ rules) = numbered i (rule_lines_of shape rule) ++ rule_lines_from shape (suc i) rules
 
 -- the lines of the rule of this number all hold at the point
 abbrev pub LinesHold : List RuleLine → ℕ → Point → Type 0

@@ -3,7 +3,7 @@ ghost use Rattle.edit_model.specs.Points.{HasCodesFrom, Holds, Point};
 ghost use Rattle.edit_model.specs.declared.rule.Rule.{Rule as AnyRule};
 ghost use Rattle.edit_line.specs.Lines.{AreOver};
 ghost use Rattle.edit_line.specs.Shapes.{shape_of};
-ghost use Rattle.edit_normal.specs.RuleLines.{LinesHold, lines_from, normal_lines_of};
+ghost use Rattle.edit_normal.specs.RuleLines.{LinesHold, rule_lines_from, normal_lines_of};
 
 use crate::layout::Layout;
 use crate::rule_line::RuleLine;
@@ -17,7 +17,7 @@ use std::alloc::Global;
 /// and Scholtus 2011, on edits that mix codes and numbers). A rule has at most two lines, and they all hold
 /// at a point exactly where the rule does. A line with an empty set of codes says nothing and is left out.
 pub fn normal_lines(alloc: Global, survey: &Survey) -> Result<Vec<RuleLine>, OutOfMemory>
-    ensures exact { IfOk result (λ lines. lines.items ≡ lines_from (shape_of survey.now.fields) 0 survey.now.rules) }
+    ensures exact { IfOk result (λ lines. lines.items ≡ rule_lines_from (shape_of survey.now.fields) 0 survey.now.rules) }
     ensures lines { IfOk result (λ lines. map (λ l. l.line) lines.items ≡ normal_lines_of survey.now) }
     ensures over { IfOk result (λ lines. AreOver (shape_of survey.now.fields) (map (λ l. l.line) lines.items)) }
     ensures few { IfOk result (λ lines. (i : ℕ) → count_by (λ l. l.rule == i) lines.items ≤ 2) }

@@ -32,7 +32,7 @@ use Rattle.derivation.specs.declared.proved.Proved.TheVariants as proved
 use Rattle.bound_cert.specs.Paths.{changes, keeps, keeps_bad}
 use Rattle.edit_paths.specs.Cases.{Case, IsCase}
 use Rattle.edit_paths.specs.Histories.{History, box_by, making_at, steps_to, with_boxes}
-use Rattle.edit_paths.specs.PathHistories.{box_history, boxes_from, line_history}
+use Rattle.edit_paths.specs.PathHistories.{box_history, boxes_reached, line_history}
 use Rattle.edit_paths.specs.Paths.{changed_numbers, number_count, treated_codes, treats}
 use Rattle.edit_paths.specs.States.{asks_kept, boxes_after, closed_by, first_boxes, first_failing, first_whole, lines_along, or_empty, state_of, state_with_boxes, state_with_system}
 use Rattle.edit_paths.specs.declared.state.PathState.TheVariants.{ClosedBad, ClosedBox, ClosedLine}
@@ -102,13 +102,13 @@ module _ (c : Case) (is : IsCase c) (path : List Bool) (none : keeps_bad c.surve
               (fixed-comes (shape_of c.survey.fields) list f over (code_in (value_of c.row f))) b_in)
 
       boxes-made : (history : History) (before : Elements) (list : List BoxFrom) (fields : List ℕ) → ((f : ℕ) → IsIn f fields → IsIn f (treated_codes c path)) → AreBoxesOver (shape_of c.survey.fields) list → IsMade premises history before
-          → last_of before ≡ box_values list → (values : Elements) × IsMade premises (boxes_from c path history list fields) values × (last_of values ≡ box_values (fold (boxes_after c path) list fields))
+          → last_of before ≡ box_values list → (values : Elements) × IsMade premises (boxes_reached c path history list fields) values × (last_of values ≡ box_values (fold (boxes_after c path) list fields))
       boxes-made history before list [] among over history_made last = (before, history_made, last)
       boxes-made history before list (f ∷ fields) among over history_made last =
           boxes-made (with_boxes history f (boxes_after c path list f)) (box_values (boxes_after c path list f) ∷ before) (boxes_after c path list f) fields (λ g at. among g (inr at)) (after-over c path list f over)
           (boxes-listed (box_values list) f (boxes_after c path list f) (next-each list f (among f (inl refl)) over) history before last history_made) refl
 
-      history-made : (values : Elements) × IsMade premises (boxes_from c path (with_boxes (line_history c path) 0 boxes) boxes (treated_codes c path)) values × (last_of values ≡ box_values (fold (boxes_after c path) boxes (treated_codes c path)))
+      history-made : (values : Elements) × IsMade premises (boxes_reached c path (with_boxes (line_history c path) 0 boxes) boxes (treated_codes c path)) values × (last_of values ≡ box_values (fold (boxes_after c path) boxes (treated_codes c path)))
       history-made =
           let (values, history, last) = line-history-made c is path premises lines usable_is made in
           boxes-made (with_boxes (line_history c path) 0 boxes) (box_values boxes ∷ values) boxes (treated_codes c path) (λ f at. at)
@@ -118,8 +118,8 @@ module _ (c : Case) (is : IsCase c) (path : List Bool) (none : keeps_bad c.surve
       box-valid : (i : ℕ) (b : BoxFrom) → slice_get (fold (boxes_after c path) boxes (treated_codes c path)) i ≡ Some b → steps_result premises (steps_to (box_history c path) i) ≡ Ok (proved.Box b.code_box)
       box-valid i b at =
           let (values, history, last) = history-made in
-          ap (λ (bs : List BoxFrom). steps_result premises (steps_to (boxes_from c path (with_boxes (line_history c path) 0 bs) bs (treated_codes c path)) i)) same_boxes
-          ∙ steps-valid premises (boxes_from c path (with_boxes (line_history c path) 0 boxes) boxes (treated_codes c path)) values history i (proved.Box b.code_box)
+          ap (λ (bs : List BoxFrom). steps_result premises (steps_to (boxes_reached c path (with_boxes (line_history c path) 0 bs) bs (treated_codes c path)) i)) same_boxes
+          ∙ steps-valid premises (boxes_reached c path (with_boxes (line_history c path) 0 boxes) boxes (treated_codes c path)) values history i (proved.Box b.code_box)
           (ap (λ (vs : List Proved). slice_get vs i) last ∙ box-value (fold (boxes_after c path) boxes (treated_codes c path)) i b at)
 
   -- ---- what closes a path

@@ -2,7 +2,7 @@ use Rattle.std.proofs.Common.{Bool, List, None, [], ap, arith, drop, false, if�
 use Rattle.std.proofs.lemmas.List.{at_drop_all}
 use Rattle.std.specs.List.{fold, list_any}
 use Rattle.derivation.specs.declared.step.Step.{Step}
-use Rattle.edit_paths.specs.Histories.{Element, History, is_element, made_or, maker, making_at, number_in, parts_of, proof_by, renumbered, with_proof, with_step}
+use Rattle.edit_paths.specs.Histories.{Element, History, is_element, made_or, maker, making_at, number_in, step_parts, proof_by, renumbered, with_proof, with_step}
 use Rattle.edit_paths.specs.Levels.{history_of, makings_of}
 use Rattle.edit_paths.specs.declared.levels.Level.{Level}
 use Rattle.edit_paths.specs.declared.making.Making.{Making}
@@ -48,20 +48,20 @@ module _ (levels before : List Level) (level : Level) (place : ℕ) (is : levels
       sym (
       ap (λ (h : History). with_proof h place done) history-is
       ∙ ap (λ (m : Making). proof_by (length (history_of before), place) (λ i. maker (history_of before) i) (λ i done. with_proof (history_of before) i done) m done) made
-      ∙ ap (λ (n : ℕ). if list_any (λ (w : Written). is_element w.element (n, place)) done then done else with_step (n, place) (λ i. maker (history_of before) i) step (fold (λ done i. with_proof (history_of before) i done) done (parts_of step))) (length-history before)
-      ∙ ap (λ b. if b then done else with_step (length before, place) (λ i. maker (history_of before) i) step (fold (λ done i. with_proof (history_of before) i done) done (parts_of step))) there
+      ∙ ap (λ (n : ℕ). if list_any (λ (w : Written). is_element w.element (n, place)) done then done else with_step (n, place) (λ i. maker (history_of before) i) step (fold (λ done i. with_proof (history_of before) i done) done (step_parts step))) (length-history before)
+      ∙ ap (λ b. if b then done else with_step (length before, place) (λ i. maker (history_of before) i) step (fold (λ done i. with_proof (history_of before) i done) done (step_parts step))) there
       )
 
   -- its step comes behind those of its parts
   pub proof-here : (done parted : List Written) (step written : Step) → making_at (makings_of level) place ≡ By step → list_any (λ (w : Written). is_element w.element (length before, place)) done ≡ false
-      → parted ≡ fold (λ done i. with_proof (history_of before) i done) done (parts_of step) → written ≡ renumbered (λ i. number_in parted (maker (history_of before) i)) step
+      → parted ≡ fold (λ done i. with_proof (history_of before) i done) done (step_parts step) → written ≡ renumbered (λ i. number_in parted (maker (history_of before) i)) step
       → parted ++ record { element = (length before, place); step = written } ∷ [] ≡ with_proof (history_of levels) place done
   proof-here done parted step written made new parts number =
       sym (
       ap (λ (h : History). with_proof h place done) history-is
       ∙ ap (λ (m : Making). proof_by (length (history_of before), place) (λ i. maker (history_of before) i) (λ i done. with_proof (history_of before) i done) m done) made
-      ∙ ap (λ (n : ℕ). if list_any (λ (w : Written). is_element w.element (n, place)) done then done else with_step (n, place) (λ i. maker (history_of before) i) step (fold (λ done i. with_proof (history_of before) i done) done (parts_of step))) (length-history before)
-      ∙ ap (λ b. if b then done else with_step (length before, place) (λ i. maker (history_of before) i) step (fold (λ done i. with_proof (history_of before) i done) done (parts_of step))) new
+      ∙ ap (λ (n : ℕ). if list_any (λ (w : Written). is_element w.element (n, place)) done then done else with_step (n, place) (λ i. maker (history_of before) i) step (fold (λ done i. with_proof (history_of before) i done) done (step_parts step))) (length-history before)
+      ∙ ap (λ b. if b then done else with_step (length before, place) (λ i. maker (history_of before) i) step (fold (λ done i. with_proof (history_of before) i done) done (step_parts step))) new
       ∙ ap (λ (ws : List Written). with_step (length before, place) (λ i. maker (history_of before) i) step ws) (sym parts)
       ∙ ap (λ (s : Step). parted ++ record { element = (length before, place); step = s } ∷ []) (sym number)
       )
@@ -102,9 +102,9 @@ module _ (e : Element) where
       by earlier (Same place) = earlier place done
       by earlier (By step) = by_new (list_any (λ (w : Written). is_element w.element (length history, place)) done)
         where
-          by_new : (b : Bool) → is_written (if b then done else with_step (length history, place) (λ i. maker history i) step (fold (λ done i. with_proof history i done) done (parts_of step))) ≡ is_written done
+          by_new : (b : Bool) → is_written (if b then done else with_step (length history, place) (λ i. maker history i) step (fold (λ done i. with_proof history i done) done (step_parts step))) ≡ is_written done
           by_new true = refl
-          by_new false = last-apart (fold (λ done i. with_proof history i done) done (parts_of step)) _ apart ∙ fold-apart (λ i done. with_proof history i done) earlier done (parts_of step)
+          by_new false = last-apart (fold (λ done i. with_proof history i done) done (step_parts step)) _ apart ∙ fold-apart (λ i done. with_proof history i done) earlier done (step_parts step)
 
 -- so the step of an element of the list behind them is new
 pub parts-apart : (before : List Level) (place : ℕ) (done parted : List Written) (parts : List ℕ) → list_any (λ (w : Written). is_element w.element (length before, place)) done ≡ false

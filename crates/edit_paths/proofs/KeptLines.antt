@@ -15,7 +15,7 @@ use Rattle.edit_line.specs.Lines.{HasShape, LineHolds, LineParts, amount, factor
 use Rattle.edit_line.specs.Reductions.{IsIn, lines_of}
 use Rattle.edit_line.specs.Sets.{AreCodesIn}
 use Rattle.edit_line.specs.Shapes.{Domain, HasCodes, IsNumerical, codes_at, has_field, number_fields, shape_of, whole_sets}
-use Rattle.edit_line.specs.Sums.{AgreesWith, HasNumbers, fails_at}
+use Rattle.edit_line.specs.Sums.{AgreesOnLine, HasNumbers, fails_at}
 use Rattle.edit_line.specs.declared.derived.Derived.{Derived}
 use Rattle.edit_line.proofs.BoolLaws.{and_true}
 use Rattle.edit_line.proofs.Enough.{is_enough-Decides}
@@ -89,7 +89,7 @@ module _ (c : Case) (is : IsCase c) (path : List Bool) where
         numbers-held c.survey.fields c.row line over.same is.row
         (at-factors (λ f. value_of c.row f ≢ Bad) line (λ f stands. kept-held none f (number-field c f (standing f stands)) (kept f stands)))
 
-    pub line-agrees : (q : Point) → AgreesAlong c path q → AgreesWith c.row q line
+    pub line-agrees : (q : Point) → AgreesAlong c path q → AgreesOnLine c.row q line
     line-agrees q agrees = at-factors (λ f. Agrees c.row q f) line (λ f stands. agrees f (number-field c f (standing f stands)) (kept f stands))
 
   -- a line that is asked has all codes, and only kept fields
@@ -143,8 +143,8 @@ module _ (c : Case) (is : IsCase c) (path : List Bool) where
     pub all-numbers : number_count c ≤ length path → All (λ (d : Derived). HasNumbers c.row d.line) lines
     all-numbers enough = all-in (λ (d : Derived). HasNumbers c.row d.line) lines (λ d there. line-numbers d.line (derived-over d there) none (kept-alone enough d there))
 
-    pub all-agree : number_count c ≤ length path → (q : Point) → AgreesAlong c path q → All (λ (d : Derived). AgreesWith c.row q d.line) lines
-    all-agree enough q agrees = all-in (λ (d : Derived). AgreesWith c.row q d.line) lines (λ d there. line-agrees d.line (derived-over d there) none (kept-alone enough d there) q agrees)
+    pub all-agree : number_count c ≤ length path → (q : Point) → AgreesAlong c path q → All (λ (d : Derived). AgreesOnLine c.row q d.line) lines
+    all-agree enough q agrees = all-in (λ (d : Derived). AgreesOnLine c.row q d.line) lines (λ d there. line-agrees d.line (derived-over d there) none (kept-alone enough d there) q agrees)
 
     pub all-over : All (λ (d : Derived). d.line.shape ≡ shape_of c.survey.fields) lines
     all-over = all-in (λ (d : Derived). d.line.shape ≡ shape) lines (λ d there. (derived-over d there).same)

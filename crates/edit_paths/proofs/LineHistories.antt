@@ -23,7 +23,7 @@ use Rattle.derivation.specs.declared.proved.Proved.{Proved}
 use Rattle.derivation.specs.declared.proved.Proved.TheVariants as proved
 use Rattle.edit_paths.specs.Cases.{Case, IsCase}
 use Rattle.edit_paths.specs.Histories.{History, line_by, with_lines}
-use Rattle.edit_paths.specs.PathHistories.{and_next, line_history, lines_from}
+use Rattle.edit_paths.specs.PathHistories.{and_next, line_history, lines_reached}
 use Rattle.edit_paths.specs.Paths.{changed_numbers}
 use Rattle.edit_paths.proofs.CaseSystems.{start_over}
 use Rattle.edit_paths.proofs.StepsWritten.{Elements, IsMade, IsMadeBy, last_of, list-made}
@@ -72,7 +72,7 @@ base-made c is p usable d there =
     subst (λ (x : Derived). IsMadeBy p [] (proved.Line x.line) (line_by x.origin)) (sym same) (usable e e_in)
 
 lines-made : (p : Premises) (shape : List Domain) (history : History) (before : Elements) (lines : List Derived) (fields : List ℕ) (last : List Derived) → HaveShape shape (lines_of lines) → IsMade p history before → LinesMade p (last_of before) lines
-    → fold_result lines fields ≡ Ok last → (values : Elements) × IsMade p (lines_from history lines fields) values × (last_of values ≡ line_values last)
+    → fold_result lines fields ≡ Ok last → (values : Elements) × IsMade p (lines_reached history lines fields) values × (last_of values ≡ line_values last)
 lines-made p shape history before lines [] last over made here e =
     (line_values lines ∷ before, (list-made p (last_of before) (λ (d : Derived). proved.Line d.line) (λ (d : Derived). line_by d.origin) lines here, made), ap (λ (ds : List Derived). line_values ds) (cc))
 lines-made p shape history before lines (f ∷ fields) last over made here e =
@@ -81,8 +81,8 @@ lines-made p shape history before lines (f ∷ fields) last over made here e =
   where
     by : (r : Result (List Derived) StepOverflow) → step_result lines f ≡ r → (fault_as (overflow_at f) r >>= (λ next. fold_result next fields)) ≡ Ok last
         → ((next : List Derived) → HaveShape shape (lines_of next) → LinesMade p (line_values lines) next → fold_result next fields ≡ Ok last
-        → (values : Elements) × IsMade p (lines_from (with_lines history lines) next fields) values × (last_of values ≡ line_values last))
-        → (values : Elements) × IsMade p (and_next (with_lines history lines) r (λ next. lines_from (with_lines history lines) next fields)) values × (last_of values ≡ line_values last)
+        → (values : Elements) × IsMade p (lines_reached (with_lines history lines) next fields) values × (last_of values ≡ line_values last))
+        → (values : Elements) × IsMade p (and_next (with_lines history lines) r (λ next. lines_reached (with_lines history lines) next fields)) values × (last_of values ≡ line_values last)
     by (Ok next) is h rest = rest next (HaveShape-result shape lines f next is over) (step-made p shape lines f next over is) h
     by (Err fault) is h rest = absurd (cc)
 

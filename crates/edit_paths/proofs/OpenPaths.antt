@@ -31,7 +31,7 @@ use Rattle.bound_cert.specs.Paths.{changes, keeps, keeps_bad}
 use Rattle.edit_paths.specs.Cases.{Case, IsCase, Meets}
 use Rattle.edit_paths.specs.PathStates.{is_closed}
 use Rattle.edit_paths.specs.Paths.{AgreesAlong, DiffersOnlyOn, changed_numbers, field_count, number_count, treated_codes, treats}
-use Rattle.edit_paths.specs.States.{Fits, IsOpen, asks_kept, boxes_after, closed_by, first_failing, first_whole, state_of, state_with_boxes, state_with_system}
+use Rattle.edit_paths.specs.States.{StaysInRange, IsOpen, asks_kept, boxes_after, closed_by, first_failing, first_whole, state_of, state_with_boxes, state_with_system}
 use Rattle.edit_paths.specs.declared.state.PathState.{PathState}
 use Rattle.edit_paths.specs.declared.state.PathState.TheVariants.{ClosedBad, ClosedBox, ClosedLine, Open, Overflows}
 use Rattle.edit_paths.proofs.CaseSystems.{system-lifts}
@@ -170,7 +170,7 @@ module _ (c : Case) (is : IsCase c) (path : List Bool) where
       by_bad false e h = at_system e (system_of c.edits (changed_numbers c path)) refl h
 
   -- a path that is neither closed nor past the range is open
-  pub not-closed : Fits c path → (is_closed (state_of c path) ≡ true → ⊥) → IsOpen c path
+  pub not-closed : StaysInRange c path → (is_closed (state_of c path) ≡ true → ⊥) → IsOpen c path
   not-closed fits unclosed = by (state_of c path) refl
     where
       by : (s : PathState) → state_of c path ≡ s → state_of c path ≡ Open
@@ -183,7 +183,7 @@ module _ (c : Case) (is : IsCase c) (path : List Bool) where
   -- ---- the law of open paths
 
   -- a path that treats all fields and does not overflow is open exactly where some point at which the edits hold differs from the record only at the fields that it changes
-  pub open-path : length path ≡ field_count c → Fits c path → IsOpen c path ↔ ((p : Point) × Meets c p × DiffersOnlyOn c path p)
+  pub open-path : length path ≡ field_count c → StaysInRange c path → IsOpen c path ↔ ((p : Point) × Meets c p × DiffersOnlyOn c path p)
   open-path complete fits = (
     λ opened. let (p, meets, agrees) = open-point complete opened in (p, meets, λ f there differs. changed f there (agrees f there) differs),
     λ some. let (p, meets, only) = some in not-closed fits (λ closed. closed-path c is path closed p meets (λ f there kept. unchanged f p (kept-not_changed c path f kept) (only f there))),

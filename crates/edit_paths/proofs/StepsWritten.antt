@@ -20,7 +20,7 @@ use Rattle.derivation.specs.ValidSteps.{as_box, as_line, common_from, covered_se
 use Rattle.derivation.specs.declared.proved.Proved.{Proved}
 use Rattle.derivation.specs.declared.step.Step.{Step}
 use Rattle.derivation.specs.declared.step.Step.TheVariants.{Combine, Cover, Fail, Fix, Given}
-use Rattle.edit_paths.specs.Histories.{Element, History, is_element, made_or, maker, making_at, number_in, parts_of, proof_by, renumbered, steps_to, with_proof, with_step}
+use Rattle.edit_paths.specs.Histories.{Element, History, is_element, made_or, maker, making_at, number_in, step_parts, proof_by, renumbered, steps_to, with_proof, with_step}
 use Rattle.edit_paths.specs.declared.making.Making.{Making}
 use Rattle.edit_paths.specs.declared.making.Making.TheVariants.{By, Same}
 use Rattle.edit_paths.specs.declared.making.Written.{Written}
@@ -60,7 +60,7 @@ module _ (p : Premises) (before later : List Proved) (number : ℕ → ℕ) wher
       (common-moved at (suc code) parts _ result (λ b later_on. there b (inr later_on)) rest)
 
   -- a step proves the same with other numbers for its parts
-  pub step-moved : (step : Step) (v : Proved) → ((a : ℕ) → IsIn a (parts_of step) → IsThere a) → proved_by p before step ≡ Some v → proved_by p later (renumbered number step) ≡ Some v
+  pub step-moved : (step : Step) (v : Proved) → ((a : ℕ) → IsIn a (step_parts step) → IsThere a) → proved_by p before step ≡ Some v → proved_by p later (renumbered number step) ≡ Some v
   step-moved (Given i) v there e = e
   step-moved (Combine a m b n g) v there e =
       let (s, first, rest) = was-some (as_line (slice_get before a)) _ v e in
@@ -108,7 +108,7 @@ module _ (p : Premises) (before : List Proved) where
   one a b here (inl same) = subst (λ (i : ℕ). HasPart i) (sym same) here
   one a b here (inr none) = absurd none
 
-  pub step-parts : (step : Step) (v : Proved) → proved_by p before step ≡ Some v → (a : ℕ) → IsIn a (parts_of step) → HasPart a
+  pub step-parts : (step : Step) (v : Proved) → proved_by p before step ≡ Some v → (a : ℕ) → IsIn a (step_parts step) → HasPart a
   step-parts (Given i) v e a none = absurd none
   step-parts (Combine b m d n g) v e a there =
       let (s, first, rest) = was-some (as_line (slice_get before b)) _ v e in
@@ -263,13 +263,13 @@ module _ (p : Premises) (all : Elements) where
       → IsWritten done (proof_by e maker prove (By step) done) e v
   step-written prove maker before writes e step v done made value sound = by (list_any (λ (w : Written). is_element w.element e) done) refl
     where
-      known : IsSound (fold (λ done i. prove i done) done (parts_of step)) × ((x : Element) → HasStep done x → HasStep (fold (λ done i. prove i done) done (parts_of step)) x) × ((a : ℕ) (u : Proved) → IsIn a (parts_of step) → slice_get before a ≡ Some u → HasStep (fold (λ done i. prove i done) done (parts_of step)) (maker a) × (value_at all (maker a) ≡ Some u))
-      known = parts-written prove maker before writes (parts_of step) done (step-parts p before step v made) sound
+      known : IsSound (fold (λ done i. prove i done) done (step_parts step)) × ((x : Element) → HasStep done x → HasStep (fold (λ done i. prove i done) done (step_parts step)) x) × ((a : ℕ) (u : Proved) → IsIn a (step_parts step) → slice_get before a ≡ Some u → HasStep (fold (λ done i. prove i done) done (step_parts step)) (maker a) × (value_at all (maker a) ≡ Some u))
+      known = parts-written prove maker before writes (step_parts step) done (step-parts p before step v made) sound
 
       new : Written
-      new = record { element = e; step = renumbered (λ i. number_in (fold (λ done i. prove i done) done (parts_of step)) (maker i)) step }
+      new = record { element = e; step = renumbered (λ i. number_in (fold (λ done i. prove i done) done (step_parts step)) (maker i)) step }
 
-      by : (b : Bool) → list_any (λ (w : Written). is_element w.element e) done ≡ b → IsWritten done (if b then done else with_step e maker step (fold (λ done i. prove i done) done (parts_of step))) e v
+      by : (b : Bool) → list_any (λ (w : Written). is_element w.element e) done ≡ b → IsWritten done (if b then done else with_step e maker step (fold (λ done i. prove i done) done (step_parts step))) e v
       by true h =
           let (w, there, is) = in-any (λ (w : Written). is_element w.element e) done h in
           record { sound = sound; keeps = λ x has. has; has = (w, there, same_element w.element e is); value = value }
@@ -277,13 +277,13 @@ module _ (p : Premises) (all : Elements) where
         sound = record {
           values = known.0.values ++ v ∷ [];
           proved =
-              ap (λ (steps : List Step). proved_from p [] steps) (map-append (λ (w : Written). w.step) (fold (λ done i. prove i done) done (parts_of step)) (new ∷ []))
-              ∙ proved-more [] (steps_of (fold (λ done i. prove i done) done (parts_of step))) known.0.values (renumbered (λ i. number_in (fold (λ done i. prove i done) done (parts_of step)) (maker i)) step) v known.0.proved
-              (step-moved p before known.0.values (λ i. number_in (fold (λ done i. prove i done) done (parts_of step)) (maker i)) step v (λ a there u at. let (has, is) = known.2 a u there at in number-at (fold (λ done i. prove i done) done (parts_of step)) known.0.values (maker a) u known.0.match has is) made);
-          match = match-more (fold (λ done i. prove i done) done (parts_of step)) known.0.values new v known.0.match value;
+              ap (λ (steps : List Step). proved_from p [] steps) (map-append (λ (w : Written). w.step) (fold (λ done i. prove i done) done (step_parts step)) (new ∷ []))
+              ∙ proved-more [] (steps_of (fold (λ done i. prove i done) done (step_parts step))) known.0.values (renumbered (λ i. number_in (fold (λ done i. prove i done) done (step_parts step)) (maker i)) step) v known.0.proved
+              (step-moved p before known.0.values (λ i. number_in (fold (λ done i. prove i done) done (step_parts step)) (maker i)) step v (λ a there u at. let (has, is) = known.2 a u there at in number-at (fold (λ done i. prove i done) done (step_parts step)) known.0.values (maker a) u known.0.match has is) made);
+          match = match-more (fold (λ done i. prove i done) done (step_parts step)) known.0.values new v known.0.match value;
         };
-        keeps = λ x has. let (w, there, is) = known.1 x has in (w, in-left w (fold (λ done i. prove i done) done (parts_of step)) (new ∷ []) there, is);
-        has = (new, in-right new (fold (λ done i. prove i done) done (parts_of step)) (new ∷ []) (inl refl), refl);
+        keeps = λ x has. let (w, there, is) = known.1 x has in (w, in-left w (fold (λ done i. prove i done) done (step_parts step)) (new ∷ []) there, is);
+        has = (new, in-right new (fold (λ done i. prove i done) done (step_parts step)) (new ∷ []) (inl refl), refl);
         value = value;
       }
 
@@ -337,8 +337,8 @@ last-written p (list ∷ history) (values ∷ before) made place v at = by (maki
         → (done : List Written) × (w : Written) × (proof_by (length history, place) (λ i. maker history i) (λ i done. with_proof history i done) m [] ≡ done ++ w ∷ []) × (w.element ≡ made_or (length history, place) (λ i. maker history i) m)
     by (Same i) is rest = rest i v is
     by (By step) is rest = (
-      fold (λ done i. with_proof history i done) [] (parts_of step),
-      record { element = (length history, place); step = renumbered (λ i. number_in (fold (λ done i. with_proof history i done) [] (parts_of step)) (maker history i)) step },
+      fold (λ done i. with_proof history i done) [] (step_parts step),
+      record { element = (length history, place); step = renumbered (λ i. number_in (fold (λ done i. with_proof history i done) [] (step_parts step)) (maker history i)) step },
       refl,
       refl,
     )

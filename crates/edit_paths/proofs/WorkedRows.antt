@@ -33,7 +33,7 @@ abbrev code_field : Field
 code_field = record { name = codes "x"; weight = 1; kind = kind.Code (codes "a" ∷ codes "b" ∷ []) }
 
 abbrev case_with : List Field → List (ℕ × LineParts) → List Value → Case
-case_with fields lines row = record { survey = parts.parts_of fields []; edits = lines; row = row }
+case_with fields lines row = record { survey = parts.survey_of fields []; edits = lines; row = row }
 
 abbrev kept : Bool
 kept = false

@@ -70,12 +70,12 @@ number_in [] element = 0
 number_in (w ∷ done) element = if is_element w.element element then 0 else suc (number_in done element)
 
 -- the places that a step builds on, in order
-abbrev pub parts_of : Step → List ℕ
-parts_of (Given number) = []
-parts_of (Combine a m b n g) = a ∷ b ∷ []
-parts_of (Fail a) = a ∷ []
-parts_of (Cover field parts) = parts
-parts_of (Fix field part) = part ∷ []
+abbrev pub step_parts : Step → List ℕ
+step_parts (Given number) = []
+step_parts (Combine a m b n g) = a ∷ b ∷ []
+step_parts (Fail a) = a ∷ []
+step_parts (Cover field parts) = parts
+step_parts (Fix field part) = part ∷ []
 
 -- the step, with other numbers for its parts
 abbrev pub renumbered : (ℕ → ℕ) → Step → Step
@@ -97,7 +97,7 @@ has_step element done = list_any (λ (w : Written). is_element w.element element
 abbrev pub proof_by : Element → (ℕ → Element) → (ℕ → List Written → List Written) → Making → List Written → List Written
 proof_by element maker prove (Same place) done = prove place done
 proof_by element maker prove (By step) done =
-    if has_step element done then done else with_step element maker step (fold (λ done i. prove i done) done (parts_of step))
+    if has_step element done then done else with_step element maker step (fold (λ done i. prove i done) done (step_parts step))
 
 -- the steps, and those that prove the element at a place of the last list: each element once, parts before the whole, the first part first
 abbrev pub with_proof : History → ℕ → List Written → List Written

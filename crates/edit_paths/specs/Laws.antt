@@ -19,7 +19,7 @@ use Rattle.edit_paths.specs.Events.{IsStepOverflow, IsTestOverflow}
 use Rattle.edit_paths.specs.Outcomes.{outcome_of, total_work}
 use Rattle.edit_paths.specs.Paths.{AgreesAlong, DiffersOnlyOn, field_count}
 use Rattle.edit_paths.specs.ReachedPaths.{IsReached, reached_paths}
-use Rattle.edit_paths.specs.States.{Fits, IsClosed, IsOpen, state_of}
+use Rattle.edit_paths.specs.States.{StaysInRange, IsClosed, IsOpen, state_of}
 use Rattle.edit_paths.specs.declared.state.PathState.TheVariants.{Overflows}
 use Rattle.edit_paths.specs.Walks.{walk}
 
@@ -33,7 +33,7 @@ ClosedPathLaw = (c : Case) (path : List Bool) → IsCase c → IsClosed c path �
 -- some point at which the edits hold differs from the record only at the fields that it changes
 abbrev pub OpenPathLaw : Type 0
 OpenPathLaw =
-    (c : Case) (path : List Bool) → IsCase c → length path ≡ field_count c → Fits c path
+    (c : Case) (path : List Bool) → IsCase c → length path ≡ field_count c → StaysInRange c path
     → IsOpen c path ↔ ((p : Point) × Meets c p × DiffersOnlyOn c path p)
 
 -- the reached paths are just those, of at most as many fields as there are, of which all that they extend are open

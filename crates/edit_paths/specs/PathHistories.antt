@@ -17,21 +17,21 @@ and_next history (Ok lines) next = next lines
 and_next history (Err overflow) next = history
 
 -- the lists of lines, from these on, with one field less each
-abbrev pub lines_from : History → List Derived → List ℕ → History
-lines_from before lines [] = with_lines before lines
-lines_from before lines (f ∷ fields) =
-    and_next (with_lines before lines) (step_result lines f) (λ next. lines_from (with_lines before lines) next fields)
+abbrev pub lines_reached : History → List Derived → List ℕ → History
+lines_reached before lines [] = with_lines before lines
+lines_reached before lines (f ∷ fields) =
+    and_next (with_lines before lines) (step_result lines f) (λ next. lines_reached (with_lines before lines) next fields)
 
 -- the lists of lines that lead to the path's system
 abbrev pub line_history : Case → List Bool → History
-line_history c path = lines_from [] (reduce_derived (base_lines c.edits)) (changed_numbers c path)
+line_history c path = lines_reached [] (reduce_derived (base_lines c.edits)) (changed_numbers c path)
 
 -- the lists of boxes, from these on, with one field more treated each
-abbrev pub boxes_from : Case → List Bool → History → List BoxFrom → List ℕ → History
-boxes_from c path history boxes [] = history
-boxes_from c path history boxes (f ∷ fields) =
-    let next = boxes_after c path boxes f in boxes_from c path (with_boxes history f next) next fields
+abbrev pub boxes_reached : Case → List Bool → History → List BoxFrom → List ℕ → History
+boxes_reached c path history boxes [] = history
+boxes_reached c path history boxes (f ∷ fields) =
+    let next = boxes_after c path boxes f in boxes_reached c path (with_boxes history f next) next fields
 
 -- the lists of lines and of boxes that lead to the path's boxes
 abbrev pub box_history : Case → List Bool → History
-box_history c path = boxes_from c path (with_boxes (line_history c path) 0 (first_boxes c path)) (first_boxes c path) (treated_codes c path)
+box_history c path = boxes_reached c path (with_boxes (line_history c path) 0 (first_boxes c path)) (first_boxes c path) (treated_codes c path)

@@ -117,5 +117,5 @@ abbrev pub IsClosed : Case → List Bool → Type 0
 IsClosed c path = is_closed (state_of c path) ≡ true
 
 -- no number that is computed for the path leaves the range
-abbrev pub Fits : Case → List Bool → Type 0
-Fits c path = (e : Event) → state_of c path ≡ Overflows e → ⊥
+abbrev pub StaysInRange : Case → List Bool → Type 0
+StaysInRange c path = (e : Event) → state_of c path ≡ Overflows e → ⊥

@@ -1,6 +1,6 @@
 //! The steps that prove an element of a derived list: each element once, parts before the whole.
 ghost use Rattle.std.specs.Prelude.{◌≡◌, IfOk, OnOk, map};
-ghost use Rattle.edit_paths.specs.Histories.{maker, number_in, parts_of, renumbered, steps_to, with_proof};
+ghost use Rattle.edit_paths.specs.Histories.{maker, number_in, step_parts, renumbered, steps_to, with_proof};
 ghost use Rattle.edit_paths.specs.Levels.{history_of};
 
 use crate::levels::{Level, earlier_at, making_at};
@@ -72,7 +72,7 @@ fn maker(levels: &[Level], place: u64) -> (u64, u64)
 
 /// The places that a step builds on, in order.
 pub fn parts_of(alloc: Global, step: &Step) -> Result<Vec<u64>, OutOfMemory>
-    ensures { IfOk result (λ parts. parts.items ≡ parts_of step.now) }
+    ensures { IfOk result (λ parts. parts.items ≡ step_parts step.now) }
 {
     match step {
         Step::Given(_) => Ok(Vec::new(alloc)),

@@ -11,7 +11,7 @@ use Rattle.edit_model.specs.declared.field.Field.{Field}
 use Rattle.edit_model.specs.declared.value.Value.{Value}
 use Rattle.edit_line.proofs.BoolLaws.{true-both, true-first, true-second}
 use Rattle.edit_report.specs.Layouts.{field_in}
-use Rattle.edit_report.specs.Released.{column_text, text_at, texts_from}
+use Rattle.edit_report.specs.Released.{column_text, given_text, texts_from}
 use Rattle.cert_check.specs.Released.{same_from, stands_changed}
 
 -- ---- places
@@ -42,12 +42,12 @@ module _ (fields : List Field) (columns : List ℕ) (changed : ℕ → Bool) (ne
 
   -- that of a changed field
   pub changed-text : (f : ℕ) (reads : List (List ℕ)) → AllPairs (λ (c : ℕ) (d : ℕ). c ≢ d) columns → f < length columns → get_or columns f 0 < length reads → changed f ≡ true
-      → get_or (texts_from fields columns changed new 0 reads) (get_or columns f 0) [] ≡ text_at fields new f
+      → get_or (texts_from fields columns changed new 0 reads) (get_or columns f 0) [] ≡ given_text fields new f
   changed-text f reads distinct below within is =
       let own : 0 + get_or columns f 0 ≡ get_or columns f 0 = omega arith in
       texts-at 0 (get_or columns f 0) reads within
       ∙ ap (λ (o : Option ℕ). column_text fields changed new o (get_or reads (get_or columns f 0) [])) (ap (field_in columns) own ∙ field-found columns f distinct below)
-      ∙ ap (λ b. if b then text_at fields new f else get_or reads (get_or columns f 0) []) is
+      ∙ ap (λ b. if b then given_text fields new f else get_or reads (get_or columns f 0) []) is
 
   -- ---- elsewhere nothing is changed
 
@@ -65,12 +65,12 @@ module _ (fields : List Field) (columns : List ℕ) (changed : ℕ → Bool) (ne
     same-text j read None is = true-first (bytes_eq read read) (stands_changed told 0 columns j) ((bytes_eq-Decides read read).1 refl)
     same-text j read (Some f) is = by (changed f) refl
       where
-        by : (b : Bool) → changed f ≡ b → (bytes_eq (if b then text_at fields new f else read) read || stands_changed told 0 columns j) ≡ true
+        by : (b : Bool) → changed f ≡ b → (bytes_eq (if b then given_text fields new f else read) read || stands_changed told 0 columns j) ≡ true
         by false e = true-first (bytes_eq read read) (stands_changed told 0 columns j) ((bytes_eq-Decides read read).1 refl)
         by true e =
             let there = position-Some (λ c. c == j) columns f 0 is in
             let own : 0 + f ≡ f = omega arith in
-            true-second (bytes_eq (text_at fields new f) read) (stands_changed told 0 columns j) (stands-at told 0 f j columns there.0 there.1 (ap told own ∙ same f ∙ e))
+            true-second (bytes_eq (given_text fields new f) read) (stands_changed told 0 columns j) (stands-at told 0 f j columns there.0 there.1 (ap told own ∙ same f ∙ e))
 
     pub same-elsewhere : (j : ℕ) (reads : List (List ℕ)) → same_from told columns j reads (texts_from fields columns changed new j reads) ≡ true
     same-elsewhere j [] = refl

@@ -11,7 +11,7 @@ use Rattle.fraction128.proofs.Signs.{same_cancel}
 use Rattle.fraction128.proofs.Whole.{swap_last}
 use Rattle.edit_model.specs.Corrections.{change_weight, differs_from, path_order, weight_from, word_of}
 use Rattle.edit_model.specs.FieldSets.{has_field}
-use Rattle.edit_model.specs.Parts.{SurveyParts, parts_of}
+use Rattle.edit_model.specs.Parts.{SurveyParts, survey_of}
 use Rattle.edit_model.specs.Points.{Point}
 use Rattle.edit_model.specs.Rows.{IsOfKind, IsRow, is_bad, value_of}
 use Rattle.edit_model.specs.Surveys.{IsField, IsKind}
@@ -29,14 +29,14 @@ use Rattle.bound_cert.specs.Paths.{changes}
 use Rattle.edit_paths.specs.Cases.{Case}
 use Rattle.edit_paths.proofs.LetterLaws.{code-field, number-field}
 use Rattle.back_subst.proofs.StartLaws.{field-either}
-use Rattle.edit_report.specs.Released.{text_of}
+use Rattle.edit_report.specs.Released.{value_text}
 use Rattle.cert_check.specs.Released.{AreValuesFrom, IsGivenText, IsValueOf, is_same}
 use Rattle.edit_release.proofs.ColumnTexts.{found-first}
 
 -- ---- one value
 
 -- the text of a value stands for it
-pub given-text : (k : Kind) (v : Value) → IsKind k → IsOfKind k v → v ≢ Bad → IsGivenText k (text_of k v) v
+pub given-text : (k : Kind) (v : Value) → IsKind k → IsOfKind k v → v ≢ Bad → IsGivenText k (value_text k v) v
 given-text (kind.Number scale) (Number x) is fits held = refl
 given-text (kind.Number scale) (Code c) is fits held = absurd fits
 given-text (kind.Number scale) Bad is fits held = absurd (held refl)
@@ -94,7 +94,7 @@ pub field-ordered : (fields : List Field) (f : ℕ) → f < length fields → ha
 field-ordered fields f below = by (has_field (code_fields (shape_of fields)) f) refl some
   where
     alone : Case
-    alone = record { survey = parts_of fields []; edits = []; row = [] }
+    alone = record { survey = survey_of fields []; edits = []; row = [] }
 
     some : (has_field (code_fields (shape_of fields)) f || has_field (number_fields (shape_of fields)) f) ≡ true
     some =

@@ -25,7 +25,7 @@ use Rattle.back_subst.proofs.FieldPoints.{agrees-held}
 use Rattle.record_text.specs.Sheets.{IsSheet, SheetParts}
 use Rattle.record_text.proofs.SheetLaws.{as_many_raws_as_rows, header_has_text, raws_as_long_as_header}
 use Rattle.edit_report.specs.Ends.{path_found}
-use Rattle.edit_report.specs.Released.{released_rows, released_text_of, released_texts, row_with, text_by, text_of, texts_from}
+use Rattle.edit_report.specs.Released.{released_rows, released_text_of, released_texts, row_with, text_by, value_text, texts_from}
 use Rattle.edit_report.specs.declared.end.RowEnd.{RowEnd}
 use Rattle.edit_report.proofs.LineLaws.{released-count}
 use Rattle.record_workers.specs.Ends.{ComesOf, IsEndOf, IsGiftOf}
@@ -157,7 +157,7 @@ module _ (survey : SurveyParts) (columns : List ℕ) (reads : List (List ℕ)) (
       let there : f < length gift.row = omega (arith, below, row-length survey.fields gift.row given.imputed.fits) in
       let own : IsField field = subst IsField (get_or_from_slice_get survey.fields f field field at) (well.fields f field below) in
       let fits : IsOfKind field.kind (value_of gift.row f) = subst (λ (o : Option Field). IsSomeAnd o (λ g. IsOfKind g.kind (value_of gift.row f))) at (value-held survey.fields gift.row f given.imputed.fits below) in
-      let text : checked.text_at columns texts f ≡ text_of field.kind (value_of gift.row f) =
+      let text : checked.text_at columns texts f ≡ value_text field.kind (value_of gift.row f) =
       changed-text survey.fields columns (changes survey.fields path) gift.row f reads distinct (omega (arith, below, one_each)) (within f 0 (omega (arith, below, one_each))) is ∙ ap (λ (o : Option Field). text_by o (value_of gift.row f)) at in
       subst (λ (t : List ℕ). IsGivenText field.kind t (value_of gift.row f)) (sym text) (given-text field.kind (value_of gift.row f) own.fits fits (agrees-held gift.row corrected.point f (agrees f there)))
 

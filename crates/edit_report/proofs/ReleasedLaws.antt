@@ -5,13 +5,13 @@ use Rattle.std.proofs.Math.Seq.{drop-cons}
 use Rattle.edit_model.specs.declared.field.Field.{Field}
 use Rattle.edit_model.specs.declared.value.Value.{Value}
 use Rattle.edit_report.specs.Layouts.{field_in}
-use Rattle.edit_report.specs.Released.{column_text, text_at, texts_from}
+use Rattle.edit_report.specs.Released.{column_text, given_text, texts_from}
 
 -- ---- the texts of a row
 
 column-same : (fields : List Field) (changed other : ℕ → Bool) (new : List Value) (field : Option ℕ) (read : List ℕ) → ((f : ℕ) → changed f ≡ other f) → column_text fields changed new field read ≡ column_text fields other new field read
 column-same fields changed other new None read same = refl
-column-same fields changed other new (Some f) read same = ap (λ b. if b then text_at fields new f else read) (same f)
+column-same fields changed other new (Some f) read same = ap (λ b. if b then given_text fields new f else read) (same f)
 
 module _ (fields : List Field) (columns : List ℕ) (new : List Value) where
   -- where nothing is changed, the texts stay
@@ -22,7 +22,7 @@ module _ (fields : List Field) (columns : List ℕ) (new : List Value) where
     where
       by : (field : Option ℕ) → column_text fields changed new field text ≡ text
       by None = refl
-      by (Some f) = ap (λ b. if b then text_at fields new f else text) (none f)
+      by (Some f) = ap (λ b. if b then given_text fields new f else text) (none f)
 
   -- the text of one column more
   pub texts-more : (changed other : ℕ → Bool) (read done next whole : List (List ℕ)) (j : ℕ) → j < length read → ((f : ℕ) → changed f ≡ other f)

@@ -18,7 +18,7 @@ use Rattle.back_subst.specs.declared.gift.How.TheVariants.{Default, Donor, Neare
 use Rattle.record_text.specs.Sheets.{SheetParts}
 use Rattle.record_text.specs.Texts.{records_text}
 use Rattle.edit_report.specs.Ends.{changed_fields, path_found}
-use Rattle.edit_report.specs.Released.{text_at}
+use Rattle.edit_report.specs.Released.{given_text}
 use Rattle.edit_report.specs.declared.end.RowEnd.{RowEnd}
 
 -- ---- parts of a line
@@ -104,7 +104,7 @@ text_before columns texts f = slice_index_or texts (slice_index_or columns f 0) 
 -- the line of a changed field
 abbrev pub changed_line : List Field → List ℕ → ℕ → List (List ℕ) → Option ℕ → List Value → ℕ → How → List (List ℕ)
 changed_line fields columns number texts donor new f how =
-    line_texts (number_text number) (name_of fields f) (text_before columns texts f) (text_at fields new f) (donor_text donor)
+    line_texts (number_text number) (name_of fields f) (text_before columns texts f) (given_text fields new f) (donor_text donor)
     (how_text how)
 
 -- the lines of the changed fields, each with how its value was found

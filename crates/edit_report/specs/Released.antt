@@ -17,25 +17,25 @@ use Rattle.edit_report.specs.Layouts.{field_in}
 use Rattle.edit_report.specs.declared.end.RowEnd.{RowEnd}
 
 -- the text of a value: a number's canonical spelling, a code's own bytes
-abbrev pub text_of : Kind → Value → List ℕ
-text_of k (Number x) = spelling x
-text_of (kind.Code codes) (Code c) = slice_index_or codes c []
-text_of k v = []
+abbrev pub value_text : Kind → Value → List ℕ
+value_text k (Number x) = spelling x
+value_text (kind.Code codes) (Code c) = slice_index_or codes c []
+value_text k v = []
 
 -- the text of a value at a field, if there is one
 abbrev pub text_by : Option Field → Value → List ℕ
 text_by None v = []
-text_by (Some field) v = text_of field.kind v
+text_by (Some field) v = value_text field.kind v
 
 -- the text of a record's value at the field of this number
-abbrev pub text_at : List Field → List Value → ℕ → List ℕ
-text_at fields row f = text_by (slice_get fields f) (value_of row f)
+abbrev pub given_text : List Field → List Value → ℕ → List ℕ
+given_text fields row f = text_by (slice_get fields f) (value_of row f)
 
 -- the text of a column afterwards: that of the new value, where the field that stands there is changed, and else the one
 -- that was read
 abbrev pub column_text : List Field → (ℕ → Bool) → List Value → Option ℕ → List ℕ → List ℕ
 column_text fields changed new None read = read
-column_text fields changed new (Some f) read = if changed f then text_at fields new f else read
+column_text fields changed new (Some f) read = if changed f then given_text fields new f else read
 
 -- the texts of the columns from number j on
 abbrev pub texts_from : List Field → List ℕ → (ℕ → Bool) → List Value → ℕ → List (List ℕ) → List (List ℕ)

@@ -10,8 +10,8 @@ use Rattle.edit_report.specs.Ends.{path_found}
 use Rattle.edit_report.specs.declared.end.RowEnd.{RowEnd}
 
 -- a record that was given values and keeps all its own
-abbrev pub is_clean : RowEnd → Bool
-is_clean end = is_some end.gift && all_kept (path_found end.proof.outcome)
+abbrev pub is_unchanged : RowEnd → Bool
+is_unchanged end = is_some end.gift && all_kept (path_found end.proof.outcome)
 
 -- a record that was given other values
 abbrev pub is_changed : RowEnd → Bool
@@ -29,7 +29,7 @@ weight_of fields end = path_weight fields (path_found end.proof.outcome)
 abbrev pub summary_of : SurveyParts → List RowEnd → List ℕ
 summary_of survey ends =
     codes "records " ++ (decimal (length ends)
-    ++ (codes " clean " ++ (decimal (length (filter is_clean ends))
+    ++ (codes " clean " ++ (decimal (length (filter is_unchanged ends))
     ++ (codes " changed " ++ (decimal (length (filter is_changed ends))
     ++ (codes " unresolved " ++ (decimal (length (filter is_unresolved ends))
     ++ (codes " weight " ++ decimal (sum_by (weight_of survey.fields) (filter is_changed ends))))))))))

@@ -5,7 +5,7 @@ ghost use Rattle.edit_model.specs.Rows.{IsRow};
 ghost use Rattle.record_text.specs.Sheets.{IsSheet};
 ghost use Rattle.record_text.specs.Written.{HasWritten};
 ghost use Rattle.edit_report.specs.Ends.{AreEnds, IsEnd};
-ghost use Rattle.edit_report.specs.Released.{column_text, released_text_of, released_texts, row_of, row_with, text_at};
+ghost use Rattle.edit_report.specs.Released.{column_text, released_text_of, released_texts, row_of, row_with, given_text};
 ghost use Rattle.edit_report.specs.inner.Columns.{IsLayout, column_at, row_texts};
 ghost use Rattle.edit_report.specs.inner.Lines.{Adds};
 

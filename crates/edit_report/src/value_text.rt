@@ -1,7 +1,7 @@
 //! The text of a value.
 ghost use Rattle.std.specs.Prelude.{◌≡◌, ◌<◌, [], IfOk, length, slice_index_or};
 ghost use Rattle.edit_model.specs.Rows.{IsRow};
-ghost use Rattle.edit_report.specs.Released.{text_at, text_of};
+ghost use Rattle.edit_report.specs.Released.{given_text, value_text};
 
 use edit_model::{Kind, Name, Row, Survey, Value};
 use foundation::OutOfMemory;
@@ -16,7 +16,7 @@ pub(crate) fn text_at(
 ) -> Result<Vec<u8>, OutOfMemory>
     requires row { IsRow survey.now.fields row.now }
     requires field { field < length survey.now.fields }
-    ensures { IfOk result (λ text. text.items ≡ text_at survey.now.fields row.now field) }
+    ensures { IfOk result (λ text. text.items ≡ given_text survey.now.fields row.now field) }
 {
     let fields = survey.fields();
     value_text(alloc, &fields[field as usize].kind, row.value(field))
@@ -24,7 +24,7 @@ pub(crate) fn text_at(
 
 // The text of a value of a field.
 fn value_text(alloc: Global, kind: &Kind, value: &Value) -> Result<Vec<u8>, OutOfMemory>
-    ensures { IfOk result (λ text. text.items ≡ text_of kind.now value.now) }
+    ensures { IfOk result (λ text. text.items ≡ value_text kind.now value.now) }
 {
     match (kind, value) {
         (_, Value::Number(number)) => number.write_text(alloc),

@@ -9,7 +9,7 @@ use Rattle.std.proofs.lemmas.List.Kept.{AllPairs-cons}
 use Rattle.std.proofs.lemmas.List.Quantifiers.{all_pairs_push}
 use Rattle.std.proofs.lemmas.List.Sums.{AllPass-from_list_all}
 use Rattle.std.proofs.lemmas.Slice.Eq.{bytes_eq-Decides}
-use Rattle.edit_model.specs.Parts.{parts_of}
+use Rattle.edit_model.specs.Parts.{survey_of}
 use Rattle.edit_model.specs.Surveys.{IsField, IsRule, IsWellFormed, is_letter}
 use Rattle.edit_model.specs.declared.field.Field.{Field}
 use Rattle.edit_model.specs.declared.rule.Rule.{Rule}
@@ -86,10 +86,10 @@ form-more before after field items form forms = subst (λ (fs : List Field). All
 
 -- numerical fields with the first letters for names, and a field of codes, are well formed
 pub fields-well_formed : (n : ℕ) (before after : List Field) (last : Field) (rules : List Rule) → n ≤ 32 → after ≡ before ++ last ∷ [] → rules ≡ []
-    → map (λ (f : Field). f.name) before ≡ take n letter_names → All IsField before → last.name ≡ codes "G" → IsField last → IsWellFormed (parts_of after rules)
+    → map (λ (f : Field). f.name) before ≡ take n letter_names → All IsField before → last.name ≡ codes "G" → IsField last → IsWellFormed (survey_of after rules)
 fields-well_formed n before after last rules few items none names forms last_name form =
-    subst (λ (fs : List Field). IsWellFormed (parts_of fs rules)) (sym items) (
-    subst (λ (rs : List Rule). IsWellFormed (parts_of (before ++ last ∷ []) rs)) (sym none) (record {
+    subst (λ (fs : List Field). IsWellFormed (survey_of fs rules)) (sym items) (
+    subst (λ (rs : List Rule). IsWellFormed (survey_of (before ++ last ∷ []) rs)) (sym none) (record {
       few_fields = omega (arith, few, many, length-append before (last ∷ []));
       few_rules = omega arith;
       names = apart-fields (before ++ last ∷ []) (subst (λ (ns : List (List ℕ)). AllPairs (λ (a : List ℕ) (b : List ℕ). a ≢ b) ns) (sym all_names) (first-apart n few));

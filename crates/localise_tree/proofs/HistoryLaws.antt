@@ -14,7 +14,7 @@ use Rattle.edit_model.specs.Corrections.{path_order}
 use Rattle.bound_cert.specs.Paths.{changes, path_place}
 use Rattle.edit_paths.specs.Cases.{Case}
 use Rattle.edit_paths.specs.Histories.{History, with_boxes, with_lines}
-use Rattle.edit_paths.specs.PathHistories.{and_next, box_history, boxes_from, line_history, lines_from}
+use Rattle.edit_paths.specs.PathHistories.{and_next, box_history, boxes_reached, line_history, lines_reached}
 use Rattle.edit_paths.specs.Paths.{changed_numbers, field_count, number_count, treated_codes, treats}
 use Rattle.edit_paths.specs.States.{boxes_after, boxes_along, first_boxes}
 use Rattle.edit_paths.proofs.ChildLaws.{after-same, child-boxes, child-codes, child-numbers, child-numbers-same, first-same, treated-within}
@@ -30,7 +30,7 @@ line-shapes shape (x ∷ lines) over zero d below = (over zero d.line (omega ari
 line-shapes shape (x ∷ lines) over (suc k) d below = line-shapes shape lines (λ j e under. over (suc j) e (omega arith)) k d (omega arith)
 
 -- the lists of one field more
-lines-more : (before : History) (lines : List Derived) (fields : List ℕ) (f : ℕ) → lines_from before lines (fields ++ f ∷ []) ≡ with_system (lines_from before lines fields) (fold_result lines (fields ++ f ∷ []))
+lines-more : (before : History) (lines : List Derived) (fields : List ℕ) (f : ℕ) → lines_reached before lines (fields ++ f ∷ []) ≡ with_system (lines_reached before lines fields) (fold_result lines (fields ++ f ∷ []))
 lines-more before lines [] f = by (step_result lines f)
   where
     by : (r : Result (List Derived) StepOverflow)
@@ -40,9 +40,9 @@ lines-more before lines [] f = by (step_result lines f)
 lines-more before lines (g ∷ fields) f = by (step_result lines g) (λ next. lines-more (with_lines before lines) next fields f)
   where
     by : (r : Result (List Derived) StepOverflow)
-        → ((next : List Derived) → lines_from (with_lines before lines) next (fields ++ f ∷ []) ≡ with_system (lines_from (with_lines before lines) next fields) (fold_result next (fields ++ f ∷ [])))
-        → and_next (with_lines before lines) r (λ next. lines_from (with_lines before lines) next (fields ++ f ∷ []))
-        ≡ with_system (and_next (with_lines before lines) r (λ next. lines_from (with_lines before lines) next fields)) ((fault_as (overflow_at g) r >>= (λ next. fold_result next (fields ++ f ∷ []))))
+        → ((next : List Derived) → lines_reached (with_lines before lines) next (fields ++ f ∷ []) ≡ with_system (lines_reached (with_lines before lines) next fields) (fold_result next (fields ++ f ∷ [])))
+        → and_next (with_lines before lines) r (λ next. lines_reached (with_lines before lines) next (fields ++ f ∷ []))
+        ≡ with_system (and_next (with_lines before lines) r (λ next. lines_reached (with_lines before lines) next fields)) ((fault_as (overflow_at g) r >>= (λ next. fold_result next (fields ++ f ∷ []))))
     by (Ok next) more = more next
     by (Err overflow) more = refl
 
@@ -57,13 +57,13 @@ none-changed c = none-chosen (number_fields (shape_of c.survey.fields))
 -- its lists are those of the edits alone
 pub history-first : (c : Case) → with_system [] (system_of c.edits (changed_numbers c [])) ≡ line_history c []
 history-first c =
-    ap (λ (fs : List ℕ). with_system [] (system_of c.edits fs)) (none-changed c) ∙ sym (ap (λ (fs : List ℕ). lines_from [] (reduce_derived (base_lines c.edits)) fs) (none-changed c))
+    ap (λ (fs : List ℕ). with_system [] (system_of c.edits fs)) (none-changed c) ∙ sym (ap (λ (fs : List ℕ). lines_reached [] (reduce_derived (base_lines c.edits)) fs) (none-changed c))
 
 module _ (c : Case) (path : List Bool) (b : Bool) (short : length path < field_count c) where
   -- a letter that changes a numerical field
   pub history-changed : b ≡ true → length path < number_count c → line_history c (path ++ b ∷ []) ≡ with_system (line_history c path) (system_of c.edits (changed_numbers c (path ++ b ∷ [])))
   history-changed changed few =
-      ap (λ (fs : List ℕ). lines_from [] (reduce_derived (base_lines c.edits)) fs) numbers
+      ap (λ (fs : List ℕ). lines_reached [] (reduce_derived (base_lines c.edits)) fs) numbers
       ∙ lines-more [] (reduce_derived (base_lines c.edits)) (changed_numbers c path) (slice_index_or (number_fields (shape_of c.survey.fields)) (length path) 0)
       ∙ ap (λ (fs : List ℕ). with_system (line_history c path) (system_of c.edits fs)) (sym numbers)
     where
@@ -72,14 +72,14 @@ module _ (c : Case) (path : List Bool) (b : Bool) (short : length path < field_c
 
   -- another letter
   pub history-same : number_count c ≤ length path → line_history c (path ++ b ∷ []) ≡ line_history c path
-  history-same enough = ap (λ (fs : List ℕ). lines_from [] (reduce_derived (base_lines c.edits)) fs) (child-numbers-same c path b short enough)
+  history-same enough = ap (λ (fs : List ℕ). lines_reached [] (reduce_derived (base_lines c.edits)) fs) (child-numbers-same c path b short enough)
 
 -- ---- boxes
 
 module _ (c : Case) (path : List Bool) where
   -- the boxes of one field more
   boxes-more : (history : History) (boxes : List BoxFrom) (fields : List ℕ) (f : ℕ)
-      → boxes_from c path history boxes (fields ++ f ∷ []) ≡ with_boxes (boxes_from c path history boxes fields) f (boxes_after c path (fold (boxes_after c path) boxes fields) f)
+      → boxes_reached c path history boxes (fields ++ f ∷ []) ≡ with_boxes (boxes_reached c path history boxes fields) f (boxes_after c path (fold (boxes_after c path) boxes fields) f)
   boxes-more history boxes [] f = refl
   boxes-more history boxes (g ∷ fields) f = boxes-more (with_boxes history g (boxes_after c path boxes g)) (boxes_after c path boxes g) fields f
 
@@ -102,14 +102,14 @@ module _ (c : Case) (path : List Bool) where
     boxes-first = ap (λ (fs : List ℕ). fold (boxes_after c path) (first_boxes c path) fs) none
 
     pub box_history-first : box_history c path ≡ with_boxes (line_history c path) 0 (first_boxes c path)
-    box_history-first = ap (λ (fs : List ℕ). boxes_from c path (with_boxes (line_history c path) 0 (first_boxes c path)) (first_boxes c path) fs) none
+    box_history-first = ap (λ (fs : List ℕ). boxes_reached c path (with_boxes (line_history c path) 0 (first_boxes c path)) (first_boxes c path) fs) none
 
 module _ (c : Case) (path : List Bool) (b : Bool) (short : length path < field_count c) where
   from-same : (history : History) (boxes : List BoxFrom) (fields : List ℕ) → ((f : ℕ) → IsIn f fields → path_place c.survey.fields f ≢ length path)
-      → boxes_from c (path ++ b ∷ []) history boxes fields ≡ boxes_from c path history boxes fields
+      → boxes_reached c (path ++ b ∷ []) history boxes fields ≡ boxes_reached c path history boxes fields
   from-same history boxes [] each = refl
   from-same history boxes (f ∷ fields) each =
-      ap (λ (bs : List BoxFrom). boxes_from c (path ++ b ∷ []) (with_boxes history f bs) bs fields) (after-same c path b short boxes f (each f (inl refl)))
+      ap (λ (bs : List BoxFrom). boxes_reached c (path ++ b ∷ []) (with_boxes history f bs) bs fields) (after-same c path b short boxes f (each f (inl refl)))
       ∙ from-same (with_boxes history f (boxes_after c path boxes f)) (boxes_after c path boxes f) fields (λ g there. each g (inr there))
 
   fold-same : (boxes : List BoxFrom) (fields : List ℕ) → ((f : ℕ) → IsIn f fields → path_place c.survey.fields f ≢ length path) → fold (boxes_after c (path ++ b ∷ [])) boxes fields ≡ fold (boxes_after c path) boxes fields
@@ -121,7 +121,7 @@ module _ (c : Case) (path : List Bool) (b : Bool) (short : length path < field_c
   -- a letter for a categorical field
   pub box_history-next : number_count c ≤ length path → box_history c (path ++ b ∷ []) ≡ with_boxes (box_history c path) (slice_index_or (path_order c.survey.fields) (length path) 0) (boxes_along c (path ++ b ∷ []))
   box_history-next enough =
-      let start = λ (history : History) (boxes : List BoxFrom) (fields : List ℕ). boxes_from c (path ++ b ∷ []) (with_boxes history 0 boxes) boxes fields in
+      let start = λ (history : History) (boxes : List BoxFrom) (fields : List ℕ). boxes_reached c (path ++ b ∷ []) (with_boxes history 0 boxes) boxes fields in
       ap (λ (h : History). start h (first_boxes c (path ++ b ∷ [])) (treated_codes c (path ++ b ∷ []))) (history-same c path b short enough)
       ∙ ap (λ (bs : List BoxFrom). start (line_history c path) bs (treated_codes c (path ++ b ∷ []))) (first-same c path b short enough)
       ∙ ap (λ (fs : List ℕ). start (line_history c path) (first_boxes c path) fs) (child-codes c path b short enough)

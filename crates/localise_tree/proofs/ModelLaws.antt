@@ -10,7 +10,7 @@ use Rattle.edit_paths.proofs.BudgetLaws.{always-change, enough-budget}
 use Rattle.edit_paths.proofs.CertificateTrees.{change-tree, contradiction-tree}
 use Rattle.edit_paths.proofs.ChoiceLaws.{change-choice, contradictory}
 use Rattle.edit_paths.proofs.LeastLaws.{choice-first, choice-least}
-use Rattle.localise_tree.specs.Answers.{Certifies, ChoosesFirst, ChoosesLeast, Finds, IsEnough, NoneMeets, Refutes}
+use Rattle.localise_tree.specs.Answers.{Certifies, ChoosesFirst, ChoosesLeast, FindsChange, IsBudgetEnough, NoneMeets, ShowsContradiction}
 
 -- What an exact outcome says in the words of the model.
 
@@ -36,15 +36,15 @@ module _ (survey : SurveyParts) (edits : EditsParts) (row : List Value) (budget 
   told-contradictory (Ok o) exact = λ cert e p meets. contradictory c is budget cert (sym exact ∙ e) p meets
   told-contradictory (Err x) exact = tt
 
-  pub told-refuted : {E : Type 0} (r : Result Outcome E) → IfOk r (λ o. o ≡ outcome_of (case_of survey edits row) budget) → IfOk r (Refutes (case_of survey edits row))
+  pub told-refuted : {E : Type 0} (r : Result Outcome E) → IfOk r (λ o. o ≡ outcome_of (case_of survey edits row) budget) → IfOk r (ShowsContradiction (case_of survey edits row))
   told-refuted (Ok o) exact = λ cert e given usable are. contradiction-tree c is given usable are budget cert (sym exact ∙ e)
   told-refuted (Err x) exact = tt
 
-  pub told-enough : {E : Type 0} (r : Result Outcome E) → IfOk r (λ o. o ≡ outcome_of (case_of survey edits row) budget) → IfOk r (IsEnough (case_of survey edits row) budget)
+  pub told-enough : {E : Type 0} (r : Result Outcome E) → IfOk r (λ o. o ≡ outcome_of (case_of survey edits row) budget) → IfOk r (IsBudgetEnough (case_of survey edits row) budget)
   told-enough (Ok o) exact = λ fits path work e. enough-budget c budget fits path work (sym exact ∙ e)
   told-enough (Err x) exact = tt
 
-  pub told-found : {E : Type 0} (r : Result Outcome E) → IfOk r (λ o. o ≡ outcome_of (case_of survey edits row) budget) → IfOk r (Finds (case_of survey edits row) budget)
+  pub told-found : {E : Type 0} (r : Result Outcome E) → IfOk r (λ o. o ≡ outcome_of (case_of survey edits row) budget) → IfOk r (FindsChange (case_of survey edits row) budget)
   told-found (Ok o) exact = λ p meets fits none.
       let (path, weight, cert, e) = always-change c is budget p meets fits (λ path event e. none path event (exact ∙ e)) in (path, weight, cert, exact ∙ e)
   told-found (Err x) exact = tt

@@ -41,18 +41,18 @@ abbrev pub NoneMeets : Case → Outcome → Type 0
 NoneMeets c o = (cert : Cert) → o ≡ outcome.Contradictory cert → (p : Point) → ¬ Meets c p
 
 -- the certificate of a contradiction is a valid tree without a weight, whatever the given lines are
-abbrev pub Refutes : Case → Outcome → Type 0
-Refutes c o = (cert : Cert) → o ≡ outcome.Contradictory cert
+abbrev pub ShowsContradiction : Case → Outcome → Type 0
+ShowsContradiction c o = (cert : Cert) → o ≡ outcome.Contradictory cert
     → (given : List LineParts) (usable : List Bool) → AreGiven given usable c.edits
     → IsValidTree (tree_case c.survey given usable c.row None) cert.leaves
 
 -- a budget of at least the total work is not passed
-abbrev pub IsEnough : Case → ℕ → Outcome → Type 0
-IsEnough c budget o = total_work c ≤ budget → (path : List Bool) (work : ℕ) → ¬ (o ≡ outcome.Budget path work)
+abbrev pub IsBudgetEnough : Case → ℕ → Outcome → Type 0
+IsBudgetEnough c budget o = total_work c ≤ budget → (path : List Bool) (work : ℕ) → ¬ (o ≡ outcome.Budget path work)
 
 -- with such a budget, where the edits hold somewhere and no number leaves the range, the outcome is a change
-abbrev pub Finds : Case → ℕ → Outcome → Type 0
-Finds c budget o = (p : Point) → Meets c p → total_work c ≤ budget
+abbrev pub FindsChange : Case → ℕ → Outcome → Type 0
+FindsChange c budget o = (p : Point) → Meets c p → total_work c ≤ budget
     → ((path : List Bool) (event : Event) → ¬ (o ≡ outcome.Overflow path event))
     → (path : List Bool) × (weight : ℕ) × (cert : Cert) × (o ≡ outcome.Change path weight cert)
 

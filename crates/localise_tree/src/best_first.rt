@@ -7,7 +7,7 @@ ghost use Rattle.edit_model.specs.Rows.{IsRow};
 ghost use Rattle.edit_paths.specs.Cases.{case_of};
 ghost use Rattle.edit_paths.specs.Certificates.{certificate_of};
 ghost use Rattle.edit_paths.specs.Outcomes.{end_by, outcome_of};
-ghost use Rattle.localise_tree.specs.Answers.{Certifies, ChoosesFirst, ChoosesLeast, Finds, IsEnough, KeepsChange, NoneMeets, Refutes};
+ghost use Rattle.localise_tree.specs.Answers.{Certifies, ChoosesFirst, ChoosesLeast, FindsChange, IsBudgetEnough, KeepsChange, NoneMeets, ShowsContradiction};
 ghost use Rattle.localise_tree.specs.inner.Nodes.{IsNode};
 ghost use Rattle.localise_tree.specs.inner.Problems.{IsProblem, case_in, edits_in};
 ghost use Rattle.localise_tree.specs.inner.Takens.{IsTaken, taken_for, taken_paths};
@@ -53,9 +53,9 @@ pub fn localise<S: Systems, L: Ledger>(
     ensures least { IfOk result (ChoosesLeast survey.now (arc_value edits.now) row.now) }
     ensures certified { IfOk result (Certifies (case_of survey.now (arc_value edits.now) row.now)) }
     ensures contradictory { IfOk result (NoneMeets (case_of survey.now (arc_value edits.now) row.now)) }
-    ensures refuted { IfOk result (Refutes (case_of survey.now (arc_value edits.now) row.now)) }
-    ensures enough { IfOk result (IsEnough (case_of survey.now (arc_value edits.now) row.now) budget) }
-    ensures found { IfOk result (Finds (case_of survey.now (arc_value edits.now) row.now) budget) }
+    ensures refuted { IfOk result (ShowsContradiction (case_of survey.now (arc_value edits.now) row.now)) }
+    ensures enough { IfOk result (IsBudgetEnough (case_of survey.now (arc_value edits.now) row.now) budget) }
+    ensures found { IfOk result (FindsChange (case_of survey.now (arc_value edits.now) row.now) budget) }
     ensures kept { IfOk result (KeepsChange (S.keeps source.new) (case_of survey.now (arc_value edits.now) row.now)) }
     ensures serves { (e : EditsParts) → S.serves source.old e → S.serves source.new e }
     ensures keeps { (f : ℕ) → S.keeps source.old f ≡ true → S.keeps source.new f ≡ true }

@@ -2,7 +2,7 @@ use Rattle.std.proofs.Common.{◌≡◌, ◌≢◌, ℕ, zero, suc, ◌+◌, ◌
 use Rattle.std.specs.List.{AllByRecursion}
 use Rattle.std.proofs.lemmas.List.{length-append, length-map}
 use Rattle.edit_line.proofs.BoolLaws.{both_true}
-use Rattle.proof_grammar.specs.FirstFaults.{GoesOn, IsFirstFault, IsInGrammar, feed_count}
+use Rattle.proof_grammar.specs.FirstFaults.{GoesOn, IsFirstFaultyLine, IsInGrammar, feed_count}
 use Rattle.proof_grammar.specs.Limits.{IsPlain}
 use Rattle.proof_grammar.specs.ProofLines.{Line, line_text, lines_text, proof_lines, words_text}
 use Rattle.proof_grammar.specs.Cuts.{lines_in, lines_of_parts, push, split}
@@ -139,7 +139,7 @@ nonempty [] all = tt
 nonempty (l ∷ ls) all = (all.0.0, nonempty ls all.1)
 
 -- where reading stops is the first line that can't go on
-pub text-stops : (bytes : List ℕ) (left : List Line) → proof_of_bytes bytes ≡ Err left → (line : ℕ) × (line + length left ≡ suc (length (lines_in bytes))) × IsFirstFault bytes line
+pub text-stops : (bytes : List ℕ) (left : List Line) → proof_of_bytes bytes ≡ Err left → (line : ℕ) × (line + length left ≡ suc (length (lines_in bytes))) × IsFirstFaultyLine bytes line
 text-stops bytes left e = (suc (length stop.front), number, record { refused = refused; numbered = omega arith; before = before; here = here })
   where
     stop : IsFirstStop IsPlain proof_lines plain_proof (lines_in bytes) left
@@ -183,7 +183,7 @@ text-stops bytes left e = (suc (length stop.front), number, record { refused = r
         stop.here l (lines_in rest) left_is (q, plain, lines_in rest_q, q_lines)
 
 -- there is one such line
-pub one-line : (bytes : List ℕ) (line other : ℕ) → IsFirstFault bytes line → IsFirstFault bytes other → line ≡ other
+pub one-line : (bytes : List ℕ) (line other : ℕ) → IsFirstFaultyLine bytes line → IsFirstFaultyLine bytes other → line ≡ other
 one-line bytes line other first second = by_order line other (λ less. second.before line first.numbered less) (λ less. first.before other second.numbered less)
   where
     by_order : (m n : ℕ) → (m < n → GoesOn bytes line) → (n < m → GoesOn bytes other) → m ≡ n

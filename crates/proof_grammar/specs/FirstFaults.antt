@@ -13,8 +13,8 @@ abbrev pub IsOnlyOf : List ℕ → Proof → Type 0
 IsOnlyOf bytes p = (other : Proof) → IsPlain other → bytes ≡ proof_text other → other ≡ p
 
 -- the text of some proof begins with these bytes
-abbrev pub Begins : List ℕ → Type 0
-Begins bytes = (p : Proof) × IsPlain p × (rest : List ℕ) × (proof_text p ≡ bytes ++ rest)
+abbrev pub BeginsProof : List ℕ → Type 0
+BeginsProof bytes = (p : Proof) × IsPlain p × (rest : List ℕ) × (proof_text p ≡ bytes ++ rest)
 
 -- how many line feeds there are
 abbrev pub feed_count : List ℕ → ℕ
@@ -24,10 +24,10 @@ feed_count (b ∷ bytes) = if b == 10 then suc (feed_count bytes) else feed_coun
 -- a line feed ends the line of this number, from 1, and some proof begins with the bytes up to it
 abbrev pub GoesOn : List ℕ → ℕ → Type 0
 GoesOn bytes line =
-    (front : List ℕ) × (rest : List ℕ) × (bytes ≡ front ++ 10 ∷ rest) × (suc (feed_count front) ≡ line) × Begins (front ++ 10 ∷ [])
+    (front : List ℕ) × (rest : List ℕ) × (bytes ≡ front ++ 10 ∷ rest) × (suc (feed_count front) ≡ line) × BeginsProof (front ++ 10 ∷ [])
 
 -- the bytes are no proof, and this is the first line, from 1, that can't go on
-pub record IsFirstFault (bytes : List ℕ) (line : ℕ) : Type 0 where
+pub record IsFirstFaultyLine (bytes : List ℕ) (line : ℕ) : Type 0 where
   pub refused : ¬ IsInGrammar bytes
   pub numbered : 0 < line
   pub before : (k : ℕ) → 0 < k → k < line → GoesOn bytes k

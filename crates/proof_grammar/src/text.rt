@@ -1,5 +1,5 @@
 ghost use Rattle.std.specs.Prelude.{◌≡◌, ◌⊎◌, ℕ, List};
-ghost use Rattle.proof_grammar.specs.FirstFaults.{IsFirstFault, IsInGrammar};
+ghost use Rattle.proof_grammar.specs.FirstFaults.{IsFirstFaultyLine, IsInGrammar};
 ghost use Rattle.proof_grammar.specs.Limits.{IsPlain};
 ghost use Rattle.proof_grammar.specs.ProofLines.{proof_text};
 ghost use Rattle.proof_grammar.specs.declared.proof.Proof.{Proof};
@@ -7,6 +7,6 @@ ghost use Rattle.proof_grammar.specs.declared.proof.Proof.{Proof};
 /// Bytes are the text of one plain proof, or have one first line that can't go on.
 pub fn one_reading()
     ensures one_proof { (p : Proof) (q : Proof) → IsPlain p → IsPlain q → proof_text p ≡ proof_text q → p ≡ q }
-    ensures decided { (bytes : List ℕ) → IsInGrammar bytes ⊎ ((line : ℕ) × IsFirstFault bytes line) }
-    ensures one_line { (bytes : List ℕ) (line other : ℕ) → IsFirstFault bytes line → IsFirstFault bytes other → line ≡ other }
+    ensures decided { (bytes : List ℕ) → IsInGrammar bytes ⊎ ((line : ℕ) × IsFirstFaultyLine bytes line) }
+    ensures one_line { (bytes : List ℕ) (line other : ℕ) → IsFirstFaultyLine bytes line → IsFirstFaultyLine bytes other → line ≡ other }
 {}

@@ -8,7 +8,7 @@ use Rattle.std.proofs.lemmas.List.{length-drop, take_all}
 use Rattle.std.proofs.lemmas.List.Quantifiers.{position-Some}
 use Rattle.std.proofs.lemmas.Str.Parse.{digit_at}
 use Rattle.std.specs.Str.Parse.{AllDigits, digits_value}
-use Rattle.record_text.specs.Numerals.{AreDigits, IsDecimal, IsQuotient, IsUnsigned}
+use Rattle.record_text.specs.Numerals.{AreDigits, SpellsDecimal, SpellsQuotient, IsUnsigned}
 use Rattle.record_text.specs.inner.Marks.{is_mark}
 
 -- ---- sizes
@@ -98,7 +98,7 @@ not_all_digits text place at digits =
 -- ---- which form a numeral has
 
 -- without a mark it is digits alone
-pub digits_alone : (text : List ℕ) (p q : ℕ) → position is_mark text ≡ None → IsUnsigned text p q → IsDecimal text [] p q
+pub digits_alone : (text : List ℕ) (p q : ℕ) → position is_mark text ≡ None → IsUnsigned text p q → SpellsDecimal text [] p q
 digits_alone text p q none (inl d) = d
 digits_alone text p q none (inr (inl (whole, decimals, split, d))) =
     let there : position is_mark text ≡ Some (length whole) = rw split (mark_position whole decimals 46 d.whole_digits.0 refl) in
@@ -108,7 +108,7 @@ digits_alone text p q none (inr (inr (above, below, split, d))) =
     absurd (cc (none, there))
 
 -- with a point first it is a decimal, and with a stroke first a quotient
-pub with_point : (text : List ℕ) (p q place : ℕ) → position is_mark text ≡ Some place → get_or text place 0 ≡ 46 → IsUnsigned text p q → IsDecimal (take place text) (drop (suc place) text) p q
+pub with_point : (text : List ℕ) (p q place : ℕ) → position is_mark text ≡ Some place → get_or text place 0 ≡ 46 → IsUnsigned text p q → SpellsDecimal (take place text) (drop (suc place) text) p q
 with_point text p q place at point (inl d) = absurd (not_all_digits text place at d.whole_digits.0)
 with_point text p q place at point (inr (inl (whole, decimals, split, d))) =
     let cut = cut_by_mark text whole decimals 46 place split d.whole_digits.0 refl at in
@@ -118,7 +118,7 @@ with_point text p q place at point (inr (inr (above, below, split, d))) =
     let other = cut.mark_is in
     absurd (omega arith)
 
-pub with_stroke : (text : List ℕ) (p q place : ℕ) → position is_mark text ≡ Some place → get_or text place 0 ≢ 46 → IsUnsigned text p q → IsQuotient (take place text) (drop (suc place) text) p q
+pub with_stroke : (text : List ℕ) (p q place : ℕ) → position is_mark text ≡ Some place → get_or text place 0 ≢ 46 → IsUnsigned text p q → SpellsQuotient (take place text) (drop (suc place) text) p q
 with_stroke text p q place at stroke (inl d) = absurd (not_all_digits text place at d.whole_digits.0)
 with_stroke text p q place at stroke (inr (inl (whole, decimals, split, d))) =
     let cut = cut_by_mark text whole decimals 46 place split d.whole_digits.0 refl at in
@@ -133,7 +133,7 @@ rejoined (b ∷ text) zero lt = refl
 rejoined (b ∷ text) (suc place) lt = ap (λ (bs : List ℕ). b ∷ bs) (rejoined text place (omega arith))
 
 -- a quotient around the first mark, which is no point, is a numeral
-pub quotient_around : (text : List ℕ) (p q place : ℕ) → position is_mark text ≡ Some place → get_or text place 0 ≢ 46 → IsQuotient (take place text) (drop (suc place) text) p q → IsUnsigned text p q
+pub quotient_around : (text : List ℕ) (p q place : ℕ) → position is_mark text ≡ Some place → get_or text place 0 ≢ 46 → SpellsQuotient (take place text) (drop (suc place) text) p q → IsUnsigned text p q
 quotient_around text p q place at other d =
     let found = position-Some is_mark text place 0 at in
     let mark = found.1 in

@@ -11,7 +11,7 @@ use Rattle.fraction128.proofs.CommonDenominator.{IsOver-unique}
 use Rattle.fraction128.proofs.LowestLaws.{Fraction-same}
 use Rattle.fraction128.specs.declared.fraction.Fraction.{Fraction}
 use Rattle.record_text.specs.inner.Marks.{signed}
-use Rattle.record_text.specs.Numerals.{IsDecimal, IsNumeral, IsQuotient, IsUnsigned, has_minus, without_sign}
+use Rattle.record_text.specs.Numerals.{SpellsDecimal, IsNumeral, SpellsQuotient, IsUnsigned, has_minus, without_sign}
 use Rattle.record_text.specs.inner.Marks.{is_mark}
 use Rattle.record_text.specs.Trimming.{trimmed}
 use Rattle.record_text.specs.Values.{AreRows, AreValues, IsValueText}
@@ -19,13 +19,13 @@ use Rattle.record_text.proofs.NumeralLaws.{digits_alone, unsigned_below, with_po
 
 -- ---- a numeral
 
-decimal_once : (whole decimals : List ℕ) (p q r s : ℕ) → IsDecimal whole decimals p q → IsDecimal whole decimals r s → (p ≡ r) × (q ≡ s)
+decimal_once : (whole decimals : List ℕ) (p q r s : ℕ) → SpellsDecimal whole decimals p q → SpellsDecimal whole decimals r s → (p ≡ r) × (q ≡ s)
 decimal_once whole decimals p q r s first second =
     let below : q ≡ s = first.power ∙ sym second.power in
     let above : p ≡ r = cc (first.value, second.value, below) in
     (above, below)
 
-quotient_once : (above below : List ℕ) (p q r s : ℕ) → IsQuotient above below p q → IsQuotient above below r s → (p ≡ r) × (q ≡ s)
+quotient_once : (above below : List ℕ) (p q r s : ℕ) → SpellsQuotient above below p q → SpellsQuotient above below r s → (p ≡ r) × (q ≡ s)
 quotient_once above below p q r s first second = (first.value.0 ∙ sym second.value.0, first.value.1 ∙ sym second.value.1)
 
 by_mark : (text : List ℕ) (p q r s place : ℕ) (b : Bool) → (get_or text place 0 == 46) ≡ b → position is_mark text ≡ Some place → IsUnsigned text p q → IsUnsigned text r s → (p ≡ r) × (q ≡ s)

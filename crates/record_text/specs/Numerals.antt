@@ -7,7 +7,7 @@ abbrev pub AreDigits : ℕ → List ℕ → Type 0
 AreDigits most text = AllDigits 10 text × (length text ≤ most)
 
 -- at most 15 digits before the point and at most 6 behind it, at least one in all: they spell the numerator over a power of ten
-pub record IsDecimal (whole decimals : List ℕ) (numerator denominator : ℕ) : Type 0 where
+pub record SpellsDecimal (whole decimals : List ℕ) (numerator denominator : ℕ) : Type 0 where
   pub whole_digits : AreDigits 15 whole
   pub decimal_digits : AreDigits 6 decimals
   pub some_digit : 1 ≤ length whole + length decimals
@@ -15,7 +15,7 @@ pub record IsDecimal (whole decimals : List ℕ) (numerator denominator : ℕ) :
   pub value : numerator ≡ digits_value 10 whole * denominator + digits_value 10 decimals
 
 -- 1 to 21 digits above the stroke, and at most 7 below it, which spell 1 to 1,000,000
-pub record IsQuotient (above below : List ℕ) (numerator denominator : ℕ) : Type 0 where
+pub record SpellsQuotient (above below : List ℕ) (numerator denominator : ℕ) : Type 0 where
   pub digits_above : AreDigits 21 above
   pub some_digit : 1 ≤ length above
   pub digits_below : AreDigits 7 below
@@ -25,9 +25,9 @@ pub record IsQuotient (above below : List ℕ) (numerator denominator : ℕ) : T
 -- a numeral without its sign: digits, digits with a point among them, or a quotient
 abbrev pub IsUnsigned : List ℕ → ℕ → ℕ → Type 0
 IsUnsigned text numerator denominator =
-    IsDecimal text [] numerator denominator
-    ⊎ ((whole : List ℕ) × (decimals : List ℕ) × (text ≡ whole ++ 46 ∷ decimals) × IsDecimal whole decimals numerator denominator)
-    ⊎ ((above : List ℕ) × (below : List ℕ) × (text ≡ above ++ 47 ∷ below) × IsQuotient above below numerator denominator)
+    SpellsDecimal text [] numerator denominator
+    ⊎ ((whole : List ℕ) × (decimals : List ℕ) × (text ≡ whole ++ 46 ∷ decimals) × SpellsDecimal whole decimals numerator denominator)
+    ⊎ ((above : List ℕ) × (below : List ℕ) × (text ≡ above ++ 47 ∷ below) × SpellsQuotient above below numerator denominator)
 
 -- what follows the sign, `+` or `-`, where there is one
 abbrev pub without_sign : List ℕ → List ℕ

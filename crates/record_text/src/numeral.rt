@@ -1,7 +1,7 @@
 ghost use Rattle.std.specs.Prelude.{◌≡◌, ◌<◌, ◌≤◌, ◌^◌, ◌*ℤ◌, IfSome, IfNone, ℕ, pos, position};
 ghost use Rattle.std.specs.Str.Parse.{digits_value};
 ghost use Rattle.fraction128.specs.declared.fraction.Fraction.{Fraction as Spelled};
-ghost use Rattle.record_text.specs.Numerals.{AreDigits, IsDecimal, IsNumeral, IsQuotient, IsUnsigned, has_minus, without_sign};
+ghost use Rattle.record_text.specs.Numerals.{AreDigits, SpellsDecimal, IsNumeral, SpellsQuotient, IsUnsigned, has_minus, without_sign};
 ghost use Rattle.record_text.specs.inner.Marks.{is_mark, signed};
 
 use fraction128::Fraction;
@@ -100,8 +100,8 @@ fn mark_place(text: &[u8]) -> Option<usize>
 }
 
 fn decimal_ratio(whole: &[u8], decimals: &[u8]) -> Option<Ratio>
-    ensures some { IfSome result (λ ratio. IsDecimal whole.now decimals.now ratio.numerator ratio.denominator) }
-    ensures none { IfNone result ((numerator denominator : ℕ) → ¬ IsDecimal whole.now decimals.now numerator denominator) }
+    ensures some { IfSome result (λ ratio. SpellsDecimal whole.now decimals.now ratio.numerator ratio.denominator) }
+    ensures none { IfNone result ((numerator denominator : ℕ) → ¬ SpellsDecimal whole.now decimals.now numerator denominator) }
 {
     if whole.is_empty() && decimals.is_empty() {
         return None;
@@ -116,8 +116,8 @@ fn decimal_ratio(whole: &[u8], decimals: &[u8]) -> Option<Ratio>
 }
 
 fn quotient_ratio(above: &[u8], below: &[u8]) -> Option<Ratio>
-    ensures some { IfSome result (λ ratio. IsQuotient above.now below.now ratio.numerator ratio.denominator) }
-    ensures none { IfNone result ((numerator denominator : ℕ) → ¬ IsQuotient above.now below.now numerator denominator) }
+    ensures some { IfSome result (λ ratio. SpellsQuotient above.now below.now ratio.numerator ratio.denominator) }
+    ensures none { IfNone result ((numerator denominator : ℕ) → ¬ SpellsQuotient above.now below.now numerator denominator) }
 {
     if above.is_empty() {
         return None;

@@ -5,7 +5,7 @@ ghost use Rattle.edit_model.specs.Rows.{IsRow};
 ghost use Rattle.edit_paths.specs.Cases.{IsCase};
 ghost use Rattle.edit_paths.specs.Outcomes.{outcome_of};
 ghost use Rattle.edit_report.specs.Ends.{path_found};
-ghost use Rattle.back_subst.specs.Gifts.{IsDonor};
+ghost use Rattle.back_subst.specs.Gifts.{IsDonorRecord};
 ghost use Rattle.bound_cert.specs.declared.outcome.Outcome.TheVariants as outcome;
 ghost use Rattle.donor_book.specs.Claims.{claim_of};
 ghost use Rattle.donor_book.specs.Entries.{wins_of};

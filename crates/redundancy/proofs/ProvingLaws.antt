@@ -2,7 +2,7 @@ use Rattle.std.proofs.Common.{◌≡◌, ℕ, suc, ◌+◌, Bool, true, false, L
 use Rattle.std.specs.List.{fold, list_any, position, position_or_len}
 use Rattle.std.specs.Option.{unwrap_or}
 use Rattle.derivation.specs.declared.step.Step.{Step}
-use Rattle.edit_paths.specs.Histories.{Element, History, is_element, maker, making_at, number_in, parts_of, proof_by, renumbered, with_proof, with_step}
+use Rattle.edit_paths.specs.Histories.{Element, History, is_element, maker, making_at, number_in, step_parts, proof_by, renumbered, with_proof, with_step}
 use Rattle.edit_paths.specs.declared.making.Making.{Making}
 use Rattle.edit_paths.specs.declared.making.Making.TheVariants.{By}
 use Rattle.edit_paths.specs.declared.making.Written.{Written}
@@ -30,16 +30,16 @@ module _ (list : List Making) (before : History) (place : ℕ) (done : List Writ
   proof-there there =
       sym (
       ap (λ (m : Making). proof_by (length before, place) (λ i. maker before i) (λ i done. with_proof before i done) m done) made
-      ∙ ap (λ b. if b then done else with_step (length before, place) (λ i. maker before i) step (fold (λ done i. with_proof before i done) done (parts_of step))) there
+      ∙ ap (λ b. if b then done else with_step (length before, place) (λ i. maker before i) step (fold (λ done i. with_proof before i done) done (step_parts step))) there
       )
 
   -- its step comes behind those of its parts
-  pub proof-here : (parted : List Written) (written : Step) → list_any (λ (w : Written). is_element w.element (length before, place)) done ≡ false → parted ≡ fold (λ done i. with_proof before i done) done (parts_of step)
+  pub proof-here : (parted : List Written) (written : Step) → list_any (λ (w : Written). is_element w.element (length before, place)) done ≡ false → parted ≡ fold (λ done i. with_proof before i done) done (step_parts step)
       → written ≡ renumbered (λ i. number_in parted (maker before i)) step → parted ++ record { element = (length before, place); step = written } ∷ [] ≡ with_proof (list ∷ before) place done
   proof-here parted written new parts number =
       sym (
       ap (λ (m : Making). proof_by (length before, place) (λ i. maker before i) (λ i done. with_proof before i done) m done) made
-      ∙ ap (λ b. if b then done else with_step (length before, place) (λ i. maker before i) step (fold (λ done i. with_proof before i done) done (parts_of step))) new
+      ∙ ap (λ b. if b then done else with_step (length before, place) (λ i. maker before i) step (fold (λ done i. with_proof before i done) done (step_parts step))) new
       ∙ ap (λ (ws : List Written). with_step (length before, place) (λ i. maker before i) step ws) (sym parts)
       ∙ ap (λ (s : Step). parted ++ record { element = (length before, place); step = s } ∷ []) (sym number)
       )

@@ -24,7 +24,7 @@ use Rattle.categ_combine.specs.declared.box_from.BoxFrom.{BoxFrom}
 use Rattle.bound_cert.specs.Paths.{changes, path_place}
 use Rattle.edit_paths.specs.Cases.{Case, IsCase}
 use Rattle.edit_paths.specs.Histories.{History, steps_to, with_boxes, with_lines}
-use Rattle.edit_paths.specs.PathHistories.{and_next, box_history, boxes_from, line_history, lines_from}
+use Rattle.edit_paths.specs.PathHistories.{and_next, box_history, boxes_reached, line_history, lines_reached}
 use Rattle.edit_paths.specs.Paths.{changed_numbers, number_count, treated_codes}
 use Rattle.edit_paths.specs.States.{boxes_after, boxes_along, first_boxes, first_failing, first_whole, lines_along, or_empty, state_of, state_with_boxes, state_with_system}
 use Rattle.edit_paths.specs.Works.{pairs_next, work_of}
@@ -45,15 +45,15 @@ use Rattle.redundancy.proofs.WalkPaths.{codes-done, failing-closing, keeps-no_ba
 -- ---- lists of lines
 
 -- the history of a fold with one step more
-lines-more : (before : History) (lines : List Derived) (fs : List ℕ) (f : ℕ) (last next : List Derived) → fold_result lines fs ≡ Ok last → step_result last f ≡ Ok next → lines_from before lines (fs ++ f ∷ []) ≡ with_lines (lines_from before lines fs) next
+lines-more : (before : History) (lines : List Derived) (fs : List ℕ) (f : ℕ) (last next : List Derived) → fold_result lines fs ≡ Ok last → step_result last f ≡ Ok next → lines_reached before lines (fs ++ f ∷ []) ≡ with_lines (lines_reached before lines fs) next
 lines-more before lines [] f last next e made =
     let same : lines ≡ last = cc in
-    ap (λ r. and_next (with_lines before lines) r (λ more. lines_from (with_lines before lines) more [])) (ap (λ (ls : List Derived). step_result ls f) same ∙ made)
+    ap (λ r. and_next (with_lines before lines) r (λ more. lines_reached (with_lines before lines) more [])) (ap (λ (ls : List Derived). step_result ls f) same ∙ made)
 lines-more before lines (g ∷ fs) f last next e made = by (step_result lines g) e (λ more h. lines-more (with_lines before lines) more fs f last next h made)
   where
     by : (r : Result (List Derived) StepOverflow) → (fault_as (overflow_at g) r >>= (λ next. fold_result next fs)) ≡ Ok last
-        → ((more : List Derived) → fold_result more fs ≡ Ok last → lines_from (with_lines before lines) more (fs ++ f ∷ []) ≡ with_lines (lines_from (with_lines before lines) more fs) next)
-        → and_next (with_lines before lines) r (λ more. lines_from (with_lines before lines) more (fs ++ f ∷ [])) ≡ with_lines (and_next (with_lines before lines) r (λ more. lines_from (with_lines before lines) more fs)) next
+        → ((more : List Derived) → fold_result more fs ≡ Ok last → lines_reached (with_lines before lines) more (fs ++ f ∷ []) ≡ with_lines (lines_reached (with_lines before lines) more fs) next)
+        → and_next (with_lines before lines) r (λ more. lines_reached (with_lines before lines) more (fs ++ f ∷ [])) ≡ with_lines (and_next (with_lines before lines) r (λ more. lines_reached (with_lines before lines) more fs)) next
     by (Ok more) h rest = rest more h
     by (Err fault) h rest = absurd (cc)
 
@@ -92,10 +92,10 @@ module _ (c : Case) (path : List Bool) where
   fold-covers boxes (f ∷ fields) each =
       ap (λ (bs : List BoxFrom). fold (boxes_after c path) bs fields) (after-cover boxes f (each f (inl refl))) ∙ fold-covers (covered_from (shape_of c.survey.fields) boxes f) fields (λ g at. each g (inr at))
 
-  history-covers : (history : History) (boxes : List BoxFrom) (fields : List ℕ) → ((f : ℕ) → IsIn f fields → changes c.survey.fields path f ≡ true) → boxes_from c path history boxes fields ≡ cover_history (shape_of c.survey.fields) history boxes fields
+  history-covers : (history : History) (boxes : List BoxFrom) (fields : List ℕ) → ((f : ℕ) → IsIn f fields → changes c.survey.fields path f ≡ true) → boxes_reached c path history boxes fields ≡ cover_history (shape_of c.survey.fields) history boxes fields
   history-covers history boxes [] each = refl
   history-covers history boxes (f ∷ fields) each =
-      ap (λ (bs : List BoxFrom). boxes_from c path (with_boxes history f bs) bs fields) (after-cover boxes f (each f (inl refl)))
+      ap (λ (bs : List BoxFrom). boxes_reached c path (with_boxes history f bs) bs fields) (after-cover boxes f (each f (inl refl)))
       ∙ history-covers (with_boxes history f (covered_from (shape_of c.survey.fields) boxes f)) (covered_from (shape_of c.survey.fields) boxes f) fields (λ g at. each g (inr at))
 
 module _ (c : Case) (is : IsCase c) (budget : ℕ) where
@@ -145,7 +145,7 @@ module _ (c : Case) (is : IsCase c) (budget : ℕ) where
 
   module _ (lines : List Derived) (made : fold_result start numbers ≡ Ok lines) (boxes : List BoxFrom) (told : failing_from 0 lines c.row [] ≡ Ok boxes) where
     abbrev history : History
-    history = with_boxes (lines_from [] start numbers) 0 boxes
+    history = with_boxes (lines_reached [] start numbers) 0 boxes
 
     module _ (n : ℕ) (done fields : List ℕ) (split : code_fields (shape_of c.survey.fields) ≡ done ++ fields) (size : number_count c + length done ≡ n) where
       system-all : system_of c.edits (changed_numbers c (changing n)) ≡ Ok lines
@@ -163,7 +163,7 @@ module _ (c : Case) (is : IsCase c) (budget : ℕ) where
       history-along =
           history-covers c (changing n) (with_boxes (line_history c (changing n)) 0 (first_boxes c (changing n))) (first_boxes c (changing n)) (treated_codes c (changing n)) (treated-changed c n)
           ∙ ap (λ (bs : List BoxFrom). cover_history (shape_of c.survey.fields) (with_boxes (line_history c (changing n)) 0 bs) bs (treated_codes c (changing n))) boxes-first
-          ∙ ap (λ (fs : List ℕ). cover_history (shape_of c.survey.fields) (with_boxes (lines_from [] start fs) 0 boxes) boxes (treated_codes c (changing n))) (numbers-all c n (omega (arith, size)))
+          ∙ ap (λ (fs : List ℕ). cover_history (shape_of c.survey.fields) (with_boxes (lines_reached [] start fs) 0 boxes) boxes (treated_codes c (changing n))) (numbers-all c n (omega (arith, size)))
           ∙ ap (λ (fs : List ℕ). cover_history (shape_of c.survey.fields) history boxes fs) (codes-done c n done fields split size)
 
       state-boxes : number_count c < n → state_of c (changing n) ≡ first_whole (closing_box (whole_sets (shape_of c.survey.fields)) (covers (shape_of c.survey.fields) boxes done))
@@ -236,7 +236,7 @@ module _ (c : Case) (is : IsCase c) (budget : ℕ) where
 
   -- the path that changes the numerical fields
   at-boxes : (lines : List Derived) (made : fold_result start numbers ≡ Ok lines) (n spent : ℕ) → number_count c ≡ n → (r : Result (List BoxFrom) LineFault) → failing_from 0 lines c.row [] ≡ r
-      → verdict_by c (changing n) (state_of c (changing n)) (open_from spent n (length (code_fields (shape_of c.survey.fields)))) ≡ box_walk (shape_of c.survey.fields) budget spent (lines_from [] start numbers) lines r
+      → verdict_by c (changing n) (state_of c (changing n)) (open_from spent n (length (code_fields (shape_of c.survey.fields)))) ≡ box_walk (shape_of c.survey.fields) budget spent (lines_reached [] start numbers) lines r
   at-boxes lines made n spent size r told = by r told
     where
       system : system_of c.edits (changed_numbers c (changing n)) ≡ Ok lines
@@ -254,25 +254,25 @@ module _ (c : Case) (is : IsCase c) (budget : ℕ) where
           ∙ ap (λ r. state_with_boxes c (changing n) lines r) told
 
       by : (r : Result (List BoxFrom) LineFault) → failing_from 0 lines c.row [] ≡ r
-          → verdict_by c (changing n) (state_of c (changing n)) (open_from spent n (length (code_fields (shape_of c.survey.fields)))) ≡ box_walk (shape_of c.survey.fields) budget spent (lines_from [] start numbers) lines r
+          → verdict_by c (changing n) (state_of c (changing n)) (open_from spent n (length (code_fields (shape_of c.survey.fields)))) ≡ box_walk (shape_of c.survey.fields) budget spent (lines_reached [] start numbers) lines r
       by (Err fault) told = ap (λ s. verdict_by c (changing n) s (open_from spent n (length (code_fields (shape_of c.survey.fields))))) (state (Err fault) told)
       by (Ok boxes) told =
           ap (λ s. verdict_by c (changing n) s (open_from spent n (length (code_fields (shape_of c.survey.fields)))))
           (state (Ok boxes) told ∙ ap (λ b. if b then first_failing c (changing n) 0 lines else first_whole (closing_box (whole_sets (shape_of c.survey.fields)) (fold (boxes_after c (changing n)) boxes (treated_codes c (changing n))))) all
           ∙ failing-closing c n 0 lines (system-over c is (changed_numbers c (changing n)) lines system))
-          ∙ drop-line n (lines_from [] start numbers) (closing_line (whole_sets (shape_of c.survey.fields)) lines) (open_from spent n (length (code_fields (shape_of c.survey.fields)))) (ap (λ (fs : List ℕ). lines_from [] start fs) (numbers-all c n (omega (arith, size))))
-          ∙ ap (λ v. dropped_by (lines_from [] start numbers) (closing_line (whole_sets (shape_of c.survey.fields)) lines) v) (codes-walk lines made boxes told (code_fields (shape_of c.survey.fields)) [] n spent refl (omega (arith, size)))
+          ∙ drop-line n (lines_reached [] start numbers) (closing_line (whole_sets (shape_of c.survey.fields)) lines) (open_from spent n (length (code_fields (shape_of c.survey.fields)))) (ap (λ (fs : List ℕ). lines_reached [] start fs) (numbers-all c n (omega (arith, size))))
+          ∙ ap (λ v. dropped_by (lines_reached [] start numbers) (closing_line (whole_sets (shape_of c.survey.fields)) lines) v) (codes-walk lines made boxes told (code_fields (shape_of c.survey.fields)) [] n spent refl (omega (arith, size)))
 
   numbers-walk : (fields done : List ℕ) (n spent : ℕ) (lines : List Derived) → numbers ≡ done ++ fields → length done ≡ n → fold_result start done ≡ Ok lines
-      → verdict_by c (changing n) (state_of c (changing n)) (open_from spent n (length (fields ++ code_fields (shape_of c.survey.fields)))) ≡ number_walk (shape_of c.survey.fields) c.row budget spent (lines_from [] start done) lines fields
+      → verdict_by c (changing n) (state_of c (changing n)) (open_from spent n (length (fields ++ code_fields (shape_of c.survey.fields)))) ≡ number_walk (shape_of c.survey.fields) c.row budget spent (lines_reached [] start done) lines fields
   numbers-walk [] done n spent lines split size made =
       let same : numbers ≡ done = split ∙ append-nil done in
       at-boxes lines (ap (λ (fs : List ℕ). fold_result start fs) same ∙ made) n spent (ap (λ (fs : List ℕ). length fs) same ∙ size) (failing_from 0 lines c.row []) refl
-      ∙ ap (λ (fs : List ℕ). box_walk (shape_of c.survey.fields) budget spent (lines_from [] start fs) lines (failing_from 0 lines c.row [])) same
+      ∙ ap (λ (fs : List ℕ). box_walk (shape_of c.survey.fields) budget spent (lines_reached [] start fs) lines (failing_from 0 lines c.row [])) same
   numbers-walk (f ∷ fields) done n spent lines split size made =
       ap (λ s. verdict_by c (changing n) s (open_from spent n (suc (length (fields ++ code_fields (shape_of c.survey.fields)))))) (state-numbers n lines system below)
-      ∙ drop-line n (lines_from [] start done) (closing_line (whole_sets (shape_of c.survey.fields)) lines) (open_from spent n (suc (length (fields ++ code_fields (shape_of c.survey.fields))))) (ap (λ (fs : List ℕ). lines_from [] start fs) (numbers-done c n done (f ∷ fields) split size))
-      ∙ ap (λ v. dropped_by (lines_from [] start done) (closing_line (whole_sets (shape_of c.survey.fields)) lines) v) (
+      ∙ drop-line n (lines_reached [] start done) (closing_line (whole_sets (shape_of c.survey.fields)) lines) (open_from spent n (suc (length (fields ++ code_fields (shape_of c.survey.fields))))) (ap (λ (fs : List ℕ). lines_reached [] start fs) (numbers-done c n done (f ∷ fields) split size))
+      ∙ ap (λ v. dropped_by (lines_reached [] start done) (closing_line (whole_sets (shape_of c.survey.fields)) lines) v) (
       opened spent (suc n) (length (fields ++ code_fields (shape_of c.survey.fields)))
       ∙ ap (λ w. within budget (spent + w) (verdict_by c (changing (suc n)) (state_of c (changing (suc n))) (open_from (spent + w) (suc n) (length (fields ++ code_fields (shape_of c.survey.fields)))))) work
       ∙ ap (λ v. within budget more v) (by (step_result lines f) refl (λ next made_next more_made. numbers-walk fields (done ++ f ∷ []) (suc n) more next split_next (same-length done f n size) more_made))
@@ -304,9 +304,9 @@ module _ (c : Case) (is : IsCase c) (budget : ℕ) where
 
       by : (r : Result (List Derived) StepOverflow) → step_result lines f ≡ r
           → ((next : List Derived) → step_result lines f ≡ Ok next → fold_result start (done ++ f ∷ []) ≡ Ok next
-          → verdict_by c (changing (suc n)) (state_of c (changing (suc n))) (open_from more (suc n) (length (fields ++ code_fields (shape_of c.survey.fields)))) ≡ number_walk (shape_of c.survey.fields) c.row budget more (lines_from [] start (done ++ f ∷ [])) next fields)
+          → verdict_by c (changing (suc n)) (state_of c (changing (suc n))) (open_from more (suc n) (length (fields ++ code_fields (shape_of c.survey.fields)))) ≡ number_walk (shape_of c.survey.fields) c.row budget more (lines_reached [] start (done ++ f ∷ [])) next fields)
           → verdict_by c (changing (suc n)) (state_of c (changing (suc n))) (open_from more (suc n) (length (fields ++ code_fields (shape_of c.survey.fields))))
-          ≡ or_overflow r (λ next. number_walk (shape_of c.survey.fields) c.row budget more (with_lines (lines_from [] start done) next) next fields)
+          ≡ or_overflow r (λ next. number_walk (shape_of c.survey.fields) c.row budget more (with_lines (lines_reached [] start done) next) next fields)
       by (Ok next) is_next rest =
           rest next is_next (stepped ∙ ap (λ r. (fault_as (overflow_at f) r >>= (λ next. Ok next))) is_next) ∙ ap (λ (h : History). number_walk (shape_of c.survey.fields) c.row budget more h next fields) (lines-more [] start done f lines next made is_next)
       by (Err o) is_next rest =

@@ -1,6 +1,6 @@
 use Rattle.std.specs.Prelude.{ℕ, zero, suc, ◌+◌, true, false, List, [], ◌∷◌, None, map, negsuc, pos, replicate}
 use Rattle.std.specs.List.{range_with_len}
-use Rattle.edit_model.specs.Parts.{parts_of}
+use Rattle.edit_model.specs.Parts.{survey_of}
 use Rattle.edit_model.specs.declared.field.Field.{Field}
 use Rattle.edit_model.specs.declared.field.Kind.TheVariants as kind
 use Rattle.edit_model.specs.declared.value.Value.{Value}
@@ -34,4 +34,4 @@ unknown_row count = replicate count Bad
 abbrev pub case_of : ℕ → TreeCase
 case_of depth =
     let count = field_count depth in
-    tree_case (parts_of (fields_of count) []) (false_line count ∷ []) (true ∷ []) (unknown_row count) None
+    tree_case (survey_of (fields_of count) []) (false_line count ∷ []) (true ∷ []) (unknown_row count) None

@@ -2,7 +2,7 @@
 use Rattle.std.specs.Prelude.{◌≡◌, ◌≤◌, ◌^◌, ◌||◌, not, Bool, true, Option, Some, None, List, [], ◌∷◌, length, nat_le, nat_lt, if◌then◌else◌}
 use Rattle.std.specs.List.{list_all, list_any}
 use Rattle.std.specs.Str.{bytes_eq}
-use Rattle.edit_model.specs.Parts.{SurveyParts, parts_of}
+use Rattle.edit_model.specs.Parts.{SurveyParts, survey_of}
 use Rattle.edit_model.specs.declared.field.Field.{Field}
 use Rattle.edit_model.specs.declared.rule.Rule.{Rule}
 use Rattle.rule_grammar.specs.declared.statement.Declaration.{Declaration as Declared}
@@ -45,7 +45,7 @@ declaration_fault survey (declaration.Code name weight list) = first_true (
 
 -- this is found of the declaration behind these fields, whatever the rules before it are
 abbrev pub IsDeclarationFault : List Field → Declared → Option RulesKind → Type 0
-IsDeclarationFault fields d fault = (rules : List Rule) → fault ≡ declaration_fault (parts_of fields rules) d
+IsDeclarationFault fields d fault = (rules : List Rule) → fault ≡ declaration_fault (survey_of fields rules) d
 
 -- a rule over the fields before it
 abbrev pub rule_fault : SurveyParts → RuleText → Option RulesKind

@@ -1,6 +1,6 @@
 //! Rules and their tests.
 ghost use Rattle.std.specs.Prelude.{◌≡◌, ◌++◌, slice_get, OnOk};
-ghost use Rattle.edit_language.specs.Meaning.{codes_in, codes_of};
+ghost use Rattle.edit_language.specs.Meaning.{kind_codes, field_codes};
 ghost use Rattle.edit_language.specs.Printing.{conditions_text, later_conditions_text, rule_line, test_text};
 
 use super::codes::write_set;
@@ -76,7 +76,7 @@ fn write_test(text: &mut Vec<u8>, fields: &[Field], test: &Test) -> Result<(), O
 
 // The codes of the field with this number; none where it is numerical.
 fn codes_at(fields: &[Field], number: u32) -> &[Name]
-    ensures { result.now ≡ codes_of (slice_get fields.now number) }
+    ensures { result.now ≡ field_codes (slice_get fields.now number) }
 {
     match fields.get(number as usize) {
         Some(field) => codes_in(&field.kind),
@@ -86,7 +86,7 @@ fn codes_at(fields: &[Field], number: u32) -> &[Name]
 
 // The codes of a kind; none where it is numerical.
 fn codes_in(kind: &Kind) -> &[Name]
-    ensures { result.now ≡ codes_in kind.now }
+    ensures { result.now ≡ kind_codes kind.now }
 {
     match kind {
         Kind::Number { .. } => &[],

@@ -5,7 +5,7 @@ use Rattle.edit_model.specs.declared.rule.Linear.{Linear}
 use Rattle.edit_line.specs.Lines.{LineParts}
 use Rattle.edit_line.specs.Sets.{none_is_empty}
 use Rattle.edit_line.specs.Shapes.{Domain}
-use Rattle.edit_normal.specs.NormalForm.{line_of, negative_line_of}
+use Rattle.edit_normal.specs.NormalForm.{positive_line_of, negative_line_of}
 use Rattle.edit_normal.specs.RuleLines.{numbered}
 use Rattle.edit_normal.specs.declared.rule_line.RuleLine.{RuleLine}
 use Rattle.edit_normal.specs.declared.side.Side.{Side}
@@ -32,8 +32,8 @@ is_strict Below = true
 
 -- the line that says that the sum is on this side of 0, where the codes are in the sets
 abbrev pub side_line : List Domain → List ℕ → Linear → Side → LineParts
-side_line shape sets e AtLeast = line_of shape sets e false
-side_line shape sets e Above = line_of shape sets e true
+side_line shape sets e AtLeast = positive_line_of shape sets e false
+side_line shape sets e Above = positive_line_of shape sets e true
 side_line shape sets e AtMost = negative_line_of shape sets e false
 side_line shape sets e Below = negative_line_of shape sets e true
 

@@ -1,6 +1,6 @@
 use Rattle.std.specs.Prelude.{◌≡◌, ◌⊎◌, ℕ, List, ◌++◌, codes, length}
 use Rattle.std.specs.Fmt.{decimal}
-use Rattle.proof_grammar.specs.FirstFaults.{IsFirstFault}
+use Rattle.proof_grammar.specs.FirstFaults.{IsFirstFaultyLine}
 use Rattle.proof_grammar.specs.Limits.{IsPlain}
 use Rattle.proof_grammar.specs.ProofLines.{proof_text}
 use Rattle.proof_grammar.specs.declared.proof.Proof.{Proof}
@@ -21,4 +21,4 @@ fault_text line = codes "line " ++ decimal line ++ codes " can't go on\n"
 abbrev pub IsTold : List ℕ → List ℕ → Type 0
 IsTold bytes text =
     ((p : Proof) × IsPlain p × (bytes ≡ proof_text p) × (text ≡ counts_text p))
-    ⊎ ((line : ℕ) × IsFirstFault bytes line × (text ≡ fault_text line))
+    ⊎ ((line : ℕ) × IsFirstFaultyLine bytes line × (text ≡ fault_text line))

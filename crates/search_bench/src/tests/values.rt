@@ -7,7 +7,7 @@ ghost use Rattle.edit_model.specs.Points.{HasCodesFrom, IsConsistent, Point};
 ghost use Rattle.edit_model.specs.Rows.{IsRow, is_bad};
 ghost use Rattle.edit_line.specs.Lines.{AllHold};
 ghost use Rattle.edit_line.specs.Shapes.{shape_of};
-ghost use Rattle.back_subst.specs.Gifts.{CanGive, IsDonor};
+ghost use Rattle.back_subst.specs.Gifts.{CanGive, IsDonorRecord};
 
 use super::rows::{HOUSEHOLD, SUM_OF_TEN, TRADE, row_at};
 use crate::search::outcome_of;
@@ -151,7 +151,7 @@ fn given<L: Ledger>(
     requires parts { blank.parts ≡ L.parts }
     requires counts { 0 < blank.parts }
     requires path { CanGive survey.now (arc_value edits.now) row.now changed }
-    requires donor { IsDonor survey.now (option_copied donor) }
+    requires donor { IsDonorRecord survey.now (option_copied donor) }
 {
     let mut steps = Steps::<L>::start(blank);
     match give(
@@ -172,7 +172,7 @@ fn given<L: Ledger>(
 /// What the record of the survey is given, from the donor, if there is one.
 fn gift_of(alloc: Global, survey: &Survey, row: &Row, donor: Option<&Row>) -> Result<Gift, Fail>
     requires row { IsRow survey.now.fields row.now }
-    requires donor { IsDonor survey.now (option_copied donor) }
+    requires donor { IsDonorRecord survey.now (option_copied donor) }
 {
     let edits = edits_of(alloc, survey)?;
     let changed = changed_in(alloc, survey, &edits, row)?;

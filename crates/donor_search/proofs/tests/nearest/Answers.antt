@@ -5,9 +5,9 @@ use Rattle.edit_model.specs.PlainNumbers.{HasPlain}
 use Rattle.edit_model.specs.Rows.{IsRow, value_of}
 use Rattle.edit_model.specs.declared.value.Value.{Value}
 use Rattle.edit_model.specs.declared.value.Value.TheVariants.{Bad}
-use Rattle.donor_measure.specs.Measures.{HasKept}
+use Rattle.donor_measure.specs.Measures.{HasMeasurable}
 use Rattle.donor_measure.specs.declared.yardstick.Yardstick.{Yardstick}
-use Rattle.donor_search.specs.CleanRows.{CanGive}
+use Rattle.donor_search.specs.CleanRows.{IsRankable}
 use Rattle.donor_search.proofs.CleanLaws.{is_row_at}
 use Rattle.donor_search.proofs.DonorLaws.{has_kept}
 use Rattle.donor_search.proofs.tests.nearest.Goals as goal
@@ -32,9 +32,9 @@ ranking-requires-clause-row c =
     let is : IsRow fields c.row-row.result.now = subst (λ (r : List Value). IsRow fields r) (sym c.row-row.ensures) (is_row_at fields sheet.rows c.args.row_no c.requires.rows below) in
     let has : HasPlain c.row-row.result.now = subst (λ (r : List Value). HasPlain r) (sym c.row-row.ensures) (All-from_recursion HasPlain sheet.rows c.requires.plain c.args.row_no [] below) in
     let first : value_of c.row-row.result.now 0 ≢ Bad = subst (λ (r : List Value). value_of r 0 ≢ Bad) c.values.ensures (c.begins_with_number.ensures (search rules)) in
-    subst (λ (ys : List Yardstick). HasKept ys kept c.row-row.result.now) (sym c.new-measure.ensures.yardsticks)
+    subst (λ (ys : List Yardstick). HasMeasurable ys kept c.row-row.result.now) (sym c.new-measure.ensures.yardsticks)
     (has_kept fields c.row-row.result.now kept is has (λ f within at. only_field kept c.row-row.result.now f (λ g other. c.with-kept.ensures.others g other ∙ c.empty.ensures.none g) first at))
 
 pub ranking-requires-clause-donors : goal.ranking-requires-clause-donors
 ranking-requires-clause-donors c =
-    subst (λ (ys : List Yardstick). All (CanGive ys c.args.sheet.now.rows c.with-kept.result) c.in_ok-deck.deck) (sym c.new-measure.ensures.yardsticks) (c.in_ok-deck.ensures.measurable c.requires.plain c.with-kept.result)
+    subst (λ (ys : List Yardstick). All (IsRankable ys c.args.sheet.now.rows c.with-kept.result) c.in_ok-deck.deck) (sym c.new-measure.ensures.yardsticks) (c.in_ok-deck.ensures.measurable c.requires.plain c.with-kept.result)

@@ -1,7 +1,7 @@
 use Rattle.std.proofs.Common.{◌≡◌, ◌≤◌, ◌*◌, List, length, subst, sym}
 use Rattle.edit_model.specs.declared.rule.Rule.{Rule}
 use Rattle.edit_line.specs.Shapes.{shape_of}
-use Rattle.edit_normal.specs.RuleLines.{lines_from}
+use Rattle.edit_normal.specs.RuleLines.{rule_lines_from}
 use Rattle.edit_normal.proofs.MeaningLaws.{lines-all, lines-over}
 use Rattle.edit_normal.specs.declared.rule_line.RuleLine.{RuleLine}
 use Rattle.edit_normal.proofs.NormalLaws.{lines-most}
@@ -23,7 +23,7 @@ pub returns : goal.returns
 returns c =
     let survey = c.args.survey.now in
     let past : length survey.rules ≤ c.loop-number.number = subst (λ (rs : List Rule). length rs ≤ c.loop-number.number) c.rules-rule-items.ensures.rules c.loop-number-test.false in
-    let is : c.loop-number.lines.items ≡ lines_from (shape_of survey.fields) 0 survey.rules = rules-end (shape_of survey.fields) survey.rules c.loop-number.number c.loop-number.lines.items _ past c.loop-number.invariant in
+    let is : c.loop-number.lines.items ≡ rule_lines_from (shape_of survey.fields) 0 survey.rules = rules-end (shape_of survey.fields) survey.rules c.loop-number.number c.loop-number.lines.items _ past c.loop-number.invariant in
     record {
       exact = is;
       lines = lines-all survey c.loop-number.lines.items is;

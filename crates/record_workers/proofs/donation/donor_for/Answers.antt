@@ -6,9 +6,9 @@ use Rattle.bound_cert.specs.Paths.{kept_set}
 use Rattle.back_subst.specs.Gifts.{path_of}
 use Rattle.donor_book.specs.Claims.{first_free, uses_of}
 use Rattle.donor_book.specs.Entries.{BookParts, entry_of, wins_of}
-use Rattle.donor_measure.specs.Measures.{HasKept}
+use Rattle.donor_measure.specs.Measures.{HasMeasurable}
 use Rattle.donor_measure.specs.declared.yardstick.Yardstick.{Yardstick}
-use Rattle.donor_search.specs.CleanRows.{CanGive, IsCleanRow, donors_of, row_at}
+use Rattle.donor_search.specs.CleanRows.{IsRankable, IsCleanRow, donors_of, row_at}
 use Rattle.donor_search.proofs.CleanLaws.{is_row_at}
 use Rattle.donor_search.proofs.DonorLaws.{donors_give, has_kept}
 use Rattle.record_workers.specs.inner.Donors.{Donates}
@@ -25,8 +25,8 @@ ranking-requires-clause-row g c =
     let is = is_row_at fields rows row_no editing.rows c.requires.row in
     let plain = All-from_recursion HasPlain rows editing.plain row_no [] c.requires.row in
     let held = rw c.row-row.ensures at c.kept_set.ensures.held in
-    subst (λ (r : List Value). HasKept c.args.editing.now.measure.now.yardsticks c.kept_set.result r) (sym c.row-row.ensures)
-    (subst (λ (ys : List Yardstick). HasKept ys c.kept_set.result (row_at rows row_no)) (sym editing.yardsticks)
+    subst (λ (r : List Value). HasMeasurable c.args.editing.now.measure.now.yardsticks c.kept_set.result r) (sym c.row-row.ensures)
+    (subst (λ (ys : List Yardstick). HasMeasurable ys c.kept_set.result (row_at rows row_no)) (sym editing.yardsticks)
     (has_kept fields (row_at rows row_no) c.kept_set.result is plain (λ f within has. held f has)))
 
 pub ranking-requires-clause-donors : goal.ranking-requires-clause-donors
@@ -34,8 +34,8 @@ ranking-requires-clause-donors g c =
     let editing = c.requires.editing in
     let survey = c.args.editing.now.survey.now in
     let rows = rows_in c.args.editing.now in
-    subst (λ (ds : List ℕ). All (CanGive c.args.editing.now.measure.now.yardsticks rows c.kept_set.result) ds) (sym editing.deck)
-    (subst (λ (ys : List Yardstick). All (CanGive ys rows c.kept_set.result) (donors_of survey rows)) (sym editing.yardsticks) (donors_give survey rows editing.rows editing.plain c.kept_set.result))
+    subst (λ (ds : List ℕ). All (IsRankable c.args.editing.now.measure.now.yardsticks rows c.kept_set.result) ds) (sym editing.deck)
+    (subst (λ (ys : List Yardstick). All (IsRankable ys rows c.kept_set.result) (donors_of survey rows)) (sym editing.yardsticks) (donors_give survey rows editing.rows editing.plain c.kept_set.result))
 
 pub claim_on-requires-clause-donors : goal.claim_on-requires-clause-donors
 claim_on-requires-clause-donors g c =
