@@ -1,8 +1,13 @@
 use Rattle.std.proofs.Common.{◌≡◌, ℕ, List, Result, Ok, Err, IfOk, sym, ◌∙◌, subst}
 use Rattle.edit_model.specs.Corrections.{IsLeastWeight}
 use Rattle.edit_model.specs.Parts.{SurveyParts}
+use Rattle.edit_model.specs.Rows.{IsRow}
+use Rattle.edit_model.specs.Surveys.{IsWellFormed}
 use Rattle.edit_model.specs.declared.value.Value.{Value}
-use Rattle.edit_line.specs.EditSets.{EditsParts}
+use Rattle.edit_line.specs.EditSets.{EditsParts, IsReducedOf, base_lines}
+use Rattle.edit_line.specs.Reductions.{reduce_derived}
+use Rattle.edit_line.specs.Shapes.{Domain, shape_of}
+use Rattle.edit_line.specs.declared.derived.Derived.{Derived}
 use Rattle.bound_cert.specs.declared.outcome.Outcome.{Outcome}
 use Rattle.edit_paths.specs.Cases.{Case, IsCase, case_of}
 use Rattle.edit_paths.specs.Outcomes.{outcome_of}
@@ -13,6 +18,15 @@ use Rattle.edit_paths.proofs.LeastLaws.{choice-first, choice-least}
 use Rattle.localise_tree.specs.Answers.{Certifies, ChoosesFirst, ChoosesLeast, Finds, IsEnough, NoneMeets, Refutes}
 
 -- What an exact outcome says in the words of the model.
+
+-- a survey, its edits and one of its records are a case
+pub is-case : (survey : SurveyParts) (edits read : EditsParts) (row : List Value) (reduced : List Derived) → IsWellFormed survey → IsRow survey.fields row → edits.shape ≡ shape_of survey.fields → read ≡ edits → IsReducedOf read.shape read.lines reduced
+    → IsCase (case_of survey edits row)
+is-case survey edits read row reduced formed is shape same kept = record {
+  fields = formed.fields;
+  row = is;
+  edits = subst (λ (s : List Domain). IsReducedOf s edits.lines (reduce_derived (base_lines edits.lines))) shape (subst (λ (e : EditsParts). IsReducedOf e.shape e.lines (reduce_derived (base_lines e.lines))) same (subst (λ (ds : List Derived). IsReducedOf read.shape read.lines ds) kept.lines_are kept));
+}
 
 module _ (survey : SurveyParts) (edits : EditsParts) (row : List Value) (budget : ℕ) (is : IsCase (case_of survey edits row)) where
   abbrev c : Case
