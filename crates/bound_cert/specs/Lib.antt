@@ -1,3 +1,4 @@
+pub mod Claims
 pub mod Paths
 pub mod Texts
 pub mod Trees

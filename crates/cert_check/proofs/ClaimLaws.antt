@@ -14,7 +14,8 @@ use Rattle.donor_book.specs.declared.claim.Entry.{Entry}
 use Rattle.donor_book.specs.declared.claim.Won.{Won}
 use Rattle.donor_book.proofs.LegalLaws.{legal_fresh}
 use Rattle.proof_grammar.specs.declared.proof.Proof.{Proof}
-use Rattle.cert_check.specs.Claims.{AreClaims, AreValidClaims, IsClaim, IsClaimsFault, IsDonor, IsWrongClaim, claims_donor}
+use Rattle.bound_cert.specs.Claims.{claims_donor}
+use Rattle.cert_check.specs.Claims.{AreClaims, AreValidClaims, IsClaim, IsClaimsFault, IsDonor, IsWrongClaim}
 use Rattle.cert_check.specs.inner.ClaimChecks.{AreCleanFlags}
 
 -- Claims of donors, one after the other.
@@ -84,7 +85,7 @@ legal-take limit n history legal = record {
 
 module _ (survey : SurveyParts) (rows : List (List Value)) (p : Proof) where
   -- a claim is in form exactly where its donors are those that the flags say, if the rest is
-  pub in-form : (clean : List Bool) (entry : Entry) (b : Bool) → AreCleanFlags survey rows clean → IsSomeAnd (slice_get p.rows entry.row_no) (λ said. claims_donor said ≡ true) → length entry.ranking ≤ p.near → IsDistinct nat_eq entry.ranking
+  pub in-form : (clean : List Bool) (entry : Entry) (b : Bool) → AreCleanFlags survey rows clean → IsSomeAnd (slice_get p.rows entry.row_no) (λ said. claims_donor said.outcome ≡ true) → length entry.ranking ≤ p.near → IsDistinct nat_eq entry.ranking
       → b ≡ list_all (λ donor. slice_index_or clean donor false) entry.ranking → Decides b (IsClaim survey rows p entry)
   in-form clean entry b flags row few once is =
       let says : b ≡ list_all (λ donor. slice_index_or (map (is_clean survey) rows) donor false) entry.ranking = is ∙ ap (λ (cs : List Bool). list_all (λ donor. slice_index_or cs donor false) entry.ranking) flags in (

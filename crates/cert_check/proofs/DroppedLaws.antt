@@ -38,7 +38,7 @@ none-at : (survey : SurveyParts) (kept : List Bool) (place : ℕ) (lines : List 
 none-at survey kept place [] verdicts none k line steps line_at verdict_at = absurd (cc)
 none-at survey kept place (l ∷ lines) [] none k line steps line_at verdict_at = absurd (cc)
 none-at survey kept place (l ∷ lines) (v ∷ verdicts) none k line steps line_at verdict_at =
-    let (here, later) = neither (verdict_fault survey kept place l v) (length (verdict_lines v)) (verdicts_fault survey kept (suc place) lines verdicts) none in
+    let (here, later) = neither (verdict_fault (refutation_at survey kept place l) v) (length (verdict_lines v)) (verdicts_fault survey kept (suc place) lines verdicts) none in
     at k line_at verdict_at here (λ j below_line below_verdict. none-at survey kept (suc place) lines verdicts later j line steps below_line below_verdict)
   where
     neither : (o : Option ℕ) (n : ℕ) (next : Option ℕ) → or_later o n next ≡ None → (o ≡ None) × (next ≡ None)
@@ -52,14 +52,14 @@ none-at survey kept place (l ∷ lines) (v ∷ verdicts) none k line steps line_
     shifted : (n j : ℕ) → suc n + j ≡ n + suc j
     shifted n j = omega arith
 
-    at : (k : ℕ) → slice_get (l ∷ lines) k ≡ Some line → slice_get (v ∷ verdicts) k ≡ Some (Some steps) → verdict_fault survey kept place l v ≡ None
+    at : (k : ℕ) → slice_get (l ∷ lines) k ≡ Some line → slice_get (v ∷ verdicts) k ≡ Some (Some steps) → verdict_fault (refutation_at survey kept place l) v ≡ None
         → ((j : ℕ) → slice_get lines j ≡ Some line → slice_get verdicts j ≡ Some (Some steps) → refutation_fault (refutation_at survey kept (suc place + j) line) steps ≡ None)
         → refutation_fault (refutation_at survey kept (place + k) line) steps ≡ None
     at zero line_at verdict_at here later =
         let same : l ≡ line = cc in
         let told : v ≡ Some steps = cc in
         ap (λ n. refutation_fault (refutation_at survey kept n line) steps) (sym (nothing place)) ∙ ap (λ (m : LineParts). refutation_fault (refutation_at survey kept place m) steps) (sym same)
-        ∙ ap (λ (o : Option (List Step)). verdict_fault survey kept place l o) (sym told) ∙ here
+        ∙ ap (λ (o : Option (List Step)). verdict_fault (refutation_at survey kept place l) o) (sym told) ∙ here
     at (suc j) line_at verdict_at here later = ap (λ n. refutation_fault (refutation_at survey kept n line) steps) (sym (shifted place j)) ∙ later j line_at verdict_at
 
 -- a line that is not kept is dropped with steps

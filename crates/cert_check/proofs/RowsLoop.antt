@@ -10,7 +10,7 @@ use Rattle.cert_check.specs.RowChecks.{IsValidRow, RowRules}
 use Rattle.cert_check.specs.declared.fault.Why.{Why}
 use Rattle.cert_check.specs.declared.row_check.RowFault.{RowFault}
 use Rattle.cert_check.specs.inner.Finds.{FindsAmong}
-use Rattle.cert_check.specs.inner.RowFaults.{Finds}
+use Rattle.cert_check.specs.inner.RowFaults.{FindsSaid}
 
 -- the next released row, where there is one, and the rows behind it
 pub next-there : (said : RowProof) (raws : List (List (List ℕ))) (next : ℕ) → is_released said ≡ true → next < length raws → next_texts said (drop next raws) ≡ Some (get_or raws next [])
@@ -59,7 +59,7 @@ module _ (r : RowRules) (saids : List RowProof) (raws : List (List (List ℕ))) 
     }
 
     -- the fault of the record is the first
-    pub goes-fault : (fault : RowFault) → Finds r (files_of said (get_or raws i []) (get_or rows i []) (drop next released)) said (Some fault) → offset + fault.offset < length (flat_map row_lines saids)
+    pub goes-fault : (fault : RowFault) → FindsSaid r (files_of said (get_or raws i []) (get_or rows i []) (drop next released)) said.outcome said.gift (Some fault) → offset + fault.offset < length (flat_map row_lines saids)
         → FindsAmong r saids raws rows released (Some (record { offset = offset + fault.offset; why = fault.why }))
     goes-fault fault (found, not) fits = (
       goes.fault fault.offset fault.why (rw (saids-are, raws-are, rows-are) (inl found)),

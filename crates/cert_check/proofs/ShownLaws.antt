@@ -84,11 +84,11 @@ module _ (a : Audit) (p : Proof) (well : IsWellFormed a.survey) (fits : Fits a p
   change-shows : (path : List Bool) (weight : ℕ) (leaves : List Leaf) → IsChange path weight leaves → IsValidChange (rules_of a p) f path weight leaves
       → IsSomeAnd f.texts (λ texts. IsLeastRelease a.survey a.sheet.columns (changes a.survey.fields path) f.row texts weight)
   change-shows path zero leaves plain valid = least-release path 0 (ap (λ (q : List Bool). path_weight a.survey.fields q) plain.0 ∙ empty-weighs a.survey.fields) (λ q correction. omega arith) valid
-  change-shows path (suc w) leaves plain valid = least-release path (suc w) (right-weight path (suc w) valid.0) (none-lighter (Some (suc w)) leaves valid.1) valid.2
+  change-shows path (suc w) leaves plain valid = least-release path (suc w) (right-weight path (suc w) valid.0.0) (none-lighter (Some (suc w)) leaves valid.0.1) valid.1
 
   said-shows : (outcome : Outcome) (fault : Option GiftFault) → IsOutcome outcome fault → IsValidSaid (rules_of a p) f outcome fault → ShowsSaid a.survey a.sheet.columns f outcome fault
   said-shows (Change path weight cert) None plain valid = change-shows path weight cert.leaves plain valid
-  said-shows (Change path weight cert) (Some fault) plain valid = none-lighter (Some weight) cert.leaves valid.1
+  said-shows (Change path weight cert) (Some fault) plain valid = none-lighter (Some weight) cert.leaves valid.0.1
   said-shows (Contradictory cert) fault plain valid = none-lighter None cert.leaves valid
   said-shows (Budget path work) fault plain valid = tt
   said-shows (Overflow path event) fault plain valid = tt

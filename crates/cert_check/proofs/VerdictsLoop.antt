@@ -16,8 +16,8 @@ use Rattle.derivation.specs.Refutations.{given_lines, left_before, no_values, re
 use Rattle.derivation.specs.declared.step.Step.{Step}
 use Rattle.derivation.proofs.RefutationLaws.{given-over}
 use Rattle.proof_grammar.specs.ProofLines.{verdict_lines}
-use Rattle.cert_check.specs.Dropped.{or_later, refutation_fault, verdict_fault, verdicts_fault}
-use Rattle.cert_check.specs.inner.Parts.{fault_of}
+use Rattle.cert_check.specs.Dropped.{or_later, refutation_at, refutation_fault, verdict_fault, verdicts_fault}
+use Rattle.cert_check.specs.inner.Parts.{IsFaultAt}
 use Rattle.cert_check.proofs.PlaceLaws.{read-at, some-at}
 
 -- ---- which lines are left
@@ -63,16 +63,16 @@ module _ (survey : SurveyParts) (verdicts : List (Option (List Step))) where
 
   module _ (place offset : ℕ) (left : List Bool) (told : IsTold place offset left) (line : LineParts) (verdict : Option (List Step)) (line_at : slice_get lines place ≡ Some line) (verdict_at : slice_get verdicts place ≡ Some verdict) where
     apart : verdicts_fault survey kept place (drop place lines) (drop place verdicts)
-        ≡ or_later (verdict_fault survey kept place line verdict) (length (verdict_lines verdict)) (verdicts_fault survey kept (suc place) (drop (suc place) lines) (drop (suc place) verdicts))
+        ≡ or_later (verdict_fault (refutation_at survey kept place line) verdict) (length (verdict_lines verdict)) (verdicts_fault survey kept (suc place) (drop (suc place) lines) (drop (suc place) verdicts))
     apart =
         ap (λ (ls : List LineParts). verdicts_fault survey kept place ls (drop place verdicts)) (drop-at lines place line line_at)
         ∙ ap (λ (vs : List (Option (List Step))). verdicts_fault survey kept place (line ∷ drop (suc place) lines) vs) (drop-at verdicts place verdict verdict_at)
 
     -- the line is looked at over the lines that are left for it
-    pub told-here : (given : List LineParts) (row : List Value) → given ≡ lines → row ≡ no_values survey.fields → fault_of (shape_of survey.fields) given left line row verdict ≡ verdict_fault survey kept place line verdict
+    pub told-here : (given : List LineParts) (row : List Value) → given ≡ lines → row ≡ no_values survey.fields → verdict_fault (refutation_of (shape_of survey.fields) given left line row) verdict ≡ verdict_fault (refutation_at survey kept place line) verdict
     told-here given row given_is row_is = by verdict verdict_at
       where
-        by : (v : Option (List Step)) → slice_get verdicts place ≡ Some v → fault_of (shape_of survey.fields) given left line row v ≡ verdict_fault survey kept place line v
+        by : (v : Option (List Step)) → slice_get verdicts place ≡ Some v → verdict_fault (refutation_of (shape_of survey.fields) given left line row) v ≡ verdict_fault (refutation_at survey kept place line) v
         by None at = refl
         by (Some steps) at =
             ap (λ (ls : List LineParts). refutation_fault (refutation_of (shape_of survey.fields) ls left line row) steps) given_is
@@ -80,14 +80,14 @@ module _ (survey : SurveyParts) (verdicts : List (Option (List Step))) where
             ∙ ap (λ (vs : List Value). refutation_fault (refutation_of (shape_of survey.fields) lines (left_before place (drop (suc place) kept)) line vs) steps) row_is
 
     -- its fault is the first
-    pub told-fault : (behind : ℕ) → verdict_fault survey kept place line verdict ≡ Some behind → verdicts_fault survey kept 0 lines verdicts ≡ Some (offset + behind)
+    pub told-fault : (behind : ℕ) → verdict_fault (refutation_at survey kept place line) verdict ≡ Some behind → verdicts_fault survey kept 0 lines verdicts ≡ Some (offset + behind)
     told-fault behind found =
         told.rest
         ∙ ap (λ (o : Option ℕ). option_map (λ n. offset + n) o)
         (apart ∙ ap (λ (o : Option ℕ). or_later o (length (verdict_lines verdict)) (verdicts_fault survey kept (suc place) (drop (suc place) lines) (drop (suc place) verdicts))) found)
 
     -- one line more that is right
-    pub told-more : (later next : ℕ) (after : List Bool) → place < length kept → verdict_fault survey kept place line verdict ≡ None → later ≡ suc place → next ≡ offset + length (verdict_lines verdict) → after ≡ slice_set left place true
+    pub told-more : (later next : ℕ) (after : List Bool) → place < length kept → verdict_fault (refutation_at survey kept place line) verdict ≡ None → later ≡ suc place → next ≡ offset + length (verdict_lines verdict) → after ≡ slice_set left place true
         → IsTold later next after
     told-more later next after below none later_is next_is after_is =
         subst (λ (n : ℕ). IsTold n next after) (sym later_is) (subst (λ (n : ℕ). IsTold (suc place) n after) (sym next_is) (record {
@@ -106,14 +106,14 @@ module _ (survey : SurveyParts) (verdicts : List (Option (List Step))) where
   -- what is found of the line at a place
   module _ (place offset : ℕ) (left : List Bool) (told : IsTold place offset left) (given : List LineParts) (row : List Value) (given_is : given ≡ lines) (row_is : row ≡ no_values survey.fields) (each : length verdicts ≡ length lines) (below : place < length verdicts)
       (verdict : Option (List Step)) (verdict_is : verdict ≡ get_or verdicts place verdict) (found : Option ℕ)
-      (says : (line : LineParts) → slice_get given place ≡ Some line → found ≡ fault_of (shape_of survey.fields) given left line row verdict) where
+      (says : IsFaultAt survey given left place row verdict found) where
     verdict_at : slice_get verdicts place ≡ Some verdict
     verdict_at = read-at verdicts place verdict below verdict_is
 
     here : (line : LineParts) × (slice_get lines place ≡ Some line)
     here = some-at lines place (omega (arith, below, each))
 
-    is-fault : found ≡ verdict_fault survey kept place here.0 verdict
+    is-fault : found ≡ verdict_fault (refutation_at survey kept place here.0) verdict
     is-fault = says here.0 (ap (λ (ls : List LineParts). slice_get ls place) given_is ∙ here.1) ∙ told-here place offset left told here.0 verdict here.1 verdict_at given row given_is row_is
 
     pub found-some : (behind : ℕ) → found ≡ Some behind → Some (offset + behind) ≡ verdicts_fault survey kept 0 lines verdicts

@@ -16,37 +16,50 @@ use Rattle.proof_grammar.specs.declared.proof.Proof.{Proof}
 abbrev pub kept_flags : Proof → List Bool
 kept_flags p = map is_none p.verdicts
 
--- what the refutation of the line at a place builds on: the lines before it, of the later ones those that are kept, and its negation
+-- which lines are left when the one at a place is refuted: those before it, and of the later ones those that are kept
+abbrev pub left_at : List Bool → ℕ → List Bool
+left_at kept place = left_before place (drop (suc place) kept)
+
+-- what the refutation of the line at a place builds on: the lines that are left, and its negation
 abbrev pub refutation_at : SurveyParts → List Bool → ℕ → LineParts → Premises
 refutation_at survey kept place line =
-    refutation_of (shape_of survey.fields) (normal_lines_of survey) (left_before place (drop (suc place) kept)) line (no_values survey.fields)
+    refutation_of (shape_of survey.fields) (normal_lines_of survey) (left_at kept place) line (no_values survey.fields)
 
--- by what the steps prove: none where that is what no point meets; else at the line that says that a line is dropped, or at the first invalid step behind it
+-- by what the steps prove, how many lines behind the line that says that a line is dropped the first fault is: none where no
+-- point meets what they prove; else that line itself, or the first invalid step behind it
 abbrev pub fault_by : List Domain → Result Proved ℕ → Option ℕ
 fault_by shape (Ok proved) = if is_absurd shape proved then None else Some 0
 fault_by shape (Err place) = Some (suc place)
 
--- how many lines behind the line that says that a line is dropped the first fault of its refutation is; one without steps is itself at fault
+-- how many lines behind the line that says that a line is dropped the first fault of its refutation is; one without steps is
+-- itself at fault
 abbrev pub refutation_fault : Premises → List Step → Option ℕ
 refutation_fault p [] = Some 0
 refutation_fault p (step ∷ steps) = fault_by p.shape (steps_result p (step ∷ steps))
 
--- the same of what is said of the line at a place: where it is kept there is none
-abbrev pub verdict_fault : SurveyParts → List Bool → ℕ → LineParts → Option (List Step) → Option ℕ
-verdict_fault survey kept place line None = None
-verdict_fault survey kept place line (Some steps) = refutation_fault (refutation_at survey kept place line) steps
+-- how many lines behind its first line the first fault of what is said of a line is: where the line is kept there is none
+abbrev pub verdict_fault : Premises → Option (List Step) → Option ℕ
+verdict_fault p None = None
+verdict_fault p (Some steps) = refutation_fault p steps
 
--- the first, or else the second one, so many lines later
+-- the first fault if there is one, and else the next, which stands so many lines later
 abbrev pub or_later : Option ℕ → ℕ → Option ℕ → Option ℕ
 or_later (Some offset) lines next = Some offset
 or_later None lines next = option_map (λ offset. lines + offset) next
 
--- the same of what is said of the lines from a place on
+-- how many lines behind its first line the first fault of what is said of the lines from a place on is
 abbrev pub verdicts_fault : SurveyParts → List Bool → ℕ → List LineParts → List (Option (List Step)) → Option ℕ
-verdicts_fault survey kept place (line ∷ lines) (verdict ∷ verdicts) =
-    or_later (verdict_fault survey kept place line verdict) (length (verdict_lines verdict)) (verdicts_fault survey kept (suc place) lines verdicts)
+verdicts_fault survey kept place (line ∷ lines) (verdict ∷ verdicts) = or_later
+    (verdict_fault (refutation_at survey kept place line) verdict)
+    (length (verdict_lines verdict))
+    (verdicts_fault survey kept (suc place) lines verdicts)
 verdicts_fault survey kept place _ _ = None
 
--- the first line of the proof at which what is said of the lines of the rules is not right; the first three lines are the version, the limits and the count of these lines
+-- how many lines behind its first line the first fault of what is said of all lines of the rules is
+abbrev pub rules_fault : SurveyParts → List (Option (List Step)) → Option ℕ
+rules_fault survey verdicts = verdicts_fault survey (map is_none verdicts) 0 (normal_lines_of survey) verdicts
+
+-- the first line of the proof at which what is said of the lines of the rules is not right; before these stand three lines: the
+-- version, the limits, and how many lines of the rules there are
 abbrev pub drop_fault : SurveyParts → Proof → Option ℕ
-drop_fault survey p = option_map (λ offset. 4 + offset) (verdicts_fault survey (kept_flags p) 0 (normal_lines_of survey) p.verdicts)
+drop_fault survey p = option_map (λ offset. 4 + offset) (rules_fault survey p.verdicts)

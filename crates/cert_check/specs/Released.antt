@@ -31,10 +31,11 @@ abbrev pub IsValueOf : Bool → Kind → List ℕ → Value → Value → Type 0
 IsValueOf false k text read v = v ≡ read
 IsValueOf true k text read v = IsGivenText k text v × (is_same v read ≡ false)
 
--- the same of each field, from number i on
+-- the values of the fields from number i on: each is the one that was read, or another one, by its text
 abbrev pub AreValuesFrom : (ℕ → Bool) → (ℕ → List ℕ) → ℕ → List Field → List Value → List Value → Type 0
 AreValuesFrom changed text i [] [] [] = Unit {0}
-AreValuesFrom changed text i (field ∷ fields) (read ∷ row) (v ∷ new) = IsValueOf (changed i) field.kind (text i) read v × AreValuesFrom changed text (suc i) fields row new
+AreValuesFrom changed text i (field ∷ fields) (read ∷ row) (v ∷ new) =
+    IsValueOf (changed i) field.kind (text i) read v × AreValuesFrom changed text (suc i) fields row new
 AreValuesFrom changed text i _ _ _ = ⊥
 
 -- ---- texts
@@ -48,16 +49,23 @@ abbrev pub stands_changed : (ℕ → Bool) → ℕ → List ℕ → ℕ → Bool
 stands_changed changed i [] j = false
 stands_changed changed i (column ∷ columns) j = (changed i && (column == j)) || stands_changed changed (suc i) columns j
 
--- whether each text, from column j on, is the one that was read, or that of a changed field
+-- whether the text of column j may be this one, where the other was read: it is the same, or that of a changed field
+abbrev pub may_stand : (ℕ → Bool) → List ℕ → ℕ → List ℕ → List ℕ → Bool
+may_stand changed columns j read text = bytes_eq text read || stands_changed changed 0 columns j
+
+-- whether each text, from column j on, may be released where the other was read
 abbrev pub same_from : (ℕ → Bool) → List ℕ → ℕ → List (List ℕ) → List (List ℕ) → Bool
 same_from changed columns j [] [] = true
-same_from changed columns j (read ∷ reads) (text ∷ texts) = (bytes_eq text read || stands_changed changed 0 columns j) && same_from changed columns (suc j) reads texts
+same_from changed columns j (read ∷ reads) (text ∷ texts) =
+    may_stand changed columns j read text && same_from changed columns (suc j) reads texts
 same_from changed columns j _ _ = false
 
 -- ---- a row
 
--- the texts of a row are released for a record of which some fields are changed: these are its values, the fields that are kept have their bytes, and so has each other column; with these values the record is clean
-pub record IsReleasedAs (survey : SurveyParts) (columns : List ℕ) (changed : ℕ → Bool) (reads : List (List ℕ)) (row : List Value) (texts : List (List ℕ)) (new : List Value) : Type 0 where
+-- the texts of a row are released for a record of which some fields are changed: these are its values, the fields that are kept
+-- have the bytes that were read, and so has each other column; with these values the record is clean
+pub record IsReleasedAs (survey : SurveyParts) (columns : List ℕ) (changed : ℕ → Bool)
+    (reads : List (List ℕ)) (row : List Value) (texts : List (List ℕ)) (new : List Value) : Type 0 where
   pub values : AreValuesFrom changed (text_at columns texts) 0 survey.fields row new
   pub elsewhere : same_from changed columns 0 reads texts ≡ true
   pub clean : is_clean survey new ≡ true

@@ -1,5 +1,5 @@
 -- A valid release: a proof file and a released file that are right for rules and records.
-use Rattle.std.specs.Prelude.{◌≡◌, ◌⊎◌, ℕ, ◌+◌, ◌==◌, ◌&&◌, nat_le, not, Bool, false, if◌then◌else◌, List, [], ◌∷◌, Option, Some, None, is_none, length}
+use Rattle.std.specs.Prelude.{◌≡◌, ◌⊎◌, ℕ, ◌+◌, ◌==◌, ◌&&◌, nat_le, not, Bool, false, if◌then◌else◌, List, [], ◌∷◌, Option, Some, None, Result, Err, is_none, length}
 use Rattle.std.specs.List.{AllByRecursion, filter}
 use Rattle.edit_model.specs.Parts.{SurveyParts}
 use Rattle.edit_model.specs.declared.value.Value.{Value}
@@ -18,6 +18,8 @@ use Rattle.cert_check.specs.Claims.{AreValidClaims, IsClaimsFault}
 use Rattle.cert_check.specs.Dropped.{drop_fault, kept_flags}
 use Rattle.cert_check.specs.Places.{records_line}
 use Rattle.cert_check.specs.RowChecks.{IsRowFault, IsValidRow, RowFiles, RowRules}
+use Rattle.cert_check.specs.declared.fault.CheckFault.{CheckFault}
+use Rattle.cert_check.specs.declared.fault.CheckFault.TheVariants as fault
 use Rattle.cert_check.specs.declared.fault.Why.{Why}
 use Rattle.cert_check.specs.declared.fault.Why.TheVariants as why
 
@@ -28,7 +30,7 @@ pub record Audit : Type 0 where
   pub released : List ℕ
   pub proof : List ℕ
 
--- the same of these parts
+-- the audit of these rules, records and bytes
 abbrev pub audit_of : SurveyParts → SheetParts → List ℕ → List ℕ → Audit
 audit_of survey sheet released proof = record { survey = survey; sheet = sheet; released = released; proof = proof }
 
@@ -39,18 +41,25 @@ pub record Spells (bytes : List ℕ) (p : Proof) : Type 0 where
   pub plain : IsPlain p
   pub text : bytes ≡ proof_text p
 
+-- whether a number is from 1 to the most that is allowed
+abbrev pub is_allowed : ℕ → ℕ → Bool
+is_allowed most n = nat_le 1 n && nat_le n most
+
 -- a donor may be given 1 to 1,000 times, a record ranks 1 to 64 donors, and a search may take work of 1 to 1,000,000,000
 abbrev pub limits_fit : Proof → Bool
-limits_fit p =
-    (nat_le 1 p.limit && nat_le p.limit 1000) && ((nat_le 1 p.near && nat_le p.near 64) && (nat_le 1 p.budget && nat_le p.budget 1000000000))
+limits_fit p = is_allowed 1000 p.limit && (is_allowed 64 p.near && is_allowed 1000000000 p.budget)
 
--- the first line that does not fit the rules and the records: the limits, the count of the lines of the rules, and the count of the records
-abbrev pub head_fault : Audit → Proof → Option ℕ
-head_fault a p =
+-- the first line of a proof that does not fit so many lines of the rules and so many records: the limits, or either count
+abbrev pub head_fault_of : ℕ → ℕ → Proof → Option ℕ
+head_fault_of lines records p =
     if not (limits_fit p) then Some 2
-    else if not (length p.verdicts == length (normal_lines_of a.survey)) then Some 3
-    else if not (length p.rows == length a.sheet.rows) then Some (records_line p)
+    else if not (length p.verdicts == lines) then Some 3
+    else if not (length p.rows == records) then Some (records_line p)
     else None
+
+-- the first line of a proof that does not fit the rules and the records
+abbrev pub head_fault : Audit → Proof → Option ℕ
+head_fault a p = head_fault_of (length (normal_lines_of a.survey)) (length a.sheet.rows) p
 
 -- ---- the released file
 
@@ -64,7 +73,8 @@ is_released said = gives said.outcome said.gift
     gives (Overflow path event) fault = false
     gives (Contradictory cert) fault = false
 
--- the released bytes are, as a record file, the header of the records and these rows, as long as the header: one for each record that is released
+-- the released bytes are, as a record file, the header of the records and these rows, as long as the header: one for each
+-- record that is released
 pub record AreReleased (a : Audit) (p : Proof) (rows : List (List (List ℕ))) : Type 0 where
   pub first : List (List ℕ)
   pub given : AreRecordsOf a.released (first ∷ rows)
@@ -96,14 +106,16 @@ behind said (texts ∷ released) = if is_released said then released else texts 
 -- what is said of each record is valid; the released rows are those of the records in order
 abbrev pub AreValidRows : RowRules → List RowProof → List (List (List ℕ)) → List (List Value) → List (List (List ℕ)) → Type 0
 AreValidRows r [] [] [] released = Unit {0}
-AreValidRows r (said ∷ saids) (reads ∷ raws) (row ∷ rows) released = IsValidRow r (files_of said reads row released) said × AreValidRows r saids raws rows (behind said released)
+AreValidRows r (said ∷ saids) (reads ∷ raws) (row ∷ rows) released =
+    IsValidRow r (files_of said reads row released) said × AreValidRows r saids raws rows (behind said released)
 AreValidRows r _ _ _ released = ⊥
 
 -- what is said of some record is not: of the first such, the fault stands so many lines behind the head of the first record
 abbrev pub IsFaultAmong : RowRules → List RowProof → List (List (List ℕ)) → List (List Value) → List (List (List ℕ)) → ℕ → Why → Type 0
 IsFaultAmong r (said ∷ saids) (reads ∷ raws) (row ∷ rows) released offset why =
     IsRowFault r (files_of said reads row released) said offset why
-    ⊎ (IsValidRow r (files_of said reads row released) said × ((rest : ℕ) × IsFaultAmong r saids raws rows (behind said released) rest why × (offset ≡ length (row_lines said) + rest)))
+    ⊎ (IsValidRow r (files_of said reads row released) said × ((rest : ℕ)
+    × IsFaultAmong r saids raws rows (behind said released) rest why × (offset ≡ length (row_lines said) + rest)))
 IsFaultAmong r _ _ _ released offset why = ⊥
 
 -- ---- a valid release
@@ -114,7 +126,8 @@ pub record Fits (a : Audit) (p : Proof) : Type 0 where
   pub head : head_fault a p ≡ None
   pub dropped : drop_fault a.survey p ≡ None
 
--- the files are a valid release: the proof fits, the released rows are those that it tells of, what it says of each record is right, and so are its claims of donors
+-- the files are a valid release: the proof fits, the released rows are those that it tells of, what it says of each record is
+-- right, and so are its claims of donors
 pub record IsValidRelease (a : Audit) : Type 0 where
   pub proof : Proof
   pub fits : Fits a proof
@@ -139,13 +152,15 @@ OfRows a P = (p : Proof) × Fits a p × ((rows : List (List (List ℕ))) × AreR
 
 -- of some record the fault is this
 abbrev pub IsRecordFault : Audit → ℕ → Why → Type 0
-IsRecordFault a line why = OfRows a (λ p rows. (offset : ℕ) × IsFaultAmong (rules_of a p) p.rows a.sheet.raws a.sheet.rows rows offset why × (line ≡ records_line p + 1 + offset))
+IsRecordFault a line why = OfRows a (λ p rows. (offset : ℕ)
+    × IsFaultAmong (rules_of a p) p.rows a.sheet.raws a.sheet.rows rows offset why × (line ≡ records_line p + 1 + offset))
 
 -- the released rows are not those that the proof tells of
 abbrev pub IsNotReleased : Audit → ℕ → Type 0
 IsNotReleased a line = ((p : Proof) × Fits a p × ((rows : List (List (List ℕ))) → ¬ AreReleased a p rows)) × (line ≡ 0)
 
--- the files are no valid release; the first condition that fails, in the order of the proof but for the released rows, is told with its line; line 0 is none
+-- the files are no valid release; the first condition that fails, in the order of the proof but for the released rows, is told
+-- with its line; line 0 is none
 abbrev pub IsFirstFailure : Audit → ℕ → Why → Type 0
 IsFirstFailure a line why.Grammar = IsFirstFaultyLine a.proof line
 IsFirstFailure a line why.Head = OfProof a (λ p. head_fault a p ≡ Some line)
@@ -154,3 +169,7 @@ IsFirstFailure a line why.Cert = IsRecordFault a line why.Cert
 IsFirstFailure a line why.RowText = IsNotReleased a line ⊎ IsRecordFault a line why.RowText
 IsFirstFailure a line why.Claims =
     OfRows a (λ p rows. AreValidRows (rules_of a p) p.rows a.sheet.raws a.sheet.rows rows × IsClaimsFault a.survey a.sheet.rows p line)
+
+-- where the files are rejected, this is so of the line and the condition that are told
+abbrev pub IfRejected : {X : Type 0} → Result X CheckFault → (ℕ → Why → Type 0) → Type 0
+IfRejected answer P = (line : ℕ) (why : Why) → answer ≡ Err (fault.Rejected line why) → P line why

@@ -39,7 +39,8 @@ pub record RowFiles : Type 0 where
 
 -- the path says something of all fields, keeps none at which the record has no value, and has this weight
 abbrev pub is_change : List Field → List Value → List Bool → ℕ → Bool
-is_change fields row path weight = (length path == length fields) && (not (keeps_bad fields row path) && (path_weight fields path == weight))
+is_change fields row path weight =
+    (length path == length fields) && (not (keeps_bad fields row path) && (path_weight fields path == weight))
 
 -- the field, or the rule, at which a giving stopped is there
 abbrev pub gift_exists : SurveyParts → GiftFault → Bool
@@ -62,20 +63,27 @@ tree_of r f weight = tree_case r.survey r.given r.usable f.row weight
 
 -- texts are released for the record, of which the path changes some fields
 abbrev pub IsReleased : RowRules → RowFiles → List Bool → Type 0
-IsReleased r f path = IsSomeAnd f.texts (λ texts. (new : List Value) × IsReleasedAs r.survey r.columns (changes r.survey.fields path) f.reads f.row texts new)
+IsReleased r f path = IsSomeAnd f.texts (λ texts. (new : List Value)
+    × IsReleasedAs r.survey r.columns (changes r.survey.fields path) f.reads f.row texts new)
+
+-- the path and the weight of a change are right, and its tree is valid
+abbrev pub IsCertified : RowRules → RowFiles → List Bool → ℕ → List Leaf → Type 0
+IsCertified r f path weight leaves =
+    (is_change r.survey.fields f.row path weight ≡ true) × IsValidTree (tree_of r f (Some weight)) leaves
 
 -- ---- a valid record
 
--- a change of nothing is a clean record; of any other change the path and the weight are right, the tree is valid, and the record is released so
+-- a change of nothing is a clean record; any other change is certified; and the record is released so
 abbrev pub IsValidChange : RowRules → RowFiles → List Bool → ℕ → List Leaf → Type 0
 IsValidChange r f path zero leaves = IsReleased r f path
-IsValidChange r f path (suc w) leaves = (is_change r.survey.fields f.row path (suc w) ≡ true) × IsValidTree (tree_of r f (Some (suc w))) leaves × IsReleased r f path
+IsValidChange r f path (suc w) leaves = IsCertified r f path (suc w) leaves × IsReleased r f path
 
--- a change to which no values were given: the path and the weight are right, the tree is valid, and there is such a field or rule
+-- a change to which no values were given is certified, and there is such a field or rule
 abbrev pub IsValidGift : RowRules → RowFiles → List Bool → ℕ → List Leaf → GiftFault → Type 0
-IsValidGift r f path weight leaves fault = (is_change r.survey.fields f.row path weight ≡ true) × IsValidTree (tree_of r f (Some weight)) leaves × (gift_exists r.survey fault ≡ true)
+IsValidGift r f path weight leaves fault = IsCertified r f path weight leaves × (gift_exists r.survey fault ≡ true)
 
--- what the proof says of a record is right, as far as it can be checked: that a budget was passed, or that a number left the range, is taken on trust
+-- what the proof says of a record is right, as far as it can be checked: that a budget was passed, or that a number left the
+-- range, is taken on trust
 abbrev pub IsValidSaid : RowRules → RowFiles → Outcome → Option GiftFault → Type 0
 IsValidSaid r f (Change path weight cert) None = IsValidChange r f path weight cert.leaves
 IsValidSaid r f (Change path weight cert) (Some fault) = IsValidGift r f path weight cert.leaves fault
@@ -90,26 +98,31 @@ IsValidRow r f said = IsValidSaid r f said.outcome said.gift
 
 -- the tree is not valid; its first fault stands so many lines behind the head
 abbrev pub IsTreeFault : TreeCase → List Leaf → ℕ → Type 0
-IsTreeFault c leaves offset = ¬ IsValidTree c leaves × ((leaf : ℕ) × (step : Option ℕ) × IsFirstFault c leaves leaf step × (offset ≡ tree_offset leaves leaf step))
+IsTreeFault c leaves offset =
+    ¬ IsValidTree c leaves × ((leaf : ℕ) × (step : Option ℕ) × IsFirstFault c leaves leaf step × (offset ≡ tree_offset leaves leaf step))
 
--- of a change: the head, the tree, or the released row
+-- of a change that is not certified: the head, where the path or the weight is not right, or the tree
+abbrev pub IsCertFault : RowRules → RowFiles → List Bool → ℕ → List Leaf → ℕ → Type 0
+IsCertFault r f path weight leaves offset =
+    ((is_change r.survey.fields f.row path weight ≡ false) × (offset ≡ 0))
+    ⊎ ((is_change r.survey.fields f.row path weight ≡ true) × IsTreeFault (tree_of r f (Some weight)) leaves offset)
+
+-- of a change: that of its certificate, or the head, where the record is not released so
 abbrev pub IsChangeFault : RowRules → RowFiles → List Bool → ℕ → List Leaf → ℕ → Why → Type 0
 IsChangeFault r f path zero leaves offset why.RowText = (offset ≡ 0) × ¬ IsReleased r f path
-IsChangeFault r f path (suc w) leaves offset why.Cert =
-    ((is_change r.survey.fields f.row path (suc w) ≡ false) × (offset ≡ 0))
-    ⊎ ((is_change r.survey.fields f.row path (suc w) ≡ true) × IsTreeFault (tree_of r f (Some (suc w))) leaves offset)
+IsChangeFault r f path (suc w) leaves offset why.Cert = IsCertFault r f path (suc w) leaves offset
 IsChangeFault r f path (suc w) leaves offset why.RowText =
-    (is_change r.survey.fields f.row path (suc w) ≡ true) × IsValidTree (tree_of r f (Some (suc w))) leaves × ¬ IsReleased r f path × (offset ≡ 0)
+    IsCertified r f path (suc w) leaves × ¬ IsReleased r f path × (offset ≡ 0)
 IsChangeFault r f path weight leaves offset other = ⊥
 
--- of a change without values: the head, the tree, or the head again
+-- of a change to which no values were given: that of its certificate, or the head, where there is no such field or rule
 abbrev pub IsGiftFault : RowRules → RowFiles → List Bool → ℕ → List Leaf → GiftFault → ℕ → Why → Type 0
 IsGiftFault r f path weight leaves fault offset why.Cert =
-    ((is_change r.survey.fields f.row path weight ≡ false) × (offset ≡ 0))
-    ⊎ (((is_change r.survey.fields f.row path weight ≡ true) × IsTreeFault (tree_of r f (Some weight)) leaves offset)
-    ⊎ ((is_change r.survey.fields f.row path weight ≡ true) × IsValidTree (tree_of r f (Some weight)) leaves × (gift_exists r.survey fault ≡ false) × (offset ≡ 0)))
+    IsCertFault r f path weight leaves offset
+    ⊎ (IsCertified r f path weight leaves × (gift_exists r.survey fault ≡ false) × (offset ≡ 0))
 IsGiftFault r f path weight leaves fault offset other = ⊥
 
+-- what the proof says is at fault first so many lines behind the head of a record, for this reason
 abbrev pub IsSaidFault : RowRules → RowFiles → Outcome → Option GiftFault → ℕ → Why → Type 0
 IsSaidFault r f (Change path weight cert) None offset why = IsChangeFault r f path weight cert.leaves offset why
 IsSaidFault r f (Change path weight cert) (Some fault) offset why = IsGiftFault r f path weight cert.leaves fault offset why
@@ -118,6 +131,6 @@ IsSaidFault r f (Overflow path event) fault offset why.Cert = (offset ≡ 0) × 
 IsSaidFault r f (Contradictory cert) fault offset why.Cert = IsTreeFault (tree_of r f None) cert.leaves offset
 IsSaidFault r f outcome fault offset other = ⊥
 
--- what the proof says of a record is at fault first so many lines behind its head
+-- what the proof says of a record is at fault first so many lines behind its head, for this reason
 abbrev pub IsRowFault : RowRules → RowFiles → RowProof → ℕ → Why → Type 0
 IsRowFault r f said offset why = IsSaidFault r f said.outcome said.gift offset why

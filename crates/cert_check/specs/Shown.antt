@@ -26,8 +26,10 @@ use Rattle.proof_grammar.specs.declared.proof.Proof.{Proof}
 abbrev pub IsPointOf : List Value → Point → Type 0
 IsPointOf row p = (f : ℕ) → f < length row → Agrees row p f
 
--- the released texts are a correction of the record: with the values that they give, each rule holds; and what it weighs is the least that any correction weighs
-pub record IsLeastRelease (survey : SurveyParts) (columns : List ℕ) (changed : ℕ → Bool) (row : List Value) (texts : List (List ℕ)) (weight : ℕ) : Type 0 where
+-- the released texts are a correction of the record: with the values that they give, each rule holds; and what it weighs is the
+-- least that any correction weighs
+pub record IsLeastRelease (survey : SurveyParts) (columns : List ℕ) (changed : ℕ → Bool)
+    (row : List Value) (texts : List (List ℕ)) (weight : ℕ) : Type 0 where
   pub new : List Value
   pub values : AreValuesFrom changed (text_at columns texts) 0 survey.fields row new
   pub point : Point
@@ -36,25 +38,36 @@ pub record IsLeastRelease (survey : SurveyParts) (columns : List ℕ) (changed :
   pub weighs : change_weight survey row point ≡ weight
   pub least : IsLeastWeight survey row weight
 
--- what is shown of a record, by what the proof says of it: a released row is a correction of least weight; no correction weighs less than a change to which no values were given; and a contradictory record shows that no point is consistent
+-- what is shown of a record, by what the proof says of it: a released row is a correction of least weight; no correction weighs
+-- less than a change to which no values were given; and a contradictory record shows that no point is consistent
 abbrev pub ShowsSaid : SurveyParts → List ℕ → RowFiles → Outcome → Option GiftFault → Type 0
-ShowsSaid survey columns f (Change path weight cert) None = IsSomeAnd f.texts (λ texts. IsLeastRelease survey columns (changes survey.fields path) f.row texts weight)
-ShowsSaid survey columns f (Change path weight cert) (Some fault) = (p : Point) → IsCorrection survey p → weight ≤ change_weight survey f.row p
+ShowsSaid survey columns f (Change path weight cert) None =
+    IsSomeAnd f.texts (λ texts. IsLeastRelease survey columns (changes survey.fields path) f.row texts weight)
+ShowsSaid survey columns f (Change path weight cert) (Some fault) =
+    (p : Point) → IsCorrection survey p → weight ≤ change_weight survey f.row p
 ShowsSaid survey columns f (Contradictory cert) fault = (p : Point) → ¬ IsCorrection survey p
 ShowsSaid survey columns f outcome fault = ⊤
 
--- the same of each record
-abbrev pub ShowAll : SurveyParts → List ℕ → List RowProof → List (List (List ℕ)) → List (List Value) → List (List (List ℕ)) → Type 0
+-- what is shown of each record, with the next of the released rows if it is released
+abbrev pub ShowAll : SurveyParts → List ℕ → List RowProof
+    → List (List (List ℕ)) → List (List Value) → List (List (List ℕ)) → Type 0
 ShowAll survey columns [] [] [] released = Unit {0}
 ShowAll survey columns (said ∷ saids) (reads ∷ raws) (row ∷ rows) released =
-    ShowsSaid survey columns (files_of said reads row released) said.outcome said.gift × ShowAll survey columns saids raws rows (behind said released)
+    ShowsSaid survey columns (files_of said reads row released) said.outcome said.gift
+    × ShowAll survey columns saids raws rows (behind said released)
 ShowAll survey columns _ _ _ released = ⊥
 
--- what the files show: each line of the rules follows from those that are kept, the released rows are corrections of least weight, contradictions are none, and the claims are a legal history in which no donor is given more often than the limit
+-- each line of the rules follows from those that are kept
+abbrev pub AllFollow : SurveyParts → List Bool → Type 0
+AllFollow survey kept = (line : LineParts) → IsIn line (normal_lines_of survey) → Follows (usable_lines (normal_lines_of survey) kept) line
+
+-- what the files show: each line of the rules follows from those that are kept, the released rows are corrections of least
+-- weight, for what is told to be contradictory there is no correction, and the claims are a legal history, in which no donor is
+-- given more often than the limit
 pub record Shows (a : Audit) : Type 0 where
   pub proof : Proof
   pub spelled : Spells a.proof proof
-  pub follow : (line : LineParts) → IsIn line (normal_lines_of a.survey) → Follows (usable_lines (normal_lines_of a.survey) (kept_flags proof)) line
+  pub follow : AllFollow a.survey (kept_flags proof)
   pub rows : List (List (List ℕ))
   pub released : AreReleased a proof rows
   pub each : ShowAll a.survey a.sheet.columns proof.rows a.sheet.raws a.sheet.rows rows

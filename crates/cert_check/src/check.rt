@@ -1,8 +1,7 @@
-ghost use Rattle.std.specs.Prelude.{◌≡◌, ℕ, List, Err, IfOk, OnOk};
+ghost use Rattle.std.specs.Prelude.{ℕ, List, IfOk, OnOk};
 ghost use Rattle.record_text.specs.Sheets.{IsSheet};
-ghost use Rattle.cert_check.specs.Releases.{IsFirstFailure, IsReleasedCount, IsValidRelease, audit_of};
+ghost use Rattle.cert_check.specs.Releases.{IfRejected, IsFirstFailure, IsReleasedCount, IsValidRelease, audit_of};
 ghost use Rattle.cert_check.specs.Shown.{Shows};
-ghost use Rattle.cert_check.specs.declared.fault.Why.{Why as Condition};
 
 use crate::fault::{CheckFault, Why};
 use crate::said_check::{Audit, check_said, rejected};
@@ -29,8 +28,8 @@ pub fn check_all(
     ensures valid { OnOk result (IsValidRelease (audit_of rules.now records.now released.now proof.now)) }
     ensures count { IfOk result (IsReleasedCount (audit_of rules.now records.now released.now proof.now)) }
     ensures shown { OnOk result (Shows (audit_of rules.now records.now released.now proof.now)) }
-    ensures rejected { (line : ℕ) (why : Condition) → result ≡ Err (CheckFault.Rejected line why) → IsFirstFailure (audit_of rules.now records.now released.now proof.now) line why }
-    ensures invalid { (line : ℕ) (why : Condition) → result ≡ Err (CheckFault.Rejected line why) → ¬ IsValidRelease (audit_of rules.now records.now released.now proof.now) }
+    ensures rejected { IfRejected result (IsFirstFailure (audit_of rules.now records.now released.now proof.now)) }
+    ensures invalid { IfRejected result (λ line why. ¬ IsValidRelease (audit_of rules.now records.now released.now proof.now)) }
 {
     let _rules = rules.rules(); // read for what it says: they are in form
     let audit = Audit {

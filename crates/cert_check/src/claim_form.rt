@@ -1,12 +1,11 @@
 //! Whether claims of donors are in form.
-ghost use Rattle.std.specs.Prelude.{◌≡◌, ◌≤◌, List, IfOk, IsSomeAnd, false, true, length, nat_eq, slice_get, slice_index_or};
+ghost use Rattle.std.specs.Prelude.{◌≡◌, ◌≤◌, IfOk, IsSomeAnd, false, true, length, nat_eq, slice_get, slice_index_or};
 ghost use Rattle.std.specs.Bool.{Decides};
 ghost use Rattle.std.specs.List.{AllByRecursion, IsDistinct, list_all};
-ghost use Rattle.edit_model.specs.Parts.{SurveyParts};
 ghost use Rattle.edit_model.specs.Rows.{IsRow};
-ghost use Rattle.edit_model.specs.declared.value.Value.{Value};
-ghost use Rattle.cert_check.specs.Claims.{IsClaim, claims_donor};
-ghost use Rattle.cert_check.specs.inner.ClaimChecks.{AreCleanFlags, IsFormedCount};
+ghost use Rattle.bound_cert.specs.Claims.{claims_donor};
+ghost use Rattle.cert_check.specs.Claims.{IsClaim};
+ghost use Rattle.cert_check.specs.inner.ClaimChecks.{AreCleanFlags, IsFormedCount, OfCleanFlags};
 
 use crate::said::claims_donor;
 use bound_cert::RowProof;
@@ -36,7 +35,7 @@ pub(crate) fn clean_flags(
 /// How many claims stand before the first that is not in form. No memory.
 pub(crate) fn formed_count(said: &Proof, clean: &[bool]) -> usize
     ensures most { result ≤ length said.now.claims }
-    ensures count { (survey : SurveyParts) (rows : List (List Value)) → AreCleanFlags survey rows clean.now → IsFormedCount survey rows said.now result }
+    ensures count { OfCleanFlags clean.now (λ survey rows. IsFormedCount survey rows said.now result) }
 {
     let claims = said.claims.as_slice();
     for (place, claim) in claims.iter().enumerate() {
@@ -50,7 +49,7 @@ pub(crate) fn formed_count(said: &Proof, clean: &[bool]) -> usize
 // Whether a claim is in form: its record claims a donor, and ranks no more donors than may be ranked, each once. The
 // length is looked at first, so that no long ranking is searched.
 fn is_claim(said: &Proof, clean: &[bool], claim: &Entry) -> bool
-    ensures { (survey : SurveyParts) (rows : List (List Value)) → AreCleanFlags survey rows clean.now → Decides result (IsClaim survey rows said.now claim.now) }
+    ensures { OfCleanFlags clean.now (λ survey rows. Decides result (IsClaim survey rows said.now claim.now)) }
 {
     let ranking = claim.ranking.as_slice();
     row_claims(said.rows.as_slice(), claim.row_no)
@@ -60,7 +59,7 @@ fn is_claim(said: &Proof, clean: &[bool], claim: &Entry) -> bool
 
 // Whether the record of this number is there, and claims a donor.
 fn row_claims(saids: &[RowProof], row_no: u32) -> bool
-    ensures { Decides result (IsSomeAnd (slice_get saids.now row_no) (λ said. claims_donor said ≡ true)) }
+    ensures { Decides result (IsSomeAnd (slice_get saids.now row_no) (λ said. claims_donor said.outcome ≡ true)) }
 {
     match saids.get(row_no as usize) {
         Some(said) => claims_donor(said),

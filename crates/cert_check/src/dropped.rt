@@ -1,16 +1,14 @@
 //! Whether what a proof says of the lines of the rules is right: each line that it drops is refuted.
-ghost use Rattle.std.specs.Prelude.{◌≡◌, ◌<◌, ◌+◌, ◌^◌, IfOk, OnOk, Some, is_none, length, map, slice_get};
+ghost use Rattle.std.specs.Prelude.{◌≡◌, ◌<◌, ◌+◌, ◌^◌, IfOk, OnOk, Some, is_none, length, map};
 ghost use Rattle.std.specs.List.{flat_map};
 ghost use Rattle.edit_model.specs.Rows.{IsRow};
-ghost use Rattle.edit_line.specs.Lines.{AreOver, LineParts};
+ghost use Rattle.edit_line.specs.Lines.{AreOver};
 ghost use Rattle.edit_line.specs.Shapes.{shape_of};
 ghost use Rattle.edit_normal.specs.RuleLines.{normal_lines_of};
-ghost use Rattle.derivation.specs.Premises.{premises_of};
-ghost use Rattle.derivation.specs.Refutations.{refutation_of};
 ghost use Rattle.proof_grammar.specs.ProofLines.{verdict_lines};
-ghost use Rattle.cert_check.specs.Dropped.{drop_fault, refutation_fault, verdicts_fault};
+ghost use Rattle.cert_check.specs.Dropped.{drop_fault, refutation_fault, rules_fault};
 ghost use Rattle.cert_check.specs.inner.Counts.{IsCounted};
-ghost use Rattle.cert_check.specs.inner.Parts.{fault_of};
+ghost use Rattle.cert_check.specs.inner.Parts.{IsFaultAt, premises_without};
 ghost use Rattle.cert_check.specs.inner.RowFaults.{IsAmong};
 
 use crate::line_counts::verdict_line_count;
@@ -54,7 +52,7 @@ fn verdicts_fault(
     requires lines { lines.old.items ≡ normal_lines_of survey.now }
     requires over { AreOver (shape_of survey.now.fields) lines.old.items }
     requires each { length verdicts.now ≡ length lines.old.items }
-    ensures found { IfOk result (λ found. found ≡ verdicts_fault survey.now (map is_none verdicts.now) 0 (normal_lines_of survey.now) verdicts.now) }
+    ensures found { IfOk result (λ found. found ≡ rules_fault survey.now verdicts.now) }
     ensures within { IfOk result (IsAmong (length (flat_map verdict_lines verdicts.now))) }
     ensures lines { OnOk result (lines.new.items ≡ lines.old.items) }
 {
@@ -101,8 +99,7 @@ fn verdict_fault(
     requires over { AreOver (shape_of survey.now.fields) lines.old.items }
     requires each { length left.old.items ≡ length lines.old.items }
     requires place { place < length lines.old.items }
-    ensures found { IfOk result (λ found. (line : LineParts) → slice_get lines.old.items place ≡ Some line
-        → found ≡ fault_of (shape_of survey.now.fields) lines.old.items left.old.items line row.now verdict.now) }
+    ensures found { IfOk result (IsFaultAt survey.now lines.old.items left.old.items place row.now verdict.now) }
     ensures within { IfOk result (IsAmong (length (verdict_lines verdict.now))) }
     ensures lines { OnOk result (lines.new.items ≡ lines.old.items) }
     ensures left { OnOk result (left.new.items ≡ left.old.items) }
@@ -113,7 +110,8 @@ fn verdict_fault(
     }
 }
 
-// The same of a line that is dropped: its negation stands behind the lines while the steps are checked.
+// How many lines behind its first line the fault of a refutation of the line at the place is, if there is one. The line's
+// negation stands behind the lines while the steps are checked.
 fn refutation_fault(
     alloc: Global,
     survey: &Survey,
@@ -127,8 +125,7 @@ fn refutation_fault(
     requires over { AreOver (shape_of survey.now.fields) lines.old.items }
     requires each { length left.old.items ≡ length lines.old.items }
     requires place { place < length lines.old.items }
-    ensures found { IfOk result (λ found. (line : LineParts) → slice_get lines.old.items place ≡ Some line
-        → found ≡ refutation_fault (refutation_of (shape_of survey.now.fields) lines.old.items left.old.items line row.now) steps.now) }
+    ensures found { IfOk result (IsFaultAt survey.now lines.old.items left.old.items place row.now (Some steps.now)) }
     ensures within { IfOk result (IsAmong (1 + length steps.now)) }
     ensures lines { OnOk result (lines.new.items ≡ lines.old.items) }
     ensures left { OnOk result (left.new.items ≡ left.old.items) }
@@ -156,7 +153,7 @@ fn steps_fault(
     requires row { IsRow survey.now.fields row.now }
     requires over { AreOver (shape_of survey.now.fields) given.now }
     requires lists { length given.now ≡ length usable.now }
-    ensures found { IfOk result (λ found. found ≡ refutation_fault (premises_of (shape_of survey.now.fields) given.now usable.now row.now 0) steps.now) }
+    ensures found { IfOk result (λ found. found ≡ refutation_fault (premises_without survey.now given.now usable.now row.now) steps.now) }
     ensures within { IfOk result (IsAmong (1 + length steps.now)) }
 {
     if steps.is_empty() {

@@ -1,8 +1,7 @@
 //! Whether a proof fits the rules and the records.
 ghost use Rattle.std.specs.Prelude.{◌≡◌, length};
-ghost use Rattle.cert_check.specs.Releases.{limits_fit};
+ghost use Rattle.cert_check.specs.Releases.{head_fault_of, limits_fit};
 ghost use Rattle.cert_check.specs.inner.Counts.{IsCounted};
-ghost use Rattle.cert_check.specs.inner.Parts.{head_fault_of};
 
 use crate::line_counts::records_line;
 use edit_line::Line;

@@ -1,12 +1,11 @@
 //! The values that a released row gives.
-ghost use Rattle.std.specs.Prelude.{◌≡◌, ◌<◌, All, IfOk, IfSome, IsSomeAnd, List, false, length};
+ghost use Rattle.std.specs.Prelude.{◌≡◌, ◌<◌, All, IfOk, IfSome, IsSomeAnd, false, length};
 ghost use Rattle.edit_model.specs.Rows.{IsRow};
 ghost use Rattle.edit_model.specs.Surveys.{IsKind};
 ghost use Rattle.edit_model.specs.declared.value.Value.{Value as Given};
-ghost use Rattle.bound_cert.specs.Paths.{changes};
 ghost use Rattle.record_text.specs.Values.{code_number};
-ghost use Rattle.cert_check.specs.Released.{AreValuesFrom, IsGivenText, is_same, text_at};
-ghost use Rattle.cert_check.specs.inner.Checks.{IsChecking, IsValueAt};
+ghost use Rattle.cert_check.specs.Released.{IsGivenText, is_same};
+ghost use Rattle.cert_check.specs.inner.Checks.{AreNewValues, IsChecking, IsValueAt, OfNewValues};
 
 use crate::changed_fields::changes;
 use crate::checking::Checking;
@@ -28,8 +27,8 @@ pub(crate) fn new_values(
     requires checking { IsChecking checking.now }
     requires row { IsRow checking.now.survey.now.fields row.now }
     requires within { All (λ column. column < length texts.now) checking.now.columns.now }
-    ensures values { IfOk result (λ found. IfSome found (λ v. AreValuesFrom (changes checking.now.survey.now.fields path.now) (text_at checking.now.columns.now texts.now) 0 checking.now.survey.now.fields row.now v.items)) }
-    ensures only { IfOk result (λ found. (new : List Given) → AreValuesFrom (changes checking.now.survey.now.fields path.now) (text_at checking.now.columns.now texts.now) 0 checking.now.survey.now.fields row.now new → IsSomeAnd found (λ v. v.items ≡ new)) }
+    ensures values { IfOk result (λ found. IfSome found (λ v. AreNewValues checking.now row.now path.now texts.now v.items)) }
+    ensures only { IfOk result (λ found. OfNewValues checking.now row.now path.now texts.now (λ new. IsSomeAnd found (λ v. v.items ≡ new))) }
 {
     let count = checking.survey.fields().len();
     let mut values = Vec::with_capacity(alloc, count)?;

@@ -1,10 +1,10 @@
 //! Whether what a proof says of a record is right.
 ghost use Rattle.std.specs.Prelude.{◌≡◌, ◌<◌, ◌+◌, ◌^◌, IfOk, None, Some, if◌then◌else◌, length, option_map};
 ghost use Rattle.std.specs.List.{flat_map};
+ghost use Rattle.bound_cert.specs.declared.outcome.Outcome.TheVariants.{Change};
 ghost use Rattle.proof_grammar.specs.ProofLines.{change_lines, leaf_lines, row_lines};
-ghost use Rattle.cert_check.specs.RowChecks.{IsChangeFault, IsGiftFault, IsValidChange, IsValidGift};
 ghost use Rattle.cert_check.specs.inner.Checks.{FitsFiles, IsChecking, files_in, rules_in};
-ghost use Rattle.cert_check.specs.inner.RowFaults.{Finds, FindsInCert, FindsInChange, FindsOf, IsAmong, IsWithin};
+ghost use Rattle.cert_check.specs.inner.RowFaults.{FindsInCert, FindsInChange, FindsSaid, IsAmong, IsWithin};
 
 use crate::checking::{Checking, RowAt};
 use crate::fault::Why;
@@ -32,7 +32,7 @@ pub(crate) fn row_fault(
     requires checking { IsChecking checking.now }
     requires files { FitsFiles checking.now files.now }
     requires few { length (row_lines said.now) < 2 ^ 64 }
-    ensures found { IfOk result (Finds (rules_in checking.now) (files_in files.now) said.now) }
+    ensures found { IfOk result (FindsSaid (rules_in checking.now) (files_in files.now) said.now.outcome said.now.gift) }
     ensures within { IfOk result (IsWithin (length (row_lines said.now))) }
 {
     match &said.outcome {
@@ -62,7 +62,7 @@ fn change_fault(
     requires checking { IsChecking checking.now }
     requires files { FitsFiles checking.now files.now }
     requires few { length (change_lines path.now weight cert.now.leaves) < 2 ^ 64 }
-    ensures found { IfOk result (FindsOf (IsValidChange (rules_in checking.now) (files_in files.now) path.now weight cert.now.leaves) (IsChangeFault (rules_in checking.now) (files_in files.now) path.now weight cert.now.leaves)) }
+    ensures found { IfOk result (FindsSaid (rules_in checking.now) (files_in files.now) (Change path.now weight cert.now) None) }
     ensures within { IfOk result (IsWithin (length (change_lines path.now weight cert.now.leaves))) }
 {
     match tree_of_change(alloc, checking, files, path, weight, cert)? {
@@ -96,7 +96,7 @@ fn gift_fault(
     requires checking { IsChecking checking.now }
     requires files { FitsFiles checking.now files.now }
     requires few { 1 + length (flat_map leaf_lines cert.now.leaves) < 2 ^ 64 }
-    ensures found { IfOk result (FindsOf (IsValidGift (rules_in checking.now) (files_in files.now) path.now weight cert.now.leaves fault) (IsGiftFault (rules_in checking.now) (files_in files.now) path.now weight cert.now.leaves fault)) }
+    ensures found { IfOk result (FindsSaid (rules_in checking.now) (files_in files.now) (Change path.now weight cert.now) (Some fault)) }
     ensures within { IfOk result (IsWithin (1 + length (flat_map leaf_lines cert.now.leaves))) }
 {
     match path_fault(alloc, checking, files, path, weight, cert)? {

@@ -1,9 +1,9 @@
 //! Whether what a proof says of all records is valid.
-ghost use Rattle.std.specs.Prelude.{◌≡◌, ◌<◌, ◌^◌, [], All, IfOk, drop, length, option_map, slice_index_or};
+ghost use Rattle.std.specs.Prelude.{◌≡◌, ◌<◌, ◌^◌, All, IfOk, drop, length, option_map};
 ghost use Rattle.std.specs.List.{AllByRecursion, flat_map};
-ghost use Rattle.cert_check.specs.Releases.{behind, files_of, is_released, next_texts};
+ghost use Rattle.cert_check.specs.Releases.{behind, is_released, next_texts};
 ghost use Rattle.cert_check.specs.inner.Checks.{IsChecking, files_in, rules_in};
-ghost use Rattle.cert_check.specs.inner.Finds.{FindsAmong};
+ghost use Rattle.cert_check.specs.inner.Finds.{FindsAmong, files_at};
 ghost use Rattle.edit_model.specs.Rows.{IsRow};
 ghost use Rattle.proof_grammar.specs.ProofLines.{row_lines};
 
@@ -60,7 +60,7 @@ fn files_at<'a>(
 ) -> RowAt<'a>
     requires rows { row_no < length records.now.rows }
     requires raws { row_no < length records.now.raws }
-    ensures { files_in result ≡ files_of said.now (slice_index_or records.now.raws row_no []) (slice_index_or records.now.rows row_no []) (drop next released.now.raws) }
+    ensures { files_in result ≡ files_at said.now records.now row_no (drop next released.now.raws) }
 {
     RowAt {
         reads: records.raw(row_no),

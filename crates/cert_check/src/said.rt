@@ -1,7 +1,7 @@
 //! What a proof says of a record, but for its tree and the released row.
 ghost use Rattle.std.specs.Prelude.{◌≡◌};
+ghost use Rattle.bound_cert.specs.Claims.{claims_donor};
 ghost use Rattle.edit_model.specs.Rows.{IsRow};
-ghost use Rattle.cert_check.specs.Claims.{claims_donor};
 ghost use Rattle.cert_check.specs.RowChecks.{event_exists, gift_exists, is_change, place_exists};
 
 use bound_cert::{Event, GiftFault, Outcome, Path, RowProof};
@@ -52,10 +52,10 @@ fn place_exists(survey: &Survey, place: Place) -> bool
 
 /// Whether the record claims a donor. No memory.
 pub(crate) fn claims_donor(said: &RowProof) -> bool
-    ensures { result ≡ claims_donor said.now }
+    ensures { result ≡ claims_donor said.now.outcome }
 {
     match &said.outcome {
-        Outcome::Change { weight, .. } => 1 <= *weight,
+        Outcome::Change { weight, .. } => *weight != 0,
         Outcome::Budget { .. } | Outcome::Overflow { .. } | Outcome::Contradictory { .. } => false,
     }
 }

@@ -58,7 +58,8 @@ pub(crate) fn check_said(
     check_records(alloc, audit, &lines, said)
 }
 
-// The same of a proof whose limits and counts fit, and which refutes each line of the rules that it drops.
+// How many records are released, or the first condition that fails, of a proof whose limits and counts fit, and which
+// refutes each line of the rules that it drops.
 fn check_records(
     alloc: Global,
     audit: &Audit,

@@ -1,8 +1,7 @@
 //! Whether a released row has the texts that were read, but for those of the changed fields.
-ghost use Rattle.std.specs.Prelude.{◌≡◌, ◌||◌, length};
-ghost use Rattle.std.specs.Str.{bytes_eq};
+ghost use Rattle.std.specs.Prelude.{◌≡◌, length};
 ghost use Rattle.bound_cert.specs.Paths.{changes};
-ghost use Rattle.cert_check.specs.Released.{same_from, stands_changed};
+ghost use Rattle.cert_check.specs.Released.{may_stand, same_from, stands_changed};
 
 use crate::changed_fields::changes;
 use crate::checking::Checking;
@@ -23,7 +22,7 @@ pub(crate) fn are_same(checking: &Checking, path: &[bool], reads: &Texts, texts:
 
 // Whether the text may stand in the column in which the other was read.
 fn may_stand(checking: &Checking, path: &[bool], column: usize, read: &[u8], text: &[u8]) -> bool
-    ensures { result ≡ (bytes_eq text.now read.now || stands_changed (changes checking.now.survey.now.fields path.now) 0 checking.now.columns.now column) }
+    ensures { result ≡ may_stand (changes checking.now.survey.now.fields path.now) checking.now.columns.now column read.now text.now }
 {
     text == read || stands_changed(checking, path, column)
 }

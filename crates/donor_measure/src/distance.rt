@@ -141,7 +141,8 @@ fn thousandths(size: u128, unit: u128) -> u64
     }
 }
 
-// The same of a size below the unit, in words of 64 bits, of which a quotient takes a small part of the time.
+// How many thousandths of the unit a size below it is, rounded down, in words of 64 bits, of which a quotient takes a small part
+// of the time.
 #[inline(always)]
 fn thousandths_in_words(size: u64, unit: u64) -> u64
     requires below { size < unit }
@@ -197,7 +198,7 @@ mod tests {
         plain_value(Fraction::reduced(numerator, denominator))
     }
 
-    // The same of a fraction in lowest terms.
+    // The value of a fraction in lowest terms, where its parts are as small as those of records.
     fn plain_value(x: Fraction) -> Option<Value>
         ensures { IfSome result (λ v. (scale : ℕ) → IsMeasurable (Some scale) v) }
     {

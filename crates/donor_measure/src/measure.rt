@@ -1,7 +1,5 @@
-ghost use Rattle.std.specs.Prelude.{◌≡◌, ◌<◌, ◌≤◌, ◌*◌, All, IfNone, IfSome, if◌then◌else◌, length};
-ghost use Rattle.edit_model.specs.FieldSets.{has_number};
-ghost use Rattle.edit_model.specs.Rows.{value_of};
-ghost use Rattle.donor_measure.specs.Distances.{distance, field_distance};
+ghost use Rattle.std.specs.Prelude.{◌≡◌, ◌<◌, ◌≤◌, ◌*◌, All, IfNone, IfSome, length};
+ghost use Rattle.donor_measure.specs.Distances.{distance, distance_at};
 ghost use Rattle.donor_measure.specs.Measures.{HasMeasurable, Measures};
 ghost use Rattle.donor_measure.specs.Yardsticks.{IsYardstick, yardstick_at, yardsticks_of};
 
@@ -86,7 +84,7 @@ impl<F: Fn(u32, &Value, &Value) -> u64> Measure<F> {
         requires fit { All IsYardstick self.now.yardsticks }
         requires first { HasMeasurable self.now.yardsticks kept a.now }
         requires second { HasMeasurable self.now.yardsticks kept b.now }
-        ensures distance { result ≡ (if has_number kept field then field_distance (yardstick_at self.now.yardsticks field) (value_of a.now field) (value_of b.now field) else 0) }
+        ensures distance { result ≡ distance_at (yardstick_at self.now.yardsticks field) field kept a.now b.now }
         ensures few { result ≤ 1000 * 1000 }
     {
         if kept.has(field) {

@@ -2,11 +2,13 @@ use Rattle.std.proofs.Common.{◌≡◌, ℕ, ◌<◌, List, [], ◌++◌, lengt
 use Rattle.std.specs.List.{AllByRecursion}
 use Rattle.std.proofs.lemmas.List.{at_drop_all}
 use Rattle.std.proofs.lemmas.List.Elements.{All-from_recursion}
+use Rattle.edit_model.specs.CleanRecords.{is_clean}
 use Rattle.edit_model.specs.Parts.{SurveyParts}
 use Rattle.edit_model.specs.Rows.{IsRow}
 use Rattle.edit_model.specs.declared.field.Field.{Field}
 use Rattle.edit_model.specs.declared.value.Value.{Value}
-use Rattle.donor_search.specs.CleanRows.{clean_from, donors_of, row_at}
+use Rattle.donor_search.specs.CleanRows.{donors_of, row_at}
+use Rattle.donor_search.specs.Places.{places_from}
 
 -- The clean rows of a sheet.
 
@@ -14,5 +16,5 @@ pub is_row_at : (fields : List Field) (rows : List (List Value)) (i : ℕ) → A
 is_row_at fields rows i are below = All-from_recursion (IsRow fields) rows are i [] below
 
 -- all clean rows are found
-pub clean_all : (survey : SurveyParts) (rows : List (List Value)) (i : ℕ) (found : List ℕ) → length rows ≡ i → found ++ clean_from i survey (drop i rows) ≡ donors_of survey rows → found ≡ donors_of survey rows
-clean_all survey rows i found end before = sym (append-nil found) ∙ ap (λ (ns : List ℕ). found ++ ns) (sym (at_drop_all (clean_from i survey) rows i (omega (arith, end)))) ∙ before
+pub clean_all : (survey : SurveyParts) (rows : List (List Value)) (i : ℕ) (found : List ℕ) → length rows ≡ i → found ++ places_from (is_clean survey) i (drop i rows) ≡ donors_of survey rows → found ≡ donors_of survey rows
+clean_all survey rows i found end before = sym (append-nil found) ∙ ap (λ (ns : List ℕ). found ++ ns) (sym (at_drop_all (places_from (is_clean survey) i) rows i (omega (arith, end)))) ∙ before

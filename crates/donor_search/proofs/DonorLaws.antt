@@ -1,7 +1,8 @@
-use Rattle.std.proofs.Common.{◌≡◌, ◌≢◌, ℕ, zero, suc, ◌+◌, ◌<◌, Bool, true, false, if◌then◌else◌, List, [], ◌∷◌, length, All, refl, subst, arith}
+use Rattle.std.proofs.Common.{◌≡◌, ◌≢◌, ℕ, zero, suc, ◌+◌, ◌<◌, true, List, [], ◌∷◌, length, All, refl, ap, ◌∙◌, subst, arith}
 use Rattle.std.specs.List.{AllByRecursion}
 use Rattle.std.proofs.lemmas.List.{length-map}
-use Rattle.std.proofs.lemmas.List.Elements.{All-append, All-cons, All-from_recursion, All-nil}
+use Rattle.std.proofs.lemmas.List.Elements.{All-from_recursion}
+use Rattle.std.proofs.lemmas.Option.{slice_get_within}
 use Rattle.edit_model.specs.FieldSets.{has_number}
 use Rattle.edit_model.specs.Parts.{SurveyParts}
 use Rattle.edit_model.specs.PlainNumbers.{HasPlain, IsPlainValue}
@@ -16,8 +17,9 @@ use Rattle.donor_measure.specs.Yardsticks.{scale_of, yardstick_at, yardstick_of,
 use Rattle.edit_model.specs.CleanRecords.{is_clean}
 use Rattle.edit_model.proofs.CleanLaws.{clean-held}
 use Rattle.edit_model.proofs.RowLaws.{row-length}
-use Rattle.donor_search.specs.CleanRows.{IsRankable, clean_from, donors_of, row_at}
+use Rattle.donor_search.specs.CleanRows.{IsRankable, donors_of, row_at}
 use Rattle.donor_search.proofs.CleanLaws.{is_row_at}
+use Rattle.donor_search.proofs.PlaceLaws.{each-place, get-at}
 
 -- Each donor can be measured at every field.
 
@@ -41,29 +43,16 @@ has_kept fields row kept is plain held f below has =
     measurable_at fields row is plain f within (held f within has)
 
 -- what holds of the number of each clean row holds of each donor
-pub each_clean : (P : ℕ → Type 0) (survey : SurveyParts) (i : ℕ) (rows : List (List Value)) → ((k : ℕ) → k < length rows → is_clean survey (row_at rows k) ≡ true → P (i + k)) → All P (clean_from i survey rows)
-each_clean P survey i [] each = All-nil P
-each_clean P survey i (row ∷ rows) each =
-    All-append P (if is_clean survey row then i ∷ [] else []) (clean_from (suc i) survey rows) (by (is_clean survey row) (λ clean. subst P (first i) (each 0 (omega arith) clean)))
-    (each_clean P survey (suc i) rows (λ k below clean. subst P (next i k) (each (suc k) (omega (arith, below)) clean)))
-  where
-    by : (b : Bool) → (b ≡ true → P i) → All P (if b then i ∷ [] else [])
-    by true holds = All-cons P i [] (holds refl) (All-nil P)
-    by false holds = All-nil P
-
-    first : (i : ℕ) → i + 0 ≡ i
-    first i = omega arith
-
-    next : (i k : ℕ) → i + suc k ≡ suc i + k
-    next i k = omega arith
-
-pub donors_give : (survey : SurveyParts) (rows : List (List Value)) → AllByRecursion (IsRow survey.fields) rows → AllByRecursion HasPlain rows → (kept : ℕ) → All (IsRankable (yardsticks_of survey.fields) rows kept) (donors_of survey rows)
-donors_give survey rows are plain kept = each_clean (IsRankable (yardsticks_of survey.fields) rows kept) survey 0 rows
-    (λ k below clean. subst (IsRankable (yardsticks_of survey.fields) rows kept) (from_zero k) (below, gives k below clean))
+pub each_clean : (P : ℕ → Type 0) (survey : SurveyParts) (rows : List (List Value)) → ((k : ℕ) → k < length rows → is_clean survey (row_at rows k) ≡ true → P k) → All P (donors_of survey rows)
+each_clean P survey rows each = each-place (is_clean survey) P 0 rows (λ k row at clean.
+    subst P (from_zero k) (each k (slice_get_within rows k row at) (ap (is_clean survey) (get-at rows k row [] at) ∙ clean)))
   where
     from_zero : (k : ℕ) → k ≡ 0 + k
     from_zero k = omega arith
 
+pub donors_give : (survey : SurveyParts) (rows : List (List Value)) → AllByRecursion (IsRow survey.fields) rows → AllByRecursion HasPlain rows → (kept : ℕ) → All (IsRankable (yardsticks_of survey.fields) rows kept) (donors_of survey rows)
+donors_give survey rows are plain kept = each_clean (IsRankable (yardsticks_of survey.fields) rows kept) survey rows (λ k below clean. (below, gives k below clean))
+  where
     gives : (k : ℕ) → k < length rows → is_clean survey (row_at rows k) ≡ true → HasMeasurable (yardsticks_of survey.fields) kept (row_at rows k)
     gives k below clean =
         let is = is_row_at survey.fields rows k are below in

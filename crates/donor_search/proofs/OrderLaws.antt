@@ -1,6 +1,7 @@
 use Rattle.std.proofs.Common.{◌≡◌, inl, inr, ℕ, zero, suc, ◌-◌, ◌<◌, ◌≤◌, ◌==◌, ◌&&◌, ◌||◌, Bool, true, false, cond, nat_lt, List, [], ◌∷◌, ◌++◌, Some, slice_get, length, take, refl, sym, ap, ◌∙◌, subst, arith}
 use Rattle.std.specs.List.{AllByRecursion, fold}
 use Rattle.std.proofs.Math.Seq.{take-append_seam}
+use Rattle.std.proofs.lemmas.List.Elements.{Contains-append_left, Contains-append_right, Contains-push}
 use Rattle.std.specs.Prelude.{IfOk, Result, Ok, Err}
 use Rattle.donor_search.specs.Rankings.{IsAmongFirst, IsInOrder, in_order, is_nearer, placed}
 use Rattle.donor_search.specs.declared.candidate.Candidate.{Candidate}
@@ -51,10 +52,10 @@ module _ {X : Type 0} (before : X → X → Bool) where
   split_order : (n : ℕ) (xs : List X) → IsInOrder before xs → AllByRecursion (IsAmongFirst before (take n xs)) xs
   split_order n [] is = tt
   split_order zero (x ∷ xs) is = (inr tt, all_more (λ z. before z x ≡ false) (IsAmongFirst before []) xs (λ z at. inr tt) is.0)
-  split_order (suc n) (x ∷ xs) is = (inl (inl refl), all_both (λ z. before z x ≡ false) (IsAmongFirst before (take n xs)) (IsAmongFirst before (x ∷ take n xs)) xs further is.0 (split_order n xs is.1))
+  split_order (suc n) (x ∷ xs) is = (inl (Contains-append_left (x ∷ []) (take n xs) x (Contains-push [] x)), all_both (λ z. before z x ≡ false) (IsAmongFirst before (take n xs)) (IsAmongFirst before (x ∷ take n xs)) xs further is.0 (split_order n xs is.1))
     where
       further : (z : X) → before z x ≡ false → IsAmongFirst before (take n xs) z → IsAmongFirst before (x ∷ take n xs) z
-      further z at (inl among) = inl (inr among)
+      further z at (inl among) = inl (Contains-append_right (x ∷ []) (take n xs) z among)
       further z at (inr none) = inr (at, none)
 
   module _ (turned : (x y : X) → before x y ≡ true → before y x ≡ false) (on : (x y z : X) → before x y ≡ true → before z y ≡ false → before z x ≡ false) where

@@ -1,21 +1,22 @@
-use Rattle.std.proofs.Common.{◌≡◌, ℕ, zero, suc, ◌+◌, ◌<◌, ◌≤◌, Bool, true, false, if◌then◌else◌, List, [], ◌∷◌, ◌++◌, All, get_or, length, take, subst, append-nil, arith}
+use Rattle.std.proofs.Common.{◌≡◌, ℕ, zero, suc, ◌+◌, ◌<◌, ◌≤◌, Bool, false, List, [], ◌∷◌, ◌++◌, All, get_or, length, take, subst, append-nil, arith}
 use Rattle.std.specs.Prelude.{nat_eq}
 use Rattle.std.specs.Cmp.{nat_eq_equiv}
-use Rattle.std.specs.List.{AllPairs, Contains, IsDistinct, fold, position_or_len}
+use Rattle.std.specs.List.{Contains, IsDistinct, fold, position_or_len}
 use Rattle.std.specs.List.Sorted.{IsPermutation, IsStrictlyIncreasing}
 use Rattle.std.proofs.lemmas.List.{length-take}
 use Rattle.std.proofs.lemmas.List.Elements.{All-contains_itself, All-take}
-use Rattle.std.proofs.lemmas.List.Kept.{AllPairs-cons, AllPairs-from_increasing}
+use Rattle.std.proofs.lemmas.List.Kept.{AllPairs-from_increasing}
 use Rattle.std.proofs.lemmas.List.Sorted.{All-permutation, IsPermutation-append_right, IsPermutation-insert, IsPermutation-middle, IsPermutation-refl, IsPermutation-sym, IsPermutation-trans}
 use Rattle.std.proofs.lemmas.Map.Keys.{IsDistinct-IsPermutation, IsDistinct-from_apart}
 use Rattle.edit_model.specs.CleanRecords.{is_clean}
 use Rattle.edit_model.specs.Parts.{SurveyParts}
 use Rattle.edit_model.specs.declared.value.Value.{Value}
 use Rattle.donor_measure.specs.declared.yardstick.Yardstick.{Yardstick}
-use Rattle.donor_search.specs.CleanRows.{IsCleanRow, clean_from, donors_of}
+use Rattle.donor_search.specs.CleanRows.{IsCleanRow, donors_of}
 use Rattle.donor_search.specs.Rankings.{distance_to, in_order, is_nearer, placed, ranking_of}
 use Rattle.donor_search.proofs.DonorLaws.{each_clean}
 use Rattle.donor_search.proofs.OrderLaws.{all_take}
+use Rattle.donor_search.proofs.PlaceLaws.{places-rise}
 
 -- Which donors a ranking has: some of the deck, no more than are asked for, and none twice.
 
@@ -49,31 +50,14 @@ once_rising xs rising = IsDistinct-from_apart nat_eq xs (λ i j d less within. a
 
 -- ---- the donors
 
-abbrev Less : ℕ → ℕ → Type 0
-Less a b = a < b
-
 module _ (survey : SurveyParts) where
-  rising_from : (i : ℕ) (rows : List (List Value)) → AllPairs Less (clean_from i survey rows)
-  rising_from i [] = λ a b d less within. absurd (omega (arith, within))
-  rising_from i (row ∷ rows) = by (is_clean survey row) (rising_from (suc i) rows)
-    where
-      later : (k : ℕ) → i < suc i + k
-      later k = omega arith
-
-      by : (b : Bool) → AllPairs Less (clean_from (suc i) survey rows) → AllPairs Less ((if b then i ∷ [] else []) ++ clean_from (suc i) survey rows)
-      by true rest = AllPairs-cons Less i (clean_from (suc i) survey rows) (each_clean (Less i) survey (suc i) rows (λ k below clean. later k)) rest
-      by false rest = rest
-
   -- the numbers of the clean rows rise
   pub donors_rise : (rows : List (List Value)) → IsStrictlyIncreasing (donors_of survey rows)
-  donors_rise rows k within = rising_from 0 rows k (k + 1) 0 (omega arith) within
+  donors_rise rows k within = places-rise (is_clean survey) 0 rows k (k + 1) 0 (omega arith) within
 
   -- each is the number of a clean row
   pub donors_clean : (rows : List (List Value)) → All (IsCleanRow survey rows) (donors_of survey rows)
-  donors_clean rows = each_clean (IsCleanRow survey rows) survey 0 rows (λ k below clean. subst (IsCleanRow survey rows) (from_zero k) (below, clean))
-    where
-      from_zero : (k : ℕ) → k ≡ 0 + k
-      from_zero k = omega arith
+  donors_clean rows = each_clean (IsCleanRow survey rows) survey rows (λ k below clean. (below, clean))
 
 -- ---- a ranking
 

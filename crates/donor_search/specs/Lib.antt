@@ -1,3 +1,4 @@
 pub mod CleanRows
+pub mod Places
 pub mod inner
 pub mod Rankings

@@ -1,11 +1,10 @@
-ghost use Rattle.std.specs.Prelude.{◌≡◌, ℕ, ◌<◌, ◌++◌, [], ◌∷◌, if◌then◌else◌, length, All, IfOk, OnOk};
+ghost use Rattle.std.specs.Prelude.{◌≡◌, ◌<◌, ◌++◌, length, All, IfOk, OnOk};
 ghost use Rattle.std.specs.List.{AllByRecursion};
 ghost use Rattle.std.specs.List.Sorted.{IsStrictlyIncreasing};
 ghost use Rattle.edit_model.specs.CleanRecords.{is_clean};
 ghost use Rattle.edit_model.specs.Rows.{IsRow};
-ghost use Rattle.edit_model.specs.PlainNumbers.{HasPlain};
-ghost use Rattle.donor_measure.specs.Yardsticks.{yardsticks_of};
-ghost use Rattle.donor_search.specs.CleanRows.{IsRankable, IsCleanRow, donors_of, row_at};
+ghost use Rattle.donor_search.specs.CleanRows.{CanAllGive, IsCleanRow, donors_of, row_at};
+ghost use Rattle.donor_search.specs.Places.{place_if};
 
 use edit_model::{Survey, is_clean};
 use foundation::OutOfMemory;
@@ -39,7 +38,7 @@ impl Deck {
         ensures clean { IfOk result (λ deck. deck ≡ donors_of survey.now sheet.now.rows) }
         ensures rows { IfOk result (λ deck. All (IsCleanRow survey.now sheet.now.rows) deck) }
         ensures rising { IfOk result (λ deck. IsStrictlyIncreasing deck) }
-        ensures measurable { IfOk result (λ deck. AllByRecursion HasPlain sheet.now.rows → (kept : ℕ) → All (IsRankable (yardsticks_of survey.now.fields) sheet.now.rows kept) deck) }
+        ensures measurable { IfOk result (CanAllGive survey.now sheet.now.rows) }
     {
         let rows = clean_rows(alloc, survey, sheet)?;
         Ok(Deck { rows })
@@ -75,7 +74,7 @@ fn push_clean(
 ) -> Result<(), OutOfMemory>
     requires row { row_no < length sheet.now.rows }
     requires fits { AllByRecursion (IsRow survey.now.fields) sheet.now.rows }
-    ensures { OnOk result (rows.new.items ≡ rows.old.items ++ (if is_clean survey.now (row_at sheet.now.rows row_no) then row_no ∷ [] else [])) }
+    ensures { OnOk result (rows.new.items ≡ rows.old.items ++ place_if (is_clean survey.now (row_at sheet.now.rows row_no)) row_no) }
 {
     if is_clean(survey, sheet.row(row_no)) {
         rows.push(row_no)?;

@@ -1,10 +1,10 @@
-ghost use Rattle.std.specs.Prelude.{◌≡◌, ◌≤◌, All, IfOk, OnOk, length, map, nat_eq, take};
-ghost use Rattle.std.specs.List.{AllByRecursion, Contains, IsDistinct};
+ghost use Rattle.std.specs.Prelude.{◌≡◌, ◌≤◌, All, IfOk, OnOk, length, map, nat_eq};
+ghost use Rattle.std.specs.List.{Contains, IsDistinct};
 ghost use Rattle.donor_measure.specs.Measures.{HasMeasurable, Measures};
 ghost use Rattle.donor_search.specs.CleanRows.{IsRankable};
-ghost use Rattle.donor_search.specs.Rankings.{IsAmongFirst, IsInOrder, distance_to, is_nearer, placed, ranking_of};
+ghost use Rattle.donor_search.specs.Rankings.{AreFirst, IsInOrder, distance_to, nearer_to, ranking_of};
 ghost use Rattle.donor_search.specs.declared.candidate.Candidate.{Candidate as AnyCandidate};
-ghost use Rattle.donor_search.specs.inner.Candidates.{candidate_of, is_before};
+ghost use Rattle.donor_search.specs.inner.Candidates.{Ranks, is_before};
 
 use crate::candidate::{Candidate, farthest, put};
 use crate::deck::Deck;
@@ -30,11 +30,11 @@ pub fn ranking<F: Fn(u32, &Value, &Value) -> u64>(
     requires row { HasMeasurable measure.now.yardsticks kept row.now }
     requires donors { All (IsRankable measure.now.yardsticks sheet.now.rows kept) deck.now }
     ensures ranking { IfOk result (λ ranking. ranking.items ≡ ranking_of measure.now.yardsticks sheet.now.rows deck.now row.now kept near) }
-    ensures order { IfOk result (λ ranking. IsInOrder (is_nearer (distance_to measure.now.yardsticks sheet.now.rows row.now kept)) ranking.items) }
+    ensures order { IfOk result (λ ranking. IsInOrder (nearer_to measure.now.yardsticks sheet.now.rows row.now kept) ranking.items) }
     ensures few { IfOk result (λ ranking. length ranking.items ≤ near) }
     ensures among { IfOk result (λ ranking. All (Contains deck.now) ranking.items) }
     ensures once { IfOk result (λ ranking. IsDistinct nat_eq ranking.items) }
-    ensures nearest { IfOk result (λ ranking. AllByRecursion (IsAmongFirst (is_nearer (distance_to measure.now.yardsticks sheet.now.rows row.now kept)) ranking.items) deck.now) }
+    ensures nearest { IfOk result (λ ranking. AreFirst (nearer_to measure.now.yardsticks sheet.now.rows row.now kept) ranking.items deck.now) }
 {
     let mut nearest = Vec::new(alloc);
     for donor in deck.rows() {
@@ -53,7 +53,7 @@ pub fn ranking<F: Fn(u32, &Value, &Value) -> u64>(
 
 // Puts the donor at its place among at most `near`, of which no more than that stay.
 fn rank<F: Fn(u32, &Value, &Value) -> u64>(
-    nearest: &mut Vec<Candidate>,
+    best: &mut Vec<Candidate>,
     donor: u32,
     sheet: &Sheet,
     measure: &Measure<F>,
@@ -64,18 +64,18 @@ fn rank<F: Fn(u32, &Value, &Value) -> u64>(
     requires measures { Measures F.Fn measure.now.closure measure.now.yardsticks }
     requires row { HasMeasurable measure.now.yardsticks kept row.now }
     requires donor { IsRankable measure.now.yardsticks sheet.now.rows kept donor }
-    requires few { length nearest.old.items ≤ near }
-    requires order { IsInOrder is_before nearest.old.items }
-    ensures { OnOk result (nearest.new.items ≡ take near (placed is_before (candidate_of (distance_to measure.now.yardsticks sheet.now.rows row.now kept) donor) nearest.old.items)) }
+    requires few { length best.old.items ≤ near }
+    requires order { IsInOrder is_before best.old.items }
+    ensures { OnOk result (Ranks (distance_to measure.now.yardsticks sheet.now.rows row.now kept) near donor best.old.items best.new.items) }
 {
     let values = sheet.row(donor);
-    match farthest(nearest, near) {
+    match farthest(best, near) {
         None => {
             let distance = measure.between(row, values, kept);
-            put(nearest, Candidate { distance, donor }, near)
+            put(best, Candidate { distance, donor }, near)
         }
         Some(most) => match measure.between_within(row, values, kept, most) {
-            Some(distance) => put(nearest, Candidate { distance, donor }, near),
+            Some(distance) => put(best, Candidate { distance, donor }, near),
             None => Ok(()),
         },
     }

@@ -38,7 +38,7 @@ neither (Some n) lines next none later = absurd (cc)
 
 module _ (survey : SurveyParts) (kept : List Bool) where
   -- what is said of a line has no fault
-  own-fault : (place : ℕ) (line : LineParts) (verdict : Verdict) → ((steps : List Step) → verdict ≡ Dropped steps → RefutedBy (refutation_at survey kept place line) steps) → verdict_fault survey kept place line (refutation_by verdict) ≡ None
+  own-fault : (place : ℕ) (line : LineParts) (verdict : Verdict) → ((steps : List Step) → verdict ≡ Dropped steps → RefutedBy (refutation_at survey kept place line) steps) → verdict_fault (refutation_at survey kept place line) (refutation_by verdict) ≡ None
   own-fault place line (Kept why) refuted = refl
   own-fault place line (Dropped steps) refuted = no-fault (refutation_at survey kept place line) steps (refuted steps refl)
 
@@ -49,7 +49,7 @@ module _ (survey : SurveyParts) (kept : List Bool) where
   none-from place [] verdicts refuted = refl
   none-from place (line ∷ lines) [] refuted = refl
   none-from place (line ∷ lines) (verdict ∷ verdicts) refuted =
-      neither (verdict_fault survey kept place line (refutation_by verdict)) (length (verdict_lines (refutation_by verdict))) (verdicts_fault survey kept (suc place) lines (map refutation_by verdicts))
+      neither (verdict_fault (refutation_at survey kept place line) (refutation_by verdict)) (length (verdict_lines (refutation_by verdict))) (verdicts_fault survey kept (suc place) lines (map refutation_by verdicts))
       (own-fault place line verdict (λ steps is. subst (λ n. RefutedBy (refutation_at survey kept n line) steps) (here place) (refuted 0 line steps refl (ap (λ (v : Verdict). Some v) is))))
       (none-from (suc place) lines verdicts (λ k l steps at told. subst (λ n. RefutedBy (refutation_at survey kept n l) steps) (later place k) (refuted (suc k) l steps at told)))
     where

@@ -6,6 +6,7 @@ pub mod DroppedLaws
 pub mod EventLaws
 pub mod GiftFaults
 pub mod GivenValues
+pub mod GuaranteeLaws
 pub mod OutcomeLaws
 pub mod ReadBackLaws
 pub mod ReleaseLaws

@@ -34,16 +34,17 @@ use Rattle.record_workers.specs.Said.{Says}
 use Rattle.cert_check.specs.Releases.{Audit, IsValidRelease, audit_of, head_fault, is_released, limits_fit, rules_of}
 use Rattle.cert_check.specs.RowChecks.{IsReleased, RowFiles, RowRules}
 use Rattle.redundancy.proofs.BaseLaws.{verdicts-count}
-use Rattle.pruned_rules.specs.Pruned.{kept_edits, pruning_budget, rule_verdicts}
+use Rattle.pruned_rules.specs.Pruned.{kept_edits, pruning_budget, rule_flags, rule_verdicts}
 use Rattle.pruned_rules.proofs.KeptLaws.{rules-follow}
-use Rattle.edit_release.specs.Edits.{IsShown, proof_of, refutation_by, said}
-use Rattle.edit_release.specs.Releases.{AllGiven, IsReleaseOf, written_in}
+use Rattle.edit_release.specs.Edits.{proof_of, refutation_by, said}
+use Rattle.edit_release.specs.Guarantee.{IsGuaranteed, IsShown}
+use Rattle.edit_release.specs.Releases.{AllGiven, HasGuarantee, IsReleaseOf, written_in}
 use Rattle.edit_release.specs.declared.release.Release.{Release}
 use Rattle.edit_release.proofs.CoherentLaws.{said-coherent}
 use Rattle.edit_release.proofs.DroppedLaws.{none-faulty, verdicts-coherent}
 use Rattle.edit_release.proofs.ReleasedLaws.{IsSaidReleased, are-released, end-said, ends-said}
 use Rattle.edit_release.proofs.RowsLaws.{IsValidEnd, each-follows, end-released, own_files, rows-valid}
-use Rattle.edit_release.proofs.SaidLaws.{IsReleasedSaid, rules-are, said-valid, tree-shown}
+use Rattle.edit_release.proofs.SaidLaws.{IsReleasedSaid, flags-said, rules-are, said-valid, tree-shown}
 use Rattle.donor_search.specs.CleanRows.{row_at}
 use Rattle.record_workers.specs.declared.terms.Terms.{Terms}
 use Rattle.donor_book.specs.declared.claim.Entry.{Entry}
@@ -78,7 +79,7 @@ module _ (survey : SurveyParts) (sheet : SheetParts) (released proof : List ℕ)
 
 module _ (survey : SurveyParts) (formed : IsWellFormed survey) (budget : ℕ) (all : List (List Value)) where
   -- the trees of all records are valid
-  pub all-shown : (rows : List (List Value)) (ends : List RowEnd) → AllByRecursion (IsRow survey.fields) rows → AllZip (IsEndOf survey (kept_edits survey) budget all) rows ends → AllZip (IsShown survey) rows ends
+  pub all-shown : (rows : List (List Value)) (ends : List RowEnd) → AllByRecursion (IsRow survey.fields) rows → AllZip (IsEndOf survey (kept_edits survey) budget all) rows ends → AllZip (IsShown survey (rule_flags survey)) rows ends
   all-shown [] [] are each = tt
   all-shown [] (end ∷ ends) are each = absurd each
   all-shown (row ∷ rows) [] are each = absurd each
@@ -120,8 +121,8 @@ module _ (survey : SurveyParts) (sheet : SheetParts) (bytes : List ℕ) (terms :
   r = rules_of audit (proof_of survey terms ends history)
 
   row-valid : (reads : List (List ℕ)) (row : List Value) (end : RowEnd) → AreValues survey.fields sheet.columns reads row → length reads ≡ length sheet.header → IsEndOf survey (kept_edits survey) terms.budget sheet.rows row end
-      → Says survey (kept_edits survey) terms.budget row end → IsShown survey row end → IsValidEnd r survey.fields sheet.columns reads row end
-  row-valid reads row end values long is says shown = (
+      → Says survey (kept_edits survey) terms.budget row end → IsValidEnd r survey.fields sheet.columns reads row end
+  row-valid reads row end values long is says = (
     told,
     said-valid survey row terms.budget formed is_row r (own_files survey.fields sheet.columns reads row end) sheet.rows end (rules-are survey sheet audit.released audit.proof terms ends history) refl is
         (released-told r (own_files survey.fields sheet.columns reads row end) (said end).outcome (said end).gift end.gift told
@@ -148,22 +149,44 @@ module _ (survey : SurveyParts) (sheet : SheetParts) (bytes : List ℕ) (terms :
     rows = released_rows survey.fields sheet.columns sheet.raws ends;
     released = are-released survey bytes sheet terms ends history audit.proof read each (ends-said survey (kept_edits survey) terms.budget sheet.rows sheet.rows ends each);
     each = rows-valid r survey.fields sheet.columns sheet.raws sheet.rows ends
-        (each-follows (IsValidEnd r survey.fields sheet.columns) survey (kept_edits survey) sheet.columns (length sheet.header) terms.budget sheet.rows sheet.raws sheet.rows ends read.values (raws_as_long_as_header survey.fields bytes sheet read) each say
-        (all-shown survey formed terms.budget sheet.rows sheet.rows ends are each) row-valid);
-    claims = claims-valid survey terms sheet.rows ends history formed each donations;
+        (each-follows (IsValidEnd r survey.fields sheet.columns) survey (kept_edits survey) sheet.columns (length sheet.header) terms.budget sheet.rows sheet.raws sheet.rows ends read.values (raws_as_long_as_header survey.fields bytes sheet read) each say row-valid);
+    claims = claims-valid survey terms sheet.rows ends history donations;
   }
 
-  -- what was written is the edit of the sheet
+  -- what is guaranteed of them
+  abbrev guaranteed-of : IsGuaranteed survey sheet terms ends history
+  guaranteed-of = record {
+    kept = rule_flags survey;
+    follow = rules-follow survey formed;
+    say = say;
+    shown = all-shown survey formed terms.budget sheet.rows sheet.rows ends are each;
+    legal = donations.legal;
+  }
+
+  -- what was written tells of it
+  pub guarantee-of : (release : Release) (p : Proof) → p ≡ proof_of survey terms ends history → release.proof.items ≡ proof_text p → release.released.items ≡ released_text_of survey sheet ends → HasGuarantee survey sheet terms release
+  guarantee-of release p same proof released = record {
+    ends = ends;
+    history = history;
+    guaranteed = guaranteed-of;
+    released = released;
+    told = proof_of survey terms ends history;
+    proof = proof ∙ ap proof_text same;
+    kept = flags-said (rule_verdicts survey);
+    rows = refl;
+    claims = refl;
+  }
+
+  -- and is the edit of the sheet
   pub release-of : (release : Release) (p : Proof) → p ≡ proof_of survey terms ends history → IsSized p → release.proof.items ≡ proof_text p → release.reasons.items ≡ reasons_text_of survey sheet ends → release.released.items ≡ released_text_of survey sheet ends
       → (written_in release).summary ≡ summary_lines survey ends history → (IsTrue release.whole ↔ AllGiven ends) → IsReleaseOf survey sheet terms release
   release-of release p same sized proof reasons released summary whole = record {
     ends = ends;
     history = history;
     edit = record {
-      dropped = rules-follow survey formed;
+      guaranteed = guaranteed-of;
+      kept = refl;
       each = each;
-      say = say;
-      shown = all-shown survey formed terms.budget sheet.rows sheet.rows ends are each;
       donations = donations;
       proof = text;
       reasons = reasons;

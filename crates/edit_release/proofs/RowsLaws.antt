@@ -20,7 +20,7 @@ use Rattle.record_workers.specs.Ends.{ComesOf, IsEndOf}
 use Rattle.record_workers.specs.Said.{OutcomeSays, Says}
 use Rattle.cert_check.specs.Releases.{AreValidRows, behind, files_of, is_released}
 use Rattle.cert_check.specs.RowChecks.{IsReleased, IsValidRow, RowFiles, RowRules}
-use Rattle.edit_release.specs.Edits.{IsShown, said, said_of}
+use Rattle.edit_release.specs.Edits.{said, said_of}
 use Rattle.edit_release.proofs.ReleasedLaws.{IsSaidReleased, clean-released, row-released}
 
 -- ---- the texts that are released of a record
@@ -79,16 +79,16 @@ rows-valid r fields columns (reads ∷ raws) (row ∷ rows) (end ∷ ends) ((tol
 
 -- what follows of the texts of a row as long as the header, of its values and of its end holds of each record
 pub each-follows : (P : List (List ℕ) → List Value → RowEnd → Type 0) (survey : SurveyParts) (edits : EditsParts) (columns : List ℕ) (width budget : ℕ) (all : List (List Value)) (raws : List (List (List ℕ))) (rows : List (List Value)) (ends : List RowEnd)
-    → AreRows survey.fields columns raws rows → AllByRecursion (λ (reads : List (List ℕ)). length reads ≡ width) raws → AllZip (IsEndOf survey edits budget all) rows ends → AllZip (Says survey edits budget) rows ends → AllZip (IsShown survey) rows ends
-    → ((reads : List (List ℕ)) (row : List Value) (end : RowEnd) → AreValues survey.fields columns reads row → length reads ≡ width → IsEndOf survey edits budget all row end → Says survey edits budget row end → IsShown survey row end → P reads row end)
+    → AreRows survey.fields columns raws rows → AllByRecursion (λ (reads : List (List ℕ)). length reads ≡ width) raws → AllZip (IsEndOf survey edits budget all) rows ends → AllZip (Says survey edits budget) rows ends
+    → ((reads : List (List ℕ)) (row : List Value) (end : RowEnd) → AreValues survey.fields columns reads row → length reads ≡ width → IsEndOf survey edits budget all row end → Says survey edits budget row end → P reads row end)
     → AreEach P raws rows ends
-each-follows P survey edits columns width budget all [] [] [] values long each say shown follows = tt
-each-follows P survey edits columns width budget all [] [] (end ∷ ends) values long each say shown follows = absurd each
-each-follows P survey edits columns width budget all [] (row ∷ rows) ends values long each say shown follows = absurd values
-each-follows P survey edits columns width budget all (reads ∷ raws) [] ends values long each say shown follows = absurd values
-each-follows P survey edits columns width budget all (reads ∷ raws) (row ∷ rows) [] values long each say shown follows = absurd each
-each-follows P survey edits columns width budget all (reads ∷ raws) (row ∷ rows) (end ∷ ends) values long each say shown follows =
-    (follows reads row end values.0 long.0 each.0 say.0 shown.0, each-follows P survey edits columns width budget all raws rows ends values.1 long.1 each.1 say.1 shown.1 follows)
+each-follows P survey edits columns width budget all [] [] [] values long each say follows = tt
+each-follows P survey edits columns width budget all [] [] (end ∷ ends) values long each say follows = absurd each
+each-follows P survey edits columns width budget all [] (row ∷ rows) ends values long each say follows = absurd values
+each-follows P survey edits columns width budget all (reads ∷ raws) [] ends values long each say follows = absurd values
+each-follows P survey edits columns width budget all (reads ∷ raws) (row ∷ rows) [] values long each say follows = absurd each
+each-follows P survey edits columns width budget all (reads ∷ raws) (row ∷ rows) (end ∷ ends) values long each say follows =
+    (follows reads row end values.0 long.0 each.0 say.0, each-follows P survey edits columns width budget all raws rows ends values.1 long.1 each.1 say.1 follows)
 
 -- ---- a record that was given values
 

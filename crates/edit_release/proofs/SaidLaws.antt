@@ -22,7 +22,8 @@ use Rattle.redundancy.specs.Verdicts.{is_kept}
 use Rattle.redundancy.specs.declared.verdict.Verdict.{Verdict}
 use Rattle.redundancy.specs.declared.verdict.Verdict.TheVariants.{Dropped, Kept}
 use Rattle.pruned_rules.specs.Pruned.{kept_edits, rule_flags, rule_verdicts}
-use Rattle.edit_release.specs.Edits.{HasTree, IsShown, proof_of, refutation_by, said, said_of}
+use Rattle.edit_release.specs.Edits.{proof_of, refutation_by, said, said_of}
+use Rattle.edit_release.specs.Guarantee.{HasTree, IsShown}
 use Rattle.edit_release.proofs.CaseLaws.{rule-case, rules-given}
 use Rattle.edit_release.proofs.EventLaws.{event-there}
 use Rattle.edit_release.proofs.GiftFaults.{stop-there}
@@ -56,13 +57,13 @@ IsReleasedSaid r f o stop = Unit {0}
 
 module _ (survey : SurveyParts) (row : List Value) (budget : ℕ) (formed : IsWellFormed survey) (is : IsRow survey.fields row) where
   -- the tree of an outcome is valid
-  pub has-tree : (o : Outcome) → outcome_of (case_of survey (kept_edits survey) row) budget ≡ o → HasTree survey row o
+  pub has-tree : (o : Outcome) → outcome_of (case_of survey (kept_edits survey) row) budget ≡ o → HasTree survey (rule_flags survey) row o
   has-tree (outcome.Change path weight cert) e = change-tree (case_of survey (kept_edits survey) row) (rule-case survey row formed is) (normal_lines_of survey) (rule_flags survey) (rules-given survey) budget path weight cert e
   has-tree (outcome.Budget path work) e = tt
   has-tree (outcome.Overflow path event) e = tt
   has-tree (outcome.Contradictory cert) e = contradiction-tree (case_of survey (kept_edits survey) row) (rule-case survey row formed is) (normal_lines_of survey) (rule_flags survey) (rules-given survey) budget cert e
 
-  pub tree-shown : (all : List (List Value)) (end : RowEnd) → IsEndOf survey (kept_edits survey) budget all row end → IsShown survey row end
+  pub tree-shown : (all : List (List Value)) (end : RowEnd) → IsEndOf survey (kept_edits survey) budget all row end → IsShown survey (rule_flags survey) row end
   tree-shown all end ends = has-tree end.proof.outcome (sym ends.outcome)
 
   module _ (columns : List ℕ) (reads : List (List ℕ)) (texts : Option (List (List ℕ))) where
@@ -79,12 +80,12 @@ module _ (survey : SurveyParts) (row : List Value) (budget : ℕ) (formed : IsWe
     stopped : (donor : Option (List Value)) (path : List Bool) (weight : ℕ) (cert : Cert) (stop : GiftFault) (gift : Option Gift) → outcome_of (case_of survey (kept_edits survey) row) budget ≡ outcome.Change path weight cert
         → ComesOf survey (kept_edits survey) row donor (outcome.Change path weight cert) (Some stop) gift → IsValidGift r f path weight cert.leaves stop
     stopped donor path weight cert stop None e follows =
-        (change-is (case_of survey (kept_edits survey) row) budget path weight cert e, has-tree _ e, stop-there survey (kept_edits survey) row follows.changed donor stop follows.stops)
+        ((change-is (case_of survey (kept_edits survey) row) budget path weight cert e, has-tree _ e), stop-there survey (kept_edits survey) row follows.changed donor stop follows.stops)
     stopped donor path weight cert stop (Some gift) e follows = absurd follows
 
     right-said : (donor : Option (List Value)) (o : Outcome) (stop : Option GiftFault) (gift : Option Gift) → outcome_of (case_of survey (kept_edits survey) row) budget ≡ o → ComesOf survey (kept_edits survey) row donor o stop gift → IsRight (said_of o stop)
     right-said donor (outcome.Change path zero cert) None gift e follows released = released
-    right-said donor (outcome.Change path (suc w) cert) None gift e follows released = (change-is (case_of survey (kept_edits survey) row) budget path (suc w) cert e, has-tree _ e, released)
+    right-said donor (outcome.Change path (suc w) cert) None gift e follows released = ((change-is (case_of survey (kept_edits survey) row) budget path (suc w) cert e, has-tree _ e), released)
     right-said donor (outcome.Change path zero cert) (Some stop) gift e follows released = stopped donor path zero cert stop gift e follows
     right-said donor (outcome.Change path (suc w) cert) (Some stop) gift e follows released = stopped donor path (suc w) cert stop gift e follows
     right-said donor (outcome.Budget path work) stop gift e follows released = work-within (case_of survey (kept_edits survey) row) budget path work e

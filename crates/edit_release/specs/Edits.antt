@@ -1,22 +1,17 @@
 -- What an edit makes of the records of a survey.
-use Rattle.std.specs.Prelude.{◌≡◌, ⊤, ℕ, zero, List, [], Option, Some, None, map}
+use Rattle.std.specs.Prelude.{◌≡◌, ℕ, zero, List, [], Option, Some, None, map}
 use Rattle.std.specs.List.{AllZip}
 use Rattle.derivation.specs.declared.step.Step.{Step}
-use Rattle.edit_line.specs.Lines.{Follows, LineParts}
-use Rattle.edit_line.specs.Reductions.{IsIn}
 use Rattle.edit_model.specs.Parts.{SurveyParts}
-use Rattle.edit_model.specs.declared.value.Value.{Value}
-use Rattle.edit_normal.specs.RuleLines.{normal_lines_of}
-use Rattle.bound_cert.specs.ValidTrees.{IsValidTree, tree_case}
-use Rattle.bound_cert.specs.declared.cert.Cert.{Cert}
 use Rattle.bound_cert.specs.declared.outcome.GiftFault.{GiftFault}
 use Rattle.bound_cert.specs.declared.outcome.Outcome.{Outcome}
-use Rattle.bound_cert.specs.declared.outcome.Outcome.TheVariants.{Change, Contradictory}
+use Rattle.bound_cert.specs.declared.outcome.Outcome.TheVariants.{Change}
 use Rattle.bound_cert.specs.declared.outcome.RowProof.{RowProof}
 use Rattle.record_text.specs.Sheets.{SheetParts}
 use Rattle.proof_grammar.specs.ProofLines.{proof_text}
 use Rattle.proof_grammar.specs.declared.proof.Proof.{Proof}
 use Rattle.cert_check.specs.Releases.{IsValidRelease, audit_of}
+use Rattle.cert_check.specs.Shown.{AllFollow}
 use Rattle.edit_report.specs.Reasons.{reasons_text_of}
 use Rattle.edit_report.specs.Released.{released_text_of}
 use Rattle.edit_report.specs.Summaries.{summary_lines}
@@ -24,12 +19,11 @@ use Rattle.edit_report.specs.declared.end.RowEnd.{RowEnd}
 use Rattle.donor_book.specs.declared.claim.Entry.{Entry}
 use Rattle.record_workers.specs.Donations.{AreDonations}
 use Rattle.record_workers.specs.Ends.{IsEndOf}
-use Rattle.record_workers.specs.Said.{Says}
 use Rattle.record_workers.specs.declared.terms.Terms.{Terms}
-use Rattle.redundancy.specs.Verdicts.{kept_lines}
 use Rattle.redundancy.specs.declared.verdict.Verdict.{Verdict}
 use Rattle.redundancy.specs.declared.verdict.Verdict.TheVariants.{Dropped, Kept}
 use Rattle.pruned_rules.specs.Pruned.{kept_edits, rule_flags, rule_verdicts}
+use Rattle.edit_release.specs.Guarantee.{IsGuaranteed}
 
 -- ---- the proof
 
@@ -38,7 +32,7 @@ abbrev pub said_of : Outcome → Option GiftFault → RowProof
 said_of (Change path zero cert) None = record { outcome = Change [] zero cert; gift = None }
 said_of outcome gift = record { outcome = outcome; gift = gift }
 
--- the same of the end of a record
+-- what the proof says of a record that ended so
 abbrev pub said : RowEnd → RowProof
 said end = said_of end.proof.outcome end.proof.gift
 
@@ -47,25 +41,20 @@ abbrev pub refutation_by : Verdict → Option (List Step)
 refutation_by (Kept why) = None
 refutation_by (Dropped steps) = Some steps
 
+-- the proof on these terms that tells these verdicts on the lines of the rules, these ends of the records, and these claims
+abbrev pub proof_by : List Verdict → Terms → List RowEnd → List Entry → Proof
+proof_by verdicts terms ends history = record {
+  limit = terms.limit;
+  near = terms.near;
+  budget = terms.budget;
+  verdicts = map refutation_by verdicts;
+  rows = map said ends;
+  claims = history;
+}
+
 -- the proof of an edit on these terms
 abbrev pub proof_of : SurveyParts → Terms → List RowEnd → List Entry → Proof
-proof_of survey terms ends history =
-    record { limit = terms.limit; near = terms.near; budget = terms.budget; verdicts = map refutation_by (rule_verdicts survey); rows = map said ends; claims = history }
-
--- ---- proof trees
-
--- the tree of a record is valid over the lines of the rules that are kept, with this weight or with none
-abbrev pub IsTreeOf : SurveyParts → List Value → Option ℕ → Cert → Type 0
-IsTreeOf survey row weight cert = IsValidTree (tree_case survey (normal_lines_of survey) (rule_flags survey) row weight) cert.leaves
-
--- a change is shown by a valid tree of its weight, and a contradiction by one without a weight
-abbrev pub HasTree : SurveyParts → List Value → Outcome → Type 0
-HasTree survey row (Change path weight cert) = IsTreeOf survey row (Some weight) cert
-HasTree survey row (Contradictory cert) = IsTreeOf survey row None cert
-HasTree survey row outcome = ⊤
-
-abbrev pub IsShown : SurveyParts → List Value → RowEnd → Type 0
-IsShown survey row end = HasTree survey row end.proof.outcome
+proof_of survey terms ends history = proof_by (rule_verdicts survey) terms ends history
 
 -- ---- the edit
 
@@ -78,14 +67,15 @@ pub record Written : Type 0 where
 
 -- each line of the rules that is dropped follows from those that are kept
 abbrev pub DroppedFollow : SurveyParts → Type 0
-DroppedFollow survey = (line : LineParts) → IsIn line (normal_lines_of survey) → Follows (kept_lines (normal_lines_of survey) (rule_verdicts survey)) line
+DroppedFollow survey = AllFollow survey (rule_flags survey)
 
--- the edit of a sheet on these terms: each dropped line of the rules follows from the kept ones; what becomes of each record, what this says of it in terms of corrections, and the tree that shows it; the claims of donors; what is written and printed of all; and that the files are a valid release
-pub record IsEditOf (survey : SurveyParts) (sheet : SheetParts) (terms : Terms) (ends : List RowEnd) (history : List Entry) (written : Written) : Type 0 where
-  pub dropped : DroppedFollow survey
+-- the edit of a sheet on these terms: what is guaranteed, over the lines of the rules that the verdicts keep; what becomes of
+-- each record; the claims of donors; what is written and printed of all; and that the files are a valid release
+pub record IsEditOf (survey : SurveyParts) (sheet : SheetParts) (terms : Terms)
+    (ends : List RowEnd) (history : List Entry) (written : Written) : Type 0 where
+  pub guaranteed : IsGuaranteed survey sheet terms ends history
+  pub kept : guaranteed.kept ≡ rule_flags survey
   pub each : AllZip (IsEndOf survey (kept_edits survey) terms.budget sheet.rows) sheet.rows ends
-  pub say : AllZip (Says survey (kept_edits survey) terms.budget) sheet.rows ends
-  pub shown : AllZip (IsShown survey) sheet.rows ends
   pub donations : AreDonations survey sheet.rows terms ends history
   pub proof : written.proof ≡ proof_text (proof_of survey terms ends history)
   pub reasons : written.reasons ≡ reasons_text_of survey sheet ends

@@ -1,21 +1,44 @@
 -- What an edit gives.
-use Rattle.std.specs.Prelude.{◌↔◌, IsSome, IsTrue, List, map}
+use Rattle.std.specs.Prelude.{◌≡◌, ◌↔◌, IsSome, IsTrue, List, map}
 use Rattle.std.specs.List.{AllByRecursion}
 use Rattle.edit_model.specs.Parts.{SurveyParts}
+use Rattle.edit_report.specs.Released.{released_text_of}
 use Rattle.edit_report.specs.declared.end.RowEnd.{RowEnd}
+use Rattle.proof_grammar.specs.ProofLines.{proof_text}
+use Rattle.proof_grammar.specs.declared.proof.Proof.{Proof}
+use Rattle.cert_check.specs.Dropped.{kept_flags}
 use Rattle.donor_book.specs.declared.claim.Entry.{Entry}
 use Rattle.record_text.specs.Sheets.{SheetParts}
 use Rattle.record_workers.specs.declared.terms.Terms.{Terms}
-use Rattle.edit_release.specs.Edits.{IsEditOf, Written}
+use Rattle.edit_release.specs.Edits.{IsEditOf, Written, said}
+use Rattle.edit_release.specs.Guarantee.{IsGuaranteed}
 use Rattle.edit_release.specs.declared.release.Release.{Release}
 
 -- each record was given values: all are released
 abbrev pub AllGiven : List RowEnd → Type 0
 AllGiven ends = AllByRecursion (λ (end : RowEnd). IsSome end.gift) ends
 
--- the texts as contracts see them
+-- what it writes and prints, as contracts see it
 abbrev pub written_in : Release → Written
-written_in r = record { proof = r.proof.items; reasons = r.reasons.items; released = r.released.items; summary = map (λ line. line.items) r.summary }
+written_in r = record {
+  proof = r.proof.items;
+  reasons = r.reasons.items;
+  released = r.released.items;
+  summary = map (λ line. line.items) r.summary;
+}
+
+-- the release guarantee of a sheet on these terms: it holds of ends of the records and of claims of donors of which the released
+-- file has the values, and the proof tells the lines of the rules that are kept, what was found with its trees, and the claims
+pub record HasGuarantee (survey : SurveyParts) (sheet : SheetParts) (terms : Terms) (release : Release) : Type 0 where
+  pub ends : List RowEnd
+  pub history : List Entry
+  pub guaranteed : IsGuaranteed survey sheet terms ends history
+  pub released : release.released.items ≡ released_text_of survey sheet ends
+  pub told : Proof
+  pub proof : release.proof.items ≡ proof_text told
+  pub kept : kept_flags told ≡ guaranteed.kept
+  pub rows : told.rows ≡ map said ends
+  pub claims : told.claims ≡ history
 
 -- it is the edit of a sheet on these terms, and tells whether all records are released
 pub record IsReleaseOf (survey : SurveyParts) (sheet : SheetParts) (terms : Terms) (release : Release) : Type 0 where

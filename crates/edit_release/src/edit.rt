@@ -5,7 +5,7 @@ ghost use Rattle.donor_measure.specs.Yardsticks.{yardsticks_of};
 ghost use Rattle.edit_model.specs.PlainNumbers.{HasPlain};
 ghost use Rattle.record_text.specs.Sheets.{IsSheet};
 ghost use Rattle.record_workers.specs.Donations.{AreTerms};
-ghost use Rattle.edit_release.specs.Releases.{AllGiven, IsReleaseOf};
+ghost use Rattle.edit_release.specs.Releases.{AllGiven, HasGuarantee, IsReleaseOf};
 
 use crate::proof::proof_of;
 use crate::release::Release;
@@ -35,6 +35,7 @@ pub fn edit_sheet<F: Fn(u32, &Value, &Value) -> u64>(
     requires measures { Measures F.Fn measure.now.closure measure.now.yardsticks }
     requires yardsticks { measure.now.yardsticks ≡ yardsticks_of survey.now.fields }
     requires terms { AreTerms terms }
+    ensures guaranteed { IfOk result (HasGuarantee survey.now sheet.now terms) }
     ensures edit { IfOk result (IsReleaseOf survey.now sheet.now terms) }
 {
     let _fields = survey.fields(); // read for what it says: the survey is well formed

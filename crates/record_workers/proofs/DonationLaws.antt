@@ -14,9 +14,10 @@ use Rattle.donor_book.specs.declared.claim.Entry.{Entry}
 use Rattle.donor_book.specs.declared.claim.Won.{Won}
 use Rattle.donor_book.proofs.LegalLaws.{legal_fresh, legal_push, wins_push}
 use Rattle.donor_search.specs.CleanRows.{row_at}
+use Rattle.donor_search.specs.Places.{place_if, places_from}
 use Rattle.edit_report.specs.Ends.{path_found}
 use Rattle.edit_report.specs.declared.end.RowEnd.{RowEnd}
-use Rattle.record_workers.specs.Donations.{AreDonations, IsRanked, IsRankingOf, claimers_from, claims_donor, donor_in, reply_of}
+use Rattle.record_workers.specs.Donations.{AreDonations, IsRanked, IsRankingOf, donor_in, end_claims, reply_of}
 use Rattle.record_workers.specs.declared.terms.Terms.{Terms}
 use Rattle.record_workers.specs.inner.Donors.{Donates}
 
@@ -25,22 +26,22 @@ use Rattle.record_workers.specs.inner.Donors.{Donates}
 -- ---- which records claimed
 
 -- one record more
-claimers-push : (i : ℕ) (ends : List RowEnd) (end : RowEnd) → claimers_from i (ends ++ end ∷ []) ≡ claimers_from i ends ++ (if claims_donor end.proof.outcome then (i + length ends) ∷ [] else [])
+claimers-push : (i : ℕ) (ends : List RowEnd) (end : RowEnd) → places_from end_claims i (ends ++ end ∷ []) ≡ places_from end_claims i ends ++ (place_if (end_claims end) (i + length ends))
 claimers-push i [] end =
     let same : i ≡ i + 0 = omega arith in
-    append-nil (if claims_donor end.proof.outcome then i ∷ [] else []) ∙ ap (λ (k : ℕ). if claims_donor end.proof.outcome then k ∷ [] else []) same
+    append-nil (place_if (end_claims end) i) ∙ ap (λ (k : ℕ). place_if (end_claims end) k) same
 claimers-push i (first ∷ ends) end =
     let next : suc i + length ends ≡ i + suc (length ends) = omega arith in
-    ap (λ (ns : List ℕ). (if claims_donor first.proof.outcome then i ∷ [] else []) ++ ns) (claimers-push (suc i) ends end)
-    ∙ sym (append_assoc (if claims_donor first.proof.outcome then i ∷ [] else []) (claimers_from (suc i) ends) (if claims_donor end.proof.outcome then (suc i + length ends) ∷ [] else []))
-    ∙ ap (λ (k : ℕ). claimers_from i (first ∷ ends) ++ (if claims_donor end.proof.outcome then k ∷ [] else [])) next
+    ap (λ (ns : List ℕ). (place_if (end_claims first) i) ++ ns) (claimers-push (suc i) ends end)
+    ∙ sym (append_assoc (place_if (end_claims first) i) (places_from end_claims (suc i) ends) (place_if (end_claims end) (suc i + length ends)))
+    ∙ ap (λ (k : ℕ). places_from end_claims i (first ∷ ends) ++ (place_if (end_claims end) k)) next
 
 -- they are among the records so far
-claimers-below : (i n : ℕ) (ends : List RowEnd) → i + length ends ≤ n → AllByRecursion (λ k. k < n) (claimers_from i ends)
+claimers-below : (i n : ℕ) (ends : List RowEnd) → i + length ends ≤ n → AllByRecursion (λ k. k < n) (places_from end_claims i ends)
 claimers-below i n [] few = tt
-claimers-below i n (end ∷ ends) few = by (claims_donor end.proof.outcome) (claimers-below (suc i) n ends (omega (arith, few)))
+claimers-below i n (end ∷ ends) few = by (end_claims end) (claimers-below (suc i) n ends (omega (arith, few)))
   where
-    by : (b : Bool) → AllByRecursion (λ k. k < n) (claimers_from (suc i) ends) → AllByRecursion (λ k. k < n) ((if b then i ∷ [] else []) ++ claimers_from (suc i) ends)
+    by : (b : Bool) → AllByRecursion (λ k. k < n) (places_from end_claims (suc i) ends) → AllByRecursion (λ k. k < n) (place_if b i ++ places_from end_claims (suc i) ends)
     by true rest = (omega (arith, few), rest)
     by false rest = rest
 
@@ -118,13 +119,13 @@ module _ (survey : SurveyParts) (rows : List (List Value)) (terms : Terms) where
     next-free = none-behind (length ends) before (subst (AllByRecursion (λ k. k < length ends)) (sym so_far.claimers) (claimers-below 0 (length ends) ends (omega arith)))
 
     -- and its claim, if it makes one, stands behind theirs
-    pub donations-more : (end : RowEnd) (after : List Entry) → Donates (claims_donor end.proof.outcome) survey rows terms (length ends) (path_found end.proof.outcome) before after end.donor → AreDonations survey rows terms (ends ++ end ∷ []) after
-    donations-more end after = by (claims_donor end.proof.outcome) refl
+    pub donations-more : (end : RowEnd) (after : List Entry) → Donates (end_claims end) survey rows terms (length ends) (path_found end.proof.outcome) before after end.donor → AreDonations survey rows terms (ends ++ end ∷ []) after
+    donations-more end after = by (end_claims end) refl
       where
         ranked-still : (entry : Entry) → IsRanked survey rows terms.near ends entry → IsRanked survey rows terms.near (ends ++ end ∷ []) entry
         ranked-still entry is = some-push (λ (x : RowEnd). IsRankingOf survey rows terms.near (row_at rows entry.row_no) (path_found x.proof.outcome) entry.ranking) ends end entry.row_no is
 
-        by : (b : Bool) → claims_donor end.proof.outcome ≡ b → Donates b survey rows terms (length ends) (path_found end.proof.outcome) before after end.donor → AreDonations survey rows terms (ends ++ end ∷ []) after
+        by : (b : Bool) → end_claims end ≡ b → Donates b survey rows terms (length ends) (path_found end.proof.outcome) before after end.donor → AreDonations survey rows terms (ends ++ end ∷ []) after
         by true claims made =
             let entry : Entry = entry_of (length ends) made.ranking end.donor in
             let first : 0 + length ends ≡ length ends = omega arith in
@@ -133,7 +134,7 @@ module _ (survey : SurveyParts) (rows : List (List Value)) (terms : Terms) where
               claimers =
                   map-append (λ (e : Entry). e.row_no) before (entry ∷ [])
                   ∙ ap (λ (ns : List ℕ). ns ++ length ends ∷ []) so_far.claimers
-                  ∙ sym (claimers-push 0 ends end ∙ ap (λ (b : Bool). claimers_from 0 ends ++ (if b then (0 + length ends) ∷ [] else [])) claims ∙ ap (λ (k : ℕ). claimers_from 0 ends ++ k ∷ []) first);
+                  ∙ sym (claimers-push 0 ends end ∙ ap (λ (b : Bool). places_from end_claims 0 ends ++ (place_if b (0 + length ends))) claims ∙ ap (λ (k : ℕ). places_from end_claims 0 ends ++ k ∷ []) first);
               ranked = turned-push (IsRanked survey rows terms.near ends) (IsRanked survey rows terms.near (ends ++ end ∷ [])) before entry ranked-still so_far.ranked
                   (some-last (λ (x : RowEnd). IsRankingOf survey rows terms.near (row_at rows (length ends)) (path_found x.proof.outcome) made.ranking) ends end made.ranked);
               given = each-push (λ k (x : RowEnd). x.donor ≡ donor_in (before ++ entry ∷ []) k) ends end
@@ -143,7 +144,7 @@ module _ (survey : SurveyParts) (rows : List (List Value)) (terms : Terms) where
         by false claims made =
             subst (AreDonations survey rows terms (ends ++ end ∷ [])) (sym made.0) (record {
               legal = so_far.legal;
-              claimers = so_far.claimers ∙ sym (claimers-push 0 ends end ∙ ap (λ (b : Bool). claimers_from 0 ends ++ (if b then (0 + length ends) ∷ [] else [])) claims ∙ append-nil (claimers_from 0 ends));
+              claimers = so_far.claimers ∙ sym (claimers-push 0 ends end ∙ ap (λ (b : Bool). places_from end_claims 0 ends ++ (place_if b (0 + length ends))) claims ∙ append-nil (places_from end_claims 0 ends));
               ranked = turned-all (IsRanked survey rows terms.near ends) (IsRanked survey rows terms.near (ends ++ end ∷ [])) before ranked-still so_far.ranked;
               given = each-push (λ k (x : RowEnd). x.donor ≡ donor_in before k) ends end so_far.given (made.1 ∙ sym (ap reply_of next-free));
             })

@@ -11,12 +11,12 @@ use Rattle.bound_cert.specs.declared.cert.Cert.{Cert}
 use Rattle.bound_cert.specs.declared.outcome.Event.TheVariants as event
 use Rattle.bound_cert.specs.declared.outcome.Outcome.{Outcome}
 use Rattle.bound_cert.specs.declared.outcome.Outcome.TheVariants as outcome
+use Rattle.bound_cert.specs.Claims.{claims_donor}
 use Rattle.edit_paths.specs.Cases.{IsCase, Meets, case_of}
 use Rattle.edit_paths.specs.Outcomes.{outcome_of, total_work}
 use Rattle.edit_paths.proofs.BudgetLaws.{enough-budget}
 use Rattle.edit_paths.proofs.ChoiceLaws.{contradictory}
 use Rattle.edit_report.specs.declared.end.RowEnd.{RowEnd}
-use Rattle.record_workers.specs.Donations.{claims_donor}
 use Rattle.record_workers.specs.Ends.{ComesOf, IsEndOf}
 use Rattle.record_workers.specs.Said.{OutcomeSays, Says}
 use Rattle.record_workers.proofs.OverflowLaws.{step-shown, test-shown}

@@ -1,11 +1,9 @@
 -- Which records claim a donor, how they rank the donors, and whom each is given.
-use Rattle.std.specs.Prelude.{◌≡◌, ℕ, suc, ◌≤◌, ◌++◌, not, Bool, false, if◌then◌else◌, List, [], ◌∷◌, Option, Some, None, IsSomeAnd, map, slice_get}
+use Rattle.std.specs.Prelude.{◌≡◌, ℕ, ◌≤◌, not, Bool, List, Option, Some, None, IsSomeAnd, map, slice_get}
 use Rattle.std.specs.List.{AllByRecursion}
 use Rattle.edit_model.specs.Parts.{SurveyParts}
 use Rattle.edit_model.specs.declared.value.Value.{Value}
-use Rattle.bound_cert.specs.Trees.{all_kept}
-use Rattle.bound_cert.specs.declared.outcome.Outcome.{Outcome}
-use Rattle.bound_cert.specs.declared.outcome.Outcome.TheVariants.{Budget, Change, Contradictory, Overflow}
+use Rattle.bound_cert.specs.Claims.{claims_donor}
 use Rattle.back_subst.specs.Gifts.{path_of}
 use Rattle.donor_book.specs.Claims.{claim_of}
 use Rattle.donor_book.specs.Entries.{IsLegalHistory, wins_of}
@@ -13,12 +11,14 @@ use Rattle.donor_book.specs.declared.claim.Entry.{Entry}
 use Rattle.donor_book.specs.declared.claim.Won.{Won}
 use Rattle.donor_measure.specs.Yardsticks.{yardsticks_of}
 use Rattle.donor_search.specs.CleanRows.{donors_of, row_at}
+use Rattle.donor_search.specs.Places.{places_from}
 use Rattle.donor_search.specs.Rankings.{ranking_of}
 use Rattle.edit_report.specs.Ends.{path_found}
 use Rattle.edit_report.specs.declared.end.RowEnd.{RowEnd}
 use Rattle.record_workers.specs.declared.terms.Terms.{Terms}
 
--- the work of a search is at most from 1 to 1,000,000,000, a donor is given at most 1 to 1,000 times, and a record ranks at most 1 to 64 donors
+-- the work of a search is at most from 1 to 1,000,000,000, a donor is given at most 1 to 1,000 times, and a record ranks at
+-- most 1 to 64 donors
 pub record AreTerms (terms : Terms) : Type 0 where
   pub budget : (1 ≤ terms.budget) × (terms.budget ≤ 1000000000)
   pub limit : (1 ≤ terms.limit) × (terms.limit ≤ 1000)
@@ -26,30 +26,27 @@ pub record AreTerms (terms : Terms) : Type 0 where
 
 -- ---- who claims
 
--- whether a record claims a donor: a change of some field was found
-abbrev pub claims_donor : Outcome → Bool
-claims_donor (Change path weight cert) = not (all_kept path)
-claims_donor (Budget path work) = false
-claims_donor (Overflow path event) = false
-claims_donor (Contradictory cert) = false
+-- whether the record that ended so claims a donor
+abbrev pub end_claims : RowEnd → Bool
+end_claims end = claims_donor end.proof.outcome
 
--- the numbers of the records that claim a donor, from number i on
-abbrev pub claimers_from : ℕ → List RowEnd → List ℕ
-claimers_from i [] = []
-claimers_from i (end ∷ ends) = (if claims_donor end.proof.outcome then i ∷ [] else []) ++ claimers_from (suc i) ends
+-- the numbers of the records that claim a donor
+abbrev pub claimers_of : List RowEnd → List ℕ
+claimers_of ends = places_from end_claims 0 ends
 
 -- ---- whom a record ranks
 
 -- the donors that a record ranks of which a path changes some fields: the nearest clean records at the fields that it keeps
-pub record IsRankingOf (survey : SurveyParts) (rows : List (List Value)) (near : ℕ) (row : List Value) (path : List Bool) (ranking : List ℕ) : Type 0 where
+pub record IsRankingOf (survey : SurveyParts) (rows : List (List Value)) (near : ℕ)
+    (row : List Value) (path : List Bool) (ranking : List ℕ) : Type 0 where
   pub kept : ℕ
   pub fields : path_of survey.fields kept ≡ map not path
   pub ranked : ranking ≡ ranking_of (yardsticks_of survey.fields) rows (donors_of survey rows) row kept near
 
 -- the entry has the ranking of its record, by the path that was found for it
 abbrev pub IsRanked : SurveyParts → List (List Value) → ℕ → List RowEnd → Entry → Type 0
-IsRanked survey rows near ends entry =
-    IsSomeAnd (slice_get ends entry.row_no) (λ (end : RowEnd). IsRankingOf survey rows near (row_at rows entry.row_no) (path_found end.proof.outcome) entry.ranking)
+IsRanked survey rows near ends entry = IsSomeAnd (slice_get ends entry.row_no) (λ (end : RowEnd).
+    IsRankingOf survey rows near (row_at rows entry.row_no) (path_found end.proof.outcome) entry.ranking)
 
 -- ---- whom a record is given
 
@@ -64,9 +61,11 @@ donor_in history row_no = reply_of (claim_of row_no (wins_of history))
 
 -- ---- the claims of all records
 
--- the claims of the records of a sheet that ended so, on these terms: one legal history, whose claims are those of the records of which some field is changed, in order, each with its ranking; and each record has the donor that it was given there
-pub record AreDonations (survey : SurveyParts) (rows : List (List Value)) (terms : Terms) (ends : List RowEnd) (history : List Entry) : Type 0 where
+-- the claims of the records of a sheet that ended so, on these terms: one legal history, whose claims are those of the records of
+-- which some field is changed, in order, each with its ranking; and each record has the donor that it was given there
+pub record AreDonations (survey : SurveyParts) (rows : List (List Value)) (terms : Terms)
+    (ends : List RowEnd) (history : List Entry) : Type 0 where
   pub legal : IsLegalHistory terms.limit history
-  pub claimers : map (λ (entry : Entry). entry.row_no) history ≡ claimers_from 0 ends
+  pub claimers : map (λ (entry : Entry). entry.row_no) history ≡ claimers_of ends
   pub ranked : AllByRecursion (IsRanked survey rows terms.near ends) history
   pub given : (i : ℕ) (end : RowEnd) → slice_get ends i ≡ Some end → end.donor ≡ donor_in history i

@@ -16,7 +16,8 @@ use Rattle.back_subst.specs.declared.gift.Gift.{Gift}
 use Rattle.donor_search.specs.CleanRows.{row_at}
 use Rattle.edit_report.specs.declared.end.RowEnd.{RowEnd}
 
--- the fields that the path changes are given values, and it is told how each was found; every rule holds at the record that is given, and no number of its sums leaves the range
+-- the fields that the path changes are given values, and it is told how each was found; every rule holds at the record that is
+-- given, and no number of its sums leaves the range
 pub record IsGiftOf (survey : SurveyParts) (row : List Value) (path : List Bool) (donor : Option (List Value)) (gift : Gift) : Type 0 where
   pub changed : ℕ
   pub fields : path_of survey.fields changed ≡ path
@@ -30,12 +31,14 @@ StopsAt survey edits row changed donor (fault.Bound field line) = StopsAtLine su
 StopsAt survey edits row changed donor (fault.Test rule) = StopsAtRule survey edits row changed donor rule
 
 -- no values are given to the fields that the path changes, since the giving stops at this fault
-pub record StopsGiving (survey : SurveyParts) (edits : EditsParts) (row : List Value) (path : List Bool) (donor : Option (List Value)) (stop : GiftFault) : Type 0 where
+pub record StopsGiving (survey : SurveyParts) (edits : EditsParts) (row : List Value) (path : List Bool)
+    (donor : Option (List Value)) (stop : GiftFault) : Type 0 where
   pub changed : ℕ
   pub fields : path_of survey.fields changed ≡ path
   pub stops : StopsAt survey edits row changed donor stop
 
--- what follows on an outcome, with the donor's values if there is one: on a change values, or the fault at which the giving stops; on any other outcome neither
+-- what follows on an outcome, with the donor's values if there is one: on a change values, or the fault at which the giving
+-- stops; on any other outcome neither
 abbrev pub ComesOf : SurveyParts → EditsParts → List Value → Option (List Value) → Outcome → Option GiftFault → Option Gift → Type 0
 ComesOf survey edits row donor (Change path weight cert) None (Some gift) = IsGiftOf survey row path donor gift
 ComesOf survey edits row donor (Change path weight cert) (Some stop) None = StopsGiving survey edits row path donor stop
@@ -44,7 +47,9 @@ ComesOf survey edits row donor (Change path weight cert) (Some stop) (Some gift)
 ComesOf survey edits row donor outcome None None = ⊤
 ComesOf survey edits row donor outcome stop gift = ⊥
 
--- what becomes of a record among the rows of a sheet: the outcome of its search within the budget, and what follows on it, with the values of its donor
-pub record IsEndOf (survey : SurveyParts) (edits : EditsParts) (budget : ℕ) (rows : List (List Value)) (row : List Value) (end : RowEnd) : Type 0 where
+-- what becomes of a record among the rows of a sheet: the outcome of its search within the budget, and what follows on it, with
+-- the values of its donor
+pub record IsEndOf (survey : SurveyParts) (edits : EditsParts) (budget : ℕ)
+    (rows : List (List Value)) (row : List Value) (end : RowEnd) : Type 0 where
   pub outcome : end.proof.outcome ≡ outcome_of (case_of survey edits row) budget
   pub follows : ComesOf survey edits row (option_map (row_at rows) end.donor) end.proof.outcome end.proof.gift end.gift

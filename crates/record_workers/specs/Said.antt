@@ -15,7 +15,8 @@ use Rattle.back_subst.specs.Allowed.{Completes}
 use Rattle.back_subst.specs.declared.gift.Gift.{Gift}
 use Rattle.edit_report.specs.declared.end.RowEnd.{RowEnd}
 
--- with its new values the record is a correction; it differs from the record that was read exactly at the fields of the path; their weight is the least of all corrections, and they are the first such fields
+-- with its new values the record is a correction; it differs from the record that was read exactly at the fields of the path;
+-- their weight is the least of all corrections, and they are the first such fields
 pub record IsCorrected (survey : SurveyParts) (row new : List Value) (path : List Bool) (weight : ℕ) : Type 0 where
   pub point : Point
   pub correction : Completes survey new [] point
@@ -24,12 +25,14 @@ pub record IsCorrected (survey : SurveyParts) (row new : List Value) (path : Lis
   pub least : IsLeastWeight survey row weight
   pub first : IsFirstLeast survey row path
 
--- what an outcome says, with the values that were given: they make a correction of least weight; or the budget is less than the search needs; or a number that is named leaves the range; or no point at all is consistent
+-- what an outcome says, with the values that were given: they make a correction of least weight; or the budget is less than the
+-- search needs; or a number that is named leaves the range; or no point at all is consistent
 abbrev pub OutcomeSays : SurveyParts → EditsParts → ℕ → List Value → Outcome → Option Gift → Type 0
 OutcomeSays survey edits budget row (Change path weight cert) (Some gift) = IsCorrected survey row gift.row path weight
 OutcomeSays survey edits budget row (Change path weight cert) None = ⊤
 OutcomeSays survey edits budget row (Budget path work) gift = budget < total_work (case_of survey edits row)
-OutcomeSays survey edits budget row (Overflow path (event.Step first second place)) gift = IsStepOverflow (case_of survey edits row) path first second place
+OutcomeSays survey edits budget row (Overflow path (event.Step first second place)) gift =
+    IsStepOverflow (case_of survey edits row) path first second place
 OutcomeSays survey edits budget row (Overflow path (event.Test line field)) gift = IsTestOverflow (case_of survey edits row) path line field
 OutcomeSays survey edits budget row (Contradictory cert) gift = (p : Point) → ¬ IsCorrection survey p
 

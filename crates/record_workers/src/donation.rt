@@ -1,13 +1,12 @@
 //! The donor of one record.
-ghost use Rattle.std.specs.Prelude.{◌≡◌, ◌<◌, IfOk, IfSome, None, false, length, not, true};
-ghost use Rattle.bound_cert.specs.Trees.{all_kept};
+ghost use Rattle.std.specs.Prelude.{◌≡◌, ◌<◌, ◌==◌, IfOk, IfSome, None, length, not};
 ghost use Rattle.donor_book.specs.Claims.{claim_of};
 ghost use Rattle.donor_book.specs.Entries.{wins_of};
 ghost use Rattle.donor_search.specs.CleanRows.{IsCleanRow, row_at};
 ghost use Rattle.edit_paths.specs.Cases.{IsCase};
 ghost use Rattle.edit_paths.specs.States.{IsOpen};
-ghost use Rattle.record_workers.specs.inner.Donors.{Donates, donor_answered};
-ghost use Rattle.record_workers.specs.inner.Editings.{IsBookOf, IsEditing, case_in, rows_in};
+ghost use Rattle.record_workers.specs.inner.Donors.{donor_answered};
+ghost use Rattle.record_workers.specs.inner.Editings.{DonatesIn, IsBookOf, IsEditing, case_in, rows_in};
 
 use crate::editing::Editing;
 use bound_cert::Path;
@@ -17,15 +16,16 @@ use edit_model::Value;
 use foundation::OutOfMemory;
 use std::alloc::Global;
 
-/// The donor of a record, by the path that was found for it. Where that changes some field the record claims one: it ranks
-/// the nearest clean records at the fields that are kept, and is given the first that was given less often than the limit.
-/// Nobody where there is none, or where all fields are kept; then nothing is claimed.
+/// The donor of a record for which a change of this path and weight was found. Where that weighs something the record
+/// claims one: it ranks the nearest clean records at the fields that are kept, and is given the first that was given less
+/// often than the limit. Nobody where there is none, or where the change weighs nothing; then nothing is claimed.
 pub(crate) fn donor_for<F: Fn(u32, &Value, &Value) -> u64>(
     alloc: Global,
     editing: &Editing<F>,
     book: &mut Book,
     row_no: u32,
     path: &Path,
+    weight: u64,
 ) -> Result<Option<u32>, OutOfMemory>
     requires editing { IsEditing F.Fn editing.now }
     requires book { IsBookOf editing.now book.old }
@@ -34,12 +34,11 @@ pub(crate) fn donor_for<F: Fn(u32, &Value, &Value) -> u64>(
     requires whole { length path.now ≡ length editing.now.survey.now.fields }
     requires case { IsCase (case_in editing.now (row_at (rows_in editing.now) row_no)) }
     requires opened { IsOpen (case_in editing.now (row_at (rows_in editing.now) row_no)) path.now }
-    ensures donates { IfOk result (Donates (not (all_kept path.now)) editing.now.survey.now (rows_in editing.now) editing.now.terms
-        row_no path.now book.old.history book.new.history) }
+    ensures donates { IfOk result (DonatesIn editing.now row_no (not (weight == 0)) path.now book.old.history book.new.history) }
     ensures clean { IfOk result (λ donor. IfSome donor (IsCleanRow editing.now.survey.now (rows_in editing.now))) }
     ensures book { IsBookOf editing.now book.new }
 {
-    if keeps_all(path) {
+    if weight == 0 {
         return Ok(None);
     }
     let row = editing.sheet.row(row_no);
@@ -53,13 +52,6 @@ pub(crate) fn donor_for<F: Fn(u32, &Value, &Value) -> u64>(
         editing.terms.near,
     )?;
     Ok(reply_of(book.claim_on(row_no, ranking)))
-}
-
-// Whether the path keeps all its fields.
-fn keeps_all(path: &Path) -> bool
-    ensures { result ≡ all_kept path.now }
-{
-    path.letters().iter().all(|changed| !*changed)
 }
 
 // The donor that a claim was answered.

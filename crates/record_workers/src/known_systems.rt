@@ -69,7 +69,7 @@ impl KnownSystems {
         self.known.iter().find(|known| known.fields == fields)
     }
 
-    // The same system; it is kept where there is room for it.
+    // The system as it is handed on; it is kept as well where there is room for it.
     fn keep(&mut self, alloc: Global, system: System) -> Result<Held, OutOfMemory>
         requires { system.edits ≡ self.old }
         ensures held { IfOk result (λ held. system_held held ≡ system) }
@@ -113,7 +113,7 @@ impl Systems for KnownSystems {
     }
 }
 
-// The same system, owned once more.
+// One more owner of a system.
 fn share(system: &Arc<System>) -> Result<Arc<System>, OutOfMemory>
     ensures { IfOk result (λ other. arc_value other ≡ arc_value system.now) }
 {

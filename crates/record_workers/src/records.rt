@@ -12,7 +12,7 @@ ghost use Rattle.donor_search.specs.CleanRows.{donors_of};
 ghost use Rattle.record_workers.specs.Donations.{AreDonations};
 ghost use Rattle.record_workers.specs.Ends.{IsEndOf};
 ghost use Rattle.record_workers.specs.Said.{Says};
-ghost use Rattle.record_workers.specs.inner.Editings.{IsEditing, edits_in, rows_in};
+ghost use Rattle.record_workers.specs.inner.Editings.{AllSayIn, AreDonationsIn, AreEndsIn, IsEditing, edits_in};
 
 use crate::edited::Edited;
 use crate::editing::Editing;
@@ -57,7 +57,7 @@ pub fn edit_records<F: Fn(u32, &Value, &Value) -> u64>(
     edited_of::<F, Brand>(alloc, survey, edits, sheet, measure, terms, Blank::new(1))
 }
 
-// The same, with a counter of its own.
+// What becomes of each record of a sheet, with a ledger for the counter of the steps of its searches.
 fn edited_of<F: Fn(u32, &Value, &Value) -> u64, L: Ledger>(
     alloc: Global,
     survey: &Survey,
@@ -104,12 +104,9 @@ fn edit_all<F: Fn(u32, &Value, &Value) -> u64, S: Systems, L: Ledger>(
 ) -> Result<Edited, OutOfMemory>
     requires editing { IsEditing F.Fn editing.now }
     requires served { S.serves source.old (edits_in editing.now) }
-    ensures ends { let e = editing.now in IfOk result (λ edited.
-        AllZip (IsEndOf e.survey.now (edits_in e) e.terms.budget (rows_in e)) (rows_in e) edited.ends.items) }
-    ensures say { let e = editing.now in IfOk result (λ edited.
-        AllZip (Says e.survey.now (edits_in e) e.terms.budget) (rows_in e) edited.ends.items) }
-    ensures donations { let e = editing.now in IfOk result (λ edited.
-        AreDonations e.survey.now (rows_in e) e.terms edited.ends.items edited.history.items) }
+    ensures ends { IfOk result (λ edited. AreEndsIn editing.now edited.ends.items) }
+    ensures say { IfOk result (λ edited. AllSayIn editing.now edited.ends.items) }
+    ensures donations { IfOk result (λ edited. AreDonationsIn editing.now edited.ends.items edited.history.items) }
 {
     let count = editing.sheet.len();
     let mut book = Book::start(alloc, count, editing.terms.limit, count)?;

@@ -4,17 +4,12 @@ ghost use Rattle.edit_line.specs.EditSets.{EditsParts};
 ghost use Rattle.edit_model.specs.Rows.{IsRow};
 ghost use Rattle.edit_paths.specs.Cases.{IsCase};
 ghost use Rattle.edit_paths.specs.Outcomes.{outcome_of};
-ghost use Rattle.edit_report.specs.Ends.{path_found};
 ghost use Rattle.back_subst.specs.Gifts.{IsDonorRecord};
 ghost use Rattle.bound_cert.specs.declared.outcome.Outcome.TheVariants as outcome;
 ghost use Rattle.donor_book.specs.Claims.{claim_of};
 ghost use Rattle.donor_book.specs.Entries.{wins_of};
 ghost use Rattle.donor_search.specs.CleanRows.{IsCleanRow, row_at};
-ghost use Rattle.record_workers.specs.Donations.{claims_donor};
-ghost use Rattle.record_workers.specs.Ends.{IsEndOf};
-ghost use Rattle.record_workers.specs.Said.{Says};
-ghost use Rattle.record_workers.specs.inner.Donors.{Donates};
-ghost use Rattle.record_workers.specs.inner.Editings.{IsBookOf, IsEditing, case_in, edits_in, rows_in};
+ghost use Rattle.record_workers.specs.inner.Editings.{EndDonates, IsBookOf, IsEditing, IsEndIn, SaysIn, case_in, edits_in, rows_in};
 
 use crate::donation::donor_for;
 use crate::editing::Editing;
@@ -44,12 +39,9 @@ pub(crate) fn edit_record<F: Fn(u32, &Value, &Value) -> u64, S: Systems, L: Ledg
     requires book { IsBookOf editing.now book.old }
     requires row { row_no < length (rows_in editing.now) }
     requires first { claim_of row_no (wins_of book.old.history) ≡ None }
-    ensures end { let e = editing.now in
-        IfOk result (IsEndOf e.survey.now (edits_in e) e.terms.budget (rows_in e) (row_at (rows_in e) row_no)) }
-    ensures says { let e = editing.now in
-        IfOk result (Says e.survey.now (edits_in e) e.terms.budget (row_at (rows_in e) row_no)) }
-    ensures donates { let e = editing.now in IfOk result (λ end. Donates (claims_donor end.proof.outcome)
-        e.survey.now (rows_in e) e.terms row_no (path_found end.proof.outcome) book.old.history book.new.history end.donor) }
+    ensures end { IfOk result (IsEndIn editing.now (row_at (rows_in editing.now) row_no)) }
+    ensures says { IfOk result (SaysIn editing.now (row_at (rows_in editing.now) row_no)) }
+    ensures donates { IfOk result (EndDonates editing.now row_no book.old.history book.new.history) }
     ensures book { IsBookOf editing.now book.new }
     ensures serves { (e : EditsParts) → S.serves source.old e → S.serves source.new e }
 {
@@ -65,7 +57,7 @@ pub(crate) fn edit_record<F: Fn(u32, &Value, &Value) -> u64, S: Systems, L: Ledg
         steps,
     )? {
         Outcome::Change { path, weight, cert } => {
-            let donor = donor_for(alloc, editing, book, row_no, &path)?;
+            let donor = donor_for(alloc, editing, book, row_no, &path, weight)?;
             let change = Change { path, weight, cert };
             with_values(alloc, source, editing, row, change, donor, steps)
         }
@@ -107,9 +99,8 @@ fn with_values<F: Fn(u32, &Value, &Value) -> u64, S: Systems, L: Ledger>(
     requires found { outcome_of (case_in editing.now row.now) editing.now.terms.budget
         ≡ outcome.Change change.path change.weight change.cert }
     requires donor { IfSome donor (IsCleanRow editing.now.survey.now (rows_in editing.now)) }
-    ensures end { let e = editing.now in
-        IfOk result (IsEndOf e.survey.now (edits_in e) e.terms.budget (rows_in e) row.now) }
-    ensures says { let e = editing.now in IfOk result (Says e.survey.now (edits_in e) e.terms.budget row.now) }
+    ensures end { IfOk result (IsEndIn editing.now row.now) }
+    ensures says { IfOk result (SaysIn editing.now row.now) }
     ensures change { IfOk result (λ end. end.proof.outcome ≡ outcome.Change change.path change.weight change.cert) }
     ensures donor { IfOk result (λ end. end.donor ≡ donor) }
     ensures serves { (e : EditsParts) → S.serves source.old e → S.serves source.new e }

@@ -35,9 +35,18 @@ pub record FitsFiles (c : Checking) (f : RowAt) : Type 0 where
 
 -- the value of the field of this number, of the record of which the path changes some fields
 abbrev pub IsValueAt : Checking → List Value → List Bool → List (List ℕ) → ℕ → Value → Type 0
-IsValueAt c row path texts f v = IsSomeAnd (slice_get c.survey.now.fields f) (λ (field : Field). IsValueOf (changes c.survey.now.fields path f) field.kind (text_at c.columns.now texts f) (value_of row f) v)
+IsValueAt c row path texts f v = IsSomeAnd (slice_get c.survey.now.fields f)
+    (λ (field : Field). IsValueOf (changes c.survey.now.fields path f) field.kind (text_at c.columns.now texts f) (value_of row f) v)
+
+-- the values of all fields, of the record of which the path changes some
+abbrev pub AreNewValues : Checking → List Value → List Bool → List (List ℕ) → List Value → Type 0
+AreNewValues c row path texts new =
+    AreValuesFrom (changes c.survey.now.fields path) (text_at c.columns.now texts) 0 c.survey.now.fields row new
+
+-- this is so of the values of all fields, whichever they are
+abbrev pub OfNewValues : Checking → List Value → List Bool → List (List ℕ) → (List Value → Type 0) → Type 0
+OfNewValues c row path texts P = (new : List Value) → AreNewValues c row path texts new → P new
 
 -- the texts give each field a value, and the record of these is clean
 abbrev pub GivesClean : Checking → List Bool → List (List ℕ) → List Value → Type 0
-GivesClean c path texts row =
-    (new : List Value) × AreValuesFrom (changes c.survey.now.fields path) (text_at c.columns.now texts) 0 c.survey.now.fields row new × (is_clean c.survey.now new ≡ true)
+GivesClean c path texts row = (new : List Value) × AreNewValues c row path texts new × (is_clean c.survey.now new ≡ true)

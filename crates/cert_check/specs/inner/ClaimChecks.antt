@@ -4,18 +4,23 @@ use Rattle.std.specs.List.{AllByRecursion}
 use Rattle.edit_model.specs.CleanRecords.{is_clean}
 use Rattle.edit_model.specs.Parts.{SurveyParts}
 use Rattle.edit_model.specs.declared.value.Value.{Value}
+use Rattle.bound_cert.specs.Claims.{claims_donor}
 use Rattle.bound_cert.specs.declared.outcome.RowProof.{RowProof}
 use Rattle.donor_book.specs.Claims.{claim_of}
 use Rattle.donor_book.specs.Entries.{wins_of}
 use Rattle.donor_book.specs.declared.claim.Entry.{Entry}
 use Rattle.proof_grammar.specs.declared.proof.Proof.{Proof}
-use Rattle.cert_check.specs.Claims.{AreClaims, AreValidClaims, IsClaim, IsClaimsFault, IsWrongClaim, claims_donor}
+use Rattle.cert_check.specs.Claims.{AreClaims, AreValidClaims, IsClaim, IsClaimsFault, IsWrongClaim}
 
 -- ---- claims in form
 
 -- the flags say which records are clean
 abbrev pub AreCleanFlags : SurveyParts → List (List Value) → List Bool → Type 0
 AreCleanFlags survey rows flags = flags ≡ map (is_clean survey) rows
+
+-- this is so of each survey and its records, of which the flags say which are clean
+abbrev pub OfCleanFlags : List Bool → (SurveyParts → List (List Value) → Type 0) → Type 0
+OfCleanFlags flags P = (survey : SurveyParts) (rows : List (List Value)) → AreCleanFlags survey rows flags → P survey rows
 
 -- so many claims stand before the first that is not in form
 pub record IsFormedCount (survey : SurveyParts) (rows : List (List Value)) (p : Proof) (count : ℕ) : Type 0 where
@@ -31,7 +36,8 @@ pub record AreMarked (claims : List Entry) (count : ℕ) (marks : List Bool) : T
 
 -- each record that claims a donor is marked
 abbrev pub AllMarked : List RowProof → List Bool → Type 0
-AllMarked saids marks = (i : ℕ) (said : RowProof) → slice_get saids i ≡ Some said → claims_donor said ≡ true → slice_index_or marks i false ≡ true
+AllMarked saids marks =
+    (i : ℕ) (said : RowProof) → slice_get saids i ≡ Some said → claims_donor said.outcome ≡ true → slice_index_or marks i false ≡ true
 
 -- ---- all claims
 

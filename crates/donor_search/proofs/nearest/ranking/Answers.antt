@@ -22,8 +22,8 @@ loop-donor-preserved g c =
     let far : ℕ → ℕ = distance_to c.args.measure.now.yardsticks c.args.sheet.now.rows c.args.row.now c.args.kept in
     let donor : ℕ = get_or c.rows-donor-items.result.now c.loop-donor.donor-index 0 in
     record {
-      ranked = ranked_more far c.args.near c.rows-donor-items.result.now c.loop-donor.donor-index donor c.loop-donor.nearest.items c.rank.new.nearest.items c.loop-donor-test.true refl c.loop-donor.invariant.ranked c.in_ok-rank.ensures;
-      few = few_taken c.args.near (placed is_before (candidate_of far donor) c.loop-donor.nearest.items) c.rank.new.nearest.items c.in_ok-rank.ensures;
+      ranked = ranked_more far c.args.near c.rows-donor-items.result.now c.loop-donor.donor-index donor c.loop-donor.nearest.items c.rank.new.best.items c.loop-donor-test.true refl c.loop-donor.invariant.ranked c.in_ok-rank.ensures;
+      few = few_taken c.args.near (placed is_before (candidate_of far donor) c.loop-donor.nearest.items) c.rank.new.best.items c.in_ok-rank.ensures;
     }
 
 pub returns-clause-ranking : goal.returns-clause-ranking

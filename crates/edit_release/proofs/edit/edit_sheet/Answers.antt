@@ -9,8 +9,11 @@ use Rattle.donor_book.specs.declared.claim.Entry.{Entry}
 use Rattle.edit_report.specs.declared.end.RowEnd.{RowEnd}
 use Rattle.record_workers.specs.Ends.{IsEndOf}
 use Rattle.record_workers.specs.Said.{Says}
+use Rattle.redundancy.specs.declared.verdict.Verdict.{Verdict}
+use Rattle.edit_release.specs.Edits.{proof_by}
 use Rattle.edit_release.specs.Releases.{AllGiven}
-use Rattle.edit_release.proofs.ReleaseLaws.{release-of}
+use Rattle.edit_release.specs.declared.release.Release.{Release}
+use Rattle.edit_release.proofs.ReleaseLaws.{guarantee-of, release-of}
 use Rattle.edit_release.proofs.TextLaws.{each-tellable, ends-tellable}
 use Rattle.edit_release.proofs.edit.edit_sheet.Goals as goal
 
@@ -33,15 +36,18 @@ returns g c =
     let terms = c.args.terms in
     let ends = c.in_ok-edited.edited.ends.items in
     let history = c.in_ok-edited.edited.history.items in
+    let release : Release = record { proof = c.in_ok-proof.proof; reasons = c.in_ok-reasons.reasons; released = c.in_ok-released.released; summary = c.in_ok-summary.summary; whole = c.are_given-whole.result } in
+    let each = subst (λ (edits : EditsParts). AllZip (IsEndOf survey edits terms.budget sheet.rows) sheet.rows ends) c.in_ok-edits.ensures.edits c.in_ok-edited.ensures.ends in
+    let say = subst (λ (edits : EditsParts). AllZip (Says survey edits terms.budget) sheet.rows ends) c.in_ok-edits.ensures.edits c.in_ok-edited.ensures.say in
+    let same = c.in_ok-proof_of.ensures ∙ ap (λ (verdicts : List Verdict). proof_by verdicts terms ends history) c.in_ok-pruned.ensures.verdicts in
+    let released = c.in_ok-released.ensures ∙ ap (λ (es : List RowEnd). released_text_of survey sheet es) c.as_slice-ends.ensures.value in
     record {
-      edit = release-of survey sheet c.requires.read.0 terms ends history c.fields-fields.ensures.well_formed c.requires.read.1 c.requires.terms
-          (subst (λ (edits : EditsParts). AllZip (IsEndOf survey edits terms.budget sheet.rows) sheet.rows ends) c.in_ok-edits.ensures.edits c.in_ok-edited.ensures.ends)
-          (subst (λ (edits : EditsParts). AllZip (Says survey edits terms.budget) sheet.rows ends) c.in_ok-edits.ensures.edits c.in_ok-edited.ensures.say)
-          c.in_ok-edited.ensures.donations
-          (record { proof = c.in_ok-proof.proof; reasons = c.in_ok-reasons.reasons; released = c.in_ok-released.released; summary = c.in_ok-summary.summary; whole = c.are_given-whole.result })
-          c.in_ok-proof_of.field-0 (c.in_ok-proof_of.ensures survey c.in_ok-pruned.ensures.verdicts) c.in_ok-proof.ensures.sized c.in_ok-proof.ensures.text
+      guaranteed = guarantee-of survey sheet c.requires.read.0 terms ends history c.fields-fields.ensures.well_formed c.requires.read.1 c.requires.terms each say c.in_ok-edited.ensures.donations
+          release c.in_ok-proof_of.field-0 same c.in_ok-proof.ensures.text released;
+      edit = release-of survey sheet c.requires.read.0 terms ends history c.fields-fields.ensures.well_formed c.requires.read.1 c.requires.terms each say c.in_ok-edited.ensures.donations
+          release c.in_ok-proof_of.field-0 same c.in_ok-proof.ensures.sized c.in_ok-proof.ensures.text
           (c.in_ok-reasons.ensures ∙ ap (λ (es : List RowEnd). reasons_text_of survey sheet es) c.as_slice-ends.ensures.value)
-          (c.in_ok-released.ensures ∙ ap (λ (es : List RowEnd). released_text_of survey sheet es) c.as_slice-ends.ensures.value)
+          released
           (c.in_ok-summary.ensures ∙ ap (λ (es : List RowEnd). summary_lines survey es c.deref.result.now) c.as_slice-ends.ensures.value ∙ ap (λ (h : List Entry). summary_lines survey ends h) c.deref.ensures.value)
           (subst (λ (es : List RowEnd). IsTrue c.are_given-whole.result ↔ AllGiven es) c.as_slice-ends.ensures.value c.are_given-whole.ensures);
     }

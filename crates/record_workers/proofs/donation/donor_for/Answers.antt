@@ -1,4 +1,6 @@
-use Rattle.std.proofs.Common.{◌++◌, ◌∙◌, ℕ, List, [], ◌∷◌, All, Option, IfSome, ap, arith, nat_lt, not, Bool, subst, sym}
+use Rattle.std.proofs.Common.{◌≡◌, ◌==◌, ◌++◌, ◌∙◌, ℕ, false, List, [], ◌∷◌, All, Option, IfSome, ap, arith, nat_lt, not, Bool, subst, sym}
+use Rattle.std.proofs.lemmas.Bool.{false_from_ne_true}
+use Rattle.std.proofs.lemmas.Bool.Decides.{Decides-eqb}
 use Rattle.std.proofs.lemmas.List.Elements.{All-from_recursion}
 use Rattle.edit_model.specs.PlainNumbers.{HasPlain}
 use Rattle.edit_model.specs.declared.value.Value.{Value}
@@ -48,7 +50,8 @@ returns-clause-donates g c =
     let fields = e.survey.now.fields in
     let history = c.args.book.now.history in
     let ranking = c.in_ok-ranking.ranking.items in
-    subst (λ (kept : Bool). Donates (not kept) e.survey.now (rows_in e) e.terms c.args.row_no c.args.path.now history c.claim_on.new.self.history c.reply_of.result) (sym c.if-keeps_all.false ∙ c.keeps_all.ensures) (record {
+    let some : (c.args.weight == 0) ≡ false = false_from_ne_true (c.args.weight == 0) (λ same. c.if-weight-eq0.false ((Decides-eqb c.args.weight 0).0 same)) in
+    subst (λ (none : Bool). Donates (not none) e.survey.now (rows_in e) e.terms c.args.row_no c.args.path.now history c.claim_on.new.self.history c.reply_of.result) (sym some) (record {
       ranking = ranking;
       ranked = record {
         kept = c.kept_set.result;

@@ -2,7 +2,7 @@ use Rattle.std.proofs.Common.{◌≡◌, ◌<◌, ℕ, None, [], ◌∷◌, arit
 use Rattle.donor_book.specs.Claims.{claim_of}
 use Rattle.donor_book.specs.Entries.{wins_of}
 use Rattle.edit_report.specs.Ends.{path_found}
-use Rattle.record_workers.specs.Donations.{claims_donor}
+use Rattle.bound_cert.specs.Claims.{claims_donor}
 use Rattle.record_workers.specs.Ends.{IsEndOf}
 use Rattle.record_workers.specs.Said.{Says}
 use Rattle.record_workers.specs.inner.Donors.{Donates}

@@ -3,7 +3,7 @@ use Rattle.edit_model.specs.declared.value.Value.{Value}
 use Rattle.edit_paths.specs.States.{IsOpen}
 use Rattle.edit_report.specs.Ends.{path_found}
 use Rattle.back_subst.proofs.ChangeLaws.{change-whole}
-use Rattle.record_workers.specs.Donations.{claims_donor}
+use Rattle.bound_cert.specs.Claims.{claims_donor}
 use Rattle.record_workers.specs.Ends.{IsEndOf}
 use Rattle.record_workers.specs.Said.{Says}
 use Rattle.record_workers.specs.inner.Donors.{Donates}
