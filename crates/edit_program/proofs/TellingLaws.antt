@@ -1,7 +1,6 @@
 -- What the lines of a run do to what was printed.
-use Rattle.std.proofs.Common.{◌≡◌, ◌∙◌, ◌++◌, ◌+◌, ◌<◌, ◌≤◌, ℕ, List, [], ◌∷◌, Option, None, Some, Vec, Global, ap, append_assoc, append-nil, drop, length, map, refl, slice_index_or, subst, sym, take, take_all}
+use Rattle.std.proofs.Common.{◌≡◌, ◌∙◌, ◌++◌, ◌+◌, ◌<◌, ◌≤◌, ℕ, List, [], ◌∷◌, Vec, Global, ap, append_assoc, append-nil, drop, length, refl, slice_index_or, subst, sym, take, take_all}
 use Rattle.std.proofs.lemmas.List.{at_drop_more, map-append, take-append-drop, take_more}
-use Rattle.edit_desk.specs.Desk.{Told}
 use Rattle.edit_desk.specs.Printer.{line_of}
 use Rattle.edit_program.specs.Run.{AreCutShort, bytes_of_lines}
 use Rattle.edit_program.specs.inner.Parts.{texts_in}
