@@ -28,7 +28,11 @@ impl Model for MemoryPrinter {
     ghost Value = { Page };
 
     ghost view = { λ p. record {
-        text = p.text.items; lines = p.lines; fail_at = p.fail_at; room = vec_capacity p.text; faults = p.faults
+      text = p.text.items;
+      lines = p.lines;
+      fail_at = p.fail_at;
+      room = vec_capacity p.text;
+      faults = p.faults;
     } };
 }
 
