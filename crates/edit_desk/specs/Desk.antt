@@ -41,7 +41,8 @@ SameElsewhere old new name = (other : List ℕ) → other ≢ name → new other
 abbrev pub HoldsPrefix : Files → List ℕ → List ℕ → Type 0
 HoldsPrefix files name bytes = (kept : ℕ) × (files name ≡ Some (take kept bytes))
 
--- what a store does: it puts all the bytes under the name, or fails with some of them put there or none, or does nothing for want of memory
+-- what a store does: it puts all the bytes under the name, or fails with some of them put there or none, or does nothing
+-- for want of memory
 abbrev pub Stores : Files → Files → List ℕ → List ℕ → Result (Unit {0}) StoreError → Type 0
 Stores old new name bytes (Ok done) = (new name ≡ Some bytes) × SameElsewhere old new name
 Stores old new name bytes (Err store.Failed) = (HoldsPrefix new name bytes ⊎ (new name ≡ old name)) × SameElsewhere old new name
@@ -55,7 +56,7 @@ fetched name = record { store = false; name = name; failed = false }
 abbrev pub stored : List ℕ → Asked
 stored name = record { store = true; name = name; failed = false }
 
--- the same call, where it failed
+-- a call as it is on record where it failed
 abbrev pub failing : Asked → Asked
 failing asked = record asked { failed = true }
 
@@ -81,7 +82,7 @@ abbrev pub after_fetch : Result (Vec ℕ Global) FetchError → ℕ → ℕ
 after_fetch (Err fetch.Failed) faults = raised faults
 after_fetch result faults = faults
 
--- the count of faults after a store, in the same way
+-- the count of faults after a store: one more where it failed, and there alone
 abbrev pub after_store : Result (Unit {0}) StoreError → ℕ → ℕ
 after_store (Err store.Failed) faults = raised faults
 after_store result faults = faults

@@ -1,9 +1,11 @@
 -- A desk in memory: what it holds, and which of its calls are to fail.
-use Rattle.std.specs.Prelude.{◌==◌, ℕ, ◌+◌, Option, Some, None, List, [], ◌∷◌, length, map, find, count_by, if◌then◌else◌, string_bytes, String, Vec}
+use Rattle.std.specs.Prelude.{◌≡◌, ◌==◌, ℕ, ◌+◌, Option, Some, None, IsErr, IsErrOf, Result, List, [], ◌∷◌, length, map, take, find, count_by, if◌then◌else◌, string_bytes, String, Vec}
 use Rattle.std.specs.Str.{bytes_eq}
 use Rattle.std.specs.BTreeMap.{BTreeMap}
 use Rattle.std.specs.declared.alloc.Global.{Global}
 use Rattle.edit_desk.specs.Desk.{Files, Asked}
+use Rattle.edit_desk.specs.declared.calls.StoreError.{StoreError}
+use Rattle.edit_desk.specs.declared.calls.StoreError.TheVariants as store
 use Rattle.edit_desk.specs.declared.memory.Failure.{Failure}
 use Rattle.edit_desk.specs.declared.memory.Call.{Call}
 
@@ -33,3 +35,8 @@ next_failure m = find (λ f. f.call == length m.calls + 1) m.failures
 -- how many of the calls on record failed
 abbrev pub faults_of : Memory → ℕ
 faults_of m = count_by (λ c. c.failed) m.calls
+
+-- what a store of these bytes under a name answers and leaves where a failure was asked for: it is refused, and unless for
+-- want of memory, the first bytes that the failure keeps stand there
+abbrev pub FailsAs : Files → List ℕ → List ℕ → Result (Unit {0}) StoreError → Failure → Type 0
+FailsAs after name bytes result failure = IsErr result × (IsErrOf result store.Failed → after name ≡ Some (take failure.keep bytes))

@@ -2,7 +2,8 @@
 use Rattle.std.specs.Prelude.{◌≡◌, ℕ, ◌+◌, ◌-◌, ◌<◌, Option, Some, List, length}
 use Rattle.edit_desk.specs.Printer.{line_of}
 
--- what was printed, how many lines were asked for, the number of the line that is to fail, how many bytes there is room for in all, and how many lines failed
+-- what was printed, how many lines were asked for, the number of the line that is to fail, how many bytes there is room
+-- for in all, and how many lines failed
 pub record Page : Type 0 where
   pub text : List ℕ
   pub lines : ℕ

@@ -1,6 +1,6 @@
 ghost use Rattle.std.specs.Prelude.{◌≡◌, ◌⊎◌, ◌+◌, ◌==◌, ◌≤◌, ◌++◌, [], Some, None, IfErr, IfOk, IfSome, IfNone, IsSome, IsErr, IsErrOf, OnOk, OnErr, length, take, find, option_copied};
 ghost use Rattle.edit_desk.specs.Desk.{Fetches, Stores, SameElsewhere, TakesOneMore, after_fetch, after_store, fetch_record, store_record};
-ghost use Rattle.edit_desk.specs.Memory.{under, named_files, next_failure, faults_of};
+ghost use Rattle.edit_desk.specs.Memory.{FailsAs, faults_of, named_files, next_failure, under};
 
 use crate::calls::{Desk, FetchError, StoreError};
 use foundation::OutOfMemory;
@@ -113,7 +113,7 @@ impl Desk for MemoryDesk {
         ensures faults { faults_of self.new ≡ after_store result (faults_of self.old) }
         ensures failures { self.new.failures ≡ self.old.failures }
         ensures cause { IsErrOf result StoreError.Failed → IsSome (next_failure self.old) }
-        ensures due { IfSome (next_failure self.old) (λ f. IsErr result × (IsErrOf result StoreError.Failed → under self.new.files name.now ≡ Some (take f.keep bytes.now))) }
+        ensures due { IfSome (next_failure self.old) (FailsAs (under self.new.files) name.now bytes.now result) }
     {
         let failure = self.due_failure();
         self.calls.reserve(1)?;

@@ -27,14 +27,20 @@ impl Model for MemoryPrinter {
 
     ghost Value = { Page };
 
-    ghost view = { λ p. record { text = p.text.items; lines = p.lines; fail_at = p.fail_at; room = vec_capacity p.text; faults = p.faults } };
+    ghost view = { λ p. record {
+      text = p.text.items;
+      lines = p.lines;
+      fail_at = p.fail_at;
+      room = vec_capacity p.text;
+      faults = p.faults;
+    } };
 }
 
 impl MemoryPrinter {
     /// A printer with nothing printed and room for 1 MiB, whose line of the number `fail_at`, counted from 1,
     /// is to fail.
     pub fn new(alloc: Global, fail_at: Option<u64>) -> Result<MemoryPrinter, OutOfMemory>
-        ensures { IfOk result (λ printer. printer ≡ record { text = []; lines = 0; fail_at = fail_at; room = 1048576; faults = 0 }) }
+        ensures { IfOk result (λ printer. printer ≡ record { text = []; lines = 0; fail_at = fail_at; room = ROOM; faults = 0 }) }
     {
         let text = Vec::with_capacity(alloc, ROOM)?;
         Ok(MemoryPrinter {

@@ -14,7 +14,7 @@ use Rattle.edit_program.specs.EditRun.{IsMade, Leaves, edit_files}
 use Rattle.edit_program.specs.Edits.{HasReleased, IsStatusOf, terms_of}
 use Rattle.edit_program.specs.Faults.{fault_status}
 use Rattle.edit_program.specs.Readings.{HoldsRecords, HoldsRules}
-use Rattle.edit_program.specs.Run.{IsFaultless, LeavesOf, Seen, faults_by}
+use Rattle.edit_program.specs.Run.{IsFaultless, LeavesOf, Run, faults_by}
 use Rattle.edit_program.specs.inner.EditParts.{edit_status}
 use Rattle.edit_program.specs.inner.Parts.{IsOfStores}
 use Rattle.edit_program.specs.declared.fault.Fault.{Fault}
@@ -65,8 +65,8 @@ raised-more n room same =
     omega (arith, least, same)
 
 -- there a refusal that says nothing of the files is want of memory
-pub memory-left : (before after : Seen) (f : Fault) → IsBeside f → after.faults ≡ faults_by f before.faults → IsFaultless before after → fault_status f ≡ status.OutOfMemory
-memory-left before after (fault.Read name) beside faults none = absurd (raised-more before.faults none.room (sym faults ∙ none.faults))
-memory-left before after (fault.Write name) beside faults none = absurd (raised-more before.faults none.room (sym faults ∙ none.faults))
-memory-left before after fault.OutOfMemory beside faults none = refl
-memory-left before after f beside faults none = absurd beside
+pub memory-left : (run : Run) (f : Fault) → IsBeside f → run.after.faults ≡ faults_by f run.before.faults → IsFaultless run → fault_status f ≡ status.OutOfMemory
+memory-left run (fault.Read name) beside faults none = absurd (raised-more run.before.faults none.room (sym faults ∙ none.faults))
+memory-left run (fault.Write name) beside faults none = absurd (raised-more run.before.faults none.room (sym faults ∙ none.faults))
+memory-left run fault.OutOfMemory beside faults none = refl
+memory-left run f beside faults none = absurd beside

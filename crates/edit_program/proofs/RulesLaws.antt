@@ -1,5 +1,5 @@
 -- What the file of the command `rules` shows, and which status is due of it.
-use Rattle.std.proofs.Common.{◌≡◌, ℕ, List, Option, IfSome, inl, inr, refl, subst}
+use Rattle.std.proofs.Common.{ℕ, List, inl, inr, refl, subst}
 use Rattle.edit_model.specs.Parts.{SurveyParts}
 use Rattle.edit_desk.specs.Desk.{Files, IsLonger}
 use Rattle.command_words.specs.Asked.{RulesAsked}
@@ -12,7 +12,6 @@ use Rattle.edit_program.specs.declared.status.Status.{Status}
 use Rattle.edit_program.specs.declared.status.Status.TheVariants as status
 use Rattle.edit_program.proofs.HeldLaws.{not_longer, not_unread, weaker}
 use Rattle.edit_program.proofs.InputLaws.{IsBeside}
-use Rattle.edit_program.proofs.ToldLaws.{each-told}
 
 -- a refusal of the rules is one of the command
 pub rules-kind : (name : List ℕ) (f : Fault) → IsOfRules name f → IsOfRulesCommand f

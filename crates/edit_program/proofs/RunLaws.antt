@@ -10,7 +10,7 @@ use Rattle.edit_program.specs.Edits.{HasReleased}
 use Rattle.edit_program.specs.Faults.{fault_status}
 use Rattle.edit_program.specs.Readings.{Refuses, RefusesCheck, RefusesRulesCommand}
 use Rattle.edit_program.specs.RulesRun.{IsReport, IsReported, IsRuled, IsRulesComplete, IsRulesStopped, rules_calls}
-use Rattle.edit_program.specs.Run.{Seen, faults_by}
+use Rattle.edit_program.specs.Run.{Run, faults_by}
 use Rattle.edit_program.specs.inner.CheckParts.{Accepts}
 use Rattle.edit_program.specs.inner.EditParts.{edit_status}
 use Rattle.edit_program.specs.inner.Parts.{IsTelling}
@@ -25,21 +25,21 @@ use Rattle.edit_program.proofs.ToldLaws.{each-told, from-told, same-told}
 
 -- ---- edits
 
-module _ (asked : EditAsked) (before after : Seen) where
-  module _ (release : Release) (answer : Status) (telling : IsTelling (edit_status release) (written_in release).summary answer before.printed after.printed before.unprinted after.unprinted)
-      (files : Told before.files after.files (λ old new. IsMade asked (edit_status release) old (written_in release) × AreWritten asked (written_in release) old new))
-      (calls : PutsOnRecord before.calls after.calls (λ calls. calls ≡ edit_calls asked)) (faults : after.faults ≡ before.faults) where
-    stored : IsStored asked (edit_status release) (written_in release) before after
+module _ (asked : EditAsked) (run : Run) where
+  module _ (release : Release) (answer : Status) (telling : IsTelling (edit_status release) (written_in release).summary answer run.before.printed run.after.printed run.before.unprinted run.after.unprinted)
+      (files : Told run.before.files run.after.files (λ old new. IsMade asked (edit_status release) old (written_in release) × AreWritten asked (written_in release) old new))
+      (calls : PutsOnRecord run.before.calls run.after.calls (λ calls. calls ≡ edit_calls asked)) (faults : run.after.faults ≡ run.before.faults) where
+    stored : IsStored asked (edit_status release) (written_in release) run
     stored = record { files = files; calls = calls; faultless = faults }
 
     -- all was done, and the summary was printed
-    pub edited-by : HasReleased answer → IsEdited asked answer before after
+    pub edited-by : HasReleased answer → IsEdited asked answer run
     edited-by ended = by telling
       where
-        by : IsTelling (edit_status release) (written_in release).summary answer before.printed after.printed before.unprinted after.unprinted → IsEdited asked answer before after
+        by : IsTelling (edit_status release) (written_in release).summary answer run.before.printed run.after.printed run.before.unprinted run.after.unprinted → IsEdited asked answer run
         by (inl (is, printed, told)) = record {
           written = written_in release;
-          stored = subst (λ (s : Status). IsStored asked s (written_in release) before after) (sym is) stored;
+          stored = subst (λ (s : Status). IsStored asked s (written_in release) run) (sym is) stored;
           told = record { printed = printed; unprinted = told };
         }
         by (inr (is, printed, told)) = absurd (failed ended)
@@ -49,10 +49,10 @@ module _ (asked : EditAsked) (before after : Seen) where
             failed (inr some) = cc (sym some ∙ is)
 
     -- or it was not
-    pub untold-by : (¬ HasReleased answer) → IsEditStopped asked answer before after
+    pub untold-by : (¬ HasReleased answer) → IsEditStopped asked answer run
     untold-by not = by telling
       where
-        by : IsTelling (edit_status release) (written_in release).summary answer before.printed after.printed before.unprinted after.unprinted → IsEditStopped asked answer before after
+        by : IsTelling (edit_status release) (written_in release).summary answer run.before.printed run.after.printed run.before.unprinted run.after.unprinted → IsEditStopped asked answer run
         by (inl (is, printed, told)) = absurd (not (subst HasReleased (sym is) (has-released release)))
         by (inr (is, printed, told)) = inr (
           is,
@@ -65,64 +65,64 @@ module _ (asked : EditAsked) (before after : Seen) where
         )
 
   -- a refusal of files that have readings, in a run without a fault, is want of memory
-  pub edit-refused : (f : Fault) (answer : Status) → answer ≡ fault_status f → IfSome before.files (λ o. Refuses asked o f) → after.faults ≡ faults_by f before.faults → IsEditComplete asked answer before after
+  pub edit-refused : (f : Fault) (answer : Status) → answer ≡ fault_status f → IfSome run.before.files (λ o. Refuses asked o f) → run.after.faults ≡ faults_by f run.before.faults → IsEditComplete asked answer run
   edit-refused f answer is cause faults =
-      each-told before.files (λ o why survey s hr hs none. inr (is ∙ memory-left before after f (read-beside asked.names.rules asked.names.records o f survey s hr hs why) faults none)) cause
+      each-told run.before.files (λ o why survey s hr hs none. inr (is ∙ memory-left run f (read-beside asked.names.rules asked.names.records o f survey s hr hs why) faults none)) cause
 
 -- ---- checks
 
-module _ (asked : CheckAsked) (before after : Seen) where
-  module _ (line : List ℕ) (answer : Status) (telling : IsTelling status.Done (line ∷ []) answer before.printed after.printed before.unprinted after.unprinted)
-      (accepts : Accepts asked before.files line) (files : after.files ≡ before.files) (calls : PutsOnRecord before.calls after.calls (λ calls. calls ≡ check_calls asked)) (faults : after.faults ≡ before.faults) where
-    read : IsRead asked accepts.0 accepts.1 before after
-    read = record { files = from-told before.files after.files (λ old new h same. (same, h)) accepts.3 (same-told before.files after.files (λ old new. new ≡ old) files (λ o. refl)); calls = calls; faultless = faults }
+module _ (asked : CheckAsked) (run : Run) where
+  module _ (line : List ℕ) (answer : Status) (telling : IsTelling status.Done (line ∷ []) answer run.before.printed run.after.printed run.before.unprinted run.after.unprinted)
+      (accepts : Accepts asked run.before.files line) (files : run.after.files ≡ run.before.files) (calls : PutsOnRecord run.before.calls run.after.calls (λ calls. calls ≡ check_calls asked)) (faults : run.after.faults ≡ run.before.faults) where
+    read : IsRead asked accepts.0 accepts.1 run
+    read = record { files = from-told run.before.files run.after.files (λ old new h same. (same, h)) accepts.3 (same-told run.before.files run.after.files (λ old new. new ≡ old) files (λ o. refl)); calls = calls; faultless = faults }
 
     -- the files were accepted, and that was printed
-    pub checked-by : answer ≡ status.Done → IsChecked asked before after
+    pub checked-by : answer ≡ status.Done → IsChecked asked run
     checked-by done = by telling
       where
-        by : IsTelling status.Done (line ∷ []) answer before.printed after.printed before.unprinted after.unprinted → IsChecked asked before after
+        by : IsTelling status.Done (line ∷ []) answer run.before.printed run.after.printed run.before.unprinted run.after.unprinted → IsChecked asked run
         by (inl (is, printed, told)) = record { records = accepts.0; released = accepts.1; read = read; told = rw (← accepts.2) (record { printed = printed; unprinted = told }) }
         by (inr (is, printed, told)) = absurd (cc (sym done ∙ is))
 
     -- or it was not
-    pub unchecked-by : (answer ≡ status.Done → ⊥) → IsCheckStopped asked answer before after
+    pub unchecked-by : (answer ≡ status.Done → ⊥) → IsCheckStopped asked answer run
     unchecked-by not = by telling
       where
-        by : IsTelling status.Done (line ∷ []) answer before.printed after.printed before.unprinted after.unprinted → IsCheckStopped asked answer before after
+        by : IsTelling status.Done (line ∷ []) answer run.before.printed run.after.printed run.before.unprinted run.after.unprinted → IsCheckStopped asked answer run
         by (inl (is, printed, told)) = absurd (not is)
         by (inr (is, printed, told)) = inr (is, record { records = accepts.0; released = accepts.1; read = read; untold = rw (← accepts.2) (record { printed = printed; unprinted = told }) })
 
   -- a refusal of a valid release, in a run without a fault, is want of memory
-  pub check-refused : (f : Fault) (answer : Status) → answer ≡ fault_status f → IfSome before.files (λ o. RefusesCheck asked o f) → after.faults ≡ faults_by f before.faults → IsCheckComplete asked answer before after
+  pub check-refused : (f : Fault) (answer : Status) → answer ≡ fault_status f → IfSome run.before.files (λ o. RefusesCheck asked o f) → run.after.faults ≡ faults_by f run.before.faults → IsCheckComplete asked answer run
   check-refused f answer is cause faults =
-      each-told before.files (λ o why audit held valid none. inr (is ∙ memory-left before after f (valid-beside asked o audit held f valid why) faults none)) cause
+      each-told run.before.files (λ o why audit held valid none. inr (is ∙ memory-left run f (valid-beside asked o audit held f valid why) faults none)) cause
 
 -- ---- the command `rules`
 
-module _ (asked : RulesAsked) (before after : Seen) where
-  module _ (texts : List (List ℕ)) (answer : Status) (telling : IsTelling status.Done texts answer before.printed after.printed before.unprinted after.unprinted)
-      (report : IfSome before.files (λ o. IsReport asked o texts)) (files : after.files ≡ before.files) (calls : PutsOnRecord before.calls after.calls (λ calls. calls ≡ rules_calls asked)) (faults : after.faults ≡ before.faults) where
-    reported : IsReported asked texts before after
-    reported = record { files = from-told before.files after.files (λ old new h same. (same, h)) report (same-told before.files after.files (λ old new. new ≡ old) files (λ o. refl)); calls = calls; faultless = faults }
+module _ (asked : RulesAsked) (run : Run) where
+  module _ (texts : List (List ℕ)) (answer : Status) (telling : IsTelling status.Done texts answer run.before.printed run.after.printed run.before.unprinted run.after.unprinted)
+      (report : IfSome run.before.files (λ o. IsReport asked o texts)) (files : run.after.files ≡ run.before.files) (calls : PutsOnRecord run.before.calls run.after.calls (λ calls. calls ≡ rules_calls asked)) (faults : run.after.faults ≡ run.before.faults) where
+    reported : IsReported asked texts run
+    reported = record { files = from-told run.before.files run.after.files (λ old new h same. (same, h)) report (same-told run.before.files run.after.files (λ old new. new ≡ old) files (λ o. refl)); calls = calls; faultless = faults }
 
     -- the lines were printed
-    pub ruled-by : answer ≡ status.Done → IsRuled asked before after
+    pub ruled-by : answer ≡ status.Done → IsRuled asked run
     ruled-by done = by telling
       where
-        by : IsTelling status.Done texts answer before.printed after.printed before.unprinted after.unprinted → IsRuled asked before after
+        by : IsTelling status.Done texts answer run.before.printed run.after.printed run.before.unprinted run.after.unprinted → IsRuled asked run
         by (inl (is, printed, told)) = record { texts = texts; reported = reported; told = record { printed = printed; unprinted = told } }
         by (inr (is, printed, told)) = absurd (cc (sym done ∙ is))
 
     -- or one was not
-    pub unruled-by : (answer ≡ status.Done → ⊥) → IsRulesStopped asked answer before after
+    pub unruled-by : (answer ≡ status.Done → ⊥) → IsRulesStopped asked answer run
     unruled-by not = by telling
       where
-        by : IsTelling status.Done texts answer before.printed after.printed before.unprinted after.unprinted → IsRulesStopped asked answer before after
+        by : IsTelling status.Done texts answer run.before.printed run.after.printed run.before.unprinted run.after.unprinted → IsRulesStopped asked answer run
         by (inl (is, printed, told)) = absurd (not is)
         by (inr (is, printed, told)) = inr (is, record { texts = texts; reported = reported; untold = record { printed = printed; unprinted = told } })
 
   -- a refusal of rules that have a reading, in a run without a fault, is want of memory
-  pub rules-refused : (f : Fault) (answer : Status) → answer ≡ fault_status f → IfSome before.files (λ o. RefusesRulesCommand asked o f) → after.faults ≡ faults_by f before.faults → IsRulesComplete asked answer before after
+  pub rules-refused : (f : Fault) (answer : Status) → answer ≡ fault_status f → IfSome run.before.files (λ o. RefusesRulesCommand asked o f) → run.after.faults ≡ faults_by f run.before.faults → IsRulesComplete asked answer run
   rules-refused f answer is cause faults =
-      each-told before.files (λ o why survey held none. inr (is ∙ memory-left before after f (rules-beside asked o survey held f why) faults none)) cause
+      each-told run.before.files (λ o why survey held none. inr (is ∙ memory-left run f (rules-beside asked o survey held f why) faults none)) cause

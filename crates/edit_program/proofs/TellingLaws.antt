@@ -1,9 +1,9 @@
 -- What the lines of a run do to what was printed.
-use Rattle.std.proofs.Common.{◌≡◌, ◌∙◌, ◌++◌, ◌+◌, ◌<◌, ◌≤◌, ℕ, List, [], ◌∷◌, Option, None, Some, Vec, Global, ap, append_assoc, append-nil, drop, length, map, refl, slice_index_or, subst, sym, take, take_all}
+use Rattle.std.proofs.Common.{◌≡◌, ◌∙◌, ◌++◌, ◌+◌, ◌<◌, ◌≤◌, ℕ, List, [], ◌∷◌, Vec, Global, ap, append_assoc, append-nil, drop, length, refl, slice_index_or, subst, sym, take, take_all}
 use Rattle.std.proofs.lemmas.List.{at_drop_more, map-append, take-append-drop, take_more}
-use Rattle.edit_desk.specs.Desk.{Told}
 use Rattle.edit_desk.specs.Printer.{line_of}
 use Rattle.edit_program.specs.Run.{AreCutShort, bytes_of_lines}
+use Rattle.edit_program.specs.inner.Parts.{texts_in}
 
 -- ---- the bytes of lines
 
@@ -43,10 +43,6 @@ appends-cut texts front rest text old between new stands before cut = record {
 }
 
 -- ---- the lines of a list, one after the other
-
--- the texts of lines
-abbrev pub texts_in : List (Vec ℕ Global) → List (List ℕ)
-texts_in lines = map (λ (line : Vec ℕ Global). line.items) lines
 
 module _ (lines : List (Vec ℕ Global)) (i : ℕ) (line : Vec ℕ Global) (here : line ≡ slice_index_or lines i line) (below : i < length lines) (text : List ℕ) (is : text ≡ line.items) where
   stands : texts_in lines ≡ texts_in (take i lines) ++ text ∷ texts_in (drop (i + 1) lines)

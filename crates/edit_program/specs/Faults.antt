@@ -40,7 +40,8 @@ records_text records.TooManyColumns = codes "kind 16 TooManyColumns"
 -- the line that is printed of a run that is refused, without its line feed; lines of a file are counted from 1
 abbrev pub fault_text : Fault → List ℕ
 fault_text Usage = codes "fault: usage"
-fault_text (Rules line kind) = codes "fault: rules line " ++ decimal line ++ codes " kind " ++ decimal (kind_number kind) ++ codes " " ++ kind_name kind
+fault_text (Rules line kind) =
+    codes "fault: rules line " ++ decimal line ++ codes " kind " ++ decimal (kind_number kind) ++ codes " " ++ kind_name kind
 fault_text (Records fault) = codes "fault: records " ++ records_text fault
 fault_text (Read name) = codes "fault: read " ++ name
 fault_text (Write name) = codes "fault: write " ++ name

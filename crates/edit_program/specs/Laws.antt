@@ -20,13 +20,17 @@ use Rattle.edit_program.specs.Edits.{IsEditWith}
 use Rattle.edit_program.specs.declared.status.Status.{Status}
 use Rattle.edit_program.specs.declared.status.Status.TheVariants.{Done}
 
--- nothing stands in the way of the correction of a record among the rows of a sheet: its search needs no more than the budget, and no number of the search leaves the range, nor one of the values, whichever row is its donor, or without one
+-- nothing stands in the way of the correction of a record among the rows of a sheet: its search needs no more than the
+-- budget, and no number of the search leaves the range, nor one of the values, whichever row is its donor, or without one
 pub record IsInReach (survey : SurveyParts) (budget : ℕ) (rows : List (List Value)) (row : List Value) : Type 0 where
   pub enough : total_work (case_of survey (kept_edits survey) row) ≤ budget
-  pub search_fits : (path : List Bool) (event : Event) → ¬ (outcome_of (case_of survey (kept_edits survey) row) budget ≡ Overflow path event)
-  pub values_fit : (donor : Option ℕ) (path : List Bool) (stop : GiftFault) → ¬ StopsGiving survey (kept_edits survey) row path (option_map (row_at rows) donor) stop
+  pub search_fits : (path : List Bool) (event : Event)
+      → ¬ (outcome_of (case_of survey (kept_edits survey) row) budget ≡ Overflow path event)
+  pub values_fit : (donor : Option ℕ) (path : List Bool) (stop : GiftFault)
+      → ¬ StopsGiving survey (kept_edits survey) row path (option_map (row_at rows) donor) stop
 
 -- where some point is consistent, and nothing stands in the way of any record, the edit ends with all records released
 abbrev pub WholeLaw : Type 0
-WholeLaw = (survey : SurveyParts) (sheet : SheetParts) (terms : Terms) (answer : Status) (written : Written) (p : Point) → IsEditWith survey sheet terms answer written
-    → IsCorrection survey p → AllByRecursion (IsInReach survey terms.budget sheet.rows) sheet.rows → answer ≡ Done
+WholeLaw = (survey : SurveyParts) (sheet : SheetParts) (terms : Terms) (answer : Status) (written : Written) (p : Point)
+    → IsEditWith survey sheet terms answer written → IsCorrection survey p
+    → AllByRecursion (IsInReach survey terms.budget sheet.rows) sheet.rows → answer ≡ Done

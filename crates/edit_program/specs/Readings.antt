@@ -13,16 +13,17 @@ use Rattle.edit_program.specs.Faults.{sheet_fault}
 use Rattle.edit_program.specs.declared.fault.Fault.{Fault}
 use Rattle.edit_program.specs.declared.fault.Fault.TheVariants as fault
 use Rattle.edit_program.specs.declared.fault.RecordsFault.{RecordsFault}
+use Rattle.edit_program.specs.declared.reading.TheConstants.{MOST_BYTES, MOST_PROOF_BYTES}
 use Rattle.edit_program.specs.declared.status.Status.{Status}
 use Rattle.edit_program.specs.declared.status.Status.TheVariants as status
 
 -- the most bytes of a file of rules or records, and of a released file
 abbrev pub most_bytes : ℕ
-most_bytes = 67108864
+most_bytes = MOST_BYTES
 
 -- the most bytes of a proof
 abbrev pub most_proof_bytes : ℕ
-most_proof_bytes = 536870912
+most_proof_bytes = MOST_PROOF_BYTES
 
 -- a file of that name stands on the desk, within a limit, and its bytes meet the claim
 pub record HoldsWithin (files : Files) (name : List ℕ) (most : ℕ) (P : List ℕ → Type 0) : Type 0 where
@@ -31,7 +32,7 @@ pub record HoldsWithin (files : Files) (name : List ℕ) (most : ℕ) (P : List 
   pub short : length bytes ≤ most
   pub claim : P bytes
 
--- the same within the limit of all files but a proof
+-- a file of that name stands on the desk, within the limit of all files but a proof, and its bytes meet the claim
 abbrev pub HoldsText : Files → List ℕ → (List ℕ → Type 0) → Type 0
 HoldsText files name P = HoldsWithin files name most_bytes P
 
@@ -75,15 +76,24 @@ pub record AreNoRecords (fields : List Field) (what : RecordsFault) (bytes : Lis
   pub first : IsSheetFault fields bytes found
   pub told : sheet_fault fields found ≡ fault.Records what
 
+-- some survey is read from a file of this name, and the claim holds of it
+abbrev pub WithRules : Files → List ℕ → (SurveyParts → Type 0) → Type 0
+WithRules files rules P = (survey : SurveyParts) × HoldsRules files rules survey × P survey
+
 -- some survey and some sheet are read from files of these names, and the claim holds of them
 abbrev pub WithSheet : Files → List ℕ → List ℕ → (SurveyParts → SheetParts → Type 0) → Type 0
-WithSheet files rules records P = (survey : SurveyParts) × HoldsRules files rules survey × ((sheet : SheetParts) × HoldsRecords files records survey.fields sheet × P survey sheet)
+WithSheet files rules records P =
+    WithRules files rules (λ survey. (sheet : SheetParts) × HoldsRecords files records survey.fields sheet × P survey sheet)
 
--- why the rules and the records, in files of these names, are refused; a file that could not be read or written, and want of memory, say nothing of them
+-- why the rules and the records, in files of these names, are refused; a file that could not be read or written, and want
+-- of memory, say nothing of them
 abbrev pub RefusesInput : List ℕ → List ℕ → Files → Fault → Type 0
 RefusesInput rules records files (fault.Rules line kind) = HoldsText files rules (AreNoRules line kind)
-RefusesInput rules records files (fault.Records what) = (survey : SurveyParts) × HoldsRules files rules survey × HoldsText files records (AreNoRecords survey.fields what)
-RefusesInput rules records files (fault.TooLong name) = ((name ≡ rules) × IsLonger files name most_bytes) ⊎ ((name ≡ records) × (survey : SurveyParts) × HoldsRules files rules survey × IsLonger files name most_bytes)
+RefusesInput rules records files (fault.Records what) =
+    WithRules files rules (λ survey. HoldsText files records (AreNoRecords survey.fields what))
+RefusesInput rules records files (fault.TooLong name) =
+    ((name ≡ rules) × IsLonger files name most_bytes)
+    ⊎ ((name ≡ records) × (survey : SurveyParts) × HoldsRules files rules survey × IsLonger files name most_bytes)
 RefusesInput rules records files fault.Usage = ⊥
 RefusesInput rules records files (fault.Rejected line why) = ⊥
 RefusesInput rules records files fault = ⊤
@@ -100,8 +110,10 @@ IsTooLong asked files name = WithSheet files asked.rules asked.records (λ surve
 
 -- why the files of a check are refused: the rules or the records are, or another file is too long, or they are no valid release
 abbrev pub RefusesCheck : CheckAsked → Files → Fault → Type 0
-RefusesCheck asked files (fault.TooLong name) = RefusesInput asked.rules asked.records files (fault.TooLong name) ⊎ IsTooLong asked files name
-RefusesCheck asked files (fault.Rejected line why) = (audit : Audit) × HoldsRelease files asked audit × ¬ IsValidRelease audit × IsFirstFailure audit line why
+RefusesCheck asked files (fault.TooLong name) =
+    RefusesInput asked.rules asked.records files (fault.TooLong name) ⊎ IsTooLong asked files name
+RefusesCheck asked files (fault.Rejected line why) =
+    (audit : Audit) × HoldsRelease files asked audit × ¬ IsValidRelease audit × IsFirstFailure audit line why
 RefusesCheck asked files fault = RefusesInput asked.rules asked.records files fault
 
 -- why the file of the command `rules` is refused: it is too long, or holds no rules
@@ -116,22 +128,26 @@ RefusesRulesCommand asked files fault = ⊥
 
 -- the rules and the records are to be refused with this status: a file is too long, or has no reading
 abbrev pub IsInputDue : List ℕ → List ℕ → Files → Status → Type 0
-IsInputDue rules records files status.TooLong = IsLonger files rules most_bytes ⊎ ((survey : SurveyParts) × HoldsRules files rules survey × IsLonger files records most_bytes)
+IsInputDue rules records files status.TooLong =
+    IsLonger files rules most_bytes ⊎ WithRules files rules (λ survey. IsLonger files records most_bytes)
 IsInputDue rules records files status.Rules = HoldsText files rules (λ bytes. (survey : SurveyParts) → ¬ IsRuleText bytes survey)
-IsInputDue rules records files status.Records = (survey : SurveyParts) × HoldsRules files rules survey × HoldsText files records (λ bytes. (sheet : SheetParts) → ¬ IsSheet survey.fields bytes sheet)
+IsInputDue rules records files status.Records =
+    WithRules files rules (λ survey. HoldsText files records (λ bytes. (sheet : SheetParts) → ¬ IsSheet survey.fields bytes sheet))
 IsInputDue rules records files answer = ⊥
 
--- the files of an edit are
+-- the files of an edit are to be refused with this status
 abbrev pub IsDue : EditAsked → Files → Status → Type 0
 IsDue asked files answer = IsInputDue asked.names.rules asked.names.records files answer
 
--- the files of a check are, with this status: as for an edit, or another file is too long, or they are no valid release
+-- the files of a check are to be refused with this status: as for an edit, or another file is too long, or they are no
+-- valid release
 abbrev pub IsCheckDue : CheckAsked → Files → Status → Type 0
-IsCheckDue asked files status.TooLong = IsInputDue asked.rules asked.records files status.TooLong ⊎ ((name : List ℕ) × IsTooLong asked files name)
+IsCheckDue asked files status.TooLong =
+    IsInputDue asked.rules asked.records files status.TooLong ⊎ ((name : List ℕ) × IsTooLong asked files name)
 IsCheckDue asked files status.Rejected = (audit : Audit) × HoldsRelease files asked audit × ¬ IsValidRelease audit
 IsCheckDue asked files answer = IsInputDue asked.rules asked.records files answer
 
--- the file of the command `rules` is
+-- the file of the command `rules` is to be refused with this status
 abbrev pub IsRulesDue : RulesAsked → Files → Status → Type 0
 IsRulesDue asked files status.TooLong = IsLonger files asked.rules most_bytes
 IsRulesDue asked files status.Rules = HoldsText files asked.rules (λ bytes. (survey : SurveyParts) → ¬ IsRuleText bytes survey)

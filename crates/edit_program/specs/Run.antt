@@ -1,14 +1,19 @@
 -- What a run asks of the desk, leaves on it, and prints.
 use Rattle.std.specs.Prelude.{◌≡◌, ◌⊎◌, ◌<◌, ◌^◌, ◌-◌, ℕ, List, [], ◌∷◌, ◌++◌, Option, Result, Some, IfSome, take}
+use Rattle.std.specs.Borrow.{MutBor}
+use denote.Triple.Both.{Both}
 use Rattle.edit_desk.specs.Desk.{Asked, Files, HoldsPrefix, PutsOnRecord, SameElsewhere, Told, failing, fetched, raised, stored}
 use Rattle.edit_desk.specs.Printer.{Prints, after_line, line_of}
+use Rattle.edit_desk.specs.declared.calls.Desk as desk
 use Rattle.edit_desk.specs.declared.printer.PrintFailed.{PrintFailed}
+use Rattle.edit_desk.specs.declared.printer.Printer as printer
 use Rattle.edit_program.specs.Faults.{fault_status, fault_text}
 use Rattle.edit_program.specs.declared.fault.Fault.{Fault}
 use Rattle.edit_program.specs.declared.fault.Fault.TheVariants as fault
 use Rattle.edit_program.specs.declared.status.Status.{Status}
 
--- what is seen of a desk and of a printer: the files, the calls on record and the printed bytes, where they are told; and how many calls and how many lines failed
+-- what is seen of a desk and of a printer: the files, the calls on record and the printed bytes, where they are told;
+-- and how many calls and how many lines failed
 pub record Seen : Type 0 where
   pub files : Option Files
   pub calls : Option (List Asked)
@@ -16,9 +21,27 @@ pub record Seen : Type 0 where
   pub printed : Option (List ℕ)
   pub unprinted : ℕ
 
--- the same of these parts
-abbrev pub seen : Option Files → Option (List Asked) → ℕ → Option (List ℕ) → ℕ → Seen
-seen files calls faults printed unprinted = record { files = files; calls = calls; faults = faults; printed = printed; unprinted = unprinted }
+-- what is seen before a run, and after it
+pub record Run : Type 0 where
+  pub before : Seen
+  pub after : Seen
+
+-- what this desk and this printer tell
+abbrev pub seen : {D P : Type 0} → desk.Ghosts D → printer.Ghosts P → D → P → Seen
+seen of_desk of_printer d p = record {
+  files = of_desk.files d;
+  calls = of_desk.calls d;
+  faults = of_desk.faults d;
+  printed = of_printer.printed p;
+  unprinted = of_printer.faults p;
+}
+
+-- the run of a call that was lent this desk and this printer: what they tell when it begins, and when it returns
+abbrev pub ran : {D P : Type 0} → desk.Ghosts D → printer.Ghosts P → Both (MutBor D) (MutBor D) → Both (MutBor P) (MutBor P) → Run
+ran of_desk of_printer d p = record {
+  before = seen of_desk of_printer d.entry.now p.entry.now;
+  after = seen of_desk of_printer d.exit.now p.exit.now;
+}
 
 -- ---- the calls
 
@@ -29,7 +52,8 @@ pub record EndAt (order : List Asked) (call last : Asked) (calls : List Asked) :
   pub stands : order ≡ before ++ call ∷ after
   pub ended : calls ≡ before ++ last ∷ []
 
--- the calls of a command that is refused for a fault, of those that it makes in order: up to the call that met it; where memory was refused, some first calls
+-- the calls of a command that is refused for a fault, of those that it makes in order: up to the call that met it;
+-- where memory was refused, some first calls
 abbrev pub AreCallsTo : List Asked → Fault → List Asked → Type 0
 AreCallsTo order fault.Usage calls = calls ≡ []
 AreCallsTo order (fault.Rules line kind) calls = calls ≡ take 1 order
@@ -72,7 +96,8 @@ pub record IsLeft (files : List (List ℕ × List ℕ)) (name : List ℕ) (befor
   pub cut : IsCutOff name bytes between after
   pub elsewhere : SameElsewhere between after name
 
--- what is left of files that are stored in order, where the run is refused for a fault: those before a store that failed, or some first of them where memory was refused; on any other fault nothing was stored
+-- what is left of files that are stored in order, where the run is refused for a fault: those before a store that failed,
+-- or some first of them where memory was refused; on any other fault nothing was stored
 abbrev pub LeavesOf : List (List ℕ × List ℕ) → Fault → Files → Files → Type 0
 LeavesOf files (fault.Write name) before after = IsLeft files name before after
 LeavesOf files fault.OutOfMemory before after = (count : ℕ) × AreStored (take count files) before after
@@ -84,21 +109,28 @@ LeavesAll fault before after = after ≡ before
 
 -- ---- what is printed
 
--- of what was printed before and after, and of the counts of lines that failed: one line with this text was printed, or failed with some first bytes of it printed
+-- of what was printed before and after, and of the counts of lines that failed: one line with this text was printed,
+-- or failed with some first bytes of it printed
 abbrev pub AreBytesOf : List ℕ → Option (List ℕ) → Option (List ℕ) → ℕ → ℕ → Type 0
 AreBytesOf text printed now failed failed_now =
     (line : Result (Unit {0}) PrintFailed) × Told printed now (λ old new. Prints old new text line) × (failed_now ≡ after_line line failed)
 
--- the same of what is seen before and after
-abbrev pub IsLinePrinted : List ℕ → Seen → Seen → Type 0
-IsLinePrinted text before after = AreBytesOf text before.printed after.printed before.unprinted after.unprinted
+-- one line with this text was printed in the run, or failed with some first bytes of it printed
+abbrev pub IsLinePrinted : List ℕ → Run → Type 0
+IsLinePrinted text run = AreBytesOf text run.before.printed run.after.printed run.before.unprinted run.after.unprinted
+
+-- one line with this text was printed by this printer, or failed with some first bytes of it printed
+abbrev pub PrintsLine : {P : Type 0} → printer.Ghosts P → Both (MutBor P) (MutBor P) → List ℕ → Type 0
+PrintsLine tells p text =
+    AreBytesOf text (tells.printed p.entry.now) (tells.printed p.exit.now) (tells.faults p.entry.now) (tells.faults p.exit.now)
 
 -- the bytes of lines, one after the other
 abbrev pub bytes_of_lines : List (List ℕ) → List ℕ
 bytes_of_lines [] = []
 bytes_of_lines (text ∷ texts) = line_of text ++ bytes_of_lines texts
 
--- lines are appended in order until one fails: those before it whole, of it some first bytes or none, and of the later ones nothing
+-- lines are appended in order until one fails: those before it whole, of it some first bytes or none, and of the later
+-- ones nothing
 pub record AreCutShort (texts : List (List ℕ)) (old new : List ℕ) : Type 0 where
   pub front : List (List ℕ)
   pub text : List ℕ
@@ -108,38 +140,47 @@ pub record AreCutShort (texts : List (List ℕ)) (old new : List ℕ) : Type 0 w
   pub printed : new ≡ old ++ (bytes_of_lines front ++ take kept (line_of text))
 
 -- all lines were printed whole, in order
-pub record AreTold (texts : List (List ℕ)) (before after : Seen) : Type 0 where
-  pub printed : Told before.printed after.printed (λ old new. new ≡ old ++ bytes_of_lines texts)
-  pub unprinted : after.unprinted ≡ before.unprinted
+pub record AreTold (texts : List (List ℕ)) (run : Run) : Type 0 where
+  pub printed : Told run.before.printed run.after.printed (λ old new. new ≡ old ++ bytes_of_lines texts)
+  pub unprinted : run.after.unprinted ≡ run.before.unprinted
 
 -- one of the lines was not printed whole, and no later one was tried
-pub record AreUntold (texts : List (List ℕ)) (before after : Seen) : Type 0 where
-  pub printed : Told before.printed after.printed (AreCutShort texts)
-  pub unprinted : after.unprinted ≡ raised before.unprinted
+pub record AreUntold (texts : List (List ℕ)) (run : Run) : Type 0 where
+  pub printed : Told run.before.printed run.after.printed (AreCutShort texts)
+  pub unprinted : run.after.unprinted ≡ raised run.before.unprinted
 
 -- ---- refused runs
 
--- a run that is refused for a fault that it may meet, with its status: of the files that the desk held this holds, the calls end there, this is left on the desk, and the fault is printed
-pub record IsRefused (meets : Fault → Type 0) (refuses : Files → Fault → Type 0) (order : List Asked) (leaves : Fault → Files → Files → Type 0) (answer : Status) (before after : Seen) : Type 0 where
+-- what a command says of its refusals: the faults that it may meet, which of them the files that the desk held call for,
+-- the calls that it makes in order, and what a refusal leaves of the files
+pub record Refusals : Type 1 where
+  pub meets : Fault → Type 0
+  pub refuses : Files → Fault → Type 0
+  pub order : List Asked
+  pub leaves : Fault → Files → Files → Type 0
+
+-- a run that is refused for a fault that its command may meet, with its status: the files that the desk held call for it,
+-- the calls end there, this is left on the desk, and the fault is printed
+pub record IsRefused (command : Refusals) (answer : Status) (run : Run) : Type 0 where
   pub fault : Fault
   pub status : answer ≡ fault_status fault
-  pub kind : meets fault
-  pub cause : IfSome before.files (λ files. refuses files fault)
-  pub calls : PutsOnRecord before.calls after.calls (AreCallsTo order fault)
-  pub files : Told before.files after.files (leaves fault)
-  pub faults : after.faults ≡ faults_by fault before.faults
-  pub printed : IsLinePrinted (fault_text fault) before after
+  pub kind : command.meets fault
+  pub cause : IfSome run.before.files (λ files. command.refuses files fault)
+  pub calls : PutsOnRecord run.before.calls run.after.calls (AreCallsTo command.order fault)
+  pub files : Told run.before.files run.after.files (command.leaves fault)
+  pub faults : run.after.faults ≡ faults_by fault run.before.faults
+  pub printed : IsLinePrinted (fault_text fault) run
 
 -- words that are no command ask for nothing; that is printed
-pub record IsUsage (before after : Seen) : Type 0 where
-  pub files : after.files ≡ before.files
-  pub calls : after.calls ≡ before.calls
-  pub faults : after.faults ≡ before.faults
-  pub printed : IsLinePrinted (fault_text fault.Usage) before after
+pub record IsUsage (run : Run) : Type 0 where
+  pub files : run.after.files ≡ run.before.files
+  pub calls : run.after.calls ≡ run.before.calls
+  pub faults : run.after.faults ≡ run.before.faults
+  pub printed : IsLinePrinted (fault_text fault.Usage) run
 
 -- the desk and the printer met no fault, and their counts do not stand at their end
-pub record IsFaultless (before after : Seen) : Type 0 where
-  pub faults : after.faults ≡ before.faults
-  pub room : before.faults < 2 ^ 64 - 1
-  pub unprinted : after.unprinted ≡ before.unprinted
-  pub place : before.unprinted < 2 ^ 64 - 1
+pub record IsFaultless (run : Run) : Type 0 where
+  pub faults : run.after.faults ≡ run.before.faults
+  pub room : run.before.faults < 2 ^ 64 - 1
+  pub unprinted : run.after.unprinted ≡ run.before.unprinted
+  pub place : run.before.unprinted < 2 ^ 64 - 1

@@ -4,13 +4,13 @@ ghost use Rattle.edit_desk.specs.Desk.{PutsOnRecord};
 ghost use Rattle.edit_program.specs.CheckRun.{IsCheckComplete, IsCheckStopped, IsChecked, check_calls, valid_text};
 ghost use Rattle.edit_program.specs.Faults.{IsOfCheck};
 ghost use Rattle.edit_program.specs.Readings.{AnswersDue, IsCheckDue, RefusesCheck};
-ghost use Rattle.edit_program.specs.Run.{seen};
+ghost use Rattle.edit_program.specs.Run.{ran};
 ghost use Rattle.edit_program.specs.declared.fault.Fault.TheVariants as faults;
 ghost use Rattle.edit_program.specs.inner.CheckParts.{Accepts};
 ghost use Rattle.edit_program.specs.inner.Parts.{AreCallsOf, done_end, faults_after};
 
 use crate::fault::Fault;
-use crate::reading::{fetch_proof, fetch_released, fetch_sheet, fetch_survey};
+use crate::reading::{MOST_BYTES, MOST_PROOF_BYTES, fetch_file, fetch_sheet, fetch_survey};
 use crate::refusal::Refusal;
 use crate::status::Status;
 use crate::telling::{refuse, tell};
@@ -27,15 +27,9 @@ pub(crate) fn run_check<D: Desk, P: Printer>(
     printer: &mut P,
 ) -> Status
     ensures command { result ≢ Status.Usage }
-    ensures checked { result ≡ Status.Done → IsChecked asked.now
-        (seen (D.files desk.old) (D.calls desk.old) (D.faults desk.old) (P.printed printer.old) (P.faults printer.old))
-        (seen (D.files desk.new) (D.calls desk.new) (D.faults desk.new) (P.printed printer.new) (P.faults printer.new)) }
-    ensures stopped { result ≢ Status.Done → IsCheckStopped asked.now result
-        (seen (D.files desk.old) (D.calls desk.old) (D.faults desk.old) (P.printed printer.old) (P.faults printer.old))
-        (seen (D.files desk.new) (D.calls desk.new) (D.faults desk.new) (P.printed printer.new) (P.faults printer.new)) }
-    ensures complete { IsCheckComplete asked.now result
-        (seen (D.files desk.old) (D.calls desk.old) (D.faults desk.old) (P.printed printer.old) (P.faults printer.old))
-        (seen (D.files desk.new) (D.calls desk.new) (D.faults desk.new) (P.printed printer.new) (P.faults printer.new)) }
+    ensures checked { result ≡ Status.Done → IsChecked asked.now (ran D.Desk P.Printer desk printer) }
+    ensures stopped { result ≢ Status.Done → IsCheckStopped asked.now result (ran D.Desk P.Printer desk printer) }
+    ensures complete { IsCheckComplete asked.now result (ran D.Desk P.Printer desk printer) }
     ensures due { IfSome (D.files desk.old) (λ files. AnswersDue (IsCheckDue asked.now files) result) }
 {
     match check(alloc, asked, desk) {
@@ -60,8 +54,8 @@ fn check<'a, D: Desk>(
 {
     let survey = fetch_survey(alloc, asked.rules, desk)?;
     let sheet = fetch_sheet(alloc, asked.records, &survey, desk)?;
-    let released = fetch_released(alloc, asked.released, desk)?;
-    let proof = fetch_proof(alloc, asked.proof, desk)?;
+    let released = fetch_file(alloc, asked.released, MOST_BYTES, desk)?;
+    let proof = fetch_file(alloc, asked.proof, MOST_PROOF_BYTES, desk)?;
     match check_all(alloc, &survey, &sheet, &released, &proof) {
         Ok(count) => valid_line(alloc, sheet.len(), count),
         Err(fault) => Err(Refusal::of(alloc, Fault::from(fault))),

@@ -7,7 +7,7 @@ ghost use Rattle.edit_program.specs.EditRun.{IsEditComplete, IsEditStopped, IsEd
 ghost use Rattle.edit_program.specs.Edits.{HasReleased, terms_of};
 ghost use Rattle.edit_program.specs.Faults.{IsOfEdit};
 ghost use Rattle.edit_program.specs.Readings.{AnswersDue, IsDue, Refuses};
-ghost use Rattle.edit_program.specs.Run.{seen};
+ghost use Rattle.edit_program.specs.Run.{ran};
 ghost use Rattle.edit_program.specs.inner.EditParts.{EditEnds, edit_end, edit_status};
 ghost use Rattle.edit_program.specs.inner.Parts.{AreCallsOf, faults_after};
 ghost use Rattle.edit_release.specs.Releases.{IsReleaseOf};
@@ -37,15 +37,9 @@ pub(crate) fn run_edit<D: Desk, P: Printer>(
     printer: &mut P,
 ) -> Status
     ensures command { result ≢ Status.Usage }
-    ensures edited { HasReleased result → IsEdited asked.now result
-        (seen (D.files desk.old) (D.calls desk.old) (D.faults desk.old) (P.printed printer.old) (P.faults printer.old))
-        (seen (D.files desk.new) (D.calls desk.new) (D.faults desk.new) (P.printed printer.new) (P.faults printer.new)) }
-    ensures stopped { ¬ HasReleased result → IsEditStopped asked.now result
-        (seen (D.files desk.old) (D.calls desk.old) (D.faults desk.old) (P.printed printer.old) (P.faults printer.old))
-        (seen (D.files desk.new) (D.calls desk.new) (D.faults desk.new) (P.printed printer.new) (P.faults printer.new)) }
-    ensures complete { IsEditComplete asked.now result
-        (seen (D.files desk.old) (D.calls desk.old) (D.faults desk.old) (P.printed printer.old) (P.faults printer.old))
-        (seen (D.files desk.new) (D.calls desk.new) (D.faults desk.new) (P.printed printer.new) (P.faults printer.new)) }
+    ensures edited { HasReleased result → IsEdited asked.now result (ran D.Desk P.Printer desk printer) }
+    ensures stopped { ¬ HasReleased result → IsEditStopped asked.now result (ran D.Desk P.Printer desk printer) }
+    ensures complete { IsEditComplete asked.now result (ran D.Desk P.Printer desk printer) }
     ensures due { IfSome (D.files desk.old) (λ files. AnswersDue (IsDue asked.now files) result) }
 {
     match edit(alloc, asked, desk) {

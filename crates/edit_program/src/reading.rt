@@ -4,7 +4,7 @@ ghost use Rattle.std.specs.List.{AllByRecursion};
 ghost use Rattle.edit_desk.specs.Desk.{PutsOnRecord, fetched};
 ghost use Rattle.edit_model.specs.PlainNumbers.{HasPlain};
 ghost use Rattle.edit_model.specs.Surveys.{IsWellFormed};
-ghost use Rattle.edit_program.specs.Readings.{HoldsBytes, HoldsRecords, HoldsRules, most_bytes, most_proof_bytes};
+ghost use Rattle.edit_program.specs.Readings.{HoldsBytes, HoldsRecords, HoldsRules};
 ghost use Rattle.edit_program.specs.declared.fault.Fault.TheVariants as faults;
 ghost use Rattle.edit_program.specs.inner.Parts.{AreCallsOf, IsOfFetch, IsOfRecords, IsOfRules, RefusesLong, RefusesRecords, RefusesRules, faults_after};
 ghost use Rattle.record_text.specs.Sheets.{IsSheet};
@@ -19,10 +19,10 @@ use record_text::{Sheet, read_records};
 use std::alloc::Global;
 
 /// The most bytes of a file of rules or records, and of a released file: 64 MiB.
-const MOST_BYTES: u64 = 67_108_864;
+pub(crate) const MOST_BYTES: u64 = 67_108_864;
 
 /// The most bytes of a proof: 512 MiB.
-const MOST_PROOF_BYTES: u64 = 536_870_912;
+pub(crate) const MOST_PROOF_BYTES: u64 = 536_870_912;
 
 /// The survey that the rule file reads as.
 pub(crate) fn fetch_survey<'a, D: Desk>(
@@ -68,40 +68,8 @@ pub(crate) fn fetch_sheet<'a, D: Desk>(
     }
 }
 
-/// The bytes of a released file.
-pub(crate) fn fetch_released<'a, D: Desk>(
-    alloc: Global,
-    name: &'a str,
-    desk: &mut D,
-) -> Result<Vec<u8>, Refusal<'a>>
-    ensures bytes { IfOk result (λ bytes. IfSome (D.files desk.old) (λ files. HoldsBytes files name.now most_bytes bytes.items)) }
-    ensures kind { IfErr result (IsOfFetch name.now) }
-    ensures cause { IfErr result (λ fault. IfSome (D.files desk.old) (λ files. RefusesLong most_bytes files fault)) }
-    ensures asked { PutsOnRecord (D.calls desk.old) (D.calls desk.new) (AreCallsOf (fetched name.now ∷ []) result) }
-    ensures faults { D.faults desk.new ≡ faults_after result (D.faults desk.old) }
-    ensures unchanged { D.files desk.new ≡ D.files desk.old }
-{
-    fetch_file(alloc, name, MOST_BYTES, desk)
-}
-
-/// The bytes of a proof.
-pub(crate) fn fetch_proof<'a, D: Desk>(
-    alloc: Global,
-    name: &'a str,
-    desk: &mut D,
-) -> Result<Vec<u8>, Refusal<'a>>
-    ensures bytes { IfOk result (λ bytes. IfSome (D.files desk.old) (λ files. HoldsBytes files name.now most_proof_bytes bytes.items)) }
-    ensures kind { IfErr result (IsOfFetch name.now) }
-    ensures cause { IfErr result (λ fault. IfSome (D.files desk.old) (λ files. RefusesLong most_proof_bytes files fault)) }
-    ensures asked { PutsOnRecord (D.calls desk.old) (D.calls desk.new) (AreCallsOf (fetched name.now ∷ []) result) }
-    ensures faults { D.faults desk.new ≡ faults_after result (D.faults desk.old) }
-    ensures unchanged { D.files desk.new ≡ D.files desk.old }
-{
-    fetch_file(alloc, name, MOST_PROOF_BYTES, desk)
-}
-
-// The bytes of a file, within the limit.
-fn fetch_file<'a, D: Desk>(
+/// The bytes of a file, within the limit.
+pub(crate) fn fetch_file<'a, D: Desk>(
     alloc: Global,
     name: &'a str,
     most: u64,

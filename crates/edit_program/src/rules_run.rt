@@ -1,12 +1,12 @@
 //! A run of `rules`.
-ghost use Rattle.std.specs.Prelude.{◌≡◌, ◌≢◌, IfErr, IfOk, IfSome, map};
+ghost use Rattle.std.specs.Prelude.{◌≡◌, ◌≢◌, IfErr, IfOk, IfSome};
 ghost use Rattle.edit_desk.specs.Desk.{PutsOnRecord};
 ghost use Rattle.edit_release.specs.Edits.{DroppedFollow};
 ghost use Rattle.edit_program.specs.Faults.{IsOfRulesCommand};
 ghost use Rattle.edit_program.specs.Readings.{AnswersDue, IsRulesDue, RefusesRulesCommand};
 ghost use Rattle.edit_program.specs.RulesRun.{DroppedRefuted, IsReport, IsRuled, IsRulesComplete, IsRulesStopped, NeededCanFail, report_of, rules_calls};
-ghost use Rattle.edit_program.specs.Run.{seen};
-ghost use Rattle.edit_program.specs.inner.Parts.{AreCallsOf, done_end, faults_after};
+ghost use Rattle.edit_program.specs.Run.{ran};
+ghost use Rattle.edit_program.specs.inner.Parts.{AreCallsOf, done_end, faults_after, texts_in};
 
 use crate::reading::fetch_survey;
 use crate::refusal::Refusal;
@@ -28,15 +28,9 @@ pub(crate) fn run_rules<D: Desk, P: Printer>(
     printer: &mut P,
 ) -> Status
     ensures command { result ≢ Status.Usage }
-    ensures ruled { result ≡ Status.Done → IsRuled asked.now
-        (seen (D.files desk.old) (D.calls desk.old) (D.faults desk.old) (P.printed printer.old) (P.faults printer.old))
-        (seen (D.files desk.new) (D.calls desk.new) (D.faults desk.new) (P.printed printer.new) (P.faults printer.new)) }
-    ensures stopped { result ≢ Status.Done → IsRulesStopped asked.now result
-        (seen (D.files desk.old) (D.calls desk.old) (D.faults desk.old) (P.printed printer.old) (P.faults printer.old))
-        (seen (D.files desk.new) (D.calls desk.new) (D.faults desk.new) (P.printed printer.new) (P.faults printer.new)) }
-    ensures complete { IsRulesComplete asked.now result
-        (seen (D.files desk.old) (D.calls desk.old) (D.faults desk.old) (P.printed printer.old) (P.faults printer.old))
-        (seen (D.files desk.new) (D.calls desk.new) (D.faults desk.new) (P.printed printer.new) (P.faults printer.new)) }
+    ensures ruled { result ≡ Status.Done → IsRuled asked.now (ran D.Desk P.Printer desk printer) }
+    ensures stopped { result ≢ Status.Done → IsRulesStopped asked.now result (ran D.Desk P.Printer desk printer) }
+    ensures complete { IsRulesComplete asked.now result (ran D.Desk P.Printer desk printer) }
     ensures due { IfSome (D.files desk.old) (λ files. AnswersDue (IsRulesDue asked.now files) result) }
 {
     match rules(alloc, asked, desk) {
@@ -52,7 +46,7 @@ fn rules<'a, D: Desk>(
     desk: &mut D,
 ) -> Result<Vec<Vec<u8>>, Refusal<'a>>
     ensures kind { IfErr result IsOfRulesCommand }
-    ensures reported { IfOk result (λ lines. IfSome (D.files desk.old) (λ files. IsReport asked.now files (map (λ line. line.items) lines.items))) }
+    ensures reported { IfOk result (λ lines. IfSome (D.files desk.old) (λ files. IsReport asked.now files (texts_in lines.items))) }
     ensures cause { IfErr result (λ fault. IfSome (D.files desk.old) (λ files. RefusesRulesCommand asked.now files fault)) }
     ensures due { IfSome (D.files desk.old) (λ files. AnswersDue (IsRulesDue asked.now files) (done_end result)) }
     ensures asked { PutsOnRecord (D.calls desk.old) (D.calls desk.new) (AreCallsOf (rules_calls asked.now) result) }
@@ -68,7 +62,7 @@ fn rules<'a, D: Desk>(
 
 // The lines that are printed of the survey's rules.
 fn lines_of(alloc: Global, survey: &Survey) -> Result<Vec<Vec<u8>>, OutOfMemory>
-    ensures texts { IfOk result (λ lines. map (λ line. line.items) lines.items ≡ report_of survey.now) }
+    ensures texts { IfOk result (λ lines. texts_in lines.items ≡ report_of survey.now) }
     ensures dropped { IfOk result (λ lines. DroppedFollow survey.now) }
     ensures needed { IfOk result (λ lines. NeededCanFail survey.now) }
     ensures refuted { IfOk result (λ lines. DroppedRefuted survey.now) }

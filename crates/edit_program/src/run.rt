@@ -5,7 +5,7 @@ ghost use Rattle.edit_program.specs.EditRun.{IsEditComplete, IsEditStopped, IsEd
 ghost use Rattle.edit_program.specs.Edits.{HasReleased};
 ghost use Rattle.edit_program.specs.Readings.{AnswersDue, IsCheckDue, IsDue, IsRulesDue};
 ghost use Rattle.edit_program.specs.RulesRun.{IsRuled, IsRulesComplete, IsRulesStopped};
-ghost use Rattle.edit_program.specs.Run.{IsUsage, seen};
+ghost use Rattle.edit_program.specs.Run.{IsUsage, ran};
 
 use crate::check_run::run_check;
 use crate::edit_run::run_edit;
@@ -28,65 +28,47 @@ pub fn fh_main<D: Desk, P: Printer>(
     desk: &mut D,
     printer: &mut P,
 ) -> Status
+    // `ran` is what the desk and the printer tell when the call begins, and when it returns.
+
     // The words are no command.
     ensures usage { (result ≡ Status.Usage) ↔ IsNoCommand words.now }
-    ensures unasked { result ≡ Status.Usage → IsUsage
-        (seen (D.files desk.old) (D.calls desk.old) (D.faults desk.old) (P.printed printer.old) (P.faults printer.old))
-        (seen (D.files desk.new) (D.calls desk.new) (D.faults desk.new) (P.printed printer.new) (P.faults printer.new)) }
+    ensures unasked { result ≡ Status.Usage → IsUsage (ran D.Desk P.Printer desk printer) }
 
     // The release guarantee: what stands in the three files, and what was printed, where an edit ends with 0 or 1.
-    ensures edited { HasReleased result → ForEdit words.now (λ asked. IsEdited asked result
-        (seen (D.files desk.old) (D.calls desk.old) (D.faults desk.old) (P.printed printer.old) (P.faults printer.old))
-        (seen (D.files desk.new) (D.calls desk.new) (D.faults desk.new) (P.printed printer.new) (P.faults printer.new))) }
+    ensures edited { HasReleased result → ForEdit words.now (λ ask. IsEdited ask result (ran D.Desk P.Printer desk printer)) }
 
     // Where it ends otherwise: the fault that ended it, where it ended, what is left and what was printed.
-    ensures edit_stopped { ¬ HasReleased result → ForEdit words.now (λ asked. IsEditStopped asked result
-        (seen (D.files desk.old) (D.calls desk.old) (D.faults desk.old) (P.printed printer.old) (P.faults printer.old))
-        (seen (D.files desk.new) (D.calls desk.new) (D.faults desk.new) (P.printed printer.new) (P.faults printer.new))) }
+    ensures edit_stopped { ¬ HasReleased result → ForEdit words.now (λ ask. IsEditStopped ask result (ran D.Desk P.Printer desk printer)) }
 
     // Where both files have readings and no fault is met, the edit is done, but for want of memory.
-    ensures edit_complete { ForEdit words.now (λ asked. IsEditComplete asked result
-        (seen (D.files desk.old) (D.calls desk.old) (D.faults desk.old) (P.printed printer.old) (P.faults printer.old))
-        (seen (D.files desk.new) (D.calls desk.new) (D.faults desk.new) (P.printed printer.new) (P.faults printer.new))) }
+    ensures edit_complete { ForEdit words.now (λ ask. IsEditComplete ask result (ran D.Desk P.Printer desk printer)) }
 
     // A file that is too long or has no reading is told exactly where it is so.
-    ensures edit_due { ForEdit words.now (λ asked. IfSome (D.files desk.old) (λ files. AnswersDue (IsDue asked files) result)) }
+    ensures edit_due { ForEdit words.now (λ ask. IfSome (D.files desk.old) (λ files. AnswersDue (IsDue ask files) result)) }
 
     // The audit: what the files are, and what they show, where a check ends with 0.
-    ensures checked { result ≡ Status.Done → ForCheck words.now (λ asked. IsChecked asked
-        (seen (D.files desk.old) (D.calls desk.old) (D.faults desk.old) (P.printed printer.old) (P.faults printer.old))
-        (seen (D.files desk.new) (D.calls desk.new) (D.faults desk.new) (P.printed printer.new) (P.faults printer.new))) }
+    ensures checked { result ≡ Status.Done → ForCheck words.now (λ ask. IsChecked ask (ran D.Desk P.Printer desk printer)) }
 
     // Where it ends otherwise: the fault that ended it, where it ended, and what was printed; no file is changed.
-    ensures check_stopped { result ≢ Status.Done → ForCheck words.now (λ asked. IsCheckStopped asked result
-        (seen (D.files desk.old) (D.calls desk.old) (D.faults desk.old) (P.printed printer.old) (P.faults printer.old))
-        (seen (D.files desk.new) (D.calls desk.new) (D.faults desk.new) (P.printed printer.new) (P.faults printer.new))) }
+    ensures check_stopped { result ≢ Status.Done → ForCheck words.now (λ ask. IsCheckStopped ask result (ran D.Desk P.Printer desk printer)) }
 
     // Where the files are a valid release and no fault is met, the check is done, but for want of memory.
-    ensures check_complete { ForCheck words.now (λ asked. IsCheckComplete asked result
-        (seen (D.files desk.old) (D.calls desk.old) (D.faults desk.old) (P.printed printer.old) (P.faults printer.old))
-        (seen (D.files desk.new) (D.calls desk.new) (D.faults desk.new) (P.printed printer.new) (P.faults printer.new))) }
+    ensures check_complete { ForCheck words.now (λ ask. IsCheckComplete ask result (ran D.Desk P.Printer desk printer)) }
 
     // Files that are too long, have no reading or are no valid release are told exactly where they are so.
-    ensures check_due { ForCheck words.now (λ asked. IfSome (D.files desk.old) (λ files. AnswersDue (IsCheckDue asked files) result)) }
+    ensures check_due { ForCheck words.now (λ ask. IfSome (D.files desk.old) (λ files. AnswersDue (IsCheckDue ask files) result)) }
 
     // Redundant rules: what is printed of the lines, and what it means, where `rules` ends with 0.
-    ensures ruled { result ≡ Status.Done → ForRules words.now (λ asked. IsRuled asked
-        (seen (D.files desk.old) (D.calls desk.old) (D.faults desk.old) (P.printed printer.old) (P.faults printer.old))
-        (seen (D.files desk.new) (D.calls desk.new) (D.faults desk.new) (P.printed printer.new) (P.faults printer.new))) }
+    ensures ruled { result ≡ Status.Done → ForRules words.now (λ ask. IsRuled ask (ran D.Desk P.Printer desk printer)) }
 
     // Where it ends otherwise: the fault that ended it, where it ended, and what was printed; no file is changed.
-    ensures rules_stopped { result ≢ Status.Done → ForRules words.now (λ asked. IsRulesStopped asked result
-        (seen (D.files desk.old) (D.calls desk.old) (D.faults desk.old) (P.printed printer.old) (P.faults printer.old))
-        (seen (D.files desk.new) (D.calls desk.new) (D.faults desk.new) (P.printed printer.new) (P.faults printer.new))) }
+    ensures rules_stopped { result ≢ Status.Done → ForRules words.now (λ ask. IsRulesStopped ask result (ran D.Desk P.Printer desk printer)) }
 
     // Where the rules have a reading and no fault is met, `rules` is done, but for want of memory.
-    ensures rules_complete { ForRules words.now (λ asked. IsRulesComplete asked result
-        (seen (D.files desk.old) (D.calls desk.old) (D.faults desk.old) (P.printed printer.old) (P.faults printer.old))
-        (seen (D.files desk.new) (D.calls desk.new) (D.faults desk.new) (P.printed printer.new) (P.faults printer.new))) }
+    ensures rules_complete { ForRules words.now (λ ask. IsRulesComplete ask result (ran D.Desk P.Printer desk printer)) }
 
     // Rules that are too long or have no reading are told exactly where they are so.
-    ensures rules_due { ForRules words.now (λ asked. IfSome (D.files desk.old) (λ files. AnswersDue (IsRulesDue asked files) result)) }
+    ensures rules_due { ForRules words.now (λ ask. IfSome (D.files desk.old) (λ files. AnswersDue (IsRulesDue ask files) result)) }
 {
     if let Some(asked) = edit_asked(words) {
         return run_edit(alloc, &asked, desk, printer);

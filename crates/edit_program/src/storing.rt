@@ -1,9 +1,8 @@
 //! The files of a run as they are stored.
 ghost use Rattle.std.specs.Prelude.{◌≡◌, ◌∷◌, [], IfErr};
 ghost use Rattle.edit_desk.specs.Desk.{PutsOnRecord, Told, stored};
-ghost use Rattle.edit_program.specs.EditRun.{edit_files};
+ghost use Rattle.edit_program.specs.inner.EditParts.{release_files};
 ghost use Rattle.edit_program.specs.inner.Parts.{AreCallsOf, IsOfStores, StoresOf, faults_after, store_calls};
-ghost use Rattle.edit_release.specs.Releases.{written_in};
 
 use crate::fault::{Fault, FileName};
 use crate::refusal::Refusal;
@@ -20,8 +19,8 @@ pub(crate) fn store_release<'a, D: Desk>(
     desk: &mut D,
 ) -> Result<(), Refusal<'a>>
     ensures kind { IfErr result IsOfStores }
-    ensures files { Told (D.files desk.old) (D.files desk.new) (StoresOf (edit_files asked.now (written_in release.now)) result) }
-    ensures asked { PutsOnRecord (D.calls desk.old) (D.calls desk.new) (AreCallsOf (store_calls (edit_files asked.now (written_in release.now))) result) }
+    ensures files { Told (D.files desk.old) (D.files desk.new) (StoresOf (release_files asked.now release.now) result) }
+    ensures asked { PutsOnRecord (D.calls desk.old) (D.calls desk.new) (AreCallsOf (store_calls (release_files asked.now release.now)) result) }
     ensures faults { D.faults desk.new ≡ faults_after result (D.faults desk.old) }
 {
     store_file(alloc, asked.proof, &release.proof, desk)?;

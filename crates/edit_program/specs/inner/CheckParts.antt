@@ -6,4 +6,5 @@ use Rattle.edit_program.specs.CheckRun.{IsAccepted, valid_text}
 
 -- the files are a valid release, where they are told, and the line says of how many records
 abbrev pub Accepts : CheckAsked → Option Files → List ℕ → Type 0
-Accepts asked files line = (records : ℕ) × (released : ℕ) × (line ≡ valid_text records released) × IfSome files (λ held. IsAccepted asked held records released)
+Accepts asked files line =
+    (records : ℕ) × (released : ℕ) × (line ≡ valid_text records released) × IfSome files (λ held. IsAccepted asked held records released)

@@ -1,10 +1,10 @@
 -- What an edit does on the desk.
-use Rattle.std.specs.Prelude.{if◌then◌else◌, Result, Ok, Err}
+use Rattle.std.specs.Prelude.{if◌then◌else◌, ℕ, List, Result, Ok, Err}
 use Rattle.edit_desk.specs.Desk.{Files}
 use Rattle.edit_release.specs.Releases.{written_in}
 use Rattle.edit_release.specs.declared.release.Release.{Release}
 use Rattle.command_words.specs.Asked.{EditAsked}
-use Rattle.edit_program.specs.EditRun.{AreWritten, IsMade, Leaves}
+use Rattle.edit_program.specs.EditRun.{AreWritten, IsMade, Leaves, edit_files}
 use Rattle.edit_program.specs.Faults.{fault_status}
 use Rattle.edit_program.specs.declared.fault.Fault.{Fault}
 use Rattle.edit_program.specs.declared.status.Status.{Status}
@@ -19,7 +19,12 @@ abbrev pub edit_end : Result Release Fault → Status
 edit_end (Ok release) = edit_status release
 edit_end (Err fault) = fault_status fault
 
+-- the files that an edit stores of a release, in order
+abbrev pub release_files : EditAsked → Release → List (List ℕ × List ℕ)
+release_files asked release = edit_files asked (written_in release)
+
 -- what an edit leaves of the files
 abbrev pub EditEnds : EditAsked → Result Release Fault → Files → Files → Type 0
-EditEnds asked (Ok release) before after = IsMade asked (edit_status release) before (written_in release) × AreWritten asked (written_in release) before after
+EditEnds asked (Ok release) before after =
+    IsMade asked (edit_status release) before (written_in release) × AreWritten asked (written_in release) before after
 EditEnds asked (Err fault) before after = Leaves asked fault before after

@@ -1,6 +1,10 @@
 -- What the parts of a run do.
-use Rattle.std.specs.Prelude.{◌≡◌, ◌⊎◌, ⊤, ℕ, List, ◌++◌, Option, Result, Ok, Err, map}
+use Rattle.std.specs.Prelude.{◌≡◌, ◌⊎◌, ⊤, ℕ, List, ◌++◌, Option, Result, Ok, Err, Vec, map}
+use Rattle.std.specs.declared.alloc.Global.{Global}
+use Rattle.std.specs.Borrow.{MutBor}
+use denote.Triple.Both.{Both}
 use Rattle.edit_desk.specs.Desk.{Asked, Files, IsLonger, Told, raised, stored}
+use Rattle.edit_desk.specs.declared.printer.Printer as printer
 use Rattle.edit_model.specs.declared.field.Field.{Field}
 use Rattle.edit_program.specs.Faults.{fault_status}
 use Rattle.edit_program.specs.Readings.{AreNoRecords, AreNoRules, HoldsText, most_bytes}
@@ -39,7 +43,7 @@ abbrev pub IsOfRules : List ℕ → Fault → Type 0
 IsOfRules name (fault.Rules line kind) = ⊤
 IsOfRules name fault = IsOfFetch name fault
 
--- the same of the records
+-- a refusal that the fetch of the records, and their reading, may end with
 abbrev pub IsOfRecords : List ℕ → Fault → Type 0
 IsOfRecords name (fault.Records what) = ⊤
 IsOfRecords name fault = IsOfFetch name fault
@@ -49,12 +53,12 @@ abbrev pub RefusesLong : ℕ → Files → Fault → Type 0
 RefusesLong most files (fault.TooLong name) = IsLonger files name most
 RefusesLong most files fault = ⊤
 
--- or it holds no rules
+-- why a file of rules is refused: it holds no rules, or is too long
 abbrev pub RefusesRules : List ℕ → Files → Fault → Type 0
 RefusesRules name files (fault.Rules line kind) = HoldsText files name (AreNoRules line kind)
 RefusesRules name files fault = RefusesLong most_bytes files fault
 
--- or it holds no records of these fields
+-- why a file of records is refused: it holds no records of these fields, or is too long
 abbrev pub RefusesRecords : List ℕ → List Field → Files → Fault → Type 0
 RefusesRecords name fields files (fault.Records what) = HoldsText files name (AreNoRecords fields what)
 RefusesRecords name fields files fault = RefusesLong most_bytes files fault
@@ -78,8 +82,18 @@ store_calls files = map (λ file. stored file.0) files
 
 -- ---- what is printed
 
+-- the texts of lines
+abbrev pub texts_in : List (Vec ℕ Global) → List (List ℕ)
+texts_in lines = map (λ (line : Vec ℕ Global). line.items) lines
+
 -- the lines were printed, and the run ends with its status; or one was not, and the run ends as if a file could not be written
 abbrev pub IsTelling : Status → List (List ℕ) → Status → Option (List ℕ) → Option (List ℕ) → ℕ → ℕ → Type 0
 IsTelling ended texts answer printed now failed failed_now =
     ((answer ≡ ended) × Told printed now (λ old new. new ≡ old ++ bytes_of_lines texts) × (failed_now ≡ failed))
     ⊎ ((answer ≡ status.WriteFault) × Told printed now (AreCutShort texts) × (failed_now ≡ raised failed))
+
+-- this printer printed the lines, and the run ends with its status; or one was not printed, and the run ends as if a file
+-- could not be written
+abbrev pub PrintsAll : {P : Type 0} → printer.Ghosts P → Both (MutBor P) (MutBor P) → List (List ℕ) → Status → Status → Type 0
+PrintsAll tells p texts ended answer =
+    IsTelling ended texts answer (tells.printed p.entry.now) (tells.printed p.exit.now) (tells.faults p.entry.now) (tells.faults p.exit.now)

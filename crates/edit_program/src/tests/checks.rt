@@ -135,9 +135,9 @@ fn desk_of(alloc: Global, check: &Check) -> Result<MemoryDesk, Fail> {
 // The proof with this line.
 fn proof(alloc: Global, combination: &str) -> Result<Vec<u8>, Fail> {
     let mut bytes =
-        b"fh-proof 1\nlimit 1 near 5 budget 1000000\nlines 2\nkeep\nkeep\nrecords 1\ncontradictory 2\nline K 1\ngiven 1\nline C 3\ngiven 1\ngiven 2\n".to_vec(
-            alloc,
-        )?;
+        b"fh-proof 1\nlimit 1 near 5 budget 1000000\nlines 2\nkeep\nkeep\nrecords 1\ncontradictory 2\n\
+         line K 1\ngiven 1\nline C 3\ngiven 1\ngiven 2\n"
+            .to_vec(alloc)?;
     bytes.extend_from_slice(combination.as_bytes())?;
     bytes.extend_from_slice(b"\nclaims 0\nend\n")?;
     Ok(bytes)

@@ -17,7 +17,9 @@ const RUNS: &[Run] = &[
         unprinted: 0,
         status: Status::Done,
         proof: Some(
-            "fh-proof 1\nlimit 1 near 1 budget 1000000\nlines 3\nkeep\nkeep\nkeep\nrecords 3\nclean\nchange 1 KC 3\nbad KK\nbound KC\nbound C\nchange 1 KC 3\nbad KK\nbound KC\nbound C\nclaims 2\nclaim 2 1 1\nclaim 3 0 1\nend\n",
+            "fh-proof 1\nlimit 1 near 1 budget 1000000\nlines 3\nkeep\nkeep\nkeep\nrecords 3\nclean\n\
+             change 1 KC 3\nbad KK\nbound KC\nbound C\nchange 1 KC 3\nbad KK\nbound KC\nbound C\nclaims 2\n\
+             claim 2 1 1\nclaim 3 0 1\nend\n",
         ),
         reasons: Some(
             "record,cause,field,before,after,donor,detail\n2,changed,B,,4,1,donor\n3,changed,B,,1,,nearest\n",
@@ -35,7 +37,9 @@ const RUNS: &[Run] = &[
         unprinted: 0,
         status: Status::Done,
         proof: Some(
-            "fh-proof 1\nlimit 2 near 1 budget 1000000\nlines 3\nkeep\nkeep\nkeep\nrecords 3\nclean\nchange 1 KC 3\nbad KK\nbound KC\nbound C\nchange 1 KC 3\nbad KK\nbound KC\nbound C\nclaims 2\nclaim 2 1 1\nclaim 3 1 1\nend\n",
+            "fh-proof 1\nlimit 2 near 1 budget 1000000\nlines 3\nkeep\nkeep\nkeep\nrecords 3\nclean\n\
+             change 1 KC 3\nbad KK\nbound KC\nbound C\nchange 1 KC 3\nbad KK\nbound KC\nbound C\nclaims 2\n\
+             claim 2 1 1\nclaim 3 1 1\nend\n",
         ),
         reasons: Some(
             "record,cause,field,before,after,donor,detail\n2,changed,B,,4,1,donor\n3,changed,B,,4,1,donor\n",
@@ -53,7 +57,10 @@ const RUNS: &[Run] = &[
         unprinted: 0,
         status: Status::Done,
         proof: Some(
-            "fh-proof 1\nlimit 1 near 64 budget 1000000\nlines 1\nkeep\nrecords 5\nclean\nclean\nchange 1 KC 3\nbad KK\nbound KC\nbound C\nchange 1 KC 3\nbad KK\nbound KC\nbound C\nchange 1 KC 3\nbad KK\nbound KC\nbound C\nclaims 3\nclaim 3 1 1 2\nclaim 4 2 1 2\nclaim 5 0 1 2\nend\n",
+            "fh-proof 1\nlimit 1 near 64 budget 1000000\nlines 1\nkeep\nrecords 5\nclean\nclean\n\
+             change 1 KC 3\nbad KK\nbound KC\nbound C\nchange 1 KC 3\nbad KK\nbound KC\nbound C\n\
+             change 1 KC 3\nbad KK\nbound KC\nbound C\nclaims 3\nclaim 3 1 1 2\nclaim 4 2 1 2\nclaim 5 0 1 2\n\
+             end\n",
         ),
         reasons: Some(
             "record,cause,field,before,after,donor,detail\n3,changed,B,,10,1,donor\n4,changed,B,,20,2,donor\n5,changed,B,,1,,nearest\n",
@@ -71,7 +78,10 @@ const RUNS: &[Run] = &[
         unprinted: 0,
         status: Status::Done,
         proof: Some(
-            "fh-proof 1\nlimit 1 near 5 budget 1000000\nlines 5\nkeep\ndrop 9\ngiven 1\ngiven 4\ncombine 1 1 2 1 1\ngiven 6\ncombine 3 1 4 1 1\ngiven 5\ncombine 6 1 2 3 1\ncombine 7 1 4 3 2\ncombine 5 1 8 1 1\nkeep\nkeep\nkeep\nrecords 2\nclean\nchange 2 KCC 4\nbad KK\nline KCK 1\ngiven 5\nbound KCC\nbound C\nclaims 1\nclaim 2 1 1\nend\n",
+            "fh-proof 1\nlimit 1 near 5 budget 1000000\nlines 5\nkeep\ndrop 9\ngiven 1\ngiven 4\n\
+             combine 1 1 2 1 1\ngiven 6\ncombine 3 1 4 1 1\ngiven 5\ncombine 6 1 2 3 1\ncombine 7 1 4 3 2\n\
+             combine 5 1 8 1 1\nkeep\nkeep\nkeep\nrecords 2\nclean\nchange 2 KCC 4\nbad KK\nline KCK 1\n\
+             given 5\nbound KCC\nbound C\nclaims 1\nclaim 2 1 1\nend\n",
         ),
         reasons: Some(
             "record,cause,field,before,after,donor,detail\n2,changed,Costs,,40,1,nearest\n2,changed,Profit,400,60,1,nearest\n",
@@ -89,7 +99,8 @@ const RUNS: &[Run] = &[
         unprinted: 0,
         status: Status::SomeUnresolved,
         proof: Some(
-            "fh-proof 1\nlimit 1 near 5 budget 1000000\nlines 1\nkeep\nrecords 2\ngift 0 KKK 0 1 1\nbound -\nchange 1 KKC 4\nbad KKK\nbound KKC\nbound KC\nbound C\nclaims 1\nclaim 2 0\nend\n",
+            "fh-proof 1\nlimit 1 near 5 budget 1000000\nlines 1\nkeep\nrecords 2\ngift 0 KKK 0 1 1\nbound -\n\
+             change 1 KKC 4\nbad KKK\nbound KKC\nbound KC\nbound C\nclaims 1\nclaim 2 0\nend\n",
         ),
         reasons: Some(
             "record,cause,field,before,after,donor,detail\n1,overflow,,,,,giving rule 1\n2,changed,C,,0,,default\n",

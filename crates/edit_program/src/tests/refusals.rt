@@ -9,11 +9,15 @@ use std::test::Fail;
 
 /// The proof of the first record that is at least 3, where it was 1.
 const PROOF: &str =
-    "fh-proof 1\nlimit 1 near 5 budget 1000000\nlines 1\nkeep\nrecords 1\nchange 1 C 2\nline K 1\ngiven 1\nbound C\nclaims 1\nclaim 1 0\nend\n";
+    "fh-proof 1\nlimit 1 near 5 budget 1000000\nlines 1\nkeep\nrecords 1\nchange 1 C 2\nline K 1\ngiven 1\n\
+     bound C\nclaims 1\nclaim 1 0\nend\n";
 
 /// The proof of a profit that is too high.
 const TRADE_PROOF: &str =
-    "fh-proof 1\nlimit 1 near 5 budget 1000000\nlines 5\nkeep\ndrop 9\ngiven 1\ngiven 4\ncombine 1 1 2 1 1\ngiven 6\ncombine 3 1 4 1 1\ngiven 5\ncombine 6 1 2 3 1\ncombine 7 1 4 3 2\ncombine 5 1 8 1 1\nkeep\nkeep\nkeep\nrecords 1\nchange 1 KKC 4\nline KKK 1\ngiven 3\nbound KKC\nbound KC\nbound C\nclaims 1\nclaim 1 0\nend\n";
+    "fh-proof 1\nlimit 1 near 5 budget 1000000\nlines 5\nkeep\ndrop 9\ngiven 1\ngiven 4\ncombine 1 1 2 1 1\n\
+     given 6\ncombine 3 1 4 1 1\ngiven 5\ncombine 6 1 2 3 1\ncombine 7 1 4 3 2\ncombine 5 1 8 1 1\nkeep\n\
+     keep\nkeep\nrecords 1\nchange 1 KKC 4\nline KKK 1\ngiven 3\nbound KKC\nbound KC\nbound C\nclaims 1\n\
+     claim 1 0\nend\n";
 
 const RUNS: &[Run] = &[
     // the rules can not be read
@@ -299,7 +303,9 @@ const RUNS: &[Run] = &[
     // 257 columns
     Run {
         rules: "number A\nA >= 3\n",
-        records: "A,,,,,,,,,,,,,,,,,,,,,,,,,,,,,,,,,,,,,,,,,,,,,,,,,,,,,,,,,,,,,,,,,,,,,,,,,,,,,,,,,,,,,,,,,,,,,,,,,,,,,,,,,,,,,,,,,,,,,,,,,,,,,,,,,,,,,,,,,,,,,,,,,,,,,,,,,,,,,,,,,,,,,,,,,,,,,,,,,,,,,,,,,,,,,,,,,,,,,,,,,,,,,,,,,,,,,,,,,,,,,,,,,,,,,,,,,,,,,,,,,,,,,,,,,,,,,,,,\n",
+        records: "A,,,,,,,,,,,,,,,,,,,,,,,,,,,,,,,,,,,,,,,,,,,,,,,,,,,,,,,,,,,,,,,,,,,,,,,,,,,,,,,\
+         ,,,,,,,,,,,,,,,,,,,,,,,,,,,,,,,,,,,,,,,,,,,,,,,,,,,,,,,,,,,,,,,,,,,,,,,,,,,,,,,,,,,,,,,,,,,,,,,,,,,,\
+         ,,,,,,,,,,,,,,,,,,,,,,,,,,,,,,,,,,,,,,,,,,,,,,,,,,,,,,,,,,,,,,,,,,,,,,,,,,,,,\n",
         words: &[],
         fails: 0,
         unprinted: 0,

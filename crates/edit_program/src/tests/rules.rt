@@ -47,9 +47,13 @@ const LISTINGS: &[Listing] = &[
     // a line that follows from others in several steps; an equality is two lines
     Listing {
         rules: Some(
-            "number Turnover weight 2\nnumber Costs\nnumber Profit\nTurnover >= 0\nCosts >= 0\nTurnover - Costs - Profit = 0\n10 Profit <= 6 Turnover\n",
+            "number Turnover weight 2\nnumber Costs\nnumber Profit\nTurnover >= 0\nCosts >= 0\n\
+             Turnover - Costs - Profit = 0\n10 Profit <= 6 Turnover\n",
         ),
-        printed: "1 kept needed Turnover >= 0\n2 dropped Costs >= 0\n  given 1\n  given 4\n  combine 1 1 2 1 1\n  given 6\n  combine 3 1 4 1 1\n  given 5\n  combine 6 1 2 3 1\n  combine 7 1 4 3 2\n  combine 5 1 8 1 1\n3 kept needed Turnover - Costs - Profit >= 0\n4 kept needed -Turnover + Costs + Profit >= 0\n5 kept needed 3 Turnover - 5 Profit >= 0\n",
+        printed: "1 kept needed Turnover >= 0\n2 dropped Costs >= 0\n  given 1\n  given 4\n  \
+         combine 1 1 2 1 1\n  given 6\n  combine 3 1 4 1 1\n  given 5\n  combine 6 1 2 3 1\n  combine 7 1 4 3 2\n  combine 5 1 8 1 1\n\
+         3 kept needed Turnover - Costs - Profit >= 0\n4 kept needed -Turnover + Costs + Profit >= 0\n\
+         5 kept needed 3 Turnover - 5 Profit >= 0\n",
         ..LISTED
     },
     // a rule that is always true
@@ -67,9 +71,14 @@ const LISTINGS: &[Listing] = &[
     // a line that only the combination of codes makes redundant
     Listing {
         rules: Some(
-            "code Age in {child, adult}\ncode Status in {single, married}\ncode Rel in {spouse, other}\nif Age in {child} then Status in {single}\nif Rel in {spouse} then Status in {married}\nif Age in {child} then Rel in {other}\n",
+            "code Age in {child, adult}\ncode Status in {single, married}\ncode Rel in {spouse, other}\n\
+             if Age in {child} then Status in {single}\nif Rel in {spouse} then Status in {married}\n\
+             if Age in {child} then Rel in {other}\n",
         ),
-        printed: "1 kept needed if Age in {child} and Status in {married} then never\n2 kept needed if Status in {single} and Rel in {spouse} then never\n3 dropped if Age in {child} and Rel in {spouse} then never\n  given 2\n  fail 1\n  given 1\n  fail 3\n  given 5\n  fail 5\n  cover 1 4 6\n  cover 2 2 7\n  given 6\n  fail 9\n  cover 3 8 10\n",
+        printed: "1 kept needed if Age in {child} and Status in {married} then never\n\
+         2 kept needed if Status in {single} and Rel in {spouse} then never\n\
+         3 dropped if Age in {child} and Rel in {spouse} then never\n  given 2\n  fail 1\n  given 1\n  \
+         fail 3\n  given 5\n  fail 5\n  cover 1 4 6\n  cover 2 2 7\n  given 6\n  fail 9\n  cover 3 8 10\n",
         ..LISTED
     },
     // a line of a code and a number follows from a later one of the number alone
@@ -77,7 +86,8 @@ const LISTINGS: &[Listing] = &[
         rules: Some(
             "code Status in {child, adult}\nnumber Wage\nif Status in {child} then Wage = 0\nWage >= 0\n",
         ),
-        printed: "1 dropped if Status in {child} then Wage >= 0\n  given 3\n  given 4\n  combine 1 1 2 1 1\n2 kept needed if Status in {child} then -Wage >= 0\n3 kept needed Wage >= 0\n",
+        printed: "1 dropped if Status in {child} then Wage >= 0\n  given 3\n  given 4\n  combine 1 1 2 1 1\n\
+         2 kept needed if Status in {child} then -Wage >= 0\n3 kept needed Wage >= 0\n",
         ..LISTED
     },
     // no rules, and not even a field

@@ -4,15 +4,19 @@ use crate::status::Status;
 use std::test::Fail;
 
 pub const TRADE: &str =
-    "number Turnover weight 2\nnumber Costs\nnumber Profit\nTurnover >= 0\nCosts >= 0\nTurnover - Costs - Profit = 0\n10 Profit <= 6 Turnover\n";
+    "number Turnover weight 2\nnumber Costs\nnumber Profit\nTurnover >= 0\nCosts >= 0\n\
+     Turnover - Costs - Profit = 0\n10 Profit <= 6 Turnover\n";
 
 const HOUSEHOLD: &str =
-    "code Age in {child, adult}\ncode Status in {single, married}\ncode Rel in {spouse, other}\nif Age in {child} then Status in {single}\nif Rel in {spouse} then Status in {married}\n";
+    "code Age in {child, adult}\ncode Status in {single, married}\ncode Rel in {spouse, other}\n\
+     if Age in {child} then Status in {single}\nif Rel in {spouse} then Status in {married}\n";
 
 const SUM: &str = "number A\nnumber B\nA + B = 10\n";
 
 const CHAIN: &str =
-    "number x1\nnumber x2\nnumber x3\nnumber x4\nnumber x5\nnumber x6\n999999999 x1 >= 1000000000 x2\n999999999 x2 >= 1000000000 x3\n999999999 x3 >= 1000000000 x4\n999999999 x4 >= 1000000000 x5\n999999999 x5 >= 1000000000 x6\n";
+    "number x1\nnumber x2\nnumber x3\nnumber x4\nnumber x5\nnumber x6\n999999999 x1 >= 1000000000 x2\n\
+     999999999 x2 >= 1000000000 x3\n999999999 x3 >= 1000000000 x4\n999999999 x4 >= 1000000000 x5\n\
+     999999999 x5 >= 1000000000 x6\n";
 
 const RUNS: &[Run] = &[
     // a record that meets all rules keeps its bytes
@@ -24,7 +28,9 @@ const RUNS: &[Run] = &[
         unprinted: 0,
         status: Status::Done,
         proof: Some(
-            "fh-proof 1\nlimit 1 near 5 budget 1000000\nlines 5\nkeep\ndrop 9\ngiven 1\ngiven 4\ncombine 1 1 2 1 1\ngiven 6\ncombine 3 1 4 1 1\ngiven 5\ncombine 6 1 2 3 1\ncombine 7 1 4 3 2\ncombine 5 1 8 1 1\nkeep\nkeep\nkeep\nrecords 1\nclean\nclaims 0\nend\n",
+            "fh-proof 1\nlimit 1 near 5 budget 1000000\nlines 5\nkeep\ndrop 9\ngiven 1\ngiven 4\n\
+             combine 1 1 2 1 1\ngiven 6\ncombine 3 1 4 1 1\ngiven 5\ncombine 6 1 2 3 1\ncombine 7 1 4 3 2\n\
+             combine 5 1 8 1 1\nkeep\nkeep\nkeep\nrecords 1\nclean\nclaims 0\nend\n",
         ),
         reasons: Some("record,cause,field,before,after,donor,detail\n"),
         released: Some("Turnover,Costs,Profit\n100,60,40\n"),
@@ -40,7 +46,10 @@ const RUNS: &[Run] = &[
         unprinted: 0,
         status: Status::Done,
         proof: Some(
-            "fh-proof 1\nlimit 1 near 5 budget 1000000\nlines 5\nkeep\ndrop 9\ngiven 1\ngiven 4\ncombine 1 1 2 1 1\ngiven 6\ncombine 3 1 4 1 1\ngiven 5\ncombine 6 1 2 3 1\ncombine 7 1 4 3 2\ncombine 5 1 8 1 1\nkeep\nkeep\nkeep\nrecords 1\nchange 1 KKC 4\nline KKK 1\ngiven 3\nbound KKC\nbound KC\nbound C\nclaims 1\nclaim 1 0\nend\n",
+            "fh-proof 1\nlimit 1 near 5 budget 1000000\nlines 5\nkeep\ndrop 9\ngiven 1\ngiven 4\n\
+             combine 1 1 2 1 1\ngiven 6\ncombine 3 1 4 1 1\ngiven 5\ncombine 6 1 2 3 1\ncombine 7 1 4 3 2\n\
+             combine 5 1 8 1 1\nkeep\nkeep\nkeep\nrecords 1\nchange 1 KKC 4\nline KKK 1\ngiven 3\nbound KKC\n\
+             bound KC\nbound C\nclaims 1\nclaim 1 0\nend\n",
         ),
         reasons: Some(
             "record,cause,field,before,after,donor,detail\n1,changed,Profit,400,40,,nearest\n",
@@ -58,7 +67,11 @@ const RUNS: &[Run] = &[
         unprinted: 0,
         status: Status::Done,
         proof: Some(
-            "fh-proof 1\nlimit 1 near 5 budget 1000000\nlines 5\nkeep\ndrop 9\ngiven 1\ngiven 4\ncombine 1 1 2 1 1\ngiven 6\ncombine 3 1 4 1 1\ngiven 5\ncombine 6 1 2 3 1\ncombine 7 1 4 3 2\ncombine 5 1 8 1 1\nkeep\nkeep\nkeep\nrecords 1\nchange 2 KCC 5\nline KKK 1\ngiven 5\nline KKC 3\ngiven 4\ngiven 5\ncombine 1 5 2 1 1\nline KCK 1\ngiven 5\nbound KCC\nbound C\nclaims 1\nclaim 1 0\nend\n",
+            "fh-proof 1\nlimit 1 near 5 budget 1000000\nlines 5\nkeep\ndrop 9\ngiven 1\ngiven 4\n\
+             combine 1 1 2 1 1\ngiven 6\ncombine 3 1 4 1 1\ngiven 5\ncombine 6 1 2 3 1\ncombine 7 1 4 3 2\n\
+             combine 5 1 8 1 1\nkeep\nkeep\nkeep\nrecords 1\nchange 2 KCC 5\nline KKK 1\ngiven 5\nline KKC 3\n\
+             given 4\ngiven 5\ncombine 1 5 2 1 1\nline KCK 1\ngiven 5\nbound KCC\nbound C\nclaims 1\n\
+             claim 1 0\nend\n",
         ),
         reasons: Some(
             "record,cause,field,before,after,donor,detail\n1,changed,Costs,30,100,,nearest\n1,changed,Profit,70,0,,default\n",
@@ -76,7 +89,10 @@ const RUNS: &[Run] = &[
         unprinted: 0,
         status: Status::Done,
         proof: Some(
-            "fh-proof 1\nlimit 1 near 5 budget 1000000\nlines 5\nkeep\ndrop 9\ngiven 1\ngiven 4\ncombine 1 1 2 1 1\ngiven 6\ncombine 3 1 4 1 1\ngiven 5\ncombine 6 1 2 3 1\ncombine 7 1 4 3 2\ncombine 5 1 8 1 1\nkeep\nkeep\nkeep\nrecords 1\nchange 2 KCC 4\nbad KK\nbad KCK\nbound KCC\nbound C\nclaims 1\nclaim 1 0\nend\n",
+            "fh-proof 1\nlimit 1 near 5 budget 1000000\nlines 5\nkeep\ndrop 9\ngiven 1\ngiven 4\n\
+             combine 1 1 2 1 1\ngiven 6\ncombine 3 1 4 1 1\ngiven 5\ncombine 6 1 2 3 1\ncombine 7 1 4 3 2\n\
+             combine 5 1 8 1 1\nkeep\nkeep\nkeep\nrecords 1\nchange 2 KCC 4\nbad KK\nbad KCK\nbound KCC\n\
+             bound C\nclaims 1\nclaim 1 0\nend\n",
         ),
         reasons: Some(
             "record,cause,field,before,after,donor,detail\n1,changed,Costs,,100,,nearest\n1,changed,Profit,,0,,default\n",
@@ -94,7 +110,8 @@ const RUNS: &[Run] = &[
         unprinted: 0,
         status: Status::Done,
         proof: Some(
-            "fh-proof 1\nlimit 1 near 5 budget 1000000\nlines 2\nkeep\nkeep\nrecords 1\nchange 1 CK 4\nline KK 1\ngiven 2\nbound KC\nbound CK\nbound CC\nclaims 1\nclaim 1 0\nend\n",
+            "fh-proof 1\nlimit 1 near 5 budget 1000000\nlines 2\nkeep\nkeep\nrecords 1\nchange 1 CK 4\n\
+             line KK 1\ngiven 2\nbound KC\nbound CK\nbound CC\nclaims 1\nclaim 1 0\nend\n",
         ),
         reasons: Some("record,cause,field,before,after,donor,detail\n1,changed,A,5,7/3,,nearest\n"),
         released: Some("A,B\n7/3,7\n"),
@@ -110,7 +127,8 @@ const RUNS: &[Run] = &[
         unprinted: 0,
         status: Status::Done,
         proof: Some(
-            "fh-proof 1\nlimit 1 near 5 budget 5\nlines 2\nkeep\nkeep\nrecords 1\nchange 1 KC 3\nline KK 1\ngiven 1\nbound KC\nbound C\nclaims 1\nclaim 1 0\nend\n",
+            "fh-proof 1\nlimit 1 near 5 budget 5\nlines 2\nkeep\nkeep\nrecords 1\nchange 1 KC 3\nline KK 1\n\
+             given 1\nbound KC\nbound C\nclaims 1\nclaim 1 0\nend\n",
         ),
         reasons: Some("record,cause,field,before,after,donor,detail\n1,changed,B,4,7,,nearest\n"),
         released: Some("A,B\n3,7\n"),
@@ -144,7 +162,10 @@ const RUNS: &[Run] = &[
         unprinted: 0,
         status: Status::Done,
         proof: Some(
-            "fh-proof 1\nlimit 1 near 5 budget 1000000\nlines 2\nkeep\nkeep\nrecords 1\nchange 1 CKK 6\nbox KK 4\ngiven 1\nfail 1\nfix 1 2\nfix 2 3\nbox KCK 7\ngiven 2\nfail 1\ngiven 1\nfail 3\nfix 1 4\ncover 2 2 5\nfix 3 6\nbound KCC\nbound CKK\nbound CKC\nbound CC\nclaims 1\nclaim 1 0\nend\n",
+            "fh-proof 1\nlimit 1 near 5 budget 1000000\nlines 2\nkeep\nkeep\nrecords 1\nchange 1 CKK 6\n\
+             box KK 4\ngiven 1\nfail 1\nfix 1 2\nfix 2 3\nbox KCK 7\ngiven 2\nfail 1\ngiven 1\nfail 3\n\
+             fix 1 4\ncover 2 2 5\nfix 3 6\nbound KCC\nbound CKK\nbound CKC\nbound CC\nclaims 1\nclaim 1 0\n\
+             end\n",
         ),
         reasons: Some(
             "record,cause,field,before,after,donor,detail\n1,changed,Age,child,adult,,nearest\n",
@@ -162,7 +183,8 @@ const RUNS: &[Run] = &[
         unprinted: 0,
         status: Status::Done,
         proof: Some(
-            "fh-proof 1\nlimit 1 near 5 budget 1000000\nlines 2\nkeep\nkeep\nrecords 1\nchange 1 C 2\nbad K\nbound C\nclaims 1\nclaim 1 0\nend\n",
+            "fh-proof 1\nlimit 1 near 5 budget 1000000\nlines 2\nkeep\nkeep\nrecords 1\nchange 1 C 2\nbad K\n\
+             bound C\nclaims 1\nclaim 1 0\nend\n",
         ),
         reasons: Some("record,cause,field,before,after,donor,detail\n1,changed,A,,1/2,,nearest\n"),
         released: Some("id,A\n1,1/2\n"),
@@ -194,7 +216,8 @@ const RUNS: &[Run] = &[
         unprinted: 0,
         status: Status::Done,
         proof: Some(
-            "fh-proof 1\nlimit 1 near 5 budget 1000000\nlines 2\nkeep\nkeep\nrecords 1\nchange 1 KC 3\nbox KK 3\ngiven 2\nfail 1\nfix 1 2\nbound KC\nbound C\nclaims 1\nclaim 1 0\nend\n",
+            "fh-proof 1\nlimit 1 near 5 budget 1000000\nlines 2\nkeep\nkeep\nrecords 1\nchange 1 KC 3\n\
+             box KK 3\ngiven 2\nfail 1\nfix 1 2\nbound KC\nbound C\nclaims 1\nclaim 1 0\nend\n",
         ),
         reasons: Some(
             "record,cause,field,before,after,donor,detail\n1,changed,Status,child,adult,,nearest\n",
@@ -212,7 +235,8 @@ const RUNS: &[Run] = &[
         unprinted: 0,
         status: Status::Done,
         proof: Some(
-            "fh-proof 1\nlimit 1 near 5 budget 1000000\nlines 2\nkeep\nkeep\nrecords 1\nchange 1 CK 4\nbox KK 3\ngiven 2\nfail 1\nfix 1 2\nbound KC\nbound CK\nbound CC\nclaims 1\nclaim 1 0\nend\n",
+            "fh-proof 1\nlimit 1 near 5 budget 1000000\nlines 2\nkeep\nkeep\nrecords 1\nchange 1 CK 4\n\
+             box KK 3\ngiven 2\nfail 1\nfix 1 2\nbound KC\nbound CK\nbound CC\nclaims 1\nclaim 1 0\nend\n",
         ),
         reasons: Some(
             "record,cause,field,before,after,donor,detail\n1,changed,Wage,50,0,,default\n",
@@ -230,7 +254,8 @@ const RUNS: &[Run] = &[
         unprinted: 0,
         status: Status::SomeUnresolved,
         proof: Some(
-            "fh-proof 1\nlimit 1 near 5 budget 1000000\nlines 2\nkeep\nkeep\nrecords 1\ncontradictory 2\nline K 1\ngiven 1\nline C 3\ngiven 1\ngiven 2\ncombine 1 1 2 1 2\nclaims 0\nend\n",
+            "fh-proof 1\nlimit 1 near 5 budget 1000000\nlines 2\nkeep\nkeep\nrecords 1\ncontradictory 2\n\
+             line K 1\ngiven 1\nline C 3\ngiven 1\ngiven 2\ncombine 1 1 2 1 2\nclaims 0\nend\n",
         ),
         reasons: Some("record,cause,field,before,after,donor,detail\n1,contradictory,,,,,\n"),
         released: Some("A\n"),
@@ -246,7 +271,8 @@ const RUNS: &[Run] = &[
         unprinted: 0,
         status: Status::SomeUnresolved,
         proof: Some(
-            "fh-proof 1\nlimit 1 near 5 budget 1000000\nlines 5\nkeep\nkeep\nkeep\nkeep\nkeep\nrecords 1\nstep KCCCC 1 2 1\nclaims 0\nend\n",
+            "fh-proof 1\nlimit 1 near 5 budget 1000000\nlines 5\nkeep\nkeep\nkeep\nkeep\nkeep\nrecords 1\n\
+             step KCCCC 1 2 1\nclaims 0\nend\n",
         ),
         reasons: Some(
             "record,cause,field,before,after,donor,detail\n1,overflow,,,,,path KCCCC lines 1 2 at x1\n",
@@ -264,7 +290,8 @@ const RUNS: &[Run] = &[
         unprinted: 0,
         status: Status::Done,
         proof: Some(
-            "fh-proof 1\nlimit 1 near 5 budget 1000000\nlines 1\nkeep\nrecords 3\nclean\nchange 1 C 2\nbad K\nbound C\nchange 1 C 2\nline K 1\ngiven 1\nbound C\nclaims 2\nclaim 2 1 1\nclaim 3 0 1\nend\n",
+            "fh-proof 1\nlimit 1 near 5 budget 1000000\nlines 1\nkeep\nrecords 3\nclean\nchange 1 C 2\nbad K\n\
+             bound C\nchange 1 C 2\nline K 1\ngiven 1\nbound C\nclaims 2\nclaim 2 1 1\nclaim 3 0 1\nend\n",
         ),
         reasons: Some(
             "record,cause,field,before,after,donor,detail\n2,changed,A,1e3,15/2,1,donor\n3,changed,A,-4,0,,default\n",

@@ -55,7 +55,7 @@ pub returns-in_err-released-clause-asked : goal.returns-in_err-released-clause-a
 returns-in_err-released-clause-asked g c =
     let f = c.in_err-released.field-0.0 in
     rw (handed c.from_residual-in_err-released.result _ c.from_residual-in_err-released.ensures.1)
-    (subst (λ (a : CheckAsked). PutsOnRecord (g.D.Desk.calls c.args.desk.now) (g.D.Desk.calls c.fetch_released.new.desk) (AreCallsTo (check_calls a) f)) c.asked.view_is
+    (subst (λ (a : CheckAsked). PutsOnRecord (g.D.Desk.calls c.args.desk.now) (g.D.Desk.calls c.fetch_file.new.desk) (AreCallsTo (check_calls a) f)) c.asked.view_is
     (behind-calls (g.D.Desk.calls c.args.desk.now) _ _ (fetched c.asked.inside.rules.now ∷ fetched c.asked.inside.records.now ∷ []) (fetched c.asked.inside.released.now ∷ []) (fetched c.asked.inside.proof.now ∷ []) f (of-fetch _ _ c.in_err-released.ensures.kind) (all-calls (g.D.Desk.calls c.args.desk.now) _ _ (fetched c.asked.inside.rules.now ∷ []) (fetched c.asked.inside.records.now ∷ []) c.in_ok-survey.ensures.asked c.in_ok-sheet.ensures.asked) c.in_err-released.ensures.asked))
 
 pub returns-in_err-proof-clause-cause : goal.returns-in_err-proof-clause-cause
@@ -76,7 +76,7 @@ pub returns-in_err-proof-clause-asked : goal.returns-in_err-proof-clause-asked
 returns-in_err-proof-clause-asked g c =
     let f = c.in_err-proof.field-0.0 in
     rw (handed c.from_residual-in_err-proof.result _ c.from_residual-in_err-proof.ensures.1)
-    (subst (λ (a : CheckAsked). PutsOnRecord (g.D.Desk.calls c.args.desk.now) (g.D.Desk.calls c.fetch_proof.new.desk) (AreCallsTo (check_calls a) f)) c.asked.view_is
+    (subst (λ (a : CheckAsked). PutsOnRecord (g.D.Desk.calls c.args.desk.now) (g.D.Desk.calls c.fetch_file-2.new.desk) (AreCallsTo (check_calls a) f)) c.asked.view_is
     (behind-calls (g.D.Desk.calls c.args.desk.now) _ _ (fetched c.asked.inside.rules.now ∷ fetched c.asked.inside.records.now ∷ fetched c.asked.inside.released.now ∷ []) (fetched c.asked.inside.proof.now ∷ []) [] f (of-fetch _ _ c.in_err-proof.ensures.kind) (all-calls (g.D.Desk.calls c.args.desk.now) _ _ (fetched c.asked.inside.rules.now ∷ fetched c.asked.inside.records.now ∷ []) (fetched c.asked.inside.released.now ∷ []) (all-calls (g.D.Desk.calls c.args.desk.now) _ _ (fetched c.asked.inside.rules.now ∷ []) (fetched c.asked.inside.records.now ∷ []) c.in_ok-survey.ensures.asked c.in_ok-sheet.ensures.asked) c.in_ok-released.ensures.asked) c.in_err-proof.ensures.asked))
 
 pub returns-in-Ok-clause-accepted : goal.returns-in-Ok-clause-accepted
@@ -105,7 +105,7 @@ returns-in-Ok-clause-due g c =
 
 pub returns-in-Ok-clause-asked : goal.returns-in-Ok-clause-asked
 returns-in-Ok-clause-asked g c =
-    subst (λ (a : CheckAsked). PutsOnRecord (g.D.Desk.calls c.args.desk.now) (g.D.Desk.calls c.fetch_proof.new.desk) (AreCallsOf (check_calls a) c.valid_line.result)) c.asked.view_is
+    subst (λ (a : CheckAsked). PutsOnRecord (g.D.Desk.calls c.args.desk.now) (g.D.Desk.calls c.fetch_file-2.new.desk) (AreCallsOf (check_calls a) c.valid_line.result)) c.asked.view_is
     (memory-calls (g.D.Desk.calls c.args.desk.now) _ (check_calls (check_of c.asked.inside.rules.now c.asked.inside.records.now c.asked.inside.released.now c.asked.inside.proof.now)) c.valid_line.result c.valid_line.ensures.memory (all-calls (g.D.Desk.calls c.args.desk.now) _ _ (fetched c.asked.inside.rules.now ∷ fetched c.asked.inside.records.now ∷ fetched c.asked.inside.released.now ∷ []) (fetched c.asked.inside.proof.now ∷ []) (all-calls (g.D.Desk.calls c.args.desk.now) _ _ (fetched c.asked.inside.rules.now ∷ fetched c.asked.inside.records.now ∷ []) (fetched c.asked.inside.released.now ∷ []) (all-calls (g.D.Desk.calls c.args.desk.now) _ _ (fetched c.asked.inside.rules.now ∷ []) (fetched c.asked.inside.records.now ∷ []) c.in_ok-survey.ensures.asked c.in_ok-sheet.ensures.asked) c.in_ok-released.ensures.asked) c.in_ok-proof.ensures.asked))
 
 pub returns-in-Ok-clause-faults : goal.returns-in-Ok-clause-faults
@@ -132,5 +132,5 @@ returns-clause-due g c =
 
 pub returns-clause-asked : goal.returns-clause-asked
 returns-clause-asked g c =
-    subst (λ (a : CheckAsked). PutsOnRecord (g.D.Desk.calls c.args.desk.now) (g.D.Desk.calls c.fetch_proof.new.desk) (AreCallsTo (check_calls a) c.of.result)) c.asked.view_is
+    subst (λ (a : CheckAsked). PutsOnRecord (g.D.Desk.calls c.args.desk.now) (g.D.Desk.calls c.fetch_file-2.new.desk) (AreCallsTo (check_calls a) c.of.result)) c.asked.view_is
     (told-calls (g.D.Desk.calls c.args.desk.now) _ (check_calls (check_of c.asked.inside.rules.now c.asked.inside.records.now c.asked.inside.released.now c.asked.inside.proof.now)) c.in-Err.fault c.of.result (rw c.from.ensures at c.of.ensures) (all-calls (g.D.Desk.calls c.args.desk.now) _ _ (fetched c.asked.inside.rules.now ∷ fetched c.asked.inside.records.now ∷ fetched c.asked.inside.released.now ∷ []) (fetched c.asked.inside.proof.now ∷ []) (all-calls (g.D.Desk.calls c.args.desk.now) _ _ (fetched c.asked.inside.rules.now ∷ fetched c.asked.inside.records.now ∷ []) (fetched c.asked.inside.released.now ∷ []) (all-calls (g.D.Desk.calls c.args.desk.now) _ _ (fetched c.asked.inside.rules.now ∷ []) (fetched c.asked.inside.records.now ∷ []) c.in_ok-survey.ensures.asked c.in_ok-sheet.ensures.asked) c.in_ok-released.ensures.asked) c.in_ok-proof.ensures.asked))

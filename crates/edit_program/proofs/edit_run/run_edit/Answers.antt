@@ -4,11 +4,11 @@ use Rattle.edit_program.proofs.edit_run.run_edit.Goals as goal
 
 pub returns-in-Ok-clause-edited : goal.returns-in-Ok-clause-edited
 returns-in-Ok-clause-edited g c = λ ended.
-    edited-by c.args.asked.now _ _ c.in-Ok.release c.tell_all.result (rw c.status_of.ensures at c.tell_all.ensures) c.in-Ok.ensures.files c.in-Ok.ensures.asked c.in-Ok.ensures.faults ended
+    edited-by c.args.asked.now _ c.in-Ok.release c.tell_all.result (rw c.status_of.ensures at c.tell_all.ensures) c.in-Ok.ensures.files c.in-Ok.ensures.asked c.in-Ok.ensures.faults ended
 
 pub returns-in-Ok-clause-stopped : goal.returns-in-Ok-clause-stopped
 returns-in-Ok-clause-stopped g c = λ not.
-    untold-by c.args.asked.now _ _ c.in-Ok.release c.tell_all.result (rw c.status_of.ensures at c.tell_all.ensures) c.in-Ok.ensures.files c.in-Ok.ensures.asked c.in-Ok.ensures.faults not
+    untold-by c.args.asked.now _ c.in-Ok.release c.tell_all.result (rw c.status_of.ensures at c.tell_all.ensures) c.in-Ok.ensures.files c.in-Ok.ensures.asked c.in-Ok.ensures.faults not
 
 pub returns-in-Err-clause-stopped : goal.returns-in-Err-clause-stopped
 returns-in-Err-clause-stopped g c = λ not. inl (record {
@@ -23,4 +23,4 @@ returns-in-Err-clause-stopped g c = λ not. inl (record {
 })
 
 pub returns-in-Err-clause-complete : goal.returns-in-Err-clause-complete
-returns-in-Err-clause-complete g c = edit-refused c.args.asked.now _ _ c.in-Err.refusal c.refuse.result (c.refuse.ensures.status ∙ c.status.ensures) c.in-Err.ensures.cause c.in-Err.ensures.faults
+returns-in-Err-clause-complete g c = edit-refused c.args.asked.now _ c.in-Err.refusal c.refuse.result (c.refuse.ensures.status ∙ c.status.ensures) c.in-Err.ensures.cause c.in-Err.ensures.faults

@@ -1,6 +1,7 @@
 use Rattle.std.proofs.Common.{◌≡◌, take}
 use Rattle.edit_desk.specs.Desk.{Told}
-use Rattle.edit_program.proofs.TellingLaws.{Appends, texts_in}
+use Rattle.edit_program.specs.inner.Parts.{texts_in}
+use Rattle.edit_program.proofs.TellingLaws.{Appends}
 use Rattle.edit_program.proofs.telling.tell_all.Given as goal
 
 -- the lines before this one were printed
