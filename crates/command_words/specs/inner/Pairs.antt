@@ -1,9 +1,19 @@
 -- Words taken two by two.
-use Rattle.std.specs.Prelude.{ℕ, List, [], ◌∷◌}
-use Rattle.command_words.specs.Options.{Pairs}
+use Rattle.std.specs.Prelude.{ℕ, List, [], ◌∷◌, ◌++◌, Option, String, map, string_bytes}
+use Rattle.std.specs.Option.{option_to_list}
+use Rattle.std.specs.declared.alloc.Global.{Global}
+use Rattle.command_words.specs.Options.{Pairs, values_of}
 
 -- the pairs that words make; a last word alone makes none
 abbrev pub pairs_of : List (List ℕ) → Pairs
 pairs_of [] = []
 pairs_of (word ∷ []) = []
 pairs_of (option ∷ value ∷ words) = (option, value) ∷ pairs_of words
+
+-- the values that an option is given by the pairs of the words
+abbrev pub values_in : List ℕ → List (String Global) → List (List ℕ)
+values_in option words = values_of option (pairs_of (map string_bytes words))
+
+-- the values that an option has after one more pair, where at most one was found before
+abbrev pub values_after : Option (List ℕ) → List ℕ → List ℕ × List ℕ → List (List ℕ)
+values_after found option pair = option_to_list found ++ values_of option (pair ∷ [])
