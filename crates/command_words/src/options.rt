@@ -1,9 +1,8 @@
-ghost use Rattle.std.specs.Prelude.{◌≡◌, ◌≢◌, ◌↔◌, ◌+◌, ◌*◌, ◌<◌, ◌∷◌, [], ℕ, List, IfSome, IfNone, IsTrue, length, map, string_bytes, slice_index_or, option_copied};
+ghost use Rattle.std.specs.Prelude.{◌≡◌, ◌≢◌, ◌↔◌, ◌+◌, ◌*◌, ◌<◌, ◌++◌, ◌∷◌, [], ℕ, List, IfSome, IfNone, IsTrue, length, map, string_bytes, slice_index_or};
 ghost use Rattle.std.specs.List.{AllByRecursion, list_any};
-ghost use Rattle.std.specs.Option.{option_to_list};
 ghost use Rattle.std.specs.Str.{bytes_eq};
-ghost use Rattle.command_words.specs.Options.{AreGiven, GivesNumber, IsNumberText, IsValue, Pairs, words_of};
-ghost use Rattle.command_words.specs.inner.Pairs.{pairs_of, values_after, values_in};
+ghost use Rattle.command_words.specs.Options.{AreGiven, GivesNumber, IsNumberText, IsValue, Pairs, values_of, words_of};
+ghost use Rattle.command_words.specs.inner.Pairs.{pairs_of, values_found, values_in};
 
 /// The most digits of a number.
 const MOST_DIGITS: usize = 10;
@@ -67,7 +66,7 @@ pub(crate) fn number_given(
 
 // The value of an option among words taken two by two, if it stands there, or None where it stands there again.
 fn value_of<'a>(option: &str, words: &'a [String]) -> Option<Option<&'a str>>
-    ensures once { IfSome result (λ found. values_in option.now words.now ≡ option_to_list (option_copied found)) }
+    ensures once { IfSome result (λ found. values_in option.now words.now ≡ values_found found) }
     ensures again { IfNone result (1 < length (values_in option.now words.now)) }
 {
     let mut found = None;
@@ -85,8 +84,8 @@ fn found_next<'a>(
     name: &str,
     value: &'a str,
 ) -> Option<Option<&'a str>>
-    ensures once { IfSome result (λ next. option_to_list (option_copied next) ≡ values_after (option_copied found.entry) option.now (name.now, value.now)) }
-    ensures again { IfNone result (1 < length (values_after (option_copied found.entry) option.now (name.now, value.now))) }
+    ensures once { IfSome result (λ next. values_found next ≡ values_found found.entry ++ values_of option.now ((name.now, value.now) ∷ [])) }
+    ensures again { IfNone result (1 < length (values_found found.entry ++ values_of option.now ((name.now, value.now) ∷ []))) }
 {
     if name != option {
         return Some(found);

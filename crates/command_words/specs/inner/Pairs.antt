@@ -1,5 +1,6 @@
 -- Words taken two by two.
-use Rattle.std.specs.Prelude.{ℕ, List, [], ◌∷◌, ◌++◌, Option, String, map, string_bytes}
+use Rattle.std.specs.Prelude.{ℕ, List, [], ◌∷◌, Option, String, map, option_copied, string_bytes}
+use Rattle.std.specs.Borrow.{Bor}
 use Rattle.std.specs.Option.{option_to_list}
 use Rattle.std.specs.declared.alloc.Global.{Global}
 use Rattle.command_words.specs.Options.{Pairs, values_of}
@@ -14,6 +15,6 @@ pairs_of (option ∷ value ∷ words) = (option, value) ∷ pairs_of words
 abbrev pub values_in : List ℕ → List (String Global) → List (List ℕ)
 values_in option words = values_of option (pairs_of (map string_bytes words))
 
--- the values that an option has after one more pair, where at most one was found before
-abbrev pub values_after : Option (List ℕ) → List ℕ → List ℕ × List ℕ → List (List ℕ)
-values_after found option pair = option_to_list found ++ values_of option (pair ∷ [])
+-- the values that were found of an option, one at most
+abbrev pub values_found : Option (Bor (List ℕ)) → List (List ℕ)
+values_found found = option_to_list (option_copied found)
