@@ -1,3 +1,2 @@
 mod CaseLaws
 mod PlanLaws
-mod WordLaws

@@ -7,31 +7,24 @@ ghost use Rattle.certificate_bench.specs.inner.Plans.{plan_in};
 ghost use Rattle.certificate_bench.specs.inner.Told.{IsTold};
 
 mod certificate;
-mod fault;
 mod verdict;
 mod words;
 
-use fault::Fault;
+use bench_frame::{Fault, after_program_name, leave};
 use std::alloc::Global;
 use std::process::ExitCode;
 
+// The words that are in form.
+const USAGE: &str = "usage: certificate_bench leaves DEPTH | steps COUNT [broken]";
+
 fn main(rt: HostRuntime) -> ExitCode {
-    let (text, status) = match told(&rt, rt.alloc()) {
-        Ok(text) => (text, 0),
-        Err(fault) => match format!(in rt.alloc(); "{fault}\n") {
-            Ok(text) => (text, fault.status()),
-            Err(_) => return ExitCode::from(Fault::OutOfMemory.status()),
-        },
-    };
-    match rt.print(text.as_str()) {
-        Ok(()) => ExitCode::from(status),
-        Err(_) => ExitCode::from(6),
-    }
+    let told = told(&rt, rt.alloc());
+    leave(&rt, USAGE, told)
 }
 
 // What is printed of the words after the program's name.
 fn told<R: std::rt::Env + AllocGlobal>(rt: &R, alloc: Global) -> Result<String, Fault> {
-    let words = words::after_program_name(rt)?;
+    let words = after_program_name(rt)?;
     text_of(alloc, &words)
 }
 

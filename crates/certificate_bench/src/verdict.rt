@@ -80,7 +80,7 @@ fn field_count(depth: u32) -> usize
     if depth == 0 { 1 } else { depth as usize }
 }
 
-// A survey of so many numerical fields.
+// A survey of this many numerical fields.
 fn survey_of(alloc: Global, count: usize) -> Result<Survey, OutOfMemory>
     requires { count ≤ 20 }
     ensures { IfOk result (λ survey. survey ≡ survey_of (fields_of count) []) }

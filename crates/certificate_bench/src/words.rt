@@ -1,28 +1,14 @@
-ghost use Rattle.std.specs.Prelude.{◌≡◌, ◌≤◌, ◌⊎◌, IfErr, IfSome, map, string_bytes};
-ghost use Rattle.certificate_bench.specs.inner.Plans.{number_in, plan_in, plan_of};
+ghost use Rattle.std.specs.Prelude.{◌≡◌, ◌≤◌, IfSome, map, string_bytes};
+ghost use Rattle.certificate_bench.specs.inner.Plans.{plan_in, plan_of};
 
 use crate::certificate::Plan;
-use crate::fault::Fault;
-use std::env;
-use std::io::ErrorKind;
-use std::rt::Env;
+use bench_frame::number_in;
 
 /// The greatest depth of a tree.
 const MOST_DEPTH: u64 = 20;
 
 /// The most steps of a leaf.
 const MOST_STEPS: u64 = 10_000_000;
-
-/// The words after the program's name.
-pub fn after_program_name<R: Env + AllocGlobal>(rt: &R) -> Result<Vec<String>, Fault>
-    ensures { IfErr result (λ fault. (fault ≡ Fault.Usage) ⊎ (fault ≡ Fault.OutOfMemory)) }
-{
-    match env::args(rt) {
-        Ok(all) => Ok(all.skip(1).collect(rt.alloc())?),
-        Err(error) if error.kind() == ErrorKind::OutOfMemory => Err(Fault::OutOfMemory),
-        Err(_) => Err(Fault::Usage),
-    }
-}
 
 /// What the words `leaves DEPTH` or `steps COUNT` ask for, with `broken` behind them for a certificate whose
 /// last step is not valid.
@@ -62,23 +48,5 @@ fn plan_with(verb: &str, count: &str, broken: bool) -> Option<Plan>
             None => None,
         },
         _ => None,
-    }
-}
-
-// The number that is written in digits, if it is at least and at most so much.
-fn number_in(text: &str, least: u64, most: u64) -> Option<u64>
-    ensures { result ≡ number_in text.now least most }
-{
-    let first = text.as_bytes().first()?;
-    if !first.is_ascii_digit() {
-        return None;
-    }
-    let Ok(number) = text.parse::<u64>() else {
-        return None;
-    };
-    if least <= number && number <= most {
-        Some(number)
-    } else {
-        None
     }
 }

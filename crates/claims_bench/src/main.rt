@@ -7,31 +7,24 @@ ghost use Rattle.claims_bench.specs.inner.Plans.{IsServed};
 ghost use Rattle.claims_bench.specs.inner.Tallies.{IsTold};
 ghost use Rattle.claims_bench.specs.inner.Texts.{counts_text};
 
-mod fault;
 mod tally;
 mod words;
 mod worker;
 
+use bench_frame::{Fault, after_program_name, leave};
 use donor_book::Won;
-use fault::Fault;
 use foundation::OutOfMemory;
 use std::alloc::Global;
 use std::process::ExitCode;
 use std::thread::Threads;
 use tally::{Plan, carry_out};
 
+// The words that are in form.
+const USAGE: &str = "usage: claims_bench [COUNT THREADS]";
+
 fn main(rt: HostRuntime) -> ExitCode {
-    let (text, status) = match told(&rt, rt.alloc()) {
-        Ok(text) => (text, 0),
-        Err(fault) => match format!(in rt.alloc(); "{fault}\n") {
-            Ok(text) => (text, fault.status()),
-            Err(_) => return ExitCode::from(Fault::OutOfMemory.status()),
-        },
-    };
-    match rt.print(text.as_str()) {
-        Ok(()) => ExitCode::from(status),
-        Err(_) => ExitCode::from(6),
-    }
+    let told = told(&rt, rt.alloc());
+    leave(&rt, USAGE, told)
 }
 
 // What is printed of the words after the program's name.
@@ -39,7 +32,7 @@ fn told<R: std::rt::Env + AllocGlobal + Threads + Sync>(
     rt: &R,
     alloc: Global,
 ) -> Result<String, Fault> {
-    let words = words::after_program_name(rt)?;
+    let words = after_program_name(rt)?;
     match words::plan_of(&words) {
         None => Err(Fault::Usage),
         Some(plan) => text_of(rt, alloc, plan),

@@ -29,7 +29,7 @@ pub struct Tally {
     pub history: Vec<Won>,
 }
 
-/// Draws the tickets and claims for their rows with so many threads, and tells what was drawn and claimed.
+/// Draws the tickets and claims for their rows with the threads of the plan, and tells what was drawn and claimed.
 pub fn carry_out<R: Threads + Sync>(rt: &R, alloc: Global, plan: Plan) -> Result<Tally, OutOfMemory>
     requires { IsServed plan }
     ensures { IfOk result (IsTally plan) }

@@ -1,11 +1,7 @@
-ghost use Rattle.std.specs.Prelude.{◌≡◌, ◌⊎◌, ◌≤◌, IfErr, IfSome, map, string_bytes};
+ghost use Rattle.std.specs.Prelude.{◌≤◌, IfSome, map, string_bytes};
 ghost use Rattle.claims_bench.specs.inner.Plans.{IsAsked, IsNumber, IsServed};
 
-use crate::fault::Fault;
 use crate::tally::Plan;
-use std::env;
-use std::io::ErrorKind;
-use std::rt::Env;
 
 /// What is done where no words say otherwise.
 const SMALL: Plan = Plan {
@@ -18,17 +14,6 @@ const MOST_COUNT: u32 = 10_000_000;
 
 /// The most threads.
 const MOST_THREADS: u32 = 64;
-
-/// The words after the program's name.
-pub fn after_program_name<R: Env + AllocGlobal>(rt: &R) -> Result<Vec<String>, Fault>
-    ensures { IfErr result (λ fault. (fault ≡ Fault.Usage) ⊎ (fault ≡ Fault.OutOfMemory)) }
-{
-    match env::args(rt) {
-        Ok(all) => Ok(all.skip(1).collect(rt.alloc())?),
-        Err(error) if error.kind() == ErrorKind::OutOfMemory => Err(Fault::OutOfMemory),
-        Err(_) => Err(Fault::Usage),
-    }
-}
 
 /// What the words `COUNT THREADS` ask for, and something small where there are none.
 pub fn plan_of(words: &[String]) -> Option<Plan>

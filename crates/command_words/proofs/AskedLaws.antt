@@ -1,8 +1,8 @@
 -- Words ask for one command at most.
-use Rattle.std.proofs.Common.{◌≡◌, ◌∙◌, ◌/◌, ◌%◌, ◌<◌, ◌≤◌, ℕ, Bool, true, false, not, Option, Some, None, refl, List, [], ◌∷◌, String, Global, ap, arith, length, map, string_bytes, subst, sym}
+use Rattle.std.proofs.Common.{◌≡◌, ◌∙◌, ◌/◌, ◌%◌, ◌≤◌, ℕ, Bool, true, false, not, Option, Some, None, refl, List, [], ◌∷◌, String, Global, ap, arith, length, map, string_bytes, subst, sym}
 use Rattle.std.proofs.lemmas.List.{length-map}
-use Rattle.std.specs.Prelude.{codes, IfNone, IfSome}
-use Rattle.command_words.specs.Asked.{CheckAsked, EditAsked, GiveCheck, GiveEdit, GiveRules, IsCheck, IsEdit, IsRules, RulesAsked}
+use Rattle.std.specs.Prelude.{IfNone, IfSome}
+use Rattle.command_words.specs.Asked.{CheckAsked, EditAsked, GiveCheck, GiveEdit, GiveRules, IsCommand, RulesAsked}
 use Rattle.command_words.specs.Options.{GivesNumber, Pairs, words_of}
 use Rattle.command_words.specs.inner.Pairs.{pairs_of}
 use Rattle.command_words.proofs.PairLaws.{pairs_back, words_back, words_long}
@@ -19,12 +19,6 @@ pub between : (default least most : ℕ) (values : List (List ℕ)) (n : ℕ) �
 between default least most [] n given low high = rw given (low, high)
 between default least most (text ∷ []) n given low high = (given.1, given.2)
 between default least most (text ∷ second ∷ more) n given low high = absurd given
-
--- it is below any bound that the default and the most are below
-pub number_below : (default least most bound : ℕ) (values : List (List ℕ)) (n : ℕ) → GivesNumber default least most values n → default < bound → most < bound → n < bound
-number_below default least most bound [] n given low high = rw given low
-number_below default least most bound (text ∷ []) n given low high = let fits = given.2 in omega arith
-number_below default least most bound (text ∷ second ∷ more) n given low high = absurd given
 
 one_value : (values : List (List ℕ)) (a b : List ℕ) → values ≡ a ∷ [] → values ≡ b ∷ [] → a ≡ b
 one_value values a b p q = cc
@@ -68,60 +62,32 @@ one_rules pairs a b p q = ap rules_of (one_value _ _ _ p.rules q.rules)
 
 -- ---- a command and its pairs
 
--- the words are this command and, behind it, pairs of which this holds
-pub record IsCommand (name : List ℕ) (words : List (List ℕ)) (P : Pairs → Type 0) : Type 0 where
-  pub pairs : Pairs
-  pub form : words ≡ name ∷ words_of pairs
-  pub options : P pairs
-
--- the commands are such
-pub edit_command : (words : List (List ℕ)) (asked : EditAsked) → IsEdit words asked → IsCommand (codes "edit") words (λ pairs. GiveEdit pairs asked)
-edit_command words asked is = record { pairs = is.pairs; form = is.form; options = is.options }
-
-pub command_edit : (words : List (List ℕ)) (asked : EditAsked) → IsCommand (codes "edit") words (λ pairs. GiveEdit pairs asked) → IsEdit words asked
-command_edit words asked is = record { pairs = is.pairs; form = is.form; options = is.options }
-
-pub check_command : (words : List (List ℕ)) (asked : CheckAsked) → IsCheck words asked → IsCommand (codes "check") words (λ pairs. GiveCheck pairs asked)
-check_command words asked is = record { pairs = is.pairs; form = is.form; options = is.options }
-
-pub command_check : (words : List (List ℕ)) (asked : CheckAsked) → IsCommand (codes "check") words (λ pairs. GiveCheck pairs asked) → IsCheck words asked
-command_check words asked is = record { pairs = is.pairs; form = is.form; options = is.options }
-
-pub rules_command : (words : List (List ℕ)) (asked : RulesAsked) → IsRules words asked → IsCommand (codes "rules") words (λ pairs. GiveRules pairs asked)
-rules_command words asked is = record { pairs = is.pairs; form = is.form; options = is.options }
-
-pub command_rules : (words : List (List ℕ)) (asked : RulesAsked) → IsCommand (codes "rules") words (λ pairs. GiveRules pairs asked) → IsRules words asked
-command_rules words asked is = record { pairs = is.pairs; form = is.form; options = is.options }
+-- where the words are a command with these pairs, what the command's pairs are said to give holds of these
+pub given_of : {words : List (List ℕ)} {name : List ℕ} {pairs : Pairs} (P : Pairs → Type 0) → words ≡ name ∷ words_of pairs → IsCommand name words P → P pairs
+given_of {words} {name} {pairs} P form is =
+    let other = is.form in
+    let same : words_of is.pairs ≡ words_of pairs = cc in
+    subst P (sym (pairs_back is.pairs) ∙ ap pairs_of same ∙ pairs_back pairs) is.options
 
 -- words apart into the first and the others
-module _ (words : List (String Global)) (first : String Global) (others : List (String Global)) (apart : words ≡ first ∷ others) (name : List ℕ) (P : Pairs → Type 0) where
-  parts : IsCommand name (map string_bytes words) P → IsCommand name (string_bytes first ∷ map string_bytes others) P
-  parts is = rw apart at is
+module _ (words : List (String Global)) (first : String Global) (others : List (String Global)) (apart : words ≡ first ∷ others) (name : List ℕ) where
+  -- where they are a command with pairs, the first is the command
+  pub command_is : (pairs : Pairs) → map string_bytes words ≡ name ∷ words_of pairs → string_bytes first ≡ name
+  command_is pairs form = let parts = sym (ap (map string_bytes) apart) ∙ form in cc
 
-  -- the first is the command
-  pub command_is : IsCommand name (map string_bytes words) P → string_bytes first ≡ name
-  command_is is = let form = (parts is).form in cc
-
-  others_are : (is : IsCommand name (string_bytes first ∷ map string_bytes others) P) → map string_bytes others ≡ words_of is.pairs
-  others_are is = let form = is.form in cc
-
-  -- the others are even in number
-  pub options_even : IsCommand name (map string_bytes words) P → length others % 2 ≡ 0
-  options_even is = let even = ap length (others_are (parts is)) ∙ words_long (parts is).pairs in omega (arith, even, length-map others string_bytes)
-
-  -- and their pairs are those of the command
-  pub options_given : IsCommand name (map string_bytes words) P → P (pairs_of (map string_bytes others))
-  options_given is = subst P (sym (pairs_back (parts is).pairs) ∙ ap pairs_of (sym (others_are (parts is)))) (parts is).options
+  -- and the others are even in number
+  pub options_even : (pairs : Pairs) → map string_bytes words ≡ name ∷ words_of pairs → length others % 2 ≡ 0
+  options_even pairs form =
+      let parts = sym (ap (map string_bytes) apart) ∙ form in
+      let others_are : map string_bytes others ≡ words_of pairs = cc in
+      let even = ap length others_are ∙ words_long pairs in
+      omega (arith, even, length-map others string_bytes)
 
   -- a command and an even number of words are the command with their pairs
-  pub is_command : string_bytes first ≡ name → length others % 2 ≡ 0 → P (pairs_of (map string_bytes others)) → IsCommand name (map string_bytes words) P
-  is_command named even given =
+  pub is_command : string_bytes first ≡ name → length others % 2 ≡ 0 → map string_bytes words ≡ name ∷ words_of (pairs_of (map string_bytes others))
+  is_command named even =
       let back : words_of (pairs_of (map string_bytes others)) ≡ map string_bytes others = words_back (map string_bytes others) (length others / 2) (omega (arith, length-map others string_bytes)) in
-      record {
-        pairs = pairs_of (map string_bytes others);
-        form = ap (map string_bytes) apart ∙ ap (λ (word : List ℕ). word ∷ map string_bytes others) named ∙ ap (λ (rest : List (List ℕ)). name ∷ rest) (sym back);
-        options = given;
-      }
+      ap (map string_bytes) apart ∙ ap (λ (word : List ℕ). word ∷ map string_bytes others) named ∙ ap (λ (rest : List (List ℕ)). name ∷ rest) (sym back)
 
 -- ---- answers
 

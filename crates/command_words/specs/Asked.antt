@@ -3,6 +3,12 @@ use Rattle.std.specs.Prelude.{◌≡◌, ℕ, List, [], ◌∷◌, codes, map, s
 use Rattle.std.specs.declared.alloc.Global.{Global}
 use Rattle.command_words.specs.Options.{AreApart, AreGiven, GivesNumber, Pairs, values_of, words_of}
 
+-- the words are this command, and behind it pairs of an option and its value of which the claim holds
+pub record IsCommand (name : List ℕ) (words : List (List ℕ)) (Holds : Pairs → Type 0) : Type 0 where
+  pub pairs : Pairs
+  pub form : words ≡ name ∷ words_of pairs
+  pub options : Holds pairs
+
 -- ---- edit
 
 -- the files that an edit names: its rules, its records, what is released of them, the reasons for that, and the proof
@@ -13,23 +19,29 @@ pub record Names : Type 0 where
   pub reasons : List ℕ
   pub proof : List ℕ
 
--- what an edit is asked for: its files, the most work that may be spent on one record, how often a donor may be given, and how many donors a record ranks
+-- what an edit is asked for: its files, the most work that may be spent on one record, how often a donor may be given,
+-- and how many donors a record ranks
 pub record EditAsked : Type 0 where
   pub names : Names
   pub budget : ℕ
   pub limit : ℕ
   pub near : ℕ
 
--- the options of an edit
+-- the options of an edit that are given numbers
+abbrev pub number_options : List (List ℕ)
+number_options = codes "--budget" ∷ codes "--limit" ∷ codes "--near" ∷ []
+
+-- the options of an edit: those that name files, and these
 abbrev pub edit_options : List (List ℕ)
 edit_options =
-    codes "--rules" ∷ codes "--records" ∷ codes "--released" ∷ codes "--reasons" ∷ codes "--proof" ∷ codes "--budget" ∷ codes "--limit" ∷ codes "--near" ∷ []
+    codes "--rules" ∷ codes "--records" ∷ codes "--released" ∷ codes "--reasons" ∷ codes "--proof" ∷ number_options
 
 -- the names of the five files
 abbrev pub names_in : Names → List (List ℕ)
 names_in names = names.rules ∷ names.records ∷ names.released ∷ names.reasons ∷ names.proof ∷ []
 
--- the pairs give the options of an edit, each at most once: five that name files, no two of them the same; a budget from 1 to 1,000,000,000, or 1,000,000; a limit from 1 to 1,000, or 1; and 1 to 64 donors that a record ranks, or 5
+-- the pairs give the options of an edit, each at most once: five that name files, no two of them the same; a budget from
+-- 1 to 1,000,000,000, or 1,000,000; a limit from 1 to 1,000, or 1; and 1 to 64 donors that a record ranks, or 5
 pub record GiveEdit (pairs : Pairs) (asked : EditAsked) : Type 0 where
   pub given : AreGiven edit_options pairs
   pub rules : values_of (codes "--rules") pairs ≡ asked.names.rules ∷ []
@@ -43,10 +55,8 @@ pub record GiveEdit (pairs : Pairs) (asked : EditAsked) : Type 0 where
   pub apart : AreApart (names_in asked.names)
 
 -- the words ask for an edit: the command, and behind it pairs that give its options, in any order
-pub record IsEdit (words : List (List ℕ)) (asked : EditAsked) : Type 0 where
-  pub pairs : Pairs
-  pub form : words ≡ codes "edit" ∷ words_of pairs
-  pub options : GiveEdit pairs asked
+abbrev pub IsEdit : List (List ℕ) → EditAsked → Type 0
+IsEdit words asked = IsCommand (codes "edit") words (λ pairs. GiveEdit pairs asked)
 
 -- ---- check
 
@@ -75,10 +85,8 @@ pub record GiveCheck (pairs : Pairs) (asked : CheckAsked) : Type 0 where
   pub apart : AreApart (checked_in asked)
 
 -- the words ask for a check: the command, and behind it pairs that give its options, in any order
-pub record IsCheck (words : List (List ℕ)) (asked : CheckAsked) : Type 0 where
-  pub pairs : Pairs
-  pub form : words ≡ codes "check" ∷ words_of pairs
-  pub options : GiveCheck pairs asked
+abbrev pub IsCheck : List (List ℕ) → CheckAsked → Type 0
+IsCheck words asked = IsCommand (codes "check") words (λ pairs. GiveCheck pairs asked)
 
 -- ---- rules
 
@@ -96,10 +104,8 @@ pub record GiveRules (pairs : Pairs) (asked : RulesAsked) : Type 0 where
   pub rules : values_of (codes "--rules") pairs ≡ asked.rules ∷ []
 
 -- the words ask what becomes of the lines of rules: the command, and behind it the pair that gives its option
-pub record IsRules (words : List (List ℕ)) (asked : RulesAsked) : Type 0 where
-  pub pairs : Pairs
-  pub form : words ≡ codes "rules" ∷ words_of pairs
-  pub options : GiveRules pairs asked
+abbrev pub IsRules : List (List ℕ) → RulesAsked → Type 0
+IsRules words asked = IsCommand (codes "rules") words (λ pairs. GiveRules pairs asked)
 
 -- ---- any words
 
@@ -113,10 +119,10 @@ pub record IsNoCommand (words : List (String Global)) : Type 0 where
 abbrev pub ForEdit : List (String Global) → (EditAsked → Type 0) → Type 0
 ForEdit words P = (asked : EditAsked) → IsEdit (map string_bytes words) asked → P asked
 
--- the same of a check
+-- whatever check the words ask for, the claim holds of it
 abbrev pub ForCheck : List (String Global) → (CheckAsked → Type 0) → Type 0
 ForCheck words P = (asked : CheckAsked) → IsCheck (map string_bytes words) asked → P asked
 
--- the same of the command `rules`
+-- whatever the words ask about rules, the claim holds of it
 abbrev pub ForRules : List (String Global) → (RulesAsked → Type 0) → Type 0
 ForRules words P = (asked : RulesAsked) → IsRules (map string_bytes words) asked → P asked

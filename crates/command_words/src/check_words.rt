@@ -1,9 +1,9 @@
-ghost use Rattle.std.specs.Prelude.{◌≡◌, ◌↔◌, IfSome, IfNone, IsTrue, map, string_bytes};
-ghost use Rattle.command_words.specs.Asked.{CheckAsked, GiveCheck, IsCheck, checked_in};
+ghost use Rattle.std.specs.Prelude.{◌≡◌, ◌↔◌, ◌∷◌, [], IfSome, IfNone, IsTrue, map, string_bytes};
+ghost use Rattle.command_words.specs.Asked.{CheckAsked, GiveCheck, IsCheck};
 ghost use Rattle.command_words.specs.Options.{AreApart};
 ghost use Rattle.command_words.specs.inner.Pairs.{pairs_of};
 
-use crate::options::{are_given, differs_from, only_value};
+use crate::options::{are_given, differs_from, only_value, options_of};
 use std::marker::Model;
 
 /// The options of the command `check`.
@@ -38,10 +38,7 @@ pub fn check_asked(words: &[String]) -> Option<CheckWords<'_>>
     ensures only { IfSome result (λ asked. (other : CheckAsked) → IsCheck (map string_bytes words.now) other → other ≡ asked) }
     ensures none { IfNone result ((asked : CheckAsked) → ¬ IsCheck (map string_bytes words.now) asked) }
 {
-    let (command, options) = words.split_first()?;
-    if command.as_str() != "check" || options.len() % 2 != 0 {
-        return None;
-    }
+    let options = options_of("check", words)?;
     check_options(options)
 }
 
@@ -70,7 +67,7 @@ fn check_options(options: &[String]) -> Option<CheckWords<'_>>
 
 // Whether no two of the names are the same.
 fn are_apart(rules: &str, records: &str, released: &str, proof: &str) -> bool
-    ensures { IsTrue result ↔ AreApart (checked_in (record { rules = rules.now; records = records.now; released = released.now; proof = proof.now })) }
+    ensures { IsTrue result ↔ AreApart (rules.now ∷ records.now ∷ released.now ∷ proof.now ∷ []) }
 {
     differs_from(rules, &[records, released, proof])
         && differs_from(records, &[released, proof])

@@ -1,9 +1,9 @@
-ghost use Rattle.std.specs.Prelude.{◌≡◌, ◌↔◌, IfSome, IfNone, IsTrue, map, string_bytes};
-ghost use Rattle.command_words.specs.Asked.{EditAsked, GiveEdit, IsEdit, names_in};
+ghost use Rattle.std.specs.Prelude.{◌≡◌, ◌↔◌, ◌∷◌, [], IfSome, IfNone, IsTrue, map, string_bytes};
+ghost use Rattle.command_words.specs.Asked.{EditAsked, GiveEdit, IsEdit};
 ghost use Rattle.command_words.specs.Options.{AreApart};
 ghost use Rattle.command_words.specs.inner.Pairs.{pairs_of};
 
-use crate::options::{are_given, differs_from, number_given, only_value, short_given};
+use crate::options::{are_given, differs_from, number_given, only_value, options_of};
 use std::marker::Model;
 
 /// The options of the command `edit`.
@@ -26,18 +26,18 @@ const LEAST_BUDGET: u64 = 1;
 const MOST_BUDGET: u64 = 1_000_000_000;
 
 /// How often a donor may be given where no limit is given, the least that can be given, and the most.
-const LIMIT: u32 = 1;
+const LIMIT: u64 = 1;
 
-const LEAST_LIMIT: u32 = 1;
+const LEAST_LIMIT: u64 = 1;
 
-const MOST_LIMIT: u32 = 1_000;
+const MOST_LIMIT: u64 = 1_000;
 
 /// How many donors a record ranks where no number is given, the least that can be given, and the most.
-const NEAR: u32 = 5;
+const NEAR: u64 = 5;
 
-const LEAST_NEAR: u32 = 1;
+const LEAST_NEAR: u64 = 1;
 
-const MOST_NEAR: u32 = 64;
+const MOST_NEAR: u64 = 64;
 
 /// What the command `edit` was asked for. No two names are the same.
 #[derive(Debug, Drop)]
@@ -94,10 +94,7 @@ pub fn edit_asked(words: &[String]) -> Option<EditWords<'_>>
     ensures only { IfSome result (λ asked. (other : EditAsked) → IsEdit (map string_bytes words.now) other → other ≡ asked) }
     ensures none { IfNone result ((asked : EditAsked) → ¬ IsEdit (map string_bytes words.now) asked) }
 {
-    let (command, options) = words.split_first()?;
-    if command.as_str() != "edit" || options.len() % 2 != 0 {
-        return None;
-    }
+    let options = options_of("edit", words)?;
     edit_options(options)
 }
 
@@ -115,8 +112,8 @@ fn edit_options(options: &[String]) -> Option<EditWords<'_>>
     let reasons = only_value("--reasons", options)?;
     let proof = only_value("--proof", options)?;
     let budget = number_given("--budget", options, BUDGET, LEAST_BUDGET, MOST_BUDGET)?;
-    let limit = short_given("--limit", options, LIMIT, LEAST_LIMIT, MOST_LIMIT)?;
-    let near = short_given("--near", options, NEAR, LEAST_NEAR, MOST_NEAR)?;
+    let limit = number_given("--limit", options, LIMIT, LEAST_LIMIT, MOST_LIMIT)?;
+    let near = number_given("--near", options, NEAR, LEAST_NEAR, MOST_NEAR)?;
     if !are_apart(rules, records, released, reasons, proof) {
         return None;
     }
@@ -127,14 +124,14 @@ fn edit_options(options: &[String]) -> Option<EditWords<'_>>
         reasons,
         proof,
         budget,
-        limit,
-        near,
+        limit: limit as u32,
+        near: near as u32,
     })
 }
 
 // Whether no two of the names are the same.
 fn are_apart(rules: &str, records: &str, released: &str, reasons: &str, proof: &str) -> bool
-    ensures { IsTrue result ↔ AreApart (names_in (record { rules = rules.now; records = records.now; released = released.now; reasons = reasons.now; proof = proof.now })) }
+    ensures { IsTrue result ↔ AreApart (rules.now ∷ records.now ∷ released.now ∷ reasons.now ∷ proof.now ∷ []) }
 {
     differs_from(rules, &[records, released, reasons, proof])
         && differs_from(records, &[released, reasons, proof])

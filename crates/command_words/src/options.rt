@@ -1,12 +1,23 @@
-ghost use Rattle.std.specs.Prelude.{◌≡◌, ◌≢◌, ◌↔◌, ◌+◌, ◌*◌, ◌<◌, ◌++◌, ◌∷◌, [], ℕ, List, IfSome, IfNone, IsTrue, length, map, string_bytes, slice_index_or, option_copied};
+ghost use Rattle.std.specs.Prelude.{◌≡◌, ◌≢◌, ◌↔◌, ◌+◌, ◌*◌, ◌<◌, ◌++◌, ◌∷◌, [], ℕ, List, IfSome, IfNone, IsTrue, length, map, string_bytes, slice_index_or};
 ghost use Rattle.std.specs.List.{AllByRecursion, list_any};
-ghost use Rattle.std.specs.Option.{option_to_list};
 ghost use Rattle.std.specs.Str.{bytes_eq};
-ghost use Rattle.command_words.specs.Options.{AreGiven, GivesNumber, IsNumberText, IsValue, values_of};
-ghost use Rattle.command_words.specs.inner.Pairs.{pairs_of};
+ghost use Rattle.command_words.specs.Options.{AreGiven, GivesNumber, IsNumberText, IsValue, Pairs, values_of, words_of};
+ghost use Rattle.command_words.specs.inner.Pairs.{pairs_of, values_found, values_in};
 
 /// The most digits of a number.
 const MOST_DIGITS: usize = 10;
+
+/// The options behind a command, where the words are this command and pairs of an option and its value. No memory.
+pub(crate) fn options_of<'a>(command: &str, words: &'a [String]) -> Option<&'a [String]>
+    ensures some { IfSome result (λ options. map string_bytes words.now ≡ command.now ∷ words_of (pairs_of (map string_bytes options.now))) }
+    ensures none { IfNone result ((pairs : Pairs) → map string_bytes words.now ≢ command.now ∷ words_of pairs) }
+{
+    let (first, options) = words.split_first()?;
+    if first.as_str() != command || options.len() % 2 != 0 {
+        return None;
+    }
+    Some(options)
+}
 
 /// Whether the words, taken two by two, are each one of the options and a value. A value is not empty and
 /// does not begin with `-`. No memory.
@@ -24,8 +35,8 @@ pub(crate) fn are_given(words: &[String], options: &[&str]) -> bool
 
 /// The value of an option among words taken two by two, where it stands there once. No memory.
 pub(crate) fn only_value<'a>(option: &str, words: &'a [String]) -> Option<&'a str>
-    ensures some { IfSome result (λ value. values_of option.now (pairs_of (map string_bytes words.now)) ≡ value.now ∷ []) }
-    ensures none { IfNone result ((value : List ℕ) → values_of option.now (pairs_of (map string_bytes words.now)) ≢ value ∷ []) }
+    ensures some { IfSome result (λ value. values_in option.now words.now ≡ value.now ∷ []) }
+    ensures none { IfNone result ((value : List ℕ) → values_in option.now words.now ≢ value ∷ []) }
 {
     value_of(option, words)?
 }
@@ -39,8 +50,8 @@ pub(crate) fn number_given(
     least: u64,
     most: u64,
 ) -> Option<u64>
-    ensures some { IfSome result (λ n. GivesNumber default least most (values_of option.now (pairs_of (map string_bytes words.now))) n) }
-    ensures none { IfNone result ((n : ℕ) → ¬ GivesNumber default least most (values_of option.now (pairs_of (map string_bytes words.now))) n) }
+    ensures some { IfSome result (λ n. GivesNumber default least most (values_in option.now words.now) n) }
+    ensures none { IfNone result ((n : ℕ) → ¬ GivesNumber default least most (values_in option.now words.now) n) }
 {
     let Some(text) = value_of(option, words)? else {
         return Some(default);
@@ -53,31 +64,10 @@ pub(crate) fn number_given(
     }
 }
 
-/// The same of a number below 2^32. No memory.
-pub(crate) fn short_given(
-    option: &str,
-    words: &[String],
-    default: u32,
-    least: u32,
-    most: u32,
-) -> Option<u32>
-    ensures some { IfSome result (λ n. GivesNumber default least most (values_of option.now (pairs_of (map string_bytes words.now))) n) }
-    ensures none { IfNone result ((n : ℕ) → ¬ GivesNumber default least most (values_of option.now (pairs_of (map string_bytes words.now))) n) }
-{
-    let number = number_given(
-        option,
-        words,
-        u64::from(default),
-        u64::from(least),
-        u64::from(most),
-    )?;
-    Some(number as u32)
-}
-
 // The value of an option among words taken two by two, if it stands there, or None where it stands there again.
 fn value_of<'a>(option: &str, words: &'a [String]) -> Option<Option<&'a str>>
-    ensures once { IfSome result (λ found. values_of option.now (pairs_of (map string_bytes words.now)) ≡ option_to_list (option_copied found)) }
-    ensures again { IfNone result (1 < length (values_of option.now (pairs_of (map string_bytes words.now)))) }
+    ensures once { IfSome result (λ found. values_in option.now words.now ≡ values_found found) }
+    ensures again { IfNone result (1 < length (values_in option.now words.now)) }
 {
     let mut found = None;
     for place in 0..words.len() / 2 {
@@ -94,8 +84,8 @@ fn found_next<'a>(
     name: &str,
     value: &'a str,
 ) -> Option<Option<&'a str>>
-    ensures once { IfSome result (λ next. option_to_list (option_copied next) ≡ option_to_list (option_copied found.entry) ++ values_of option.now ((name.now, value.now) ∷ [])) }
-    ensures again { IfNone result (1 < length (option_to_list (option_copied found.entry) ++ values_of option.now ((name.now, value.now) ∷ []))) }
+    ensures once { IfSome result (λ next. values_found next ≡ values_found found.entry ++ values_of option.now ((name.now, value.now) ∷ [])) }
+    ensures again { IfNone result (1 < length (values_found found.entry ++ values_of option.now ((name.now, value.now) ∷ []))) }
 {
     if name != option {
         return Some(found);

@@ -2,7 +2,7 @@ ghost use Rattle.std.specs.Prelude.{◌≡◌, IfSome, IfNone, map, string_bytes
 ghost use Rattle.command_words.specs.Asked.{GiveRules, IsRules, RulesAsked};
 ghost use Rattle.command_words.specs.inner.Pairs.{pairs_of};
 
-use crate::options::{are_given, only_value};
+use crate::options::{are_given, only_value, options_of};
 use std::marker::Model;
 
 /// The options of the command `rules`.
@@ -30,10 +30,7 @@ pub fn rules_asked(words: &[String]) -> Option<RulesWords<'_>>
     ensures only { IfSome result (λ asked. (other : RulesAsked) → IsRules (map string_bytes words.now) other → other ≡ asked) }
     ensures none { IfNone result ((asked : RulesAsked) → ¬ IsRules (map string_bytes words.now) asked) }
 {
-    let (command, options) = words.split_first()?;
-    if command.as_str() != "rules" || options.len() % 2 != 0 {
-        return None;
-    }
+    let options = options_of("rules", words)?;
     rules_options(options)
 }
 

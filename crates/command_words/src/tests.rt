@@ -168,7 +168,7 @@ fn edit_told(alloc: Global, words: &[String]) -> Result<String, Fail> {
     )?)
 }
 
-// The same of a check.
+// The files of the check that the words ask for.
 fn check_told(alloc: Global, words: &[String]) -> Result<String, Fail> {
     let Some(asked) = check_asked(words) else {
         return Ok(String::from_str(alloc, "none")?);
@@ -178,7 +178,7 @@ fn check_told(alloc: Global, words: &[String]) -> Result<String, Fail> {
     Ok(format!(in alloc; "check {rules} {records} {released} {proof}")?)
 }
 
-// The same of the command `rules`.
+// The file of the rules that the words ask about.
 fn rules_told(alloc: Global, words: &[String]) -> Result<String, Fail> {
     let Some(asked) = rules_asked(words) else {
         return Ok(String::from_str(alloc, "none")?);
@@ -216,7 +216,7 @@ fn first_wrong(alloc: Global, lines: &[(&str, &str)]) -> Result<Option<usize>, F
     Ok(None)
 }
 
-// The same of edits of the five files with further words.
+// The place of the first of the further words with which an edit of the five files is read otherwise.
 fn first_wrong_number(alloc: Global, lines: &[(&str, &str)]) -> Result<Option<usize>, Fail> {
     for (place, (last, numbers)) in lines.iter().enumerate() {
         let line = format!(in alloc; "{NAMES}{last}")?;

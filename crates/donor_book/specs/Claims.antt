@@ -1,6 +1,6 @@
 -- What a row that claims a donor is answered after a history.
-use Rattle.std.specs.Prelude.{ℕ, ◌<◌, ◌==◌, Bool, false, Option, Some, None, List, nat_lt}
-use Rattle.std.specs.List.{count_by, find}
+use Rattle.std.specs.Prelude.{◌≡◌, ℕ, ◌<◌, ◌≤◌, ◌==◌, Bool, false, Option, Some, None, List, nat_lt}
+use Rattle.std.specs.List.{All, count_by, find}
 use Rattle.donor_book.specs.declared.claim.Won.{Won}
 use Rattle.donor_book.specs.declared.claim.Claim.{Claim}
 use Rattle.donor_book.specs.declared.claim.Claim.TheVariants as claim
@@ -35,6 +35,10 @@ had_or (Some w) answer = claim.Had w.reply
 -- what a row is answered after a history: the reply that it had, or the first donor of its ranking with uses left
 abbrev pub answer_to : ℕ → List Won → ℕ → List ℕ → Claim
 answer_to limit history row ranking = had_or (claim_of row history) (given (first_free limit history ranking))
+
+-- the row has not claimed, and each donor of its ranking was given as often as the limit allows
+abbrev pub GetsNobody : ℕ → List Won → ℕ → List ℕ → Type 0
+GetsNobody limit history row ranking = (claim_of row history ≡ None) × All (λ donor. limit ≤ uses_of donor history) ranking
 
 -- a donor that there is, or nobody
 abbrev pub IsDonor : ℕ → Option ℕ → Type 0

@@ -15,12 +15,16 @@ won_of entry = record { row_no = entry.row_no; reply = entry.reply }
 abbrev pub wins_of : List Entry → List Won
 wins_of history = map won_of history
 
+-- the entry has the reply that this history leaves to its ranking
+abbrev pub HasReplyAfter : ℕ → List Won → Entry → Type 0
+HasReplyAfter limit history entry = entry.reply ≡ first_free limit history entry.ranking
+
 -- a legal history: each entry has the reply that the entries before it leave to its ranking, and no row stands twice
 pub record IsLegalHistory (limit : ℕ) (history : List Entry) : Type 0 where
-  pub replies : (place : ℕ) (entry : Entry) → slice_get history place ≡ Some entry → entry.reply ≡ first_free limit (take place (wins_of history)) entry.ranking
+  pub replies : (place : ℕ) (e : Entry) → slice_get history place ≡ Some e → HasReplyAfter limit (take place (wins_of history)) e
   pub once : IsDistinct nat_eq (map (λ (w : Won). w.row_no) (wins_of history))
 
--- the row is one of so many, and so is each donor that it ranks
+-- the row is one of this many rows, and each donor that it ranks one of this many donors
 abbrev pub IsEntryWithin : ℕ → ℕ → Entry → Type 0
 IsEntryWithin donors rows entry = (entry.row_no < rows) × All (λ donor. donor < donors) entry.ranking
 

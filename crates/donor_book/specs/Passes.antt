@@ -9,8 +9,8 @@ use Rattle.donor_book.specs.declared.claim.Entry.{Entry}
 use Rattle.donor_book.specs.declared.claim.Won.{Won}
 use Rattle.donor_book.specs.declared.rule.Placed.{Placed}
 use Rattle.donor_book.specs.declared.rule.Terms.{Terms}
-use Rattle.donor_book.specs.Claims.{IsWithin, answer_to, first_free}
-use Rattle.donor_book.specs.Entries.{IsLegalHistory, entry_of, won_of, wins_of}
+use Rattle.donor_book.specs.Claims.{IsWithin, answer_to}
+use Rattle.donor_book.specs.Entries.{HasReplyAfter, IsLegalHistory, entry_of, won_of, wins_of}
 
 -- a shared book: which one it is, and its terms
 pub record BookName : Type 0 where
@@ -37,9 +37,13 @@ StartsWith history seen = (rest : List Won) × (history ≡ seen ++ rest)
 abbrev pub having_seen : PassState → List Won → PassState
 having_seen pass history = record { book = pass.book; seen = history; mine = pass.mine }
 
+-- the claim of this entry at this place of the history
+abbrev pub placed : ℕ → Entry → Placed
+placed place entry = record { place = place; entry = entry }
+
 -- the entry goes behind all that the pass had seen, and is one of its own claims
 abbrev pub Enters : PassState → Entry → PassState → Type 0
-Enters old entry new = (new.seen ≡ old.seen ++ won_of entry ∷ []) × (new.mine ≡ old.mine ++ record { place = length old.seen; entry = entry } ∷ [])
+Enters old entry new = (new.seen ≡ old.seen ++ won_of entry ∷ []) × (new.mine ≡ old.mine ++ placed (length old.seen) entry ∷ [])
 
 -- what an answer leaves in the pass: nothing more where the row had claimed before, and else the row's entry
 abbrev pub Leaves : PassState → ℕ → List ℕ → Claim → PassState → Type 0
@@ -47,10 +51,14 @@ Leaves old row ranking (claim.Given donor) new = Enters old (entry_of row rankin
 Leaves old row ranking claim.Nobody new = Enters old (entry_of row ranking None) new
 Leaves old row ranking (claim.Had reply) new = (new.seen ≡ old.seen) × (new.mine ≡ old.mine)
 
--- a claim is answered as after a history that begins with what the pass had seen, and leaves in the pass, which has seen that history, what its answer says
+-- a claim is answered as after a history that begins with what the pass had seen, and leaves in the pass, which has seen
+-- that history, what its answer says
 abbrev pub IsAnswered : PassState → ℕ → List ℕ → Claim → PassState → Type 0
 IsAnswered old row ranking answer new =
-    (history : List Won) × StartsWith history old.seen × (answer ≡ answer_to old.book.terms.limit history row ranking) × Leaves (having_seen old history) row ranking answer new
+    (history : List Won)
+    × StartsWith history old.seen
+    × (answer ≡ answer_to old.book.terms.limit history row ranking)
+    × Leaves (having_seen old history) row ranking answer new
 
 -- each claim of the pass is in what it has seen, at a place behind those of its earlier claims
 pub record ArePlaced (seen : List Won) (mine : List Placed) : Type 0 where
@@ -64,7 +72,7 @@ pub record IsSound (terms : Terms) (history : List Won) : Type 0 where
 
 -- the claim stands in the history at its place, with the reply that the claims before it leave to its ranking
 abbrev pub IsClaim : ℕ → List Won → Placed → Type 0
-IsClaim limit history m = (slice_get history m.place ≡ Some (won_of m.entry)) × (m.entry.reply ≡ first_free limit (take m.place history) m.entry.ranking)
+IsClaim limit history m = (slice_get history m.place ≡ Some (won_of m.entry)) × HasReplyAfter limit (take m.place history) m.entry
 
 -- how many of the claims are at this place
 abbrev pub claims_at : ℕ → List Placed → ℕ

@@ -1,5 +1,5 @@
 ghost use Rattle.std.specs.Prelude.{◌≡◌, ℕ, ◌<◌, ◌≤◌, ◌↔◌, ◌++◌, [], ◌∷◌, None, All, IfOk, option_map};
-ghost use Rattle.donor_book.specs.Claims.{IsDonor, answer_to, claim_of, first_free, uses_of};
+ghost use Rattle.donor_book.specs.Claims.{GetsNobody, IsDonor, answer_to, claim_of, first_free, uses_of};
 ghost use Rattle.donor_book.specs.Entries.{IsLegalHistory, history_after, wins_of, with_history};
 
 use crate::claim::{Claim, Entry, Won};
@@ -19,16 +19,14 @@ pub struct Book {
 }
 
 impl Model for Book {
-    ghost use Rattle.std.specs.Prelude.{◌≤◌, ◌<◌, ◌^◌, All, length};
-    ghost use Rattle.donor_book.specs.Claims.{IsWithin};
-    ghost use Rattle.donor_book.specs.Entries.{BookParts, IsLegalHistory, wins_of};
-    ghost use Rattle.donor_book.specs.inner.Indexes.{IsReplay, book_of};
+    ghost use Rattle.donor_book.specs.Entries.{BookParts};
+    ghost use Rattle.donor_book.specs.inner.Indexes.{KeepsBook, book_of};
 
     ghost Value = { BookParts };
 
     ghost view = { λ b. book_of b.limit b.uses.items b.replies.items b.history.items };
 
-    ghost invariant = { λ b. IsLegalHistory b.limit b.history.items × All (IsWithin (length b.uses.items) (length b.replies.items)) (wins_of b.history.items) × IsReplay (wins_of b.history.items) b.uses.items b.replies.items × (length b.replies.items ≤ b.history.cap) × (length b.replies.items < 2 ^ 32) };
+    ghost invariant = { λ b. KeepsBook b.limit b.uses.items b.replies.items b.history.items b.history.cap };
 }
 
 impl Book {
@@ -53,7 +51,7 @@ impl Book {
         requires row { row_no < self.old.rows }
         requires donors { All (λ donor. donor < self.old.donors) ranking.items }
         ensures answer { result ≡ answer_to self.old.limit (wins_of self.old.history) row_no ranking.items }
-        ensures nobody { result ≡ Claim.Nobody ↔ ((claim_of row_no (wins_of self.old.history) ≡ None) × All (λ donor. self.old.limit ≤ uses_of donor (wins_of self.old.history)) ranking.items) }
+        ensures nobody { result ≡ Claim.Nobody ↔ GetsNobody self.old.limit (wins_of self.old.history) row_no ranking.items }
         ensures entered { self.new ≡ with_history self.old (history_after self.old.history row_no ranking.items result) }
     {
         if let Some(reply) = self.reply_of(row_no) {

@@ -6,7 +6,7 @@ ghost use Rattle.donor_book.specs.Claims.{IsDonor, IsWithin, claim_of, first_fre
 ghost use Rattle.donor_book.specs.Entries.{entry_of};
 ghost use Rattle.donor_book.specs.Passes.{AreCollected, ArePlaced, Enters, IsAnswered, IsFresh, IsSound, IsWhole};
 ghost use Rattle.donor_book.specs.inner.Rule.{known};
-ghost use Rattle.donor_book.specs.inner.Tries.{HasTriedTo, Sees};
+ghost use Rattle.donor_book.specs.inner.Tries.{HasTriedTo, IsAt, Sees};
 
 use crate::claim::{Claim, Won};
 use crate::indexes::{first_below, no_replies, note};
@@ -26,14 +26,14 @@ pub struct SharedBook {
 }
 
 impl Model for SharedBook {
-    ghost use Rattle.std.specs.Prelude.{◌≡◌, ◌+◌, ◌<◌, ◌≤◌, ◌^◌, [], length};
     ghost use Rattle.donor_book.specs.Passes.{BookName};
+    ghost use Rattle.donor_book.specs.inner.Tries.{SharesBook};
 
     ghost Value = { BookName };
 
     ghost view = { λ b. record { table = b.table.shared.table_id; terms = b.terms } };
 
-    ghost invariant = { λ b. (b.table.shared.table_id.words ≡ b.terms.rows + 1) × (b.table.shared.table_id.slots ≡ 0) × (b.table.shared.key ≡ b.terms) × (0 < b.terms.passes) × (b.terms.rows + 1 < 2 ^ 32) × (b.terms.donors + 1 < 2 ^ 32) × (b.history.items ≡ []) × (b.terms.rows ≤ b.history.cap) };
+    ghost invariant = { λ b. SharesBook b.table.shared.table_id b.table.shared.key b.terms b.history.items b.history.cap };
 }
 
 /// A place at a shared book, from which one worker claims at a time. It may be sent to another thread.
@@ -47,15 +47,14 @@ pub struct Pass {
 }
 
 impl Model for Pass {
-    ghost use Rattle.std.specs.Prelude.{◌≡◌, ◌+◌, ◌<◌, ◌≤◌, ◌^◌, [], length};
-    ghost use Rattle.donor_book.specs.Passes.{ArePlaced, IsSound, PassState};
-    ghost use Rattle.donor_book.specs.inner.Indexes.{IsReplay};
+    ghost use Rattle.donor_book.specs.Passes.{PassState};
+    ghost use Rattle.donor_book.specs.inner.Tries.{KeepsPass, pass_of};
 
     ghost Value = { PassState };
 
-    ghost view = { λ p. record { book = record { table = p.seat.table_id; terms = p.terms }; seen = p.seat.me.0.seen; mine = p.seat.me.0.mine } };
+    ghost view = { λ p. pass_of p.seat.table_id p.terms p.seat.me.0 };
 
-    ghost invariant = { λ p. (p.seat.me.1 ≡ []) × (p.seat.me.0.passes ≡ 1) × (p.seat.me.0.heard ≡ []) × (p.seat.me.0.terms ≡ p.terms) × (p.terms.rows + 1 < 2 ^ 32) × (p.terms.donors + 1 < 2 ^ 32) × (p.len ≡ length p.seat.me.0.seen) × IsSound p.terms p.seat.me.0.seen × (length p.uses.items ≡ p.terms.donors) × (length p.replies.items ≡ p.terms.rows) × IsReplay p.seat.me.0.seen p.uses.items p.replies.items × ArePlaced p.seat.me.0.seen p.seat.me.0.mine };
+    ghost invariant = { λ p. KeepsPass p.seat.me p.terms p.len p.uses.items p.replies.items };
 }
 
 impl Pass {
@@ -222,7 +221,7 @@ impl SharedBook {
         claim: Won,
     ) -> u64
         requires entry { A.entry ≡ entry_of claim.row_no ranking.now claim.reply }
-        requires seat { (seat.old.table_id ≡ self.now.table) × (seat.old.me.1 ≡ []) × (seat.old.me.0.terms ≡ self.now.terms) × (0 < seat.old.me.0.passes) }
+        requires seat { IsAt self.now.table self.now.terms seat.old.table_id seat.old.me }
         requires at { (at ≡ length seat.old.me.0.seen) × (at < self.now.terms.rows + 1) }
         requires claim { IsWithin self.now.terms.donors self.now.terms.rows claim }
         requires first { claim_of claim.row_no seat.old.me.0.seen ≡ None }

@@ -23,8 +23,8 @@ use Rattle.elimination_bench.specs.inner.Differences.{count_of, differences, num
 use Rattle.elimination_bench.specs.inner.Folds.{answer_of, fold_answer, pairs_answer, steps_answer}
 use Rattle.elimination_bench.specs.inner.Texts.{IsTold, fold_text, step_text, system_fault_of}
 use Rattle.elimination_bench.specs.declared.differences.Differences.{Differences}
-use Rattle.elimination_bench.specs.declared.fault.Fault.{Fault}
-use Rattle.elimination_bench.specs.declared.fault.Fault.TheVariants.{OutOfMemory, Overflow, Usage}
+use Rattle.bench_frame.specs.declared.fault.Fault.{Fault}
+use Rattle.bench_frame.specs.declared.fault.Fault.TheVariants.{FileUnread, OutOfMemory, Overflow, Records, Rules, Unread, Usage}
 use Rattle.elimination_bench.proofs.DifferenceLaws.{are-edits}
 
 -- ---- the fields
@@ -130,6 +130,10 @@ steps-stop fault lines field count before whole below so_far told =
     by Overflow (Ok next) is = absurd (cc)
     by Overflow (Err overflow) is = refl
     by OutOfMemory r is = tt
+    by Rules r is = absurd is
+    by Records r is = absurd is
+    by FileUnread r is = absurd is
+    by Unread r is = absurd is
 
 -- the steps begin with all fields and no text
 pub steps-start : (system : Differences) (count : ℕ) (lines : List Derived) (edits : EditsParts) → edits ≡ edits_of (shape_with (numbers_of system)) (differences system (count_of system)) → lines ≡ reduce_derived (base_lines edits.lines)

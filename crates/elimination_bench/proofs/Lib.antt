@@ -2,4 +2,3 @@ mod DifferenceLaws
 mod FoldLaws
 mod ListingLaws
 mod NameLaws
-mod WordLaws

@@ -125,7 +125,7 @@ fn difference(alloc: Global, numbers: usize, i: usize, j: usize) -> Result<Vec<i
     Ok(factors)
 }
 
-/// A survey of so many numerical fields and a field of 8 codes.
+/// A survey of this many numerical fields and a field of 8 codes.
 pub fn survey_of(alloc: Global, numbers: usize) -> Result<Survey, OutOfMemory>
     requires { numbers ≤ 32 }
     ensures { IfOk result (λ survey. shape_of survey.fields ≡ shape_with numbers) }

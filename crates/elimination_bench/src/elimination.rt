@@ -1,32 +1,35 @@
-ghost use Rattle.std.specs.Prelude.{◌≡◌, ◌<◌, ◌≤◌, ◌++◌, [], ◌∷◌, ℕ, Ok, Err, IfOk, IfErr, length, string_bytes, true};
+ghost use Rattle.std.specs.Prelude.{◌≡◌, ◌<◌, ◌≤◌, ◌++◌, [], ◌∷◌, ℕ, Ok, Err, IfOk, IfErr, string_bytes, true};
 ghost use Rattle.std.specs.Arc.{arc_value};
 ghost use Rattle.edit_model.specs.FieldSets.{has_number};
 ghost use Rattle.linear_elim.specs.Answers.{Answers};
-ghost use Rattle.linear_elim.specs.Steps.{OneShape, pairs_count, step_result};
+ghost use Rattle.linear_elim.specs.Steps.{OneShape, step_result};
 ghost use Rattle.linear_elim.specs.Systems.{AreNumerical, system_at};
 ghost use Rattle.linear_elim.specs.Told.{told_system};
 ghost use Rattle.elimination_bench.specs.inner.Differences.{numbers_of};
-ghost use Rattle.elimination_bench.specs.inner.Folds.{fold_answer, pairs_answer, steps_answer};
-ghost use Rattle.elimination_bench.specs.inner.Texts.{IsTold, step_text};
+ghost use Rattle.elimination_bench.specs.inner.Folds.{fold_answer, pairs_answer, step_line, steps_answer};
+ghost use Rattle.elimination_bench.specs.inner.Texts.{IsTold, step_fault_of, system_fault_of};
 
 use crate::differences::Differences;
-use crate::fault::Fault;
+use bench_frame::Fault;
 use edit_line::{Derived, Edits};
 use edit_model::FieldSet;
 use foundation::Steps;
-use linear_elim::{System, SystemFault, fold_system, pairs, step};
+use linear_elim::{StepFault, System, SystemFault, fold_system, pairs, step};
 use std::alloc::Global;
 use std::marker::Brand;
 use std::sync::Arc;
 use std::sync::ledger::{Blank, Ledger};
 
-/// How many lines the system of the edits without the first so many fields has, as a line of text.
+/// How many lines the system of the edits has without its first fields, by their number, as a line of text.
 pub fn fold_text(alloc: Global, differences: Differences, count: u32) -> Result<String, Fault>
     requires { count ≤ numbers_of differences }
     ensures { IsTold result (fold_answer differences count) }
 {
     let edits = Arc::new(alloc, differences.edits(alloc)?)?;
-    let system = system_of(alloc, &edits, first_fields(count))?;
+    let system = match system_of(alloc, &edits, first_fields(count)) {
+        Ok(system) => system,
+        Err(fault) => return Err(system_fault(fault)),
+    };
     let given = edits.lines().len();
     let left = system.lines().len();
     Ok(format!(in alloc; "fields {count} edits {given} lines {left}\n")?)
@@ -56,14 +59,34 @@ fn take_step(
 ) -> Result<Vec<Derived>, Fault>
     requires { OneShape lines.now }
     ensures step { IfOk result (λ next. step_result lines.now field ≡ Ok next.items) }
-    ensures text { IfOk result (λ next. string_bytes text.new ≡ string_bytes text.old ++ step_text field (pairs_count lines.now field) (length next.items)) }
+    ensures text { IfOk result (λ next. string_bytes text.new ≡ string_bytes text.old ++ step_line lines.now field next.items) }
     ensures fault { IfErr result (λ fault. IsTold (Err fault) (steps_answer lines.now (field ∷ []))) }
 {
     let pairs = pairs(lines, field);
-    let next = step(alloc, lines, field)?;
+    let next = step(alloc, lines, field).map_err(step_fault)?;
     let left = next.len();
     text.push_str(format!(in alloc; "field {field} pairs {pairs} lines {left}\n")?.as_str())?;
     Ok(next)
+}
+
+// What is told of a system that is not made.
+fn system_fault(fault: SystemFault) -> Fault
+    ensures { result ≡ system_fault_of fault }
+{
+    match fault {
+        SystemFault::Overflow { .. } => Fault::Overflow,
+        SystemFault::OutOfMemory => Fault::OutOfMemory,
+    }
+}
+
+// What is told of a step that is not made.
+fn step_fault(fault: StepFault) -> Fault
+    ensures { result ≡ step_fault_of fault }
+{
+    match fault {
+        StepFault::Overflow { .. } => Fault::Overflow,
+        StepFault::OutOfMemory => Fault::OutOfMemory,
+    }
 }
 
 /// The system of the edits without the fields.
@@ -76,7 +99,7 @@ pub fn system_of(alloc: Global, edits: &Arc<Edits>, fields: FieldSet) -> Result<
     counted_system::<Brand>(alloc, edits, fields, Blank::new(1))
 }
 
-// The same, with a counter of its own.
+// The system of the edits without the fields, by a counter of its own.
 fn counted_system<L: Ledger>(
     alloc: Global,
     edits: &Arc<Edits>,
@@ -95,7 +118,7 @@ fn counted_system<L: Ledger>(
     fold_system(alloc, edits, fields, &mut steps)
 }
 
-// The set of the first so many fields.
+// The set of the first fields, by their number.
 fn first_fields(count: u32) -> FieldSet
     requires { count ≤ 64 }
     ensures only { (f : ℕ) → has_number result f ≡ true → f < count }

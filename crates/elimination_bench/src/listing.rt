@@ -39,7 +39,7 @@ impl Listing {
     }
 }
 
-/// Whether a list of so many steps over the generated edits is accepted, as a line of text.
+/// Whether a list of this many steps over the generated edits is accepted, as a line of text.
 pub fn steps_text(alloc: Global, listing: Listing, count: u64) -> Result<String, OutOfMemory>
     ensures { IfOk result (λ text. string_bytes text ≡ verdict_text count (first_refused listing count)) }
 {
@@ -49,7 +49,7 @@ pub fn steps_text(alloc: Global, listing: Listing, count: u64) -> Result<String,
     }
 }
 
-// The place of the first of so many steps that is not valid, if one is not.
+// The place of the first step that is not valid in a list of this many, if one is not.
 fn first_refused(alloc: Global, listing: Listing, count: u64) -> Result<Option<u64>, OutOfMemory>
     ensures { IfOk result (λ place. place ≡ first_refused listing count) }
 {

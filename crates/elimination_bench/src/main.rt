@@ -9,32 +9,25 @@ ghost use Rattle.elimination_bench.specs.inner.Told.{told_of};
 
 mod differences;
 mod elimination;
-mod fault;
 mod listing;
 mod words;
 
-use fault::Fault;
+use bench_frame::{Fault, after_program_name, leave};
 use std::alloc::Global;
 use std::process::ExitCode;
 use words::Task;
 
+// The words that are in form.
+const USAGE: &str = "usage: elimination_bench fold|pairs FIELDS [codes] | steps COUNT [sums]";
+
 fn main(rt: HostRuntime) -> ExitCode {
-    let (text, status) = match told(&rt, rt.alloc()) {
-        Ok(text) => (text, 0),
-        Err(fault) => match format!(in rt.alloc(); "{fault}\n") {
-            Ok(text) => (text, fault.status()),
-            Err(_) => return ExitCode::from(Fault::OutOfMemory.status()),
-        },
-    };
-    match rt.print(text.as_str()) {
-        Ok(()) => ExitCode::from(status),
-        Err(_) => ExitCode::from(6),
-    }
+    let told = told(&rt, rt.alloc());
+    leave(&rt, USAGE, told)
 }
 
 // What is printed of the words after the program's name.
 fn told<R: std::rt::Env + AllocGlobal>(rt: &R, alloc: Global) -> Result<String, Fault> {
-    let words = words::after_program_name(rt)?;
+    let words = after_program_name(rt)?;
     text_of(alloc, &words)
 }
 

@@ -5,40 +5,31 @@
 ghost use Rattle.std.specs.Prelude.{◌≡◌, IfOk, string_bytes};
 ghost use Rattle.proof_bench.specs.inner.Told.{IsTold, counts_text, fault_text};
 
-mod fault;
-mod words;
-
-use fault::Fault;
+use bench_frame::{Fault, after_program_name, leave};
 use proof_text::{Proof, ProofFault, read_proof};
 use std::alloc::Global;
 use std::fs;
 use std::io::ErrorKind;
 use std::process::ExitCode;
 
+// The words that are in form.
+const USAGE: &str = "usage: proof_bench FILE";
+
 fn main(rt: HostRuntime) -> ExitCode {
-    let (text, status) = match told(&rt, rt.alloc()) {
-        Ok(text) => (text, 0),
-        Err(fault) => match format!(in rt.alloc(); "{fault}\n") {
-            Ok(text) => (text, fault.status()),
-            Err(_) => return ExitCode::from(Fault::OutOfMemory.status()),
-        },
-    };
-    match rt.print(text.as_str()) {
-        Ok(()) => ExitCode::from(status),
-        Err(_) => ExitCode::from(6),
-    }
+    let told = told(&rt, rt.alloc());
+    leave(&rt, USAGE, told)
 }
 
 // What is printed of the file that the one word names.
 fn told(rt: &HostRuntime, alloc: Global) -> Result<String, Fault> {
-    let words = words::after_program_name(rt)?;
+    let words = after_program_name(rt)?;
     let [name] = words.as_slice() else {
         return Err(Fault::Usage);
     };
     match fs::read(rt, name) {
         Ok(bytes) => text_of(alloc, &bytes),
         Err(error) if error.kind() == ErrorKind::OutOfMemory => Err(Fault::OutOfMemory),
-        Err(_) => Err(Fault::Unread),
+        Err(_) => Err(Fault::FileUnread),
     }
 }
 

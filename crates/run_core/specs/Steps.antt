@@ -16,11 +16,18 @@ use Rattle.run_core.specs.declared.event.CoreReply.TheVariants as reply
 abbrev pub worker_at : CoreParts → ℕ → WorkerState
 worker_at state worker = slice_index_or state.workers worker idle
 
--- when an event may come: its worker is one of those that there are, a system is of the state's edits and has a number, and a claim is one of the book's
+-- the worker is one of those that there are
+abbrev pub IsWorker : CoreParts → ℕ → Type 0
+IsWorker state worker = worker < length state.workers
+
+-- when an event may come: its worker is one of those that there are, a system is of the state's edits and has a number,
+-- and a claim is one of the book's
 abbrev pub IsDue : CoreParts → CoreEvent → Type 0
-IsDue state (event.Draw worker) = worker < length state.workers
-IsDue state (event.Publish worker system) = (worker < length state.workers) × (system.edits ≡ state.edits) × (length state.published < 2 ^ 32 - 1)
-IsDue state (event.Claim worker row ranking) = (worker < length state.workers) × (row < state.book.rows) × All (λ donor. donor < state.book.donors) ranking
+IsDue state (event.Draw worker) = IsWorker state worker
+IsDue state (event.Publish worker system) =
+    IsWorker state worker × (system.edits ≡ state.edits) × (length state.published < 2 ^ 32 - 1)
+IsDue state (event.Claim worker row ranking) =
+    IsWorker state worker × (row < state.book.rows) × All (λ donor. donor < state.book.donors) ranking
 
 -- what a draw is answered
 abbrev pub drawn_by : CoreParts → ℕ → Option ℕ
@@ -36,27 +43,41 @@ reply_to state (event.Draw worker) = reply.Drew (drawn_by state worker)
 reply_to state (event.Publish worker system) = reply.Published (length state.published)
 reply_to state (event.Claim worker row ranking) = reply.Claimed (claimed_by state row ranking)
 
--- the same state with another next number and other workers
+-- the state with another next number and other workers
 abbrev pub with_draws : CoreParts → ℕ → List WorkerState → CoreParts
-with_draws state next workers = record { rows = state.rows; next = next; workers = workers; edits = state.edits; published = state.published; book = state.book }
+with_draws state next workers =
+    record { rows = state.rows; next = next; workers = workers; edits = state.edits; published = state.published; book = state.book }
 
--- the same state with another list of systems
+-- the state with another list of published systems
 abbrev pub with_published : CoreParts → List SystemParts → CoreParts
-with_published state published = record { rows = state.rows; next = state.next; workers = state.workers; edits = state.edits; published = published; book = state.book }
+with_published state published =
+    record { rows = state.rows; next = state.next; workers = state.workers; edits = state.edits; published = published; book = state.book }
 
--- the same state with another book
+-- the state with another book
 abbrev pub with_book : CoreParts → BookParts → CoreParts
-with_book state book = record { rows = state.rows; next = state.next; workers = state.workers; edits = state.edits; published = state.published; book = book }
+with_book state book =
+    record { rows = state.rows; next = state.next; workers = state.workers; edits = state.edits; published = state.published; book = book }
 
 -- the worker has the number that it was answered, or was told that none is left
-abbrev pub after_draw : CoreParts → ℕ → CoreParts
-after_draw state worker = with_draws state (next_after (worker_at state worker) state.next) (slice_set state.workers worker (having_drawn (worker_at state worker) (drawn_by state worker)))
+abbrev pub worker_after : CoreParts → ℕ → WorkerState
+worker_after state worker = having_drawn (worker_at state worker) (drawn_by state worker)
 
--- what an event leaves: a draw changes its worker alone, a system that is published stands at the end of the list, and a claim changes the book alone
+-- what a draw leaves
+abbrev pub after_draw : CoreParts → ℕ → CoreParts
+after_draw state worker =
+    with_draws state (next_after (worker_at state worker) state.next) (slice_set state.workers worker (worker_after state worker))
+
+-- the book after a claim
+abbrev pub book_after : CoreParts → ℕ → List ℕ → BookParts
+book_after state row ranking =
+    with_history state.book (history_after state.book.history row ranking (claimed_by state row ranking))
+
+-- what an event leaves: a draw changes its worker and the next number alone, a system that is published stands at the end
+-- of the list, and a claim changes the book alone
 abbrev pub after : CoreParts → CoreEvent → CoreParts
 after state (event.Draw worker) = after_draw state worker
 after state (event.Publish worker system) = with_published state (state.published ++ system ∷ [])
-after state (event.Claim worker row ranking) = with_book state (with_history state.book (history_after state.book.history row ranking (claimed_by state row ranking)))
+after state (event.Claim worker row ranking) = with_book state (book_after state row ranking)
 
 -- the event is a claim
 abbrev pub IsClaim : CoreEvent → Type 0

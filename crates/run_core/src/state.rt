@@ -33,7 +33,14 @@ impl Model for CoreState {
 
     ghost Value = { CoreParts };
 
-    ghost view = { λ c. record { rows = c.rows; next = c.next; workers = c.workers.items; edits = arc_value c.edits; published = c.published.items; book = c.book } };
+    ghost view = { λ c. record {
+      rows = c.rows;
+      next = c.next;
+      workers = c.workers.items;
+      edits = arc_value c.edits;
+      published = c.published.items;
+      book = c.book;
+    } };
 
     ghost invariant = { λ c. AreCounted c.rows c.next c.workers.items × (length c.workers.items < 2 ^ 32) };
 }

@@ -5,7 +5,7 @@ use Rattle.edit_model.specs.declared.field.Field.{Field}
 use Rattle.edit_model.specs.declared.value.Value.{Value}
 use Rattle.record_text.specs.declared.fault.SheetFault.{SheetFault}
 use Rattle.record_text.specs.declared.fault.SheetFault.TheVariants as sheet
-use Rattle.search_bench.specs.declared.fault.Fault.TheVariants as fault
+use Rattle.bench_frame.specs.declared.fault.Fault.TheVariants as fault
 use Rattle.search_bench.specs.inner.Texts.{sheet_fault_of}
 
 -- a fault that is told as one of the records is none of memory

@@ -4,39 +4,32 @@
 #![tactic(auto)]
 
 ghost use Rattle.std.specs.Prelude.{◌≡◌, ◌<◌, ◌^◌, Err, IfOk, length, string_bytes};
+ghost use Rattle.search_bench.specs.inner.Texts.{rules_fault_of, sheet_fault_of};
 ghost use Rattle.search_bench.specs.inner.Told.{HasNoRules, HasNoSheet, IsTold};
 
-mod fault;
 mod search;
 #[cfg(test)]
 mod tests;
-mod words;
 
-use edit_language::read_rules;
-use fault::Fault;
-use record_text::read_records;
+use bench_frame::{Fault, after_program_name, leave};
+use edit_language::{RulesFault, read_rules};
+use record_text::{SheetFault, read_records};
 use std::alloc::Global;
 use std::fs;
 use std::io::ErrorKind;
 use std::process::ExitCode;
 
+// The words that are in form.
+const USAGE: &str = "usage: search_bench RULES RECORDS";
+
 fn main(rt: HostRuntime) -> ExitCode {
-    let (text, status) = match told(&rt, rt.alloc()) {
-        Ok(text) => (text, 0),
-        Err(fault) => match format!(in rt.alloc(); "{fault}\n") {
-            Ok(text) => (text, fault.status()),
-            Err(_) => return ExitCode::from(Fault::OutOfMemory.status()),
-        },
-    };
-    match rt.print(text.as_str()) {
-        Ok(()) => ExitCode::from(status),
-        Err(_) => ExitCode::from(6),
-    }
+    let told = told(&rt, rt.alloc());
+    leave(&rt, USAGE, told)
 }
 
 // What is printed of the files that the words name.
 fn told(rt: &HostRuntime, alloc: Global) -> Result<String, Fault> {
-    let words = words::after_program_name(rt)?;
+    let words = after_program_name(rt)?;
     let [rules, records] = words.as_slice() else {
         return Err(Fault::Usage);
     };
@@ -64,7 +57,33 @@ fn text_of(alloc: Global, rules: &[u8], records: &[u8]) -> Result<String, Fault>
     ensures rules { result ≡ Err Fault.Rules → HasNoRules rules.now }
     ensures records { result ≡ Err Fault.Records → HasNoSheet rules.now records.now }
 {
-    let survey = read_rules(alloc, rules)?;
-    let sheet = read_records(alloc, &survey, records)?;
+    let survey = match read_rules(alloc, rules) {
+        Ok(survey) => survey,
+        Err(fault) => return Err(rules_fault(fault)),
+    };
+    let sheet = match read_records(alloc, &survey, records) {
+        Ok(sheet) => sheet,
+        Err(fault) => return Err(sheet_fault(fault)),
+    };
     Ok(search::search_text(alloc, &survey, &sheet)?)
+}
+
+// What is told of a rule file that is refused.
+fn rules_fault(fault: RulesFault) -> Fault
+    ensures { result ≡ rules_fault_of fault }
+{
+    match fault {
+        RulesFault::At { .. } => Fault::Rules,
+        RulesFault::OutOfMemory => Fault::OutOfMemory,
+    }
+}
+
+// What is told of a record file that is refused.
+fn sheet_fault(fault: SheetFault) -> Fault
+    ensures { result ≡ sheet_fault_of fault }
+{
+    match fault {
+        SheetFault::OutOfMemory => Fault::OutOfMemory,
+        _ => Fault::Records,
+    }
 }

@@ -72,7 +72,7 @@ pub fn outcome_of(
     counted_outcome::<Brand>(alloc, survey, edits, row, budget, Blank::new(1))
 }
 
-// The same, with a counter of its own.
+// What is found of a record within a budget of work, by a counter of its own.
 fn counted_outcome<L: Ledger>(
     alloc: Global,
     survey: &Survey,

@@ -19,14 +19,14 @@ pub struct Tickets {
 }
 
 impl Model for Tickets {
-    ghost use Rattle.std.specs.Prelude.{◌≡◌, ◌+◌, ◌<◌, ◌^◌};
     ghost use Rattle.ticket_row.specs.Tickets.{Issue};
+    ghost use Rattle.ticket_row.specs.inner.Hands.{IssuesTickets};
 
     ghost Value = { Issue };
 
     ghost view = { λ t. record { row = record { name = t.table.shared.table_id; count = t.count }; seats = t.table.shared.key.seats } };
 
-    ghost invariant = { λ t. (t.table.shared.table_id.words ≡ 1) × (t.table.shared.table_id.slots ≡ 0) × (t.table.shared.key.count ≡ t.count) × (0 < t.table.shared.key.seats) × (t.count + t.table.shared.key.seats < 2 ^ 32) };
+    ghost invariant = { λ t. IssuesTickets t.table.shared.table_id t.table.shared.key t.count };
 }
 
 /// A place at a row of tickets, from which one worker draws at a time. It may be sent to another thread.
@@ -37,17 +37,14 @@ pub struct Seat {
 }
 
 impl Model for Seat {
-    ghost use Rattle.std.specs.Prelude.{◌≡◌, ◌<◌, []};
-    ghost use Rattle.std.specs.List.{All};
-    ghost use Rattle.std.specs.List.Sorted.{IsStrictlyIncreasing};
     ghost use Rattle.ticket_row.specs.Tickets.{SeatState};
-    ghost use Rattle.ticket_row.specs.inner.Rule.{one_if};
+    ghost use Rattle.ticket_row.specs.inner.Hands.{KeepsSeat, seat_of};
 
     ghost Value = { SeatState };
 
-    ghost view = { λ s. record { row = record { name = s.place.table_id; count = s.place.me.0.count }; drawn = s.place.me.0.drawn; ended = s.ended } };
+    ghost view = { λ s. seat_of s.place.table_id s.place.me.0 s.ended };
 
-    ghost invariant = { λ s. (s.place.me.1 ≡ []) × (s.place.me.0.seats ≡ 1) × (s.place.me.0.ends ≡ one_if s.ended) × IsStrictlyIncreasing s.place.me.0.drawn × All (λ k. k < s.place.me.0.count) s.place.me.0.drawn };
+    ghost invariant = { λ s. KeepsSeat s.place.me s.ended };
 }
 
 impl Seat {

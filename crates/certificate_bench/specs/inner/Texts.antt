@@ -1,17 +1,5 @@
 use Rattle.std.specs.Prelude.{ℕ, ◌+◌, List, [], ◌∷◌, ◌++◌, Option, Some, None, codes}
 use Rattle.std.specs.Fmt.{decimal}
-use Rattle.certificate_bench.specs.declared.fault.Fault.{Fault}
-use Rattle.certificate_bench.specs.declared.fault.Fault.TheVariants.{OutOfMemory, Usage}
-
--- what is printed of a fault
-abbrev pub text_of : Fault → List ℕ
-text_of Usage = codes "usage: certificate_bench leaves DEPTH | steps COUNT [broken]"
-text_of OutOfMemory = codes "out of memory"
-
--- the exit status of a fault
-abbrev pub status_of : Fault → ℕ
-status_of Usage = 2
-status_of OutOfMemory = 7
 
 -- the number, from 1, of the step at this place, and 0 where no step is named
 abbrev pub step_number : Option ℕ → ℕ

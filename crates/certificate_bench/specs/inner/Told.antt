@@ -6,10 +6,11 @@ use Rattle.certificate_bench.specs.inner.Cases.{case_of}
 use Rattle.certificate_bench.specs.inner.Certificates.{leaves_of}
 use Rattle.certificate_bench.specs.inner.Texts.{accepted_text, refused_text}
 use Rattle.certificate_bench.specs.declared.certificate.Plan.{Plan}
-use Rattle.certificate_bench.specs.declared.fault.Fault.{Fault}
-use Rattle.certificate_bench.specs.declared.fault.Fault.TheVariants.{OutOfMemory, Usage}
+use Rattle.bench_frame.specs.declared.fault.Fault.{Fault}
+use Rattle.bench_frame.specs.declared.fault.Fault.TheVariants.{OutOfMemory, Usage}
 
--- the text says that these leaves are those of a valid tree, and they are; or it says where they are first at fault, and they are so there
+-- the text says that these leaves are those of a valid tree, and they are; or it says where they are first at fault,
+-- and they are so there
 abbrev pub IsVerdict : TreeCase → List Leaf → List ℕ → Type 0
 IsVerdict c leaves text =
     (IsValidTree c leaves × (text ≡ accepted_text (length leaves)))
@@ -21,3 +22,4 @@ IsTold (Ok text) (Some plan) = IsVerdict (case_of plan.depth) (leaves_of plan) (
 IsTold (Ok text) None = ⊥
 IsTold (Err Usage) plan = plan ≡ None
 IsTold (Err OutOfMemory) plan = ⊤
+IsTold (Err _) plan = ⊥

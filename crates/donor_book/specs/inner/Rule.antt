@@ -11,7 +11,7 @@ use Rattle.donor_book.specs.declared.rule.Placed.{Placed}
 use Rattle.donor_book.specs.declared.rule.Terms.{Terms}
 use Rattle.donor_book.specs.Claims.{IsWithin, claim_of}
 use Rattle.donor_book.specs.Entries.{entry_of, won_of}
-use Rattle.donor_book.specs.Passes.{IsClaim, StartsWith, claims_at}
+use Rattle.donor_book.specs.Passes.{IsClaim, StartsWith, claims_at, placed}
 
 -- nobody is 0, and a donor one more than its number
 abbrev pub code_of_reply : Option ℕ → ℕ
@@ -30,7 +30,7 @@ words_of terms history = map word_of history ++ replicate (terms.rows + 1 - leng
 abbrev pub known : Terms → ℕ → List Won → List Placed → Known
 known terms passes seen mine = record { terms = terms; passes = passes; seen = seen; mine = mine; heard = [] }
 
--- the same pass, which has seen this and has these claims
+-- the pass, when it has seen this and has these claims
 abbrev pub seeing : List Won → List Placed → Known → Known
 seeing seen mine k = record { terms = k.terms; passes = k.passes; seen = seen; mine = mine; heard = k.heard }
 
@@ -38,7 +38,8 @@ seeing seen mine k = record { terms = k.terms; passes = k.passes; seen = seen; m
 abbrev pub once_below : ℕ → ℕ → ℕ
 once_below place n = min 1 (n - place)
 
--- what a pass has seen or heard begins the history, and its claims stand in it. One that stands for no pass has no claims, and any other knows the terms
+-- what a pass has seen or heard begins the history, and its claims stand in it. One that stands for no pass has no
+-- claims, and any other knows the terms
 pub record IsFair (terms : Terms) (history : List Won) (k : Known) : Type 0 where
   pub seen : StartsWith history k.seen
   pub heard : All (StartsWith history) k.heard
@@ -68,13 +69,22 @@ no_entry = entry_of 0 [] None
 
 -- the entry goes behind all that the pass had seen
 abbrev pub with_entry : Entry → Known → Known
-with_entry entry k = seeing (k.seen ++ won_of entry ∷ []) (k.mine ++ record { place = length k.seen; entry = entry } ∷ []) k
+with_entry entry k = seeing (k.seen ++ won_of entry ∷ []) (k.mine ++ placed (length k.seen) entry ∷ []) k
 
--- the word was 0, and the entry was entered; or it is a claim of another, of a row that is new to the pass, which was seen
+-- the word is a claim of another, of a row that is new to the pass, which is seen
+abbrev pub SeesAnother : Me (Unit {0}) Known → ℕ → Me (Unit {0}) Known → Type 0
+SeesAnother old found new =
+    (x : Won)
+    × (word_of x ≡ found)
+    × IsWithin old.0.terms.donors old.0.terms.rows x
+    × (claim_of x.row_no old.0.seen ≡ None)
+    × (new ≡ (seeing (old.0.seen ++ x ∷ []) old.0.mine old.0, old.1))
+
+-- the word was 0, and the entry was entered; or it is a claim of another, which was seen
 abbrev pub HasTried : Entry → Step (Unit {0}) → Me (Unit {0}) Known → ℕ → Me (Unit {0}) Known → Type 0
 HasTried entry step old found new =
     MatchBool (found == 0) (new ≡ (with_entry entry old.0, old.1))
-    ((x : Won) × (word_of x ≡ found) × IsWithin old.0.terms.donors old.0.terms.rows x × (claim_of x.row_no old.0.seen ≡ None) × (new ≡ (seeing (old.0.seen ++ x ∷ []) old.0.mine old.0, old.1)))
+    (SeesAnother old found new)
 
 -- what is left where a pass is split off
 abbrev pub without_a_pass : Known → Known
@@ -86,7 +96,13 @@ new_known k = known k.terms 1 [] []
 
 -- a pass that takes in another stands for both, has the claims of both, and has heard what the other had seen
 abbrev pub both_known : Known → Known → Known
-both_known k other = record { terms = k.terms; passes = k.passes + other.passes; seen = k.seen; mine = k.mine ++ other.mine; heard = k.heard ++ other.seen ∷ other.heard }
+both_known k other = record {
+  terms = k.terms;
+  passes = k.passes + other.passes;
+  seen = k.seen;
+  mine = k.mine ++ other.mine;
+  heard = k.heard ++ other.seen ∷ other.heard;
+}
 
 -- the terms of a pass that was taken in
 abbrev pub no_terms : Terms

@@ -1,6 +1,7 @@
 use Rattle.std.specs.Prelude.{ℕ, ◌+◌, ◌-◌, ◌%◌, ◌==◌, true, List, Option, Some, None, Result, Ok, Err, map, pos, replicate, if◌then◌else◌}
 use Rattle.std.specs.List.{range_with_len}
 use Rattle.edit_line.specs.Lines.{LineParts}
+use Rattle.edit_model.specs.declared.value.Value.{Value}
 use Rattle.edit_model.specs.declared.value.Value.TheVariants.{Bad}
 use Rattle.derivation.specs.Premises.{Premises, premises_of}
 use Rattle.derivation.specs.ValidSteps.{steps_result}
@@ -26,16 +27,20 @@ steps_of listing count = map (λ place. step_at listing place) (range_with_len 0
 abbrev pub generated_lines : List LineParts
 generated_lines = map (λ (e : ℕ × LineParts). e.1) (differences Plain (count_of Plain))
 
+-- a record of which nothing is known
+abbrev pub unknown_values : List Value
+unknown_values = replicate (numbers_of Plain + 1) Bad
+
 -- these lines, all usable, and a record of which nothing is known and no field is kept
 abbrev pub generated_premises : Premises
-generated_premises = premises_of (shape_with (numbers_of Plain)) generated_lines (replicate (count_of Plain) true) (replicate (numbers_of Plain + 1) Bad) 0
+generated_premises = premises_of (shape_with (numbers_of Plain)) generated_lines (replicate (count_of Plain) true) unknown_values 0
 
 -- the place of the first step that is not valid, if one is not
 abbrev pub refused_at : Result Proved ℕ → Option ℕ
 refused_at (Ok proved) = None
 refused_at (Err place) = Some place
 
--- the same of so many steps of a listing over the generated edits
+-- the place of the first step that is not valid among the first steps of a listing over the generated edits
 abbrev pub first_refused : Listing → ℕ → Option ℕ
 first_refused listing count = refused_at (steps_result generated_premises (steps_of listing count))
 

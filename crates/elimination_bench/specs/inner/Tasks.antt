@@ -1,6 +1,5 @@
-use Rattle.std.specs.Prelude.{ℕ, ◌≤◌, ◌^◌, ◌&&◌, List, [], ◌∷◌, Option, Some, None, codes, bytes_eq, length, nat_le, if◌then◌else◌}
-use Rattle.std.specs.Str.{all_ascii_digits}
-use Rattle.std.specs.Str.Parse.{digits_value}
+use Rattle.std.specs.Prelude.{ℕ, ◌≤◌, ◌^◌, ◌&&◌, List, [], ◌∷◌, Option, Some, None, codes, bytes_eq, nat_le, if◌then◌else◌}
+use Rattle.bench_frame.specs.Numbers.{number_in}
 use Rattle.elimination_bench.specs.inner.Differences.{numbers_of}
 use Rattle.elimination_bench.specs.declared.differences.Differences.{Differences}
 use Rattle.elimination_bench.specs.declared.differences.Differences.TheVariants.{Coded, Plain}
@@ -9,11 +8,8 @@ use Rattle.elimination_bench.specs.declared.listing.Listing.TheVariants.{Given, 
 use Rattle.elimination_bench.specs.declared.words.Task.{Task}
 use Rattle.elimination_bench.specs.declared.words.Task.TheVariants.{Fold, Pairs, Steps}
 
--- the number that a text of one decimal digit or more spells, if it is at most this
-abbrev pub number_in : List ℕ → ℕ → Option ℕ
-number_in text most = if nat_le 1 (length text) && (all_ascii_digits text && nat_le (digits_value 10 text) most) then Some (digits_value 10 text) else None
-
--- the task of the verb over the system without so many of its fields; the pairs of each step are told of one step at least
+-- the task of the verb over the system without its first fields, by their number; the pairs of each step are told of
+-- one step at least
 abbrev pub task_over : List ℕ → Differences → ℕ → Option Task
 task_over verb system count =
     if bytes_eq verb (codes "fold")
@@ -30,16 +26,17 @@ abbrev pub listed : Listing → Option ℕ → Option Task
 listed listing None = None
 listed listing (Some count) = Some (Steps listing count)
 
--- the task of the words `fold FIELDS` or `pairs FIELDS`, with `codes` behind it for lines with drawn sets of codes, or of `steps COUNT`, with `sums` behind it for steps that combine lines
+-- the task of the words `fold FIELDS` or `pairs FIELDS`, with `codes` behind it for lines with drawn sets of codes, or
+-- of `steps COUNT`, with `sums` behind it for steps that combine lines
 abbrev pub task_in : List (List ℕ) → Option Task
 task_in (verb ∷ count ∷ []) =
     if bytes_eq verb (codes "steps")
-    then listed Given (number_in count (10 ^ 7))
-    else served verb Plain (number_in count (numbers_of Plain))
+    then listed Given (number_in count 0 (10 ^ 7))
+    else served verb Plain (number_in count 0 (numbers_of Plain))
 task_in (verb ∷ count ∷ kind ∷ []) =
     if bytes_eq verb (codes "steps") && bytes_eq kind (codes "sums")
-    then listed Sums (number_in count (10 ^ 7))
-    else if bytes_eq kind (codes "codes") then served verb Coded (number_in count (numbers_of Coded)) else None
+    then listed Sums (number_in count 0 (10 ^ 7))
+    else if bytes_eq kind (codes "codes") then served verb Coded (number_in count 0 (numbers_of Coded)) else None
 task_in _ = None
 
 -- the system has so many fields to eliminate, and a step to show where steps are asked for

@@ -1,24 +1,12 @@
 use Rattle.std.specs.Prelude.{◌≡◌, ⊤, ℕ, List, [], ◌∷◌, ◌++◌, Result, Ok, Err, codes, string_bytes, String}
 use Rattle.std.specs.Fmt.{decimal}
 use Rattle.std.specs.declared.alloc.Global.{Global}
-use Rattle.elimination_bench.specs.declared.fault.Fault.{Fault}
-use Rattle.elimination_bench.specs.declared.fault.Fault.TheVariants.{OutOfMemory, Overflow, Usage}
+use Rattle.bench_frame.specs.declared.fault.Fault.{Fault}
+use Rattle.bench_frame.specs.declared.fault.Fault.TheVariants.{OutOfMemory, Overflow, Usage}
 use Rattle.linear_elim.specs.declared.fault.StepFault.{StepFault}
 use Rattle.linear_elim.specs.declared.fault.StepFault.TheVariants as step
 use Rattle.linear_elim.specs.declared.fault.SystemFault.{SystemFault}
 use Rattle.linear_elim.specs.declared.fault.SystemFault.TheVariants as system
-
--- what is printed of a fault
-abbrev pub text_of : Fault → List ℕ
-text_of Usage = codes "usage: elimination_bench fold|pairs FIELDS [codes] | steps COUNT [sums]"
-text_of Overflow = codes "a number of a combination is out of range"
-text_of OutOfMemory = codes "out of memory"
-
--- the exit status of a fault
-abbrev pub status_of : Fault → ℕ
-status_of Usage = 2
-status_of Overflow = 4
-status_of OutOfMemory = 7
 
 -- the fault that is told of a step
 abbrev pub step_fault_of : StepFault → Fault
@@ -36,19 +24,22 @@ IsTold (Ok text) answer = answer ≡ Ok (string_bytes text)
 IsTold (Err Usage) answer = answer ≡ Err Usage
 IsTold (Err Overflow) answer = answer ≡ Err Overflow
 IsTold (Err OutOfMemory) answer = ⊤
+IsTold (Err _) answer = ⊥
 
 -- what is printed of a fold: without how many fields, how many edits there were, and how many lines are left
 abbrev pub fold_text : ℕ → ℕ → ℕ → List ℕ
-fold_text count given left = codes "fields " ++ (decimal count ++ (codes " edits " ++ (decimal given ++ (codes " lines " ++ (decimal left ++ 10 ∷ [])))))
+fold_text count given left =
+    codes "fields " ++ (decimal count ++ (codes " edits " ++ (decimal given ++ (codes " lines " ++ (decimal left ++ 10 ∷ [])))))
 
 -- what is printed of a step: its field, the pairs that it combines, and the lines that are left
 abbrev pub step_text : ℕ → ℕ → ℕ → List ℕ
-step_text field pairs left = codes "field " ++ (decimal field ++ (codes " pairs " ++ (decimal pairs ++ (codes " lines " ++ (decimal left ++ 10 ∷ [])))))
+step_text field pairs left =
+    codes "field " ++ (decimal field ++ (codes " pairs " ++ (decimal pairs ++ (codes " lines " ++ (decimal left ++ 10 ∷ [])))))
 
--- what is printed of so many steps that are all valid
+-- what is printed of a list of this many steps that are all valid
 abbrev pub accepted_text : ℕ → List ℕ
 accepted_text count = codes "steps " ++ (decimal count ++ (codes " accepted" ++ 10 ∷ []))
 
--- what is printed of so many steps, of which the one at this place is the first that is not valid
+-- what is printed of a list of this many steps, of which the one at the place is the first that is not valid
 abbrev pub refused_text : ℕ → ℕ → List ℕ
 refused_text count place = codes "steps " ++ (decimal count ++ (codes " refused at place " ++ (decimal place ++ 10 ∷ [])))

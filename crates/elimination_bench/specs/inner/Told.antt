@@ -1,8 +1,8 @@
 use Rattle.std.specs.Prelude.{ℕ, List, Option, Some, None, Result, Ok, Err}
 use Rattle.elimination_bench.specs.inner.Folds.{fold_answer, pairs_answer}
 use Rattle.elimination_bench.specs.inner.Listings.{first_refused, verdict_text}
-use Rattle.elimination_bench.specs.declared.fault.Fault.{Fault}
-use Rattle.elimination_bench.specs.declared.fault.Fault.TheVariants.{Usage}
+use Rattle.bench_frame.specs.declared.fault.Fault.{Fault}
+use Rattle.bench_frame.specs.declared.fault.Fault.TheVariants.{Usage}
 use Rattle.elimination_bench.specs.declared.words.Task.{Task}
 use Rattle.elimination_bench.specs.declared.words.Task.TheVariants.{Fold, Pairs, Steps}
 

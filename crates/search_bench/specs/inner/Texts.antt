@@ -11,26 +11,10 @@ use Rattle.bound_cert.specs.declared.outcome.Outcome.{Outcome}
 use Rattle.bound_cert.specs.declared.outcome.Outcome.TheVariants.{Budget, Change, Contradictory, Overflow}
 use Rattle.edit_paths.specs.Cases.{case_of}
 use Rattle.edit_paths.specs.Outcomes.{outcome_of}
-use Rattle.search_bench.specs.declared.fault.Fault.{Fault}
-use Rattle.search_bench.specs.declared.fault.Fault.TheVariants as fault
+use Rattle.bench_frame.specs.declared.fault.Fault.{Fault}
+use Rattle.bench_frame.specs.declared.fault.Fault.TheVariants as fault
 
 -- ---- faults
-
--- what is printed of a fault
-abbrev pub text_of : Fault → List ℕ
-text_of fault.Usage = codes "usage: search_bench RULES RECORDS"
-text_of fault.Rules = codes "the rule file has no reading"
-text_of fault.Records = codes "the record file has no reading"
-text_of fault.Unread = codes "a file could not be read"
-text_of fault.OutOfMemory = codes "out of memory"
-
--- the exit status of a fault
-abbrev pub status_of : Fault → ℕ
-status_of fault.Usage = 2
-status_of fault.Rules = 3
-status_of fault.Records = 4
-status_of fault.Unread = 5
-status_of fault.OutOfMemory = 7
 
 -- the fault that a refused rule file is
 abbrev pub rules_fault_of : RulesFault → Fault

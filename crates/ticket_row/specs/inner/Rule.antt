@@ -21,13 +21,15 @@ one_if false = 0
 abbrev pub once_below : ℕ → ℕ → ℕ
 once_below x n = min 1 (n - x)
 
--- a hand met the end at most once for each seat that it stands for. One that stands for none has drawn nothing, and any other knows the count
+-- a hand met the end at most once for each seat that it stands for. One that stands for none has drawn nothing, and any
+-- other knows the count
 pub record IsFair (count : ℕ) (hand : Hand) : Type 0 where
   pub few_ends : hand.ends ≤ hand.seats
   pub idle : hand.seats ≡ 0 → hand.drawn ≡ []
   pub knows : 0 < hand.seats → hand.count ≡ count
 
--- after n draws the hands stand for all seats, hold each number that is below n and the count once and no other, and met the end as often as there were draws past the count
+-- after n draws the hands stand for all seats, hold each number that is below n and the count once and no other, and met
+-- the end as often as there were draws past the count
 pub record EachOnce (count seats n : ℕ) (hands : List Hand) : Type 0 where
   pub seats_are : sum_by (λ (hand : Hand). hand.seats) hands ≡ seats
   pub drawn : (x : ℕ) → sum_by (λ (hand : Hand). times x hand.drawn) hands ≡ once_below x (min n count)
@@ -42,9 +44,17 @@ AreTickets terms state = (n : ℕ) × (state.words ≡ n ∷ []) × EachOnce ter
 abbrev pub first_hand : Terms → Hand
 first_hand terms = hand_with terms.count terms.seats [] 0
 
+-- a draw that takes this number
+abbrev pub with_number : ℕ → Hand → Hand
+with_number number hand = hand_with hand.count hand.seats (hand.drawn ++ number ∷ []) hand.ends
+
+-- a draw that meets the end
+abbrev pub with_end : Hand → Hand
+with_end hand = hand_with hand.count hand.seats hand.drawn (hand.ends + 1)
+
 -- a draw of a number below the count takes it, and any other draw meets the end
 abbrev pub drew : ℕ → Hand → Hand
-drew number hand = if nat_lt number hand.count then hand_with hand.count hand.seats (hand.drawn ++ number ∷ []) hand.ends else hand_with hand.count hand.seats hand.drawn (hand.ends + 1)
+drew number hand = if nat_lt number hand.count then with_number number hand else with_end hand
 
 -- what a draw tells: the number that it found is greater than all that the seat drew before
 abbrev pub HasDrawn : Step (Unit {0}) → Me (Unit {0}) Hand → ℕ → Me (Unit {0}) Hand → Type 0

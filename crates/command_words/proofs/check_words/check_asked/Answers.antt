@@ -1,38 +1,21 @@
-use Rattle.std.proofs.Common.{◌∙◌, arith, sym}
-use Rattle.std.specs.Prelude.{codes}
-use Rattle.std.proofs.lemmas.Slice.Eq.{bytes_eq-Decides}
 use Rattle.command_words.specs.Asked.{CheckAsked, GiveCheck}
 use Rattle.command_words.specs.Options.{Pairs}
-use Rattle.command_words.proofs.AskedLaws.{command_check, command_is, check_command, if_none, if_some, is_command, one_check, options_even, options_given, not_both, true_unless}
+use Rattle.command_words.proofs.AskedLaws.{given_of, if_none, if_some, one_check}
 use Rattle.command_words.proofs.check_words.check_asked.Goals as goal
-use Rattle.command_words.proofs.check_words.check_asked.Goals.{then-ne-via-then-ne, then-ne-via-else-ne+then-options-ne0}
 
 abbrev gives : CheckAsked → Pairs → Type 0
 gives asked pairs = GiveCheck pairs asked
 
-pub returns-then-ne-clause-none : goal.returns-then-ne-clause-none
-returns-then-ne-clause-none c = λ asked is.
-    let command = check_command _ asked is in
-    elim c.then-ne.branch [
-      | then-ne-via-then-ne w ↦
-          let same = (bytes_eq-Decides c.as_str.result.now (codes "check")).1 (c.as_str.ensures.value ∙ command_is c.args.words.now c.in_ok-command.command.now c.in_ok-command.options.now c.in_ok-command.ensures.cases.0 _ (gives asked) command) in
-          not_both _ c.ne.result c.ne.ensures w.if-ne.true same
-      | then-ne-via-else-ne+then-options-ne0 w ↦
-          let even = options_even c.args.words.now c.in_ok-command.command.now c.in_ok-command.options.now c.in_ok-command.ensures.cases.0 _ (gives asked) command in let odd = w.if-options-ne0.true in omega (arith, even, odd)
-    ]
+pub returns-in_err-options-clause-none : goal.returns-in_err-options-clause-none
+returns-in_err-options-clause-none c = rw c.from_residual.ensures (λ asked is. c.in_err-options.ensures.none is.pairs is.form)
 
 pub returns-clause-some : goal.returns-clause-some
-returns-clause-some c =
-    let command = (bytes_eq-Decides c.as_str.result.now (codes "check")).0 (true_unless _ (sym c.if-ne.ensures)) in
-    if_some c.check_options.result (λ asked given. command_check _ asked
-    (is_command c.args.words.now c.in_ok-command.command.now c.in_ok-command.options.now c.in_ok-command.ensures.cases.0 (codes "check") (gives asked) (sym c.as_str.ensures.value ∙ command) c.if-options-ne0.false given)) c.check_options.ensures.some
+returns-clause-some c = if_some c.check_options.result (λ asked given. record { pairs = _; form = c.in_ok-options.ensures.some; options = given }) c.check_options.ensures.some
 
 pub returns-clause-only : goal.returns-clause-only
 returns-clause-only c =
-    if_some c.check_options.result (λ asked given other is.
-    one_check _ other asked (options_given c.args.words.now c.in_ok-command.command.now c.in_ok-command.options.now c.in_ok-command.ensures.cases.0 _ (gives other) (check_command _ other is)) given) c.check_options.ensures.some
+    if_some c.check_options.result (λ asked given other is. one_check _ other asked (given_of (gives other) c.in_ok-options.ensures.some is) given) c.check_options.ensures.some
 
 pub returns-clause-none : goal.returns-clause-none
 returns-clause-none c =
-    if_none c.check_options.result (λ unasked asked is.
-    unasked asked (options_given c.args.words.now c.in_ok-command.command.now c.in_ok-command.options.now c.in_ok-command.ensures.cases.0 _ (gives asked) (check_command _ asked is))) c.check_options.ensures.none
+    if_none c.check_options.result (λ unasked asked is. unasked asked (given_of (gives asked) c.in_ok-options.ensures.some is)) c.check_options.ensures.none

@@ -7,7 +7,7 @@ use Rattle.linear_elim.proofs.ShapeLaws.{OneShape-have}
 use Rattle.elimination_bench.specs.inner.Differences.{numbers_of, shape_with}
 use Rattle.elimination_bench.specs.inner.Folds.{pairs_answer, steps_answer}
 use Rattle.elimination_bench.specs.inner.Texts.{IsTold, step_text}
-use Rattle.elimination_bench.specs.declared.fault.Fault.{Fault}
+use Rattle.bench_frame.specs.declared.fault.Fault.{Fault}
 use Rattle.elimination_bench.proofs.FoldLaws.{start-over, steps-end, steps-more, steps-start, steps-stop, told-handed}
 use Rattle.elimination_bench.proofs.elimination.pairs_text.Goals as goal
 

@@ -1,5 +1,5 @@
-use Rattle.certificate_bench.proofs.WordLaws.{no-plus, number-read, number-refused}
-use Rattle.certificate_bench.proofs.words.number_in.Goals as goal
+use Rattle.bench_frame.proofs.WordLaws.{no-plus, number-read, number-refused}
+use Rattle.bench_frame.proofs.words.number_in.Goals as goal
 
 pub returns-in_default : goal.returns-in_default
 returns-in_default c =
