@@ -8,8 +8,9 @@ const RULES: &[u8] = b"number A\ncode B in {x, y}\nif B in {x} then 3 A <= 7\n";
 
 const RECORDS: &[u8] = b"id,A,B\n1, 02.0 ,x\n2,3, x\n3,9,y\n";
 
-const PROOF: &[u8] =
-    b"fh-proof 1\nlimit 1 near 5 budget 1000000\nlines 1\nkeep\nrecords 3\nclean\nchange 1 CK 3\nbox KK 3\ngiven 1\nfail 1\nfix 2 2\nbound KC\nbound C\nclean\nclaims 1\nclaim 2 1 1 3\nend\n";
+const PROOF: &[u8] = b"fh-proof 1\nlimit 1 near 5 budget 1000000\nlines 1\nkeep\nrecords 3\nclean\n\
+    change 1 CK 3\nbox KK 3\ngiven 1\nfail 1\nfix 2 2\n\
+    bound KC\nbound C\nclean\nclaims 1\nclaim 2 1 1 3\nend\n";
 
 /// Released files, and what is answered. The change stands on line 7, the clean records on lines 6 and 14.
 const FILES: &[(&[u8], Answer)] = &[

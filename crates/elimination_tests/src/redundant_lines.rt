@@ -28,13 +28,16 @@ const VERDICTS: &[(&[u8], u64, &[u8])] = &[
     ),
     // a child is single, who is single is no spouse: so a child is none
     (
-        b"code Age in {child, adult}\ncode Status in {single, married}\ncode Rel in {spouse, other}\nif Age in {child} then Status in {single}\nif Status in {single} then Rel in {other}\nif Age in {child} then Rel in {other}\n",
+        b"code Age in {child, adult}\ncode Status in {single, married}\ncode Rel in {spouse, other}\n\
+        if Age in {child} then Status in {single}\nif Status in {single} then Rel in {other}\nif Age in {child} then Rel in {other}\n",
         BUDGET,
         b"nnd",
     ),
     // without F, the number at G would be 10^45
     (
-        b"number B\nnumber C\nnumber D\nnumber E\nnumber F\nnumber G\nnumber H\nB >= 1\n1000000000 C >= 999999999 B\n1000000000 D >= 999999999 C\n1000000000 E >= 999999999 D\n1000000000 F >= 999999999 E\n1000000000 G >= 999999999 F\nH >= 0\n",
+        b"number B\nnumber C\nnumber D\nnumber E\nnumber F\nnumber G\nnumber H\nB >= 1\n\
+        1000000000 C >= 999999999 B\n1000000000 D >= 999999999 C\n1000000000 E >= 999999999 D\n\
+        1000000000 F >= 999999999 E\n1000000000 G >= 999999999 F\nH >= 0\n",
         BUDGET,
         b"nnnnnno",
     ),

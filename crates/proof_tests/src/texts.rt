@@ -29,7 +29,8 @@ end
 const ROWS: &[&[u8]] = &[
     b"clean\n",
     b"change 1 KKC 4\nline KKK 1\ngiven 3\nbound KKC\nbound KC\nbound C\n",
-    b"change 1 CKK 6\nbox KK 4\ngiven 1\nfail 1\nfix 1 2\nfix 2 3\nbox KCK 7\ngiven 2\nfail 1\ngiven 1\nfail 3\nfix 1 4\ncover 2 2 5\nfix 3 6\nbound KCC\nbound CKK\nbound CKC\nbound CC\n",
+    b"change 1 CKK 6\nbox KK 4\ngiven 1\nfail 1\nfix 1 2\nfix 2 3\n\
+    box KCK 7\ngiven 2\nfail 1\ngiven 1\nfail 3\nfix 1 4\ncover 2 2 5\nfix 3 6\nbound KCC\nbound CKK\nbound CKC\nbound CC\n",
     b"contradictory 2\nline K 1\ngiven 1\nline C 3\ngiven 1\ngiven 2\ncombine 1 1 2 1 2\n",
     b"step KCCCC 1 2 1\n",
     b"test - 7 2\n",
@@ -39,8 +40,8 @@ const ROWS: &[&[u8]] = &[
 ];
 
 /// The steps that drop the second of two lines of a trade survey.
-const DROPPED: &[u8] =
-    b"drop 9\ngiven 1\ngiven 4\ncombine 1 1 2 1 1\ngiven 6\ncombine 3 1 4 1 1\ngiven 5\ncombine 6 1 2 3 1\ncombine 7 1 4 3 2\ncombine 5 1 8 1 1\n";
+const DROPPED: &[u8] = b"drop 9\ngiven 1\ngiven 4\ncombine 1 1 2 1 1\ngiven 6\ncombine 3 1 4 1 1\n\
+    given 5\ncombine 6 1 2 3 1\ncombine 7 1 4 3 2\ncombine 5 1 8 1 1\n";
 
 /// Whether the text is read, and what is read is written as the text.
 fn is_read_and_written(alloc: Global, text: &[u8]) -> Result<bool, OutOfMemory> {

@@ -47,7 +47,8 @@ fn the_least_kind_of_the_first_faulty_line_is_told(rt: HostRuntime) -> Result<()
             (b"code B weight 0 in {x, y, x}", 1, 6),
             (b"number A\ncode B in {x}\nif 0.5 A = 0 then B in {x}", 3, 7),
             (
-                b"code B in {a,b,c,d,e,f,g,h,i,j,k,l,m,n,o,p,q,r,s,t,u,v,w,x,y,z,A,B,C,D,E,F,G,H,I,J,K,L,M,N,O,P,Q,R,S,T,U,V,W,X,Y,Z,0,1,2,3,4,5,6,7,8,9,_,-,.}",
+                b"code B in {a,b,c,d,e,f,g,h,i,j,k,l,m,n,o,p,q,r,s,t,u,v,w,x,y,z,\
+                A,B,C,D,E,F,G,H,I,J,K,L,M,N,O,P,Q,R,S,T,U,V,W,X,Y,Z,0,1,2,3,4,5,6,7,8,9,_,-,.}",
                 1,
                 8,
             ),
