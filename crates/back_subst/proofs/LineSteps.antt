@@ -1,7 +1,6 @@
-use Rattle.std.proofs.Common.{◌≡◌, ◌≢◌, ℕ, zero, suc, ◌+◌, ◌<◌, ◌≤◌, ◌==◌, ◌||◌, ◌&&◌, not, Bool, true, false, if◌then◌else◌, List, [], ◌∷◌, Option, Some, None, Result, Ok, Err, IfOk, OnOk, OnErr, drop, get_or, length, slice_set, ℤ, pos, int_lt, refl, sym, ap, ◌∙◌, arith}
+use Rattle.std.proofs.Common.{◌≡◌, ◌≢◌, ℕ, zero, suc, ◌+◌, ◌<◌, ◌≤◌, ◌&&◌, not, Bool, true, false, if◌then◌else◌, List, [], ◌∷◌, Option, Some, None, Result, Ok, Err, IfOk, OnOk, OnErr, drop, get_or, length, slice_set, ℤ, pos, int_lt, refl, sym, ap, ◌∙◌, arith}
 use lib.IntN.{neg_ℤ}
 use Rattle.std.specs.Ordering.{int_eq}
-use Rattle.std.specs.List.{position}
 use Rattle.std.proofs.Math.Seq.{drop-cons}
 use Rattle.std.proofs.lemmas.Bool.Decides.{Decides-int_eq}
 use Rattle.std.proofs.lemmas.Int.{ints}
@@ -21,35 +20,16 @@ use Rattle.edit_line.specs.CodeFields.{codes_in}
 use Rattle.edit_line.specs.Lines.{LineParts, factor}
 use Rattle.edit_line.specs.Reductions.{lines_of}
 use Rattle.edit_line.specs.Sets.{are_codes_in}
-use Rattle.edit_line.specs.Shapes.{Domain, has_field, number_fields, place_in}
+use Rattle.edit_line.specs.Shapes.{Domain, number_fields, place_in}
 use Rattle.edit_line.specs.Sums.{sum_at}
 use Rattle.edit_line.specs.declared.derived.Derived.{Derived}
 use Rattle.linear_elim.proofs.ColumnLaws.{beside-place}
-use Rattle.derivation.proofs.CodePlaces.{place-found, there-has}
 use Rattle.back_subst.specs.NumberWalk.{FoundBounds, bound_at, bounds_from, found_at, is_bounding, value_in, with_found}
 use Rattle.back_subst.specs.inner.Sides.{with_line}
 
 -- The bounds of lines, as the code gathers them.
 
 -- ---- places
-
-pub place-some : (fields : List ℕ) (f place : ℕ) → position (λ i. i == f) fields ≡ Some place → place ≡ place_in fields f
-place-some fields f place found = (there-has fields f place (sym (place-found fields f) ∙ found)).1
-
-pub place-none : (fields : List ℕ) (f : ℕ) → position (λ i. i == f) fields ≡ None → length fields ≡ place_in fields f
-place-none fields f none = past fields (absent (has_field fields f) refl)
-  where
-    absent : (b : Bool) → has_field fields f ≡ b → b ≡ false
-    absent false e = refl
-    absent true e = absurd (cc (sym none ∙ place-found fields f ∙ ap (λ b. if b then Some (place_in fields f) else None) e))
-
-    past : (fields : List ℕ) → has_field fields f ≡ false → length fields ≡ place_in fields f
-    past [] h = refl
-    past (i ∷ fields) h = by (i == f) h (past fields)
-      where
-        by : (b : Bool) → (b || has_field fields f) ≡ false → (has_field fields f ≡ false → length fields ≡ place_in fields f) → suc (length fields) ≡ (if b then 0 else suc (place_in fields f))
-        by true e rest = absurd (cc)
-        by false e rest = ap suc (rest e)
 
 -- the factor that stands at the field's place
 pub factor-at : (shape : List Domain) (line : LineParts) (f place : ℕ) → line.shape ≡ shape → length line.factors ≡ length (number_fields line.shape) → place ≡ place_in (number_fields shape) f → get_or line.factors place (pos 0) ≡ factor line f

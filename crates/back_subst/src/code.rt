@@ -13,9 +13,8 @@ ghost use Rattle.back_subst.specs.Given.{IsGivenCode};
 ghost use Rattle.back_subst.specs.inner.Codes.{IsFirstFree, IsFree, is_free_at, settled_for};
 ghost use Rattle.back_subst.specs.inner.UnderWay.{AreSettled, CanSettle, HasFreeCode, IsCodeFor};
 
-use crate::line_bounds::place_among;
 use categ_combine::{BoxFault, BoxFrom, Covered, boxes_of, cat_step, fix};
-use edit_line::{Derived, Shape, has_code};
+use edit_line::{Derived, Shape, has_code, place_among};
 use edit_model::{Row, Survey, Value};
 use foundation::OutOfMemory;
 use std::alloc::Global;

@@ -135,7 +135,8 @@ fn with_codes<S: Systems, L: Ledger>(
     requires donor { IsDonorRecord survey.now (option_copied donor) }
     requires served { S.serves source.old (arc_value edits.now) }
     requires order { (orders : AreOrders survey.now.fields codes.now numbers.now) × (orders.changed ≡ changed) }
-    ensures given { IfOk result (λ r. IsGiving survey.now (arc_value edits.now) (option_copied donor.entry) row.now codes.now numbers.now r) }
+    ensures given { IfOk result (λ r. IsGiving survey.now (arc_value edits.now)
+        (option_copied donor.entry) row.now codes.now numbers.now r) }
     ensures serves { (e : EditsParts) → S.serves source.old e → S.serves source.new e }
     ensures keeps { (f : ℕ) → S.keeps source.old f ≡ true → S.keeps source.new f ≡ true }
 {

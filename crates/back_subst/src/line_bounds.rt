@@ -1,6 +1,5 @@
 //! The bounds that the lines of a system give to a numerical field of a record.
-ghost use Rattle.std.specs.Prelude.{◌≡◌, ◌≢◌, ◌<◌, ◌==◌, pos, All, length, map};
-ghost use Rattle.std.specs.List.{position};
+ghost use Rattle.std.specs.Prelude.{◌≡◌, ◌≢◌, ◌<◌, pos, All, length, map};
 ghost use lib.IntN.{neg_ℤ};
 ghost use Rattle.foundation.specs.Options.{◌>>?◌};
 ghost use Rattle.fraction128.specs.Formulas.{answered, divided};
@@ -18,7 +17,7 @@ ghost use Rattle.back_subst.specs.inner.Sides.{bounds_told, ends_of, with_line};
 
 use crate::bound::{Bound, Bounds};
 use crate::value::code_of;
-use edit_line::{Derived, Line, has_code, value_at};
+use edit_line::{Derived, Line, has_code, place_among, value_at};
 use edit_model::{Row, Survey};
 use fraction128::{Fraction, Overflow};
 
@@ -37,23 +36,6 @@ pub fn bounds_of(survey: &Survey, lines: &[Derived], row: &Row, field: u32) -> R
         bounds = with_line(survey, &derived.line, i as u64, row, field, place, bounds)?;
     }
     Ok(bounds)
-}
-
-/// The field's place in the list, past the end where it is not there.
-pub(crate) fn place_among(fields: &[u32], field: u32) -> usize
-    ensures { result ≡ place_in fields.now field }
-{
-    match first_place(fields, field) {
-        Some(place) => place,
-        None => fields.len(),
-    }
-}
-
-// The first place of the field in the list, if it is there.
-fn first_place(fields: &[u32], field: u32) -> Option<usize>
-    ensures { result ≡ position (λ i. i == field) fields.now }
-{
-    fields.iter().position(|f| *f == field)
 }
 
 // The bounds with that of the line at place `i`, if it gives one.

@@ -28,7 +28,8 @@ pub(crate) fn new_values(
     requires row { IsRow checking.now.survey.now.fields row.now }
     requires within { All (λ column. column < length texts.now) checking.now.columns.now }
     ensures values { IfOk result (λ found. IfSome found (λ v. AreNewValues checking.now row.now path.now texts.now v.items)) }
-    ensures only { IfOk result (λ found. OfNewValues checking.now row.now path.now texts.now (λ new. IsSomeAnd found (λ v. v.items ≡ new))) }
+    ensures only { IfOk result (λ found. OfNewValues checking.now row.now path.now texts.now (λ new. IsSomeAnd found (λ v. v.items
+        ≡ new))) }
 {
     let count = checking.survey.fields().len();
     let mut values = Vec::with_capacity(alloc, count)?;

@@ -1,6 +1,8 @@
-use Rattle.std.specs.Prelude.{◌≡◌, ℕ, List, All, map}
+use Rattle.std.specs.Prelude.{◌≡◌, ◌↔◌, All, List, map, ℕ}
 use Rattle.std.specs.List.Sorted.{IsStrictlyIncreasing}
-use Rattle.edit_line.specs.Lines.{IsLine, LineParts}
+use Rattle.edit_model.specs.Points.{HasCodesFrom, IsConsistent, Point}
+use Rattle.edit_model.specs.Parts.{SurveyParts}
+use Rattle.edit_line.specs.Lines.{AllHold, IsLine, LineParts}
 use Rattle.edit_line.specs.Reductions.{lines_of, reduce_derived}
 use Rattle.edit_line.specs.Shapes.{Domain}
 use Rattle.edit_line.specs.declared.derived.Derived.{Derived}
@@ -23,6 +25,11 @@ edits_of shape lines = record { shape = shape; lines = lines }
 -- the edits as lines, without their numbers
 abbrev pub lines_without : List (ℕ × LineParts) → List LineParts
 lines_without edits = map (λ (e : ℕ × LineParts). e.1) edits
+
+-- a point with codes of the survey meets the edits exactly where it meets all rules
+abbrev pub SayTheRules : SurveyParts → EditsParts → Type 0
+SayTheRules survey edits = (p : Point)
+    → (HasCodesFrom 0 survey.fields p × AllHold (lines_without edits.lines) p) ↔ IsConsistent survey p
 
 -- the numbered edits as lines with their origins
 abbrev pub base_lines : List (ℕ × LineParts) → List Derived

@@ -1,6 +1,5 @@
-ghost use Rattle.std.specs.Prelude.{◌≡◌, ◌≤◌, ◌↔◌, IfOk, length, map};
-ghost use Rattle.edit_model.specs.Points.{HasCodesFrom, IsConsistent, Point};
-ghost use Rattle.edit_line.specs.Lines.{AllHold};
+ghost use Rattle.std.specs.Prelude.{◌≡◌, ◌≤◌, IfOk, length, map};
+ghost use Rattle.edit_line.specs.EditSets.{SayTheRules};
 ghost use Rattle.edit_normal.specs.RuleEdits.{placed_from, rule_edits};
 
 use crate::normal::normal_lines;
@@ -14,8 +13,7 @@ use std::alloc::Global;
 /// of the survey meets them exactly where it meets all rules.
 pub fn rule_edits(alloc: Global, survey: &Survey) -> Result<Edits, OutOfMemory>
     ensures edits { IfOk result (λ edits. edits ≡ rule_edits survey.now) }
-    ensures same { IfOk result (λ edits. (p : Point)
-        → (HasCodesFrom 0 survey.now.fields p × AllHold (map (λ e. e.1) edits.lines) p) ↔ IsConsistent survey.now p) }
+    ensures same { IfOk result (λ edits. SayTheRules survey.now edits) }
 {
     let _rules = survey.rules(); // read for what it says: they are in form, and at most 500
     let lines = placed(alloc, normal_lines(alloc, survey)?)?;

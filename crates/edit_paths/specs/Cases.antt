@@ -1,11 +1,11 @@
-use Rattle.std.specs.Prelude.{◌≡◌, ◌↔◌, ℕ, Bool, true, false, List, All, Some, map, slice_get, slice_index_or}
+use Rattle.std.specs.Prelude.{◌≡◌, ◌↔◌, ℕ, Bool, true, false, List, All, Some, slice_get, slice_index_or}
 use Rattle.edit_model.specs.Corrections.{IsCorrection}
 use Rattle.edit_model.specs.Parts.{SurveyParts}
 use Rattle.edit_model.specs.Points.{HasCodesFrom, Point}
 use Rattle.edit_model.specs.Rows.{IsRow}
 use Rattle.edit_model.specs.Surveys.{IsField}
 use Rattle.edit_model.specs.declared.value.Value.{Value}
-use Rattle.edit_line.specs.EditSets.{EditsParts, IsReducedOf, base_lines}
+use Rattle.edit_line.specs.EditSets.{EditsParts, IsReducedOf, base_lines, lines_without}
 use Rattle.edit_line.specs.Lines.{AllHold, LineParts}
 use Rattle.edit_line.specs.Reductions.{IsIn, reduce_derived}
 use Rattle.edit_line.specs.Shapes.{shape_of}
@@ -34,7 +34,7 @@ AreGiven given usable edits =
 
 -- the edits as lines, without their numbers
 abbrev pub edit_lines : Case → List LineParts
-edit_lines c = map (λ (e : ℕ × LineParts). e.1) c.edits
+edit_lines c = lines_without c.edits
 
 -- the point has a code of its domain at each categorical field, and all edits hold there
 pub record Meets (c : Case) (p : Point) : Type 0 where

@@ -1,6 +1,7 @@
 -- An edit of a sheet whose records all have corrections in reach releases them all.
 use Rattle.std.proofs.Common.{◌≡◌, ℕ, List, [], ◌∷◌, Option, Some, None, IsSome, option_map, inl, inr, refl, sym, arith}
 use Rattle.std.specs.List.{AllByRecursion, AllZip}
+use Rattle.edit_release.proofs.GuaranteeLaws.{edit-says}
 use Rattle.edit_model.specs.Corrections.{IsCorrection}
 use Rattle.edit_model.specs.Parts.{SurveyParts}
 use Rattle.edit_model.specs.Points.{Point}
@@ -44,4 +45,4 @@ by-status ends answer (inl (done, all)) given = done
 by-status ends answer (inr (some, not)) given = absurd (not given)
 
 pub whole-released : WholeLaw
-whole-released survey s terms answer written p edit correction reach = by-status edit.ends answer edit.ended (all-given survey terms.budget s.rows p correction s.rows edit.ends reach edit.edit.each edit.edit.say)
+whole-released survey s terms answer written p edit correction reach = by-status edit.ends answer edit.ended (all-given survey terms.budget s.rows p correction s.rows edit.ends reach edit.edit.each (edit-says survey s terms edit.ends edit.history written edit.edit))

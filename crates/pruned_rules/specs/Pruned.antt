@@ -1,9 +1,7 @@
 -- The lines of a survey's rules that are kept, and why the others are dropped.
-use Rattle.std.specs.Prelude.{◌↔◌, ℕ, Bool, List, map}
+use Rattle.std.specs.Prelude.{ℕ, Bool, List, map}
 use Rattle.edit_model.specs.Parts.{SurveyParts}
-use Rattle.edit_model.specs.Points.{HasCodesFrom, IsConsistent, Point}
 use Rattle.edit_line.specs.EditSets.{EditsParts, edits_of}
-use Rattle.edit_line.specs.Lines.{AllHold, LineParts}
 use Rattle.edit_line.specs.Shapes.{shape_of}
 use Rattle.edit_normal.specs.RuleLines.{normal_lines_of}
 use Rattle.redundancy.specs.Verdicts.{is_kept, usable_from, verdicts_of}
@@ -24,8 +22,3 @@ rule_flags survey = map is_kept (rule_verdicts survey)
 -- the edits that records are searched by: the lines that are kept, each numbered by its place among all
 abbrev pub kept_edits : SurveyParts → EditsParts
 kept_edits survey = edits_of (shape_of survey.fields) (usable_from 0 (normal_lines_of survey) (rule_flags survey))
-
--- a point with codes of the survey meets the edits exactly where it meets all rules
-abbrev pub SayTheRules : SurveyParts → EditsParts → Type 0
-SayTheRules survey edits =
-    (p : Point) → (HasCodesFrom 0 survey.fields p × AllHold (map (λ (e : ℕ × LineParts). e.1) edits.lines) p) ↔ IsConsistent survey p

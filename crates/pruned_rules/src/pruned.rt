@@ -1,7 +1,8 @@
 ghost use Rattle.std.specs.Prelude.{◌≡◌, ◌≤◌, ◌++◌, ◌∷◌, [], IfOk, OnOk, if◌then◌else◌, length, map};
+ghost use Rattle.edit_line.specs.EditSets.{SayTheRules};
 ghost use Rattle.edit_normal.specs.RuleLines.{normal_lines_of};
 ghost use Rattle.redundancy.specs.Verdicts.{AllFollow, AreNeeded, AreRefuted, is_kept, usable_from};
-ghost use Rattle.pruned_rules.specs.Pruned.{SayTheRules, kept_edits, rule_verdicts};
+ghost use Rattle.pruned_rules.specs.Pruned.{kept_edits, rule_verdicts};
 
 use edit_line::{Edits, Line};
 use edit_model::Survey;

@@ -1,14 +1,11 @@
-ghost use Rattle.std.specs.Prelude.{◌≡◌, ◌↔◌, ◌<◌, IfOk, map};
-ghost use Rattle.std.specs.Arc.{arc_value};
+ghost use Rattle.std.specs.Prelude.{◌≡◌, ◌<◌, IfOk};
 ghost use Rattle.std.specs.List.{AllByRecursion, AllZip};
-ghost use Rattle.edit_line.specs.Lines.{AllHold};
+ghost use Rattle.edit_line.specs.EditSets.{SayTheRules};
 ghost use Rattle.edit_line.specs.Shapes.{shape_of};
 ghost use Rattle.edit_model.specs.PlainNumbers.{HasPlain};
-ghost use Rattle.edit_model.specs.Points.{HasCodesFrom, IsConsistent, Point};
 ghost use Rattle.edit_model.specs.Rows.{IsRow};
 ghost use Rattle.donor_measure.specs.Measures.{Measures};
 ghost use Rattle.donor_measure.specs.Yardsticks.{yardsticks_of};
-ghost use Rattle.donor_search.specs.CleanRows.{donors_of};
 ghost use Rattle.record_workers.specs.Donations.{AreDonations};
 ghost use Rattle.record_workers.specs.Ends.{IsEndOf};
 ghost use Rattle.record_workers.specs.Said.{Says};
@@ -45,7 +42,7 @@ pub fn edit_records<F: Fn(u32, &Value, &Value) -> u64>(
     terms: Terms,
 ) -> Result<Edited, OutOfMemory>
     requires over { edits.shape ≡ shape_of survey.now.fields }
-    requires same { (p : Point) → (HasCodesFrom 0 survey.now.fields p × AllHold (map (λ e. e.1) edits.lines) p) ↔ IsConsistent survey.now p }
+    requires same { SayTheRules survey.now edits }
     requires rows { AllByRecursion (IsRow survey.now.fields) sheet.now.rows }
     requires plain { AllByRecursion HasPlain sheet.now.rows }
     requires measures { Measures F.Fn measure.now.closure measure.now.yardsticks }
@@ -71,7 +68,7 @@ fn edited_of<F: Fn(u32, &Value, &Value) -> u64, L: Ledger>(
     requires parts { blank.parts ≡ L.parts }
     requires counts { 0 < blank.parts }
     requires over { edits.shape ≡ shape_of survey.now.fields }
-    requires same { (p : Point) → (HasCodesFrom 0 survey.now.fields p × AllHold (map (λ e. e.1) edits.lines) p) ↔ IsConsistent survey.now p }
+    requires same { SayTheRules survey.now edits }
     requires rows { AllByRecursion (IsRow survey.now.fields) sheet.now.rows }
     requires plain { AllByRecursion HasPlain sheet.now.rows }
     requires measures { Measures F.Fn measure.now.closure measure.now.yardsticks }

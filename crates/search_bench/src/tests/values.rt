@@ -1,11 +1,10 @@
 //! The values that the changed fields of worked records are given, and how each was found.
 
-ghost use Rattle.std.specs.Prelude.{◌≡◌, ◌↔◌, ◌<◌, IfOk, map, option_copied};
+ghost use Rattle.std.specs.Prelude.{◌≡◌, ◌<◌, IfOk, option_copied};
 ghost use Rattle.std.specs.Arc.{arc_value};
 ghost use Rattle.std.specs.List.{list_any};
-ghost use Rattle.edit_model.specs.Points.{HasCodesFrom, IsConsistent, Point};
+ghost use Rattle.edit_line.specs.EditSets.{SayTheRules};
 ghost use Rattle.edit_model.specs.Rows.{IsRow, is_bad};
-ghost use Rattle.edit_line.specs.Lines.{AllHold};
 ghost use Rattle.edit_line.specs.Shapes.{shape_of};
 ghost use Rattle.back_subst.specs.Gifts.{CanGive, IsDonorRecord};
 
@@ -107,8 +106,7 @@ const SMALL_VALUES: &[Worked] = &[
 /// The edits of the survey, which hold exactly at the consistent points.
 fn edits_of(alloc: Global, survey: &Survey) -> Result<Arc<Edits>, Fail>
     ensures shape { IfOk result (λ edits. (arc_value edits).shape ≡ shape_of survey.now.fields) }
-    ensures same { IfOk result (λ edits. (p : Point)
-        → (HasCodesFrom 0 survey.now.fields p × AllHold (map (λ e. e.1) (arc_value edits).lines) p) ↔ IsConsistent survey.now p) }
+    ensures same { IfOk result (λ edits. SayTheRules survey.now (arc_value edits)) }
 {
     match rule_edits(alloc, survey) {
         Ok(edits) => Ok(Arc::new(alloc, edits)?),
@@ -125,8 +123,7 @@ fn changed_in(
 ) -> Result<FieldSet, Fail>
     requires row { IsRow survey.now.fields row.now }
     requires shape { (arc_value edits.now).shape ≡ shape_of survey.now.fields }
-    requires same { (p : Point)
-        → (HasCodesFrom 0 survey.now.fields p × AllHold (map (λ e. e.1) (arc_value edits.now).lines) p) ↔ IsConsistent survey.now p }
+    requires same { SayTheRules survey.now (arc_value edits.now) }
     ensures { IfOk result (λ changed. CanGive survey.now (arc_value edits.now) row.now changed) }
 {
     let _fields = survey.fields(); // read for what they say: the fields and the edits are in form
