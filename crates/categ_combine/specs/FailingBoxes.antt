@@ -22,8 +22,8 @@ line_fault i f = record { line = i; field = f }
 abbrev pub boxes_from : ℕ → List LineParts → List Value → List (List ℕ) → Result (List (List ℕ)) LineFault
 boxes_from i [] row kept = Ok kept
 boxes_from i (line ∷ lines) row kept = do
-    fails ← fault_as (line_fault i) (fails_at line row)
-    boxes_from (suc i) lines row (if fails then with_box kept line.sets else kept)
+  fails ← fault_as (line_fault i) (fails_at line row)
+  boxes_from (suc i) lines row (if fails then with_box kept line.sets else kept)
 
 -- the boxes of a record: the sets of the lines that fail there, reduced; or the first line whose sum leaves the range
 abbrev pub failing_boxes : List LineParts → List Value → Result (List (List ℕ)) LineFault
@@ -39,5 +39,5 @@ taken kept i line fails = if fails then with_from kept (from_of line.shape line.
 abbrev pub failing_from : ℕ → List Derived → List Value → List BoxFrom → Result (List BoxFrom) LineFault
 failing_from i [] row kept = Ok kept
 failing_from i (d ∷ lines) row kept = do
-    fails ← fault_as (line_fault i) (fails_at d.line row)
-    failing_from (suc i) lines row (taken kept i d.line fails)
+  fails ← fault_as (line_fault i) (fails_at d.line row)
+  failing_from (suc i) lines row (taken kept i d.line fails)

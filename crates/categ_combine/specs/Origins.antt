@@ -40,7 +40,7 @@ ComesFromFix shape boxes f code box (Failing i) = ⊥
 ComesFromFix shape boxes f code box (Unchanged i) = IsUnchanged shape boxes f i box
 ComesFromFix shape boxes f code box (Fixed i) =
     IsSomeAnd (slice_get boxes i) (λ (b : BoxFrom).
-        (has_code_at (place_of shape f) code b.code_box.sets ≡ true) × (box ≡ whole_box shape f b.code_box.sets))
+    (has_code_at (place_of shape f) code b.code_box.sets ≡ true) × (box ≡ whole_box shape f b.code_box.sets))
 ComesFromFix shape boxes f code box (Cover parts) = ⊥
 
 -- the boxes at these places, one for each code from this one on, have each its code, and have the last sets in common with the first ones
@@ -48,7 +48,7 @@ abbrev pub HaveInCommon : List BoxFrom → ℕ → ℕ → List ℕ → List ℕ
 HaveInCommon boxes place code [] sets common = common ≡ sets
 HaveInCommon boxes place code (i ∷ parts) sets common =
     IsSomeAnd (slice_get boxes i) (λ (b : BoxFrom). (has_code_at place code b.code_box.sets ≡ true)
-        × HaveInCommon boxes place (suc code) parts (meets sets b.code_box.sets) common)
+    × HaveInCommon boxes place (suc code) parts (meets sets b.code_box.sets) common)
 
 -- there is one part for each code of the field, which has it, and the box is what the parts have in common, made whole at the field; no set of it is empty
 pub record IsCover (shape : List Domain) (boxes : List BoxFrom) (f : ℕ) (parts : List ℕ) (box : BoxParts) : Type 0 where

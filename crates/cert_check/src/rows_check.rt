@@ -31,7 +31,8 @@ pub(crate) fn rows_fault(
     requires long { AllByRecursion (λ texts. length texts ≡ length records.now.header) records.now.raws }
     requires as_long { AllByRecursion (λ texts. length texts ≡ length records.now.header) released.now.raws }
     requires few { length (flat_map row_lines saids.now) < 2 ^ 64 }
-    ensures { IfOk result (λ found. FindsAmong (rules_in checking.now) saids.now records.now.raws records.now.rows released.now.raws found) }
+    ensures { IfOk result (λ found. FindsAmong
+        (rules_in checking.now) saids.now records.now.raws records.now.rows released.now.raws found) }
 {
     let mut offset = 0;
     let mut next = 0;

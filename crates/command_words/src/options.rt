@@ -9,7 +9,8 @@ const MOST_DIGITS: usize = 10;
 
 /// The options behind a command, where the words are this command and pairs of an option and its value. No memory.
 pub(crate) fn options_of<'a>(command: &str, words: &'a [String]) -> Option<&'a [String]>
-    ensures some { IfSome result (λ options. map string_bytes words.now ≡ command.now ∷ words_of (pairs_of (map string_bytes options.now))) }
+    ensures some { IfSome result (λ options. map string_bytes words.now
+        ≡ command.now ∷ words_of (pairs_of (map string_bytes options.now))) }
     ensures none { IfNone result ((pairs : Pairs) → map string_bytes words.now ≢ command.now ∷ words_of pairs) }
 {
     let (first, options) = words.split_first()?;
@@ -84,7 +85,8 @@ fn found_next<'a>(
     name: &str,
     value: &'a str,
 ) -> Option<Option<&'a str>>
-    ensures once { IfSome result (λ next. values_found next ≡ values_found found.entry ++ values_of option.now ((name.now, value.now) ∷ [])) }
+    ensures once { IfSome result (λ next. values_found next ≡ values_found found.entry
+        ++ values_of option.now ((name.now, value.now) ∷ [])) }
     ensures again { IfNone result (1 < length (values_found found.entry ++ values_of option.now ((name.now, value.now) ∷ []))) }
 {
     if name != option {

@@ -127,8 +127,8 @@ proved_by p earlier (step.Fix field part) = fixed_box p earlier field part
 abbrev pub proved_from : Premises → List Proved → List Step → Result (List Proved) ℕ
 proved_from p earlier [] = Ok earlier
 proved_from p earlier (step ∷ steps) = do
-    proved ← ok_or (proved_by p earlier step) (length earlier)
-    proved_from p (earlier ++ proved ∷ []) steps
+  proved ← ok_or (proved_by p earlier step) (length earlier)
+  proved_from p (earlier ++ proved ∷ []) steps
 
 -- the last one, and place 0 where there is none
 abbrev pub last_from : Option Proved → List Proved → Result Proved ℕ

@@ -204,7 +204,8 @@ impl SharedBook {
         requires free { claim.reply ≡ first_free self.now.terms.limit pass.old.seen ranking.now }
         ensures book { pass.new.book ≡ pass.old.book }
         ensures placed { ArePlaced pass.new.seen pass.new.mine }
-        ensures tried { MatchBool result (Enters pass.old (entry_of claim.row_no ranking.now claim.reply) pass.new) (Sees pass.old pass.new) }
+        ensures tried { MatchBool result (Enters pass.old (entry_of claim.row_no ranking.now claim.reply) pass.new)
+            (Sees pass.old pass.new) }
     {
         let found = self.enter::<Brand>(&mut pass.seat, pass.len, ranking, claim);
         note(&mut pass.uses, &mut pass.replies, read(found, claim));

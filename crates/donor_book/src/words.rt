@@ -38,7 +38,8 @@ pub fn word(claim: Won) -> u64
 
 // The claim of a word that a try found, where 0 stands for the claim that was tried.
 pub fn read(found: u64, claim: Won) -> Won
-    requires { MatchBool (found == 0) (Unit {0}) ((x : Won) × (word_of x ≡ found) × (x.row_no + 1 < 2 ^ 32) × IsDonor (2 ^ 32 - 1) x.reply) }
+    requires { MatchBool (found == 0) (Unit {0}) ((x : Won) × (word_of x ≡ found) × (x.row_no + 1 < 2 ^ 32)
+        × IsDonor (2 ^ 32 - 1) x.reply) }
     ensures { IsRead claim found result }
 {
     if found == 0 {

@@ -34,7 +34,8 @@ pub fn ranking<F: Fn(u32, &Value, &Value) -> u64>(
     ensures few { IfOk result (λ ranking. length ranking.items ≤ near) }
     ensures among { IfOk result (λ ranking. All (Contains deck.now) ranking.items) }
     ensures once { IfOk result (λ ranking. IsDistinct nat_eq ranking.items) }
-    ensures nearest { IfOk result (λ ranking. AreFirst (nearer_to measure.now.yardsticks sheet.now.rows row.now kept) ranking.items deck.now) }
+    ensures nearest { IfOk result (λ ranking. AreFirst
+        (nearer_to measure.now.yardsticks sheet.now.rows row.now kept) ranking.items deck.now) }
 {
     let mut nearest = Vec::new(alloc);
     for donor in deck.rows() {
@@ -66,7 +67,8 @@ fn rank<F: Fn(u32, &Value, &Value) -> u64>(
     requires donor { IsRankable measure.now.yardsticks sheet.now.rows kept donor }
     requires few { length best.old.items ≤ near }
     requires order { IsInOrder is_before best.old.items }
-    ensures { OnOk result (Ranks (distance_to measure.now.yardsticks sheet.now.rows row.now kept) near donor best.old.items best.new.items) }
+    ensures { OnOk result (Ranks
+        (distance_to measure.now.yardsticks sheet.now.rows row.now kept) near donor best.old.items best.new.items) }
 {
     let values = sheet.row(donor);
     match farthest(best, near) {

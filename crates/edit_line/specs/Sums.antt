@@ -37,8 +37,8 @@ next_sum a v sum = if int_eq a (pos 0) then Some sum else sum_with sum a v
 -- the sum so far, and the factors times the record's numbers at their fields, in declared order; or the first field at which a number leaves the range
 abbrev pub sum_from : List ℕ → List ℤ → List Value → Ratio → Result Ratio ℕ
 sum_from (f ∷ fields) (a ∷ factors) row sum = do
-    next ← ok_or (next_sum a (value_of row f) sum) f
-    sum_from fields factors row next
+  next ← ok_or (next_sum a (value_of row f) sum) f
+  sum_from fields factors row next
 sum_from _ _ row sum = Ok sum
 
 -- a whole number, over 1

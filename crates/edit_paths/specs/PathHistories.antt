@@ -34,4 +34,5 @@ boxes_reached c path history boxes (f ∷ fields) =
 
 -- the lists of lines and of boxes that lead to the path's boxes
 abbrev pub box_history : Case → List Bool → History
-box_history c path = boxes_reached c path (with_boxes (line_history c path) 0 (first_boxes c path)) (first_boxes c path) (treated_codes c path)
+box_history c path =
+    boxes_reached c path (with_boxes (line_history c path) 0 (first_boxes c path)) (first_boxes c path) (treated_codes c path)

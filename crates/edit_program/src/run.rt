@@ -50,7 +50,8 @@ pub fn fh_main<D: Desk, P: Printer>(
     ensures checked { result ≡ Status.Done → ForCheck words.now (λ ask. IsChecked ask (ran D.Desk P.Printer desk printer)) }
 
     // Where it ends otherwise: the fault that ended it, where it ended, and what was printed; no file is changed.
-    ensures check_stopped { result ≢ Status.Done → ForCheck words.now (λ ask. IsCheckStopped ask result (ran D.Desk P.Printer desk printer)) }
+    ensures check_stopped { result ≢ Status.Done → ForCheck words.now
+        (λ ask. IsCheckStopped ask result (ran D.Desk P.Printer desk printer)) }
 
     // Where the files are a valid release and no fault is met, the check is done, but for want of memory.
     ensures check_complete { ForCheck words.now (λ ask. IsCheckComplete ask result (ran D.Desk P.Printer desk printer)) }
@@ -62,7 +63,8 @@ pub fn fh_main<D: Desk, P: Printer>(
     ensures ruled { result ≡ Status.Done → ForRules words.now (λ ask. IsRuled ask (ran D.Desk P.Printer desk printer)) }
 
     // Where it ends otherwise: the fault that ended it, where it ended, and what was printed; no file is changed.
-    ensures rules_stopped { result ≢ Status.Done → ForRules words.now (λ ask. IsRulesStopped ask result (ran D.Desk P.Printer desk printer)) }
+    ensures rules_stopped { result ≢ Status.Done → ForRules words.now
+        (λ ask. IsRulesStopped ask result (ran D.Desk P.Printer desk printer)) }
 
     // Where the rules have a reading and no fault is met, `rules` is done, but for want of memory.
     ensures rules_complete { ForRules words.now (λ ask. IsRulesComplete ask result (ran D.Desk P.Printer desk printer)) }

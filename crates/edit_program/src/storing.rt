@@ -20,7 +20,8 @@ pub(crate) fn store_release<'a, D: Desk>(
 ) -> Result<(), Refusal<'a>>
     ensures kind { IfErr result IsOfStores }
     ensures files { Told (D.files desk.old) (D.files desk.new) (StoresOf (release_files asked.now release.now) result) }
-    ensures asked { PutsOnRecord (D.calls desk.old) (D.calls desk.new) (AreCallsOf (store_calls (release_files asked.now release.now)) result) }
+    ensures asked { PutsOnRecord (D.calls desk.old) (D.calls desk.new)
+        (AreCallsOf (store_calls (release_files asked.now release.now)) result) }
     ensures faults { D.faults desk.new ≡ faults_after result (D.faults desk.old) }
 {
     store_file(alloc, asked.proof, &release.proof, desk)?;

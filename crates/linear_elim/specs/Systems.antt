@@ -30,8 +30,8 @@ overflow_at f overflow = record { field = f; step = overflow }
 abbrev pub fold_result : List Derived → List ℕ → Result (List Derived) SystemOverflow
 fold_result lines [] = Ok lines
 fold_result lines (f ∷ fields) = do
-    next ← fault_as (overflow_at f) (step_result lines f)
-    fold_result next fields
+  next ← fault_as (overflow_at f) (step_result lines f)
+  fold_result next fields
 
 -- the derived system of the edits without these fields: the fold of the step over them, from the reduced edits
 abbrev pub system_of : List (ℕ × LineParts) → List ℕ → Result (List Derived) SystemOverflow

@@ -179,7 +179,8 @@ fn verdict_with_boxes(
     requires wholes { wholes.now ≡ whole_sets (shape_of survey.now.fields) }
     requires over { AreBoxesOver (shape_of survey.now.fields) boxes.items }
     requires spent { walk.spent ≤ budget }
-    ensures { IfOk result (λ v. v ≡ box_walk (shape_of survey.now.fields) budget walk.spent walk.history walk.lines.items (Ok boxes.items)) }
+    ensures { IfOk result (λ v. v
+        ≡ box_walk (shape_of survey.now.fields) budget walk.spent walk.history walk.lines.items (Ok boxes.items)) }
 {
     if let Some(place) = closing_line(wholes, &walk.lines) {
         return dropped(alloc, &walk.history, place);
@@ -205,7 +206,8 @@ fn codes_verdict(
     requires wholes { wholes.now ≡ whole_sets (shape_of survey.now.fields) }
     requires over { AreBoxesOver (shape_of survey.now.fields) walk.boxes.items }
     requires spent { walk.spent ≤ budget }
-    ensures { IfOk result (λ verdict. verdict ≡ all_code_walk (shape_of survey.now.fields) budget walk.spent walk.history walk.boxes.items) }
+    ensures { IfOk result (λ verdict. verdict
+        ≡ all_code_walk (shape_of survey.now.fields) budget walk.spent walk.history walk.boxes.items) }
 {
     let _well_formed = survey.fields(); // read for what it says: each categorical field has a code
     for field in survey.codes() {

@@ -91,7 +91,8 @@ impl Tickets {
     pub fn draw(&self, seat: &mut Seat) -> Option<u32>
         requires { seat.old.row ≡ self.now.row }
         ensures row { seat.new.row ≡ seat.old.row }
-        ensures some { IfSome result (λ k. (seat.old.ended ≡ false) × (seat.new.ended ≡ false) × (seat.new.drawn ≡ seat.old.drawn ++ k ∷ [])) }
+        ensures some { IfSome result (λ k. (seat.old.ended ≡ false) × (seat.new.ended ≡ false)
+            × (seat.new.drawn ≡ seat.old.drawn ++ k ∷ [])) }
         ensures none { IfNone result ((seat.new.ended ≡ true) × (seat.new.drawn ≡ seat.old.drawn)) }
         ensures below { IfSome result (λ k. k < self.now.row.count) }
         ensures rising { IsStrictlyIncreasing seat.new.drawn }
