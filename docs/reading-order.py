@@ -4,7 +4,7 @@
 For each promise the page names calls, and for some of them which clauses carry it; this script follows these
 clauses through the definitions that they cite, over all crates, and writes the table of the files in which
 these stand: how many lines of each file are reached (definitions and the comments above them), of how many
-lines. The last row says how many of the lines are definitions, without the comments. Files come in an
+lines. A line 'Read apart' names definitions that are read with another promise, and are not followed. The last row says how many of the lines are definitions, without the comments. Files come in an
 order in which each stands behind those that its definitions cite.
 
     docs/reading-order.py            writes the tables anew
@@ -20,7 +20,11 @@ PAGE = os.path.join(TOP, 'docs', 'reading-order.md')
 USE = re.compile(r'^\s*(?:ghost )?use (Rattle\.[\w.]+?)(?:\.\{([^}]*)\}| as (\w+))?;?\s*$', re.M)
 HEAD = re.compile(r'^(?:(?:abbrev|unfoldable|record|data|pub)\s+)+(\S+)')
 WORD = re.compile(r'[^\s(){}\[\].,;:∷λ→×=]+')
+# A field, where it is declared, given in a record, or read: its name may be that of a definition too.
+FIELD = re.compile(r'^  (?:pub )?\w+ :|(?<=[{;]) *\w+ =|^ +\w+ =(?= )|(?<=[\w)])\.\w+', re.M)
 CALLS = re.compile(r'^Calls: (.*)$', re.M)
+APART = re.compile(r'^Read apart: .*$', re.M)
+DEFINITION = re.compile(r'`(\w+)` of `([\w/.]+)`')
 CALL = re.compile(r'`([\w:]+)`(?: \(([`\w, ]+)\))? of `([\w/.]+)`')
 
 
@@ -90,7 +94,8 @@ class Page:
 
 
 def cited_in(text, names, aliases, path=None, page=None):
-    found = set()
+    found, whole = set(), text
+    text = FIELD.sub(' ', text)
     for word in WORD.findall(text):
         if page is not None and word in page.definitions:
             found.add((path, word))
@@ -102,19 +107,19 @@ def cited_in(text, names, aliases, path=None, page=None):
         if '◌' in name and (name.strip('◌') in text or name == '◌>>=◌' and '←' in text):
             found.add(target)
     for alias, target in aliases.items():
-        for word in re.findall(r'\b' + re.escape(alias) + r'\.(\w+)', text):
+        for word in re.findall(r'\b' + re.escape(alias) + r'\.(\w+)', whole):
             found.add((target, word))
     return found
 
 
-def reached(starts):
-    """All definitions that the starts reach, each with what it cites."""
+def reached(starts, apart=()):
+    """All definitions that the starts reach, each with what it cites; those that are read apart are left out."""
     edges, todo = {}, list(starts)
     while todo:
         path, name = todo.pop()
         page = Page.at(path)
         name = page.owner.get(name, name)
-        if (path, name) in edges or name not in page.definitions:
+        if (path, name) in edges or (path, name) in apart or name not in page.definitions:
             continue
         edges[(path, name)] = page.cited(path, name)
         todo += edges[(path, name)]
@@ -162,8 +167,8 @@ def ordered(edges):
     return order
 
 
-def table(starts):
-    edges = reached(starts)
+def table(starts, apart):
+    edges = reached(starts, apart)
     rows = ['| File of `crates/` | Lines to read | of |', '|---|---|---|']
     total = plain = 0
     for path in ordered(edges):
@@ -206,7 +211,8 @@ def written(text):
         starts = set()
         for function, clauses, file in CALL.findall(CALLS.match(part).group(1)):
             starts |= contract_starts(file, function, re.findall(r'\w+', clauses) or None)
-        made.append(re.sub(r'(?ms)^\| File of.*?\n(?=\n|\Z)', lambda _: table(starts) + '\n', part, count=1))
+        apart = {(os.path.join(TOP, 'crates', *file.split('/')), name) for name, file in DEFINITION.findall((APART.search(part) or [''])[0])}
+        made.append(re.sub(r'(?ms)^\| File of.*?\n(?=\n|\Z)', lambda _: table(starts, apart) + '\n', part, count=1))
     return re.sub(r'(?m)^All definitions of `specs/` have .*$', lambda _: counted(), ''.join(made))
 
 

@@ -1,6 +1,7 @@
 use Rattle.std.proofs.Common.{◌≡◌, ◌≢◌, ◌↔◌, inl, inr, ℕ, suc, ◌<◌, ◌==◌, ◌||◌, ◌&&◌, not, Bool, true, false, if◌then◌else◌, List, [], ◌∷◌, ◌++◌, All, Result, Ok, Err, length, ℤ, pos, ◌*ℤ◌, refl, sym, ap, ◌∙◌, subst, arith}
 use Rattle.std.specs.List.{list_any}
 use Rattle.std.proofs.lemmas.Bool.Decides.{Decides-eqb}
+use Rattle.edit_line.specs.inner.LineFields.{HasNumbers, IsCategorical}
 use Rattle.foundation.specs.Results.{◌>>=◌, fault_as}
 use Rattle.edit_model.specs.Parts.{SurveyParts}
 use Rattle.edit_model.specs.Points.{HasCodesFrom, IsInDomain, Point}
@@ -14,8 +15,8 @@ use Rattle.edit_model.specs.declared.value.Value.{Value}
 use Rattle.edit_line.specs.CodeFields.{size_of, with_code_at}
 use Rattle.edit_line.specs.Lines.{AllHold, HaveShape, LineParts, factor}
 use Rattle.edit_line.specs.Reductions.{IsIn, lines_of}
-use Rattle.edit_line.specs.Shapes.{Categorical, Domain, HasCodes, IsCategorical, IsNumerical, Numerical, code_fields, codes_from, domain_of, has_field, number_fields, shape_of}
-use Rattle.edit_line.specs.Sums.{AgreesOnLine, HasNumbers, fails_at}
+use Rattle.edit_line.specs.Shapes.{Categorical, Domain, HasCodes, IsNumerical, Numerical, code_fields, codes_from, domain_of, has_field, number_fields, shape_of}
+use Rattle.edit_line.specs.Sums.{AgreesOnLine, fails_at}
 use Rattle.edit_line.specs.declared.derived.Derived.{Derived}
 use Rattle.edit_line.proofs.Members.{all-in, in-all, in-taken}
 use Rattle.edit_line.proofs.ShapeLaws.{HasCodes-shape}

@@ -2,6 +2,7 @@ use Rattle.std.proofs.Common.{◌≡◌, ◌≢◌, ℕ, zero, suc, ◌+◌, ◌
 use Rattle.std.proofs.Math.Seq.{drop-cons}
 use Rattle.std.proofs.lemmas.Bool.Decides.{Decides-eqb}
 use Rattle.std.proofs.lemmas.List.{append_assoc, take-append-drop, take_more}
+use Rattle.edit_line.specs.inner.LineFields.{IsCategorical}
 use Rattle.edit_model.proofs.NameLemmas.{false_unless}
 use Rattle.edit_model.specs.Parts.{SurveyParts}
 use Rattle.edit_model.specs.Rows.{IsOfKind, value_of}
@@ -13,7 +14,7 @@ use Rattle.edit_model.specs.declared.value.Value.TheVariants.{Bad, Code}
 use Rattle.edit_line.specs.CodeFields.{TakesCodes, size_from, size_of}
 use Rattle.edit_line.specs.Lines.{HaveShape, LineParts, factor}
 use Rattle.edit_line.specs.Reductions.{IsIn, lines_of}
-use Rattle.edit_line.specs.Shapes.{Categorical, Domain, IsCategorical, IsNumerical, Numerical, code_fields, domain_of, has_field, number_fields, shape_of}
+use Rattle.edit_line.specs.Shapes.{Categorical, Domain, IsNumerical, Numerical, code_fields, domain_of, has_field, number_fields, shape_of}
 use Rattle.edit_line.specs.declared.derived.Derived.{Derived}
 use Rattle.edit_line.proofs.BoolLaws.{or_true}
 use Rattle.edit_line.proofs.FactorLaws.{factor-numerical}

@@ -1,6 +1,7 @@
 use Rattle.std.proofs.Common.{◌≡◌, ◌↔◌, ℕ, suc, ◌<◌, ◌==◌, ◌||◌, ◌&&◌, not, Bool, true, false, if◌then◌else◌, List, [], ◌∷◌, ◌++◌, All, Ok, IsTrue, length, map, slice_index_or, refl, sym, ap, ◌∙◌, subst, arith}
 use Rattle.std.specs.List.{list_any}
 use Rattle.std.proofs.lemmas.Bool.Decides.{Decides-eqb}
+use Rattle.edit_line.specs.inner.LineFields.{IsCategorical}
 use Rattle.edit_model.specs.Parts.{SurveyParts}
 use Rattle.edit_model.specs.Points.{Point, has_code}
 use Rattle.edit_model.specs.RowPoints.{code_in}
@@ -10,7 +11,7 @@ use Rattle.edit_line.specs.CodeFields.{TakesCodes, place_of, size_of, with_code_
 use Rattle.edit_line.specs.Lines.{HaveShape, LineParts}
 use Rattle.edit_line.specs.Reductions.{lines_of}
 use Rattle.edit_line.specs.Sets.{are_codes_in}
-use Rattle.edit_line.specs.Shapes.{Domain, HasCodes, IsCategorical, IsNumerical, code_fields, codes_at, has_field, place_in, shape_of, whole_sets}
+use Rattle.edit_line.specs.Shapes.{Domain, HasCodes, IsNumerical, code_fields, codes_at, has_field, place_in, shape_of, whole_sets}
 use Rattle.edit_line.specs.declared.derived.Derived.{Derived}
 use Rattle.edit_line.proofs.PointCodes.{wholes-inside}
 use Rattle.edit_line.proofs.SetLaws.{both_true}

@@ -1,5 +1,6 @@
 use Rattle.std.proofs.Common.{◌≡◌, ◌↔◌, inl, inr, ℕ, ◌<◌, ◌==◌, ◌||◌, ◌++◌, Bool, true, false, List, [], ◌∷◌, All, Ok, IsTrue, length, reverse, pos, ◌<ℤ◌, refl, sym, ap, ◌∙◌, subst, arith}
 use Rattle.std.proofs.lemmas.List.{reverse-append}
+use Rattle.edit_line.specs.inner.LineFields.{IsCategorical}
 use Rattle.fraction128.specs.Formulas.{Ratio, ratio_of}
 use Rattle.edit_model.specs.Corrections.{differs_from}
 use Rattle.edit_model.specs.Parts.{SurveyParts}
@@ -12,7 +13,7 @@ use Rattle.edit_line.specs.CodeFields.{size_of}
 use Rattle.edit_line.specs.Lines.{HaveShape, LineParts}
 use Rattle.edit_line.specs.Reductions.{lines_of}
 use Rattle.edit_line.proofs.FieldLists.{has-append}
-use Rattle.edit_line.specs.Shapes.{IsCategorical, IsNumerical, has_field, shape_of}
+use Rattle.edit_line.specs.Shapes.{IsNumerical, has_field, shape_of}
 use Rattle.edit_line.specs.declared.derived.Derived.{Derived}
 use Rattle.linear_elim.specs.Systems.{system}
 use Rattle.categ_combine.specs.FailingBoxes.{failing_boxes}

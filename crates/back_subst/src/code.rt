@@ -1,11 +1,12 @@
 //! The code that is given to a categorical field.
 ghost use Rattle.std.specs.Prelude.{◌≡◌, ◌≢◌, ◌<◌, ◌==◌, ◌^◌, ◌↔◌, Ok, false, true, All, IfNone, IfOk, IfSome, IsTrue, List, ℕ, length, slice_index_or};
 ghost use Rattle.std.specs.List.{list_any};
+ghost use Rattle.edit_line.specs.inner.LineFields.{IsCategorical};
 ghost use Rattle.edit_model.specs.Points.{has_code};
 ghost use Rattle.edit_model.specs.Rows.{IsRow, value_of};
 ghost use Rattle.edit_line.specs.CodeFields.{TakesCodes, place_of, size_of};
 ghost use Rattle.edit_line.specs.Reductions.{lines_of};
-ghost use Rattle.edit_line.specs.Shapes.{Domain, IsCategorical, code_fields, shape_of};
+ghost use Rattle.edit_line.specs.Shapes.{Domain, code_fields, shape_of};
 ghost use Rattle.categ_combine.specs.BoxLists.{AreBoxesOver, sets_of};
 ghost use Rattle.categ_combine.specs.Covers.{cover_count};
 ghost use Rattle.edit_model.specs.declared.value.Value.TheVariants.{Code};

@@ -1,9 +1,9 @@
 use Rattle.std.proofs.Common.{◌≡◌, ℕ, zero, suc, ◌<◌, ◌==◌, ◌&&◌, ◌||◌, not, Bool, true, false, cond, if◌then◌else◌, List, [], ◌∷◌, ◌++◌, slice_index_or, inl, inr, refl, sym, ap, ◌∙◌, arith}
 use Rattle.std.specs.List.{filter, list_any}
 use Rattle.std.proofs.lemmas.Bool.Decides.{Decides-eqb}
+use Rattle.edit_model.proofs.ChangedWords.{changed_in}
 use Rattle.edit_model.specs.Corrections.{is_numerical, numbers_from, path_order}
 use Rattle.edit_model.specs.FieldSets.{has_field}
-use Rattle.edit_model.specs.Words.{changed_in}
 use Rattle.edit_model.specs.declared.field.Field.{Field}
 use Rattle.edit_model.specs.declared.field.Kind.{Kind}
 use Rattle.edit_line.specs.Reductions.{IsIn}

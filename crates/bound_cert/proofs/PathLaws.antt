@@ -1,12 +1,13 @@
 use Rattle.std.proofs.Common.{◌≡◌, ◌≢◌, ℕ, ◌+◌, ◌≤◌, not, Bool, true, false, cond, if◌then◌else◌, List, [], ◌∷◌, map, inl, inr, sym, ap, ◌∙◌, subst, arith}
 use Rattle.std.specs.List.{filter, sum_by}
 use Rattle.std.proofs.lemmas.List.Sums.{sum_by-cons}
+use Rattle.edit_model.proofs.ChangedWords.{changed_in, word_weight}
 use Rattle.edit_model.specs.Corrections.{change_weight, differs_from, path_order, word_of}
 use Rattle.edit_model.specs.FieldSets.{has_number}
 use Rattle.edit_model.specs.Parts.{SurveyParts}
 use Rattle.edit_model.specs.Points.{Point}
 use Rattle.edit_model.specs.Rows.{IsRow, is_bad, value_of}
-use Rattle.edit_model.specs.Words.{changed_in, weight_at, word_weight}
+use Rattle.edit_model.specs.Words.{weight_at}
 use Rattle.edit_model.proofs.FieldSetLaws.{has-set_of}
 use Rattle.edit_model.proofs.RowLaws.{not-bad, was-bad}
 use Rattle.edit_model.proofs.WordLaws.{changed-weigh, word-weighs}

@@ -2,8 +2,8 @@ use Rattle.std.proofs.Common.{◌≡◌, ℕ, ◌+◌, ◌<◌, ◌≤◌, ◌&&
 use Rattle.std.specs.List.{filter, fold, list_any, sum_by}
 use Rattle.std.proofs.lemmas.List.{drop_all}
 use Rattle.std.proofs.lemmas.List.Sums.{sum_by-cons}
+use Rattle.edit_model.proofs.ChangedWords.{changed_in}
 use Rattle.edit_model.specs.FieldSets.{with_number}
-use Rattle.edit_model.specs.Words.{changed_in}
 use Rattle.bound_cert.proofs.Letters.{kept_in}
 use Rattle.bound_cert.proofs.OrderLoop.{at_both}
 

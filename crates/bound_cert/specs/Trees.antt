@@ -6,14 +6,11 @@ pub data Tree : Type 0 where
   Tip : Tree
   Fork : (kept changed : Tree) → Tree
 
--- the paths, each behind this letter
-abbrev pub behind : Bool → List (List Bool) → List (List Bool)
-behind letter paths = map (λ (path : List Bool). letter ∷ path) paths
-
 -- the path to each leaf, in order
 abbrev pub leaf_paths : Tree → List (List Bool)
 leaf_paths Tip = [] ∷ []
-leaf_paths (Fork kept changed) = behind false (leaf_paths kept) ++ behind true (leaf_paths changed)
+leaf_paths (Fork kept changed) =
+    map (λ (path : List Bool). false ∷ path) (leaf_paths kept) ++ map (λ (path : List Bool). true ∷ path) (leaf_paths changed)
 
 -- these are, in order, the paths to all leaves of a full tree
 abbrev pub AreLeafPaths : List (List Bool) → Type 0

@@ -1,5 +1,6 @@
 use Rattle.std.proofs.Common.{◌≡◌, ◌↔◌, ℕ, zero, suc, ◌||◌, Bool, true, false, not, if◌then◌else◌, List, [], ◌∷◌, All, Result, Ok, Err, refl, sym, ap, ◌∙◌, subst, arith}
 use Rattle.std.specs.List.{list_any}
+use Rattle.edit_line.specs.inner.LineFields.{HasNumbers}
 use Rattle.foundation.specs.Results.{◌>>=◌, fault_as}
 use Rattle.edit_model.specs.Points.{Point}
 use Rattle.edit_model.specs.declared.value.Value.{Value}
@@ -7,7 +8,7 @@ use Rattle.edit_line.specs.Lines.{AllHold, LineHolds, LineParts, amount}
 use Rattle.edit_line.specs.Sets.{AreCodesIn, are_codes_in}
 use Rattle.edit_line.specs.Shapes.{Domain, codes_at}
 use Rattle.edit_line.specs.Subsumption.{is_enough}
-use Rattle.edit_line.specs.Sums.{AgreesOnLine, HasNumbers, fails_at}
+use Rattle.edit_line.specs.Sums.{AgreesOnLine, fails_at}
 use Rattle.edit_line.specs.Reductions.{lines_of}
 use Rattle.edit_line.specs.declared.derived.Derived.{Derived}
 use Rattle.edit_line.proofs.Enough.{is_enough-Decides}

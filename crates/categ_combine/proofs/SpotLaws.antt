@@ -1,6 +1,7 @@
 use Rattle.std.proofs.Common.{◌≡◌, ℕ, zero, suc, ◌-◌, ◌<◌, ◌^◌, true, List, [], ◌∷◌, length, map, slice_index_or, slice_set, pow-suc, sym, ap, ◌∙◌, subst, arith}
 use Rattle.std.proofs.lemmas.Nat.{pow_pos}
-use Rattle.edit_line.specs.Sets.{AreSets, AreWithin, none_is_empty}
+use Rattle.edit_line.specs.inner.SetBounds.{AreWithin}
+use Rattle.edit_line.specs.Sets.{AreSets, none_is_empty}
 use Rattle.edit_line.specs.Shapes.{Domain, domain_with, whole_sets}
 use Rattle.edit_line.proofs.SetLaws.{AreSets-length, AreSets-within}
 use Rattle.edit_line.proofs.CombinationLaws.{length-meets}

@@ -4,6 +4,7 @@ use Rattle.std.specs.Str.{bytes_eq}
 use Rattle.std.proofs.lemmas.Bool.Decides.{Decides-eqb, Decides-int_eq}
 use Rattle.std.proofs.lemmas.List.Elements.{All-append}
 use Rattle.std.proofs.lemmas.List.Quantifiers.{position-Some}
+use Rattle.edit_model.proofs.ChangedWords.{changed_in}
 use Rattle.fraction128.proofs.CommonDenominator.{IsOver-unique}
 use Rattle.edit_model.specs.CleanRecords.{is_clean}
 use Rattle.edit_model.specs.Corrections.{IsCorrection, change_weight, code_fields, differs_from, is_numerical, number_fields, path_order}
@@ -12,7 +13,7 @@ use Rattle.edit_model.specs.Points.{Holds, Point}
 use Rattle.edit_model.specs.Rows.{IsOfKind, IsRow, value_of}
 use Rattle.edit_model.specs.Surveys.{IsRule, IsWellFormed}
 use Rattle.edit_model.specs.Trials.{rule_at}
-use Rattle.edit_model.specs.Words.{changed_in, weight_at}
+use Rattle.edit_model.specs.Words.{weight_at}
 use Rattle.edit_model.specs.declared.field.Field.{Field}
 use Rattle.edit_model.specs.declared.field.Kind.{Kind}
 use Rattle.edit_model.specs.declared.field.Kind.TheVariants as kind

@@ -1,4 +1,6 @@
 use Rattle.std.proofs.Common.{◌≡◌, ◌≢◌, ℕ, not, Bool, true, List, Result, Ok, Err, ap, ◌∙◌}
+use Rattle.std.specs.Result.{result_unwrap_or}
+use Rattle.edit_line.specs.inner.LineFields.{HasNumbers}
 use Rattle.edit_model.specs.FieldSets.{has_number}
 use Rattle.edit_model.specs.Points.{Point}
 use Rattle.edit_model.specs.RowPoints.{Agrees}
@@ -9,13 +11,12 @@ use Rattle.edit_model.specs.declared.value.Value.TheVariants.{Bad}
 use Rattle.edit_line.specs.Lines.{LineHolds, LineParts, amount}
 use Rattle.edit_line.specs.Sets.{AreCodesIn}
 use Rattle.edit_line.specs.Shapes.{codes_at, number_fields, shape_of}
-use Rattle.edit_line.specs.Sums.{AtFactors, HasNumbers, fails_at, stands_only}
+use Rattle.edit_line.specs.Sums.{AtFactors, fails_at, stands_only}
 use Rattle.edit_line.proofs.FactorLaws.{AtFactors-map, AtFactors-only}
 use Rattle.edit_line.proofs.Enough.{is_enough-Decides}
 use Rattle.edit_line.proofs.SumCallers.{numbers-held}
 use Rattle.edit_line.proofs.SumLaws.{fails_at-truth}
 use Rattle.derivation.specs.Premises.{AgreesAt, HasKept}
-use Rattle.derivation.specs.ValidSteps.{is_true}
 
 -- A line that fails at the kept fields of a record holds only at points that have other values there, or a code outside its set.
 
@@ -25,7 +26,7 @@ at_kept P kept line each only =
     AtFactors-map (λ f. has_number kept f ≡ true) P each (number_fields line.shape) line.factors (AtFactors-only (has_number kept) (number_fields line.shape) line.factors only)
 
 -- an answer that is true
-answered : (r : Result Bool ℕ) → is_true r ≡ true → r ≡ Ok true
+answered : (r : Result Bool ℕ) → (result_unwrap_or r false) ≡ true → r ≡ Ok true
 answered (Ok answer) h = ap Ok h
 answered (Err field) h = absurd (cc)
 
@@ -35,7 +36,7 @@ module _ (fields : List Field) (row : List Value) (kept : ℕ) (line : LineParts
   kept-numbers = numbers-held fields row line shape is (at_kept (λ f. value_of row f ≢ Bad) kept line has all)
 
   -- where the line fails at the record, and holds at a point that agrees, the point's codes are not all inside
-  pub failed-outside : is_true (fails_at line row) ≡ true → (point : Point) → AgreesAt row kept point → LineHolds line point → ¬ AreCodesIn line.sets (codes_at line.shape point)
+  pub failed-outside : (result_unwrap_or (fails_at line row) false) ≡ true → (point : Point) → AgreesAt row kept point → LineHolds line point → ¬ AreCodesIn line.sets (codes_at line.shape point)
   failed-outside fails point agrees holds inside =
       let enough = (is_enough-Decides line.strict (amount line point)).1 (holds.enough inside) in
       let truth = fails_at-truth line row point true kept-numbers (at_kept (λ f. Agrees row point f) kept line agrees all) (answered (fails_at line row) fails) in

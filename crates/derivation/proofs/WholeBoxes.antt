@@ -1,6 +1,7 @@
 use Rattle.std.proofs.Common.{◌≡◌, ℕ, ◌<◌, true, List, Some, length, slice_index_or, slice_set, sym, ap, subst, arith}
+use Rattle.edit_line.specs.inner.SetBounds.{AreWithin}
 use Rattle.edit_line.specs.Combinations.{meets}
-use Rattle.edit_line.specs.Sets.{AreSets, AreWithin, none_is_empty}
+use Rattle.edit_line.specs.Sets.{AreSets, none_is_empty}
 use Rattle.edit_line.specs.Shapes.{Domain, code_fields, whole_sets}
 use Rattle.edit_line.proofs.SetLaws.{AreSets-within, AreWithin-length}
 use Rattle.derivation.specs.inner.Meanings.{place_there}

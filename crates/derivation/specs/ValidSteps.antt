@@ -1,5 +1,6 @@
 use Rattle.std.specs.Prelude.{◌≡◌, ℕ, suc, ℤ, ◌==◌, ◌&&◌, Bool, false, List, [], ◌∷◌, ◌++◌, Option, Some, None, Result, Ok, Err, length, if◌then◌else◌, slice_get, slice_index_or}
 use Rattle.std.specs.Option.{ok_or}
+use Rattle.std.specs.Result.{result_unwrap_or}
 use Rattle.foundation.specs.Results.{◌>>=◌}
 use Rattle.foundation.specs.Options.{◌>>?◌}
 use Rattle.edit_model.specs.FieldSets.{has_number}
@@ -55,14 +56,10 @@ combined_line m n g s t = only_if (may_combine m n g s t) (proved.Line (divided_
 
 -- ---- a line that fails at the kept fields
 
--- whether a test was in range and came out true
-abbrev pub is_true : Result Bool ℕ → Bool
-is_true (Ok answer) = answer
-is_true (Err field) = false
-
 -- whether only fields of the set stand in the line, and its linear part is false at the record, where a value that is Bad counts as 0: so it is false at each point that has the record's values at these fields, where the record has them
 abbrev pub fails_at_kept : List Value → ℕ → LineParts → Bool
-fails_at_kept row kept line = stands_only (has_number kept) (number_fields line.shape) line.factors && is_true (fails_at line row)
+fails_at_kept row kept line =
+    stands_only (has_number kept) (number_fields line.shape) line.factors && result_unwrap_or (fails_at line row) false
 
 -- the box of the line's sets, where it fails so at the kept fields
 abbrev pub failed_box : Premises → LineParts → Option Proved

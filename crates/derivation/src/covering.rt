@@ -1,5 +1,6 @@
 ghost use Rattle.std.specs.Prelude.{◌≡◌, ◌≤◌, IfOk, IfSome, List, Some, length, map, option_map};
-ghost use Rattle.edit_line.specs.Sets.{AreSets, AreWithin};
+ghost use Rattle.edit_line.specs.inner.SetBounds.{AreWithin};
+ghost use Rattle.edit_line.specs.Sets.{AreSets};
 ghost use Rattle.edit_line.specs.Shapes.{Domain, code_fields, shape_of, whole_sets};
 ghost use Rattle.derivation.specs.inner.Bases.{IsBasis, premises};
 ghost use Rattle.derivation.specs.inner.Meanings.{AllOver, meaning, meant, place_there};

@@ -3,6 +3,7 @@ use Rattle.std.specs.List.{list_all}
 use Rattle.std.proofs.lemmas.Bool.Decides.{Decides-eqb}
 use Rattle.std.proofs.lemmas.List.{length-map}
 use Rattle.std.proofs.lemmas.Nat.Bits.{bit_at_ones}
+use Rattle.edit_line.specs.inner.LineFields.{IsCategorical}
 use Rattle.edit_model.specs.Points.{Point, has_code}
 use Rattle.edit_model.specs.Surveys.{IsField, IsKind}
 use Rattle.edit_model.specs.declared.field.Field.{Field}
@@ -10,7 +11,7 @@ use Rattle.edit_model.specs.declared.field.Kind.{Kind}
 use Rattle.edit_model.specs.declared.field.Kind.TheVariants as kind
 use Rattle.edit_line.proofs.SetLaws.{and_false}
 use Rattle.edit_line.specs.Sets.{are_codes_in}
-use Rattle.edit_line.specs.Shapes.{Categorical, Domain, HasCodes, Numerical, codes_at, code_fields, codes_from, place_in, whole_sets, IsCategorical, domain_of, has_field, shape_of}
+use Rattle.edit_line.specs.Shapes.{Categorical, Domain, HasCodes, Numerical, codes_at, code_fields, codes_from, place_in, whole_sets, domain_of, has_field, shape_of}
 use Rattle.edit_line.specs.CodeFields.{TakesCodes, codes_of, codes_up, place_of, size_from, size_of, whole_of, with_code_at}
 
 -- A field of a shape, and the codes of a point.

@@ -6,8 +6,9 @@ use Rattle.std.proofs.lemmas.Bool.Decides.{Decides-eqb}
 use Rattle.std.proofs.lemmas.List.{drop_all}
 use Rattle.std.proofs.lemmas.Nat.Bits.{bit_at_and, bit_at-lt}
 pub use Rattle.edit_line.proofs.BoolLaws.{and_false, both_decide, both_true}
+use Rattle.edit_line.specs.inner.SetBounds.{AreWithin}
 use Rattle.edit_model.specs.Points.{has_code}
-use Rattle.edit_line.specs.Sets.{AreCodesIn, AreSets, AreWithin, HasCode, are_subsets, none_is_empty, are_codes_in}
+use Rattle.edit_line.specs.Sets.{AreCodesIn, AreSets, HasCode, are_subsets, none_is_empty, are_codes_in}
 
 -- Sets of codes, as bits, and lists of them.
 

@@ -1,4 +1,5 @@
 use Rattle.std.proofs.Common.{◌≡◌, ◌≢◌, ℕ, suc, ◌+◌, false, List, [], ◌∷◌, ℤ, refl, sym, ap, ◌∙◌, subst, arith}
+use Rattle.edit_line.specs.inner.LineFields.{HasNumbers}
 use Rattle.edit_model.specs.Corrections.{differs_from}
 use Rattle.edit_model.specs.Points.{Point}
 use Rattle.edit_model.specs.RowPoints.{Agrees}
@@ -11,7 +12,7 @@ use Rattle.edit_model.specs.declared.value.Value.{Value}
 use Rattle.edit_model.specs.declared.value.Value.TheVariants.{Code, Number, Bad}
 use Rattle.edit_line.specs.Lines.{LineParts}
 use Rattle.edit_line.specs.Shapes.{Domain, domain_of, number_fields, numbers_from, shape_of}
-use Rattle.edit_line.specs.Sums.{AgreesOnLine, AtFactors, HasNumbers}
+use Rattle.edit_line.specs.Sums.{AgreesOnLine, AtFactors}
 use Rattle.edit_line.proofs.FactorLaws.{AtFactors-map}
 
 -- What a caller of `value_at` shows: a record of the survey has the numbers that a line reads, where none of them is Bad.

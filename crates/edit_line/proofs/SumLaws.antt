@@ -4,6 +4,7 @@ use Rattle.std.specs.Ordering.{int_eq}
 use Rattle.std.proofs.lemmas.Bool.Decides.{Decides-int_eq}
 use Rattle.std.proofs.lemmas.Int.{ints}
 use Rattle.std.specs.Option.{ok_or}
+use Rattle.edit_line.specs.inner.LineFields.{HasNumbers}
 use Rattle.foundation.specs.Results.{◌>>=◌}
 use Rattle.fraction128.proofs.Whole.{parts, ring, same_dif}
 use Rattle.fraction128.specs.Formulas.{Ratio, ratio_of}
@@ -17,7 +18,7 @@ use Rattle.edit_model.specs.declared.value.Value.{Value}
 use Rattle.edit_line.specs.Lines.{IsEnough, LineParts, amount, weighted}
 use Rattle.edit_line.specs.Shapes.{number_fields}
 use Rattle.edit_line.specs.Subsumption.{is_enough}
-use Rattle.edit_line.specs.Sums.{AgreesOnLine, AtFactors, HasNumbers, fails_at, fails_by, next_sum, sum_at, sum_from, whole}
+use Rattle.edit_line.specs.Sums.{AgreesOnLine, AtFactors, fails_at, fails_by, next_sum, sum_at, sum_from, whole}
 use Rattle.edit_line.specs.declared.overflow.LineOverflow.{LineOverflow}
 use Rattle.edit_model.proofs.TrialLaws.{IsOverPoint, nothing_more, over_one, some_same, sum_with-over}
 use Rattle.edit_line.proofs.Enough.{IsEnough-times, IsEnough_cancel, is_enough-Decides}

@@ -1,8 +1,9 @@
 use Rattle.std.proofs.Common.{◌≡◌, ℕ, zero, suc, ◌+◌, ◌<◌, ◌++◌, List, [], ◌∷◌, drop, get_or, length, map, slice_index_or, slice_set, refl, ap, ◌∙◌, add-one, arith}
 use Rattle.std.proofs.Math.Seq.{drop-cons}
 use Rattle.std.proofs.lemmas.Nat.{and_le_l}
+use Rattle.edit_line.specs.inner.SetBounds.{AreWithin}
 use Rattle.edit_line.specs.Combinations.{meets}
-use Rattle.edit_line.specs.Sets.{AreSets, AreWithin}
+use Rattle.edit_line.specs.Sets.{AreSets}
 use Rattle.edit_line.specs.Shapes.{Categorical, Domain, Numerical, domain_with, whole_sets}
 
 -- Sets of codes that are made whole at a place, and what sets have in common.

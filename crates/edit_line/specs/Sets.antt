@@ -34,9 +34,3 @@ abbrev pub AreSets : List ℕ → List ℕ → Type 0
 AreSets [] [] = Unit {0}
 AreSets (set ∷ sets) (whole ∷ wholes) = (0 < set) × (set ≤ whole) × AreSets sets wholes
 AreSets _ _ = ⊥
-
--- a set for each whole set of a field's codes, with none but the field's codes
-abbrev pub AreWithin : List ℕ → List ℕ → Type 0
-AreWithin [] [] = Unit {0}
-AreWithin (set ∷ sets) (whole ∷ wholes) = (set ≤ whole) × AreWithin sets wholes
-AreWithin _ _ = ⊥

@@ -81,10 +81,6 @@ codes_at shape p = map p.code (code_fields shape)
 abbrev pub IsNumerical : List Domain → ℕ → Type 0
 IsNumerical shape f = IsTrue (has_field (number_fields shape) f)
 
--- the field is categorical
-abbrev pub IsCategorical : List Domain → ℕ → Type 0
-IsCategorical shape f = IsTrue (has_field (code_fields shape) f)
-
 -- the point has a code of its domain at each categorical field, from number i on
 abbrev pub HasCodes : ℕ → List Domain → Point → Type 0
 HasCodes i [] p = Unit {0}

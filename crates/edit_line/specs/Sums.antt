@@ -1,4 +1,4 @@
-use Rattle.std.specs.Prelude.{◌≢◌, ℕ, ℤ, ◌&&◌, ◌||◌, not, Bool, true, List, ◌∷◌, Option, Some, Result, Ok, Err, pos, if◌then◌else◌}
+use Rattle.std.specs.Prelude.{◌≢◌, ℕ, ℤ, ◌&&◌, ◌||◌, not, Bool, true, List, ◌∷◌, Option, Some, Result, Ok, pos, if◌then◌else◌}
 use Rattle.std.specs.Ordering.{int_eq}
 use Rattle.std.specs.Option.{ok_or}
 use Rattle.foundation.specs.Results.{◌>>=◌}
@@ -6,7 +6,7 @@ use Rattle.fraction128.specs.Formulas.{Ratio}
 use Rattle.edit_model.specs.Points.{Point}
 use Rattle.edit_model.specs.RowPoints.{Agrees}
 use Rattle.edit_model.specs.Rows.{value_of}
-use Rattle.edit_model.specs.Trials.{IsNumberValue, sum_with}
+use Rattle.edit_model.specs.Trials.{sum_with}
 use Rattle.edit_model.specs.declared.value.Value.{Value}
 use Rattle.edit_line.specs.Lines.{LineParts}
 use Rattle.edit_line.specs.Shapes.{number_fields}
@@ -21,10 +21,6 @@ AtFactors P _ _ = Unit {0}
 abbrev pub stands_only : (ℕ → Bool) → List ℕ → List ℤ → Bool
 stands_only test (f ∷ fields) (a ∷ factors) = (int_eq a (pos 0) || test f) && stands_only test fields factors
 stands_only test _ _ = true
-
--- the record has a number at each field that stands in the line
-abbrev pub HasNumbers : List Value → LineParts → Type 0
-HasNumbers row line = AtFactors (λ f. IsNumberValue (value_of row f)) (number_fields line.shape) line.factors
 
 -- the point has the record's values at the fields that stand in the line
 abbrev pub AgreesOnLine : List Value → Point → LineParts → Type 0
@@ -51,8 +47,7 @@ sum_at line row = sum_from (number_fields line.shape) line.factors row (whole li
 
 -- whether a sum is not enough
 abbrev pub fails_by : Bool → Result Ratio ℕ → Result Bool ℕ
-fails_by strict (Ok sum) = Ok (not (is_enough strict sum.numerator))
-fails_by strict (Err f) = Err f
+fails_by strict answer = answer >>= (λ sum. Ok (not (is_enough strict sum.numerator)))
 
 -- whether the line's linear part is false at a record; or the first field at which a number of its sum leaves the range
 abbrev pub fails_at : LineParts → List Value → Result Bool ℕ

@@ -1,3 +1,5 @@
 pub mod Keys
-pub mod WholePlaces
+pub mod LineFields
 pub mod OutsideLines
+pub mod SetBounds
+pub mod WholePlaces

@@ -2,7 +2,8 @@ use Rattle.std.proofs.Common.{◌≡◌, ◌≢◌, ℕ, suc, ◌<◌, Bool, tru
 use Rattle.std.specs.List.{AllByRecursion, list_all, list_any}
 use Rattle.std.proofs.lemmas.Bool.{and_parts}
 use Rattle.std.proofs.lemmas.List.Folds.{list_any_at}
-use Rattle.edit_model.specs.CleanRecords.{holds_at, is_clean, is_yes}
+use Rattle.std.specs.Option.{unwrap_or}
+use Rattle.edit_model.specs.CleanRecords.{holds_at, is_clean}
 use Rattle.edit_model.specs.Parts.{SurveyParts}
 use Rattle.edit_model.specs.Rows.{IsRow, is_bad, value_of}
 use Rattle.edit_model.specs.Surveys.{IsRule}
@@ -35,7 +36,7 @@ not-none false is = refl
 not-none true is = absurd (cc)
 
 -- the answer is a yes
-yes-some : (o : Option Bool) → is_yes o ≡ true → o ≡ Some true
+yes-some : (o : Option Bool) → (unwrap_or o false) ≡ true → o ≡ Some true
 yes-some None is = absurd (cc)
 yes-some (Some b) is = ap Some is
 

@@ -1,4 +1,5 @@
 pub mod BitSets
+pub mod ChangedWords
 pub mod CleanLaws
 pub mod FieldNames
 pub mod FieldNumbers

@@ -2,11 +2,12 @@ use Rattle.std.proofs.Common.{◌≡◌, ℕ, suc, ◌+◌, not, Bool, true, fal
 use Rattle.std.specs.List.{filter, sum_by}
 use Rattle.std.proofs.lemmas.List.Elements.{filter-append}
 use Rattle.std.proofs.lemmas.List.Sums.{sum_by-append, sum_by-cons}
+use Rattle.edit_model.proofs.ChangedWords.{changed_in, word_weight}
 use Rattle.edit_model.specs.Corrections.{change_weight, code_fields, differs_from, is_numerical, number_fields, numbers_from, path_order, weight_from, word_of}
 use Rattle.edit_model.specs.Parts.{SurveyParts}
 use Rattle.edit_model.specs.Points.{Point}
 use Rattle.edit_model.specs.Rows.{IsRow, value_of}
-use Rattle.edit_model.specs.Words.{changed_in, weight_at, word_weight}
+use Rattle.edit_model.specs.Words.{weight_at}
 use Rattle.edit_model.specs.declared.field.Field.{Field}
 use Rattle.edit_model.specs.declared.value.Value.{Value}
 

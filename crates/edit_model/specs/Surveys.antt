@@ -6,7 +6,6 @@ use Rattle.edit_model.specs.declared.field.Field.{Field}
 use Rattle.edit_model.specs.declared.field.Kind.{Kind}
 use Rattle.edit_model.specs.declared.field.Kind.TheVariants as kind
 use Rattle.edit_model.specs.declared.rule.Compare.TheVariants.{Eq}
-use Rattle.edit_model.specs.declared.rule.Linear.{Linear}
 use Rattle.edit_model.specs.declared.rule.Rule.{Rule}
 use Rattle.edit_model.specs.declared.rule.Term.{Term}
 use Rattle.edit_model.specs.declared.rule.Test.{Test}
@@ -74,14 +73,10 @@ pub record IsTerm (fields : List Field) (t : Term) : Type 0 where
   pub numerical : IsSomeAnd (slice_get fields t.field) (λ f. IsNumber f.kind)
   pub factor : (t.factor ≢ pos 0) × (unsigned_abs t.factor ≤ 10 ^ 9)
 
--- terms in rising field order and a constant, all within their limits
-abbrev pub IsLinear : List Field → Linear → Type 0
-IsLinear fields l =
-    IsStrictlyIncreasing (map (λ (t : Term). t.field) l.terms) × All (IsTerm fields) l.terms × (unsigned_abs l.constant ≤ 10 ^ 15)
-
--- a linear test, or a test on a field's own codes
+-- a linear test of terms in rising field order and a constant within its limit, or a test on a field's own codes
 abbrev pub IsTest : List Field → Test → Type 0
-IsTest fields (Number l) = IsLinear fields l
+IsTest fields (Number l) =
+    IsStrictlyIncreasing (map (λ (t : Term). t.field) l.terms) × All (IsTerm fields) l.terms × (unsigned_abs l.constant ≤ 10 ^ 15)
 IsTest fields (Codes field negated set) = IsSomeAnd (slice_get fields field) (λ f. IsSetOf f.kind set)
 
 -- a test on codes

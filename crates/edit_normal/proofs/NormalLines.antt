@@ -3,6 +3,7 @@ use lib.IntN.{neg_ℤ}
 use Rattle.std.proofs.lemmas.Int.{ints}
 use Rattle.std.proofs.lemmas.List.{length-map}
 use Rattle.std.proofs.lemmas.Nat.{and_le_l}
+use Rattle.edit_line.specs.inner.SetBounds.{AreWithin}
 use Rattle.fraction128.specs.Range.{InRange}
 use Rattle.edit_model.specs.Parts.{SurveyParts}
 use Rattle.edit_model.specs.Surveys.{IsRule, IsTerm, IsTest, IsWellFormed}
@@ -18,7 +19,7 @@ use Rattle.edit_line.specs.Divisors.{divisor_of, gcd_all, or_one, reduced}
 use Rattle.edit_line.specs.Lines.{AreOver, IsLine, LineParts, parts_of}
 use Rattle.edit_line.specs.Negations.{never}
 use Rattle.edit_line.specs.Reductions.{IsIn}
-use Rattle.edit_line.specs.Sets.{AreWithin, none_is_empty}
+use Rattle.edit_line.specs.Sets.{none_is_empty}
 use Rattle.edit_line.specs.Shapes.{number_fields, shape_of, whole_sets}
 use Rattle.edit_line.proofs.DivisionLaws.{IsLine-divided}
 use Rattle.edit_line.proofs.Members.{all-in, in-all, in-filter-out, in-flat_map-out, in-map-out}

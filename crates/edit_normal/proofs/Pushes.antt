@@ -3,13 +3,14 @@ use Rattle.std.specs.Prelude.{OnOk, Result}
 use Rattle.std.proofs.Math.Seq.{drop-cons}
 use Rattle.std.proofs.lemmas.List.{drop_all, length-replicate}
 use Rattle.std.proofs.lemmas.List.Elements.{All-replicate}
+use Rattle.edit_line.specs.inner.SetBounds.{AreWithin}
 use Rattle.fraction128.specs.Range.{InRange}
 use Rattle.edit_model.specs.declared.rule.Linear.{Linear}
 use Rattle.edit_model.specs.declared.rule.Test.{Test}
 use Rattle.edit_model.specs.declared.rule.Test.TheVariants.{Number}
 use Rattle.edit_line.specs.Divisors.{reduced}
 use Rattle.edit_line.specs.Lines.{IsLine, LineParts, parts_of}
-use Rattle.edit_line.specs.Sets.{AreWithin, none_is_empty}
+use Rattle.edit_line.specs.Sets.{none_is_empty}
 use Rattle.edit_line.specs.Shapes.{Domain, number_fields, whole_sets}
 use Rattle.edit_line.specs.Negations.{never}
 use Rattle.edit_line.proofs.NegationLines.{zeros-are}

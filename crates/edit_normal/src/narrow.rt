@@ -1,5 +1,5 @@
 ghost use Rattle.std.specs.Prelude.{◌≡◌, not, true};
-ghost use Rattle.edit_line.specs.Sets.{AreWithin};
+ghost use Rattle.edit_line.specs.inner.SetBounds.{AreWithin};
 ghost use Rattle.edit_line.specs.Shapes.{code_fields, has_field, whole_sets};
 ghost use Rattle.edit_normal.specs.NormalForm.{narrowed};
 

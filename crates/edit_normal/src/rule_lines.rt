@@ -1,7 +1,8 @@
 //! The lines of one rule.
 ghost use Rattle.std.specs.Prelude.{◌≡◌, [], ◌∷◌, All, OnOk};
+ghost use Rattle.edit_line.specs.inner.SetBounds.{AreWithin};
 ghost use Rattle.edit_line.specs.Negations.{never};
-ghost use Rattle.edit_line.specs.Sets.{AreWithin, none_is_empty};
+ghost use Rattle.edit_line.specs.Sets.{none_is_empty};
 ghost use Rattle.edit_line.specs.Shapes.{whole_sets};
 ghost use Rattle.edit_normal.specs.NormalForm.{all_lines_of, conclusion_lines, condition_lines, lines_against, lines_for};
 ghost use Rattle.edit_normal.specs.inner.Sides.{joined_by, side_line};

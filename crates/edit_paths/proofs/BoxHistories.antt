@@ -1,5 +1,6 @@
 use Rattle.std.proofs.Common.{◌≡◌, ℕ, suc, true, if◌then◌else◌, List, [], ◌∷◌, Option, Some, None, IsSomeAnd, Ok, map, slice_get, slice_index_or, sym, ap, ◌∙◌}
 use Rattle.std.proofs.lemmas.Bool.Decides.{Decides-eqb}
+use Rattle.std.specs.Result.{result_unwrap_or}
 use Rattle.foundation.specs.Options.{◌>>?◌}
 use Rattle.edit_model.specs.FieldSets.{has_number}
 use Rattle.edit_model.specs.Points.{has_code}
@@ -23,7 +24,7 @@ use Rattle.categ_combine.specs.declared.box_from.BoxFrom.{BoxFrom}
 use Rattle.categ_combine.specs.declared.box_from.BoxOrigin.{BoxOrigin}
 use Rattle.categ_combine.specs.declared.box_from.BoxOrigin.TheVariants as box
 use Rattle.derivation.specs.Premises.{Premises}
-use Rattle.derivation.specs.ValidSteps.{as_box, as_line, common_from, covered_sets, failed_box, fixed_sets, is_true, part_with}
+use Rattle.derivation.specs.ValidSteps.{as_box, as_line, common_from, covered_sets, failed_box, fixed_sets, part_with}
 use Rattle.derivation.specs.declared.proved.Proved.{Proved}
 use Rattle.derivation.specs.declared.proved.Proved.TheVariants as proved
 use Rattle.edit_paths.specs.Histories.{box_by}
@@ -47,7 +48,7 @@ first-made p lines over kept code_box (box.Failing i) comes =
     let (d, at, said) = some_with (λ (d : Derived). (fails_at d.line p.row ≡ Ok true) × (code_box ≡ box_of d.line.shape d.line.sets)) (slice_get lines i) comes in
     let there = in-get d lines i at in
     ap (λ (o : Option Proved). (as_line o >>? (λ line. failed_box p line))) (line-value lines i d at)
-    ∙ ap (λ b. if b then Some (proved.Box (box_of p.shape d.line.sets)) else None) (true-both _ _ (kept d there) (ap (λ r. is_true r) said.0))
+    ∙ ap (λ b. if b then Some (proved.Box (box_of p.shape d.line.sets)) else None) (true-both _ _ (kept d there) (ap (λ r. (result_unwrap_or r false)) said.0))
     ∙ ap (λ (s : List Domain). Some (proved.Box (box_of s d.line.sets))) (sym (over d there))
     ∙ ap (λ (b : BoxParts). Some (proved.Box b)) (sym said.1)
 first-made p lines over kept code_box (box.Unchanged i) comes = absurd comes

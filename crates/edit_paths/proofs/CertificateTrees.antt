@@ -2,6 +2,7 @@ use Rattle.std.proofs.Common.{◌≡◌, ◌&&◌, ◌⊎◌, inl, inr, ℕ, zer
 use Rattle.std.specs.List.{AllByRecursion}
 use Rattle.std.proofs.lemmas.Bool.Decides.{Decides-eqb}
 use Rattle.std.proofs.lemmas.List.{map-append}
+use Rattle.std.specs.Result.{result_unwrap_or}
 use Rattle.foundation.specs.Options.{◌>>?◌}
 use Rattle.edit_model.specs.Corrections.{is_first}
 use Rattle.edit_line.specs.Lines.{LineParts}
@@ -11,7 +12,6 @@ use Rattle.std.specs.Cmp.Lexicographic.{same_text}
 use Rattle.edit_line.proofs.BoolLaws.{true-both}
 use Rattle.edit_line.proofs.Members.{any-in, in-any, in-either}
 use Rattle.edit_line.proofs.SetLaws.{both_true}
-use Rattle.derivation.specs.ValidSteps.{is_true}
 use Rattle.derivation.specs.declared.proved.Proved.TheVariants as proved
 use Rattle.bound_cert.specs.Paths.{keeps_bad, kept_set, path_weight}
 use Rattle.bound_cert.specs.Trees.{Fork, Tip, Tree, leaf_paths}
@@ -77,7 +77,7 @@ module _ (c : Case) (is : IsCase c) (given : List LineParts) (usable : List Bool
     line-leaf weight i e =
         let (line, closing) = closing-line c is path none given usable (kept_set c.survey.fields c.row path) (kept-number c is path none) usable_is i e in
         let (whole, alone) = asks-whole c is path line closing.asks in
-        (line, closing.valid, (whole, true-both _ _ (only-kept c is path none given usable (kept_set c.survey.fields c.row path) (kept-number c is path none) usable_is line closing.over alone) (ap (λ r. is_true r) closing.fails)))
+        (line, closing.valid, (whole, true-both _ _ (only-kept c is path none given usable (kept_set c.survey.fields c.row path) (kept-number c is path none) usable_is line closing.over alone) (ap (λ r. (result_unwrap_or r false)) closing.fails)))
 
     box-leaf : (weight : Option ℕ) (i : ℕ) → state_of c path ≡ ClosedBox i → IsValid weight path (why.Box (steps_to (box_history c path) i))
     box-leaf weight i e =

@@ -1,6 +1,7 @@
 use Rattle.std.proofs.Common.{◌≡◌, ◌≢◌, ◌&&◌, ℕ, ◌≤◌, Bool, true, false, not, List, All, Ok, length, pos, refl, sym, ap, ◌∙◌, subst}
 use Rattle.std.specs.Cmp.Lexicographic.{same_text}
 use Rattle.std.specs.List.{filter}
+use Rattle.edit_line.specs.inner.LineFields.{HasNumbers}
 use Rattle.edit_model.specs.Corrections.{differs_from, path_order}
 use Rattle.edit_model.specs.FieldSets.{has_number}
 use Rattle.edit_model.specs.Points.{Point}
@@ -15,7 +16,7 @@ use Rattle.edit_line.specs.Lines.{HasShape, LineHolds, LineParts, amount, factor
 use Rattle.edit_line.specs.Reductions.{IsIn, lines_of}
 use Rattle.edit_line.specs.Sets.{AreCodesIn}
 use Rattle.edit_line.specs.Shapes.{Domain, HasCodes, IsNumerical, codes_at, has_field, number_fields, shape_of, whole_sets}
-use Rattle.edit_line.specs.Sums.{AgreesOnLine, HasNumbers, fails_at}
+use Rattle.edit_line.specs.Sums.{AgreesOnLine, fails_at}
 use Rattle.edit_line.specs.declared.derived.Derived.{Derived}
 use Rattle.edit_line.proofs.BoolLaws.{and_true}
 use Rattle.edit_line.proofs.Enough.{is_enough-Decides}

@@ -1,6 +1,7 @@
 -- Why a run is refused: what each refusal ends it with, what is printed of it, and what each error of a call below is refused as.
-use Rattle.std.specs.Prelude.{⊤, ℕ, ◌+◌, ◌++◌, ◌<◌, List, codes, length, map, slice_index_or, []}
+use Rattle.std.specs.Prelude.{⊤, ℕ, ◌+◌, ◌++◌, ◌<◌, List, codes, length}
 use Rattle.std.specs.Fmt.{decimal}
+use Rattle.edit_report.specs.Reasons.{name_of}
 use Rattle.edit_language.specs.Faults.{kind_name, kind_number}
 use Rattle.edit_language.specs.declared.fault.RulesFault.{RulesFault}
 use Rattle.edit_language.specs.declared.fault.RulesFault.TheVariants as rules
@@ -78,10 +79,6 @@ rules_fault rules.OutOfMemory = OutOfMemory
 abbrev pub check_fault : CheckFault → Fault
 check_fault (check.Rejected line why) = Rejected line why
 check_fault check.OutOfMemory = OutOfMemory
-
--- the name of the field of this number, from 0
-abbrev pub name_of : List Field → ℕ → List ℕ
-name_of fields number = slice_index_or (map (λ (field : Field). field.name) fields) number []
 
 -- the refusal for records of these fields that were not read
 abbrev pub sheet_fault : List Field → SheetFault → Fault

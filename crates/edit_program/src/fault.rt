@@ -1,6 +1,7 @@
 ghost use Rattle.std.specs.Prelude.{◌≡◌, ◌<◌, ◌++◌, IfOk, length};
+ghost use Rattle.edit_report.specs.Reasons.{name_of};
 ghost use Rattle.edit_program.specs.declared.fault.Fault.TheVariants as faults;
-ghost use Rattle.edit_program.specs.Faults.{IsOfFields, fault_status, fault_text, name_of, sheet_fault};
+ghost use Rattle.edit_program.specs.Faults.{IsOfFields, fault_status, fault_text, sheet_fault};
 
 use crate::status::Status;
 use cert_check::{CheckFault, Why};

@@ -37,7 +37,7 @@ use Rattle.redundancy.proofs.BaseLaws.{verdicts-count}
 use Rattle.pruned_rules.specs.Pruned.{kept_edits, pruning_budget, rule_flags, rule_verdicts}
 use Rattle.pruned_rules.proofs.KeptLaws.{rules-follow}
 use Rattle.edit_release.specs.Edits.{proof_of, refutation_by, said}
-use Rattle.edit_release.specs.Guarantee.{IsGuaranteed, IsShown}
+use Rattle.edit_release.specs.Guarantee.{HasTree, IsGuaranteed}
 use Rattle.edit_release.specs.Releases.{AllGiven, HasGuarantee, IsReleaseOf, written_in}
 use Rattle.edit_release.specs.declared.release.Release.{Release}
 use Rattle.edit_release.proofs.CoherentLaws.{said-coherent}
@@ -79,7 +79,7 @@ module _ (survey : SurveyParts) (sheet : SheetParts) (released proof : List ℕ)
 
 module _ (survey : SurveyParts) (formed : IsWellFormed survey) (budget : ℕ) (all : List (List Value)) where
   -- the trees of all records are valid
-  pub all-shown : (rows : List (List Value)) (ends : List RowEnd) → AllByRecursion (IsRow survey.fields) rows → AllZip (IsEndOf survey (kept_edits survey) budget all) rows ends → AllZip (IsShown survey (rule_flags survey)) rows ends
+  pub all-shown : (rows : List (List Value)) (ends : List RowEnd) → AllByRecursion (IsRow survey.fields) rows → AllZip (IsEndOf survey (kept_edits survey) budget all) rows ends → AllZip (λ row (end : RowEnd). HasTree survey (rule_flags survey) row end.proof.outcome) rows ends
   all-shown [] [] are each = tt
   all-shown [] (end ∷ ends) are each = absurd each
   all-shown (row ∷ rows) [] are each = absurd each

@@ -23,7 +23,7 @@ use Rattle.redundancy.specs.declared.verdict.Verdict.{Verdict}
 use Rattle.redundancy.specs.declared.verdict.Verdict.TheVariants.{Dropped, Kept}
 use Rattle.pruned_rules.specs.Pruned.{kept_edits, rule_flags, rule_verdicts}
 use Rattle.edit_release.specs.Edits.{proof_of, refutation_by, said, said_of}
-use Rattle.edit_release.specs.Guarantee.{HasTree, IsShown}
+use Rattle.edit_release.specs.Guarantee.{HasTree}
 use Rattle.edit_release.proofs.CaseLaws.{rule-case, rules-given}
 use Rattle.edit_release.proofs.EventLaws.{event-there}
 use Rattle.edit_release.proofs.GiftFaults.{stop-there}
@@ -63,7 +63,7 @@ module _ (survey : SurveyParts) (row : List Value) (budget : ℕ) (formed : IsWe
   has-tree (outcome.Overflow path event) e = tt
   has-tree (outcome.Contradictory cert) e = contradiction-tree (case_of survey (kept_edits survey) row) (rule-case survey row formed is) (normal_lines_of survey) (rule_flags survey) (rules-given survey) budget cert e
 
-  pub tree-shown : (all : List (List Value)) (end : RowEnd) → IsEndOf survey (kept_edits survey) budget all row end → IsShown survey (rule_flags survey) row end
+  pub tree-shown : (all : List (List Value)) (end : RowEnd) → IsEndOf survey (kept_edits survey) budget all row end → HasTree survey (rule_flags survey) row end.proof.outcome
   tree-shown all end ends = has-tree end.proof.outcome (sym ends.outcome)
 
   module _ (columns : List ℕ) (reads : List (List ℕ)) (texts : Option (List (List ℕ))) where

@@ -1,14 +1,13 @@
 -- The release guarantee: what is so of the records of a sheet that ended so, and of the claims of donors.
-use Rattle.std.specs.Prelude.{⊤, ℕ, Bool, List, Option, Some, None}
+use Rattle.std.specs.Prelude.{⊤, Bool, List, Some, None}
 use Rattle.std.specs.List.{AllZip}
 use Rattle.edit_model.specs.Parts.{SurveyParts}
 use Rattle.edit_model.specs.declared.value.Value.{Value}
-use Rattle.edit_line.specs.EditSets.{EditsParts, edits_of}
+use Rattle.edit_line.specs.EditSets.{EditsParts}
 use Rattle.edit_line.specs.Shapes.{shape_of}
 use Rattle.edit_normal.specs.RuleLines.{normal_lines_of}
 use Rattle.redundancy.specs.Verdicts.{usable_from}
 use Rattle.bound_cert.specs.ValidTrees.{IsValidTree, tree_case}
-use Rattle.bound_cert.specs.declared.cert.Cert.{Cert}
 use Rattle.bound_cert.specs.declared.outcome.Outcome.{Outcome}
 use Rattle.bound_cert.specs.declared.outcome.Outcome.TheVariants.{Change, Contradictory}
 use Rattle.donor_book.specs.Entries.{IsLegalHistory}
@@ -21,21 +20,14 @@ use Rattle.cert_check.specs.Shown.{AllFollow}
 
 -- the lines of the rules that are kept, each numbered by its place among all, as the edits that records are searched by
 abbrev pub usable_edits : SurveyParts → List Bool → EditsParts
-usable_edits survey kept = edits_of (shape_of survey.fields) (usable_from 0 (normal_lines_of survey) kept)
+usable_edits survey kept = record { shape = shape_of survey.fields; lines = usable_from 0 (normal_lines_of survey) kept }
 
--- the tree of a record is valid over the lines of the rules that are kept, with this weight or with none
-abbrev pub IsTreeOf : SurveyParts → List Bool → List Value → Option ℕ → Cert → Type 0
-IsTreeOf survey kept row weight cert = IsValidTree (tree_case survey (normal_lines_of survey) kept row weight) cert.leaves
-
--- a change is shown by a valid tree of its weight, and a contradiction by one without a weight
+-- over the lines of the rules that are kept, a change is shown by a valid tree of its weight, and a contradiction by one
+-- without a weight
 abbrev pub HasTree : SurveyParts → List Bool → List Value → Outcome → Type 0
-HasTree survey kept row (Change path weight cert) = IsTreeOf survey kept row (Some weight) cert
-HasTree survey kept row (Contradictory cert) = IsTreeOf survey kept row None cert
+HasTree survey kept row (Change path w cert) = IsValidTree (tree_case survey (normal_lines_of survey) kept row (Some w)) cert.leaves
+HasTree survey kept row (Contradictory cert) = IsValidTree (tree_case survey (normal_lines_of survey) kept row None) cert.leaves
 HasTree survey kept row outcome = ⊤
-
--- what was found of a record is shown by its tree
-abbrev pub IsShown : SurveyParts → List Bool → List Value → RowEnd → Type 0
-IsShown survey kept row end = HasTree survey kept row end.proof.outcome
 
 -- some lines of the rules are kept, and each line follows from these; what the end of each record says of it in terms of
 -- corrections is so, and its tree shows it; and the claims are a legal history, in which each donor is given at most as often
@@ -45,5 +37,5 @@ pub record IsGuaranteed (survey : SurveyParts) (sheet : SheetParts) (terms : Ter
   pub kept : List Bool
   pub follow : AllFollow survey kept
   pub say : AllZip (Says survey (usable_edits survey kept) terms.budget) sheet.rows ends
-  pub shown : AllZip (IsShown survey kept) sheet.rows ends
+  pub shown : AllZip (λ row (end : RowEnd). HasTree survey kept row end.proof.outcome) sheet.rows ends
   pub legal : IsLegalHistory terms.limit history

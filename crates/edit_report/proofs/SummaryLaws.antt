@@ -4,8 +4,9 @@ use Rattle.std.specs.List.{filter, sum_by}
 use Rattle.std.proofs.lemmas.List.{take_all, take_more}
 use Rattle.std.proofs.lemmas.List.Elements.{filter-append}
 use Rattle.std.proofs.lemmas.List.Sums.{sum_by-append, sum_by-cons}
+use Rattle.edit_model.proofs.ChangedWords.{changed_in}
 use Rattle.edit_model.specs.Corrections.{path_order}
-use Rattle.edit_model.specs.Words.{changed_in, weight_at}
+use Rattle.edit_model.specs.Words.{weight_at}
 use Rattle.edit_model.specs.declared.field.Field.{Field}
 use Rattle.bound_cert.specs.Paths.{path_weight}
 use Rattle.bound_cert.proofs.PathLaws.{weight-of_word}

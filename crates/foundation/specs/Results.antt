@@ -1,5 +1,6 @@
 -- Answers that may be faults, one after the other.
 use Rattle.std.specs.Prelude.{Result, Ok, Err}
+use Rattle.std.specs.Result.{result_map_both}
 
 -- the next answer, if this one is no fault
 infixl 10 ◌>>=◌
@@ -9,5 +10,4 @@ abbrev pub ◌>>=◌ : {A B E : Type 0} → Result A E → (A → Result B E) �
 
 -- the answer, where a fault is told as another one
 abbrev pub fault_as : {A E F : Type 0} → (E → F) → Result A E → Result A F
-fault_as tell (Ok value) = Ok value
-fault_as tell (Err fault) = Err (tell fault)
+fault_as tell answer = result_map_both (λ value. value) tell answer

@@ -1,7 +1,7 @@
-use Rattle.std.specs.Prelude.{◌≡◌, ℕ, ℤ, pos, ◌+ℤ◌, ◌*ℤ◌, ◌&&◌, not, Bool, Result, length, int_div, int_lt}
+use Rattle.std.specs.Prelude.{◌≡◌, ℕ, ℤ, pos, ◌&&◌, not, Bool, Result, length, int_div, int_lt}
 use lib.IntN.{neg_ℤ}
 use Rattle.fraction128.specs.Divisor.{int_gcd}
-use Rattle.edit_line.specs.Combinations.{combined, first_overflow, numbers, sum_of, unless_overflow}
+use Rattle.edit_line.specs.Combinations.{first_overflow, numbers, sum_of, unless_overflow}
 use Rattle.edit_line.specs.Divisors.{divisor_of, reduced}
 use Rattle.edit_line.specs.Lines.{LineParts, factor}
 
@@ -47,12 +47,7 @@ pub record CombinedParts : Type 0 where
 -- m times s and n times t, divided by the greatest common divisor g of the numbers
 abbrev pub combined_with : ℤ → ℤ → LineParts → LineParts → CombinedParts
 combined_with m n s t =
-    record {
-      line = reduced (sum_of m n s t);
-      m = m;
-      n = n;
-      g = divisor_of (combined m n s.factors t.factors) (m *ℤ s.constant +ℤ n *ℤ t.constant);
-    }
+    record { line = reduced (sum_of m n s t); m = m; n = n; g = divisor_of (sum_of m n s t).factors (sum_of m n s t).constant }
 
 -- the combination of s and t in which the field is gone, or the first place at which a number of it leaves the range
 abbrev pub combine_result : LineParts → LineParts → ℕ → Result CombinedParts ℕ

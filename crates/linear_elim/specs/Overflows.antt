@@ -36,10 +36,6 @@ pub record IsFirstPlace (m n : ℤ) (first second : List ℤ) (place : ℕ) : Ty
   pub within : place < length first
   pub earlier : (k : ℕ) → k < place → sum_fits m n (get_or first k (pos 0)) (get_or second k (pos 0)) ≡ true
 
--- the number at this place of the combination of s and t leaves the range, and no earlier one does
-abbrev pub LeavesFirstAt : LineParts → LineParts → ℕ → ℕ → Type 0
-LeavesFirstAt s t f place = IsFirstPlace (first_multiplier s t f) (second_multiplier s t f) (numbers s) (numbers t) place
-
 -- the overflow is at the first pair of lines whose combination leaves the range, and at the first place there
 pub record IsFirstOverflow (lines : List Derived) (f : ℕ) (o : StepOverflow) : Type 0 where
   pub s : Derived
@@ -49,7 +45,8 @@ pub record IsFirstOverflow (lines : List Derived) (f : ℕ) (o : StepOverflow) :
   pub combined : AreCombined f s.line t.line
   pub number : ℕ
   pub leaves : overflow_of s.line t.line f ≡ Some number
-  pub first_place : LeavesFirstAt s.line t.line f number
+  pub first_place : IsFirstPlace
+      (first_multiplier s.line t.line f) (second_multiplier s.line t.line f) (numbers s.line) (numbers t.line) number
   pub place : o.place ≡ place_named (number_fields s.line.shape) number
   pub earlier_rows : (i j : ℕ) → i < o.first → PairFits lines f i j
   pub earlier_pairs : (j : ℕ) → j < o.second → PairFits lines f o.first j

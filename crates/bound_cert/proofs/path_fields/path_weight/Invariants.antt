@@ -1,7 +1,8 @@
 use Rattle.std.proofs.Common.{◌≡◌, ◌≤◌, ◌+◌, ◌*◌, drop}
 use Rattle.std.specs.List.{sum_by}
+use Rattle.edit_model.proofs.ChangedWords.{changed_in}
 use Rattle.edit_model.specs.Corrections.{path_order}
-use Rattle.edit_model.specs.Words.{changed_in, weight_at}
+use Rattle.edit_model.specs.Words.{weight_at}
 use Rattle.bound_cert.proofs.path_fields.path_weight.Given as goal
 
 abbrev pub invariant-loop-place : goal.invariant-loop-place

@@ -1,5 +1,5 @@
 use Rattle.std.proofs.Common.{List, ℕ, Option, option_map, Bor, map, sym, ap, subst, ◌∙◌}
-use Rattle.edit_line.specs.Sets.{AreWithin}
+use Rattle.edit_line.specs.inner.SetBounds.{AreWithin}
 use Rattle.edit_line.specs.Shapes.{shape_of, whole_sets}
 use Rattle.edit_line.proofs.SetLaws.{AreWithin-wholes}
 use Rattle.derivation.specs.inner.Meanings.{meaning}

@@ -1,5 +1,5 @@
 use Rattle.std.proofs.Common.{◌≡◌, drop, map}
-use Rattle.edit_line.specs.Sets.{AreWithin}
+use Rattle.edit_line.specs.inner.SetBounds.{AreWithin}
 use Rattle.edit_line.specs.Shapes.{shape_of, whole_sets}
 use Rattle.derivation.specs.inner.Meanings.{meaning}
 use Rattle.derivation.specs.ValidSteps.{common_from}

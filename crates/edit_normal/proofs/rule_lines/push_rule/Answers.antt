@@ -1,6 +1,6 @@
 use Rattle.std.proofs.Common.{◌≡◌, ◌<◌, ◌≤◌, get_or, length, refl, ap, ◌∙◌, sym, subst, List, ℕ}
+use Rattle.edit_line.specs.inner.SetBounds.{AreWithin}
 use Rattle.edit_model.specs.declared.rule.Test.{Test}
-use Rattle.edit_line.specs.Sets.{AreWithin}
 use Rattle.edit_line.specs.Shapes.{whole_sets}
 use Rattle.edit_line.proofs.SetLaws.{AreWithin-wholes}
 use Rattle.edit_normal.specs.NormalForm.{implied_lines}
