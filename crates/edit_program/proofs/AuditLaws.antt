@@ -1,5 +1,6 @@
 -- What the files of a check show, and which status is due of them.
 use Rattle.std.proofs.Common.{◌≡◌, ◌⊎◌, ℕ, List, Vec, Global, Option, IfSome, Result, Ok, Err, IfOk, IfErr, length, inl, inr, refl, subst, sym}
+use Rattle.edit_program.specs.inner.Refused.{check_fault}
 use Rattle.edit_model.specs.Parts.{SurveyParts}
 use Rattle.record_text.specs.Sheets.{SheetParts}
 use Rattle.edit_desk.specs.Desk.{Files, IsLonger}
@@ -10,7 +11,7 @@ use Rattle.cert_check.specs.declared.fault.CheckFault.TheVariants as check
 use Rattle.cert_check.specs.declared.fault.Why.{Why}
 use Rattle.command_words.specs.Asked.{CheckAsked}
 use Rattle.edit_program.specs.CheckRun.{valid_text}
-use Rattle.edit_program.specs.Faults.{IsOfCheck, check_fault, fault_status}
+use Rattle.edit_program.specs.Faults.{IsOfCheck, fault_status}
 use Rattle.edit_program.specs.Readings.{AnswersDue, HoldsBytes, HoldsRecords, HoldsRelease, HoldsRules, IsCheckDue, IsTooLong, RefusesCheck, most_bytes, most_proof_bytes}
 use Rattle.edit_program.specs.inner.CheckParts.{Accepts}
 use Rattle.edit_program.specs.inner.Parts.{IsOfFetch, RefusesLong}

@@ -2,13 +2,14 @@
 use Rattle.std.proofs.Common.{◌≡◌, ◌⊎◌, ◌∙◌, ◌+◌, ℕ, zero, suc, List, [], ◌∷◌, ◌++◌, Option, Result, Ok, Err, IfErr, ap, append_assoc, arith, inl, inr, length, refl, subst, sym, take, take_all}
 use Rattle.std.specs.Prelude.{⊤}
 use Rattle.std.proofs.Math.Seq.{take-append-add}
+use Rattle.edit_program.specs.inner.Refused.{check_fault}
 use Rattle.edit_desk.specs.Desk.{Asked, PutsOnRecord, failing, fetched, stored}
 use Rattle.edit_model.specs.declared.field.Field.{Field}
 use Rattle.record_text.specs.declared.fault.SheetFault.{SheetFault}
 use Rattle.record_text.specs.declared.fault.SheetFault.TheVariants as sheet
 use Rattle.cert_check.specs.declared.fault.CheckFault.{CheckFault}
 use Rattle.cert_check.specs.declared.fault.CheckFault.TheVariants as check
-use Rattle.edit_program.specs.Faults.{check_fault, sheet_fault}
+use Rattle.edit_program.specs.Faults.{sheet_fault}
 use Rattle.edit_program.specs.Run.{AreCallsTo, EndAt}
 use Rattle.edit_program.specs.inner.Parts.{AreCallsOf, IsOfFetch, IsOfRecords, IsOfRules, IsOfStores, faults_after}
 use Rattle.edit_program.specs.declared.fault.Fault.{Fault}

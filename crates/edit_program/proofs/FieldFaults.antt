@@ -2,6 +2,7 @@
 use Rattle.std.proofs.Common.{◌≡◌, ◌≢◌, ◌<◌, ◌≤◌, ◌+◌, ℕ, suc, Bool, true, false, List, [], ◌∷◌, Option, Some, None, arith, length, nat_lt, subst}
 use Rattle.std.specs.Prelude.{if◌then◌else◌, ◌==◌}
 use Rattle.std.specs.Option.{option_or}
+use Rattle.edit_program.specs.inner.Refused.{IsOfFields}
 use Rattle.edit_model.specs.declared.field.Field.{Field}
 use Rattle.record_text.specs.Columns.{columns_of}
 use Rattle.record_text.specs.Faults.{column_fault, field_fault, row_fault, sheet_fault}
@@ -9,7 +10,6 @@ use Rattle.record_text.specs.Sheets.{IsSheetFault}
 use Rattle.record_text.specs.Trimming.{header_of}
 use Rattle.record_text.specs.declared.fault.SheetFault.{SheetFault}
 use Rattle.record_text.specs.declared.fault.SheetFault.TheVariants as sheet
-use Rattle.edit_program.specs.Faults.{IsOfFields}
 
 -- the fault is of no field, or of one whose number is below this
 abbrev IsBelow : ℕ → SheetFault → Type 0

@@ -1,15 +1,13 @@
 -- Why a run is refused: what each refusal ends it with, what is printed of it, and what each error of a call below is refused as.
-use Rattle.std.specs.Prelude.{⊤, ℕ, ◌+◌, ◌++◌, ◌<◌, List, codes, length}
+use Rattle.std.specs.Prelude.{⊤, ℕ, ◌+◌, ◌++◌, List, codes}
 use Rattle.std.specs.Fmt.{decimal}
 use Rattle.edit_report.specs.Reasons.{name_of}
 use Rattle.edit_language.specs.Faults.{kind_name, kind_number}
-use Rattle.edit_language.specs.declared.fault.RulesFault.{RulesFault}
 use Rattle.edit_language.specs.declared.fault.RulesFault.TheVariants as rules
 use Rattle.edit_model.specs.declared.field.Field.{Field}
 use Rattle.record_text.specs.declared.fault.SheetFault.{SheetFault}
 use Rattle.record_text.specs.declared.fault.SheetFault.TheVariants as sheet
 use Rattle.cert_check.specs.Texts.{why_text}
-use Rattle.cert_check.specs.declared.fault.CheckFault.{CheckFault}
 use Rattle.cert_check.specs.declared.fault.CheckFault.TheVariants as check
 use Rattle.edit_program.specs.declared.fault.Fault.{Fault}
 use Rattle.edit_program.specs.declared.fault.Fault.TheVariants.{Usage, Rules, Records, Read, Write, TooLong, Rejected, OutOfMemory}
@@ -70,16 +68,6 @@ IsOfRulesCommand (TooLong name) = ⊤
 IsOfRulesCommand OutOfMemory = ⊤
 IsOfRulesCommand fault = ⊥
 
--- the refusal for rules that were not read
-abbrev pub rules_fault : RulesFault → Fault
-rules_fault (rules.At line kind) = Rules line kind
-rules_fault rules.OutOfMemory = OutOfMemory
-
--- the refusal for files that are no valid release
-abbrev pub check_fault : CheckFault → Fault
-check_fault (check.Rejected line why) = Rejected line why
-check_fault check.OutOfMemory = OutOfMemory
-
 -- the refusal for records of these fields that were not read
 abbrev pub sheet_fault : List Field → SheetFault → Fault
 sheet_fault fields sheet.NoHeader = Records records.NoHeader
@@ -90,8 +78,3 @@ sheet_fault fields sheet.TooManyRows = Records records.TooManyRows
 sheet_fault fields (sheet.RowLength row_no) = Records (records.RowLength row_no)
 sheet_fault fields sheet.OutOfMemory = OutOfMemory
 
--- a fault that names a field names one of these
-abbrev pub IsOfFields : List Field → SheetFault → Type 0
-IsOfFields fields (sheet.NoColumn number) = number < length fields
-IsOfFields fields (sheet.DoubleColumn number) = number < length fields
-IsOfFields fields fault = ⊤

@@ -6,5 +6,4 @@ pub mod Laws
 pub mod Readings
 pub mod RulesRun
 pub mod Run
-pub mod Status
 pub mod inner

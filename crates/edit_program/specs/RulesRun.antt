@@ -45,14 +45,10 @@ IsVerdictAt survey place verdict = slice_get (rule_verdicts survey) place ≡ So
 abbrev pub are_left : SurveyParts → ℕ → List Bool
 are_left survey place = left_at place (drop (suc place) (rule_verdicts survey))
 
--- the lines that are left when the line at a place is tried
-abbrev pub lines_left : SurveyParts → ℕ → List LineParts
-lines_left survey place = usable_lines (normal_lines_of survey) (are_left survey place)
-
 -- a line that is needed does not follow from those that are left: some point meets them and not it
 abbrev pub NeededCanFail : SurveyParts → Type 0
 NeededCanFail survey = (place : ℕ) (line : LineParts) → IsLineAt survey place line → IsVerdictAt survey place (Kept Needed)
-    → CanFail survey.fields (lines_left survey place) line
+    → CanFail survey.fields (usable_lines (normal_lines_of survey) (are_left survey place)) line
 
 -- what a line at a place is refuted from: the lines that are left, and its negation
 abbrev pub negated_at : SurveyParts → ℕ → LineParts → Premises

@@ -119,11 +119,6 @@ AreBytesOf text printed now failed failed_now =
 abbrev pub IsLinePrinted : List ℕ → Run → Type 0
 IsLinePrinted text run = AreBytesOf text run.before.printed run.after.printed run.before.unprinted run.after.unprinted
 
--- one line with this text was printed by this printer, or failed with some first bytes of it printed
-abbrev pub PrintsLine : {P : Type 0} → printer.Ghosts P → Both (MutBor P) (MutBor P) → List ℕ → Type 0
-PrintsLine tells p text =
-    AreBytesOf text (tells.printed p.entry.now) (tells.printed p.exit.now) (tells.faults p.entry.now) (tells.faults p.exit.now)
-
 -- the bytes of lines, one after the other
 abbrev pub bytes_of_lines : List (List ℕ) → List ℕ
 bytes_of_lines [] = []

@@ -1,7 +1,8 @@
 ghost use Rattle.std.specs.Prelude.{◌≡◌, ◌<◌, ◌++◌, IfOk, length};
+ghost use Rattle.edit_program.specs.inner.Refused.{IsOfFields, check_fault, rules_fault};
 ghost use Rattle.edit_report.specs.Reasons.{name_of};
 ghost use Rattle.edit_program.specs.declared.fault.Fault.TheVariants as faults;
-ghost use Rattle.edit_program.specs.Faults.{IsOfFields, fault_status, fault_text, sheet_fault};
+ghost use Rattle.edit_program.specs.Faults.{fault_status, fault_text, sheet_fault};
 
 use crate::status::Status;
 use cert_check::{CheckFault, Why};
@@ -143,7 +144,6 @@ impl<'a> Fault<'a> {
 
 impl From<RulesFault> for Fault<'_> {
     ghost use Rattle.std.specs.Prelude.{◌≡◌};
-    ghost use Rattle.edit_program.specs.Faults.{rules_fault};
 
     ghost from_gives = { λ error fault. fault ≡ rules_fault error };
 
@@ -157,7 +157,6 @@ impl From<RulesFault> for Fault<'_> {
 
 impl From<CheckFault> for Fault<'_> {
     ghost use Rattle.std.specs.Prelude.{◌≡◌};
-    ghost use Rattle.edit_program.specs.Faults.{check_fault};
 
     ghost from_gives = { λ error fault. fault ≡ check_fault error };
 

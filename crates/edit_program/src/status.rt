@@ -26,7 +26,7 @@ pub enum Status {
 }
 
 impl Status {
-    ghost use Rattle.edit_program.specs.Status.{status_number};
+    ghost use Rattle.edit_program.specs.inner.Status.{status_number};
 
     /// The number that the process ends with.
     pub fn number(self) -> u8

@@ -1,7 +1,7 @@
 //! What a run prints.
 ghost use Rattle.std.specs.Prelude.{◌≡◌, ◌≢◌, [], ◌∷◌};
+ghost use Rattle.edit_program.specs.inner.PrintedLines.{PrintsLine};
 ghost use Rattle.edit_program.specs.Faults.{fault_text};
-ghost use Rattle.edit_program.specs.Run.{PrintsLine};
 ghost use Rattle.edit_program.specs.declared.fault.Fault.TheVariants as faults;
 ghost use Rattle.edit_program.specs.inner.Parts.{PrintsAll, texts_in};
 

@@ -23,12 +23,8 @@ begun text = left_of text 0
 abbrev pub IsNumberOf : ℕ → List Line → ℕ → Type 0
 IsNumberOf line left all = line + length left ≡ suc all
 
--- no line that ends is left
-abbrev pub IsNoLine : List Line → Type 0
-IsNoLine left = (left ≡ []) ⊎ (left ≡ [] ∷ [])
-
 abbrev pub EndsAt : LinesLeft → ProofFault → Type 0
-EndsAt lines (fault.At line) = IsNoLine lines.left × IsNumberOf line lines.left lines.all
+EndsAt lines (fault.At line) = ((lines.left ≡ []) ⊎ (lines.left ≡ [] ∷ [])) × IsNumberOf line lines.left lines.all
 EndsAt lines fault.OutOfMemory = ⊥
 
 -- nothing is left, or this is the number of what is left

@@ -19,13 +19,9 @@ use Rattle.rule_grammar.specs.declared.token.Sign.{Sign}
 use Rattle.rule_grammar.specs.declared.token.Token.{Token}
 use Rattle.rule_grammar.specs.declared.token.Token.TheVariants as token
 
--- [ "*" ]
-abbrev pub times_tokens : Bool → List Token
-times_tokens times = if times then token.Times ∷ [] else []
-
 -- term = NUM [ "*" ] NAME | NAME | NUM
 abbrev pub term_tokens : TermText → List Token
-term_tokens (term.Product factor times field) = token.Numeral factor ∷ (times_tokens times ++ token.Name field ∷ [])
+term_tokens (term.Product factor times field) = token.Numeral factor ∷ ((if times then token.Times ∷ [] else []) ++ token.Name field ∷ [])
 term_tokens (term.Field field) = token.Name field ∷ []
 term_tokens (term.Constant number) = token.Numeral number ∷ []
 
@@ -82,14 +78,10 @@ option_tokens word (Some number) = word ∷ token.Numeral number ∷ []
 abbrev pub weight_tokens : Option Numeral → List Token
 weight_tokens weight = option_tokens (token.Keyword keyword.Weight) weight
 
--- [ "scale" NUM ]
-abbrev pub scale_tokens : Option Numeral → List Token
-scale_tokens scale = option_tokens (token.Keyword keyword.Scale) scale
-
 -- declare = "number" NAME [ "weight" NUM ] [ "scale" NUM ] | "code" NAME [ "weight" NUM ] "in" list
 abbrev pub declaration_tokens : Declared → List Token
 declaration_tokens (declaration.Number name weight scale) =
-    token.Keyword keyword.Number ∷ token.Name name ∷ (weight_tokens weight ++ scale_tokens scale)
+    token.Keyword keyword.Number ∷ token.Name name ∷ (weight_tokens weight ++ option_tokens (token.Keyword keyword.Scale) scale)
 declaration_tokens (declaration.Code name weight list) =
     token.Keyword keyword.Code ∷ token.Name name ∷ (weight_tokens weight ++ token.Keyword keyword.In ∷ list_tokens list)
 
