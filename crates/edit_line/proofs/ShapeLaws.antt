@@ -2,6 +2,7 @@ use Rattle.std.proofs.Common.{◌≡◌, ℕ, zero, suc, ◌+◌, ◌<◌, ◌�
 use Rattle.std.proofs.lemmas.List.{map_more, take_all}
 use Rattle.std.proofs.lemmas.Grind.{take-set_at}
 use Rattle.std.proofs.lemmas.Bool.Decides.{Decides-eqb}
+use Rattle.edit_line.specs.inner.CodeCounts.{code_count}
 use Rattle.edit_model.specs.Corrections.{is_numerical}
 use Rattle.edit_model.specs.Corrections as corrections
 use Rattle.edit_model.specs.Points.{HasCodesFrom, IsInDomain, Point}
@@ -11,7 +12,7 @@ use Rattle.edit_model.specs.declared.field.Field.{Field}
 use Rattle.edit_model.specs.declared.field.Kind.{Kind}
 use Rattle.edit_model.specs.declared.field.Kind.TheVariants as kind
 use Rattle.edit_line.proofs.BoolLaws.{or_true}
-use Rattle.edit_line.specs.Shapes.{Categorical, Domain, HasCodes, Numerical, code_count, code_fields, codes_from, domain_of, domain_with, domains_of, number_fields, has_field, numbers_from, place_in, shape_of, whole_sets}
+use Rattle.edit_line.specs.Shapes.{Categorical, Domain, HasCodes, Numerical, code_fields, codes_from, domain_of, domain_with, domains_of, number_fields, has_field, numbers_from, place_in, shape_of, whole_sets}
 
 -- A survey's shape, and its fields of each kind.
 

@@ -19,11 +19,6 @@ domain_with (suc k) = Categorical (suc k)
 abbrev pub domains_of : ℕ → List ℕ → List Domain
 domains_of count codes = map domain_with (take count codes)
 
--- the number of codes of a kind of field, none where it is numerical
-abbrev pub code_count : Kind → ℕ
-code_count (kind.Number scale) = 0
-code_count (kind.Code codes) = length codes
-
 -- the domain of a kind of field
 abbrev pub domain_of : Kind → Domain
 domain_of (kind.Number scale) = Numerical

@@ -1,3 +1,4 @@
+pub mod CodeCounts
 pub mod Keys
 pub mod LineFields
 pub mod OutsideLines

@@ -1,6 +1,7 @@
 ghost use Rattle.std.specs.Prelude.{◌≡◌, ◌≤◌, ◌-◌, ◌^◌, ◌++◌, [], ◌∷◌, All, IfOk, OnOk, length, map};
+ghost use Rattle.edit_line.specs.inner.CodeCounts.{code_count};
 ghost use Rattle.edit_line.specs.CodeFields.{size_of};
-ghost use Rattle.edit_line.specs.Shapes.{code_count, domain_with, domains_of, shape_of, whole_sets};
+ghost use Rattle.edit_line.specs.Shapes.{domain_with, domains_of, shape_of, whole_sets};
 
 use edit_model::{Kind, Survey};
 use foundation::OutOfMemory;

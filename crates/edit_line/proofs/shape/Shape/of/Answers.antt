@@ -1,8 +1,9 @@
 use Rattle.std.proofs.Common.{◌≤◌, ◌<◌, All, List, length, rules, sym, ap, ◌∙◌, subst, arith}
 use Rattle.std.proofs.lemmas.List.Elements.{All-set}
+use Rattle.edit_line.specs.inner.CodeCounts.{code_count}
 use Rattle.edit_model.specs.Surveys.{IsField}
 use Rattle.edit_model.specs.declared.field.Field.{Field}
-use Rattle.edit_line.specs.Shapes.{code_count, shape_of}
+use Rattle.edit_line.specs.Shapes.{shape_of}
 use Rattle.edit_line.proofs.ShapeLaws.{count_few, counts_more, domains-all}
 use Rattle.edit_line.proofs.shape.Shape.of.Goals as goal
 

@@ -1,5 +1,5 @@
 use Rattle.std.proofs.Common.{◌≡◌, ◌≤◌, All, length, map, take}
-use Rattle.edit_line.specs.Shapes.{code_count}
+use Rattle.edit_line.specs.inner.CodeCounts.{code_count}
 use Rattle.edit_model.specs.declared.field.Field.{Field}
 use Rattle.edit_line.proofs.shape.Shape.of.Given as goal
 
