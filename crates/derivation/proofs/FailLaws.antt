@@ -1,4 +1,4 @@
-use Rattle.std.proofs.Common.{◌≡◌, ◌≢◌, ℕ, not, Bool, true, List, Result, Ok, Err, ap, ◌∙◌}
+use Rattle.std.proofs.Common.{◌≡◌, ◌≢◌, ◌∙◌, Bool, Err, List, Ok, Result, ap, false, not, true, ℕ}
 use Rattle.std.specs.Result.{result_unwrap_or}
 use Rattle.edit_line.specs.inner.LineFields.{HasNumbers}
 use Rattle.edit_model.specs.FieldSets.{has_number}

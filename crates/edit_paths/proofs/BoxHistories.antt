@@ -1,4 +1,4 @@
-use Rattle.std.proofs.Common.{◌≡◌, ℕ, suc, true, if◌then◌else◌, List, [], ◌∷◌, Option, Some, None, IsSomeAnd, Ok, map, slice_get, slice_index_or, sym, ap, ◌∙◌}
+use Rattle.std.proofs.Common.{◌≡◌, ◌∷◌, ◌∙◌, IsSomeAnd, List, None, Ok, Option, Some, [], ap, false, if◌then◌else◌, map, slice_get, slice_index_or, suc, sym, true, ℕ}
 use Rattle.std.proofs.lemmas.Bool.Decides.{Decides-eqb}
 use Rattle.std.specs.Result.{result_unwrap_or}
 use Rattle.foundation.specs.Options.{◌>>?◌}
