@@ -1,10 +1,8 @@
 //! What becomes of one record.
-ghost use Rattle.std.specs.Prelude.{◌≡◌, ◌<◌, IfOk, IfSome, None, Option, Some, length, option_copied, option_map};
+ghost use Rattle.std.specs.Prelude.{◌≡◌, ◌<◌, IfOk, IfSome, None, Some, length, option_copied, option_map};
 ghost use Rattle.edit_line.specs.EditSets.{EditsParts};
 ghost use Rattle.edit_model.specs.Rows.{IsRow};
-ghost use Rattle.edit_paths.specs.Cases.{IsCase};
 ghost use Rattle.edit_paths.specs.Outcomes.{outcome_of};
-ghost use Rattle.back_subst.specs.Gifts.{IsDonorRecord};
 ghost use Rattle.bound_cert.specs.declared.outcome.Outcome.TheVariants as outcome;
 ghost use Rattle.donor_book.specs.Claims.{claim_of};
 ghost use Rattle.donor_book.specs.Entries.{wins_of};
@@ -17,6 +15,7 @@ use back_subst::{GiveFault, changed_set, give};
 use bound_cert::{Cert, GiftFault, Outcome, Path, RowProof};
 use donor_book::Book;
 use edit_model::{Row, Value};
+use edit_paths::case_known;
 use edit_report::RowEnd;
 use foundation::{OutOfMemory, Steps};
 use linear_elim::Systems;
@@ -46,7 +45,7 @@ pub(crate) fn edit_record<F: Fn(u32, &Value, &Value) -> u64, S: Systems, L: Ledg
     ensures serves { (e : EditsParts) → S.serves source.old e → S.serves source.new e }
 {
     let row = editing.sheet.row(row_no);
-    case_known(editing, row);
+    case_known(editing.survey, editing.edits, row);
     match localise(
         alloc,
         source,
@@ -63,16 +62,6 @@ pub(crate) fn edit_record<F: Fn(u32, &Value, &Value) -> u64, S: Systems, L: Ledg
         }
         outcome => Ok(left_out(outcome)),
     }
-}
-
-// The survey, its edits and the record are a case. Nothing is computed.
-fn case_known<F: Fn(u32, &Value, &Value) -> u64>(editing: &Editing<F>, row: &Row)
-    requires editing { IsEditing F.Fn editing.now }
-    requires row { IsRow editing.now.survey.now.fields row.now }
-    ensures { IsCase (case_in editing.now row.now) }
-{
-    let _fields = editing.survey.fields();
-    let _lines = editing.edits.reduced();
 }
 
 /// A change that was found: its path, its weight, and the tree that shows that none is lighter.
@@ -105,7 +94,7 @@ fn with_values<F: Fn(u32, &Value, &Value) -> u64, S: Systems, L: Ledger>(
     ensures donor { IfOk result (λ end. end.donor ≡ donor) }
     ensures serves { (e : EditsParts) → S.serves source.old e → S.serves source.new e }
 {
-    case_known(editing, row);
+    case_known(editing.survey, editing.edits, row);
     let changed = changed_set(editing.survey, change.path.letters());
     match give(
         alloc,

@@ -16,6 +16,7 @@ use edit_language::read_rules;
 use edit_line::Edits;
 use edit_model::{Field, FieldSet, Kind, Row, Survey, Value};
 use edit_normal::rule_edits;
+use edit_paths::case_known;
 use foundation::Steps;
 use linear_elim::Recompute;
 use std::alloc::Global;
@@ -126,8 +127,7 @@ fn changed_in(
     requires same { SayTheRules survey.now (arc_value edits.now) }
     ensures { IfOk result (λ changed. CanGive survey.now (arc_value edits.now) row.now changed) }
 {
-    let _fields = survey.fields(); // read for what they say: the fields and the edits are in form
-    let _lines = edits.reduced();
+    case_known(survey, edits, row);
     match outcome_of(alloc, survey, edits, row, 1000) {
         Ok(Outcome::Change { path, .. }) => Ok(changed_set(survey, path.letters())),
         _ => Err("a change")?,

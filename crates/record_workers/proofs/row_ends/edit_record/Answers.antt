@@ -20,7 +20,7 @@ returns-in_default g c =
     let end = c.left_out.result in
     let history = c.args.book.now.history in
     let none : IsNoChange c.in_ok-outcome.outcome = λ path weight cert e. c.in_default.not-Change path weight cert e in
-    let both = left-out survey (edits_in e) c.row-row.result.now e.terms.budget c.case_known.ensures (c.requires.editing.same c.row-row.result.now) rows c.in_ok-outcome.outcome end
+    let both = left-out survey (edits_in e) c.row-row.result.now e.terms.budget c.case_known.ensures.case (c.requires.editing.same c.row-row.result.now) rows c.in_ok-outcome.outcome end
     c.in_ok-outcome.ensures.exact none c.left_out.ensures.outcome c.left_out.ensures.none in
     record {
       end = subst (λ (r : List Value). IsEndOf survey (edits_in e) e.terms.budget rows r end) c.row-row.ensures both.0;
@@ -34,7 +34,7 @@ returns-in_default g c =
 pub donor_for-requires-clause-whole : goal.donor_for-requires-clause-whole
 donor_for-requires-clause-whole g c =
     let e = c.args.editing.now in
-    change-whole e.survey.now (edits_in e) c.row-row.result.now e.terms.budget c.in-Change.path c.in-Change.weight c.in-Change.cert c.case_known.ensures (sym c.in_ok-outcome.ensures.exact ∙ c.in-Change.is)
+    change-whole e.survey.now (edits_in e) c.row-row.result.now e.terms.budget c.in-Change.path c.in-Change.weight c.in-Change.cert c.case_known.ensures.case (sym c.in_ok-outcome.ensures.exact ∙ c.in-Change.is)
 
 pub donor_for-requires-clause-opened : goal.donor_for-requires-clause-opened
 donor_for-requires-clause-opened g c =

@@ -3,7 +3,6 @@ use Rattle.std.specs.Arc.{arc_value}
 use Rattle.bound_cert.specs.declared.outcome.Outcome.TheVariants as outcome
 use Rattle.edit_paths.specs.Cases.{IsCase, case_of}
 use Rattle.edit_paths.specs.Outcomes.{outcome_of}
-use Rattle.localise_tree.proofs.ModelLaws.{is-case}
 use Rattle.back_subst.proofs.ChangeLaws.{change-given, change-whole}
 use Rattle.search_bench.proofs.ValueLaws.{meets-same}
 use Rattle.search_bench.proofs.tests.values.changed_in.Goals as goal
@@ -11,8 +10,7 @@ use Rattle.search_bench.proofs.tests.values.changed_in.Goals.{After-letters}
 
 module _ (c : After-letters) where
   case : IsCase (case_of c.args.survey.now (arc_value c.args.edits.now) c.args.row.now)
-  case =
-      is-case c.args.survey.now (arc_value c.args.edits.now) c.deref.result.now c.args.row.now c.reduced-lines.result.now c.fields-fields.ensures.well_formed c.requires.row c.requires.shape c.deref.ensures c.reduced-lines.ensures.kept
+  case = c.case_known.ensures.case
 
   found : outcome_of (case_of c.args.survey.now (arc_value c.args.edits.now) c.args.row.now) 1000 ≡ outcome.Change c.in-Ok-Change.path c.in-Ok-Change.field-0-1 c.in-Ok-Change.field-0-2
   found = sym c.in-Ok-Change.ensures ∙ c.in-Ok-Change.field-0-is
