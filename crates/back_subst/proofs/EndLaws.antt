@@ -8,7 +8,7 @@ use Rattle.edit_line.specs.Lines.{IsEnough}
 use Rattle.edit_line.proofs.Enough.{IsEnough-above, IsEnough-at_least, IsEnough-more, IsEnough-times, IsEnough_cancel, is_enough-Decides}
 use Rattle.edit_line.proofs.SetLaws.{both_true}
 use Rattle.linear_elim.proofs.BetweenLaws.{above_neg, by_sign}
-use Rattle.back_subst.specs.Intervals.{End, Interval, IsEndOf, gap_from, is_past_any, is_within, halfway}
+use Rattle.back_subst.specs.Intervals.{End, Interval, IsEndOf, gap_from, is_past_any, is_between, halfway}
 use Rattle.back_subst.proofs.IntervalLaws.{depth}
 
 -- The ends of the interval of the allowed numbers, by these numbers alone.
@@ -128,7 +128,7 @@ module _ (side : ℤ) (unit : side *ℤ side ≡ pos 1) (allowed : Ratio → Typ
 
 -- ---- both ends of the interval of the allowed numbers
 
-module _ (allowed : Ratio → Type 0) (i : Interval) (exact : (x : Ratio) → pos 0 <ℤ x.denominator → allowed x ↔ (is_within i x ≡ true)) (y : Ratio) (y_above : pos 0 <ℤ y.denominator) (y_allowed : allowed y) where
+module _ (allowed : Ratio → Type 0) (i : Interval) (exact : (x : Ratio) → pos 0 <ℤ x.denominator → allowed x ↔ (is_between i x ≡ true)) (y : Ratio) (y_above : pos 0 <ℤ y.denominator) (y_allowed : allowed y) where
   both : (a b : Bool) → a ≡ true → b ≡ true → (a && b) ≡ true
   both true b e h = h
   both false b e h = absurd (cc)

@@ -29,7 +29,7 @@ use Rattle.linear_elim.proofs.PointLaws.{map-agree, put-code, put-differs, rest_
 use Rattle.linear_elim.proofs.StepLaws.{above_tells, below_tells}
 use Rattle.linear_elim.proofs.SystemLaws.{HaveShape-system}
 use Rattle.back_subst.specs.Allowed.{AllowsNumber, Completes}
-use Rattle.back_subst.specs.Intervals.{End, Interval, is_past_any, is_within}
+use Rattle.back_subst.specs.Intervals.{End, Interval, is_past_any, is_between}
 use Rattle.back_subst.specs.inner.Bounds.{AreWithinBounds, BoundsField, DecideFor, IsWithinBound, RestsFit}
 use Rattle.back_subst.proofs.AllowedNumbers.{IsBoundedAt, allowed-bounded}
 use Rattle.edit_line.proofs.FactorLaws.{factor-numerical}
@@ -204,7 +204,7 @@ module _ (survey : SurveyParts) (edits : List LineParts) (row : List Value) (f :
       (Some end, end-of (negsuc 0) (l ∷ bounds) best end is refl (λ x. high-past (factor best f) x.numerator x.denominator p.denominator (rest_at best f p)))
 
   -- where some correction completes the record, the numbers allowed at f are an interval that is not empty, and its ends are fractions
-  pub allowed-interval : (i : Interval) × ((x : Ratio) → pos 0 <ℤ x.denominator → AllowsNumber survey row (f ∷ before) f x ↔ IsTrue (is_within i x)) × ((x : Ratio) × (pos 0 <ℤ x.denominator) × AllowsNumber survey row (f ∷ before) f x)
+  pub allowed-interval : (i : Interval) × ((x : Ratio) → pos 0 <ℤ x.denominator → AllowsNumber survey row (f ∷ before) f x ↔ IsTrue (is_between i x)) × ((x : Ratio) × (pos 0 <ℤ x.denominator) × AllowsNumber survey row (f ∷ before) f x)
   allowed-interval =
       let (low, low_is) = lower_end (on_side is_lower) (λ l there. above_tells (factor l f) (both_true _ _ (in-filter-out _ l lines there).1).0) in
       let (high, high_is) = upper_end (on_side is_upper) (λ l there. below_tells (factor l f) (both_true _ _ (in-filter-out _ l lines there).1).0) in (
@@ -231,7 +231,7 @@ module _ (survey : SurveyParts) (edits : List LineParts) (row : List Value) (f :
           bounded line was ((is_inside-Decides line.sets (codes_at shape p)).0 inside) (stands line side)
 
       exact : (x : Ratio) → pos 0 <ℤ x.denominator → (low high : Option End) → IsEndOf (pos 1) (on_side is_lower) low → IsEndOf (negsuc 0) (on_side is_upper) high
-          → AllowsNumber survey row (f ∷ before) f x ↔ IsTrue (is_within (record { lower = low; upper = high }) x)
+          → AllowsNumber survey row (f ∷ before) f x ↔ IsTrue (is_between (record { lower = low; upper = high }) x)
       exact x above low high low_is high_is =
           let law = allowed-bounded survey edits row f before is_row over decide number numbers other p completes x above in (
             λ allowed.

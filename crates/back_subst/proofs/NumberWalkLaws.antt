@@ -27,7 +27,7 @@ use Rattle.edit_line.proofs.Enough.{IsEnough-times, IsEnough-weaker, IsEnough_ca
 use Rattle.edit_line.proofs.SetLaws.{both_true, is_inside-Decides}
 use Rattle.linear_elim.proofs.BetweenLaws.{above_neg, by_sign}
 use Rattle.back_subst.specs.Given.{IsGivenNumber, IsSame}
-use Rattle.back_subst.specs.Intervals.{End, further_in, is_past_any, is_within, kept_past}
+use Rattle.back_subst.specs.Intervals.{End, further_in, is_past_any, is_between, kept_past}
 use Rattle.back_subst.specs.NumberWalk.{Found, FoundBounds, bound_at, bounds_from, found_at, inside_by, is_bounding, no_bounds, number_result, rest_of, step_in, then_nearest, tighter, unless_out, value_in, with_found}
 use Rattle.back_subst.specs.inner.Bounds.{AreWithinBounds, BoundsField, IsWithinBound, RestsFit}
 use Rattle.back_subst.proofs.BoundLaws.{bound-depth, further, further-in, multiple}
@@ -401,7 +401,7 @@ walked-number lines row f target r e = by (bounds_from 0 lines row f no_bounds) 
           record {
             interval = record { lower = any_from ends.lower all.proper.0; upper = any_from ends.upper all.proper.1 };
             exact = λ y above.
-                let same : is_within (record { lower = any_from ends.lower all.proper.0; upper = any_from ends.upper all.proper.1 }) y ≡ within_found ends y =
+                let same : is_between (record { lower = any_from ends.lower all.proper.0; upper = any_from ends.upper all.proper.1 }) y ≡ within_found ends y =
                 ap (λ b. b && is_past_any (negsuc 0) (any_from ends.upper all.proper.1) y) (past-any (pos 1) ends.lower all.proper.0 y) ∙ ap (λ b. past_found (pos 1) ends.lower y && b) (past-any (negsuc 0) ends.upper all.proper.1 y) in
                 (λ within. same ∙ (all.within y above).1 (refl, within), λ inside. ((all.within y above).0 (sym same ∙ inside)).1);
             is_nearest = out-same (pos 1) target ends.lower ends.upper all.proper.0 all.proper.1 r (unless_out (negsuc 0) ends.upper ends.lower target (Ok target)) _ h

@@ -11,7 +11,7 @@ use Rattle.edit_paths.specs.Cases.{case_of}
 use Rattle.edit_paths.proofs.CaseSystems.{start_over}
 use Rattle.back_subst.specs.Allowed.{AllowsNumber}
 use Rattle.back_subst.specs.Given.{IsAllOf, IsGivenNumber, IsSame}
-use Rattle.back_subst.specs.Intervals.{Interval, is_within}
+use Rattle.back_subst.specs.Intervals.{Interval, is_between}
 use Rattle.back_subst.specs.Laws.{IsEndAt, IsOpenNumber}
 use Rattle.back_subst.specs.inner.Bounds.{DecideFor}
 use Rattle.back_subst.specs.inner.Systems.{start_lines}
@@ -22,7 +22,7 @@ use Rattle.back_subst.proofs.NumberLaws.{allowed-interval}
 -- What is known of the values that are given, by the corrections alone.
 
 pub open-interval : (survey : SurveyParts) (edits : EditsParts) (row : List Value) (f : ℕ) (left : List ℕ) (p : Point) → IsOpenNumber survey edits row f left p
-    → (i : Interval) × IsAllOf (AllowsNumber survey row (f ∷ left) f) i × ((x : Ratio) × (pos 0 <ℤ x.denominator) × IsTrue (is_within i x))
+    → (i : Interval) × IsAllOf (AllowsNumber survey row (f ∷ left) f) i × ((x : Ratio) × (pos 0 <ℤ x.denominator) × IsTrue (is_between i x))
 open-interval survey edits row f left p is =
     let (i, exact, (x, above, allowed)) = allowed-interval survey (start_lines edits) row f left is.case.row (start_over (case_of survey edits row) is.case) decide is.field is.fields is.apart p is.completes in
     (i, exact, (x, above, (exact x above).0 allowed))

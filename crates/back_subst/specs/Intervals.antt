@@ -25,8 +25,8 @@ is_past_any side None x = true
 is_past_any side (Some end) x = is_past side end x
 
 -- whether a number is in the interval
-abbrev pub is_within : Interval → Ratio → Bool
-is_within i x = is_past_any (pos 1) i.lower x && is_past_any (negsuc 0) i.upper x
+abbrev pub is_between : Interval → Ratio → Bool
+is_between i x = is_past_any (pos 1) i.lower x && is_past_any (negsuc 0) i.upper x
 
 -- halfway between two numbers
 abbrev pub halfway : Ratio → Ratio → Ratio

@@ -10,7 +10,7 @@ use Rattle.edit_line.specs.Shapes.{IsNumerical, has_field, shape_of}
 use Rattle.edit_paths.specs.Cases.{IsCase, Meets, case_of, edit_lines}
 use Rattle.back_subst.specs.Allowed.{AgreesBut, AllowsNumber, Completes}
 use Rattle.back_subst.specs.Given.{IsAllOf, IsGivenNumber, IsSame}
-use Rattle.back_subst.specs.Intervals.{End, Interval, IsEndOf, is_within}
+use Rattle.back_subst.specs.Intervals.{End, Interval, IsEndOf, is_between}
 
 -- a numerical field, and other numerical fields that are left with it; some correction has the record's values elsewhere,
 -- and the edits tell corrections
@@ -29,7 +29,7 @@ abbrev pub IntervalLaw : Type 0
 IntervalLaw =
     (survey : SurveyParts) (edits : EditsParts) (row : List Value) (f : ℕ) (left : List ℕ) (p : Point)
     → IsOpenNumber survey edits row f left p
-    → (i : Interval) × IsAllOf (AllowsNumber survey row (f ∷ left) f) i × ((x : Ratio) × (pos 0 <ℤ x.denominator) × IsTrue (is_within i x))
+    → (i : Interval) × IsAllOf (AllowsNumber survey row (f ∷ left) f) i × ((x : Ratio) × (pos 0 <ℤ x.denominator) × IsTrue (is_between i x))
 
 -- an end of the interval of the allowed numbers, at a side, is their end by these numbers alone; and where the interval
 -- has none there, they have none

@@ -6,7 +6,7 @@ use Rattle.edit_model.specs.declared.field.Field.{Field}
 use Rattle.edit_model.specs.declared.value.Value.{Value}
 use Rattle.bound_cert.specs.Paths.{changes, path_place}
 use Rattle.cert_check.specs.Released.{AreValuesFrom, IsReleasedAs, IsValueOf, same_from, text_at}
-use Rattle.cert_check.specs.RowChecks.{IsReleased}
+use Rattle.cert_check.specs.RowChecks.{AreReleasedTexts}
 use Rattle.cert_check.specs.declared.checking.Checking.{Checking}
 use Rattle.cert_check.specs.declared.checking.RowAt.{RowAt}
 use Rattle.cert_check.specs.inner.Checks.{GivesClean, files_in, rules_in}
@@ -57,8 +57,8 @@ module _ (c : Checking) (f : RowAt) (path : List Bool) where
   Of released = IsSomeAnd released (λ texts. (new : List Value) × IsReleasedAs c.survey.now c.columns.now (changes c.survey.now.fields path) f.reads.now f.row.now texts new)
 
   module _ (texts : List (List ℕ)) (is : option_map (λ t. t.now) f.texts ≡ Some texts) where
-    pub gives-released : same_from (changes c.survey.now.fields path) c.columns.now 0 f.reads.now texts ≡ true → GivesClean c path texts f.row.now → IsReleased (rules_in c) (files_in f) path
+    pub gives-released : same_from (changes c.survey.now.fields path) c.columns.now 0 f.reads.now texts ≡ true → GivesClean c path texts f.row.now → AreReleasedTexts (rules_in c) (files_in f) path
     gives-released same (new, values, clean) = subst Of (sym is) (new, record { values = values; elsewhere = same; clean = clean })
 
-    pub released-gives : IsReleased (rules_in c) (files_in f) path → GivesClean c path texts f.row.now
+    pub released-gives : AreReleasedTexts (rules_in c) (files_in f) path → GivesClean c path texts f.row.now
     released-gives released = let (new, as_said) = subst Of is released in (new, as_said.values, as_said.clean)

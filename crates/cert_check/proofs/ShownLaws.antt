@@ -32,7 +32,7 @@ use Rattle.proof_grammar.specs.declared.proof.Proof.{Proof}
 use Rattle.cert_check.specs.Dropped.{kept_flags}
 use Rattle.cert_check.specs.Released.{IsReleasedAs, text_at}
 use Rattle.cert_check.specs.Releases.{AreValidRows, Audit, Fits, IsValidRelease, behind, files_of, rules_of}
-use Rattle.cert_check.specs.RowChecks.{IsReleased, IsValidChange, IsValidSaid, RowFiles, is_change, tree_of}
+use Rattle.cert_check.specs.RowChecks.{AreReleasedTexts, IsValidChange, IsValidSaid, RowFiles, fits_change, tree_of}
 use Rattle.cert_check.specs.Shown.{IsLeastRelease, ShowAll, Shows, ShowsSaid}
 use Rattle.cert_check.proofs.DroppedLaws.{rules-follow}
 use Rattle.cert_check.proofs.NewRowLaws.{differing-weighs, empty-weighs, row-differs, values-row, clean-agrees, clean-corrects}
@@ -53,11 +53,11 @@ module _ (a : Audit) (p : Proof) (well : IsWellFormed a.survey) (fits : Fits a p
       in-all (λ l. lines.LineHolds l q) l (normal_lines_of a.survey) ((lines-mean a.survey q well correction.codes).1 correction.rules) (usable-among (normal_lines_of a.survey) (kept_flags p) l there)))
 
   -- the weight of a path that is right
-  right-weight : (path : List Bool) (weight : ℕ) → is_change a.survey.fields f.row path weight ≡ true → path_weight a.survey.fields path ≡ weight
+  right-weight : (path : List Bool) (weight : ℕ) → fits_change a.survey.fields f.row path weight ≡ true → path_weight a.survey.fields path ≡ weight
   right-weight path weight right = (Decides-eqb (path_weight a.survey.fields path) weight).0 (both_true _ _ (both_true _ _ right).1).1
 
   -- a released row of a path's weight is a correction of least weight, where no correction is lighter
-  least-release : (path : List Bool) (weight : ℕ) → path_weight a.survey.fields path ≡ weight → ((q : Point) → IsCorrection a.survey q → weight ≤ change_weight a.survey f.row q) → IsReleased (rules_of a p) f path
+  least-release : (path : List Bool) (weight : ℕ) → path_weight a.survey.fields path ≡ weight → ((q : Point) → IsCorrection a.survey q → weight ≤ change_weight a.survey f.row q) → AreReleasedTexts (rules_of a p) f path
       → IsSomeAnd f.texts (λ texts. IsLeastRelease a.survey a.sheet.columns (changes a.survey.fields path) f.row texts weight)
   least-release path weight is least released = some-then f.texts _ _ of_texts released
     where

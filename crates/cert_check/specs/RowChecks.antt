@@ -38,8 +38,8 @@ pub record RowFiles : Type 0 where
 -- ---- parts of what is said
 
 -- the path says something of all fields, keeps none at which the record has no value, and has this weight
-abbrev pub is_change : List Field → List Value → List Bool → ℕ → Bool
-is_change fields row path weight =
+abbrev pub fits_change : List Field → List Value → List Bool → ℕ → Bool
+fits_change fields row path weight =
     (length path == length fields) && (not (keeps_bad fields row path) && (path_weight fields path == weight))
 
 -- the field, or the rule, at which a giving stopped is there
@@ -62,21 +62,21 @@ abbrev pub tree_of : RowRules → RowFiles → Option ℕ → TreeCase
 tree_of r f weight = tree_case r.survey r.given r.usable f.row weight
 
 -- texts are released for the record, of which the path changes some fields
-abbrev pub IsReleased : RowRules → RowFiles → List Bool → Type 0
-IsReleased r f path = IsSomeAnd f.texts (λ texts. (new : List Value)
+abbrev pub AreReleasedTexts : RowRules → RowFiles → List Bool → Type 0
+AreReleasedTexts r f path = IsSomeAnd f.texts (λ texts. (new : List Value)
     × IsReleasedAs r.survey r.columns (changes r.survey.fields path) f.reads f.row texts new)
 
 -- the path and the weight of a change are right, and its tree is valid
 abbrev pub IsCertified : RowRules → RowFiles → List Bool → ℕ → List Leaf → Type 0
 IsCertified r f path weight leaves =
-    (is_change r.survey.fields f.row path weight ≡ true) × IsValidTree (tree_of r f (Some weight)) leaves
+    (fits_change r.survey.fields f.row path weight ≡ true) × IsValidTree (tree_of r f (Some weight)) leaves
 
 -- ---- a valid record
 
 -- a change of nothing is a clean record; any other change is certified; and the record is released so
 abbrev pub IsValidChange : RowRules → RowFiles → List Bool → ℕ → List Leaf → Type 0
-IsValidChange r f path zero leaves = IsReleased r f path
-IsValidChange r f path (suc w) leaves = IsCertified r f path (suc w) leaves × IsReleased r f path
+IsValidChange r f path zero leaves = AreReleasedTexts r f path
+IsValidChange r f path (suc w) leaves = IsCertified r f path (suc w) leaves × AreReleasedTexts r f path
 
 -- a change to which no values were given is certified, and there is such a field or rule
 abbrev pub IsValidGift : RowRules → RowFiles → List Bool → ℕ → List Leaf → GiftFault → Type 0
@@ -104,15 +104,15 @@ IsTreeFault c leaves offset =
 -- of a change that is not certified: the head, where the path or the weight is not right, or the tree
 abbrev pub IsCertFault : RowRules → RowFiles → List Bool → ℕ → List Leaf → ℕ → Type 0
 IsCertFault r f path weight leaves offset =
-    ((is_change r.survey.fields f.row path weight ≡ false) × (offset ≡ 0))
-    ⊎ ((is_change r.survey.fields f.row path weight ≡ true) × IsTreeFault (tree_of r f (Some weight)) leaves offset)
+    ((fits_change r.survey.fields f.row path weight ≡ false) × (offset ≡ 0))
+    ⊎ ((fits_change r.survey.fields f.row path weight ≡ true) × IsTreeFault (tree_of r f (Some weight)) leaves offset)
 
 -- of a change: that of its certificate, or the head, where the record is not released so
 abbrev pub IsChangeFault : RowRules → RowFiles → List Bool → ℕ → List Leaf → ℕ → Why → Type 0
-IsChangeFault r f path zero leaves offset why.RowText = (offset ≡ 0) × ¬ IsReleased r f path
+IsChangeFault r f path zero leaves offset why.RowText = (offset ≡ 0) × ¬ AreReleasedTexts r f path
 IsChangeFault r f path (suc w) leaves offset why.Cert = IsCertFault r f path (suc w) leaves offset
 IsChangeFault r f path (suc w) leaves offset why.RowText =
-    IsCertified r f path (suc w) leaves × ¬ IsReleased r f path × (offset ≡ 0)
+    IsCertified r f path (suc w) leaves × ¬ AreReleasedTexts r f path × (offset ≡ 0)
 IsChangeFault r f path weight leaves offset other = ⊥
 
 -- of a change to which no values were given: that of its certificate, or the head, where there is no such field or rule

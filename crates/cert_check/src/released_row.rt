@@ -2,7 +2,7 @@
 ghost use Rattle.std.specs.Prelude.{◌<◌, All, IfOk, length};
 ghost use Rattle.std.specs.Bool.{Decides};
 ghost use Rattle.edit_model.specs.Rows.{IsRow};
-ghost use Rattle.cert_check.specs.RowChecks.{IsReleased};
+ghost use Rattle.cert_check.specs.RowChecks.{AreReleasedTexts};
 ghost use Rattle.cert_check.specs.inner.Checks.{FitsFiles, GivesClean, IsChecking, files_in, rules_in};
 
 use crate::changed_fields::changes_some;
@@ -23,7 +23,7 @@ pub(crate) fn is_released(
 ) -> Result<bool, OutOfMemory>
     requires checking { IsChecking checking.now }
     requires files { FitsFiles checking.now files.now }
-    ensures { IfOk result (λ b. Decides b (IsReleased (rules_in checking.now) (files_in files.now) path.now)) }
+    ensures { IfOk result (λ b. Decides b (AreReleasedTexts (rules_in checking.now) (files_in files.now) path.now)) }
 {
     let Some(texts) = files.texts else {
         return Ok(false);

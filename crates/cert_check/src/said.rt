@@ -2,7 +2,7 @@
 ghost use Rattle.std.specs.Prelude.{◌≡◌};
 ghost use Rattle.bound_cert.specs.Claims.{claims_donor};
 ghost use Rattle.edit_model.specs.Rows.{IsRow};
-ghost use Rattle.cert_check.specs.RowChecks.{event_exists, gift_exists, is_change, place_exists};
+ghost use Rattle.cert_check.specs.RowChecks.{event_exists, gift_exists, fits_change, place_exists};
 
 use bound_cert::{Event, GiftFault, Outcome, Path, RowProof};
 use edit_line::Place;
@@ -12,7 +12,7 @@ use edit_model::{Row, Survey};
 /// No memory.
 pub(crate) fn is_change(survey: &Survey, row: &Row, path: &Path, weight: u64) -> bool
     requires { IsRow survey.now.fields row.now }
-    ensures { result ≡ is_change survey.now.fields row.now path.now weight }
+    ensures { result ≡ fits_change survey.now.fields row.now path.now weight }
 {
     path.letters().len() == survey.fields().len()
         && (!path.keeps_bad(survey, row) && path.weight(survey) == weight)

@@ -18,7 +18,7 @@ use Rattle.edit_model.specs.declared.rule.Test.TheVariants as test
 use Rattle.rule_grammar.specs.declared.statement.SumText.{SumText}
 use Rattle.rule_grammar.specs.declared.statement.TestText.{TestText}
 use Rattle.rule_grammar.specs.declared.statement.TestText.TheVariants as written
-use Rattle.edit_language.specs.Faults.{has_double_code, has_form, is_equation, is_known_test, is_large_test, is_sums}
+use Rattle.edit_language.specs.Faults.{has_double_code, has_rule_form, is_equation, is_known_test, is_large_test, is_sums}
 use Rattle.edit_language.specs.inner.FirstFault.{tests_of}
 use Rattle.edit_language.specs.inner.FirstFault.{declaration_fault, fault_of, first_true, has_known_codes}
 use Rattle.edit_language.specs.Meaning.{extended, field_of, rule_of, test_of}
@@ -100,7 +100,7 @@ no_equation fields (test.Number l) is = order_sums (sum_of fields l.terms l.cons
 no_equation fields (test.Codes i negated set) is = absurd is
 
 abbrev form_of : List Field → List Test → Test → Bool
-form_of fields conditions conclusion = has_form (record { conditions = map (written_test fields) conditions; conclusion = written_test fields conclusion })
+form_of fields conditions conclusion = has_rule_form (record { conditions = map (written_test fields) conditions; conclusion = written_test fields conclusion })
 
 form_back : (fields : List Field) (r : Rule) → HasForm r → form_of fields r.conditions r.conclusion ≡ true
 form_back fields r form =
@@ -129,7 +129,7 @@ rule_back done r all distinct is few =
       faultless = none_of_more _ _ _ UnknownField UnknownCode DoubleCode (
           (list_any (is_large_test fields) (tests_of (written_rule fields r)), NumberRange)
           ∷ (nat_le 500 (length done.rules), TooMany)
-          ∷ (not (has_form (written_rule fields r)), ConditionForm) ∷ [])
+          ∷ (not (has_rule_form (written_rule fields r)), ConditionForm) ∷ [])
           (not_from_true _ (all_true _ _ (every (λ t. is_known_test fields t ≡ true) (λ t back. back.known))))
           (not_from_true _ (all_true _ _ (every (λ t. has_known_codes fields t ≡ true) (λ t back. back.known_codes))))
           (none_true _ _ (every (λ t. has_double_code t ≡ false) (λ t back. back.distinct)))

@@ -10,7 +10,7 @@ use Rattle.std.specs.Fmt.{decimal}
 use Rattle.std.specs.Int.{IsInRange}
 use Rattle.std.specs.List.{list_all, prefix_len}
 use Rattle.std.specs.Str.Parse.{AllDigits}
-use Rattle.edit_model.specs.Surveys.{IsName, is_digit, is_letter, is_name}
+use Rattle.edit_model.specs.Surveys.{IsName, is_digit, is_letter, has_name_form}
 use Rattle.rule_grammar.proofs.Keywords.{each_keyword}
 use Rattle.rule_grammar.specs.Names.{IsCodeText}
 use Rattle.rule_grammar.specs.Tokens.{decimals_len, is_code_byte, is_inside_after, is_word_byte, whole_numeral}
@@ -163,7 +163,7 @@ word_byte_is_plain b h = grind (arith, nat_tests)
 digit_is_plain : (b : ℕ) → is_digit b ≡ true → is_plain b ≡ true
 digit_is_plain b h = grind (arith, nat_tests)
 
-name_plain : (name : List ℕ) → is_name name ≡ true → IsPlain name
+name_plain : (name : List ℕ) → has_name_form name ≡ true → IsPlain name
 name_plain [] h = refl
 name_plain (b ∷ bs) h =
     let parts = and_parts (is_letter b) (list_all is_word_byte bs) h in and_from _ _ (letter_is_plain b parts.0) (all_weaker is_word_byte is_plain word_byte_is_plain bs parts.1)

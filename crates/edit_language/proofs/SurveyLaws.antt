@@ -23,7 +23,7 @@ use Rattle.rule_grammar.specs.declared.statement.TestText.{TestText}
 use Rattle.rule_grammar.specs.declared.statement.TestText.TheVariants as written
 use Rattle.rule_grammar.specs.declared.token.Numeral.{Numeral}
 use Rattle.rule_grammar.specs.declared.token.Numeral.TheVariants as numeral
-use Rattle.edit_language.specs.Faults.{has_form, is_equation, is_known_test, is_large_test, is_outside, is_sums}
+use Rattle.edit_language.specs.Faults.{has_rule_form, is_equation, is_known_test, is_large_test, is_outside, is_sums}
 use Rattle.edit_language.specs.inner.FirstFault.{tests_of}
 use Rattle.edit_language.specs.inner.FirstFault.{fault_of, has_known_codes}
 use Rattle.edit_language.specs.Meaning.{extended, field_of, listed, number_or_one, rule_of, test_of}
@@ -130,7 +130,7 @@ tests_fit fields distinct (t ∷ ts) known codes small =
     All-cons (IsTest fields) _ _ (test_fits fields distinct t k.0 c.0 s.0) (tests_fit fields distinct ts k.1 c.1 s.1)
 
 rule_kept : (survey : SurveyParts) (r : RuleText) → IsWellFormed survey → list_all (is_known_test survey.fields) (tests_of r) ≡ true → list_all (has_known_codes survey.fields) (tests_of r) ≡ true → list_any (is_large_test survey.fields) (tests_of r) ≡ false
-    → nat_le 500 (length survey.rules) ≡ false → has_form r ≡ true → IsWellFormed (record { fields = survey.fields; rules = survey.rules ++ rule_of survey.fields r ∷ [] })
+    → nat_le 500 (length survey.rules) ≡ false → has_rule_form r ≡ true → IsWellFormed (record { fields = survey.fields; rules = survey.rules ++ rule_of survey.fields r ∷ [] })
 rule_kept survey r formed known codes small few form =
     let below : length survey.rules < 500 = leb-false _ _ few in
     let k = all_of_list (is_known_test survey.fields) r.conditions r.conclusion known in

@@ -163,8 +163,8 @@ is_equation (written.Sums left Eq right) = true
 is_equation other = false
 
 -- a number test among the conditions is the only one, is no equation, and implies a code test
-abbrev pub has_form : RuleText → Bool
-has_form r =
+abbrev pub has_rule_form : RuleText → Bool
+has_rule_form r =
     not (list_any is_sums r.conditions)
     || ((length r.conditions == 1) && (not (list_any is_equation r.conditions) && not (is_sums r.conclusion)))
 
@@ -203,7 +203,7 @@ is_too_many before (statement.Rule r) = nat_le 500 (length before.rules)
 -- whether a number test stands among the conditions where it may not
 abbrev pub has_wrong_form : Written → Bool
 has_wrong_form (statement.Declaration d) = false
-has_wrong_form (statement.Rule r) = not (has_form r)
+has_wrong_form (statement.Rule r) = not (has_rule_form r)
 
 -- whether the statement, after the lines before it, has a fault of this kind; bad bytes and syntax are faults of a line
 abbrev pub has_fault : SurveyParts → Written → RulesKind → Bool

@@ -3,7 +3,7 @@ ghost use Rattle.std.specs.Prelude.{◌≡◌, List, IfOk};
 ghost use Rattle.std.specs.List.{list_all, list_any};
 ghost use Rattle.std.specs.Str.{bytes_eq};
 ghost use Rattle.edit_model.specs.Parts.{survey_of};
-ghost use Rattle.edit_language.specs.Faults.{has_double_code, has_form, is_equation, is_known_test, is_large_test, is_sums};
+ghost use Rattle.edit_language.specs.Faults.{has_double_code, has_rule_form, is_equation, is_known_test, is_large_test, is_sums};
 ghost use Rattle.edit_language.specs.inner.FirstFault.{tests_of};
 ghost use Rattle.edit_language.specs.inner.FirstFault.{IsDeclarationFault, declaration_fault, fault_of, has_known_codes, rule_fault};
 
@@ -193,7 +193,7 @@ fn are_equations(tests: &[TestText]) -> bool
 
 // Whether a number test among the conditions is the only one, is no equation, and implies a code test.
 fn has_form(rule: &RuleText) -> bool
-    ensures { result ≡ has_form rule.now }
+    ensures { result ≡ has_rule_form rule.now }
 {
     let conditions = rule.conditions.as_slice();
     !are_sums(conditions)

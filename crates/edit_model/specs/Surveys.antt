@@ -20,9 +20,9 @@ abbrev pub is_digit : ℕ → Bool
 is_digit b = nat_le 48 b && nat_le b 57
 
 -- a letter, then letters, digits and `_`
-abbrev pub is_name : List ℕ → Bool
-is_name [] = false
-is_name (b ∷ bs) = is_letter b && list_all (λ c. is_letter c || (is_digit c || (c == 95))) bs
+abbrev pub has_name_form : List ℕ → Bool
+has_name_form [] = false
+has_name_form (b ∷ bs) = is_letter b && list_all (λ c. is_letter c || (is_digit c || (c == 95))) bs
 
 -- the words of the rule language, which name no field
 abbrev pub reserved_words : List (List ℕ)
@@ -32,16 +32,16 @@ reserved_words =
 -- 1 to 32 bytes in the form of a name, and no word of the rule language
 pub record IsName (name : List ℕ) : Type 0 where
   pub size : (1 ≤ length name) × (length name ≤ 32)
-  pub form : IsTrue (is_name name)
+  pub form : IsTrue (has_name_form name)
   pub free : All (λ word. name ≢ word) reserved_words
 
 -- letters, digits, `_`, `-` and `.`
-abbrev pub is_code : List ℕ → Bool
-is_code bs = list_all (λ c. is_letter c || (is_digit c || ((c == 95) || ((c == 45) || (c == 46))))) bs
+abbrev pub has_code_form : List ℕ → Bool
+has_code_form bs = list_all (λ c. is_letter c || (is_digit c || ((c == 95) || ((c == 45) || (c == 46))))) bs
 
 -- 1 to 32 bytes in the form of a code
 abbrev pub IsCode : List ℕ → Type 0
-IsCode bs = IsTrue (is_code bs) × (1 ≤ length bs) × (length bs ≤ 32)
+IsCode bs = IsTrue (has_code_form bs) × (1 ≤ length bs) × (length bs ≤ 32)
 
 -- 1 to 64 codes, no two of them equal
 abbrev pub AreCodes : List (List ℕ) → Type 0

@@ -1,7 +1,7 @@
 //! What a survey keeps beside its parts, so that it is not looked for each time.
 ghost use Rattle.std.specs.Prelude.{◌≡◌, ◌≢◌, ◌∷◌, ◌++◌, [], ◌≤◌, if◌then◌else◌, AllPairs, IfOk, OnOk, length};
 ghost use Rattle.edit_model.specs.Corrections.{numbers_from};
-ghost use Rattle.edit_model.specs.inner.Indexes.{is_of_kind, names_of};
+ghost use Rattle.edit_model.specs.inner.Indexes.{is_of_sort, names_of};
 
 use crate::field::{Field, Kind};
 use crate::name_table::NameTable;
@@ -37,7 +37,7 @@ pub(crate) fn field_numbers(
     numerical: bool,
 ) -> Result<Vec<u32>, OutOfMemory>
     requires { length fields.now ≤ 64 }
-    ensures { IfOk result (λ numbers. numbers.items ≡ numbers_from (is_of_kind numerical) 0 fields.now) }
+    ensures { IfOk result (λ numbers. numbers.items ≡ numbers_from (is_of_sort numerical) 0 fields.now) }
 {
     let mut numbers = Vec::new(alloc);
     for (i, field) in fields.iter().enumerate() {

@@ -10,7 +10,7 @@ use Rattle.record_text.specs.declared.fault.SheetFault.TheVariants as sheet
 use Rattle.cert_check.specs.declared.fault.CheckFault.{CheckFault}
 use Rattle.cert_check.specs.declared.fault.CheckFault.TheVariants as check
 use Rattle.edit_program.specs.Faults.{sheet_fault}
-use Rattle.edit_program.specs.Run.{AreCallsTo, EndAt}
+use Rattle.edit_program.specs.Run.{AreCallsTo, CallsEndAt}
 use Rattle.edit_program.specs.inner.Parts.{AreCallsOf, IsOfFetch, IsOfRecords, IsOfRules, IsOfStores, faults_after}
 use Rattle.edit_program.specs.declared.fault.Fault.{Fault}
 use Rattle.edit_program.specs.declared.fault.Fault.TheVariants as fault
@@ -59,7 +59,7 @@ of-stores fault.OutOfMemory kind = tt
 of-stores f kind = absurd kind
 
 module _ (before order rest calls : List Asked) where
-  end-later : (call last : Asked) → EndAt order call last calls → EndAt (before ++ (order ++ rest)) call last (before ++ calls)
+  end-later : (call last : Asked) → CallsEndAt order call last calls → CallsEndAt (before ++ (order ++ rest)) call last (before ++ calls)
   end-later call last h = record {
     before = before ++ h.before;
     after = h.after ++ rest;

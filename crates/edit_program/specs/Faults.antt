@@ -77,4 +77,3 @@ sheet_fault fields (sheet.DoubleColumn number) = Records (records.DoubleColumn (
 sheet_fault fields sheet.TooManyRows = Records records.TooManyRows
 sheet_fault fields (sheet.RowLength row_no) = Records (records.RowLength row_no)
 sheet_fault fields sheet.OutOfMemory = OutOfMemory
-

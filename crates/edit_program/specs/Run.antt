@@ -46,7 +46,7 @@ ran of_desk of_printer d p = record {
 -- ---- the calls
 
 -- of the calls of a command, in order, those before this one; and then it, as it is on record
-pub record EndAt (order : List Asked) (call last : Asked) (calls : List Asked) : Type 0 where
+pub record CallsEndAt (order : List Asked) (call last : Asked) (calls : List Asked) : Type 0 where
   pub before : List Asked
   pub after : List Asked
   pub stands : order ≡ before ++ call ∷ after
@@ -59,9 +59,9 @@ AreCallsTo order fault.Usage calls = calls ≡ []
 AreCallsTo order (fault.Rules line kind) calls = calls ≡ take 1 order
 AreCallsTo order (fault.Records what) calls = calls ≡ take 2 order
 AreCallsTo order (fault.Rejected line why) calls = calls ≡ order
-AreCallsTo order (fault.TooLong name) calls = EndAt order (fetched name) (fetched name) calls
-AreCallsTo order (fault.Read name) calls = EndAt order (fetched name) (failing (fetched name)) calls
-AreCallsTo order (fault.Write name) calls = EndAt order (stored name) (failing (stored name)) calls
+AreCallsTo order (fault.TooLong name) calls = CallsEndAt order (fetched name) (fetched name) calls
+AreCallsTo order (fault.Read name) calls = CallsEndAt order (fetched name) (failing (fetched name)) calls
+AreCallsTo order (fault.Write name) calls = CallsEndAt order (stored name) (failing (stored name)) calls
 AreCallsTo order fault.OutOfMemory calls = (count : ℕ) × (calls ≡ take count order)
 
 -- the count of faults of the desk after a fault: one more where a file could not be read or written, and there alone

@@ -18,7 +18,7 @@ use Rattle.edit_paths.specs.declared.state.PathState.{PathState}
 use Rattle.edit_paths.specs.declared.state.PathState.TheVariants.{ClosedBad, ClosedBox, ClosedLine, Open, Overflows}
 use Rattle.edit_paths.proofs.BadFields.{not-bad}
 use Rattle.edit_paths.proofs.ChoiceLaws.{found-from}
-use Rattle.cert_check.specs.RowChecks.{is_change}
+use Rattle.cert_check.specs.RowChecks.{fits_change}
 
 -- What the outcome of a record says is right.
 
@@ -27,7 +27,7 @@ module _ (c : Case) (budget : ℕ) where
 
   module _ (path : List Bool) (weight : ℕ) (cert : Cert) (e : outcome_of c budget ≡ outcome.Change path weight cert) where
     -- its path says something of all fields, keeps none without a value, and has its weight
-    pub change-is : is_change c.survey.fields c.row path weight ≡ true
+    pub change-is : fits_change c.survey.fields c.row path weight ≡ true
     change-is =
         let found = found-from c budget [] (reached_paths c) path weight cert e in
         true-both _ _ found.complete

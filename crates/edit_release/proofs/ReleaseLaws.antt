@@ -32,7 +32,7 @@ use Rattle.edit_report.specs.declared.end.RowEnd.{RowEnd}
 use Rattle.record_workers.specs.Ends.{IsEndOf}
 use Rattle.record_workers.specs.Said.{Says}
 use Rattle.cert_check.specs.Releases.{Audit, IsValidRelease, audit_of, head_fault, is_released, limits_fit, rules_of}
-use Rattle.cert_check.specs.RowChecks.{IsReleased, RowFiles, RowRules}
+use Rattle.cert_check.specs.RowChecks.{AreReleasedTexts, RowFiles, RowRules}
 use Rattle.redundancy.proofs.BaseLaws.{verdicts-count}
 use Rattle.pruned_rules.specs.Pruned.{kept_edits, pruning_budget, rule_flags, rule_verdicts}
 use Rattle.pruned_rules.proofs.KeptLaws.{rules-follow}
@@ -97,7 +97,7 @@ module _ (survey : SurveyParts) (formed : IsWellFormed survey) (budget : ℕ) (a
   proof-coherent terms history rows ends are each = record { verdicts = verdicts-coherent survey formed; rows = all-coherent rows ends are each }
 
 -- texts are released of a record that is told to be released
-released-told : (r : RowRules) (f : RowFiles) (o : Outcome) (stop : Option GiftFault) (gift : Option Gift) → is_released (record { outcome = o; gift = stop }) ≡ is_some gift → (IsSome gift → IsReleased r f (path_found o)) → IsReleasedSaid r f o stop
+released-told : (r : RowRules) (f : RowFiles) (o : Outcome) (stop : Option GiftFault) (gift : Option Gift) → is_released (record { outcome = o; gift = stop }) ≡ is_some gift → (IsSome gift → AreReleasedTexts r f (path_found o)) → IsReleasedSaid r f o stop
 released-told r f (Change path weight cert) None None told released = absurd (cc told)
 released-told r f (Change path weight cert) None (Some gift) told released = released refl
 released-told r f (Change path weight cert) (Some stop) gift told released = tt

@@ -19,7 +19,7 @@ use Rattle.edit_report.specs.declared.end.RowEnd.{RowEnd}
 use Rattle.record_workers.specs.Ends.{ComesOf, IsEndOf}
 use Rattle.record_workers.specs.Said.{OutcomeSays, Says}
 use Rattle.cert_check.specs.Releases.{AreValidRows, behind, files_of, is_released}
-use Rattle.cert_check.specs.RowChecks.{IsReleased, IsValidRow, RowFiles, RowRules}
+use Rattle.cert_check.specs.RowChecks.{AreReleasedTexts, IsValidRow, RowFiles, RowRules}
 use Rattle.edit_release.specs.Edits.{said, said_of}
 use Rattle.edit_release.proofs.ReleasedLaws.{IsSaidReleased, clean-released, row-released}
 
@@ -96,7 +96,7 @@ each-follows P survey edits columns width budget all (reads ∷ raws) (row ∷ r
 pub end-released : (r : RowRules) (edits : EditsParts) (budget : ℕ) (reads : List (List ℕ)) (row : List Value) → IsWellFormed r.survey → IsRow r.survey.fields row
     → length r.columns ≡ length r.survey.fields → AllPairs (λ (c : ℕ) (d : ℕ). c ≢ d) r.columns → All (λ (c : ℕ). c < length reads) r.columns
     → (donor : Option (List Value)) (outcome : Outcome) (fault : Option GiftFault) (gift : Option Gift) → ComesOf r.survey edits row donor outcome fault gift → OutcomeSays r.survey edits budget row outcome gift → IsSome gift
-    → IsReleased r (files_with r.survey.fields r.columns reads row (path_found outcome) gift) (path_found (said_of outcome fault).outcome)
+    → AreReleasedTexts r (files_with r.survey.fields r.columns reads row (path_found outcome) gift) (path_found (said_of outcome fault).outcome)
 end-released r edits budget reads row well is_row one_each distinct within donor outcome fault None follows says some = absurd (cc some)
 end-released r edits budget reads row well is_row one_each distinct within donor (Change path zero cert) None (Some gift) follows says some =
     (gift.row, clean-released r.survey r.columns reads row path 0 donor gift well is_row one_each distinct within follows says refl)

@@ -17,8 +17,8 @@ use Rattle.record_text.specs.Sheets.{SheetParts}
 use Rattle.edit_report.specs.declared.end.RowEnd.{RowEnd}
 use Rattle.record_workers.specs.Ends.{ComesOf, IsEndOf}
 use Rattle.cert_check.specs.Releases.{audit_of, rules_of}
-use Rattle.cert_check.specs.RowChecks.{IsReleased, IsValidGift, IsValidRow, RowFiles, RowRules}
-use Rattle.redundancy.specs.Verdicts.{is_kept}
+use Rattle.cert_check.specs.RowChecks.{AreReleasedTexts, IsValidGift, IsValidRow, RowFiles, RowRules}
+use Rattle.redundancy.specs.Verdicts.{keeps_line}
 use Rattle.redundancy.specs.declared.verdict.Verdict.{Verdict}
 use Rattle.redundancy.specs.declared.verdict.Verdict.TheVariants.{Dropped, Kept}
 use Rattle.pruned_rules.specs.Pruned.{kept_edits, rule_flags, rule_verdicts}
@@ -39,7 +39,7 @@ abbrev pub edit_rules : SurveyParts → List ℕ → ℕ → RowRules
 edit_rules survey columns budget = record { survey = survey; given = normal_lines_of survey; usable = rule_flags survey; columns = columns; budget = budget }
 
 -- what the proof says of each line tells whether it is kept
-pub flags-said : (verdicts : List Verdict) → map is_none (map refutation_by verdicts) ≡ map is_kept verdicts
+pub flags-said : (verdicts : List Verdict) → map is_none (map refutation_by verdicts) ≡ map keeps_line verdicts
 flags-said [] = refl
 flags-said (Kept why ∷ verdicts) = ap (λ (kept : List Bool). true ∷ kept) (flags-said verdicts)
 flags-said (Dropped steps ∷ verdicts) = ap (λ (kept : List Bool). false ∷ kept) (flags-said verdicts)
@@ -52,7 +52,7 @@ rules-are survey sheet released proof terms ends history =
 
 -- texts are released for a record that is changed and was given values
 abbrev pub IsReleasedSaid : RowRules → RowFiles → Outcome → Option GiftFault → Type 0
-IsReleasedSaid r f (outcome.Change path weight cert) None = IsReleased r f path
+IsReleasedSaid r f (outcome.Change path weight cert) None = AreReleasedTexts r f path
 IsReleasedSaid r f o stop = Unit {0}
 
 module _ (survey : SurveyParts) (row : List Value) (budget : ℕ) (formed : IsWellFormed survey) (is : IsRow survey.fields row) where

@@ -6,7 +6,7 @@ use Rattle.back_subst.specs.declared.gift.Gift.{Gift}
 use Rattle.edit_report.specs.Ends.{IsEnd, changed_fields, path_found}
 use Rattle.edit_report.specs.Reasons.{reasons_of}
 use Rattle.edit_report.specs.Released.{released_rows, row_of}
-use Rattle.edit_report.specs.Summaries.{is_unchanged, is_unresolved}
+use Rattle.edit_report.specs.Summaries.{keeps_all, is_unresolved}
 use Rattle.edit_report.specs.declared.end.RowEnd.{RowEnd}
 
 -- there is one released row for each record that was given values
@@ -18,7 +18,7 @@ ReleasedCountLaw =
 -- a clean record is released as it was read, and the reasons file has no line of it
 abbrev pub CleanLaw : Type 0
 CleanLaw =
-    (fields : List Field) (columns : List ℕ) (number : ℕ) (texts : List (List ℕ)) (end : RowEnd) → is_unchanged end ≡ true
+    (fields : List Field) (columns : List ℕ) (number : ℕ) (texts : List (List ℕ)) (end : RowEnd) → keeps_all end ≡ true
     → (row_of fields columns texts end ≡ texts ∷ []) × (reasons_of fields columns number texts end ≡ [])
 
 -- a record that was given values has one line for each field that is changed

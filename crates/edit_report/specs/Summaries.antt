@@ -10,8 +10,8 @@ use Rattle.edit_report.specs.Ends.{path_found}
 use Rattle.edit_report.specs.declared.end.RowEnd.{RowEnd}
 
 -- a record that was given values and keeps all its own
-abbrev pub is_unchanged : RowEnd → Bool
-is_unchanged end = is_some end.gift && all_kept (path_found end.proof.outcome)
+abbrev pub keeps_all : RowEnd → Bool
+keeps_all end = is_some end.gift && all_kept (path_found end.proof.outcome)
 
 -- a record that was given other values
 abbrev pub is_changed : RowEnd → Bool
@@ -29,18 +29,18 @@ weight_of fields end = path_weight fields (path_found end.proof.outcome)
 abbrev pub summary_of : SurveyParts → List RowEnd → List ℕ
 summary_of survey ends =
     codes "records " ++ (decimal (length ends)
-    ++ (codes " clean " ++ (decimal (length (filter is_unchanged ends))
+    ++ (codes " clean " ++ (decimal (length (filter keeps_all ends))
     ++ (codes " changed " ++ (decimal (length (filter is_changed ends))
     ++ (codes " unresolved " ++ (decimal (length (filter is_unresolved ends))
     ++ (codes " weight " ++ decimal (sum_by (weight_of survey.fields) (filter is_changed ends))))))))))
 
 -- a claim that was given a donor
-abbrev pub is_given : Entry → Bool
-is_given entry = is_some entry.reply
+abbrev pub has_donor : Entry → Bool
+has_donor entry = is_some entry.reply
 
 -- how many records claimed a donor, and how many of them were given one
 abbrev pub claims_of : List Entry → List ℕ
-claims_of history = codes "claims " ++ (decimal (length history) ++ (codes " given " ++ decimal (length (filter is_given history))))
+claims_of history = codes "claims " ++ (decimal (length history) ++ (codes " given " ++ decimal (length (filter has_donor history))))
 
 -- the two lines
 abbrev pub summary_lines : SurveyParts → List RowEnd → List Entry → List (List ℕ)

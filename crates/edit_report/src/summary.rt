@@ -4,7 +4,7 @@ ghost use Rattle.std.specs.List.{AllByRecursion, filter, sum_by};
 ghost use Rattle.bound_cert.specs.Paths.{path_weight};
 ghost use Rattle.bound_cert.specs.Trees.{all_kept};
 ghost use Rattle.edit_report.specs.Ends.{IsEnd, path_found};
-ghost use Rattle.edit_report.specs.Summaries.{claims_of, is_changed, is_unchanged, is_given, is_unresolved, summary_lines, summary_of, weight_of};
+ghost use Rattle.edit_report.specs.Summaries.{claims_of, is_changed, keeps_all, has_donor, is_unresolved, summary_lines, summary_of, weight_of};
 
 use crate::changed::{all_kept, path_found};
 use crate::end::RowEnd;
@@ -43,7 +43,7 @@ fn claims_line(alloc: Global, history: &[Entry]) -> Result<Vec<u8>, OutOfMemory>
 
 // Whether the claim was given a donor. No memory.
 fn is_given(entry: &Entry) -> bool
-    ensures { result ≡ is_given entry.now }
+    ensures { result ≡ has_donor entry.now }
 {
     entry.reply.is_some()
 }
@@ -104,7 +104,7 @@ fn path_weight(survey: &Survey, outcome: &Outcome) -> u64
 
 // Whether the record was given values and keeps all its own. No memory.
 fn is_clean(end: &RowEnd) -> bool
-    ensures { result ≡ is_unchanged end.now }
+    ensures { result ≡ keeps_all end.now }
 {
     end.gift.is_some() && all_kept(path_found(&end.proof.outcome))
 }

@@ -14,7 +14,7 @@ use Rattle.edit_normal.proofs.NormalLines.{normal-lines, normal-over}
 use Rattle.derivation.specs.Refutations.{RefutedBy, left_before, no_values, refutation_of}
 use Rattle.derivation.specs.declared.step.Step.{Step}
 use Rattle.edit_paths.specs.Cases.{AreGiven}
-use Rattle.redundancy.specs.Verdicts.{is_kept, kept_lines, usable_from}
+use Rattle.redundancy.specs.Verdicts.{keeps_line, kept_lines, usable_from}
 use Rattle.redundancy.specs.declared.verdict.Verdict.{Verdict}
 use Rattle.redundancy.specs.declared.verdict.Verdict.TheVariants.{Dropped}
 use Rattle.redundancy.proofs.BaseLaws.{usable-given, usable-more, usable-rising, verdicts-count}
@@ -47,24 +47,24 @@ taken-given lines taken e there =
 
 -- those among the first lines: one line more
 pub kept-more : (place : ℕ) (lines : List LineParts) (verdicts : List Verdict) (line : LineParts) (verdict : Verdict) (kept after : List (ℕ × LineParts)) → place < length lines → length verdicts ≡ length lines → get_or lines place line ≡ line → get_or verdicts place verdict ≡ verdict
-    → kept ≡ usable_from 0 (take place lines) (take place (map is_kept verdicts)) → after ≡ kept ++ (if is_kept verdict then (place, line) ∷ [] else [])
-    → after ≡ usable_from 0 (take (place + 1) lines) (take (place + 1) (map is_kept verdicts))
+    → kept ≡ usable_from 0 (take place lines) (take place (map keeps_line verdicts)) → after ≡ kept ++ (if keeps_line verdict then (place, line) ∷ [] else [])
+    → after ≡ usable_from 0 (take (place + 1) lines) (take (place + 1) (map keeps_line verdicts))
 kept-more place lines verdicts line verdict kept after below same line_is verdict_is so_far more =
-    more ∙ ap (λ (es : List (ℕ × LineParts)). es ++ (if is_kept verdict then (place, line) ∷ [] else [])) so_far
-    ∙ ap (λ n. usable_from 0 (take place lines) (take place (map is_kept verdicts)) ++ (if is_kept verdict then (n, line) ∷ [] else [])) (first place)
-    ∙ ap (λ b. usable_from 0 (take place lines) (take place (map is_kept verdicts)) ++ (if b then (0 + place, line) ∷ [] else [])) (sym (get_or-map is_kept verdicts place verdict false (omega (arith, below, same)) ∙ ap is_kept verdict_is))
-    ∙ sym (usable-more 0 place lines (map is_kept verdicts) line below (length-map verdicts is_kept ∙ same) line_is)
+    more ∙ ap (λ (es : List (ℕ × LineParts)). es ++ (if keeps_line verdict then (place, line) ∷ [] else [])) so_far
+    ∙ ap (λ n. usable_from 0 (take place lines) (take place (map keeps_line verdicts)) ++ (if keeps_line verdict then (n, line) ∷ [] else [])) (first place)
+    ∙ ap (λ b. usable_from 0 (take place lines) (take place (map keeps_line verdicts)) ++ (if b then (0 + place, line) ∷ [] else [])) (sym (get_or-map keeps_line verdicts place verdict false (omega (arith, below, same)) ∙ ap keeps_line verdict_is))
+    ∙ sym (usable-more 0 place lines (map keeps_line verdicts) line below (length-map verdicts keeps_line ∙ same) line_is)
   where
     first : (n : ℕ) → n ≡ 0 + n
     first n = omega arith
 
 -- and in the end all lines
 pub kept-all : (place : ℕ) (lines : List LineParts) (verdicts : List Verdict) (kept : List (ℕ × LineParts)) → length verdicts ≡ length lines → length lines ≤ place
-    → kept ≡ usable_from 0 (take place lines) (take place (map is_kept verdicts)) → kept ≡ usable_from 0 lines (map is_kept verdicts)
+    → kept ≡ usable_from 0 (take place lines) (take place (map keeps_line verdicts)) → kept ≡ usable_from 0 lines (map keeps_line verdicts)
 kept-all place lines verdicts kept same past so_far =
-    let long = length-map verdicts is_kept in
-    so_far ∙ ap (λ (ls : List LineParts). usable_from 0 ls (take place (map is_kept verdicts))) (take_all place lines past)
-    ∙ ap (λ (bs : List Bool). usable_from 0 lines bs) (take_all place (map is_kept verdicts) (omega (arith, long, same, past)))
+    let long = length-map verdicts keeps_line in
+    so_far ∙ ap (λ (ls : List LineParts). usable_from 0 ls (take place (map keeps_line verdicts))) (take_all place lines past)
+    ∙ ap (λ (bs : List Bool). usable_from 0 lines bs) (take_all place (map keeps_line verdicts) (omega (arith, long, same, past)))
 
 -- ---- the lines of a survey's rules
 
@@ -74,10 +74,10 @@ verdict-each survey lines verdicts lines_are verdicts_are =
     ap (λ (vs : List Verdict). length vs) verdicts_are ∙ verdicts-count survey (normal_lines_of survey) pruning_budget 0 (normal_lines_of survey) ∙ ap (λ (ls : List LineParts). length ls) (sym lines_are)
 
 -- those that are kept
-pub kept-are : (survey : SurveyParts) (lines : List LineParts) (verdicts : List Verdict) (kept : List (ℕ × LineParts)) → lines ≡ normal_lines_of survey → verdicts ≡ rule_verdicts survey → kept ≡ usable_from 0 lines (map is_kept verdicts)
+pub kept-are : (survey : SurveyParts) (lines : List LineParts) (verdicts : List Verdict) (kept : List (ℕ × LineParts)) → lines ≡ normal_lines_of survey → verdicts ≡ rule_verdicts survey → kept ≡ usable_from 0 lines (map keeps_line verdicts)
     → kept ≡ (kept_edits survey).lines
 kept-are survey lines verdicts kept lines_are verdicts_are is =
-    is ∙ ap (λ (ls : List LineParts). usable_from 0 ls (map is_kept verdicts)) lines_are ∙ ap (λ (vs : List Verdict). usable_from 0 (normal_lines_of survey) (map is_kept vs)) verdicts_are
+    is ∙ ap (λ (ls : List LineParts). usable_from 0 ls (map keeps_line verdicts)) lines_are ∙ ap (λ (vs : List Verdict). usable_from 0 (normal_lines_of survey) (map keeps_line vs)) verdicts_are
 
 module _ (survey : SurveyParts) (formed : IsWellFormed survey) where
   -- each line follows from the kept ones
@@ -88,7 +88,7 @@ module _ (survey : SurveyParts) (formed : IsWellFormed survey) where
   pub rule-refuted : (place : ℕ) (line : LineParts) (steps : List Step) → slice_get (normal_lines_of survey) place ≡ Some line → slice_get (rule_verdicts survey) place ≡ Some (Dropped steps)
       → RefutedBy (refutation_of (shape_of survey.fields) (normal_lines_of survey) (left_before place (drop (suc place) (rule_flags survey))) line (no_values survey.fields)) steps
   rule-refuted place line steps at told =
-      subst (λ (later : List Bool). RefutedBy (refutation_of (shape_of survey.fields) (normal_lines_of survey) (left_before place later) line (no_values survey.fields)) steps) (sym (drop-map is_kept (suc place) (rule_verdicts survey)))
+      subst (λ (later : List Bool). RefutedBy (refutation_of (shape_of survey.fields) (normal_lines_of survey) (left_before place later) line (no_values survey.fields)) steps) (sym (drop-map keeps_line (suc place) (rule_verdicts survey)))
       (dropped-valid survey formed.fields (normal_lines_of survey) (normal-over survey) (normal-lines survey formed) pruning_budget place line at steps told)
 
   -- a point with codes of the survey meets the kept edits exactly where it meets all rules

@@ -4,7 +4,7 @@ use Rattle.edit_model.specs.Parts.{SurveyParts}
 use Rattle.edit_line.specs.EditSets.{EditsParts, edits_of}
 use Rattle.edit_line.specs.Shapes.{shape_of}
 use Rattle.edit_normal.specs.RuleLines.{normal_lines_of}
-use Rattle.redundancy.specs.Verdicts.{is_kept, usable_from, verdicts_of}
+use Rattle.redundancy.specs.Verdicts.{keeps_line, usable_from, verdicts_of}
 use Rattle.redundancy.specs.declared.verdict.Verdict.{Verdict}
 
 -- the most work of the walk that tries one line
@@ -17,7 +17,7 @@ rule_verdicts survey = verdicts_of survey (normal_lines_of survey) pruning_budge
 
 -- which lines are kept
 abbrev pub rule_flags : SurveyParts → List Bool
-rule_flags survey = map is_kept (rule_verdicts survey)
+rule_flags survey = map keeps_line (rule_verdicts survey)
 
 -- the edits that records are searched by: the lines that are kept, each numbered by its place among all
 abbrev pub kept_edits : SurveyParts → EditsParts

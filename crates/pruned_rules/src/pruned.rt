@@ -1,7 +1,7 @@
 ghost use Rattle.std.specs.Prelude.{◌≡◌, ◌≤◌, ◌++◌, ◌∷◌, [], IfOk, OnOk, if◌then◌else◌, length, map};
 ghost use Rattle.edit_line.specs.EditSets.{SayTheRules};
 ghost use Rattle.edit_normal.specs.RuleLines.{normal_lines_of};
-ghost use Rattle.redundancy.specs.Verdicts.{AllFollow, AreNeeded, AreRefuted, is_kept, usable_from};
+ghost use Rattle.redundancy.specs.Verdicts.{AllFollow, AreNeeded, AreRefuted, keeps_line, usable_from};
 ghost use Rattle.pruned_rules.specs.Pruned.{kept_edits, rule_verdicts};
 
 use edit_line::{Edits, Line};
@@ -60,7 +60,7 @@ fn kept_of(
 ) -> Result<Vec<(u32, Line)>, OutOfMemory>
     requires count { length verdicts.now ≡ length lines.now }
     requires few { length lines.now ≤ 1000 }
-    ensures { IfOk result (λ kept. kept.items ≡ usable_from 0 lines.now (map is_kept verdicts.now)) }
+    ensures { IfOk result (λ kept. kept.items ≡ usable_from 0 lines.now (map keeps_line verdicts.now)) }
 {
     let mut kept = Vec::new(alloc);
     for (place, line) in lines.iter().enumerate() {
@@ -77,7 +77,7 @@ fn push_kept(
     line: &Line,
     verdict: &Verdict,
 ) -> Result<(), OutOfMemory>
-    ensures { OnOk result (kept.new.items ≡ kept.old.items ++ (if is_kept verdict.now then (number, line.now) ∷ [] else [])) }
+    ensures { OnOk result (kept.new.items ≡ kept.old.items ++ (if keeps_line verdict.now then (number, line.now) ∷ [] else [])) }
 {
     if let Verdict::Kept(_) = verdict {
         kept.push((number, line.copy(alloc)?))?;

@@ -23,7 +23,7 @@ use Rattle.linear_elim.proofs.ShapeLaws.{HaveShape-lines}
 use Rattle.derivation.specs.Refutations.{given_lines, no_values, trues, usable_flags}
 use Rattle.derivation.proofs.RefutationLaws.{given-over, row-no_values}
 use Rattle.edit_paths.specs.Cases.{IsCase}
-use Rattle.redundancy.specs.Verdicts.{is_kept, left_at, negation_case, usable_from, verdict_of, verdicts_from}
+use Rattle.redundancy.specs.Verdicts.{keeps_line, left_at, negation_case, usable_from, verdict_of, verdicts_from}
 use Rattle.redundancy.specs.declared.verdict.Verdict.{Verdict}
 use Rattle.redundancy.specs.inner.Turns.{lines_verdict}
 use Rattle.redundancy.proofs.WalkLaws.{verdict-walk}
@@ -157,14 +157,14 @@ set-left (suc place) kept b = ap (λ (bs : List Bool). true ∷ bs) (set-left pl
 pub record IsTried (survey : SurveyParts) (lines : List LineParts) (budget place : ℕ) (left : List Bool) (verdicts : List Verdict) : Type 0 where
   pub within : place ≤ length lines
   pub verdicts_are : verdicts ≡ verdicts_from survey lines budget place (drop place lines)
-  pub left_are : left ≡ trues place ++ map is_kept verdicts
+  pub left_are : left ≡ trues place ++ map keeps_line verdicts
 
 module _ (survey : SurveyParts) (lines : List LineParts) (budget : ℕ) where
   pub tried-start : (left : List Bool) (verdicts : List Verdict) (place : ℕ) → place ≡ length lines → left ≡ trues place → verdicts ≡ [] → IsTried survey lines budget place left verdicts
   tried-start left verdicts place all are none = record {
     within = omega (arith, all);
     verdicts_are = none ∙ ap (λ (ls : List LineParts). verdicts_from survey lines budget place ls) (sym (gone place lines (omega (arith, all))));
-    left_are = are ∙ sym (append-nil (trues place)) ∙ ap (λ (vs : List Verdict). trues place ++ map is_kept vs) (sym none);
+    left_are = are ∙ sym (append-nil (trues place)) ∙ ap (λ (vs : List Verdict). trues place ++ map keeps_line vs) (sym none);
   }
     where
       gone : (i : ℕ) (ls : List LineParts) → length ls ≤ i → drop i ls ≡ []
@@ -175,29 +175,29 @@ module _ (survey : SurveyParts) (lines : List LineParts) (budget : ℕ) where
 
   pub tried-count : (place : ℕ) (left : List Bool) (verdicts : List Verdict) → IsTried survey lines budget place left verdicts → length left ≡ length lines
   tried-count place left verdicts is =
-      ap (λ (bs : List Bool). length bs) is.left_are ∙ length-append (trues place) (map is_kept verdicts)
-      ∙ omega (arith, is.within, length-trues place, length-map verdicts is_kept, ap (λ (vs : List Verdict). length vs) is.verdicts_are, verdicts-count survey lines budget place (drop place lines), length-drop place lines)
+      ap (λ (bs : List Bool). length bs) is.left_are ∙ length-append (trues place) (map keeps_line verdicts)
+      ∙ omega (arith, is.within, length-trues place, length-map verdicts keeps_line, ap (λ (vs : List Verdict). length vs) is.verdicts_are, verdicts-count survey lines budget place (drop place lines), length-drop place lines)
 
   pub tried-over : (left : List Bool) (verdicts : List Verdict) → IsTried survey lines budget 0 left verdicts → verdicts ≡ verdicts_from survey lines budget 0 lines
   tried-over left verdicts is = is.verdicts_are
 
   module _ (place : ℕ) (left : List Bool) (verdicts : List Verdict) (before : IsTried survey lines budget (suc place) left verdicts) (line : LineParts) (at : slice_get lines place ≡ Some line) where
     here : slice_set left place false ≡ left_at place verdicts
-    here = ap (λ (bs : List Bool). slice_set bs place false) before.left_are ∙ set-left place (map is_kept verdicts) false
+    here = ap (λ (bs : List Bool). slice_set bs place false) before.left_are ∙ set-left place (map keeps_line verdicts) false
 
     get-drop : (i : ℕ) (ls : List LineParts) (l : LineParts) → slice_get ls i ≡ Some l → drop i ls ≡ l ∷ drop (suc i) ls
     get-drop i [] l e = absurd (cc)
     get-drop zero (k ∷ ls) l e = let same : k ≡ l = cc in ap (λ m. m ∷ ls) same
     get-drop (suc i) (k ∷ ls) l e = get-drop i ls l e
 
-    pub tried-turn : (v : Verdict) (after : List Bool) (more : List Verdict) → v ≡ verdict_of (negation_case survey lines (slice_set left place false) line) budget → after ≡ slice_set left place (is_kept v) → more ≡ v ∷ verdicts → IsTried survey lines budget place after more
+    pub tried-turn : (v : Verdict) (after : List Bool) (more : List Verdict) → v ≡ verdict_of (negation_case survey lines (slice_set left place false) line) budget → after ≡ slice_set left place (keeps_line v) → more ≡ v ∷ verdicts → IsTried survey lines budget place after more
     tried-turn v after more v_is after_is more_is = record {
       within = omega (arith, before.within);
       verdicts_are =
           more_is ∙ ap (λ w. w ∷ verdicts) (v_is ∙ ap (λ (bs : List Bool). verdict_of (negation_case survey lines bs line) budget) here)
           ∙ ap (λ (vs : List Verdict). verdict_of (negation_case survey lines (left_at place vs) line) budget ∷ vs) before.verdicts_are
           ∙ ap (λ (ls : List LineParts). verdicts_from survey lines budget place ls) (sym (get-drop place lines line at));
-      left_are = after_is ∙ ap (λ (bs : List Bool). slice_set bs place (is_kept v)) before.left_are ∙ set-left place (map is_kept verdicts) (is_kept v) ∙ ap (λ (vs : List Verdict). trues place ++ map is_kept vs) (sym more_is);
+      left_are = after_is ∙ ap (λ (bs : List Bool). slice_set bs place (keeps_line v)) before.left_are ∙ set-left place (map keeps_line verdicts) (keeps_line v) ∙ ap (λ (vs : List Verdict). trues place ++ map keeps_line vs) (sym more_is);
     }
 
 pub get-at : (place : ℕ) (lines : List LineParts) → place < length lines → (line : LineParts) × (slice_get lines place ≡ Some line)

@@ -39,7 +39,7 @@ use Rattle.edit_paths.proofs.ClosingSteps.{closing-box, closing-line}
 use Rattle.edit_paths.proofs.LineHistories.{AreUsable}
 use Rattle.edit_paths.proofs.OpenPaths.{open-point}
 use Rattle.redundancy.specs.NeededLines.{CanFail}
-use Rattle.redundancy.specs.Verdicts.{changing, is_kept, kept_lines, left_at, negation_case, usable_from, verdict_by, verdict_from, verdict_of, verdicts_from, within}
+use Rattle.redundancy.specs.Verdicts.{changing, keeps_line, kept_lines, left_at, negation_case, usable_from, verdict_by, verdict_from, verdict_of, verdicts_from, within}
 use Rattle.redundancy.specs.declared.verdict.Verdict.{Verdict}
 use Rattle.redundancy.specs.declared.verdict.Verdict.TheVariants.{Dropped, Kept}
 use Rattle.redundancy.specs.declared.verdict.Why.TheVariants.{Budget, Needed}
@@ -186,7 +186,7 @@ usable-all [] = refl
 usable-all (l ∷ lines) = ap (λ (ls : List LineParts). l ∷ ls) (usable-all lines)
 
 -- a line is kept, or dropped with steps
-kept-or : (verdicts : List Verdict) (place : ℕ) → place < length verdicts → (slice_index_or (map is_kept verdicts) place false ≡ true) ⊎ ((steps : List Step) × (slice_get verdicts place ≡ Some (Dropped steps)))
+kept-or : (verdicts : List Verdict) (place : ℕ) → place < length verdicts → (slice_index_or (map keeps_line verdicts) place false ≡ true) ⊎ ((steps : List Step) × (slice_get verdicts place ≡ Some (Dropped steps)))
 kept-or [] place below = absurd (omega arith)
 kept-or (Dropped steps ∷ verdicts) zero below = inr (steps, refl)
 kept-or (Kept why ∷ verdicts) zero below = inl refl
@@ -232,8 +232,8 @@ module _ (survey : SurveyParts) (are_fields : All IsField survey.fields) (lines 
 
     size : length left ≡ length lines
     size =
-        ap (λ (bs : List Bool). length (left_before j bs)) (sym (drop-map is_kept (suc j) verdicts))
-        ∙ length-left j (map is_kept verdicts) (omega (arith, get-below lines j line at, verdicts-count survey lines budget 0 lines, length-map verdicts is_kept)) ∙ length-map verdicts is_kept
+        ap (λ (bs : List Bool). length (left_before j bs)) (sym (drop-map keeps_line (suc j) verdicts))
+        ∙ length-left j (map keeps_line verdicts) (omega (arith, get-below lines j line at, verdicts-count survey lines budget 0 lines, length-map verdicts keeps_line)) ∙ length-map verdicts keeps_line
         ∙ verdicts-count survey lines budget 0 lines
 
     own : IsLine line
@@ -262,15 +262,15 @@ module _ (survey : SurveyParts) (are_fields : All IsField survey.fields) (lines 
   -- each line follows from the kept ones
   pub lines-follow : (line : LineParts) → IsIn line lines → Follows (kept_lines lines verdicts) line
   lines-follow line there =
-      kept-follow survey.fields lines (map is_kept verdicts) (no_values survey.fields) (row-no_values survey.fields) (sym (verdicts-count survey lines budget 0 lines) ∙ sym (length-map verdicts is_kept)) over are refuted line there
+      kept-follow survey.fields lines (map keeps_line verdicts) (no_values survey.fields) (row-no_values survey.fields) (sym (verdicts-count survey lines budget 0 lines) ∙ sym (length-map verdicts keeps_line)) over are refuted line there
     where
-      refuted : (j : ℕ) (l : LineParts) → slice_get lines j ≡ Some l → slice_index_or (map is_kept verdicts) j false ≡ false
-          → (steps : List Step) × RefutedBy (refutation_of (shape_of survey.fields) lines (left_before j (drop (suc j) (map is_kept verdicts))) l (no_values survey.fields)) steps
+      refuted : (j : ℕ) (l : LineParts) → slice_get lines j ≡ Some l → slice_index_or (map keeps_line verdicts) j false ≡ false
+          → (steps : List Step) × RefutedBy (refutation_of (shape_of survey.fields) lines (left_before j (drop (suc j) (map keeps_line verdicts))) l (no_values survey.fields)) steps
       refuted j l at flag = elim (kept-or verdicts j (omega (arith, get-below lines j l at, verdicts-count survey lines budget 0 lines))) [
         | inl kept ↦ absurd (cc (sym kept ∙ flag))
         | inr gone ↦ (
           gone.0,
-          subst (λ (bs : List Bool). RefutedBy (refutation_of (shape_of survey.fields) lines (left_before j bs) l (no_values survey.fields)) gone.0) (sym (drop-map is_kept (suc j) verdicts)) (dropped-valid j l at gone.0 gone.1),
+          subst (λ (bs : List Bool). RefutedBy (refutation_of (shape_of survey.fields) lines (left_before j bs) l (no_values survey.fields)) gone.0) (sym (drop-map keeps_line (suc j) verdicts)) (dropped-valid j l at gone.0 gone.1),
         )
       ]
 

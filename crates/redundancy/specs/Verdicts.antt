@@ -61,14 +61,14 @@ verdict_of c budget = verdict_from c budget 0 0 (field_count c)
 -- ---- the verdicts on all lines
 
 -- the line is kept
-abbrev pub is_kept : Verdict → Bool
-is_kept (Kept why) = true
-is_kept (Dropped steps) = false
+abbrev pub keeps_line : Verdict → Bool
+keeps_line (Kept why) = true
+keeps_line (Dropped steps) = false
 
 -- which lines are left when the one at a place is tried, from the verdicts on the later ones: those before it, and the
 -- later ones that are kept
 abbrev pub left_at : ℕ → List Verdict → List Bool
-left_at place later = left_before place (map is_kept later)
+left_at place later = left_before place (map keeps_line later)
 
 -- the usable lines, each with its place among the given ones, from i on
 abbrev pub usable_from : ℕ → List LineParts → List Bool → List (ℕ × LineParts)
@@ -102,7 +102,7 @@ left_for verdicts place = left_at place (drop (suc place) verdicts)
 
 -- the lines that are kept
 abbrev pub kept_lines : List LineParts → List Verdict → List LineParts
-kept_lines lines verdicts = usable_lines lines (map is_kept verdicts)
+kept_lines lines verdicts = usable_lines lines (map keeps_line verdicts)
 
 -- ---- what the verdicts say
 

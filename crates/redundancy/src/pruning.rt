@@ -3,7 +3,7 @@ ghost use Rattle.edit_model.specs.Rows.{IsRow};
 ghost use Rattle.derivation.specs.Refutations.{no_values};
 ghost use Rattle.edit_line.specs.Lines.{AreOver, IsLine};
 ghost use Rattle.edit_line.specs.Shapes.{shape_of};
-ghost use Rattle.redundancy.specs.Verdicts.{AllFollow, AreNeeded, AreRefuted, is_kept, verdicts_of};
+ghost use Rattle.redundancy.specs.Verdicts.{AllFollow, AreNeeded, AreRefuted, keeps_line, verdicts_of};
 ghost use Rattle.redundancy.specs.inner.Turns.{IsVerdict};
 
 use crate::base::base_of;
@@ -71,7 +71,7 @@ fn try_line(
     requires place { place < length lines.now }
     ensures verdict { IfOk result
         (λ verdict. IsVerdict survey.now lines.now budget place (slice_set left.old.items place false) verdict) }
-    ensures left { IfOk result (λ verdict. left.new.items ≡ slice_set left.old.items place (is_kept verdict)) }
+    ensures left { IfOk result (λ verdict. left.new.items ≡ slice_set left.old.items place (keeps_line verdict)) }
 {
     let _well_formed = survey.fields(); // read for what it says
     left[place] = false;
@@ -83,7 +83,7 @@ fn try_line(
 
 // Whether the line is kept.
 fn is_kept(verdict: &Verdict) -> bool
-    ensures { result ≡ is_kept verdict.now }
+    ensures { result ≡ keeps_line verdict.now }
 {
     match verdict {
         Verdict::Kept(_) => true,

@@ -12,7 +12,7 @@ use Rattle.std.specs.Prelude.{◌==◌, codes, nat_le}
 use Rattle.std.specs.Str.{bytes_eq}
 use Rattle.std.specs.Str.Parse.{digits_value}
 use Rattle.edit_model.proofs.NameLemmas.{none_of_words}
-use Rattle.edit_model.specs.Surveys.{IsName, is_digit, is_letter, is_name, reserved_words}
+use Rattle.edit_model.specs.Surveys.{IsName, is_digit, is_letter, has_name_form, reserved_words}
 use Rattle.edit_model.specs.declared.rule.Compare.{Compare as Comparison}
 use Rattle.edit_model.specs.declared.rule.Compare.TheVariants.{Ge, Gt, Le, Lt, Eq}
 use Rattle.rule_grammar.proofs.Runs.{prefix_passes, run_passes}
@@ -35,7 +35,7 @@ abbrev IsSpelledFront : Bool → List ℕ → Front → Type 0
 IsSpelledFront inside text f = (front : List ℕ) × (text ≡ front ++ f.rest) × IsSpelled inside f.token front
 
 -- words
-word_spelled : (word : List ℕ) → (1 ≤ length word) × (length word ≤ 32) → is_name word ≡ true → IsSpelled false (word_token word) word
+word_spelled : (word : List ℕ) → (1 ≤ length word) × (length word ≤ 32) → has_name_form word ≡ true → IsSpelled false (word_token word) word
 word_spelled word size form =
     let P : Token → Type 0 = λ t. IsSpelled false t word in
     let is = λ (w : List ℕ) (same : bytes_eq word w ≡ true). (bytes_eq-Decides word w).0 same in

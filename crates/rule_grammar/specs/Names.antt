@@ -1,13 +1,13 @@
 -- The names that a statement gives to fields and codes.
 use Rattle.std.specs.Prelude.{ℕ, ◌≤◌, List, ◌∷◌, length, All, IsTrue}
-use Rattle.edit_model.specs.Surveys.{IsName, is_code}
+use Rattle.edit_model.specs.Surveys.{IsName, has_code_form}
 use Rattle.rule_grammar.specs.declared.statement.Declaration.TheVariants as declaration
 use Rattle.rule_grammar.specs.declared.statement.Statement.{Statement as Written}
 use Rattle.rule_grammar.specs.declared.statement.Statement.TheVariants as statement
 
 -- 1 to 32 letters, digits, `_`, `-` and `.`
 abbrev pub IsCodeText : List ℕ → Type 0
-IsCodeText code = IsTrue (is_code code) × (1 ≤ length code) × (length code ≤ 32)
+IsCodeText code = IsTrue (has_code_form code) × (1 ≤ length code) × (length code ≤ 32)
 
 -- what a declaration names has the form of a name, and its codes that of codes
 abbrev pub GivesNames : Written → Type 0

@@ -12,7 +12,7 @@ use Rattle.rule_grammar.specs.declared.statement.Statement.{Statement as Written
 use Rattle.rule_grammar.specs.declared.statement.Statement.TheVariants as statement
 use Rattle.rule_grammar.specs.declared.statement.TestText.{TestText}
 use Rattle.rule_grammar.specs.declared.statement.TestText.TheVariants as written
-use Rattle.edit_language.specs.Faults.{are_known_codes, has_double, has_double_code, has_fault, has_form, is_known_test, is_large_test, is_outside, kind_number, tests_in}
+use Rattle.edit_language.specs.Faults.{are_known_codes, has_double, has_double_code, has_fault, has_rule_form, is_known_test, is_large_test, is_outside, kind_number, tests_in}
 use Rattle.edit_language.specs.Meaning.{listed}
 use Rattle.edit_language.specs.declared.fault.RulesKind.{RulesKind}
 use Rattle.edit_language.specs.declared.fault.RulesKind.TheVariants.{UnknownField, DoubleField, UnknownCode, DoubleCode, NumberRange, TooMany, ConditionForm}
@@ -55,7 +55,7 @@ rule_fault survey r = first_true (
     ∷ (list_any has_double_code (tests_of r), DoubleCode)
     ∷ (list_any (is_large_test survey.fields) (tests_of r), NumberRange)
     ∷ (nat_le 500 (length survey.rules), TooMany)
-    ∷ (not (has_form r), ConditionForm) ∷ [])
+    ∷ (not (has_rule_form r), ConditionForm) ∷ [])
 
 -- the kind that is found for the statement after these lines, None where none is
 abbrev pub fault_of : SurveyParts → Written → Option RulesKind

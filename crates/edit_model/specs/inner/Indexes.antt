@@ -10,8 +10,8 @@ abbrev pub names_of : List Field → List (List ℕ)
 names_of fields = map (λ (f : Field). f.name) fields
 
 -- whether the kind is the one that is asked for: numerical, or categorical
-abbrev pub is_of_kind : Bool → Kind → Bool
-is_of_kind numerical k = if numerical then is_numerical k else not (is_numerical k)
+abbrev pub is_of_sort : Bool → Kind → Bool
+is_of_sort numerical k = if numerical then is_numerical k else not (is_numerical k)
 
 -- what is kept of every survey: it is well formed, and beside its parts stand its names and its fields of each kind
 pub record IsKept (survey : SurveyParts) (names : List (List ℕ)) (numbers categories : List ℕ) : Type 0 where

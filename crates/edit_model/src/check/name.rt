@@ -1,7 +1,7 @@
 ghost use Rattle.std.specs.Prelude.{◌≡◌, ◌≢◌, ◌==◌, ◌||◌, ◌≤◌, ◌↔◌, All, IsTrue, length};
 ghost use Rattle.std.specs.List.{list_all, list_any};
 ghost use Rattle.std.specs.Str.{bytes_eq};
-ghost use Rattle.edit_model.specs.Surveys.{IsName, is_code, is_digit, is_letter, is_name, reserved_words};
+ghost use Rattle.edit_model.specs.Surveys.{IsName, has_code_form, is_digit, is_letter, has_name_form, reserved_words};
 
 use crate::name::Name;
 
@@ -26,7 +26,7 @@ fn are_name_bytes(bytes: &[u8]) -> bool
 
 // A letter, then letters, digits and `_`.
 fn has_name_form(bytes: &[u8]) -> bool
-    ensures { result ≡ is_name bytes.now }
+    ensures { result ≡ has_name_form bytes.now }
 {
     match bytes.split_first() {
         None => false,
@@ -59,7 +59,7 @@ pub(crate) fn is_field_name(name: &Name) -> bool
 
 // Whether each byte may stand in a code.
 fn are_code_bytes(bytes: &[u8]) -> bool
-    ensures { result ≡ is_code bytes.now }
+    ensures { result ≡ has_code_form bytes.now }
 {
     bytes.iter().all(|b| {
         is_ascii_letter(*b) || is_ascii_digit(*b) || *b == b'_' || *b == b'-' || *b == b'.'
@@ -68,7 +68,7 @@ fn are_code_bytes(bytes: &[u8]) -> bool
 
 /// Whether the name may be a code.
 pub(crate) fn is_code_name(name: &Name) -> bool
-    ensures { IsTrue result ↔ (IsTrue (is_code name.now) × (1 ≤ length name.now) × (length name.now ≤ 32)) }
+    ensures { IsTrue result ↔ (IsTrue (has_code_form name.now) × (1 ≤ length name.now) × (length name.now ≤ 32)) }
 {
     are_code_bytes(name.as_bytes())
 }

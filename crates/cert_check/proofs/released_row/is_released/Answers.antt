@@ -2,7 +2,7 @@ use Rattle.std.proofs.Common.{◌≡◌, Some, option_map, ap, sym, ◌∙◌}
 use Rattle.std.specs.Bool.{Decides}
 use Rattle.std.proofs.lemmas.Bool.Decides.{Decides-like}
 use Rattle.std.proofs.lemmas.Result.{IfOk-weaker}
-use Rattle.cert_check.specs.RowChecks.{IsReleased}
+use Rattle.cert_check.specs.RowChecks.{AreReleasedTexts}
 use Rattle.cert_check.specs.inner.Checks.{GivesClean, files_in, rules_in}
 use Rattle.cert_check.proofs.ReleasedLaws.{gives-released, gives-clean, released-gives, clean-gives}
 use Rattle.cert_check.proofs.released_row.is_released.Goals as goal
@@ -14,7 +14,7 @@ returns-then-changes_some c =
     let path = c.args.path.now in
     let texts = c.in-Some.texts.now in
     let is : option_map (λ t. t.now) files.texts ≡ Some texts = ap (option_map (λ t. t.now)) c.in-Some.is in
-    IfOk-weaker c.gives_clean.result (λ b. Decides b (GivesClean checking path texts files.row.now)) (λ b. Decides b (IsReleased (rules_in checking) (files_in files) path))
+    IfOk-weaker c.gives_clean.result (λ b. Decides b (GivesClean checking path texts files.row.now)) (λ b. Decides b (AreReleasedTexts (rules_in checking) (files_in files) path))
     (λ b decides. Decides-like b (gives-released checking files path texts is (sym c.are_same.ensures ∙ c.if-not-are_same.false)) (released-gives checking files path texts is) decides) c.gives_clean.ensures
 
 pub returns-else-changes_some : goal.returns-else-changes_some
