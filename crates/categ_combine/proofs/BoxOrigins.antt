@@ -6,7 +6,7 @@ use Rattle.edit_model.specs.Points.{has_code}
 use Rattle.edit_model.specs.declared.value.Value.{Value}
 use Rattle.edit_line.specs.Boxes.{BoxParts, box_of}
 use Rattle.edit_line.specs.CodeFields.{TakesCodes, codes_of, codes_up, place_of, size_of, whole_of}
-use Rattle.edit_line.specs.Combinations.{common_sets}
+use Rattle.edit_line.specs.Combinations.{in_both}
 use Rattle.edit_line.specs.Reductions.{IsIn}
 use Rattle.edit_line.specs.Sets.{are_subsets, none_is_empty}
 use Rattle.edit_line.specs.Shapes.{Domain, whole_sets}
@@ -118,7 +118,7 @@ module _ (shape : List Domain) (boxes : List BoxFrom) (f : ℕ) (over : AreBoxes
   -- ---- covers
 
   -- the sets of a cover are what its parts have in common on the other fields
-  meets-set : (k w : ℕ) (x y : List ℕ) → slice_set (common_sets (slice_set x k w) y) k w ≡ slice_set (common_sets x y) k w
+  meets-set : (k w : ℕ) (x y : List ℕ) → slice_set (in_both (slice_set x k w) y) k w ≡ slice_set (in_both x y) k w
   meets-set k w [] y = refl
   meets-set zero w (s ∷ x) [] = refl
   meets-set (suc k) w (s ∷ x) [] = ap (λ (ss : List ℕ). s ∷ ss) (set-set k w x)
@@ -127,17 +127,17 @@ module _ (shape : List Domain) (boxes : List BoxFrom) (f : ℕ) (over : AreBoxes
 
   -- with one part more
   common-more : (code : ℕ) (parts : List ℕ) (i : ℕ) (x : BoxFrom) (sets common : List ℕ) → slice_get boxes i ≡ Some x → has_code (slice_index_or x.code_box.sets (place_of shape f) 0) (code + length parts) ≡ true
-      → HaveInCommon boxes (place_of shape f) code parts sets common → HaveInCommon boxes (place_of shape f) code (parts ++ i ∷ []) sets (common_sets common x.code_box.sets)
+      → HaveInCommon boxes (place_of shape f) code parts sets common → HaveInCommon boxes (place_of shape f) code (parts ++ i ∷ []) sets (in_both common x.code_box.sets)
   common-more code [] i x sets common at has same =
-      some_at (λ (b : BoxFrom). (has_code (slice_index_or b.code_box.sets (place_of shape f) 0) code ≡ true) × (common_sets common x.code_box.sets ≡ common_sets sets b.code_box.sets)) (slice_get boxes i) x at
-      (ap (λ n. has_code (slice_index_or x.code_box.sets (place_of shape f) 0) n) (omega arith) ∙ has, ap (λ (s : List ℕ). common_sets s x.code_box.sets) same)
+      some_at (λ (b : BoxFrom). (has_code (slice_index_or b.code_box.sets (place_of shape f) 0) code ≡ true) × (in_both common x.code_box.sets ≡ in_both sets b.code_box.sets)) (slice_get boxes i) x at
+      (ap (λ n. has_code (slice_index_or x.code_box.sets (place_of shape f) 0) n) (omega arith) ∙ has, ap (λ (s : List ℕ). in_both s x.code_box.sets) same)
   common-more code (a ∷ parts) i x sets common at has are =
-      by (slice_get boxes a) are (λ b told. common-more (suc code) parts i x (common_sets sets b.code_box.sets) common at (ap (λ n. has_code (slice_index_or x.code_box.sets place 0) n) (omega arith) ∙ has) told)
+      by (slice_get boxes a) are (λ b told. common-more (suc code) parts i x (in_both sets b.code_box.sets) common at (ap (λ n. has_code (slice_index_or x.code_box.sets place 0) n) (omega arith) ∙ has) told)
     where
-      by : (o : Option BoxFrom) → IsSomeAnd o (λ (b : BoxFrom). (has_code (slice_index_or b.code_box.sets (place_of shape f) 0) code ≡ true) × HaveInCommon boxes (place_of shape f) (suc code) parts (common_sets sets b.code_box.sets) common)
-          → ((b : BoxFrom) → HaveInCommon boxes (place_of shape f) (suc code) parts (common_sets sets b.code_box.sets) common
-          → HaveInCommon boxes (place_of shape f) (suc code) (parts ++ i ∷ []) (common_sets sets b.code_box.sets) (common_sets common x.code_box.sets))
-          → IsSomeAnd o (λ (b : BoxFrom). (has_code (slice_index_or b.code_box.sets (place_of shape f) 0) code ≡ true) × HaveInCommon boxes (place_of shape f) (suc code) (parts ++ i ∷ []) (common_sets sets b.code_box.sets) (common_sets common x.code_box.sets))
+      by : (o : Option BoxFrom) → IsSomeAnd o (λ (b : BoxFrom). (has_code (slice_index_or b.code_box.sets (place_of shape f) 0) code ≡ true) × HaveInCommon boxes (place_of shape f) (suc code) parts (in_both sets b.code_box.sets) common)
+          → ((b : BoxFrom) → HaveInCommon boxes (place_of shape f) (suc code) parts (in_both sets b.code_box.sets) common
+          → HaveInCommon boxes (place_of shape f) (suc code) (parts ++ i ∷ []) (in_both sets b.code_box.sets) (in_both common x.code_box.sets))
+          → IsSomeAnd o (λ (b : BoxFrom). (has_code (slice_index_or b.code_box.sets (place_of shape f) 0) code ≡ true) × HaveInCommon boxes (place_of shape f) (suc code) (parts ++ i ∷ []) (in_both sets b.code_box.sets) (in_both common x.code_box.sets))
       by None none rest = absurd none
       by (Some b) told rest = (told.0, rest b told.1)
 
@@ -177,9 +177,9 @@ module _ (shape : List Domain) (boxes : List BoxFrom) (f : ℕ) (over : AreBoxes
             origin_is = ap (λ (is : List ℕ). Cover (is ++ i ∷ [])) parts_are;
             many_are = length-append cover.parts (i ∷ []) ∙ omega (arith, cover.many_are);
             shape_is = cover.shape_is;
-            common = common_sets cover.common x.code_box.sets;
+            common = in_both cover.common x.code_box.sets;
             common_is = common-more 0 cover.parts i x (whole_sets shape) cover.common at (ap (λ n. has_code (slice_index_or x.code_box.sets (place_of shape f) 0) n) counted ∙ (both_true _ _ e).1) cover.common_is;
-            sets = sym (meets-set (place_of shape f) (whole_of shape f) cover.common x.code_box.sets) ∙ ap (λ (s : List ℕ). slice_set (common_sets s x.code_box.sets) (place_of shape f) (whole_of shape f)) cover.sets;
+            sets = sym (meets-set (place_of shape f) (whole_of shape f) cover.common x.code_box.sets) ∙ ap (λ (s : List ℕ). slice_set (in_both s x.code_box.sets) (place_of shape f) (whole_of shape f)) cover.sets;
             full = λ more. codes;
           })
 

@@ -6,7 +6,7 @@ use Rattle.std.proofs.lemmas.List.{get_or-set_other, get_or-set_same}
 use Rattle.std.proofs.lemmas.List.Quantifiers.{position-Some}
 use Rattle.std.proofs.lemmas.Option.{slice_get-get_or}
 use Rattle.edit_line.specs.CodeFields.{TakesCodes, codes_of, place_of, whole_of}
-use Rattle.edit_line.specs.Combinations.{common_sets}
+use Rattle.edit_line.specs.Combinations.{in_both}
 use Rattle.edit_line.specs.Reductions.{IsIn}
 use Rattle.edit_line.specs.Sets.{none_is_empty}
 use Rattle.edit_line.specs.Shapes.{Domain, code_fields, whole_sets}
@@ -60,14 +60,14 @@ each-fixed P Q shape boxes f code made all b there =
 pub HaveSets-covered : (shape : List Domain) (boxes : List (List ℕ)) (f : ℕ) → HaveSets shape boxes → HaveSets shape (covered shape boxes f)
 HaveSets-covered shape boxes f sets =
     each-covered (λ b. length b ≡ length (code_fields shape)) (λ b. length b ≡ length (code_fields shape)) shape boxes f
-    (λ p b first second. length-set (place_of shape f) (whole_of shape f) (common_sets p b) ∙ length-meets p b (first ∙ sym second) ∙ first) (length-wholes 0 shape) sets (λ b is whole. is)
+    (λ p b first second. length-set (place_of shape f) (whole_of shape f) (in_both p b) ∙ length-meets p b (first ∙ sym second) ∙ first) (length-wholes 0 shape) sets (λ b is whole. is)
 
 pub HaveSets-fixed : (shape : List Domain) (boxes : List (List ℕ)) (f code : ℕ) → HaveSets shape boxes → HaveSets shape (fixed shape boxes f code)
 HaveSets-fixed shape boxes f code sets = each-fixed (λ b. length b ≡ length (code_fields shape)) (λ b. length b ≡ length (code_fields shape)) shape boxes f code (λ b is. length-set (place_of shape f) (whole_of shape f) b ∙ is) sets
 
 -- ---- boxes that are whole at a place
 
-meets-at : (xs ys : List ℕ) (k : ℕ) → length xs ≡ length ys → slice_index_or (common_sets xs ys) k 0 ≡ bit_and (slice_index_or xs k 0) (slice_index_or ys k 0)
+meets-at : (xs ys : List ℕ) (k : ℕ) → length xs ≡ length ys → slice_index_or (in_both xs ys) k 0 ≡ bit_and (slice_index_or xs k 0) (slice_index_or ys k 0)
 meets-at [] [] k same = refl
 meets-at [] (y ∷ ys) k same = absurd (omega arith)
 meets-at (x ∷ xs) [] k same = absurd (omega arith)
@@ -96,7 +96,7 @@ module _ (shape : List Domain) (k : ℕ) where
           ap (λ n. slice_index_or (slice_set b n (slice_index_or (whole_sets shape) n 0)) k 0) (sym same) ∙ get_or-set_same b k (slice_index_or (whole_sets shape) k 0) 0 (omega (arith, is.sized))
       by false e = get_or-set_other b (place_of shape f) k (whole_of shape f) 0 (λ same. absurd (cc (sym e ∙ (Decides-eqb k (place_of shape f)).1 same))) ∙ is.whole
 
-  meets-whole : (p b : List ℕ) → IsWhole p → IsWhole b → IsWhole (common_sets p b)
+  meets-whole : (p b : List ℕ) → IsWhole p → IsWhole b → IsWhole (in_both p b)
   meets-whole p b first second = record {
     sized = length-meets p b (first.sized ∙ sym second.sized) ∙ first.sized;
     whole = meets-at p b k (first.sized ∙ sym second.sized) ∙ ap (λ s. bit_and s (slice_index_or b k 0)) first.whole ∙ ap (λ s. bit_and (slice_index_or (whole_sets shape) k 0) s) second.whole ∙ and_self _;
@@ -105,7 +105,7 @@ module _ (shape : List Domain) (k : ℕ) where
   module _ (below : k < length (code_fields shape)) where
     -- boxes that are whole at a place stay so
     pub whole-covered : (boxes : List (List ℕ)) (f : ℕ) → AreWhole boxes → AreWhole (covered shape boxes f)
-    whole-covered boxes f all = each-covered IsWhole IsWhole shape boxes f (λ p b first second. set-keeps f (common_sets p b) below (meets-whole p b first second)) wholes all (λ b is _. is)
+    whole-covered boxes f all = each-covered IsWhole IsWhole shape boxes f (λ p b first second. set-keeps f (in_both p b) below (meets-whole p b first second)) wholes all (λ b is _. is)
 
     pub whole-fixed : (boxes : List (List ℕ)) (f code : ℕ) → AreWhole boxes → AreWhole (fixed shape boxes f code)
     whole-fixed boxes f code all = each-fixed IsWhole IsWhole shape boxes f code (λ b is. set-keeps f b below is) all
@@ -120,7 +120,7 @@ module _ (shape : List Domain) (f : ℕ) (takes : TakesCodes shape f) where
   -- the boxes that elimination of the field leaves are whole there
   pub covered-whole : (boxes : List (List ℕ)) → HaveSets shape boxes → AreWhole shape (place_of shape f) (covered shape boxes f)
   covered-whole boxes sets =
-      each-covered (IsWhole shape (place_of shape f)) (λ b. length b ≡ length (code_fields shape)) shape boxes f (λ p b first second. set-makes (common_sets p b) (length-meets p b (first.sized ∙ sym second) ∙ first.sized))
+      each-covered (IsWhole shape (place_of shape f)) (λ b. length b ≡ length (code_fields shape)) shape boxes f (λ p b first second. set-makes (in_both p b) (length-meets p b (first.sized ∙ sym second) ∙ first.sized))
       (wholes shape (place_of shape f)) sets (λ b sized is. record { sized = sized; whole = (Decides-eqb (slice_index_or b (place_of shape f) 0) (whole_of shape f)).0 is })
 
   -- and so are those that a code leaves

@@ -8,7 +8,7 @@ use Rattle.edit_line.specs.Sets.{none_is_empty, are_codes_in}
 use Rattle.edit_line.proofs.Members.{in-filter-out, in-flat_map-out, in-map-out}
 use Rattle.edit_line.proofs.BoolLaws.{both_true}
 use Rattle.categ_combine.specs.BoxLists.{reduce_boxes}
-use Rattle.edit_line.specs.Combinations.{common_sets}
+use Rattle.edit_line.specs.Combinations.{in_both}
 use Rattle.categ_combine.specs.Covers.{is_whole_at, meets_but, takes_part, with_code}
 use Rattle.edit_line.proofs.OtherFields.{inside-grows, inside-has_codes, inside-with, inside_but, inside_but-grows, inside_but-meets, length-meets, length-set, set-set, set-whole}
 use Rattle.categ_combine.proofs.ReducedBoxes.{any-reduce, in-reduce}
@@ -41,14 +41,14 @@ module _ (place whole : ℕ) (codes : List ℕ) (boxes : List (List ℕ)) (withi
   -- what a cover and a box have in common
   any-meet : (p b : List ℕ) → length p ≤ length codes → length b ≡ length codes
       → (none_is_empty (meets_but place whole p b) && inside_but place whole codes (meets_but place whole p b)) ≡ (inside_but place whole codes p && inside_but place whole codes b)
-  any-meet p b few is = by (inside_but place whole codes (meets_but place whole p b)) refl ∙ ap (λ s. are_codes_in s codes) (set-set place whole (common_sets p b)) ∙ inside_but-meets place whole p b codes
+  any-meet p b few is = by (inside_but place whole codes (meets_but place whole p b)) refl ∙ ap (λ s. are_codes_in s codes) (set-set place whole (in_both p b)) ∙ inside_but-meets place whole p b codes
     where
       few' : length (meets_but place whole p b) ≤ length codes
-      few' = omega (arith, length-set place whole (common_sets p b), length-meets (length codes) p b few (omega (arith, is)))
+      few' = omega (arith, length-set place whole (in_both p b), length-meets (length codes) p b few (omega (arith, is)))
 
       by : (t : Bool) → inside_but place whole codes (meets_but place whole p b) ≡ t → (none_is_empty (meets_but place whole p b) && inside_but place whole codes (meets_but place whole p b)) ≡ inside_but place whole codes (meets_but place whole p b)
       by true e =
-          ap (λ t. t && inside_but place whole codes (meets_but place whole p b)) (inside-has_codes (meets_but place whole p b) codes few' (ap (λ s. are_codes_in s codes) (sym (set-set place whole (common_sets p b))) ∙ e))
+          ap (λ t. t && inside_but place whole codes (meets_but place whole p b)) (inside-has_codes (meets_but place whole p b) codes few' (ap (λ s. are_codes_in s codes) (sym (set-set place whole (in_both p b))) ∙ e))
       by false e = ap (λ t. none_is_empty (meets_but place whole p b) && t) e ∙ and_false _ ∙ sym e
         where
           and_false : (a : Bool) → (a && false) ≡ false
@@ -80,8 +80,8 @@ module _ (place whole : ℕ) (codes : List ℕ) (boxes : List (List ℕ)) (withi
       let (b, took, is) = in-map-out (λ b. meets_but place whole q b) p (filter (takes_part place whole code) boxes) (in-filter-out none_is_empty p (map (λ b. meets_but place whole q b) (filter (takes_part place whole code) boxes)) made).0 in
       let few = (are q was).0 in
       let few' = same b (in-filter-out (takes_part place whole code) b boxes took).0 in
-      let short : length (meets_but place whole q b) ≤ length codes = omega (arith, length-set place whole (common_sets q b), length-meets (length codes) q b few (omega (arith, few'))) in
-      subst (λ r. IsCover r) (sym is) (short, set-set place whole (common_sets q b))
+      let short : length (meets_but place whole q b) ≤ length codes = omega (arith, length-set place whole (in_both q b), length-meets (length codes) q b few (omega (arith, few'))) in
+      subst (λ r. IsCover r) (sym is) (short, set-set place whole (in_both q b))
 
   -- the covers of all codes
   any-covers : (covers : List (List ℕ)) (cs : List ℕ) → ((p : List ℕ) → IsIn p covers → IsCover p)

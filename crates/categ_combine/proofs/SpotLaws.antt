@@ -8,7 +8,7 @@ use Rattle.edit_line.proofs.CombinationLaws.{length-meets}
 use Rattle.edit_line.proofs.ShapeLaws.{length-wholes}
 use Rattle.edit_line.proofs.WholeSets.{AreSets-whole, AreSets-wide, AreWithin-common, AreWithin-whole}
 use Rattle.edit_line.specs.CodeFields.{TakesCodes, place_of, size_of, whole_of}
-use Rattle.edit_line.specs.Combinations.{common_sets}
+use Rattle.edit_line.specs.Combinations.{in_both}
 use Rattle.categ_combine.specs.inner.Spots.{IsSpot}
 use Rattle.edit_line.proofs.PointCodes.{place_of-below, whole_of-is}
 
@@ -29,17 +29,17 @@ made-whole shape own sets place whole is over are =
 
 -- what two boxes have in common, made whole there
 pub common-sets : (shape own other : List Domain) (first second : List ℕ) (place whole : ℕ) → IsSpot shape place whole → own ≡ shape → other ≡ shape → AreSets first (whole_sets own) → AreSets second (whole_sets other)
-    → none_is_empty (slice_set (common_sets first second) place whole) ≡ true → AreSets (slice_set (common_sets first second) place whole) (whole_sets own)
+    → none_is_empty (slice_set (in_both first second) place whole) ≡ true → AreSets (slice_set (in_both first second) place whole) (whole_sets own)
 common-sets shape own other first second place whole is over over' a b some =
-    AreSets-within (slice_set (common_sets first second) place whole) (whole_sets own) some (
-    subst (λ (w : ℕ). AreWithin (slice_set (common_sets first second) place w) (whole_sets own)) (sym (own-whole shape own place whole is over)) (
-    AreWithin-whole (common_sets first second) (whole_sets own) place (
+    AreSets-within (slice_set (in_both first second) place whole) (whole_sets own) some (
+    subst (λ (w : ℕ). AreWithin (slice_set (in_both first second) place w) (whole_sets own)) (sym (own-whole shape own place whole is over)) (
+    AreWithin-whole (in_both first second) (whole_sets own) place (
     AreWithin-common first second (whole_sets own) (AreSets-wide first (whole_sets own) a) (AreSets-wide second (whole_sets own) (subst (λ s. AreSets second (whole_sets s)) (over' ∙ sym over) b))
     )
     )
     )
 
-pub common-within : (shape own other : List Domain) (first second : List ℕ) (place whole : ℕ) → IsSpot shape place whole → own ≡ shape → other ≡ shape → AreSets first (whole_sets own) → AreSets second (whole_sets other) → place < length (common_sets first second)
+pub common-within : (shape own other : List Domain) (first second : List ℕ) (place whole : ℕ) → IsSpot shape place whole → own ≡ shape → other ≡ shape → AreSets first (whole_sets own) → AreSets second (whole_sets other) → place < length (in_both first second)
 common-within shape own other first second place whole is over over' a b =
     omega (
       arith,

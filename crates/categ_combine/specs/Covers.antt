@@ -5,7 +5,7 @@ use Rattle.edit_line.specs.Sets.{none_is_empty}
 use Rattle.edit_line.specs.Shapes.{Domain, whole_sets}
 use Rattle.categ_combine.specs.BoxLists.{reduce_boxes, reduce_from}
 use Rattle.edit_line.specs.CodeFields.{codes_of, has_code_at, place_of, whole_of}
-use Rattle.edit_line.specs.Combinations.{common_sets}
+use Rattle.edit_line.specs.Combinations.{in_both}
 use Rattle.categ_combine.specs.Each.{each_from}
 use Rattle.categ_combine.specs.declared.box_from.BoxFrom.{BoxFrom}
 use Rattle.categ_combine.specs.declared.box_from.BoxOrigin.{BoxOrigin}
@@ -13,7 +13,7 @@ use Rattle.categ_combine.specs.declared.box_from.BoxOrigin.TheVariants.{Cover, F
 
 -- two boxes' intersection on the other fields, and the whole set at the place
 abbrev pub meets_but : ℕ → ℕ → List ℕ → List ℕ → List ℕ
-meets_but place whole first second = slice_set (common_sets first second) place whole
+meets_but place whole first second = slice_set (in_both first second) place whole
 
 -- whether the box is whole at the place
 abbrev pub is_whole_at : ℕ → ℕ → List ℕ → Bool

@@ -2,7 +2,7 @@ use Rattle.std.specs.Prelude.{◌≡◌, ℕ, suc, true, List, [], ◌∷◌, Ok
 use Rattle.edit_model.specs.declared.value.Value.{Value}
 use Rattle.edit_line.specs.Boxes.{BoxParts, box_of}
 use Rattle.edit_line.specs.CodeFields.{has_code_at, place_of, size_of, whole_at, whole_of}
-use Rattle.edit_line.specs.Combinations.{common_sets}
+use Rattle.edit_line.specs.Combinations.{in_both}
 use Rattle.edit_line.specs.Sets.{none_is_empty}
 use Rattle.edit_line.specs.Shapes.{Domain, whole_sets}
 use Rattle.edit_line.specs.Sums.{fails_at}
@@ -48,7 +48,7 @@ abbrev pub HaveInCommon : List BoxFrom → ℕ → ℕ → List ℕ → List ℕ
 HaveInCommon boxes place code [] sets common = common ≡ sets
 HaveInCommon boxes place code (i ∷ parts) sets common =
     IsSomeAnd (slice_get boxes i) (λ (b : BoxFrom). (has_code_at place code b.code_box.sets ≡ true)
-    × HaveInCommon boxes place (suc code) parts (common_sets sets b.code_box.sets) common)
+    × HaveInCommon boxes place (suc code) parts (in_both sets b.code_box.sets) common)
 
 -- there is one part for each code of the field, which has it, and the box is what the parts have in common, made whole at the field; no set of it is empty
 pub record IsCover (shape : List Domain) (boxes : List BoxFrom) (f : ℕ) (parts : List ℕ) (box : BoxParts) : Type 0 where

@@ -4,7 +4,7 @@ use Rattle.std.proofs.lemmas.Bool.Decides.{Decides-eqb}
 use Rattle.foundation.specs.Options.{◌>>?◌}
 use Rattle.edit_model.specs.Points.{Point, has_code}
 use Rattle.edit_line.specs.CodeFields.{place_of, size_from, size_of}
-use Rattle.edit_line.specs.Combinations.{common_sets}
+use Rattle.edit_line.specs.Combinations.{in_both}
 use Rattle.edit_line.specs.Sets.{are_codes_in}
 use Rattle.edit_line.specs.Shapes.{Categorical, Domain, HasCodes, Numerical, code_fields, codes_at, codes_from, has_field, place_in}
 use Rattle.edit_line.proofs.OtherFields.{inside_but, inside_but-meets}
@@ -66,11 +66,11 @@ inside-put_back (suc place) whole (s ∷ sets) (code ∷ codes) at but =
     let (here, rest) = both_true (has_code s code) _ but in ap (λ b. b && are_codes_in sets codes) here ∙ inside-put_back place whole sets codes at rest
 
 -- what the parts from one place on have in common, one part on
-pub common-more : (earlier : List Proved) (at code : ℕ) (parts common sets next : List ℕ) (whole : Option (List ℕ)) → code < length parts → Some sets ≡ part_with earlier at code (slice_index parts code) → next ≡ common_sets common sets
+pub common-more : (earlier : List Proved) (at code : ℕ) (parts common sets next : List ℕ) (whole : Option (List ℕ)) → code < length parts → Some sets ≡ part_with earlier at code (slice_index parts code) → next ≡ in_both common sets
     → common_from earlier at code (drop code parts) common ≡ whole → common_from earlier at (code + 1) (drop (code + 1) parts) next ≡ whole
 common-more earlier at code parts common sets next whole below here next_is before = rw (add-one) (
     ap (λ (ns : List ℕ). common_from earlier at (suc code) (drop (suc code) parts) ns) next_is
-    ∙ ap (λ (o : Option (List ℕ)). (o >>? (λ ns. common_from earlier at (suc code) (drop (suc code) parts) (common_sets common ns)))) here
+    ∙ ap (λ (o : Option (List ℕ)). (o >>? (λ ns. common_from earlier at (suc code) (drop (suc code) parts) (in_both common ns)))) here
     ∙ ap (λ (ps : List ℕ). common_from earlier at code ps common) (sym (drop-cons parts code 0 below))
     ∙ before
     )
@@ -80,8 +80,8 @@ module _ (earlier : List Proved) (at whole : ℕ) (codes : List ℕ) where
   common-before : (code : ℕ) (parts common last : List ℕ) → common_from earlier at code parts common ≡ Some last → inside_but at whole codes last ≡ true → inside_but at whole codes common ≡ true
   common-before code [] common last e inside = let same : last ≡ common = cc in ap (λ (sets : List ℕ). inside_but at whole codes sets) (sym same) ∙ inside
   common-before code (part ∷ parts) common last e inside =
-      let (sets, taken, rest) = was-some (part_with earlier at code part) (λ sets. common_from earlier at (suc code) parts (common_sets common sets)) last e in
-      let both = common-before (suc code) parts (common_sets common sets) last rest inside in
+      let (sets, taken, rest) = was-some (part_with earlier at code part) (λ sets. common_from earlier at (suc code) parts (in_both common sets)) last e in
+      let both = common-before (suc code) parts (in_both common sets) last rest inside in
       (both_true (inside_but at whole codes common) _ (sym (inside_but-meets at whole common sets codes) ∙ both)).0
 
   -- and, on the other fields, in the sets of the part for each code
@@ -89,16 +89,16 @@ module _ (earlier : List Proved) (at whole : ℕ) (codes : List ℕ) where
       → (part : ℕ) × (sets : List ℕ) × (as_box (slice_get earlier part) ≡ Some sets) × (has_code (slice_index_or sets at 0) j ≡ true) × (inside_but at whole codes sets ≡ true)
   common-part code j k [] common last is below e inside = absurd (omega arith)
   common-part code j zero (part ∷ parts) common last is below e inside =
-      let (sets, taken, rest) = was-some (part_with earlier at code part) (λ sets. common_from earlier at (suc code) parts (common_sets common sets)) last e in
+      let (sets, taken, rest) = was-some (part_with earlier at code part) (λ sets. common_from earlier at (suc code) parts (in_both common sets)) last e in
       let (found, box, only) = was-some (as_box (slice_get earlier part)) (λ sets. only_if (has_code (slice_index_or sets at 0) code) sets) sets taken in
       let (here, same) = was-true (has_code (slice_index_or found at 0) code) found sets only in
-      let both = common-before (suc code) parts (common_sets common sets) last rest inside in
+      let both = common-before (suc code) parts (in_both common sets) last rest inside in
       let first : j ≡ code = omega arith in
       let apart = (both_true (inside_but at whole codes common) _ (sym (inside_but-meets at whole common sets codes) ∙ both)).1 in
       (part, found, box, ap (λ c. has_code (slice_index_or found at 0) c) first ∙ here, ap (λ (s : List ℕ). inside_but at whole codes s) same ∙ apart)
   common-part code j (suc k) (part ∷ parts) common last is below e inside =
-      let (sets, taken, rest) = was-some (part_with earlier at code part) (λ sets. common_from earlier at (suc code) parts (common_sets common sets)) last e in
-      common-part (suc code) j k parts (common_sets common sets) last (omega arith) (omega arith) rest inside
+      let (sets, taken, rest) = was-some (part_with earlier at code part) (λ sets. common_from earlier at (suc code) parts (in_both common sets)) last e in
+      common-part (suc code) j k parts (in_both common sets) last (omega arith) (omega arith) rest inside
 
   -- codes that are in the cover are in the part for the code at the place
   pub cover-part : (parts wholes common : List ℕ) → slice_index_or codes at 0 < length parts → common_from earlier at 0 parts wholes ≡ Some common → inside_but at whole codes common ≡ true

@@ -1,6 +1,6 @@
 use Rattle.std.proofs.Common.{◌≡◌, ℕ, ◌<◌, true, List, Some, length, slice_index_or, slice_set, sym, ap, subst, arith}
 use Rattle.edit_line.specs.inner.SetBounds.{AreWithin}
-use Rattle.edit_line.specs.Combinations.{common_sets}
+use Rattle.edit_line.specs.Combinations.{in_both}
 use Rattle.edit_line.specs.Sets.{AreSets, none_is_empty}
 use Rattle.edit_line.specs.Shapes.{Domain, code_fields, whole_sets}
 use Rattle.edit_line.proofs.SetLaws.{AreSets-within, AreWithin-length}
@@ -21,7 +21,7 @@ as-many wholes common sets within are =
     omega (arith, AreWithin-length common wholes within, AreWithin-length sets wholes (AreSets-wide sets wholes are))
 
 -- and what they have in common with it is within the whole sets
-pub still-within : (wholes common sets next : List ℕ) → AreWithin common wholes → AreSets sets wholes → next ≡ common_sets common sets → AreWithin next wholes
+pub still-within : (wholes common sets next : List ℕ) → AreWithin common wholes → AreSets sets wholes → next ≡ in_both common sets → AreWithin next wholes
 still-within wholes common sets next within are next_is =
     subst (λ (ns : List ℕ). AreWithin ns wholes) (sym next_is) (AreWithin-common common sets wholes within (AreSets-wide sets wholes are))
 

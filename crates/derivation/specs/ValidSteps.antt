@@ -10,7 +10,7 @@ use Rattle.edit_model.specs.declared.value.Value.TheVariants.{Bad, Code, Number}
 use Rattle.edit_model.specs.Points.{has_code}
 use Rattle.edit_line.specs.Boxes.{box_of}
 use Rattle.edit_line.specs.CodeFields.{has_code_at, place_of, size_of, whole_at}
-use Rattle.edit_line.specs.Combinations.{may_combine, common_sets, sum_of}
+use Rattle.edit_line.specs.Combinations.{may_combine, in_both, sum_of}
 use Rattle.edit_line.specs.Divisors.{divided_by}
 use Rattle.edit_line.specs.Lines.{LineParts}
 use Rattle.edit_line.specs.Sets.{none_is_empty}
@@ -79,7 +79,7 @@ part_with earlier at code part = as_box (slice_get earlier part) >>? (λ sets. o
 abbrev pub common_from : List Proved → ℕ → ℕ → List ℕ → List ℕ → Option (List ℕ)
 common_from earlier at code [] common = Some common
 common_from earlier at code (part ∷ parts) common =
-    part_with earlier at code part >>? (λ sets. common_from earlier at (suc code) parts (common_sets common sets))
+    part_with earlier at code part >>? (λ sets. common_from earlier at (suc code) parts (in_both common sets))
 
 -- the box of these sets, made whole at the field, if no set of it is empty
 abbrev pub covered_sets : List Domain → ℕ → List ℕ → Option Proved

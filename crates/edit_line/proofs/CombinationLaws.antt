@@ -10,7 +10,7 @@ use Rattle.edit_line.specs.Lines.{IsEnough, LineHolds, LineParts, amount, weight
 use Rattle.edit_line.specs.Sets.{AreCodesIn, HasCode}
 use Rattle.edit_line.specs.Shapes.{Domain, beside, codes_at, numerators_at}
 use Rattle.edit_line.proofs.Enough.{IsEnough-at_least, IsEnough_cancel}
-use Rattle.edit_line.specs.Combinations.{all_meet, combined, common_sets}
+use Rattle.edit_line.specs.Combinations.{all_meet, combined, in_both}
 use Rattle.edit_line.proofs.PositiveSums.{IsCombined}
 
 -- A positive combination of two lines holds where both hold.
@@ -90,7 +90,7 @@ both-HasCode : (s t code : ℕ) → HasCode s code → HasCode t code → HasCod
 both-HasCode s t code h k = omega (arith, bit_at_and s t code, h, k)
 
 -- codes where the sets meet are in both
-pub meets-inside : (first second codes : List ℕ) → AreCodesIn (common_sets first second) codes → AreCodesIn first codes × AreCodesIn second codes
+pub meets-inside : (first second codes : List ℕ) → AreCodesIn (in_both first second) codes → AreCodesIn first codes × AreCodesIn second codes
 meets-inside [] second codes inside = (tt, inside)
 meets-inside (s ∷ first) [] codes inside = (inside, tt)
 meets-inside (s ∷ first) (t ∷ second) [] inside = (tt, tt)
@@ -100,7 +100,7 @@ meets-inside (s ∷ first) (t ∷ second) (code ∷ codes) inside =
     ((one, rest), (two, others))
 
 -- and the other way round
-pub inside-meets : (first second codes : List ℕ) → AreCodesIn first codes → AreCodesIn second codes → AreCodesIn (common_sets first second) codes
+pub inside-meets : (first second codes : List ℕ) → AreCodesIn first codes → AreCodesIn second codes → AreCodesIn (in_both first second) codes
 inside-meets [] second codes one two = two
 inside-meets (s ∷ first) [] codes one two = one
 inside-meets (s ∷ first) (t ∷ second) [] one two = tt
@@ -125,7 +125,7 @@ inside-all_meet (s ∷ first) (t ∷ second) (code ∷ codes) many one two =
         by false e = refl
 
 -- there are as many sets as before
-pub length-meets : (first second : List ℕ) → length first ≡ length second → length (common_sets first second) ≡ length first
+pub length-meets : (first second : List ℕ) → length first ≡ length second → length (in_both first second) ≡ length first
 length-meets [] [] e = refl
 length-meets [] (t ∷ second) e = absurd (omega arith)
 length-meets (s ∷ first) [] e = absurd (omega arith)
@@ -177,7 +177,7 @@ IsEnough-sum false false m n y z m_above n_above h k = sum_least _ _ (at_least-*
 pub LineHolds-combined : (m n g : ℤ) (s t line : LineParts) (p : Point) → pos 0 <ℤ m → pos 0 <ℤ n → pos 0 <ℤ g → IsCombined m n g s t line → LineHolds s p → LineHolds t p → LineHolds line p
 LineHolds-combined m n g s t line p m_above n_above g_above is s_holds t_holds = record {
   enough = λ inside.
-      let both : AreCodesIn (common_sets s.sets t.sets) (codes_at s.shape p) = subst (λ (shape : List Domain). AreCodesIn (common_sets s.sets t.sets) (codes_at shape p)) is.shape (subst (λ (sets : List ℕ). AreCodesIn sets (codes_at line.shape p)) is.sets inside) in
+      let both : AreCodesIn (in_both s.sets t.sets) (codes_at s.shape p) = subst (λ (shape : List Domain). AreCodesIn (in_both s.sets t.sets) (codes_at shape p)) is.shape (subst (λ (sets : List ℕ). AreCodesIn sets (codes_at line.shape p)) is.sets inside) in
       let (in_s, in_t) = meets-inside s.sets t.sets (codes_at s.shape p) both in
       let sum = IsEnough-sum s.strict t.strict m n (amount s p) (amount t p) m_above n_above (s_holds.enough in_s) (t_holds.enough (subst (λ (shape : List Domain). AreCodesIn t.sets (codes_at shape p)) (sym is.same) in_t)) in
       subst (λ (b : Bool). IsEnough b (amount line p)) (sym is.strict)

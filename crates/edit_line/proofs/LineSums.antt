@@ -4,7 +4,7 @@ use Rattle.fraction128.specs.Range.{InRange}
 use Rattle.edit_line.specs.Lines.{IsLine, LineParts, parts_of}
 use Rattle.edit_line.specs.Sets.{AreSets}
 use Rattle.edit_line.specs.Shapes.{Domain, number_fields, whole_sets}
-use Rattle.edit_line.specs.Combinations.{all_meet, combined, first_overflow, common_sets, numbers, sum_fits, sum_of}
+use Rattle.edit_line.specs.Combinations.{all_meet, combined, first_overflow, in_both, numbers, sum_fits, sum_of}
 use Rattle.edit_line.proofs.SetLaws.{both_true}
 use Rattle.edit_line.proofs.ListPairs.{fits-sum}
 
@@ -38,7 +38,7 @@ above-not_zero zero h = absurd (cc)
 above-not_zero (suc n) h = omega arith
 
 -- sets that meet have their own codes in common
-pub AreSets-meets : (first second wholes : List ℕ) → AreSets first wholes → AreSets second wholes → all_meet first second ≡ true → AreSets (common_sets first second) wholes
+pub AreSets-meets : (first second wholes : List ℕ) → AreSets first wholes → AreSets second wholes → all_meet first second ≡ true → AreSets (in_both first second) wholes
 AreSets-meets [] [] [] p q meet = tt
 AreSets-meets [] (t ∷ second) [] p q meet = absurd q
 AreSets-meets (s ∷ first) [] [] p q meet = absurd p
@@ -50,12 +50,12 @@ AreSets-meets (s ∷ first) (t ∷ second) (w ∷ wholes) p q meet =
     (above-not_zero (bit_and s t) both.0, omega (arith, and_le_l s t, p.1), AreSets-meets first second wholes p.2 q.2 both.1)
 
 -- the sum of multiples of two lines, made of its parts
-pub sum-is : (shape : List Domain) (m n constant : ℤ) (s t : LineParts) (sets : List ℕ) (factors : List ℤ) (strict : Bool) → s.shape ≡ shape → sets ≡ common_sets s.sets t.sets → factors ≡ combined m n s.factors t.factors
+pub sum-is : (shape : List Domain) (m n constant : ℤ) (s t : LineParts) (sets : List ℕ) (factors : List ℤ) (strict : Bool) → s.shape ≡ shape → sets ≡ in_both s.sets t.sets → factors ≡ combined m n s.factors t.factors
     → constant ≡ m *ℤ s.constant +ℤ n *ℤ t.constant → strict ≡ (s.strict || t.strict) → parts_of shape sets factors constant strict ≡ sum_of m n s t
 sum-is shape m n constant s t sets factors strict s_over sets_are factors_are constant_is strict_is = λ i. parts_of (sym s_over i) (sets_are i) (factors_are i) (constant_is i) (strict_is i)
 
 -- and it is a line
-pub sum-line : (shape : List Domain) (constant : ℤ) (s t : LineParts) (sets : List ℕ) (factors : List ℤ) (strict : Bool) → s.shape ≡ shape → t.shape ≡ shape → sets ≡ common_sets s.sets t.sets → AreSets s.sets (whole_sets s.shape)
+pub sum-line : (shape : List Domain) (constant : ℤ) (s t : LineParts) (sets : List ℕ) (factors : List ℤ) (strict : Bool) → s.shape ≡ shape → t.shape ≡ shape → sets ≡ in_both s.sets t.sets → AreSets s.sets (whole_sets s.shape)
     → AreSets t.sets (whole_sets t.shape) → all_meet s.sets t.sets ≡ true → length factors ≡ length (number_fields shape) → All InRange factors → InRange constant → IsLine (parts_of shape sets factors constant strict)
 sum-line shape constant s t sets factors strict s_over t_over sets_are s_fit t_fit meet count all fits = record {
   sets = subst (λ (xs : List ℕ). AreSets xs (whole_sets shape)) (sym sets_are) (AreSets-meets s.sets t.sets (whole_sets shape) (subst (λ (sh : List Domain). AreSets s.sets (whole_sets sh)) s_over s_fit) (subst (λ (sh : List Domain). AreSets t.sets (whole_sets sh)) t_over t_fit) meet);

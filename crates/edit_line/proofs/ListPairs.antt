@@ -4,7 +4,7 @@ use Rattle.std.proofs.lemmas.List.{drop_all}
 use Rattle.std.proofs.lemmas.Bool.Decides.{Decides-ltb}
 use Rattle.fraction128.specs.Range.{InRange}
 use Rattle.edit_line.proofs.SetLaws.{both_true}
-use Rattle.edit_line.specs.Combinations.{all_meet, combined, first_overflow, in_range, common_sets, sum_fits}
+use Rattle.edit_line.specs.Combinations.{all_meet, combined, first_overflow, in_range, in_both, sum_fits}
 
 -- Two lists, number by number or set by set.
 
@@ -81,18 +81,18 @@ module _ (m n : ℤ) (first second : List ℤ) (same : length first ≡ length s
   overflow-end i past = ap (λ xs. first_overflow i m n xs (drop i second)) (drop_all i first past)
 
 module _ (first second : List ℕ) (same : length first ≡ length second) where
-  pub meets-at : (i : ℕ) → i < length first → common_sets (drop i first) (drop i second) ≡ bit_and (get_or first i 0) (get_or second i 0) ∷ common_sets (drop (i + 1) first) (drop (i + 1) second)
+  pub meets-at : (i : ℕ) → i < length first → in_both (drop i first) (drop i second) ≡ bit_and (get_or first i 0) (get_or second i 0) ∷ in_both (drop (i + 1) first) (drop (i + 1) second)
   meets-at i below =
-      rw (add-one) (ap (λ xs. common_sets xs (drop i second)) (drop-cons first i 0 below) ∙ ap (λ ys. common_sets (get_or first i 0 ∷ drop (suc i) first) ys) (drop-cons second i 0 (omega (arith, same))))
+      rw (add-one) (ap (λ xs. in_both xs (drop i second)) (drop-cons first i 0 below) ∙ ap (λ ys. in_both (get_or first i 0 ∷ drop (suc i) first) ys) (drop-cons second i 0 (omega (arith, same))))
 
   -- with a set that is written, what is written and what is left give the whole
-  pub meets-more : (i : ℕ) (sets : List ℕ) → i < length first → length first ≡ length sets → take i sets ++ common_sets (drop i first) (drop i second) ≡ common_sets first second
-      → take (i + 1) (slice_set sets i (bit_and (get_or first i 0) (get_or second i 0))) ++ common_sets (drop (i + 1) first) (drop (i + 1) second) ≡ common_sets first second
+  pub meets-more : (i : ℕ) (sets : List ℕ) → i < length first → length first ≡ length sets → take i sets ++ in_both (drop i first) (drop i second) ≡ in_both first second
+      → take (i + 1) (slice_set sets i (bit_and (get_or first i 0) (get_or second i 0))) ++ in_both (drop (i + 1) first) (drop (i + 1) second) ≡ in_both first second
   meets-more i sets below many before =
-      ap (λ ys. ys ++ common_sets (drop (i + 1) first) (drop (i + 1) second)) (written-more sets i _ (omega (arith, many))) ∙ append_assoc (take i sets) _ _ ∙ ap (λ ys. take i sets ++ ys) (sym (meets-at i below)) ∙ before
+      ap (λ ys. ys ++ in_both (drop (i + 1) first) (drop (i + 1) second)) (written-more sets i _ (omega (arith, many))) ∙ append_assoc (take i sets) _ _ ∙ ap (λ ys. take i sets ++ ys) (sym (meets-at i below)) ∙ before
 
-  pub meets-end : (i : ℕ) → length first ≤ i → common_sets (drop i first) (drop i second) ≡ []
-  meets-end i past = ap (λ xs. common_sets xs (drop i second)) (drop_all i first past) ∙ ap (λ ys. common_sets [] ys) (drop_all i second (omega (arith, same)))
+  pub meets-end : (i : ℕ) → length first ≤ i → in_both (drop i first) (drop i second) ≡ []
+  meets-end i past = ap (λ xs. in_both xs (drop i second)) (drop_all i first past) ∙ ap (λ ys. in_both [] ys) (drop_all i second (omega (arith, same)))
 
   pub all_meet-at : (i : ℕ) → i < length first → all_meet (drop i first) (drop i second) ≡ (not (nat_eq (bit_and (get_or first i 0) (get_or second i 0)) 0) && all_meet (drop (i + 1) first) (drop (i + 1) second))
   all_meet-at i below =

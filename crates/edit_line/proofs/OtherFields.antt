@@ -7,7 +7,7 @@ use Rattle.edit_model.specs.Points.{has_code}
 use Rattle.edit_line.specs.Sets.{are_subsets, none_is_empty, are_codes_in}
 use Rattle.edit_line.proofs.BoolLaws.{and_true, true-both}
 use Rattle.edit_line.proofs.SetLaws.{both_true, has-inside}
-use Rattle.edit_line.specs.Combinations.{common_sets}
+use Rattle.edit_line.specs.Combinations.{in_both}
 
 -- Boxes on the fields other than one place.
 
@@ -37,17 +37,17 @@ shared true c d = refl
 shared false c d = refl
 
 -- the codes are in both boxes
-inside-meets : (first second codes : List ℕ) → are_codes_in (common_sets first second) codes ≡ (are_codes_in first codes && are_codes_in second codes)
+inside-meets : (first second codes : List ℕ) → are_codes_in (in_both first second) codes ≡ (are_codes_in first codes && are_codes_in second codes)
 inside-meets [] second codes = refl
 inside-meets (s ∷ first) [] codes = sym (and_true _)
 inside-meets (s ∷ first) (t ∷ second) [] = refl
 inside-meets (s ∷ first) (t ∷ second) (code ∷ codes) =
-    ap (λ b. b && are_codes_in (common_sets first second) codes) (has-and s t code) ∙ ap (λ b. (has_code s code && has_code t code) && b) (inside-meets first second codes)
+    ap (λ b. b && are_codes_in (in_both first second) codes) (has-and s t code) ∙ ap (λ b. (has_code s code && has_code t code) && b) (inside-meets first second codes)
     ∙ crossed (has_code s code) (has_code t code) (are_codes_in first codes) (are_codes_in second codes)
 
 -- and so on the other fields
 pub inside_but-meets : (place whole : ℕ) (first second codes : List ℕ)
-    → inside_but place whole codes (common_sets first second) ≡ (inside_but place whole codes first && inside_but place whole codes second)
+    → inside_but place whole codes (in_both first second) ≡ (inside_but place whole codes first && inside_but place whole codes second)
 inside_but-meets place whole [] second codes = refl
 inside_but-meets place whole (s ∷ first) [] codes = sym (and_true _)
 inside_but-meets zero whole (s ∷ first) (t ∷ second) [] = refl
@@ -55,7 +55,7 @@ inside_but-meets (suc place) whole (s ∷ first) (t ∷ second) [] = refl
 inside_but-meets zero whole (s ∷ first) (t ∷ second) (code ∷ codes) =
     ap (λ b. has_code whole code && b) (inside-meets first second codes) ∙ shared (has_code whole code) (are_codes_in first codes) (are_codes_in second codes)
 inside_but-meets (suc place) whole (s ∷ first) (t ∷ second) (code ∷ codes) =
-    ap (λ b. b && inside_but place whole codes (common_sets first second)) (has-and s t code) ∙ ap (λ b. (has_code s code && has_code t code) && b) (inside_but-meets place whole first second codes)
+    ap (λ b. b && inside_but place whole codes (in_both first second)) (has-and s t code) ∙ ap (λ b. (has_code s code && has_code t code) && b) (inside_but-meets place whole first second codes)
     ∙ crossed (has_code s code) (has_code t code) (inside_but place whole codes first) (inside_but place whole codes second)
 
 -- made whole once more
@@ -133,7 +133,7 @@ length-set place whole [] = refl
 length-set zero whole (s ∷ box) = refl
 length-set (suc place) whole (s ∷ box) = ap suc (length-set place whole box)
 
-pub length-meets : (n : ℕ) (first second : List ℕ) → length first ≤ n → length second ≤ n → length (common_sets first second) ≤ n
+pub length-meets : (n : ℕ) (first second : List ℕ) → length first ≤ n → length second ≤ n → length (in_both first second) ≤ n
 length-meets n [] second few few' = few'
 length-meets n (s ∷ first) [] few few' = few
 length-meets zero (s ∷ first) (t ∷ second) few few' = absurd (omega arith)

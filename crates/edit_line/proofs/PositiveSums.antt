@@ -1,13 +1,13 @@
 -- Lines that are sums of two others, as laws speak of them.
 use Rattle.std.proofs.Common.{◌≡◌, ℤ, ◌||◌, map, pos, ◌<ℤ◌, ◌+ℤ◌, ◌*ℤ◌}
-use Rattle.edit_line.specs.Combinations.{combined, common_sets}
+use Rattle.edit_line.specs.Combinations.{combined, in_both}
 use Rattle.edit_line.specs.Lines.{LineParts}
 
 -- the line is m times s and n times t, divided by g
 pub record IsCombined (m n g : ℤ) (s t line : LineParts) : Type 0 where
   pub shape : line.shape ≡ s.shape
   pub same : t.shape ≡ s.shape
-  pub sets : line.sets ≡ common_sets s.sets t.sets
+  pub sets : line.sets ≡ in_both s.sets t.sets
   pub factors : map (λ c. g *ℤ c) line.factors ≡ combined m n s.factors t.factors
   pub constant : g *ℤ line.constant ≡ m *ℤ s.constant +ℤ n *ℤ t.constant
   pub strict : line.strict ≡ (s.strict || t.strict)

@@ -2,7 +2,7 @@ use Rattle.std.proofs.Common.{◌≡◌, ℕ, zero, suc, ◌+◌, ◌<◌, ◌++
 use Rattle.std.proofs.Math.Seq.{drop-cons}
 use Rattle.std.proofs.lemmas.Nat.{and_le_l}
 use Rattle.edit_line.specs.inner.SetBounds.{AreWithin}
-use Rattle.edit_line.specs.Combinations.{common_sets}
+use Rattle.edit_line.specs.Combinations.{in_both}
 use Rattle.edit_line.specs.Sets.{AreSets}
 use Rattle.edit_line.specs.Shapes.{Categorical, Domain, Numerical, domain_with, whole_sets}
 
@@ -30,7 +30,7 @@ AreWithin-whole (s ∷ sets) (w ∷ wholes) zero within = (omega arith, within.1
 AreWithin-whole (s ∷ sets) (w ∷ wholes) (suc place) within = (within.0, AreWithin-whole sets wholes place within.1)
 
 -- what two have in common is within both
-pub AreWithin-common : (first second wholes : List ℕ) → AreWithin first wholes → AreWithin second wholes → AreWithin (common_sets first second) wholes
+pub AreWithin-common : (first second wholes : List ℕ) → AreWithin first wholes → AreWithin second wholes → AreWithin (in_both first second) wholes
 AreWithin-common [] [] [] a b = tt
 AreWithin-common [] [] (w ∷ wholes) a b = absurd a
 AreWithin-common [] (t ∷ second) [] a b = absurd b

@@ -9,10 +9,10 @@ all_meet (s ∷ first) (t ∷ second) = not (nat_eq (bit_and s t) 0) && all_meet
 all_meet _ _ = true
 
 -- the codes that are in the first and in the second; a missing set counts as whole
-abbrev pub common_sets : List ℕ → List ℕ → List ℕ
-common_sets (s ∷ first) (t ∷ second) = bit_and s t ∷ common_sets first second
-common_sets [] second = second
-common_sets first [] = first
+abbrev pub in_both : List ℕ → List ℕ → List ℕ
+in_both (s ∷ first) (t ∷ second) = bit_and s t ∷ in_both first second
+in_both [] second = second
+in_both first [] = first
 
 -- m times the first and n times the second, place by place; a missing number counts as 0
 abbrev pub combined : ℤ → ℤ → List ℤ → List ℤ → List ℤ
@@ -23,8 +23,7 @@ combined m n first [] = map (λ a. m *ℤ a) first
 -- m times s and n times t, where both sets meet, and strict where one is
 abbrev pub sum_of : ℤ → ℤ → LineParts → LineParts → LineParts
 sum_of m n s t =
-    parts_of s.shape (common_sets s.sets t.sets) (combined m n s.factors t.factors) (m *ℤ s.constant +ℤ n *ℤ t.constant)
-    (s.strict || t.strict)
+    parts_of s.shape (in_both s.sets t.sets) (combined m n s.factors t.factors) (m *ℤ s.constant +ℤ n *ℤ t.constant) (s.strict || t.strict)
 
 -- ---- the numbers formed on the way
 

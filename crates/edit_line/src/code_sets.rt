@@ -3,7 +3,7 @@ ghost use Rattle.std.specs.Prelude.{◌≡◌, ◌≤◌, IfNone, IfOk, IfSome, 
 ghost use Rattle.edit_line.specs.inner.WholePlaces.{IsNotWhole, IsWholeUpTo};
 ghost use Rattle.edit_model.specs.Points.{has_code};
 ghost use Rattle.edit_line.specs.Boxes.{are_whole};
-ghost use Rattle.edit_line.specs.Combinations.{all_meet, common_sets};
+ghost use Rattle.edit_line.specs.Combinations.{all_meet, in_both};
 ghost use Rattle.edit_line.specs.Sets.{are_subsets, none_is_empty};
 ghost use Rattle.edit_line.specs.Domains.{domains};
 
@@ -42,7 +42,7 @@ pub fn all_meet(first: &[u64], second: &[u64]) -> bool
 /// The codes that are in both sets, field by field.
 pub fn meets(alloc: Global, first: &[u64], second: &[u64]) -> Result<Vec<u64>, OutOfMemory>
     requires { length first.now ≡ length second.now }
-    ensures { IfOk result (λ sets. sets.items ≡ common_sets first.now second.now) }
+    ensures { IfOk result (λ sets. sets.items ≡ in_both first.now second.now) }
 {
     let mut sets = Vec::from_slice(alloc, first)?;
     narrow(&mut sets, second);
@@ -52,7 +52,7 @@ pub fn meets(alloc: Global, first: &[u64], second: &[u64]) -> Result<Vec<u64>, O
 /// Leaves in the sets only the codes that are also in the others, field by field. No memory.
 pub fn narrow(sets: &mut Vec<u64>, others: &[u64])
     requires { length others.now ≡ length sets.old.items }
-    ensures { sets.new.items ≡ common_sets sets.old.items others.now }
+    ensures { sets.new.items ≡ in_both sets.old.items others.now }
 {
     for i in 0..others.len() {
         sets[i] &= others[i];

@@ -9,7 +9,7 @@ use Rattle.edit_model.specs.declared.value.Value.{Value}
 use Rattle.edit_model.specs.declared.value.Value.TheVariants.{Code}
 use Rattle.edit_line.specs.Boxes.{BoxParts, box_of}
 use Rattle.edit_line.specs.CodeFields.{place_of, whole_of}
-use Rattle.edit_line.specs.Combinations.{common_sets}
+use Rattle.edit_line.specs.Combinations.{in_both}
 use Rattle.edit_line.specs.Reductions.{IsIn}
 use Rattle.edit_line.specs.Sets.{none_is_empty}
 use Rattle.edit_line.specs.Shapes.{Domain, code_fields, has_field, number_fields, whole_sets}
@@ -83,8 +83,8 @@ module _ (p : Premises) (boxes : List BoxFrom) (f : ℕ) (categorical : has_fiel
   common-made : (code : ℕ) (parts sets common : List ℕ) → HaveInCommon boxes (place_of p.shape f) code parts sets common → common_from (box_values boxes) (place_of p.shape f) code parts sets ≡ Some common
   common-made code [] sets common have = ap (λ (s : List ℕ). Some s) (sym have)
   common-made code (i ∷ parts) sets common have =
-      let (b, at, said) = some_with (λ (b : BoxFrom). (has_code (slice_index_or b.code_box.sets (place_of p.shape f) 0) code ≡ true) × HaveInCommon boxes (place_of p.shape f) (suc code) parts (common_sets sets b.code_box.sets) common) (slice_get boxes i) have in
-      ap (λ (o : Option (List ℕ)). (o >>? (λ own. common_from (box_values boxes) (place_of p.shape f) (suc code) parts (common_sets sets own)))) (part i b at said.0) ∙ common-made (suc code) parts (common_sets sets b.code_box.sets) common said.1
+      let (b, at, said) = some_with (λ (b : BoxFrom). (has_code (slice_index_or b.code_box.sets (place_of p.shape f) 0) code ≡ true) × HaveInCommon boxes (place_of p.shape f) (suc code) parts (in_both sets b.code_box.sets) common) (slice_get boxes i) have in
+      ap (λ (o : Option (List ℕ)). (o >>? (λ own. common_from (box_values boxes) (place_of p.shape f) (suc code) parts (in_both sets own)))) (part i b at said.0) ∙ common-made (suc code) parts (in_both sets b.code_box.sets) common said.1
     where
       part : (i : ℕ) (b : BoxFrom) → slice_get boxes i ≡ Some b → has_code (slice_index_or b.code_box.sets (place_of p.shape f) 0) code ≡ true → part_with (box_values boxes) (place_of p.shape f) code i ≡ Some b.code_box.sets
       part i b at has =

@@ -12,7 +12,7 @@ use Rattle.edit_line.proofs.Enough.{IsEnough-times, IsEnough_cancel}
 use Rattle.edit_line.proofs.Members.{all-in, in-all, in-either, in-filter, in-filter-out, in-flat_map, in-flat_map-out, in-left, in-map, in-map-out, in-right}
 use Rattle.edit_line.proofs.ReductionLaws.{HaveShape-reduce, all-reduce, holds-reduce, reduce-holds}
 use Rattle.edit_line.proofs.SetLaws.{both_true, is_inside-Decides}
-use Rattle.edit_line.specs.Combinations.{all_meet, common_sets}
+use Rattle.edit_line.specs.Combinations.{all_meet, in_both}
 use Rattle.linear_elim.specs.Combinations.{combination, first_multiplier, second_multiplier, is_flat, is_lower, is_upper}
 use Rattle.linear_elim.specs.PointChanges.{DiffersOnlyAt}
 use Rattle.linear_elim.specs.Steps.{combinations, eliminated, is_opposite, step}
@@ -179,7 +179,7 @@ module _ (lines : List LineParts) (f : ℕ) where
     pair_leaves p s t pair s_inside t_inside holds =
         let same = same_shape s t pair in
         let is = combination-is s t f same pair.above pair.below in
-        let inside : AreCodesIn (common_sets s.sets t.sets) (codes_at s.shape p) = inside-meets s.sets t.sets (codes_at s.shape p) s_inside (subst (λ (d : List Domain). AreCodesIn t.sets (codes_at d p)) same t_inside) in
+        let inside : AreCodesIn (in_both s.sets t.sets) (codes_at s.shape p) = inside-meets s.sets t.sets (codes_at s.shape p) s_inside (subst (λ (d : List Domain). AreCodesIn t.sets (codes_at d p)) same t_inside) in
         let in_line : AreCodesIn (combination s t f).sets (codes_at (combination s t f).shape p) =
         subst (λ (d : List Domain). AreCodesIn (combination s t f).sets (codes_at d p)) (sym is.combined.shape) (subst (λ (sets : List ℕ). AreCodesIn sets (codes_at s.shape p)) (sym is.combined.sets) inside) in
         leaves_from (first_multiplier s t f) (second_multiplier s t f) (combination_divisor s t f) (factor s f) (factor t f) (p.numerator f) (amount s p) (amount t p) (amount (combination s t f) p) (s.strict || t.strict) is.n_above is.g_above pair.above

@@ -1,7 +1,7 @@
 use Rattle.std.proofs.Common.{◌≡◌, ◌++◌, ◌<◌, ℕ, List, length, rules, ap, arith, subst, sym, slice_set, ◌∙◌}
 use Rattle.edit_line.specs.Sets.{AreSets, none_is_empty}
 use Rattle.edit_line.specs.Shapes.{Domain, whole_sets}
-use Rattle.edit_line.specs.Combinations.{common_sets}
+use Rattle.edit_line.specs.Combinations.{in_both}
 use Rattle.edit_line.proofs.SetLaws.{AreSets-length}
 use Rattle.categ_combine.proofs.SpotLaws.{common-sets, common-within}
 use Rattle.categ_combine.proofs.cover.write_joined.Goals as goal
@@ -21,10 +21,10 @@ narrow-requires c =
     )
 
 module _ (c : After-narrow) where
-  joined : c.narrow.new.sets.items ≡ common_sets c.args.cover.now.code_box.sets c.args.b.now.code_box.sets
+  joined : c.narrow.new.sets.items ≡ in_both c.args.cover.now.code_box.sets c.args.b.now.code_box.sets
   joined =
       let filled : c.extend_from_slice.new.self.items ≡ c.args.cover.now.code_box.sets = c.in_ok-extend_from_slice.ensures.items ∙ ap (λ (ss : List ℕ). ss ++ c.sets.result.now) c.clear.ensures.items ∙ c.sets.ensures.sets in
-      c.narrow.ensures ∙ ap (λ (ss : List ℕ). common_sets ss c.sets-2.result.now) filled ∙ ap (λ (ss : List ℕ). common_sets c.args.cover.now.code_box.sets ss) c.sets-2.ensures.sets
+      c.narrow.ensures ∙ ap (λ (ss : List ℕ). in_both ss c.sets-2.result.now) filled ∙ ap (λ (ss : List ℕ). in_both c.args.cover.now.code_box.sets ss) c.sets-2.ensures.sets
 
 pub index_mut-requires : goal.index_mut-requires
 index_mut-requires c =
