@@ -74,6 +74,14 @@ class Attack:
         run.wait()
         return most
 
+    def least_memory(self):
+        """Memory, in bytes, within which the program can at least be loaded and say that it was given no words."""
+        memory = 1 << 20
+        while subprocess.run([self.program], stdout=subprocess.DEVNULL, stderr=subprocess.DEVNULL,
+                             preexec_fn=lambda: resource.setrlimit(resource.RLIMIT_AS, (memory, memory))).returncode != 2:
+            memory = memory * 9 // 8
+        return memory
+
     def words(self, words, expected, size=0, wrong_values=0, memory=None):
         """Runs the program with these words, and perhaps within so many bytes of memory; expected are the statuses that are right.
         The answer is the status and what is printed."""
@@ -375,16 +383,18 @@ def large_proofs(size):
 
 
 def little_memory(attack, examples, dice):
-    """Edits, checks and `rules` that may take a tenth, a half and nine tenths of the memory that they need."""
+    """Edits, checks and `rules` that may take a tenth, a half and nine tenths of the memory that they need beyond what the program takes
+    before it has read a word."""
     attack.begin("little memory")
     rules = (examples / "business.rules").read_bytes()
     header, *rows = (examples / "business.csv").read_bytes().splitlines(True)
-    records = header + b"".join(rows) * (20000 // len(rows))
+    records = header + b"".join(rows) * (2000 // len(rows))
     attack.files(rules, records, {0, 1})
+    least = attack.least_memory()
     for words in (EDIT, CHECK, RULES):
-        needed = attack.peak(words)
+        needed = max(attack.peak(words) - least, 0)
         for tenths in (1, 5, 9):
-            attack.words(words, {0, 1, 7}, len(records) * 8, memory=needed * tenths // 10)
+            attack.words(words, {0, 1, 7}, len(records) * 8, memory=least + needed * tenths // 10)
         attack.files(rules, records, {0, 1})
     attack.end()
 
