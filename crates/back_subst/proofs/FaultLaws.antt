@@ -27,7 +27,7 @@ use Rattle.linear_elim.proofs.PointLaws.{number-no_code}
 use Rattle.linear_elim.proofs.SystemLaws.{HaveShape-system}
 use Rattle.back_subst.specs.GiveFaults.{AllHoldAt, AreComputed, AreGivenFirst, IsFirstOut, StopsThere, StopsAtLine, StopsAtRule}
 use Rattle.back_subst.specs.Given.{IsGiven, giving_order, number_in, target_of}
-use Rattle.back_subst.specs.NumberWalk.{FoundBounds, bound_at, bounds_from, found_at, is_bounding, no_bounds, number_result, then_nearest, with_found}
+use Rattle.back_subst.specs.NumberWalk.{FoundBounds, bound_at, bounds_from, found_at, is_bounding, no_bounds, number_result, with_found, nearest_found}
 use Rattle.back_subst.specs.declared.gift.GiveFault.{GiveFault}
 use Rattle.back_subst.specs.declared.gift.GiveFault.TheVariants.{Bound, OutOfMemory, Test}
 use Rattle.back_subst.specs.inner.Systems.{start_lines}
@@ -131,7 +131,7 @@ module _ (survey : SurveyParts) (edits : EditsParts) (row : List Value) (changed
         by true e = refl
         by false e =
             let ends = no-ends shape so_far f e 0 (system (start_lines edits) (reverse left)) no_bounds (λ l there. in-all (λ k. k.shape ≡ shape) l (system (start_lines edits) (reverse left)) (λ j d below. (HaveShape-system shape (start_lines edits) (reverse left) over j d below).same) there) in
-            absurd (cc (sym (ap (λ r. then_nearest r (number_in (target_of donor f))) ends) ∙ stops.out))
+            absurd (cc (sym (ap (λ r. r >>= (λ ends. nearest_found ends (number_in (target_of donor f)))) ends) ∙ stops.out))
 
     numbers : (k : ℕ) → has_field left k ≡ true → has_field (number_fields (shape_of survey.fields)) k ≡ true
     numbers k there = at given (subst (λ fs. AreNumbersLast (shape_of survey.fields) fs) stops.way.order_is last)

@@ -6,6 +6,7 @@ use Rattle.std.proofs.lemmas.Bool.Decides.{Decides-int_eq}
 use Rattle.std.proofs.lemmas.Int.{ints}
 use Rattle.std.proofs.lemmas.List.{drop_all}
 use Rattle.std.specs.Option.{ok_or}
+use Rattle.std.specs.Result.{result_ok}
 use Rattle.foundation.specs.Results.{◌>>=◌}
 use Rattle.foundation.specs.Options.{◌>>?◌}
 use Rattle.fraction128.specs.Arithmetic.{IsQuotient, divided_numbers}
@@ -24,7 +25,7 @@ use Rattle.edit_line.specs.Shapes.{Domain, number_fields, place_in}
 use Rattle.edit_line.specs.Sums.{sum_at}
 use Rattle.edit_line.specs.declared.derived.Derived.{Derived}
 use Rattle.linear_elim.proofs.ColumnLaws.{beside-place}
-use Rattle.back_subst.specs.NumberWalk.{FoundBounds, bound_at, bounds_from, found_at, is_bounding, value_in, with_found}
+use Rattle.back_subst.specs.NumberWalk.{FoundBounds, bound_at, bounds_from, found_at, is_bounding, with_found}
 use Rattle.back_subst.specs.inner.Sides.{with_line}
 
 -- The bounds of lines, as the code gathers them.
@@ -51,12 +52,12 @@ neg-apart a k is some none = some (back a (sym is ∙ none))
 
 -- where the line bounds the field that has this factor, from its sum
 pub bound-answered : {E : Type 0} (line : LineParts) (row : List Value) (a k : ℤ) (rest : Fraction) (r : Result Fraction E) → k ≡ neg_ℤ a → a ≢ pos 0 → sum_at line row ≡ Ok (ratio_of rest)
-    → IfOk r (λ z. IsQuotient rest k z) → OnOk r (AllInRange (divided_numbers rest k)) → OnErr r (¬ AllInRange (divided_numbers rest k)) → answered r ≡ (value_in (sum_at line row) >>? (λ s. divided s (neg_ℤ a)))
+    → IfOk r (λ z. IsQuotient rest k z) → OnOk r (AllInRange (divided_numbers rest k)) → OnErr r (¬ AllInRange (divided_numbers rest k)) → answered r ≡ (result_ok (sum_at line row) >>? (λ s. divided s (neg_ℤ a)))
 bound-answered line row a k rest r is some sum value fits overflow =
-    divided-answered rest k r (neg-apart a k is some) value fits overflow ∙ ap (λ (n : ℤ). divided (ratio_of rest) n) is ∙ ap (λ s. (value_in s >>? (λ s. divided s (neg_ℤ a)))) (sym sum)
+    divided-answered rest k r (neg-apart a k is some) value fits overflow ∙ ap (λ (n : ℤ). divided (ratio_of rest) n) is ∙ ap (λ s. (result_ok s >>? (λ s. divided s (neg_ℤ a)))) (sym sum)
 
-pub no-bound : (line : LineParts) (row : List Value) (a : ℤ) (f : ℕ) → sum_at line row ≡ Err f → None ≡ (value_in (sum_at line row) >>? (λ s. divided s (neg_ℤ a)))
-no-bound line row a f sum = ap (λ s. (value_in s >>? (λ s. divided s (neg_ℤ a)))) (sym sum)
+pub no-bound : (line : LineParts) (row : List Value) (a : ℤ) (f : ℕ) → sum_at line row ≡ Err f → None ≡ (result_ok (sum_at line row) >>? (λ s. divided s (neg_ℤ a)))
+no-bound line row a f sum = ap (λ s. (result_ok s >>? (λ s. divided s (neg_ℤ a)))) (sym sum)
 
 -- ---- one line
 
@@ -75,7 +76,7 @@ module _ (i f : ℕ) (line : LineParts) (row : List Value) (ends : FoundBounds) 
   pub without-codes : are_codes_in line.sets (codes_in line.shape row) ≡ false → Ok ends ≡ with_line i line row f ends
   without-codes out = by-bounding false (ap (λ b. b && not (int_eq (factor line f) (pos 0))) out)
 
-  module _ (inside : are_codes_in line.sets (codes_in line.shape row) ≡ true) (some : factor line f ≢ pos 0) (blank : value_of row f ≡ Bad) (o : Option Ratio) (o_is : o ≡ (value_in (sum_at line row) >>? (λ s. divided s (neg_ℤ (factor line f))))) where
+  module _ (inside : are_codes_in line.sets (codes_in line.shape row) ≡ true) (some : factor line f ≢ pos 0) (blank : value_of row f ≡ Bad) (o : Option Ratio) (o_is : o ≡ (result_ok (sum_at line row) >>? (λ s. divided s (neg_ℤ (factor line f))))) where
     bounding : is_bounding line row f ≡ true
     bounding = ap (λ b. b && not (int_eq (factor line f) (pos 0))) inside ∙ by (int_eq (factor line f) (pos 0)) refl
       where
@@ -84,7 +85,7 @@ module _ (i f : ℕ) (line : LineParts) (row : List Value) (ends : FoundBounds) 
         by true e = absurd (some ((Decides-int_eq (factor line f) (pos 0)).0 e))
 
     bound-is : o ≡ bound_at line row f
-    bound-is = o_is ∙ ap (λ ws. (value_in (sum_at line ws) >>? (λ s. divided s (neg_ℤ (factor line f))))) (sym (set-again row f blank))
+    bound-is = o_is ∙ ap (λ ws. (result_ok (sum_at line ws) >>? (λ s. divided s (neg_ℤ (factor line f))))) (sym (set-again row f blank))
 
     stepped : (ok_or o i >>= (λ at. Ok (with_found ends (int_lt (pos 0) (factor line f)) (found_at at line.strict i)))) ≡ with_line i line row f ends
     stepped = ap (λ b. (ok_or b i >>= (λ at. Ok (with_found ends (int_lt (pos 0) (factor line f)) (found_at at line.strict i))))) bound-is ∙ by-bounding true bounding

@@ -4,6 +4,7 @@ use Rattle.std.specs.Ordering.{int_eq}
 use Rattle.std.proofs.lemmas.Bool.Decides.{Decides-int_eq}
 use Rattle.std.proofs.lemmas.Int.{ints}
 use Rattle.std.specs.Option.{ok_or}
+use Rattle.std.specs.Result.{result_ok}
 use Rattle.foundation.specs.Results.{◌>>=◌}
 use Rattle.foundation.specs.Options.{◌>>?◌}
 use Rattle.fraction128.specs.Formulas.{Ratio, added, divided, ratio_of, scaled}
@@ -28,7 +29,7 @@ use Rattle.edit_line.proofs.SetLaws.{both_true, is_inside-Decides}
 use Rattle.linear_elim.proofs.BetweenLaws.{above_neg, by_sign}
 use Rattle.back_subst.specs.Given.{IsGivenNumber, IsSame}
 use Rattle.back_subst.specs.Intervals.{End, further_in, is_past_any, is_between, kept_past}
-use Rattle.back_subst.specs.NumberWalk.{Found, FoundBounds, bound_at, bounds_from, found_at, inside_by, is_bounding, no_bounds, number_result, rest_of, step_in, then_nearest, tighter, unless_out, value_in, with_found}
+use Rattle.back_subst.specs.NumberWalk.{Found, FoundBounds, bound_at, bounds_from, found_at, inside_by, is_bounding, no_bounds, number_result, rest_of, step_in, tighter, unless_out, with_found, nearest_found}
 use Rattle.back_subst.specs.inner.Bounds.{AreWithinBounds, BoundsField, IsWithinBound, RestsFit}
 use Rattle.back_subst.proofs.BoundLaws.{bound-depth, further, further-in, multiple}
 
@@ -250,7 +251,7 @@ bound-found a r at strict i some above e x = (quotient.1, by (int_lt (pos 0) a) 
 
 -- ---- the bounds of all lines
 
-was-ok : {A E : Type 0} (r : Result A E) (a : A) → value_in r ≡ Some a → r ≡ Ok a
+was-ok : {A E : Type 0} (r : Result A E) (a : A) → result_ok r ≡ Some a → r ≡ Ok a
 was-ok (Ok b) a e = ap Ok (cc)
 was-ok (Err e) a h = absurd (cc)
 
@@ -311,7 +312,7 @@ module _ (row : List Value) (f : ℕ) where
           at l there bounds next = none l there bounds next
       by true is made rest =
           let (bound, found_is, more) = was-place i (bound_at line row f) (λ at. bounds_from (suc i) lines row f (with_found ends (int_lt (pos 0) (factor line f)) (found_at at line.strict i))) found made in
-          let (r, rest_value, quotient) = led_on (value_in (rest_of line row f)) (λ rest. divided rest (neg_ℤ (factor line f))) bound found_is in
+          let (r, rest_value, quotient) = led_on (result_ok (rest_of line row f)) (λ rest. divided rest (neg_ℤ (factor line f))) bound found_is in
           let rest_is : rest_of line row f ≡ Ok r = was-ok (rest_of line row f) r rest_value in
           let some : factor line f ≢ pos 0 = (told-bounds line is).stands in
           let says = bound-found (factor line f) r bound line.strict i some (rest-above line row f r rest_is) quotient in
@@ -393,7 +394,7 @@ module _ (side : ℤ) (target : Ratio) where
 pub walked-number : (lines : List LineParts) (row : List Value) (f : ℕ) (target r : Ratio) → number_result lines row f target ≡ Ok r → RestsFit lines row f × IsGivenNumber (AreWithinBounds lines row f) target r
 walked-number lines row f target r e = by (bounds_from 0 lines row f no_bounds) refl e
   where
-    by : (o : Result FoundBounds ℕ) → bounds_from 0 lines row f no_bounds ≡ o → then_nearest o target ≡ Ok r → RestsFit lines row f × IsGivenNumber (AreWithinBounds lines row f) target r
+    by : (o : Result FoundBounds ℕ) → bounds_from 0 lines row f no_bounds ≡ o → (o >>= (λ ends. nearest_found ends target)) ≡ Ok r → RestsFit lines row f × IsGivenNumber (AreWithinBounds lines row f) target r
     by (Err place) is h = absurd (cc)
     by (Ok ends) is h =
         let all = gathered row f 0 lines no_bounds ends (tt, tt) is in (

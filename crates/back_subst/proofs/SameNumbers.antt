@@ -2,6 +2,7 @@ use Rattle.std.proofs.Common.{◌≡◌, ◌≢◌, inl, inr, ℕ, suc, ◌<◌,
 use lib.IntN.{neg_ℤ}
 use Rattle.std.proofs.lemmas.Bool.Decides.{Decides-eqb}
 use Rattle.std.specs.Option.{ok_or}
+use Rattle.std.specs.Result.{result_ok}
 use Rattle.foundation.specs.Results.{◌>>=◌}
 use Rattle.foundation.specs.Options.{◌>>?◌}
 use Rattle.fraction128.specs.Formulas.{Ratio, divided}
@@ -22,7 +23,7 @@ use Rattle.linear_elim.specs.Systems.{system}
 use Rattle.linear_elim.proofs.FlatLaws.{system-flat}
 use Rattle.linear_elim.proofs.PointLaws.{map-agree, number-no_code}
 use Rattle.linear_elim.proofs.SystemLaws.{HaveShape-system}
-use Rattle.back_subst.specs.NumberWalk.{FoundBounds, bound_at, bounds_from, found_at, is_bounding, no_bounds, number_result, then_nearest, value_in, with_found}
+use Rattle.back_subst.specs.NumberWalk.{FoundBounds, bound_at, bounds_from, found_at, is_bounding, no_bounds, number_result, with_found, nearest_found}
 use Rattle.back_subst.proofs.FieldPoints.{number-at}
 use Rattle.back_subst.proofs.Rests.{value-other, value-set}
 use Rattle.back_subst.proofs.RowSums.{sum-same}
@@ -38,7 +39,7 @@ module _ (row new : List Value) where
 
   bound-same : (line : LineParts) (f : ℕ) → ReadsSame line f → bound_at line new f ≡ bound_at line row f
   bound-same line f same =
-      ap (λ (r : Result Ratio ℕ). (value_in r >>? (λ rest. divided rest (neg_ℤ (factor line f)))))
+      ap (λ (r : Result Ratio ℕ). (result_ok r >>? (λ rest. divided rest (neg_ℤ (factor line f)))))
       (sum-same (slice_set row f Bad) (slice_set new f Bad) (number_fields line.shape) line.factors (whole line.constant) (at-factors (λ k. value_of (slice_set new f Bad) k ≡ value_of (slice_set row f Bad) k) line same.values))
 
   bounding-same : (line : LineParts) (f : ℕ) → ReadsSame line f → is_bounding line new f ≡ is_bounding line row f
@@ -101,4 +102,4 @@ module _ (survey : SurveyParts) (edits : List LineParts) (over : HaveShape (shap
 
   -- so it gives the field the same number, or none at the same line
   pub same-number : (target : Ratio) → number_result (system edits (reverse left)) new f target ≡ number_result (system edits (reverse left)) row f target
-  same-number target = ap (λ (r : Result FoundBounds ℕ). then_nearest r target) (ends-same row new f 0 (system edits (reverse left)) no_bounds reads)
+  same-number target = ap (λ (r : Result FoundBounds ℕ). (r >>= (λ ends. nearest_found ends target))) (ends-same row new f 0 (system edits (reverse left)) no_bounds reads)

@@ -1,7 +1,8 @@
-use Rattle.std.specs.Prelude.{ℕ, suc, ℤ, pos, negsuc, ◌-ℤ◌, ◌*ℤ◌, ◌&&◌, ◌||◌, not, Bool, List, [], ◌∷◌, Option, Some, None, Result, Ok, Err, int_lt, if◌then◌else◌, slice_set}
+use Rattle.std.specs.Prelude.{ℕ, suc, ℤ, pos, negsuc, ◌-ℤ◌, ◌*ℤ◌, ◌&&◌, ◌||◌, not, Bool, List, [], ◌∷◌, Option, Some, None, Result, Ok, int_lt, if◌then◌else◌, slice_set}
 use lib.IntN.{neg_ℤ}
 use Rattle.std.specs.Ordering.{int_eq}
 use Rattle.std.specs.Option.{ok_or}
+use Rattle.std.specs.Result.{result_ok}
 use Rattle.foundation.specs.Results.{◌>>=◌}
 use Rattle.foundation.specs.Options.{◌>>?◌}
 use Rattle.fraction128.specs.Formulas.{Ratio, added, divided, middle}
@@ -15,11 +16,6 @@ use Rattle.edit_model.specs.declared.value.Value.TheVariants.{Bad}
 
 -- The number of a field as the walk finds it, in numbers of at most 127 bits; or the place of the line at which one leaves the range.
 
--- an answer's value, if it has one
-abbrev pub value_in : {A E : Type 0} → Result A E → Option A
-value_in (Ok a) = Some a
-value_in (Err e) = None
-
 -- whether the line bounds the field at the record
 abbrev pub is_bounding : LineParts → List Value → ℕ → Bool
 is_bounding line row f = are_codes_in line.sets (codes_in line.shape row) && not (int_eq (factor line f) (pos 0))
@@ -30,7 +26,7 @@ rest_of line row f = sum_at line (slice_set row f Bad)
 
 -- the bound of the line: its rest, divided by the negative of its factor
 abbrev pub bound_at : LineParts → List Value → ℕ → Option Ratio
-bound_at line row f = value_in (rest_of line row f) >>? (λ rest. divided rest (neg_ℤ (factor line f)))
+bound_at line row f = result_ok (rest_of line row f) >>? (λ rest. divided rest (neg_ℤ (factor line f)))
 
 -- a bound that was found, and the place of its line
 pub record Found : Type 0 where
@@ -103,10 +99,6 @@ abbrev pub nearest_found : FoundBounds → Ratio → Result Ratio ℕ
 nearest_found ends target =
     unless_out (pos 1) ends.lower ends.upper target (unless_out (negsuc 0) ends.upper ends.lower target (Ok target))
 
-abbrev pub then_nearest : Result FoundBounds ℕ → Ratio → Result Ratio ℕ
-then_nearest (Ok ends) target = nearest_found ends target
-then_nearest (Err place) target = Err place
-
 -- the number that the lines give to the field for the target, or the place of the line at which a number leaves the range
 abbrev pub number_result : List LineParts → List Value → ℕ → Ratio → Result Ratio ℕ
-number_result lines row f target = then_nearest (bounds_from 0 lines row f no_bounds) target
+number_result lines row f target = bounds_from 0 lines row f no_bounds >>= (λ ends. nearest_found ends target)

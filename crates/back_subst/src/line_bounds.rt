@@ -1,5 +1,6 @@
 //! The bounds that the lines of a system give to a numerical field of a record.
 ghost use Rattle.std.specs.Prelude.{◌≡◌, ◌≢◌, ◌<◌, pos, All, length, map};
+ghost use Rattle.std.specs.Result.{result_ok};
 ghost use lib.IntN.{neg_ℤ};
 ghost use Rattle.foundation.specs.Options.{◌>>?◌};
 ghost use Rattle.fraction128.specs.Formulas.{answered, divided};
@@ -12,7 +13,7 @@ ghost use Rattle.edit_line.specs.Reductions.{lines_of};
 ghost use Rattle.edit_line.specs.Sets.{are_codes_in};
 ghost use Rattle.edit_line.specs.Shapes.{IsNumerical, number_fields, place_in, shape_of};
 ghost use Rattle.edit_line.specs.Sums.{sum_at};
-ghost use Rattle.back_subst.specs.NumberWalk.{bounds_from, no_bounds, value_in};
+ghost use Rattle.back_subst.specs.NumberWalk.{bounds_from, no_bounds};
 ghost use Rattle.back_subst.specs.inner.Sides.{bounds_told, ends_of, with_line};
 
 use crate::bound::{Bound, Bounds};
@@ -78,7 +79,7 @@ fn bound_at(survey: &Survey, line: &Line, row: &Row, factor: i128) -> Result<Fra
     requires row { IsRow survey.now.fields row.now }
     requires in_range { InRange factor }
     requires not_zero { factor ≢ pos 0 }
-    ensures { answered result ≡ (value_in (sum_at line.now row.now) >>? (λ rest. divided rest (neg_ℤ factor))) }
+    ensures { answered result ≡ (result_ok (sum_at line.now row.now) >>? (λ rest. divided rest (neg_ℤ factor))) }
 {
     match value_at(survey, line, row) {
         Ok(rest) => rest.divide(-factor),

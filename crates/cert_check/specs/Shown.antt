@@ -5,10 +5,8 @@ use Rattle.edit_model.specs.Parts.{SurveyParts}
 use Rattle.edit_model.specs.Points.{Point}
 use Rattle.edit_model.specs.RowPoints.{Agrees}
 use Rattle.edit_model.specs.declared.value.Value.{Value}
-use Rattle.edit_line.specs.Lines.{Follows, LineParts}
-use Rattle.edit_line.specs.Reductions.{IsIn}
 use Rattle.edit_normal.specs.RuleLines.{normal_lines_of}
-use Rattle.derivation.specs.Premises.{usable_lines}
+use Rattle.derivation.specs.Refutations.{AllFollow}
 use Rattle.bound_cert.specs.Paths.{changes}
 use Rattle.bound_cert.specs.declared.outcome.GiftFault.{GiftFault}
 use Rattle.bound_cert.specs.declared.outcome.Outcome.{Outcome}
@@ -57,17 +55,13 @@ ShowAll survey columns (said ∷ saids) (reads ∷ raws) (row ∷ rows) released
     × ShowAll survey columns saids raws rows (behind said released)
 ShowAll survey columns _ _ _ released = ⊥
 
--- each line of the rules follows from those that are kept
-abbrev pub AllFollow : SurveyParts → List Bool → Type 0
-AllFollow survey kept = (line : LineParts) → IsIn line (normal_lines_of survey) → Follows (usable_lines (normal_lines_of survey) kept) line
-
 -- what the files show: each line of the rules follows from those that are kept, the released rows are corrections of least
 -- weight, for what is told to be contradictory there is no correction, and the claims are a legal history, in which no donor is
 -- given more often than the limit
 pub record Shows (a : Audit) : Type 0 where
   pub proof : Proof
   pub spelled : Spells a.proof proof
-  pub follow : AllFollow a.survey (kept_flags proof)
+  pub follow : AllFollow (normal_lines_of a.survey) (kept_flags proof)
   pub rows : List (List (List ℕ))
   pub released : AreReleased a proof rows
   pub each : ShowAll a.survey a.sheet.columns proof.rows a.sheet.raws a.sheet.rows rows

@@ -4,11 +4,12 @@ use Rattle.std.specs.Cmp.Lexicographic.{pointwise}
 use Rattle.edit_model.specs.declared.field.Field.{Field}
 use Rattle.edit_model.specs.declared.value.Value.{Value}
 use Rattle.edit_model.specs.declared.value.Value.TheVariants.{Bad}
-use Rattle.edit_line.specs.Lines.{LineParts}
+use Rattle.edit_line.specs.Lines.{Follows, LineParts}
 use Rattle.edit_line.specs.Negations.{negation_of}
+use Rattle.edit_line.specs.Reductions.{IsIn}
 use Rattle.edit_line.specs.Shapes.{Domain, whole_sets}
 use Rattle.edit_line.specs.Subsumption.{is_false}
-use Rattle.derivation.specs.Premises.{Premises, premises_of}
+use Rattle.derivation.specs.Premises.{Premises, premises_of, usable_lines}
 use Rattle.derivation.specs.ValidSteps.{AreValidSteps}
 use Rattle.derivation.specs.declared.proved.Proved.{Proved}
 use Rattle.derivation.specs.declared.proved.Proved.TheVariants.{Box, Line}
@@ -51,3 +52,9 @@ is_absurd shape (Box b) = pointwise nat_eq b.sets (whole_sets shape)
 -- all steps are valid, and the last one proves what no point meets
 abbrev pub RefutedBy : Premises → List Step → Type 0
 RefutedBy premises steps = (proved : Proved) × AreValidSteps premises steps proved × IsTrue (is_absurd premises.shape proved)
+
+-- ---- what refutations are for
+
+-- each of the lines follows from those that are kept
+abbrev pub AllFollow : List LineParts → List Bool → Type 0
+AllFollow lines kept = (line : LineParts) → IsIn line lines → Follows (usable_lines lines kept) line

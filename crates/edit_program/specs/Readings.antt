@@ -17,14 +17,6 @@ use Rattle.edit_program.specs.declared.reading.TheConstants.{MOST_BYTES, MOST_PR
 use Rattle.edit_program.specs.declared.status.Status.{Status}
 use Rattle.edit_program.specs.declared.status.Status.TheVariants as status
 
--- the most bytes of a file of rules or records, and of a released file
-abbrev pub most_bytes : ℕ
-most_bytes = MOST_BYTES
-
--- the most bytes of a proof
-abbrev pub most_proof_bytes : ℕ
-most_proof_bytes = MOST_PROOF_BYTES
-
 -- a file of that name stands on the desk, within a limit, and its bytes meet the claim
 pub record HoldsWithin (files : Files) (name : List ℕ) (most : ℕ) (P : List ℕ → Type 0) : Type 0 where
   pub bytes : List ℕ
@@ -34,7 +26,7 @@ pub record HoldsWithin (files : Files) (name : List ℕ) (most : ℕ) (P : List 
 
 -- a file of that name stands on the desk, within the limit of all files but a proof, and its bytes meet the claim
 abbrev pub HoldsText : Files → List ℕ → (List ℕ → Type 0) → Type 0
-HoldsText files name P = HoldsWithin files name most_bytes P
+HoldsText files name P = HoldsWithin files name MOST_BYTES P
 
 -- ---- readings
 
@@ -59,8 +51,8 @@ HoldsBytes files name most bytes = HoldsWithin files name most (λ held. held �
 pub record HoldsRelease (files : Files) (asked : CheckAsked) (audit : Audit) : Type 0 where
   pub rules : HoldsRules files asked.rules audit.survey
   pub records : HoldsRecords files asked.records audit.survey.fields audit.sheet
-  pub released : HoldsBytes files asked.released most_bytes audit.released
-  pub proof : HoldsBytes files asked.proof most_proof_bytes audit.proof
+  pub released : HoldsBytes files asked.released MOST_BYTES audit.released
+  pub proof : HoldsBytes files asked.proof MOST_PROOF_BYTES audit.proof
 
 -- ---- refusals
 
@@ -92,8 +84,8 @@ RefusesInput rules records files (fault.Rules line kind) = HoldsText files rules
 RefusesInput rules records files (fault.Records what) =
     WithRules files rules (λ survey. HoldsText files records (AreNoRecords survey.fields what))
 RefusesInput rules records files (fault.TooLong name) =
-    ((name ≡ rules) × IsLonger files name most_bytes)
-    ⊎ ((name ≡ records) × (survey : SurveyParts) × HoldsRules files rules survey × IsLonger files name most_bytes)
+    ((name ≡ rules) × IsLonger files name MOST_BYTES)
+    ⊎ ((name ≡ records) × (survey : SurveyParts) × HoldsRules files rules survey × IsLonger files name MOST_BYTES)
 RefusesInput rules records files fault.Usage = ⊥
 RefusesInput rules records files (fault.Rejected line why) = ⊥
 RefusesInput rules records files fault = ⊤
@@ -105,8 +97,8 @@ Refuses asked files fault = RefusesInput asked.names.rules asked.names.records f
 -- a released file, or a proof, behind rules and records that were read, is too long
 abbrev pub IsTooLong : CheckAsked → Files → List ℕ → Type 0
 IsTooLong asked files name = WithSheet files asked.rules asked.records (λ survey sheet.
-    ((name ≡ asked.released) × IsLonger files name most_bytes)
-    ⊎ ((name ≡ asked.proof) × (bytes : List ℕ) × HoldsBytes files asked.released most_bytes bytes × IsLonger files name most_proof_bytes))
+    ((name ≡ asked.released) × IsLonger files name MOST_BYTES)
+    ⊎ ((name ≡ asked.proof) × (bytes : List ℕ) × HoldsBytes files asked.released MOST_BYTES bytes × IsLonger files name MOST_PROOF_BYTES))
 
 -- why the files of a check are refused: the rules or the records are, or another file is too long, or they are no valid release
 abbrev pub RefusesCheck : CheckAsked → Files → Fault → Type 0
@@ -119,7 +111,7 @@ RefusesCheck asked files fault = RefusesInput asked.rules asked.records files fa
 -- why the file of the command `rules` is refused: it is too long, or holds no rules
 abbrev pub RefusesRulesCommand : RulesAsked → Files → Fault → Type 0
 RefusesRulesCommand asked files (fault.Rules line kind) = HoldsText files asked.rules (AreNoRules line kind)
-RefusesRulesCommand asked files (fault.TooLong name) = (name ≡ asked.rules) × IsLonger files name most_bytes
+RefusesRulesCommand asked files (fault.TooLong name) = (name ≡ asked.rules) × IsLonger files name MOST_BYTES
 RefusesRulesCommand asked files (fault.Read name) = ⊤
 RefusesRulesCommand asked files fault.OutOfMemory = ⊤
 RefusesRulesCommand asked files fault = ⊥
@@ -129,7 +121,7 @@ RefusesRulesCommand asked files fault = ⊥
 -- the rules and the records are to be refused with this status: a file is too long, or has no reading
 abbrev pub IsInputDue : List ℕ → List ℕ → Files → Status → Type 0
 IsInputDue rules records files status.TooLong =
-    IsLonger files rules most_bytes ⊎ WithRules files rules (λ survey. IsLonger files records most_bytes)
+    IsLonger files rules MOST_BYTES ⊎ WithRules files rules (λ survey. IsLonger files records MOST_BYTES)
 IsInputDue rules records files status.Rules = HoldsText files rules (λ bytes. (survey : SurveyParts) → ¬ IsRuleText bytes survey)
 IsInputDue rules records files status.Records =
     WithRules files rules (λ survey. HoldsText files records (λ bytes. (sheet : SheetParts) → ¬ IsSheet survey.fields bytes sheet))
@@ -149,7 +141,7 @@ IsCheckDue asked files answer = IsInputDue asked.rules asked.records files answe
 
 -- the file of the command `rules` is to be refused with this status
 abbrev pub IsRulesDue : RulesAsked → Files → Status → Type 0
-IsRulesDue asked files status.TooLong = IsLonger files asked.rules most_bytes
+IsRulesDue asked files status.TooLong = IsLonger files asked.rules MOST_BYTES
 IsRulesDue asked files status.Rules = HoldsText files asked.rules (λ bytes. (survey : SurveyParts) → ¬ IsRuleText bytes survey)
 IsRulesDue asked files answer = ⊥
 

@@ -1,12 +1,15 @@
 //! A run of `rules`.
 ghost use Rattle.std.specs.Prelude.{◌≡◌, ◌≢◌, IfErr, IfOk, IfSome};
 ghost use Rattle.edit_desk.specs.Desk.{PutsOnRecord};
-ghost use Rattle.edit_release.specs.Edits.{DroppedFollow};
 ghost use Rattle.edit_program.specs.Faults.{IsOfRulesCommand};
 ghost use Rattle.edit_program.specs.Readings.{AnswersDue, IsRulesDue, RefusesRulesCommand};
-ghost use Rattle.edit_program.specs.RulesRun.{DroppedRefuted, IsReport, IsRuled, IsRulesComplete, IsRulesStopped, NeededCanFail, report_of, rules_calls};
+ghost use Rattle.edit_program.specs.RulesRun.{IsReport, IsRuled, IsRulesComplete, IsRulesStopped, report_of, rules_calls};
 ghost use Rattle.edit_program.specs.Run.{ran};
 ghost use Rattle.edit_program.specs.inner.Parts.{AreCallsOf, done_end, faults_after, texts_in};
+ghost use Rattle.derivation.specs.Refutations.{AllFollow};
+ghost use Rattle.edit_normal.specs.RuleLines.{normal_lines_of};
+ghost use Rattle.redundancy.specs.Verdicts.{AreNeeded, AreRefuted};
+ghost use Rattle.pruned_rules.specs.Pruned.{rule_flags, rule_verdicts};
 
 use crate::reading::fetch_survey;
 use crate::refusal::Refusal;
@@ -63,9 +66,9 @@ fn rules<'a, D: Desk>(
 // The lines that are printed of the survey's rules.
 fn lines_of(alloc: Global, survey: &Survey) -> Result<Vec<Vec<u8>>, OutOfMemory>
     ensures texts { IfOk result (λ lines. texts_in lines.items ≡ report_of survey.now) }
-    ensures dropped { IfOk result (λ lines. DroppedFollow survey.now) }
-    ensures needed { IfOk result (λ lines. NeededCanFail survey.now) }
-    ensures refuted { IfOk result (λ lines. DroppedRefuted survey.now) }
+    ensures dropped { IfOk result (λ lines. AllFollow (normal_lines_of survey.now) (rule_flags survey.now)) }
+    ensures needed { IfOk result (λ lines. AreNeeded survey.now.fields (normal_lines_of survey.now) (rule_verdicts survey.now)) }
+    ensures refuted { IfOk result (λ lines. AreRefuted survey.now.fields (normal_lines_of survey.now) (rule_verdicts survey.now)) }
 {
     let pruned = prune_rules(alloc, survey)?;
     report(alloc, survey, &pruned.lines, &pruned.verdicts)

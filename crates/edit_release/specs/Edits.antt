@@ -11,7 +11,6 @@ use Rattle.record_text.specs.Sheets.{SheetParts}
 use Rattle.proof_grammar.specs.ProofLines.{proof_text}
 use Rattle.proof_grammar.specs.declared.proof.Proof.{Proof}
 use Rattle.cert_check.specs.Releases.{IsValidRelease, audit_of}
-use Rattle.cert_check.specs.Shown.{AllFollow}
 use Rattle.edit_report.specs.Reasons.{reasons_text_of}
 use Rattle.edit_report.specs.Released.{released_text_of}
 use Rattle.edit_report.specs.Summaries.{summary_lines}
@@ -64,10 +63,6 @@ pub record Written : Type 0 where
   pub reasons : List ℕ
   pub released : List ℕ
   pub summary : List (List ℕ)
-
--- each line of the rules that is dropped follows from those that are kept
-abbrev pub DroppedFollow : SurveyParts → Type 0
-DroppedFollow survey = AllFollow survey (rule_flags survey)
 
 -- the edit of a sheet on these terms: what is guaranteed, over the lines of the rules that the verdicts keep; what becomes of
 -- each record; the claims of donors; what is written and printed of all; and that the files are a valid release

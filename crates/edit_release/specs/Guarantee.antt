@@ -16,7 +16,7 @@ use Rattle.record_text.specs.Sheets.{SheetParts}
 use Rattle.edit_report.specs.declared.end.RowEnd.{RowEnd}
 use Rattle.record_workers.specs.Said.{Says}
 use Rattle.record_workers.specs.declared.terms.Terms.{Terms}
-use Rattle.cert_check.specs.Shown.{AllFollow}
+use Rattle.derivation.specs.Refutations.{AllFollow}
 
 -- the lines of the rules that are kept, each numbered by its place among all, as the edits that records are searched by
 abbrev pub usable_edits : SurveyParts → List Bool → EditsParts
@@ -35,7 +35,7 @@ HasTree survey kept row outcome = ⊤
 pub record IsGuaranteed (survey : SurveyParts) (sheet : SheetParts) (terms : Terms)
     (ends : List RowEnd) (history : List Entry) : Type 0 where
   pub kept : List Bool
-  pub follow : AllFollow survey kept
+  pub follow : AllFollow (normal_lines_of survey) kept
   pub say : AllZip (Says survey (usable_edits survey kept) terms.budget) sheet.rows ends
   pub shown : AllZip (λ row (end : RowEnd). HasTree survey kept row end.proof.outcome) sheet.rows ends
   pub legal : IsLegalHistory terms.limit history

@@ -10,7 +10,7 @@ use Rattle.edit_paths.proofs.BudgetLaws.{always-change, enough-budget}
 use Rattle.edit_paths.proofs.CertificateTrees.{change-tree, contradiction-tree}
 use Rattle.edit_paths.proofs.ChoiceLaws.{change-choice, contradictory}
 use Rattle.edit_paths.proofs.LeastLaws.{choice-first, choice-least}
-use Rattle.localise_tree.specs.Answers.{Certifies, ChoosesFirst, ChoosesLeast, FindsChange, IsBudgetEnough, NoneMeets, ShowsContradiction}
+use Rattle.edit_paths.specs.Answers.{Certifies, ChoosesFirst, ChoosesLeast, FindsChange, IsBudgetEnough, NoneMeets, ShowsContradiction}
 
 -- What an exact outcome says in the words of the model.
 

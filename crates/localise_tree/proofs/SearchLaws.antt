@@ -15,7 +15,7 @@ use Rattle.edit_paths.specs.Walks.{next_paths}
 use Rattle.edit_paths.specs.Works.{work_of, work_of_all}
 use Rattle.edit_paths.specs.declared.state.PathState.{PathState}
 use Rattle.edit_paths.specs.declared.state.PathState.TheVariants.{ClosedBad, ClosedBox, ClosedLine, Open, Overflows}
-use Rattle.localise_tree.specs.Answers.{KeepsChange}
+use Rattle.localise_tree.specs.KeptFields.{KeepsChange}
 use Rattle.localise_tree.specs.KeptFields.{KeepsChanged}
 use Rattle.localise_tree.specs.inner.Nodes.{AreKept, IsNode, paths_of}
 use Rattle.localise_tree.specs.inner.Takens.{IsTaken, taken_paths}

@@ -13,8 +13,9 @@ use Rattle.edit_normal.proofs.MeaningLaws.{lines-mean}
 use Rattle.edit_normal.proofs.NormalLines.{normal-lines, normal-over}
 use Rattle.derivation.specs.Refutations.{RefutedBy, left_before, no_values, refutation_of}
 use Rattle.derivation.specs.declared.step.Step.{Step}
+use Rattle.derivation.specs.Premises.{usable_lines}
 use Rattle.edit_paths.specs.Cases.{AreGiven}
-use Rattle.redundancy.specs.Verdicts.{keeps_line, kept_lines, usable_from}
+use Rattle.redundancy.specs.Verdicts.{keeps_line, usable_from}
 use Rattle.redundancy.specs.declared.verdict.Verdict.{Verdict}
 use Rattle.redundancy.specs.declared.verdict.Verdict.TheVariants.{Dropped}
 use Rattle.redundancy.proofs.BaseLaws.{usable-given, usable-more, usable-rising, verdicts-count}
@@ -81,7 +82,7 @@ kept-are survey lines verdicts kept lines_are verdicts_are is =
 
 module _ (survey : SurveyParts) (formed : IsWellFormed survey) where
   -- each line follows from the kept ones
-  pub rules-follow : (line : LineParts) → IsIn line (normal_lines_of survey) → Follows (kept_lines (normal_lines_of survey) (rule_verdicts survey)) line
+  pub rules-follow : (line : LineParts) → IsIn line (normal_lines_of survey) → Follows (usable_lines (normal_lines_of survey) (rule_flags survey)) line
   rules-follow = lines-follow survey formed.fields (normal_lines_of survey) (normal-over survey) (normal-lines survey formed) pruning_budget
 
   -- the steps of a dropped line refute its negation

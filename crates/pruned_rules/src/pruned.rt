@@ -1,8 +1,9 @@
 ghost use Rattle.std.specs.Prelude.{◌≡◌, ◌≤◌, ◌++◌, ◌∷◌, [], IfOk, OnOk, if◌then◌else◌, length, map};
 ghost use Rattle.edit_line.specs.EditSets.{SayTheRules};
 ghost use Rattle.edit_normal.specs.RuleLines.{normal_lines_of};
-ghost use Rattle.redundancy.specs.Verdicts.{AllFollow, AreNeeded, AreRefuted, keeps_line, usable_from};
-ghost use Rattle.pruned_rules.specs.Pruned.{kept_edits, rule_verdicts};
+ghost use Rattle.redundancy.specs.Verdicts.{AreNeeded, AreRefuted, keeps_line, usable_from};
+ghost use Rattle.pruned_rules.specs.Pruned.{kept_edits, rule_verdicts, rule_flags};
+ghost use Rattle.derivation.specs.Refutations.{AllFollow};
 
 use edit_line::{Edits, Line};
 use edit_model::Survey;
@@ -29,7 +30,7 @@ pub fn prune_rules(alloc: Global, survey: &Survey) -> Result<PrunedRules, OutOfM
     ensures verdicts { IfOk result (λ pruned. pruned.verdicts.items ≡ rule_verdicts survey.now) }
     ensures needed { IfOk result (λ pruned. AreNeeded survey.now.fields pruned.lines.items pruned.verdicts.items) }
     ensures steps { IfOk result (λ pruned. AreRefuted survey.now.fields pruned.lines.items pruned.verdicts.items) }
-    ensures follow { IfOk result (λ pruned. AllFollow (normal_lines_of survey.now) (rule_verdicts survey.now)) }
+    ensures follow { IfOk result (λ pruned. AllFollow (normal_lines_of survey.now) (rule_flags survey.now)) }
 {
     let lines = lines_of_rules(alloc, survey)?;
     let verdicts = prune(alloc, survey, &lines, PRUNING_BUDGET)?;

@@ -1,4 +1,4 @@
-use Rattle.std.proofs.Common.{◌≡◌, ◌≢◌, ◌++◌, ℕ, zero, suc, ◌+◌, ◌<◌, ◌≤◌, Bool, true, false, cond, eqb, if◌then◌else◌, List, [], ◌∷◌, map, length, Option, None, Some, IsSomeAnd, ⊎_elim, refl, sym, ap, ◌∙◌, subst, append-nil, append_assoc, arith}
+use Rattle.std.proofs.Common.{◌≡◌, ◌≢◌, ◌++◌, ℕ, zero, suc, ◌+◌, ◌<◌, ◌≤◌, Bool, true, false, cond, eqb, List, [], ◌∷◌, map, length, Option, None, Some, IsSomeAnd, ⊎_elim, refl, sym, ap, ◌∙◌, subst, append-nil, append_assoc, arith}
 use Rattle.std.specs.Prelude.{slice_get}
 use Rattle.std.specs.List.{AllByRecursion}
 use Rattle.std.specs.Option.{option_or}
@@ -17,9 +17,10 @@ use Rattle.donor_search.specs.CleanRows.{row_at}
 use Rattle.donor_search.specs.Places.{place_if, places_from}
 use Rattle.edit_report.specs.Ends.{path_found}
 use Rattle.edit_report.specs.declared.end.RowEnd.{RowEnd}
-use Rattle.record_workers.specs.Donations.{AreDonations, IsRanked, IsRankingOf, donor_in, end_claims, reply_of}
+use Rattle.record_workers.specs.Donations.{AreDonations, IsRanked, IsRankingOf, donor_in, end_claims}
 use Rattle.record_workers.specs.declared.terms.Terms.{Terms}
 use Rattle.record_workers.specs.inner.Donors.{Donates}
+use Rattle.foundation.specs.Options.{◌>>?◌}
 
 -- The claims of the records so far, and those of one record more.
 
@@ -69,12 +70,12 @@ or-none (Some w) = refl
 -- a claim of another record changes nothing
 donor-other : (row_no : ℕ) (history : List Entry) (e : Entry) → e.row_no ≢ row_no → donor_in (history ++ e ∷ []) row_no ≡ donor_in history row_no
 donor-other row_no history e apart =
-    ap reply_of (claim-push row_no history e ∙ ap (λ b. option_or (claim_of row_no (wins_of history)) (cond b (Some (won_of e)) None)) (other-row e.row_no row_no apart) ∙ or-none (claim_of row_no (wins_of history)))
+    ap (λ (o : Option Won). (o >>? (λ w. w.reply))) (claim-push row_no history e ∙ ap (λ b. option_or (claim_of row_no (wins_of history)) (cond b (Some (won_of e)) None)) (other-row e.row_no row_no apart) ∙ or-none (claim_of row_no (wins_of history)))
 
 -- a first claim is the record's
 donor-own : (history : List Entry) (e : Entry) → claim_of e.row_no (wins_of history) ≡ None → donor_in (history ++ e ∷ []) e.row_no ≡ e.reply
 donor-own history e none =
-    ap reply_of (claim-push e.row_no history e ∙ ap (λ (o : Option Won). option_or o (cond (eqb e.row_no e.row_no) (Some (won_of e)) None)) none ∙ ap (λ b. cond b (Some (won_of e)) None) (same-row e.row_no))
+    ap (λ (o : Option Won). (o >>? (λ w. w.reply))) (claim-push e.row_no history e ∙ ap (λ (o : Option Won). option_or o (cond (eqb e.row_no e.row_no) (Some (won_of e)) None)) none ∙ ap (λ b. cond b (Some (won_of e)) None) (same-row e.row_no))
 
 -- ---- the ends, and one more
 
@@ -146,5 +147,5 @@ module _ (survey : SurveyParts) (rows : List (List Value)) (terms : Terms) where
               legal = so_far.legal;
               claimers = so_far.claimers ∙ sym (claimers-push 0 ends end ∙ ap (λ (b : Bool). places_from end_claims 0 ends ++ (place_if b (0 + length ends))) claims ∙ append-nil (places_from end_claims 0 ends));
               ranked = turned-all (IsRanked survey rows terms.near ends) (IsRanked survey rows terms.near (ends ++ end ∷ [])) before ranked-still so_far.ranked;
-              given = each-push (λ k (x : RowEnd). x.donor ≡ donor_in before k) ends end so_far.given (made.1 ∙ sym (ap reply_of next-free));
+              given = each-push (λ k (x : RowEnd). x.donor ≡ donor_in before k) ends end so_far.given (made.1 ∙ sym (ap (λ (o : Option Won). (o >>? (λ w. w.reply))) next-free));
             })

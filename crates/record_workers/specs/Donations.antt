@@ -1,5 +1,5 @@
 -- Which records claim a donor, how they rank the donors, and whom each is given.
-use Rattle.std.specs.Prelude.{◌≡◌, ℕ, ◌≤◌, not, Bool, List, Option, Some, None, IsSomeAnd, map, slice_get}
+use Rattle.std.specs.Prelude.{◌≡◌, ℕ, ◌≤◌, not, Bool, List, Option, Some, IsSomeAnd, map, slice_get}
 use Rattle.std.specs.List.{AllByRecursion}
 use Rattle.edit_model.specs.Parts.{SurveyParts}
 use Rattle.edit_model.specs.declared.value.Value.{Value}
@@ -8,7 +8,6 @@ use Rattle.back_subst.specs.Gifts.{path_of}
 use Rattle.donor_book.specs.Claims.{claim_of}
 use Rattle.donor_book.specs.Entries.{IsLegalHistory, wins_of}
 use Rattle.donor_book.specs.declared.claim.Entry.{Entry}
-use Rattle.donor_book.specs.declared.claim.Won.{Won}
 use Rattle.donor_measure.specs.Yardsticks.{yardsticks_of}
 use Rattle.donor_search.specs.CleanRows.{donors_of, row_at}
 use Rattle.donor_search.specs.Places.{places_from}
@@ -16,6 +15,7 @@ use Rattle.donor_search.specs.Rankings.{ranking_of}
 use Rattle.edit_report.specs.Ends.{path_found}
 use Rattle.edit_report.specs.declared.end.RowEnd.{RowEnd}
 use Rattle.record_workers.specs.declared.terms.Terms.{Terms}
+use Rattle.foundation.specs.Options.{◌>>?◌}
 
 -- the work of a search is at most from 1 to 1,000,000,000, a donor is given at most 1 to 1,000 times, and a record ranks at
 -- most 1 to 64 donors
@@ -50,14 +50,9 @@ IsRanked survey rows near ends entry = IsSomeAnd (slice_get ends entry.row_no) (
 
 -- ---- whom a record is given
 
--- the reply of a claim, if there is one
-abbrev pub reply_of : Option Won → Option ℕ
-reply_of None = None
-reply_of (Some w) = w.reply
-
 -- the donor that a record was given in a history; None where it has no claim, or was given nobody
 abbrev pub donor_in : List Entry → ℕ → Option ℕ
-donor_in history row_no = reply_of (claim_of row_no (wins_of history))
+donor_in history row_no = claim_of row_no (wins_of history) >>? (λ w. w.reply)
 
 -- ---- the claims of all records
 

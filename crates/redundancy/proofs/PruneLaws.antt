@@ -11,7 +11,7 @@ use Rattle.edit_line.specs.Boxes.{are_whole}
 use Rattle.edit_line.specs.Lines.{AllHold, AreOver, Follows, IsLine, LineHolds, LineParts}
 use Rattle.edit_line.specs.Negations.{negation_of}
 use Rattle.edit_line.specs.Reductions.{IsIn}
-use Rattle.edit_line.specs.Shapes.{Domain, HasCodes, number_fields, shape_of, whole_sets}
+use Rattle.edit_line.specs.Shapes.{Domain, HasCodes, number_fields, shape_of}
 use Rattle.edit_line.specs.Subsumption.{has_no_factor, is_enough, is_false}
 use Rattle.edit_line.specs.Sums.{fails_at, stands_only}
 use Rattle.edit_line.proofs.BoolLaws.{both_true, true-both}
@@ -39,7 +39,7 @@ use Rattle.edit_paths.proofs.ClosingSteps.{closing-box, closing-line}
 use Rattle.edit_paths.proofs.LineHistories.{AreUsable}
 use Rattle.edit_paths.proofs.OpenPaths.{open-point}
 use Rattle.redundancy.specs.NeededLines.{CanFail}
-use Rattle.redundancy.specs.Verdicts.{changing, keeps_line, kept_lines, left_at, negation_case, usable_from, verdict_by, verdict_from, verdict_of, verdicts_from, within}
+use Rattle.redundancy.specs.Verdicts.{changing, keeps_line, left_at, negation_case, usable_from, verdict_by, verdict_from, verdict_of, verdicts_from, within}
 use Rattle.redundancy.specs.declared.verdict.Verdict.{Verdict}
 use Rattle.redundancy.specs.declared.verdict.Verdict.TheVariants.{Dropped, Kept}
 use Rattle.redundancy.specs.declared.verdict.Why.TheVariants.{Budget, Needed}
@@ -260,7 +260,7 @@ module _ (survey : SurveyParts) (are_fields : All IsField survey.fields) (lines 
     dropped-valid steps told = let (x, valid, absurd_is) = dropped-steps survey lines left line case_is budget steps (verdict-at (Dropped steps) told) in (x, valid, absurd_is)
 
   -- each line follows from the kept ones
-  pub lines-follow : (line : LineParts) → IsIn line lines → Follows (kept_lines lines verdicts) line
+  pub lines-follow : (line : LineParts) → IsIn line lines → Follows (usable_lines lines (map keeps_line verdicts)) line
   lines-follow line there =
       kept-follow survey.fields lines (map keeps_line verdicts) (no_values survey.fields) (row-no_values survey.fields) (sym (verdicts-count survey lines budget 0 lines) ∙ sym (length-map verdicts keeps_line)) over are refuted line there
     where
@@ -291,5 +291,5 @@ module _ (survey : SurveyParts) (lines : List LineParts) (budget place : ℕ) (l
         subst (λ (vs : List Verdict). RefutedBy (refutation_of (shape_of survey.fields) lines (left_at j (drop (suc j) vs)) line (no_values survey.fields)) steps) (sym told-all)
         (dropped-valid survey are_fields lines over are budget j line at steps (ap (λ (vs : List Verdict). slice_get vs j) (sym told-all) ∙ verdict))
 
-    pub told-follow : (line : LineParts) → IsIn line lines → Follows (kept_lines lines told) line
-    told-follow line there = subst (λ (vs : List Verdict). Follows (kept_lines lines vs) line) (sym told-all) (lines-follow survey are_fields lines over are budget line there)
+    pub told-follow : (line : LineParts) → IsIn line lines → Follows (usable_lines lines (map keeps_line told)) line
+    told-follow line there = subst (λ (vs : List Verdict). Follows (usable_lines lines (map keeps_line vs)) line) (sym told-all) (lines-follow survey are_fields lines over are budget line there)

@@ -1,8 +1,7 @@
 use Rattle.std.specs.Prelude.{◌≡◌, ℕ, zero, suc, ◌+◌, ◌++◌, Bool, true, false, List, [], ◌∷◌, Some, drop, if◌then◌else◌, map, nat_lt, slice_get}
 use Rattle.edit_model.specs.Parts.{SurveyParts}
 use Rattle.edit_model.specs.declared.field.Field.{Field}
-use Rattle.edit_line.specs.Lines.{Follows, LineParts}
-use Rattle.edit_line.specs.Reductions.{IsIn}
+use Rattle.edit_line.specs.Lines.{LineParts}
 use Rattle.edit_line.specs.Shapes.{shape_of}
 use Rattle.derivation.specs.Premises.{usable_lines}
 use Rattle.derivation.specs.Refutations.{RefutedBy, given_lines, left_before, no_values, refutation_of, usable_flags}
@@ -100,10 +99,6 @@ verdicts_of survey lines budget = verdicts_from survey lines budget 0 lines
 abbrev pub left_for : List Verdict → ℕ → List Bool
 left_for verdicts place = left_at place (drop (suc place) verdicts)
 
--- the lines that are kept
-abbrev pub kept_lines : List LineParts → List Verdict → List LineParts
-kept_lines lines verdicts = usable_lines lines (map keeps_line verdicts)
-
 -- ---- what the verdicts say
 
 -- a line that is kept as needed can fail where the lines hold that are left when it is tried
@@ -117,7 +112,3 @@ abbrev pub AreRefuted : List Field → List LineParts → List Verdict → Type 
 AreRefuted fields lines verdicts =
     (j : ℕ) (line : LineParts) (steps : List Step) → slice_get lines j ≡ Some line → slice_get verdicts j ≡ Some (Dropped steps)
     → RefutedBy (refutation_of (shape_of fields) lines (left_for verdicts j) line (no_values fields)) steps
-
--- each line follows from the lines that are kept
-abbrev pub AllFollow : List LineParts → List Verdict → Type 0
-AllFollow lines verdicts = (line : LineParts) → IsIn line lines → Follows (kept_lines lines verdicts) line

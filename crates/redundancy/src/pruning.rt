@@ -1,9 +1,9 @@
-ghost use Rattle.std.specs.Prelude.{◌≡◌, ◌<◌, All, IfOk, false, length, slice_set};
+ghost use Rattle.std.specs.Prelude.{◌≡◌, ◌<◌, All, IfOk, false, length, slice_set, map};
 ghost use Rattle.edit_model.specs.Rows.{IsRow};
-ghost use Rattle.derivation.specs.Refutations.{no_values};
+ghost use Rattle.derivation.specs.Refutations.{AllFollow, no_values};
 ghost use Rattle.edit_line.specs.Lines.{AreOver, IsLine};
 ghost use Rattle.edit_line.specs.Shapes.{shape_of};
-ghost use Rattle.redundancy.specs.Verdicts.{AllFollow, AreNeeded, AreRefuted, keeps_line, verdicts_of};
+ghost use Rattle.redundancy.specs.Verdicts.{AreNeeded, AreRefuted, keeps_line, verdicts_of};
 ghost use Rattle.redundancy.specs.inner.Turns.{IsVerdict};
 
 use crate::base::base_of;
@@ -28,7 +28,7 @@ pub fn prune(
     ensures exact { IfOk result (λ verdicts. verdicts.items ≡ verdicts_of survey.now lines.now budget) }
     ensures needed { IfOk result (λ verdicts. AreNeeded survey.now.fields lines.now verdicts.items) }
     ensures steps { IfOk result (λ verdicts. AreRefuted survey.now.fields lines.now verdicts.items) }
-    ensures follow { IfOk result (λ verdicts. AllFollow lines.now verdicts.items) }
+    ensures follow { IfOk result (λ verdicts. AllFollow lines.now (map keeps_line verdicts.items)) }
 {
     read_lines(lines);
     let row = record_without_values(alloc, survey)?;

@@ -1,6 +1,7 @@
 use Rattle.std.proofs.Common.{◌≡◌, ◌≢◌, ◌<◌, Option, Ok, int_lt, length, get_or, ℤ, List, pos, sym, ap, ◌∙◌, arith, FitsSigned, to_z, of_z, rules}
 use mir.Syntax.{w128}
 use Rattle.std.proofs.lemmas.Int.{to_z-of_z}
+use Rattle.std.specs.Result.{result_ok}
 use Rattle.foundation.specs.Options.{◌>>?◌}
 use Rattle.fraction128.specs.Formulas.{Ratio, answered, divided, ratio_of}
 use Rattle.edit_line.specs.Lines.{factor}
@@ -8,7 +9,7 @@ use Rattle.edit_line.specs.Shapes.{number_fields, shape_of}
 use Rattle.edit_line.specs.Sums.{sum_at}
 use Rattle.edit_line.proofs.ShapeLaws.{place-within}
 use lib.IntN.{neg_ℤ}
-use Rattle.back_subst.specs.NumberWalk.{found_at, value_in, with_found}
+use Rattle.back_subst.specs.NumberWalk.{found_at, with_found}
 use Rattle.back_subst.specs.inner.Sides.{ends_of}
 use Rattle.back_subst.proofs.LineSteps.{factor-at, with-bound, without-bound, without-codes, without-factor}
 use Rattle.back_subst.proofs.line_bounds.with_line.Goals as goal
@@ -33,9 +34,9 @@ module _ (c : After-factors) where
     stands other none = other (ap (of_z w128) (sym (to_z-of_z w128 _ fits) ∙ read fits ∙ none))
 
     -- what is told of the bound, by the field's factor
-    told : (o : Option Ratio) → o ≡ (value_in (sum_at c.args.line.now c.args.row.now) >>? (λ s. divided s (neg_ℤ (to_z w128 (of_z w128 (get_or c.factors.result.now c.args.place (pos 0)))))))
-        → o ≡ (value_in (sum_at c.args.line.now c.args.row.now) >>? (λ s. divided s (neg_ℤ (factor c.args.line.now c.args.field))))
-    told o is = is ∙ ap (λ (k : ℤ). (value_in (sum_at c.args.line.now c.args.row.now) >>? (λ s. divided s (neg_ℤ k)))) (read fits)
+    told : (o : Option Ratio) → o ≡ (result_ok (sum_at c.args.line.now c.args.row.now) >>? (λ s. divided s (neg_ℤ (to_z w128 (of_z w128 (get_or c.factors.result.now c.args.place (pos 0)))))))
+        → o ≡ (result_ok (sum_at c.args.line.now c.args.row.now) >>? (λ s. divided s (neg_ℤ (factor c.args.line.now c.args.field))))
+    told o is = is ∙ ap (λ (k : ℤ). (result_ok (sum_at c.args.line.now c.args.row.now) >>? (λ s. divided s (neg_ℤ k)))) (read fits)
 
 pub offset_bounds-factors-place : goal.offset_bounds-factors-place
 offset_bounds-factors-place c =

@@ -1,3 +1,4 @@
+-- What an outcome says of the record.
 use Rattle.std.specs.Prelude.{◌≡◌, ◌≤◌, ℕ, Bool, List, Some, None}
 use Rattle.edit_model.specs.Corrections.{IsFirstLeast, IsLeastWeight}
 use Rattle.edit_model.specs.Parts.{SurveyParts}
@@ -14,9 +15,6 @@ use Rattle.bound_cert.specs.declared.outcome.Outcome.TheVariants as outcome
 use Rattle.edit_paths.specs.Cases.{AreGiven, Case, Meets, TellCorrections}
 use Rattle.edit_paths.specs.Choices.{IsChoice}
 use Rattle.edit_paths.specs.Outcomes.{total_work}
-use Rattle.localise_tree.specs.KeptFields.{KeepsChanged}
-
--- What an outcome says of the record.
 
 -- the path of a change is the choice among the points at which the edits hold, and the weight is the path's
 abbrev pub ChoosesFirst : Case → Outcome → Type 0
@@ -55,7 +53,3 @@ abbrev pub FindsChange : Case → ℕ → Outcome → Type 0
 FindsChange c budget o = (p : Point) → Meets c p → total_work c ≤ budget
     → ((path : List Bool) (event : Event) → ¬ (o ≡ outcome.Overflow path event))
     → (path : List Bool) × (weight : ℕ) × (cert : Cert) × (o ≡ outcome.Change path weight cert)
-
--- at a change, the source keeps the system of the numerical fields that are changed
-abbrev pub KeepsChange : (ℕ → Bool) → Case → Outcome → Type 0
-KeepsChange keeps c o = (path : List Bool) (weight : ℕ) (cert : Cert) → o ≡ outcome.Change path weight cert → KeepsChanged keeps c path
