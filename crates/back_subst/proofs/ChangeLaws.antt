@@ -13,7 +13,7 @@ use Rattle.edit_line.proofs.Members.{in-either, in-left, in-right}
 use Rattle.bound_cert.specs.Paths.{path_weight}
 use Rattle.bound_cert.specs.declared.cert.Cert.{Cert}
 use Rattle.bound_cert.specs.declared.outcome.Outcome.TheVariants as outcome
-use Rattle.edit_paths.specs.Cases.{Case, IsCase, Meets, case_of}
+use Rattle.edit_paths.specs.Cases.{SearchCase, IsCase, Meets, case_of}
 use Rattle.edit_paths.specs.Certificates.{certificate_of}
 use Rattle.edit_paths.specs.Outcomes.{end_by, outcome_from, outcome_of}
 use Rattle.edit_paths.specs.Paths.{field_count, is_complete}
@@ -33,7 +33,7 @@ use Rattle.back_subst.specs.Gifts.{CanGive, IsCheap, IsNeeded, path_of}
 
 -- ---- the works of the paths that are taken are within the budget
 
-module _ (c : Case) (budget : ℕ) (chosen : List Bool) (weight : ℕ) (cert : Cert) where
+module _ (c : SearchCase) (budget : ℕ) (chosen : List Bool) (weight : ℕ) (cert : Cert) where
   first-within : (taken : List (List Bool)) (path : List Bool) (paths : List (List Bool)) → outcome_from c budget taken (path ∷ paths) ≡ outcome.Change chosen weight cert → work_of c path ≤ budget
   first-within taken path paths e = by (nat_lt budget (work_of_all c taken + work_of c path)) refl e
     where
@@ -71,7 +71,7 @@ module _ (c : Case) (budget : ℕ) (chosen : List Bool) (weight : ℕ) (cert : C
 
 -- ---- a path that is found, and those that it extends
 
-module _ (c : Case) (is : IsCase c) (budget : ℕ) (path : List Bool) (weight : ℕ) (cert : Cert) (e : outcome_of c budget ≡ outcome.Change path weight cert) where
+module _ (c : SearchCase) (is : IsCase c) (budget : ℕ) (path : List Bool) (weight : ℕ) (cert : Cert) (e : outcome_of c budget ≡ outcome.Change path weight cert) where
   found : FoundAt c [] (reached_paths c) path weight cert
   found = found-from c budget [] (reached_paths c) path weight cert e
 

@@ -20,7 +20,7 @@ use Rattle.categ_combine.specs.Fixing.{fixed}
 use Rattle.categ_combine.specs.declared.box_from.BoxFrom.{BoxFrom}
 use Rattle.bound_cert.specs.Paths.{changes, path_place}
 use Rattle.bound_cert.proofs.Letters.{filter-agree}
-use Rattle.edit_paths.specs.Cases.{Case}
+use Rattle.edit_paths.specs.Cases.{SearchCase}
 use Rattle.edit_paths.specs.Paths.{changed_numbers, field_count, number_count, treats}
 use Rattle.edit_paths.specs.States.{boxes_after, boxes_along, first_boxes, lines_along, or_empty}
 use Rattle.edit_paths.specs.Works.{pairs_next, work_of}
@@ -34,7 +34,7 @@ use Rattle.back_subst.proofs.PathSetLaws.{place-own}
 
 -- The eliminations of changed categorical fields, one after the other, are those of the paths that the path extends: so none looks at 2^64 pairs or more.
 
-module _ (c : Case) (path : List Bool) (whole : length path ≡ field_count c) where
+module _ (c : SearchCase) (path : List Bool) (whole : length path ≡ field_count c) where
   abbrev shape : List Domain
   shape = shape_of c.survey.fields
 

@@ -8,7 +8,7 @@ use Rattle.edit_model.proofs.FieldSetLaws.{has-with}
 use Rattle.edit_model.proofs.OrderLaws.{order-length}
 use Rattle.edit_model.specs.Parts.{survey_of}
 use Rattle.bound_cert.specs.Paths.{path_place}
-use Rattle.edit_paths.specs.Cases.{Case}
+use Rattle.edit_paths.specs.Cases.{SearchCase}
 use Rattle.edit_paths.proofs.FieldPlaces.{Placed, fields-placed}
 use Rattle.back_subst.specs.Gifts.{path_of}
 
@@ -16,7 +16,7 @@ use Rattle.back_subst.specs.Gifts.{path_of}
 
 -- ---- each field has its own place
 
-module _ (c : Case) where
+module _ (c : SearchCase) where
   -- the place of the field that stands at a place
   placed-at : (k j : ℕ) (fields : List ℕ) → Placed c k fields → j < length fields → path_place c.survey.fields (get_or fields j 0) ≡ k + j
   placed-at k j [] placed below = absurd (omega arith)
@@ -26,7 +26,7 @@ module _ (c : Case) where
   pub place-own : (k : ℕ) → k < length (path_order c.survey.fields) → path_place c.survey.fields (get_or (path_order c.survey.fields) k 0) ≡ k
   place-own k below = placed-at 0 k (path_order c.survey.fields) (fields-placed c) below ∙ omega arith
 
-abbrev bare : List Field → Case
+abbrev bare : List Field → SearchCase
 bare fields = record { survey = survey_of fields []; edits = []; row = [] }
 
 distinct-at : (fields : List Field) (i k : ℕ) → i < length (path_order fields) → k < length (path_order fields) → get_or (path_order fields) i 0 ≡ get_or (path_order fields) k 0 → i ≡ k

@@ -27,7 +27,7 @@ use Rattle.categ_combine.specs.FailingBoxes.{LineFault, failing_boxes, failing_f
 use Rattle.categ_combine.specs.declared.box_from.BoxFrom.{BoxFrom}
 use Rattle.categ_combine.proofs.FailingLaws.{failing-sets}
 use Rattle.bound_cert.specs.Paths.{changes, keeps, keeps_bad}
-use Rattle.edit_paths.specs.Cases.{Case, IsCase, case_of}
+use Rattle.edit_paths.specs.Cases.{SearchCase, IsCase, case_of}
 use Rattle.edit_paths.specs.Paths.{AgreesAlong, changed_numbers, field_count, number_count}
 use Rattle.edit_paths.specs.States.{first_failing, state_with_boxes, state_with_system}
 use Rattle.edit_paths.specs.declared.state.PathState.TheVariants.{ClosedBad, Open}
@@ -50,7 +50,7 @@ use Rattle.back_subst.proofs.WalkLaws.{has-reverse}
 -- What an open path tells before values are given.
 
 module _ (survey : SurveyParts) (edits : EditsParts) (row : List Value) (changed : ℕ) (is : IsCase (case_of survey edits row)) (can : CanGive survey edits row changed) where
-  abbrev c : Case
+  abbrev c : SearchCase
   c = case_of survey edits row
 
   abbrev path : List Bool

@@ -14,7 +14,7 @@ use Rattle.edit_line.specs.EditSets.{EditsParts}
 use Rattle.edit_line.specs.Lines.{AllHold}
 use Rattle.edit_line.specs.Shapes.{shape_of}
 use Rattle.bound_cert.specs.Paths.{path_weight}
-use Rattle.edit_paths.specs.Cases.{Case, Meets, case_of, edit_lines}
+use Rattle.edit_paths.specs.Cases.{SearchCase, Meets, case_of, edit_lines}
 use Rattle.edit_paths.specs.States.{IsOpen}
 use Rattle.edit_paths.specs.Works.{work_of}
 use Rattle.back_subst.specs.Allowed.{Completes}
@@ -69,7 +69,7 @@ abbrev pub AgreesOutside : List Value → ℕ → Point → Type 0
 AgreesOutside row changed p = (f : ℕ) → f < length row → has_number changed f ≡ false → Agrees row p f
 
 -- the work of each path that this path extends, and its own, is less than 2^64
-abbrev pub IsCheap : Case → List Bool → Type 0
+abbrev pub IsCheap : SearchCase → List Bool → Type 0
 IsCheap c path = (k : ℕ) → k ≤ length path → work_of c (take k path) < 2 ^ 64
 
 -- what is asked of a record and of its changed fields before values are given: the path that changes just these is open,

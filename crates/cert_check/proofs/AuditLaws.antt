@@ -46,7 +46,7 @@ counts-fit a p none =
 -- a record file may have the header and so many rows
 pub in-limits : (a : Audit) (p : Proof) → head_fault a p ≡ None → (bytes : List ℕ) → IsSheet a.survey.fields bytes a.sheet → AreInLimits a.sheet.header (length (filter is_released p.rows))
 in-limits a p head bytes sheet =
-    let narrow = (faultless_parts a.survey.fields sheet.first a.sheet.raws sheet.faultless).0 in
+    let narrow = (faultless_parts a.survey.fields sheet.first a.sheet.row_texts sheet.faultless).0 in
     let wide : length a.sheet.header ≡ length sheet.first = ap (λ (texts : List (List ℕ)). length texts) sheet.header ∙ header_length sheet.first in
     let few = count_by-le-length is_released p.rows in
     record {
@@ -105,12 +105,12 @@ said-why r f (Contradictory cert) gift offset why.Head is = absurd is
 said-why r f (Contradictory cert) gift offset why.Drop is = absurd is
 said-why r f (Contradictory cert) gift offset why.Claims is = absurd is
 
-among-why : (r : RowRules) (saids : List RowProof) (raws : List (List (List ℕ))) (rows : List (List Value)) (released : List (List (List ℕ))) (offset : ℕ) (w : Why) → IsFaultAmong r saids raws rows released offset w → OfRecord w
-among-why r [] raws rows released offset w is = absurd is
+among-why : (r : RowRules) (saids : List RowProof) (row_texts : List (List (List ℕ))) (rows : List (List Value)) (released : List (List (List ℕ))) (offset : ℕ) (w : Why) → IsFaultAmong r saids row_texts rows released offset w → OfRecord w
+among-why r [] row_texts rows released offset w is = absurd is
 among-why r (said ∷ saids) [] rows released offset w is = absurd is
-among-why r (said ∷ saids) (reads ∷ raws) [] released offset w is = absurd is
-among-why r (said ∷ saids) (reads ∷ raws) (row ∷ rows) released offset w (inl here) = said-why r (files_of said reads row released) said.outcome said.gift offset w here
-among-why r (said ∷ saids) (reads ∷ raws) (row ∷ rows) released offset w (inr (valid, (rest, later, is))) = among-why r saids raws rows (behind said released) rest w later
+among-why r (said ∷ saids) (reads ∷ row_texts) [] released offset w is = absurd is
+among-why r (said ∷ saids) (reads ∷ row_texts) (row ∷ rows) released offset w (inl here) = said-why r (files_of said reads row released) said.outcome said.gift offset w here
+among-why r (said ∷ saids) (reads ∷ row_texts) (row ∷ rows) released offset w (inr (valid, (rest, later, is))) = among-why r saids row_texts rows (behind said released) rest w later
 
 -- ---- one proof
 
@@ -155,19 +155,19 @@ module _ (a : Audit) (p : Proof) (spelled : Spells a.proof p) where
 
     module _ (rows : List (List (List ℕ))) (are : AreRowsOf a.sheet.header a.released (length (filter is_released p.rows)) rows) where
       -- in a valid release all that is said of these rows is valid
-      valid-rows : (valid : IsValidRelease a) → AreValidRows (rules_of a p) p.rows a.sheet.raws a.sheet.rows rows
+      valid-rows : (valid : IsValidRelease a) → AreValidRows (rules_of a p) p.rows a.sheet.row_texts a.sheet.rows rows
       valid-rows valid =
           let same = one-proof valid.proof valid.fits.spelled in
           let released : AreReleased a p valid.rows = subst (λ (q : Proof). AreReleased a q valid.rows) same valid.released in
-          let each : AreValidRows (rules_of a p) p.rows a.sheet.raws a.sheet.rows valid.rows = subst (λ (q : Proof). AreValidRows (rules_of a q) q.rows a.sheet.raws a.sheet.rows valid.rows) same valid.each in
-          subst (λ (rs : List (List (List ℕ))). AreValidRows (rules_of a p) p.rows a.sheet.raws a.sheet.rows rs) (rows-once a.sheet.header a.released (length (filter is_released p.rows)) (in-limits a p head bytes sheet) valid.rows rows (as-rows valid.rows released) are) each
+          let each : AreValidRows (rules_of a p) p.rows a.sheet.row_texts a.sheet.rows valid.rows = subst (λ (q : Proof). AreValidRows (rules_of a q) q.rows a.sheet.row_texts a.sheet.rows valid.rows) same valid.each in
+          subst (λ (rs : List (List (List ℕ))). AreValidRows (rules_of a p) p.rows a.sheet.row_texts a.sheet.rows rs) (rows-once a.sheet.header a.released (length (filter is_released p.rows)) (in-limits a p head bytes sheet) valid.rows rows (as-rows valid.rows released) are) each
 
       -- a record that is at fault
-      pub record-answers : (offset : ℕ) (w : Why) → IsFaultAmong (rules_of a p) p.rows a.sheet.raws a.sheet.rows rows offset w → ¬ AreValidRows (rules_of a p) p.rows a.sheet.raws a.sheet.rows rows
+      pub record-answers : (offset : ℕ) (w : Why) → IsFaultAmong (rules_of a p) p.rows a.sheet.row_texts a.sheet.rows rows offset w → ¬ AreValidRows (rules_of a p) p.rows a.sheet.row_texts a.sheet.rows rows
           → Answers a (Err (fault.Rejected (records_line p + 1 + offset) w))
-      record-answers offset w found not = (failure w (among-why (rules_of a p) p.rows a.sheet.raws a.sheet.rows rows offset w found) found, λ valid. not (valid-rows valid))
+      record-answers offset w found not = (failure w (among-why (rules_of a p) p.rows a.sheet.row_texts a.sheet.rows rows offset w found) found, λ valid. not (valid-rows valid))
         where
-          failure : (w : Why) → OfRecord w → IsFaultAmong (rules_of a p) p.rows a.sheet.raws a.sheet.rows rows offset w → IsFirstFailure a (records_line p + 1 + offset) w
+          failure : (w : Why) → OfRecord w → IsFaultAmong (rules_of a p) p.rows a.sheet.row_texts a.sheet.rows rows offset w → IsFirstFailure a (records_line p + 1 + offset) w
           failure why.Cert of is = (p, fits, (rows, as-released rows are, (offset, is, refl)))
           failure why.RowText of is = inr (p, fits, (rows, as-released rows are, (offset, is, refl)))
           failure why.Grammar of is = absurd of
@@ -175,7 +175,7 @@ module _ (a : Audit) (p : Proof) (spelled : Spells a.proof p) where
           failure why.Drop of is = absurd of
           failure why.Claims of is = absurd of
 
-      module _ (valid : AreValidRows (rules_of a p) p.rows a.sheet.raws a.sheet.rows rows) where
+      module _ (valid : AreValidRows (rules_of a p) p.rows a.sheet.row_texts a.sheet.rows rows) where
         -- claims that are at fault
         pub claims-answers : (line : ℕ) → IsClaimsFault a.survey a.sheet.rows p line → Answers a (Err (fault.Rejected line why.Claims))
         claims-answers line found = (

@@ -8,39 +8,39 @@ use Rattle.record_text.specs.Faults.{row_fault}
 use Rattle.record_text.specs.Sheets.{IsSheet, SheetParts}
 use Rattle.record_text.specs.Values.{AreRows}
 use Rattle.record_text.proofs.HeaderLaws.{header_length}
-use Rattle.record_text.proofs.SheetLaws.{as_many_raws_as_rows, raws_as_long_as_header, same_sheet}
+use Rattle.record_text.proofs.SheetLaws.{as_many_row_texts_as_rows, row_texts_as_long_as_header, same_sheet}
 use Rattle.cert_check.specs.inner.Rows.{AreInLimits, AreRowsOf}
 
 -- rows as long as the header are not at fault, where there are not too many
-not-faulty : (i width : ℕ) (raws : List (List (List ℕ))) → length raws + i ≤ 200000 → AllByRecursion (λ (raw : List (List ℕ)). length raw ≡ width) raws → row_fault i width raws ≡ None
+not-faulty : (i width : ℕ) (row_texts : List (List (List ℕ))) → length row_texts + i ≤ 200000 → AllByRecursion (λ (raw : List (List ℕ)). length raw ≡ width) row_texts → row_fault i width row_texts ≡ None
 not-faulty i width [] few long = refl
-not-faulty i width (raw ∷ raws) few long =
+not-faulty i width (raw ∷ row_texts) few long =
     let below : i < 200000 = omega (arith, few) in
     let first : (i == 200000) ≡ false = grind (arith, nat_tests) in
-    rw (first, (Decides-eqb (length raw) width).1 long.0) (not-faulty (suc i) width raws (omega (arith, few)) long.1)
+    rw (first, (Decides-eqb (length raw) width).1 long.0) (not-faulty (suc i) width row_texts (omega (arith, few)) long.1)
 
 narrow : (n : ℕ) → n ≤ 256 → nat_lt 256 n ≡ false
 narrow n few = grind (arith, nat_tests)
 
 -- rows without values
-no-values : (raws : List (List (List ℕ))) → AreRows [] [] raws (map (λ (raw : List (List ℕ)). []) raws)
+no-values : (row_texts : List (List (List ℕ))) → AreRows [] [] row_texts (map (λ (raw : List (List ℕ)). []) row_texts)
 no-values [] = tt
-no-values (raw ∷ raws) = (tt, no-values raws)
+no-values (raw ∷ row_texts) = (tt, no-values row_texts)
 
 module _ (header : List (List ℕ)) (bytes : List ℕ) (count : ℕ) where
   -- the rows of such a file with this header
-  pub sheet-rows : (sheet : SheetParts) → IsSheet [] bytes sheet → sheet.header ≡ header → length sheet.rows ≡ count → AreRowsOf header bytes count sheet.raws
+  pub sheet-rows : (sheet : SheetParts) → IsSheet [] bytes sheet → sheet.header ≡ header → length sheet.rows ≡ count → AreRowsOf header bytes count sheet.row_texts
   sheet-rows sheet is same counted = record {
     first = is.first;
     given = is.given;
     same = sym is.header ∙ same;
-    long = subst (λ (h : List (List ℕ)). AllByRecursion (λ (raw : List (List ℕ)). length raw ≡ length h) sheet.raws) same (raws_as_long_as_header [] bytes sheet is);
-    counted = as_many_raws_as_rows [] bytes sheet is ∙ counted;
+    long = subst (λ (h : List (List ℕ)). AllByRecursion (λ (raw : List (List ℕ)). length raw ≡ length h) sheet.row_texts) same (row_texts_as_long_as_header [] bytes sheet is);
+    counted = as_many_row_texts_as_rows [] bytes sheet is ∙ counted;
   }
 
   -- such rows make such a file
   sheet-of : (rows : List (List (List ℕ))) → SheetParts
-  sheet-of rows = record { header = header; columns = []; raws = rows; rows = map (λ (raw : List (List ℕ)). []) rows }
+  sheet-of rows = record { header = header; columns = []; row_texts = rows; rows = map (λ (raw : List (List ℕ)). []) rows }
 
   rows-sheet : AreInLimits header count → (rows : List (List (List ℕ))) → AreRowsOf header bytes count rows → IsSheet [] bytes (sheet-of rows)
   unfolding sheet-of
@@ -58,9 +58,9 @@ module _ (header : List (List ℕ)) (bytes : List ℕ) (count : ℕ) where
 
   -- what is kept of a sheet that was read
   pub fits-some : (fields : List Field) → fields ≡ [] → (kept : Option SheetParts) (sheet : SheetParts) → IfSome kept (λ k. (k ≡ sheet) × (sheet.header ≡ header) × (length sheet.rows ≡ count)) → IsSheet fields bytes sheet
-      → IfSome kept (λ k. AreRowsOf header bytes count k.raws)
+      → IfSome kept (λ k. AreRowsOf header bytes count k.row_texts)
   fits-some fields none None sheet fits is = tt
-  fits-some fields none (Some k) sheet (same, head, counted) is = subst (λ (s : SheetParts). AreRowsOf header bytes count s.raws) (sym same) (sheet-rows sheet (rw none at is) head counted)
+  fits-some fields none (Some k) sheet (same, head, counted) is = subst (λ (s : SheetParts). AreRowsOf header bytes count s.row_texts) (sym same) (sheet-rows sheet (rw none at is) head counted)
 
   pub fits-none : AreInLimits header count → (fields : List Field) → fields ≡ [] → (kept : Option SheetParts) (sheet : SheetParts) → IfNone kept ((sheet.header ≡ header) → ¬ (length sheet.rows ≡ count))
       → ((other : SheetParts) → IsSheet fields bytes other → other ≡ sheet) → IfNone kept ((rows : List (List (List ℕ))) → ¬ AreRowsOf header bytes count rows)

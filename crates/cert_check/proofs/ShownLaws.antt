@@ -95,16 +95,16 @@ module _ (a : Audit) (p : Proof) (well : IsWellFormed a.survey) (fits : Fits a p
 
 -- each record shows it
 module _ (a : Audit) (p : Proof) (well : IsWellFormed a.survey) (fits : Fits a p) where
-  rows-show : (saids : List RowProof) (raws : List (List (List ℕ))) (rows : List (List Value)) (released : List (List (List ℕ))) → AllByRecursion IsRowProof saids → AllByRecursion (IsRow a.survey.fields) rows
-      → AreValidRows (rules_of a p) saids raws rows released → ShowAll a.survey a.sheet.columns saids raws rows released
+  rows-show : (saids : List RowProof) (row_texts : List (List (List ℕ))) (rows : List (List Value)) (released : List (List (List ℕ))) → AllByRecursion IsRowProof saids → AllByRecursion (IsRow a.survey.fields) rows
+      → AreValidRows (rules_of a p) saids row_texts rows released → ShowAll a.survey a.sheet.columns saids row_texts rows released
   rows-show [] [] [] released plain are valid = tt
   rows-show [] [] (row ∷ rows) released plain are valid = absurd valid
-  rows-show [] (reads ∷ raws) rows released plain are valid = absurd valid
+  rows-show [] (reads ∷ row_texts) rows released plain are valid = absurd valid
   rows-show (said ∷ saids) [] rows released plain are valid = absurd valid
-  rows-show (said ∷ saids) (reads ∷ raws) [] released plain are valid = absurd valid
-  rows-show (said ∷ saids) (reads ∷ raws) (row ∷ rows) released plain are valid = (
+  rows-show (said ∷ saids) (reads ∷ row_texts) [] released plain are valid = absurd valid
+  rows-show (said ∷ saids) (reads ∷ row_texts) (row ∷ rows) released plain are valid = (
     said-shows a p well fits (files_of said reads row released) (row-is released) said.outcome said.gift plain.0 valid.0,
-    rows-show saids raws rows (behind said released) plain.1 are.1 valid.1,
+    rows-show saids row_texts rows (behind said released) plain.1 are.1 valid.1,
   )
     where
       row-is : (released : List (List (List ℕ))) → IsRow a.survey.fields (files_of said reads row released).row
@@ -119,7 +119,7 @@ release-shows a well bytes sheet valid = record {
   follow = rules-follow a valid.proof well valid.fits;
   rows = valid.rows;
   released = valid.released;
-  each = rows-show a valid.proof well valid.fits valid.proof.rows a.sheet.raws a.sheet.rows valid.rows valid.fits.spelled.plain.rows.1 (rows_are_records a.survey.fields bytes a.sheet sheet) valid.each;
+  each = rows-show a valid.proof well valid.fits valid.proof.rows a.sheet.row_texts a.sheet.rows valid.rows valid.fits.spelled.plain.rows.1 (rows_are_records a.survey.fields bytes a.sheet sheet) valid.each;
   legal = valid.claims.right.legal;
   within = λ donor. uses_within valid.proof.limit valid.proof.claims donor valid.claims.right.legal;
 }

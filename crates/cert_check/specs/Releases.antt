@@ -106,16 +106,16 @@ behind said (texts ∷ released) = if is_released said then released else texts 
 -- what is said of each record is valid; the released rows are those of the records in order
 abbrev pub AreValidRows : RowRules → List RowProof → List (List (List ℕ)) → List (List Value) → List (List (List ℕ)) → Type 0
 AreValidRows r [] [] [] released = Unit {0}
-AreValidRows r (said ∷ saids) (reads ∷ raws) (row ∷ rows) released =
-    IsValidRow r (files_of said reads row released) said × AreValidRows r saids raws rows (behind said released)
+AreValidRows r (said ∷ saids) (reads ∷ row_texts) (row ∷ rows) released =
+    IsValidRow r (files_of said reads row released) said × AreValidRows r saids row_texts rows (behind said released)
 AreValidRows r _ _ _ released = ⊥
 
 -- what is said of some record is not: of the first such, the fault stands so many lines behind the head of the first record
 abbrev pub IsFaultAmong : RowRules → List RowProof → List (List (List ℕ)) → List (List Value) → List (List (List ℕ)) → ℕ → Why → Type 0
-IsFaultAmong r (said ∷ saids) (reads ∷ raws) (row ∷ rows) released offset why =
+IsFaultAmong r (said ∷ saids) (reads ∷ row_texts) (row ∷ rows) released offset why =
     IsRowFault r (files_of said reads row released) said offset why
     ⊎ (IsValidRow r (files_of said reads row released) said × ((rest : ℕ)
-    × IsFaultAmong r saids raws rows (behind said released) rest why × (offset ≡ length (row_lines said) + rest)))
+    × IsFaultAmong r saids row_texts rows (behind said released) rest why × (offset ≡ length (row_lines said) + rest)))
 IsFaultAmong r _ _ _ released offset why = ⊥
 
 -- ---- a valid release
@@ -133,7 +133,7 @@ pub record IsValidRelease (a : Audit) : Type 0 where
   pub fits : Fits a proof
   pub rows : List (List (List ℕ))
   pub released : AreReleased a proof rows
-  pub each : AreValidRows (rules_of a proof) proof.rows a.sheet.raws a.sheet.rows rows
+  pub each : AreValidRows (rules_of a proof) proof.rows a.sheet.row_texts a.sheet.rows rows
   pub claims : AreValidClaims a.survey a.sheet.rows proof
 
 -- the proof tells of so many released records
@@ -153,7 +153,7 @@ OfRows a P = (p : Proof) × Fits a p × ((rows : List (List (List ℕ))) × AreR
 -- of some record the fault is this
 abbrev pub IsRecordFault : Audit → ℕ → Why → Type 0
 IsRecordFault a line why = OfRows a (λ p rows. (offset : ℕ)
-    × IsFaultAmong (rules_of a p) p.rows a.sheet.raws a.sheet.rows rows offset why × (line ≡ records_line p + 1 + offset))
+    × IsFaultAmong (rules_of a p) p.rows a.sheet.row_texts a.sheet.rows rows offset why × (line ≡ records_line p + 1 + offset))
 
 -- the released rows are not those that the proof tells of
 abbrev pub IsNotReleased : Audit → ℕ → Type 0
@@ -168,7 +168,7 @@ IsFirstFailure a line why.Drop = OfProof a (λ p. (head_fault a p ≡ None) × (
 IsFirstFailure a line why.Cert = IsRecordFault a line why.Cert
 IsFirstFailure a line why.RowText = IsNotReleased a line ⊎ IsRecordFault a line why.RowText
 IsFirstFailure a line why.Claims =
-    OfRows a (λ p rows. AreValidRows (rules_of a p) p.rows a.sheet.raws a.sheet.rows rows × IsClaimsFault a.survey a.sheet.rows p line)
+    OfRows a (λ p rows. AreValidRows (rules_of a p) p.rows a.sheet.row_texts a.sheet.rows rows × IsClaimsFault a.survey a.sheet.rows p line)
 
 -- where the files are rejected, this is so of the line and the condition that are told
 abbrev pub IfRejected : {X : Type 0} → Result X CheckFault → (ℕ → Why → Type 0) → Type 0

@@ -50,9 +50,9 @@ ShowsSaid survey columns f outcome fault = ⊤
 abbrev pub ShowAll : SurveyParts → List ℕ → List RowProof
     → List (List (List ℕ)) → List (List Value) → List (List (List ℕ)) → Type 0
 ShowAll survey columns [] [] [] released = Unit {0}
-ShowAll survey columns (said ∷ saids) (reads ∷ raws) (row ∷ rows) released =
+ShowAll survey columns (said ∷ saids) (reads ∷ row_texts) (row ∷ rows) released =
     ShowsSaid survey columns (files_of said reads row released) said.outcome said.gift
-    × ShowAll survey columns saids raws rows (behind said released)
+    × ShowAll survey columns saids row_texts rows (behind said released)
 ShowAll survey columns _ _ _ released = ⊥
 
 -- what the files show: each line of the rules follows from those that are kept, the released rows are corrections of least
@@ -64,6 +64,6 @@ pub record Shows (a : Audit) : Type 0 where
   pub follow : AllFollow (normal_lines_of a.survey) (kept_flags proof)
   pub rows : List (List (List ℕ))
   pub released : AreReleased a proof rows
-  pub each : ShowAll a.survey a.sheet.columns proof.rows a.sheet.raws a.sheet.rows rows
+  pub each : ShowAll a.survey a.sheet.columns proof.rows a.sheet.row_texts a.sheet.rows rows
   pub legal : IsLegalHistory proof.limit proof.claims
   pub within : (donor : ℕ) → uses_of donor (wins_of proof.claims) ≤ proof.limit

@@ -17,7 +17,7 @@ pub(crate) fn released_rows(
     count: u32,
 ) -> Result<Option<Sheet>, OutOfMemory>
     requires { AreInLimits header.now count }
-    ensures some { IfOk result (λ found. IfSome found (λ sheet. AreRowsOf header.now bytes.now count sheet.raws)) }
+    ensures some { IfOk result (λ found. IfSome found (λ sheet. AreRowsOf header.now bytes.now count sheet.row_texts)) }
     ensures none { IfOk result (λ found. IfNone found ((rows : List (List (List ℕ))) → ¬ AreRowsOf header.now bytes.now count rows)) }
 {
     match read_records(alloc, &no_fields(alloc)?, bytes) {

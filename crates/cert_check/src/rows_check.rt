@@ -28,11 +28,11 @@ pub(crate) fn rows_fault(
     requires one_each { length saids.now ≡ length records.now.rows }
     requires rows { AllByRecursion (IsRow checking.now.survey.now.fields) records.now.rows }
     requires within { All (λ column. column < length records.now.header) checking.now.columns.now }
-    requires long { AllByRecursion (λ texts. length texts ≡ length records.now.header) records.now.raws }
-    requires as_long { AllByRecursion (λ texts. length texts ≡ length records.now.header) released.now.raws }
+    requires long { AllByRecursion (λ texts. length texts ≡ length records.now.header) records.now.row_texts }
+    requires as_long { AllByRecursion (λ texts. length texts ≡ length records.now.header) released.now.row_texts }
     requires few { length (flat_map row_lines saids.now) < 2 ^ 64 }
     ensures { IfOk result (λ found. FindsAmong
-        (rules_in checking.now) saids.now records.now.raws records.now.rows released.now.raws found) }
+        (rules_in checking.now) saids.now records.now.row_texts records.now.rows released.now.row_texts found) }
 {
     let mut offset = 0;
     let mut next = 0;
@@ -60,8 +60,8 @@ fn files_at<'a>(
     next: u32,
 ) -> RowAt<'a>
     requires rows { row_no < length records.now.rows }
-    requires raws { row_no < length records.now.raws }
-    ensures { files_in result ≡ files_at said.now records.now row_no (drop next released.now.raws) }
+    requires row_texts { row_no < length records.now.row_texts }
+    ensures { files_in result ≡ files_at said.now records.now row_no (drop next released.now.row_texts) }
 {
     RowAt {
         reads: records.raw(row_no),
@@ -72,7 +72,7 @@ fn files_at<'a>(
 
 // The released texts at the next place, if the record is released.
 fn texts_at<'a>(said: &RowProof, released: &'a Sheet, next: u32) -> Option<&'a Texts>
-    ensures { option_map (λ t. t.now) result ≡ next_texts said.now (drop next released.now.raws) }
+    ensures { option_map (λ t. t.now) result ≡ next_texts said.now (drop next released.now.row_texts) }
 {
     if is_released(said) && next < released.len() {
         Some(released.raw(next))
@@ -83,7 +83,7 @@ fn texts_at<'a>(said: &RowProof, released: &'a Sheet, next: u32) -> Option<&'a T
 
 // The place of the next released row behind a record.
 fn behind(said: &RowProof, released: &Sheet, next: u32) -> u32
-    ensures { drop result released.now.raws ≡ behind said.now (drop next released.now.raws) }
+    ensures { drop result released.now.row_texts ≡ behind said.now (drop next released.now.row_texts) }
 {
     if is_released(said) && next < released.len() {
         next + 1

@@ -5,7 +5,7 @@ use Rattle.std.specs.List.{AllByRecursion, list_any}
 use Rattle.std.specs.Str.{bytes_eq}
 use Rattle.std.proofs.lemmas.List.{length-map, take_more}
 use Rattle.std.proofs.lemmas.Slice.Eq.{bytes_eq-Decides}
-use Rattle.command_words.specs.Options.{AreGiven, GivesNumber, Pairs, values_of, words_of}
+use Rattle.command_words.specs.Options.{ArePairsOf, GivesNumber, Pairs, values_of, words_of}
 use Rattle.command_words.specs.inner.Pairs.{pairs_of}
 
 -- the words of some pairs make these pairs
@@ -74,18 +74,18 @@ values_again option pairs place pair found h e inv more =
 
 -- ---- pairs of options and values
 
-pub given_append : (options : List (List ℕ)) (front back : Pairs) → AreGiven options front → AreGiven options back → AreGiven options (front ++ back)
+pub given_append : (options : List (List ℕ)) (front back : Pairs) → ArePairsOf options front → ArePairsOf options back → ArePairsOf options (front ++ back)
 given_append options [] back f b = b
 given_append options (pair ∷ front) back f b = (f.0, f.1, given_append options front back f.2 b)
 
-pub given_at : (options : List (List ℕ)) (pairs : Pairs) (place : ℕ) (pair : List ℕ × List ℕ) → AreGiven options pairs → place < length pairs → get_or pairs place ([], []) ≡ pair → AreGiven options (pair ∷ [])
+pub given_at : (options : List (List ℕ)) (pairs : Pairs) (place : ℕ) (pair : List ℕ × List ℕ) → ArePairsOf options pairs → place < length pairs → get_or pairs place ([], []) ≡ pair → ArePairsOf options (pair ∷ [])
 given_at options [] place pair g h e = absurd (omega arith)
-given_at options (first ∷ pairs) zero pair g h e = subst (λ (p : List ℕ × List ℕ). AreGiven options (p ∷ [])) e (g.0, g.1, tt)
+given_at options (first ∷ pairs) zero pair g h e = subst (λ (p : List ℕ × List ℕ). ArePairsOf options (p ∷ [])) e (g.0, g.1, tt)
 given_at options (first ∷ pairs) (suc place) pair g h e = given_at options pairs place pair g.2 (omega arith) e
 
 -- one more pair of an option and a value
-pub given_more : (options : List (List ℕ)) (pairs : Pairs) (place : ℕ) (pair : List ℕ × List ℕ) → place < length pairs → get_or pairs place ([], []) ≡ pair → AreGiven options (take place pairs) → AreGiven options (pair ∷ []) → AreGiven options (take (place + 1) pairs)
-given_more options pairs place pair h e g one = subst (AreGiven options) (sym (pairs_more pairs place pair h e)) (given_append options (take place pairs) (pair ∷ []) g one)
+pub given_more : (options : List (List ℕ)) (pairs : Pairs) (place : ℕ) (pair : List ℕ × List ℕ) → place < length pairs → get_or pairs place ([], []) ≡ pair → ArePairsOf options (take place pairs) → ArePairsOf options (pair ∷ []) → ArePairsOf options (take (place + 1) pairs)
+given_more options pairs place pair h e g one = subst (ArePairsOf options) (sym (pairs_more pairs place pair h e)) (given_append options (take place pairs) (pair ∷ []) g one)
 
 -- a word is among the options
 pub listed_among : (word : List ℕ) (options : List (Bor (List ℕ))) → list_any (λ (o : Bor (List ℕ)). bytes_eq word o.now) options ≡ list_any (bytes_eq word) (map (λ (o : Bor (List ℕ)). o.now) options)

@@ -1,7 +1,7 @@
 -- What the words of the command line ask for.
 use Rattle.std.specs.Prelude.{◌≡◌, ℕ, List, [], ◌∷◌, codes, map, string_bytes, String}
 use Rattle.std.specs.declared.alloc.Global.{Global}
-use Rattle.command_words.specs.Options.{AreApart, AreGiven, GivesNumber, Pairs, values_of, words_of}
+use Rattle.command_words.specs.Options.{AreApart, ArePairsOf, GivesNumber, Pairs, values_of, words_of}
 
 -- the words are this command, and behind it pairs of an option and its value of which the claim holds
 pub record IsCommand (name : List ℕ) (words : List (List ℕ)) (Holds : Pairs → Type 0) : Type 0 where
@@ -43,7 +43,7 @@ names_in names = names.rules ∷ names.records ∷ names.released ∷ names.reas
 -- the pairs give the options of an edit, each at most once: five that name files, no two of them the same; a budget from
 -- 1 to 1,000,000,000, or 1,000,000; a limit from 1 to 1,000, or 1; and 1 to 64 donors that a record ranks, or 5
 pub record GiveEdit (pairs : Pairs) (asked : EditAsked) : Type 0 where
-  pub given : AreGiven edit_options pairs
+  pub given : ArePairsOf edit_options pairs
   pub rules : values_of (codes "--rules") pairs ≡ asked.names.rules ∷ []
   pub records : values_of (codes "--records") pairs ≡ asked.names.records ∷ []
   pub released : values_of (codes "--released") pairs ≡ asked.names.released ∷ []
@@ -77,7 +77,7 @@ checked_in asked = asked.rules ∷ asked.records ∷ asked.released ∷ asked.pr
 
 -- the pairs give the options of a check, each once: four that name files, no two of them the same
 pub record GiveCheck (pairs : Pairs) (asked : CheckAsked) : Type 0 where
-  pub given : AreGiven check_options pairs
+  pub given : ArePairsOf check_options pairs
   pub rules : values_of (codes "--rules") pairs ≡ asked.rules ∷ []
   pub records : values_of (codes "--records") pairs ≡ asked.records ∷ []
   pub released : values_of (codes "--released") pairs ≡ asked.released ∷ []
@@ -100,7 +100,7 @@ rules_options = codes "--rules" ∷ []
 
 -- the pairs give this option, once
 pub record GiveRules (pairs : Pairs) (asked : RulesAsked) : Type 0 where
-  pub given : AreGiven rules_options pairs
+  pub given : ArePairsOf rules_options pairs
   pub rules : values_of (codes "--rules") pairs ≡ asked.rules ∷ []
 
 -- the words ask what becomes of the lines of rules: the command, and behind it the pair that gives its option

@@ -19,9 +19,9 @@ IsValue [] = ⊥
 IsValue (first ∷ rest) = first ≢ 45
 
 -- each pair is one of these options, and a value
-abbrev pub AreGiven : List (List ℕ) → Pairs → Type 0
-AreGiven options [] = ⊤
-AreGiven options (pair ∷ pairs) = IsTrue (list_any (bytes_eq pair.0) options) × IsValue pair.1 × AreGiven options pairs
+abbrev pub ArePairsOf : List (List ℕ) → Pairs → Type 0
+ArePairsOf options [] = ⊤
+ArePairsOf options (pair ∷ pairs) = IsTrue (list_any (bytes_eq pair.0) options) × IsValue pair.1 × ArePairsOf options pairs
 
 -- the values that an option is given
 abbrev pub values_of : List ℕ → Pairs → List (List ℕ)

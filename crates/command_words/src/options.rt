@@ -1,7 +1,7 @@
 ghost use Rattle.std.specs.Prelude.{◌≡◌, ◌≢◌, ◌↔◌, ◌+◌, ◌*◌, ◌<◌, ◌++◌, ◌∷◌, [], ℕ, List, IfSome, IfNone, IsTrue, length, map, string_bytes, slice_index_or};
 ghost use Rattle.std.specs.List.{AllByRecursion, list_any};
 ghost use Rattle.std.specs.Str.{bytes_eq};
-ghost use Rattle.command_words.specs.Options.{AreGiven, GivesNumber, IsNumberText, IsValue, Pairs, values_of, words_of};
+ghost use Rattle.command_words.specs.Options.{ArePairsOf, GivesNumber, IsNumberText, IsValue, Pairs, values_of, words_of};
 ghost use Rattle.command_words.specs.inner.Pairs.{pairs_of, values_found, values_in};
 
 /// The most digits of a number.
@@ -23,7 +23,7 @@ pub(crate) fn options_of<'a>(command: &str, words: &'a [String]) -> Option<&'a [
 /// Whether the words, taken two by two, are each one of the options and a value. A value is not empty and
 /// does not begin with `-`. No memory.
 pub(crate) fn are_given(words: &[String], options: &[&str]) -> bool
-    ensures { IsTrue result ↔ AreGiven (map (λ o. o.now) options.now) (pairs_of (map string_bytes words.now)) }
+    ensures { IsTrue result ↔ ArePairsOf (map (λ o. o.now) options.now) (pairs_of (map string_bytes words.now)) }
 {
     for place in 0..words.len() / 2 {
         let (option, value) = pair_at(words, place);
@@ -109,7 +109,7 @@ fn pair_at(words: &[String], place: usize) -> (&str, &str)
 // Whether the pair is one of the options and a value.
 #[tactic(auto, using(crate::proofs::PairLaws::listed_among))]
 fn is_given(options: &[&str], option: &str, value: &str) -> bool
-    ensures { IsTrue result ↔ AreGiven (map (λ o. o.now) options.now) ((option.now, value.now) ∷ []) }
+    ensures { IsTrue result ↔ ArePairsOf (map (λ o. o.now) options.now) ((option.now, value.now) ∷ []) }
 {
     is_listed(options, option) && is_value(value)
 }

@@ -8,7 +8,7 @@ use Rattle.linear_elim.specs.Systems.{SystemOverflow, system_of}
 use Rattle.categ_combine.specs.FailingBoxes.{LineFault, failing_from}
 use Rattle.categ_combine.specs.declared.box_from.BoxFrom.{BoxFrom}
 use Rattle.bound_cert.specs.Paths.{keeps_bad}
-use Rattle.edit_paths.specs.Cases.{Case}
+use Rattle.edit_paths.specs.Cases.{SearchCase}
 use Rattle.edit_paths.specs.Paths.{changed_numbers, number_count, treated_codes}
 use Rattle.edit_paths.specs.States.{asks_kept, boxes_after, closed_by, first_failing, first_whole, state_of, state_with_boxes, state_with_system}
 use Rattle.edit_paths.specs.declared.state.PathState.{PathState}
@@ -16,7 +16,7 @@ use Rattle.edit_paths.specs.declared.state.PathState.TheVariants.{ClosedBad}
 
 -- The state of a path tells whether it keeps a field without a value.
 
-module _ (c : Case) (path : List Bool) where
+module _ (c : SearchCase) (path : List Bool) where
   -- a path in another state keeps none
   pub not-bad : (s : PathState) → state_of c path ≡ s → s ≢ ClosedBad → keeps_bad c.survey.fields c.row path ≡ false
   not-bad s e other = by (keeps_bad c.survey.fields c.row path) refl

@@ -3,7 +3,7 @@ use Rattle.std.proofs.lemmas.Bool.Decides.{Decides-ltb}
 use Rattle.std.proofs.lemmas.List.Sums.{sum_by-append, sum_by-cons}
 use Rattle.std.specs.Option.{unwrap_or}
 use Rattle.edit_model.specs.Points.{Point}
-use Rattle.edit_paths.specs.Cases.{Case, IsCase, Meets}
+use Rattle.edit_paths.specs.Cases.{SearchCase, IsCase, Meets}
 use Rattle.edit_paths.specs.Certificates.{certificate_of}
 use Rattle.edit_paths.specs.Outcomes.{end_by, outcome_from, outcome_of, total_work, work_up_to}
 use Rattle.edit_paths.specs.ReachedPaths.{reached_paths}
@@ -22,7 +22,7 @@ use Rattle.bound_cert.specs.declared.outcome.Outcome.TheVariants as outcome
 
 -- A budget of at least the total work is never passed.
 
-module _ (c : Case) (budget : ℕ) where
+module _ (c : SearchCase) (budget : ℕ) where
   work-more : (taken : List (List Bool)) (path : List Bool) → work_of_all c (taken ++ path ∷ []) ≡ work_of_all c taken + work_of c path
   work-more taken path = sum_by-append (work_of c) taken (path ∷ []) ∙ ap (λ n. work_of_all c taken + n) (sum_by-cons (work_of c) path [] ∙ omega arith)
 
@@ -73,7 +73,7 @@ module _ (c : Case) (budget : ℕ) where
   enough-budget enough path work e = enough-from [] (reached_paths c) (omega (arith, enough)) path work e
 
 -- where some point meets the edits, the budget is at least the total work, and no number leaves the range, the outcome is Change
-pub always-change : (c : Case) → IsCase c → (budget : ℕ) → (p : Point) → Meets c p → total_work c ≤ budget → ((path : List Bool) (event : Event) → outcome_of c budget ≡ outcome.Overflow path event → ⊥)
+pub always-change : (c : SearchCase) → IsCase c → (budget : ℕ) → (p : Point) → Meets c p → total_work c ≤ budget → ((path : List Bool) (event : Event) → outcome_of c budget ≡ outcome.Overflow path event → ⊥)
     → (path : List Bool) × (weight : ℕ) × (cert : Cert) × (outcome_of c budget ≡ outcome.Change path weight cert)
 always-change c is budget p meets enough fits = by (outcome_of c budget) refl
   where

@@ -13,11 +13,11 @@ use Rattle.linear_elim.proofs.FlatLaws.{fold-flat}
 use Rattle.linear_elim.proofs.FoldLaws.{HaveShape-folded, HaveShape-start, start-same}
 use Rattle.linear_elim.proofs.ResultLaws.{fold-plain}
 use Rattle.linear_elim.proofs.SystemLaws.{fold-holds, fold-lifts}
-use Rattle.edit_paths.specs.Cases.{Case, IsCase, edit_lines}
+use Rattle.edit_paths.specs.Cases.{SearchCase, IsCase, edit_lines}
 
 -- The systems of a case: which points meet them, and which fields are gone.
 
-module _ (c : Case) (is : IsCase c) where
+module _ (c : SearchCase) (is : IsCase c) where
   abbrev start : List Derived
   start = reduce_derived (base_lines c.edits)
 

@@ -21,7 +21,7 @@ use Rattle.bound_cert.specs.declared.cert.Leaf.{Leaf}
 use Rattle.bound_cert.specs.declared.cert.LeafWhy.{LeafWhy}
 use Rattle.bound_cert.specs.declared.cert.LeafWhy.TheVariants as why
 use Rattle.bound_cert.specs.declared.outcome.Outcome.TheVariants as outcome
-use Rattle.edit_paths.specs.Cases.{AreGiven, Case, IsCase}
+use Rattle.edit_paths.specs.Cases.{AreUsableAmong, SearchCase, IsCase}
 use Rattle.edit_paths.specs.Certificates.{certificate_of, has_path, leaf, leaves_by, leaves_from}
 use Rattle.edit_paths.specs.Histories.{steps_to}
 use Rattle.edit_paths.specs.Outcomes.{outcome_of}
@@ -62,7 +62,7 @@ both-all P (x ∷ xs) ys first second = (first.0, both-all P xs ys first.1 secon
 
 -- ---- the leaves of a case's trees
 
-module _ (c : Case) (is : IsCase c) (given : List LineParts) (usable : List Bool) (are : AreGiven given usable c.edits) where
+module _ (c : SearchCase) (is : IsCase c) (given : List LineParts) (usable : List Bool) (are : AreUsableAmong given usable c.edits) where
   -- why no correction along the path weighs less than the weight
   abbrev IsValid : Option ℕ → List Bool → LeafWhy → Type 0
   IsValid weight path why = IsValidLeaf (tree_case c.survey given usable c.row weight) path why

@@ -19,7 +19,7 @@ use Rattle.linear_elim.specs.Steps.{step_result}
 use Rattle.linear_elim.specs.Systems.{chosen_fields, overflow_at, system_of}
 use Rattle.edit_model.specs.FieldSets.{has_number}
 use Rattle.categ_combine.specs.declared.box_from.BoxFrom.{BoxFrom}
-use Rattle.edit_paths.specs.Cases.{Case}
+use Rattle.edit_paths.specs.Cases.{SearchCase}
 use Rattle.edit_paths.specs.Paths.{before_last, changed_numbers, field_count, last_field, last_letter, number_count, treated_codes, treats}
 use Rattle.bound_cert.specs.Paths.{changes, keeps, path_place, path_weight}
 use Rattle.edit_model.specs.Corrections.{path_order}
@@ -35,7 +35,7 @@ use Rattle.edit_paths.proofs.LetterLaws.{count-kinds, letter-here, longer, numbe
 
 -- A path with one letter more: its work, weight, system and boxes, from those of the path before.
 
-module _ (c : Case) (path : List Bool) (b : Bool) (short : length path < field_count c) where
+module _ (c : SearchCase) (path : List Bool) (b : Bool) (short : length path < field_count c) where
   abbrev child : List Bool
   child = path ++ b ∷ []
 
@@ -88,7 +88,7 @@ module _ (c : Case) (path : List Bool) (b : Bool) (short : length path < field_c
       by f true e = let here = (Decides-eqb (path_place c.survey.fields f) (length path)).0 e in changes-next f here ∙ kept ∙ sym (not-yet f here)
       by f false e = changes-same f (λ here. absurd (cc (sym e ∙ (Decides-eqb (path_place c.survey.fields f) (length path)).1 here)))
 
-module _ (c : Case) where
+module _ (c : SearchCase) where
   -- ---- the fields for which a test turns true with one letter more
 
   module _ (n : ℕ) (s t : ℕ → Bool) (b : Bool) (same : (f : ℕ) → path_place c.survey.fields f ≢ n → t f ≡ s f) (none : (f : ℕ) → n ≤ path_place c.survey.fields f → s f ≡ false) (here : (f : ℕ) → path_place c.survey.fields f ≡ n → t f ≡ b) where
@@ -141,7 +141,7 @@ module _ (c : Case) where
 
 -- ---- a path with one letter more
 
-module _ (c : Case) (path : List Bool) (b : Bool) (short : length path < field_count c) where
+module _ (c : SearchCase) (path : List Bool) (b : Bool) (short : length path < field_count c) where
   pub not-changed : (f : ℕ) → length path ≤ path_place c.survey.fields f → changes c.survey.fields path f ≡ false
   not-changed f past = get_or_past path (path_place c.survey.fields f) false past
 
@@ -240,5 +240,5 @@ module _ (c : Case) (path : List Bool) (b : Bool) (short : length path < field_c
       ∙ fold-joined (reduce_derived (base_lines c.edits)) (changed_numbers c path) (slice_index_or (number_fields (shape_of c.survey.fields)) (length path) 0 ∷ []) lines made
 
 -- the set of the fields that a path changes, as bits, chooses its changed numerical fields
-pub chosen-changed : (c : Case) (path : List Bool) (bits : ℕ) → ((f : ℕ) → has_field (number_fields (shape_of c.survey.fields)) f ≡ true → has_number bits f ≡ changes c.survey.fields path f) → chosen_fields (shape_of c.survey.fields) bits ≡ changed_numbers c path
+pub chosen-changed : (c : SearchCase) (path : List Bool) (bits : ℕ) → ((f : ℕ) → has_field (number_fields (shape_of c.survey.fields)) f ≡ true → has_number bits f ≡ changes c.survey.fields path f) → chosen_fields (shape_of c.survey.fields) bits ≡ changed_numbers c path
 chosen-changed c path bits each = filter-agree (has_number bits) (changes c.survey.fields path) (number_fields (shape_of c.survey.fields)) (λ f at. each f (there-has f (number_fields (shape_of c.survey.fields)) at))

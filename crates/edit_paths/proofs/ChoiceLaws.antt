@@ -9,7 +9,7 @@ use Rattle.edit_model.specs.Rows.{value_of}
 use Rattle.edit_line.specs.Reductions.{IsIn}
 use Rattle.edit_line.specs.Shapes.{has_field, place_in}
 use Rattle.edit_line.proofs.Members.{in-either}
-use Rattle.edit_paths.specs.Cases.{Case, IsCase, Meets}
+use Rattle.edit_paths.specs.Cases.{SearchCase, IsCase, Meets}
 use Rattle.edit_paths.specs.Choices.{IsChoice}
 use Rattle.edit_paths.specs.Certificates.{certificate_of}
 use Rattle.edit_paths.specs.Outcomes.{end_by, outcome_from, outcome_of}
@@ -62,11 +62,11 @@ same-word (true ∷ a) (true ∷ b) same each first = ap (λ (p : List Bool). tr
 -- ---- the end of a search
 
 -- the path ends no search: no number leaves the range, and it is not open with all fields treated
-abbrev pub EndsNot : Case → List Bool → Type 0
+abbrev pub EndsNot : SearchCase → List Bool → Type 0
 EndsNot c path = ((e : Event) → state_of c path ≡ Overflows e → ⊥) × (state_of c path ≡ Open → is_complete c path ≡ true → ⊥)
 
 -- a search that finds a change ends at an open path that treats all fields, and at no path before it
-pub record FoundAt (c : Case) (taken paths : List (List Bool)) (path : List Bool) (weight : ℕ) (cert : Cert) : Type 0 where
+pub record FoundAt (c : SearchCase) (taken paths : List (List Bool)) (path : List Bool) (weight : ℕ) (cert : Cert) : Type 0 where
   pub before : List (List Bool)
   pub after : List (List Bool)
   pub paths_are : paths ≡ before ++ path ∷ after
@@ -76,7 +76,7 @@ pub record FoundAt (c : Case) (taken paths : List (List Bool)) (path : List Bool
   pub weight_is : weight ≡ path_weight c.survey.fields path
   pub cert_is : cert.leaves ≡ certificate_of c (if nat_lt 0 (path_weight c.survey.fields path) then taken ++ before else [])
 
-module _ (c : Case) (budget : ℕ) where
+module _ (c : SearchCase) (budget : ℕ) where
   in_first : (path x : List Bool) (paths : List (List Bool)) → EndsNot c path → ((p : List Bool) → IsIn p paths → EndsNot c p) → IsIn x (path ∷ paths) → EndsNot c x
   in_first path x paths here rest (inl same) = subst (λ (p : List Bool). EndsNot c p) (sym same) here
   in_first path x paths here rest (inr there) = rest x there
@@ -171,7 +171,7 @@ module _ (c : Case) (budget : ℕ) where
 
 -- ---- the prefixes of a point's word
 
-module _ (c : Case) (is : IsCase c) (q : Point) (meets : Meets c q) where
+module _ (c : SearchCase) (is : IsCase c) (q : Point) (meets : Meets c q) where
   abbrev w : List Bool
   w = word_of c.survey c.row q
 
@@ -219,12 +219,12 @@ module _ (c : Case) (is : IsCase c) (q : Point) (meets : Meets c q) where
         ends.1 (prefix-open (field_count c) ends) ((Decides-eqb _ _).1 (length-take-le (field_count c) (word_of c.survey c.row q) (omega (arith, word-length))))
 
 -- no point meets the edits of a contradictory case
-pub contradictory : (c : Case) → IsCase c → (budget : ℕ) (cert : Cert) → outcome_of c budget ≡ outcome.Contradictory cert → (p : Point) → Meets c p → ⊥
+pub contradictory : (c : SearchCase) → IsCase c → (budget : ℕ) (cert : Cert) → outcome_of c budget ≡ outcome.Contradictory cert → (p : Point) → Meets c p → ⊥
 contradictory c is budget cert e p meets = word-ends c is p meets (reached_paths c) (none-from c budget [] (reached_paths c) cert e) (λ k there. there)
 
 -- ---- the choice
 
-module _ (c : Case) (is : IsCase c) where
+module _ (c : SearchCase) (is : IsCase c) where
   pub sorted-after : (before : List (List Bool)) (path z : List Bool) (after : List (List Bool)) → IsSorted (is_before c.survey.fields) (before-total c) (before-chain c) (before-equal c) (before ++ path ∷ after) → IsIn z after → is_before c.survey.fields path z ≡ true
   sorted-after [] path z after sorted there = sorted.0 z there
   sorted-after (x ∷ before) path z after sorted there = sorted-after before path z after sorted.1 there
@@ -293,5 +293,5 @@ module _ (c : Case) (is : IsCase c) where
     }
 
 -- the path of a change is the choice, and the weight is its own
-pub change-choice : (c : Case) → IsCase c → (budget : ℕ) (path : List Bool) (weight : ℕ) (cert : Cert) → outcome_of c budget ≡ outcome.Change path weight cert → IsChoice c path × (weight ≡ path_weight c.survey.fields path)
+pub change-choice : (c : SearchCase) → IsCase c → (budget : ℕ) (path : List Bool) (weight : ℕ) (cert : Cert) → outcome_of c budget ≡ outcome.Change path weight cert → IsChoice c path × (weight ≡ path_weight c.survey.fields path)
 change-choice c is budget path weight cert e = let found = found-from c budget [] (reached_paths c) path weight cert e in (found-choice c is path weight cert found, found.weight_is)

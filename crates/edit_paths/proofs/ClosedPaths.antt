@@ -33,7 +33,7 @@ use Rattle.categ_combine.proofs.BoxSets.{found-passes}
 use Rattle.categ_combine.proofs.CoverLaws.{HaveSets}
 use Rattle.categ_combine.proofs.FailingLaws.{failing-sets}
 use Rattle.bound_cert.specs.Paths.{changes, keeps_bad}
-use Rattle.edit_paths.specs.Cases.{Case, IsCase, Meets}
+use Rattle.edit_paths.specs.Cases.{SearchCase, IsCase, Meets}
 use Rattle.edit_paths.specs.PathStates.{is_closed}
 use Rattle.edit_paths.specs.Paths.{AgreesAlong, changed_numbers, number_count, treated_codes, treats}
 use Rattle.edit_paths.specs.States.{IsClosed, asks_kept, boxes_after, closed_by, first_failing, first_whole, state_with_boxes, state_with_system}
@@ -57,7 +57,7 @@ code-agrees (Code k) p f is agrees = grind (arith, agrees)
 code-agrees (Number x) p f is agrees = absurd is
 code-agrees Bad p f is agrees = absurd is
 
-module _ (c : Case) (is : IsCase c) (path : List Bool) where
+module _ (c : SearchCase) (is : IsCase c) (path : List Bool) where
   -- the line that closes the path
   pub lines-closed : (i : ℕ) (lines : List Derived) → is_closed (first_failing c path i lines) ≡ true → (d : Derived) × IsIn d lines × (asks_kept c path d.line ≡ true) × (fails_at d.line c.row ≡ Ok true)
   lines-closed i [] closed = absurd (cc)

@@ -30,7 +30,7 @@ use Rattle.derivation.specs.ValidSteps.{steps_result}
 use Rattle.derivation.specs.declared.proved.Proved.{Proved}
 use Rattle.derivation.specs.declared.proved.Proved.TheVariants as proved
 use Rattle.bound_cert.specs.Paths.{changes, keeps, keeps_bad}
-use Rattle.edit_paths.specs.Cases.{Case, IsCase}
+use Rattle.edit_paths.specs.Cases.{SearchCase, IsCase}
 use Rattle.edit_paths.specs.Histories.{History, box_by, making_at, steps_to, with_boxes}
 use Rattle.edit_paths.specs.PathHistories.{box_history, boxes_reached, line_history}
 use Rattle.edit_paths.specs.Paths.{changed_numbers, number_count, treated_codes, treats}
@@ -47,7 +47,7 @@ use Rattle.edit_paths.proofs.StepsWritten.{Elements, IsMade, IsMadeBy, last_of, 
 -- The steps of the line, or of the box, that closes a path are valid, and prove it.
 
 -- the given lines, those that are usable, and the bits of the kept fields
-module _ (c : Case) (is : IsCase c) (path : List Bool) (none : keeps_bad c.survey.fields c.row path ≡ false) (given : List LineParts) (usable : List Bool) (kept : ℕ)
+module _ (c : SearchCase) (is : IsCase c) (path : List Bool) (none : keeps_bad c.survey.fields c.row path ≡ false) (given : List LineParts) (usable : List Bool) (kept : ℕ)
     (kept_is : (f : ℕ) → has_field (path_order c.survey.fields) f ≡ true → has_number kept f ≡ keeps c.survey.fields path f) (usable_is : AreUsable (premises_of (shape_of c.survey.fields) given usable c.row kept) c.edits) where
   abbrev pub premises : Premises
   premises = premises_of (shape_of c.survey.fields) given usable c.row kept

@@ -18,7 +18,7 @@ use Rattle.categ_combine.specs.FailingBoxes.{LineFault, failing_from, line_fault
 use Rattle.categ_combine.specs.declared.box_from.BoxFrom.{BoxFrom}
 use Rattle.bound_cert.specs.Paths.{changes, keeps_bad, path_place}
 use Rattle.bound_cert.specs.declared.outcome.Event.TheVariants as event
-use Rattle.edit_paths.specs.Cases.{Case}
+use Rattle.edit_paths.specs.Cases.{SearchCase}
 use Rattle.edit_paths.specs.Events.{IsStepOverflow, IsTestOverflow}
 use Rattle.edit_paths.specs.Paths.{before_last, changed_numbers, field_count, last_field, number_count, treated_codes}
 use Rattle.edit_paths.specs.ReachedPaths.{IsReached}
@@ -32,7 +32,7 @@ use Rattle.edit_paths.proofs.LetterLaws.{order-shape}
 
 -- ---- numbers of a test
 
-module _ (c : Case) (path : List Bool) (line f : ℕ) where
+module _ (c : SearchCase) (path : List Bool) (line f : ℕ) where
   -- the line that is named, and what it gives
   abbrev Named : List Derived → Type 0
   Named lines = (d : Derived) × (slice_get lines line ≡ Some d) × (fails_at d.line c.row ≡ Err f)
@@ -91,7 +91,7 @@ module _ (c : Case) (path : List Bool) (line f : ℕ) where
 
 -- ---- numbers of a step
 
-module _ (c : Case) (path : List Bool) where
+module _ (c : SearchCase) (path : List Bool) where
   -- an open path has a system
   open-system : state_of c path ≡ Open → (lines : List Derived) × (system_of c.edits (changed_numbers c path) ≡ Ok lines)
   open-system e = by_bad (keeps_bad c.survey.fields c.row path) e
@@ -149,7 +149,7 @@ module _ (c : Case) (path : List Bool) where
         by_bad false h = at (system_of c.edits (changed_numbers c path)) h
 
 -- a path with one letter more than an open one overflows in the step at its last field
-module _ (c : Case) (before : List Bool) (b : Bool) (short : length before < field_count c) (opened : state_of c before ≡ Open) where
+module _ (c : SearchCase) (before : List Bool) (b : Bool) (short : length before < field_count c) (opened : state_of c before ≡ Open) where
   last-step : (o : SystemOverflow) → system_of c.edits (changed_numbers c (before ++ b ∷ [])) ≡ Err o
       → (lines : List Derived) × (system_of c.edits (changed_numbers c before) ≡ Ok lines) × IsFirstOverflow lines (slice_index_or (path_order c.survey.fields) (length before) 0) o.step
   last-step o e =
@@ -173,7 +173,7 @@ module _ (c : Case) (before : List Bool) (b : Bool) (short : length before < fie
           (step-overflows lines f o.step (stopped f (step_result lines f) (sym (child-system c before b short changed few lines made) ∙ e)))
 
 -- the lines that are named stand in the system of the path before, and are the first pair whose combination at the last field leaves the range
-pub step-names : (c : Case) (path : List Bool) (first second : ℕ) (place : Place) → length path ≤ field_count c → IsReached c path → state_of c path ≡ Overflows (event.Step first second place) → IsStepOverflow c path first second place
+pub step-names : (c : SearchCase) (path : List Bool) (first second : ℕ) (place : Place) → length path ≤ field_count c → IsReached c path → state_of c path ≡ Overflows (event.Step first second place) → IsStepOverflow c path first second place
 step-names c path first second place fits reached e =
     let (o, fault, is) = step-fault c path first second place e in by (length path) refl o fault is
   where

@@ -11,7 +11,7 @@ use Rattle.edit_line.proofs.FieldLists.{has-append, there-has}
 use Rattle.edit_line.proofs.Members.{in-right}
 use Rattle.bound_cert.specs.Paths.{path_place}
 use Rattle.bound_cert.proofs.Letters.{AreDistinct, order-distinct, other-field}
-use Rattle.edit_paths.specs.Cases.{Case}
+use Rattle.edit_paths.specs.Cases.{SearchCase}
 use Rattle.edit_paths.specs.Paths.{field_count, number_count}
 use Rattle.edit_paths.proofs.LetterLaws.{order-shape}
 
@@ -49,7 +49,7 @@ order-within fields f there =
     by false e h = field-below (λ k. not (is_numerical k)) fields f h
 
 -- each place in path order is a field's
-pub place-of : (c : Case) (k : ℕ) → k < field_count c → (f : ℕ) × (has_field (path_order c.survey.fields) f ≡ true) × (path_place c.survey.fields f ≡ k)
+pub place-of : (c : SearchCase) (k : ℕ) → k < field_count c → (f : ℕ) × (has_field (path_order c.survey.fields) f ≡ true) × (path_place c.survey.fields f ≡ k)
 place-of c k below =
     let within : k < length (path_order c.survey.fields) = omega (arith, below, order-length c.survey.fields) in (
       slice_index_or (path_order c.survey.fields) k 0,
@@ -57,7 +57,7 @@ place-of c k below =
       place-own (path_order c.survey.fields) k (order-distinct c.survey.fields) within,
     )
 
-module _ (c : Case) where
+module _ (c : SearchCase) where
   abbrev numbers : List ℕ
   numbers = number_fields (shape_of c.survey.fields)
 

@@ -29,7 +29,7 @@ use Rattle.edit_line.proofs.SumCallers.{numbers-held}
 use Rattle.edit_line.proofs.SumLaws.{fails_at-truth}
 use Rattle.linear_elim.specs.Systems.{system_of}
 use Rattle.bound_cert.specs.Paths.{changes, keeps, keeps_bad, kept_set}
-use Rattle.edit_paths.specs.Cases.{Case, IsCase, Meets}
+use Rattle.edit_paths.specs.Cases.{SearchCase, IsCase, Meets}
 use Rattle.edit_paths.specs.Paths.{AgreesAlong, changed_numbers, number_count}
 use Rattle.edit_paths.specs.States.{asks_kept}
 use Rattle.edit_paths.proofs.CaseSystems.{system-flat, system-follows, system-over}
@@ -42,7 +42,7 @@ held Bad is = absurd (is refl)
 held (Code k) is = refl
 held (Number x) is = refl
 
-module _ (c : Case) (is : IsCase c) (path : List Bool) where
+module _ (c : SearchCase) (is : IsCase c) (path : List Bool) where
   abbrev shape : List Domain
   shape = shape_of c.survey.fields
 

@@ -9,7 +9,7 @@ use Rattle.edit_line.proofs.BoolLaws.{or_true}
 use Rattle.edit_line.proofs.FieldLists.{has-append, has-left, has-right}
 use Rattle.edit_line.proofs.ShapeLaws.{code_fields-same, number_fields-same, place-within}
 use Rattle.bound_cert.specs.Paths.{changes, keeps, path_place}
-use Rattle.edit_paths.specs.Cases.{Case}
+use Rattle.edit_paths.specs.Cases.{SearchCase}
 use Rattle.edit_paths.specs.Paths.{field_count, number_count, treats}
 
 -- The letters of a path.
@@ -28,7 +28,7 @@ place-left i (j ∷ first) second h = by (j == i) (place-left i first second) h
     by true rest h = omega arith
     by false rest h = let below = rest h in omega arith
 
-module _ (c : Case) where
+module _ (c : SearchCase) where
   abbrev numbers : List ℕ
   numbers = number_fields (shape_of c.survey.fields)
 
@@ -87,7 +87,7 @@ taken-kept (x ∷ w) (suc k) (suc i) h = taken-kept w k i h
 
 -- ---- what a path says of a field
 
-module _ (c : Case) (path : List Bool) where
+module _ (c : SearchCase) (path : List Bool) where
   pub kept-not_changed : (f : ℕ) → keeps c.survey.fields path f ≡ true → changes c.survey.fields path f ≡ false
   kept-not_changed f kept = letter-one path (path_place c.survey.fields f) kept
 

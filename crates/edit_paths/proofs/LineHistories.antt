@@ -21,7 +21,7 @@ use Rattle.derivation.specs.Premises.{Premises}
 use Rattle.derivation.specs.ValidSteps.{combined_line, given_line}
 use Rattle.derivation.specs.declared.proved.Proved.{Proved}
 use Rattle.derivation.specs.declared.proved.Proved.TheVariants as proved
-use Rattle.edit_paths.specs.Cases.{Case, IsCase}
+use Rattle.edit_paths.specs.Cases.{SearchCase, IsCase}
 use Rattle.edit_paths.specs.Histories.{History, line_by, with_lines}
 use Rattle.edit_paths.specs.PathHistories.{and_next, line_history, lines_reached}
 use Rattle.edit_paths.specs.Paths.{changed_numbers}
@@ -66,7 +66,7 @@ step-made p shape lines f ys over made d there = comes-made p lines d.line d.ori
 abbrev pub AreUsable : Premises → List (ℕ × LineParts) → Type 0
 AreUsable p edits = (e : ℕ × LineParts) → IsIn e edits → given_line p e.0 ≡ Some (proved.Line e.1)
 
-base-made : (c : Case) → IsCase c → (p : Premises) → AreUsable p c.edits → LinesMade p [] (reduce_derived (base_lines c.edits))
+base-made : (c : SearchCase) → IsCase c → (p : Premises) → AreUsable p c.edits → LinesMade p [] (reduce_derived (base_lines c.edits))
 base-made c is p usable d there =
     let (e, e_in, same) = in-all (IsEdit c.edits) d (reduce_derived (base_lines c.edits)) (start-edits (edits_of (shape_of c.survey.fields) c.edits) (reduce_derived (base_lines c.edits)) is.edits) there in
     subst (λ (x : Derived). IsMadeBy p [] (proved.Line x.line) (line_by x.origin)) (sym same) (usable e e_in)
@@ -87,7 +87,7 @@ lines-made p shape history before lines (f ∷ fields) last over made here e =
     by (Err fault) is h rest = absurd (cc)
 
 -- the lines of a path's system are made as its history says
-pub line-history-made : (c : Case) (is : IsCase c) (path : List Bool) (p : Premises) (lines : List Derived) → AreUsable p c.edits → system_of c.edits (changed_numbers c path) ≡ Ok lines
+pub line-history-made : (c : SearchCase) (is : IsCase c) (path : List Bool) (p : Premises) (lines : List Derived) → AreUsable p c.edits → system_of c.edits (changed_numbers c path) ≡ Ok lines
     → (values : Elements) × IsMade p (line_history c path) values × (last_of values ≡ line_values lines)
 line-history-made c is path p lines usable made =
     lines-made p (shape_of c.survey.fields) [] [] (reduce_derived (base_lines c.edits)) (changed_numbers c path) lines (start_over c is) tt (base-made c is p usable) made

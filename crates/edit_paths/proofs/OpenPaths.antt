@@ -28,7 +28,7 @@ use Rattle.categ_combine.specs.FailingBoxes.{LineFault, failing_from, line_fault
 use Rattle.categ_combine.specs.declared.box_from.BoxFrom.{BoxFrom}
 use Rattle.categ_combine.proofs.BoxSets.{none-passes}
 use Rattle.bound_cert.specs.Paths.{changes, keeps, keeps_bad}
-use Rattle.edit_paths.specs.Cases.{Case, IsCase, Meets}
+use Rattle.edit_paths.specs.Cases.{SearchCase, IsCase, Meets}
 use Rattle.edit_paths.specs.PathStates.{is_closed}
 use Rattle.edit_paths.specs.Paths.{AgreesAlong, DiffersOnlyOn, changed_numbers, field_count, number_count, treated_codes, treats}
 use Rattle.edit_paths.specs.States.{StaysInRange, IsOpen, asks_kept, boxes_after, closed_by, first_failing, first_whole, state_of, state_with_boxes, state_with_system}
@@ -58,7 +58,7 @@ agrees-same (Number x) p q f codes numbers agrees =
     same_over x y z d e g above first second = same_cancel (x *ℤ d) (z *ℤ g) e above (swap_last x d e ∙ ap (λ (k : ℤ). k *ℤ d) first ∙ swap_last y g d ∙ ap (λ (k : ℤ). k *ℤ g) second ∙ swap_last z e g)
 agrees-same Bad p q f codes numbers agrees = absurd (cc)
 
-module _ (c : Case) (is : IsCase c) (path : List Bool) where
+module _ (c : SearchCase) (is : IsCase c) (path : List Bool) where
   -- where all lines are asked and none closes the path, there are no boxes
   none-fails : (i : ℕ) (lines : List Derived) (boxes : List BoxFrom) → ((d : Derived) → IsIn d lines → asks_kept c path d.line ≡ true) → first_failing c path i lines ≡ Open → failing_from i lines c.row [] ≡ Ok boxes → boxes ≡ []
   none-fails i [] boxes asked opened told = sym (cc)

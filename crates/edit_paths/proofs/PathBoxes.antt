@@ -22,12 +22,12 @@ use Rattle.categ_combine.proofs.OriginLaws.{sets-covered, sets-fixed_from}
 use Rattle.categ_combine.proofs.OverLaws.{over-covered, over-fixed}
 use Rattle.derivation.proofs.CoverLaws.{code-below}
 use Rattle.bound_cert.specs.Paths.{changes}
-use Rattle.edit_paths.specs.Cases.{Case}
+use Rattle.edit_paths.specs.Cases.{SearchCase}
 use Rattle.edit_paths.specs.States.{boxes_after}
 
 -- The boxes along a path: which codes avoid them, and that they are whole at each treated field.
 
-module _ (c : Case) (path : List Bool) where
+module _ (c : SearchCase) (path : List Bool) where
   abbrev shape : List Domain
   shape = shape_of c.survey.fields
 

@@ -4,7 +4,7 @@ use Rattle.std.proofs.lemmas.Bool.Decides.{Decides-eqb, Decides-ltb}
 use Rattle.std.proofs.lemmas.List.Sums.{sum_by-cons}
 use Rattle.edit_model.specs.Corrections.{is_first, path_order}
 use Rattle.edit_line.specs.Reductions.{IsIn}
-use Rattle.edit_paths.specs.Cases.{Case}
+use Rattle.edit_paths.specs.Cases.{SearchCase}
 use Rattle.bound_cert.specs.Paths.{changes, path_place, path_weight}
 use Rattle.edit_paths.specs.ReachedPaths.{is_before}
 use Rattle.edit_model.specs.Words.{weight_at}
@@ -109,7 +109,7 @@ sum-less w s t (f ∷ fields) each = by (s f) refl (t f) refl (sum-less w s t fi
 
 -- ---- the order
 
-module _ (c : Case) where
+module _ (c : SearchCase) where
   pub before-total : (a b : List Bool) → is_before c.survey.fields a b ≡ false → is_before c.survey.fields b a ≡ true
   before-total a b h = elim (not-tells (path_weight c.survey.fields a) (path_weight c.survey.fields b) (is_first a b) h) [
     | inl less ↦ less-told (path_weight c.survey.fields b) (path_weight c.survey.fields a) (is_first b a) less

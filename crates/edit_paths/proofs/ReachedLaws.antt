@@ -8,7 +8,7 @@ use Rattle.std.specs.Option.{unwrap_or}
 use Rattle.edit_line.specs.Reductions.{IsIn}
 use Rattle.edit_line.proofs.Members.{in-either, in-left, in-right}
 use Rattle.edit_line.proofs.Members.{in-flat_map-out}
-use Rattle.edit_paths.specs.Cases.{Case}
+use Rattle.edit_paths.specs.Cases.{SearchCase}
 use Rattle.edit_paths.specs.ReachedPaths.{IsReached, changed_next, in_order, is_before, kept_next, placed, reached_from, reached_paths}
 use Rattle.edit_paths.specs.Outcomes.{end_at, outcome_from, outcome_of}
 use Rattle.edit_paths.specs.Paths.{field_count, is_complete}
@@ -26,10 +26,10 @@ use Rattle.edit_paths.proofs.PathOrder.{before-chain, before-equal, before-exten
 -- The reached paths in their order, as a best-first walk takes them.
 
 -- the reached paths from these on, where these are reached
-abbrev pub reached_beyond : Case → List (List Bool) → List (List Bool)
+abbrev pub reached_beyond : SearchCase → List (List Bool) → List (List Bool)
 reached_beyond c ends = flat_map (λ path. reached_from c (field_count c - length path) path) ends
 
-module _ (c : Case) where
+module _ (c : SearchCase) where
   abbrev order : List (List Bool) → List (List Bool)
   order paths = in_order (is_before c.survey.fields) paths
 

@@ -11,7 +11,7 @@ use Rattle.edit_line.specs.Lines.{LineParts, parts_of}
 use Rattle.edit_line.specs.Shapes.{Categorical, Numerical}
 use Rattle.linear_elim.specs.Combinations.{first_multiplier, second_multiplier}
 use Rattle.derivation.specs.declared.step.Step.TheVariants.{Combine, Cover, Fail, Fix, Given}
-use Rattle.edit_paths.specs.Cases.{Case}
+use Rattle.edit_paths.specs.Cases.{SearchCase}
 use Rattle.edit_paths.specs.Outcomes.{outcome_of, total_work}
 use Rattle.bound_cert.specs.declared.cert.Leaf.{Leaf}
 use Rattle.bound_cert.specs.declared.cert.LeafWhy.{LeafWhy}
@@ -32,7 +32,7 @@ number_field weight = record { name = codes "x"; weight = weight; kind = kind.Nu
 abbrev code_field : Field
 code_field = record { name = codes "x"; weight = 1; kind = kind.Code (codes "a" ∷ codes "b" ∷ []) }
 
-abbrev case_with : List Field → List (ℕ × LineParts) → List Value → Case
+abbrev case_with : List Field → List (ℕ × LineParts) → List Value → SearchCase
 case_with fields lines row = record { survey = parts.survey_of fields []; edits = lines; row = row }
 
 abbrev kept : Bool
@@ -46,7 +46,7 @@ changed = true
 abbrev pair_line : ℤ → ℤ → ℤ → LineParts
 pair_line a b constant = parts_of (Numerical ∷ Numerical ∷ []) [] (a ∷ b ∷ []) constant false
 
-abbrev pair_case : Case
+abbrev pair_case : SearchCase
 pair_case = case_with (number_field 1 ∷ number_field 1 ∷ []) ((0, pair_line (pos 1) (pos 1) (negsuc 9)) ∷ (1, pair_line (negsuc 0) (negsuc 0) (pos 10)) ∷ []) (number 3 (lit< tt) ∷ number 4 (lit< tt) ∷ [])
 
 pair_total : total_work pair_case ≡ 5
@@ -75,7 +75,7 @@ pair_past = refl
 abbrev trade_line : ℤ → ℤ → ℤ → LineParts
 trade_line turnover costs profit = parts_of (Numerical ∷ Numerical ∷ Numerical ∷ []) [] (turnover ∷ costs ∷ profit ∷ []) (pos 0) false
 
-abbrev trade_case : Case
+abbrev trade_case : SearchCase
 trade_case = case_with (number_field 2 ∷ number_field 1 ∷ number_field 1 ∷ [])
     ((0, trade_line (pos 1) (pos 0) (pos 0))
     ∷ (1, trade_line (pos 0) (pos 1) (pos 0))
@@ -104,7 +104,7 @@ trade_past = refl
 abbrev household_line : List ℕ → LineParts
 household_line sets = parts_of (Categorical 2 ∷ Categorical 2 ∷ Categorical 2 ∷ []) sets [] (negsuc 0) false
 
-abbrev household_case : Case
+abbrev household_case : SearchCase
 household_case = case_with (code_field ∷ code_field ∷ code_field ∷ []) ((0, household_line (1 ∷ 2 ∷ 3 ∷ [])) ∷ (1, household_line (3 ∷ 1 ∷ 1 ∷ [])) ∷ []) (Code 0 ∷ Code 1 ∷ Code 0 ∷ [])
 
 household_total : total_work household_case ≡ 11
@@ -133,7 +133,7 @@ household_past = refl
 abbrev one_line : ℤ → ℤ → LineParts
 one_line a constant = parts_of (Numerical ∷ []) [] (a ∷ []) constant false
 
-abbrev contrary_case : Case
+abbrev contrary_case : SearchCase
 contrary_case = case_with (number_field 1 ∷ []) ((0, one_line (pos 1) (negsuc 4)) ∷ (1, one_line (negsuc 0) (pos 3)) ∷ []) (number 4 (lit< tt) ∷ [])
 
 contrary : outcome_of contrary_case 1000 ≡ outcome.Contradictory (record {
@@ -150,7 +150,7 @@ contrary = refl
 abbrev chain_line : List ℤ → LineParts
 chain_line factors = parts_of (Numerical ∷ Numerical ∷ Numerical ∷ Numerical ∷ Numerical ∷ Numerical ∷ []) [] factors (pos 0) false
 
-abbrev chain_case : Case
+abbrev chain_case : SearchCase
 chain_case = case_with (number_field 1 ∷ number_field 1 ∷ number_field 1 ∷ number_field 1 ∷ number_field 1 ∷ number_field 1 ∷ [])
     ((0, chain_line (pos 999999999 ∷ negsuc 999999999 ∷ pos 0 ∷ pos 0 ∷ pos 0 ∷ pos 0 ∷ []))
     ∷ (1, chain_line (pos 0 ∷ pos 999999999 ∷ negsuc 999999999 ∷ pos 0 ∷ pos 0 ∷ pos 0 ∷ []))

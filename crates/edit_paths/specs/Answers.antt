@@ -12,12 +12,12 @@ use Rattle.bound_cert.specs.declared.cert.Cert.{Cert}
 use Rattle.bound_cert.specs.declared.outcome.Event.{Event}
 use Rattle.bound_cert.specs.declared.outcome.Outcome.{Outcome}
 use Rattle.bound_cert.specs.declared.outcome.Outcome.TheVariants as outcome
-use Rattle.edit_paths.specs.Cases.{AreGiven, Case, Meets, TellCorrections}
+use Rattle.edit_paths.specs.Cases.{AreUsableAmong, SearchCase, Meets, TellCorrections}
 use Rattle.edit_paths.specs.Choices.{IsChoice}
 use Rattle.edit_paths.specs.Outcomes.{total_work}
 
 -- the path of a change is the choice among the points at which the edits hold, and the weight is the path's
-abbrev pub ChoosesFirst : Case → Outcome → Type 0
+abbrev pub ChoosesFirst : SearchCase → Outcome → Type 0
 ChoosesFirst c o = (path : List Bool) (weight : ℕ) (cert : Cert) → o ≡ outcome.Change path weight cert
     → IsChoice c path × (weight ≡ path_weight c.survey.fields path)
 
@@ -29,27 +29,27 @@ ChoosesLeast survey edits row o = (path : List Bool) (weight : ℕ) (cert : Cert
     → IsLeastWeight survey row weight × IsFirstLeast survey row path
 
 -- the certificate of a change is a valid tree with its weight, whatever the given lines are among which the edits stand
-abbrev pub Certifies : Case → Outcome → Type 0
+abbrev pub Certifies : SearchCase → Outcome → Type 0
 Certifies c o = (path : List Bool) (weight : ℕ) (cert : Cert) → o ≡ outcome.Change path weight cert
-    → (given : List LineParts) (usable : List Bool) → AreGiven given usable c.edits
+    → (given : List LineParts) (usable : List Bool) → AreUsableAmong given usable c.edits
     → IsValidTree (tree_case c.survey given usable c.row (Some weight)) cert.leaves
 
 -- at no point do the edits of a contradictory record hold
-abbrev pub NoneMeets : Case → Outcome → Type 0
+abbrev pub NoneMeets : SearchCase → Outcome → Type 0
 NoneMeets c o = (cert : Cert) → o ≡ outcome.Contradictory cert → (p : Point) → ¬ Meets c p
 
 -- the certificate of a contradiction is a valid tree without a weight, whatever the given lines are
-abbrev pub ShowsContradiction : Case → Outcome → Type 0
+abbrev pub ShowsContradiction : SearchCase → Outcome → Type 0
 ShowsContradiction c o = (cert : Cert) → o ≡ outcome.Contradictory cert
-    → (given : List LineParts) (usable : List Bool) → AreGiven given usable c.edits
+    → (given : List LineParts) (usable : List Bool) → AreUsableAmong given usable c.edits
     → IsValidTree (tree_case c.survey given usable c.row None) cert.leaves
 
 -- a budget of at least the total work is not passed
-abbrev pub IsBudgetEnough : Case → ℕ → Outcome → Type 0
+abbrev pub IsBudgetEnough : SearchCase → ℕ → Outcome → Type 0
 IsBudgetEnough c budget o = total_work c ≤ budget → (path : List Bool) (work : ℕ) → ¬ (o ≡ outcome.Budget path work)
 
 -- with such a budget, where the edits hold somewhere and no number leaves the range, the outcome is a change
-abbrev pub FindsChange : Case → ℕ → Outcome → Type 0
+abbrev pub FindsChange : SearchCase → ℕ → Outcome → Type 0
 FindsChange c budget o = (p : Point) → Meets c p → total_work c ≤ budget
     → ((path : List Bool) (event : Event) → ¬ (o ≡ outcome.Overflow path event))
     → (path : List Bool) × (weight : ℕ) × (cert : Cert) × (o ≡ outcome.Change path weight cert)

@@ -10,7 +10,7 @@ use Rattle.bound_cert.specs.Paths.{path_weight}
 use Rattle.bound_cert.specs.declared.outcome.Event.{Event}
 use Rattle.bound_cert.specs.declared.outcome.Event.TheVariants as event
 use Rattle.bound_cert.specs.declared.outcome.Outcome.TheVariants as outcome
-use Rattle.edit_paths.specs.Cases.{Case, IsCase, Meets, TellCorrections, case_of}
+use Rattle.edit_paths.specs.Cases.{SearchCase, IsCase, Meets, TellCorrections, case_of}
 use Rattle.edit_paths.specs.Choices.{IsChoice}
 use Rattle.edit_paths.specs.Events.{IsStepOverflow, IsTestOverflow}
 use Rattle.edit_paths.specs.Paths.{AgreesAlong, DiffersOnlyOn, field_count}
@@ -23,33 +23,33 @@ use Rattle.edit_paths.specs.Walks.{walk}
 
 -- where a path is closed, no point at which the edits hold has the record's values at all fields that it keeps
 abbrev pub ClosedPathLaw : Type 0
-ClosedPathLaw = (c : Case) (path : List Bool) → IsCase c → IsClosed c path → (p : Point) → Meets c p → ¬ AgreesAlong c path p
+ClosedPathLaw = (c : SearchCase) (path : List Bool) → IsCase c → IsClosed c path → (p : Point) → Meets c p → ¬ AgreesAlong c path p
 
 -- a path that says something of all fields, and for which no number leaves the range, is open exactly where
 -- some point at which the edits hold differs from the record only at the fields that it changes
 abbrev pub OpenPathLaw : Type 0
 OpenPathLaw =
-    (c : Case) (path : List Bool) → IsCase c → length path ≡ field_count c → StaysInRange c path
+    (c : SearchCase) (path : List Bool) → IsCase c → length path ≡ field_count c → StaysInRange c path
     → IsOpen c path ↔ ((p : Point) × Meets c p × DiffersOnlyOn c path p)
 
 -- the reached paths are just those, of at most as many fields as there are, of which all that they extend are open
 abbrev pub ReachedLaw : Type 0
-ReachedLaw = (c : Case) (path : List Bool) → IsIn path (reached_paths c) ↔ ((length path ≤ field_count c) × IsReached c path)
+ReachedLaw = (c : SearchCase) (path : List Bool) → IsIn path (reached_paths c) ↔ ((length path ≤ field_count c) × IsReached c path)
 
 -- a best-first walk from the empty path on takes the reached paths in their order
 abbrev pub WalkLaw : Type 0
-WalkLaw = (c : Case) → walk c (length (reached_paths c)) ([] ∷ []) ≡ reached_paths c
+WalkLaw = (c : SearchCase) → walk c (length (reached_paths c)) ([] ∷ []) ≡ reached_paths c
 
 -- a reached path that overflows in a step of elimination does so at its last field, in the system of the path before
 abbrev pub StepOverflowLaw : Type 0
 StepOverflowLaw =
-    (c : Case) (path : List Bool) (first second : ℕ) (place : Place) → length path ≤ field_count c → IsReached c path
+    (c : SearchCase) (path : List Bool) (first second : ℕ) (place : Place) → length path ≤ field_count c → IsReached c path
     → state_of c path ≡ Overflows (event.Step first second place) → IsStepOverflow c path first second place
 
 -- a path that overflows in a test does so at this line of its system, at this field
 abbrev pub TestOverflowLaw : Type 0
 TestOverflowLaw =
-    (c : Case) (path : List Bool) (line field : ℕ) → state_of c path ≡ Overflows (event.Test line field) → IsTestOverflow c path line field
+    (c : SearchCase) (path : List Bool) (line field : ℕ) → state_of c path ≡ Overflows (event.Test line field) → IsTestOverflow c path line field
 
 -- ---- outcomes
 

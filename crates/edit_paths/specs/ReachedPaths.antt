@@ -3,7 +3,7 @@ use Rattle.std.specs.List.{fold}
 use Rattle.edit_model.specs.Corrections.{is_first}
 use Rattle.edit_model.specs.declared.field.Field.{Field}
 use Rattle.bound_cert.specs.Paths.{path_weight}
-use Rattle.edit_paths.specs.Cases.{Case}
+use Rattle.edit_paths.specs.Cases.{SearchCase}
 use Rattle.edit_paths.specs.PathStates.{is_open}
 use Rattle.edit_paths.specs.Paths.{field_count}
 use Rattle.edit_paths.specs.States.{IsOpen, state_of}
@@ -15,7 +15,7 @@ is_before fields a b =
     nat_lt (path_weight fields a) (path_weight fields b) || ((path_weight fields a == path_weight fields b) && is_first a b)
 
 -- the path is reached: all paths that it extends are open
-abbrev pub IsReached : Case → List Bool → Type 0
+abbrev pub IsReached : SearchCase → List Bool → Type 0
 IsReached c path = (k : ℕ) → k < length path → IsOpen c (take k path)
 
 -- the path with its next field kept
@@ -28,7 +28,7 @@ changed_next path = path ++ true ∷ []
 
 -- the reached paths from this one on, letter by letter, where this many fields are left: an open path leads on to both
 -- paths with one field more
-abbrev pub reached_from : Case → ℕ → List Bool → List (List Bool)
+abbrev pub reached_from : SearchCase → ℕ → List Bool → List (List Bool)
 reached_from c zero path = path ∷ []
 reached_from c (suc left) path =
     path ∷ (if is_open (state_of c path) then reached_from c left (kept_next path) ++ reached_from c left (changed_next path) else [])
@@ -43,5 +43,5 @@ abbrev pub in_order : {X : Type 0} → (X → X → Bool) → List X → List X
 in_order before xs = fold (placed before) [] xs
 
 -- the reached paths in the order of paths
-abbrev pub reached_paths : Case → List (List Bool)
+abbrev pub reached_paths : SearchCase → List (List Bool)
 reached_paths c = in_order (is_before c.survey.fields) (reached_from c (field_count c) [])

@@ -1,6 +1,6 @@
 ghost use Rattle.std.specs.Prelude.{ℕ};
 ghost use Rattle.edit_paths.specs.Answers.{Certifies, ChoosesFirst, FindsChange, IsBudgetEnough, NoneMeets, ShowsContradiction};
-ghost use Rattle.edit_paths.specs.Cases.{Case, IsCase};
+ghost use Rattle.edit_paths.specs.Cases.{SearchCase, IsCase};
 ghost use Rattle.edit_paths.specs.Laws.{ClosedPathLaw, LeastLaw, OpenPathLaw, ReachedLaw, StepOverflowLaw, TestOverflowLaw, WalkLaw};
 ghost use Rattle.edit_paths.specs.Outcomes.{outcome_of};
 
@@ -19,11 +19,11 @@ pub fn path_laws()
 /// (Fellegi and Holt 1976), and a contradiction has none; when the budget is enough; and that the
 /// certificates are valid. Nothing is computed.
 pub fn outcome_laws()
-    ensures change { (c : Case) (budget : ℕ) → IsCase c → ChoosesFirst c (outcome_of c budget) }
+    ensures change { (c : SearchCase) (budget : ℕ) → IsCase c → ChoosesFirst c (outcome_of c budget) }
     ensures least { LeastLaw }
-    ensures contradiction { (c : Case) (budget : ℕ) → IsCase c → NoneMeets c (outcome_of c budget) }
-    ensures budget { (c : Case) (budget : ℕ) → IsBudgetEnough c budget (outcome_of c budget) }
-    ensures found { (c : Case) (budget : ℕ) → IsCase c → FindsChange c budget (outcome_of c budget) }
-    ensures change_tree { (c : Case) (budget : ℕ) → IsCase c → Certifies c (outcome_of c budget) }
-    ensures contradiction_tree { (c : Case) (budget : ℕ) → IsCase c → ShowsContradiction c (outcome_of c budget) }
+    ensures contradiction { (c : SearchCase) (budget : ℕ) → IsCase c → NoneMeets c (outcome_of c budget) }
+    ensures budget { (c : SearchCase) (budget : ℕ) → IsBudgetEnough c budget (outcome_of c budget) }
+    ensures found { (c : SearchCase) (budget : ℕ) → IsCase c → FindsChange c budget (outcome_of c budget) }
+    ensures change_tree { (c : SearchCase) (budget : ℕ) → IsCase c → Certifies c (outcome_of c budget) }
+    ensures contradiction_tree { (c : SearchCase) (budget : ℕ) → IsCase c → ShowsContradiction c (outcome_of c budget) }
 {}

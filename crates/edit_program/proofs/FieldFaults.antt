@@ -38,9 +38,9 @@ row_step true same i bound rest fault f e = let same : sheet.TooManyRows ≡ fau
 row_step false true i bound rest fault f e = f e
 row_step false false i bound rest fault f e = let same : sheet.RowLength i ≡ fault = cc in subst (IsBelow bound) same tt
 
-row_below : (i width bound : ℕ) (raws : List (List (List ℕ))) (fault : SheetFault) → row_fault i width raws ≡ Some fault → IsBelow bound fault
+row_below : (i width bound : ℕ) (row_texts : List (List (List ℕ))) (fault : SheetFault) → row_fault i width row_texts ≡ Some fault → IsBelow bound fault
 row_below i width bound [] fault e = cc
-row_below i width bound (raw ∷ raws) fault e = row_step (i == 200000) (length raw == width) i bound (row_fault (suc i) width raws) fault (row_below (suc i) width bound raws fault) e
+row_below i width bound (raw ∷ row_texts) fault e = row_step (i == 200000) (length raw == width) i bound (row_fault (suc i) width row_texts) fault (row_below (suc i) width bound row_texts fault) e
 
 wide_step : (wide : Bool) (bound : ℕ) (rest : Option SheetFault) (fault : SheetFault) → (rest ≡ Some fault → IsBelow bound fault) → (if wide then Some sheet.TooManyColumns else rest) ≡ Some fault → IsBelow bound fault
 wide_step true bound rest fault f e = let same : sheet.TooManyColumns ≡ fault = cc in subst (IsBelow bound) same tt
@@ -48,10 +48,10 @@ wide_step false bound rest fault f e = f e
 
 sheet_below : (fields : List Field) (records : List (List (List ℕ))) (fault : SheetFault) → sheet_fault fields records ≡ Some fault → IsBelow (length fields) fault
 sheet_below fields [] fault e = let same : sheet.NoHeader ≡ fault = cc in subst (IsBelow (length fields)) same tt
-sheet_below fields (first ∷ raws) fault e =
-    wide_step (nat_lt 256 (length first)) (length fields) (option_or (column_fault 0 fields (header_of first)) (row_fault 0 (length first) raws)) fault
-    (either (column_fault 0 fields (header_of first)) (row_fault 0 (length first) raws) fault (IsBelow (length fields) fault)
-    (column_below 0 (length fields) fields (header_of first) fault (omega arith)) (row_below 0 (length first) (length fields) raws fault)) e
+sheet_below fields (first ∷ row_texts) fault e =
+    wide_step (nat_lt 256 (length first)) (length fields) (option_or (column_fault 0 fields (header_of first)) (row_fault 0 (length first) row_texts)) fault
+    (either (column_fault 0 fields (header_of first)) (row_fault 0 (length first) row_texts) fault (IsBelow (length fields) fault)
+    (column_below 0 (length fields) fields (header_of first) fault (omega arith)) (row_below 0 (length first) (length fields) row_texts fault)) e
 
 of_fields : (fields : List Field) (fault : SheetFault) → IsBelow (length fields) fault → IsOfFields fields fault
 of_fields fields sheet.NoHeader h = tt

@@ -11,7 +11,7 @@ use Rattle.edit_line.proofs.ReductionLaws.{all-reduced}
 use Rattle.edit_normal.specs.RuleLines.{normal_lines_of}
 use Rattle.edit_normal.proofs.NormalLines.{normal-lines, normal-over}
 use Rattle.linear_elim.proofs.ResultLaws.{base-plain}
-use Rattle.edit_paths.specs.Cases.{AreGiven, IsCase, case_of}
+use Rattle.edit_paths.specs.Cases.{AreUsableAmong, IsCase, case_of}
 use Rattle.pruned_rules.specs.Pruned.{kept_edits, rule_flags}
 use Rattle.pruned_rules.proofs.KeptLaws.{taken-all, taken-edits, taken-given}
 
@@ -35,5 +35,5 @@ rule-case survey row formed is = record {
     edits = (kept_edits survey).lines
 
 -- they stand among the normal lines, and may be used
-pub rules-given : (survey : SurveyParts) → AreGiven (normal_lines_of survey) (rule_flags survey) (kept_edits survey).lines
+pub rules-given : (survey : SurveyParts) → AreUsableAmong (normal_lines_of survey) (rule_flags survey) (kept_edits survey).lines
 rules-given survey = taken-given (normal_lines_of survey) (rule_flags survey)

@@ -24,7 +24,7 @@ use Rattle.linear_elim.proofs.ShapeLaws.{derived-shape}
 use Rattle.bound_cert.specs.declared.outcome.Event.{Event}
 use Rattle.bound_cert.specs.declared.outcome.Event.TheVariants as event
 use Rattle.bound_cert.specs.declared.outcome.Outcome.TheVariants as outcome
-use Rattle.edit_paths.specs.Cases.{Case, IsCase}
+use Rattle.edit_paths.specs.Cases.{SearchCase, IsCase}
 use Rattle.edit_paths.specs.Events.{IsStepOverflow, IsTestOverflow}
 use Rattle.edit_paths.specs.Outcomes.{outcome_of}
 use Rattle.edit_paths.specs.ReachedPaths.{reached_paths}
@@ -62,7 +62,7 @@ place-there fields [] i below = refl
 place-there fields (f ∷ numbers) zero below = below f (inl refl)
 place-there fields (f ∷ numbers) (suc i) below = place-there fields numbers i (λ g there. below g (inr there))
 
-module _ (c : Case) (is : IsCase c) where
+module _ (c : SearchCase) (is : IsCase c) where
   -- a line of a system is over the fields
   line-over : (fields : List ℕ) (lines : List Derived) → system_of c.edits fields ≡ Ok lines → (place : ℕ) (d : Derived) → slice_get lines place ≡ Some d → d.line.shape ≡ shape_of c.survey.fields
   line-over fields lines made place d at = in-all (λ (x : Derived). x.line.shape ≡ shape_of c.survey.fields) d lines (derived-shape _ lines (system-over c is fields lines made)) (in-get d lines place at)

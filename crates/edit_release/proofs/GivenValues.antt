@@ -26,7 +26,7 @@ use Rattle.edit_model.proofs.NameLemmas.{false_unless}
 use Rattle.edit_model.proofs.OrderLaws.{order-below, order-length}
 use Rattle.edit_line.specs.Shapes.{code_fields, domain_of, number_fields, place_in, shape_of}
 use Rattle.bound_cert.specs.Paths.{changes}
-use Rattle.edit_paths.specs.Cases.{Case}
+use Rattle.edit_paths.specs.Cases.{SearchCase}
 use Rattle.edit_paths.proofs.LetterLaws.{code-field, number-field}
 use Rattle.back_subst.proofs.StartLaws.{field-either}
 use Rattle.edit_report.specs.Released.{value_text}
@@ -93,7 +93,7 @@ values-from told text i (field ∷ fields) (v ∷ row) (w ∷ new) is_row is_new
 pub field-ordered : (fields : List Field) (f : ℕ) → f < length fields → has_field (path_order fields) f ≡ true
 field-ordered fields f below = by (has_field (code_fields (shape_of fields)) f) refl some
   where
-    alone : Case
+    alone : SearchCase
     alone = record { survey = survey_of fields []; edits = []; row = [] }
 
     some : (has_field (code_fields (shape_of fields)) f || has_field (number_fields (shape_of fields)) f) ≡ true

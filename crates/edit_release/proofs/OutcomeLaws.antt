@@ -7,7 +7,7 @@ use Rattle.bound_cert.specs.Paths.{path_weight}
 use Rattle.bound_cert.specs.declared.cert.Cert.{Cert}
 use Rattle.bound_cert.specs.declared.outcome.Outcome.TheVariants as outcome
 use Rattle.proof_grammar.specs.Limits.{clean_leaves}
-use Rattle.edit_paths.specs.Cases.{Case}
+use Rattle.edit_paths.specs.Cases.{SearchCase}
 use Rattle.edit_paths.specs.Certificates.{certificate_of, leaves_from}
 use Rattle.edit_paths.specs.Outcomes.{end_by, outcome_from, outcome_of}
 use Rattle.edit_paths.specs.Paths.{field_count, is_complete}
@@ -22,7 +22,7 @@ use Rattle.cert_check.specs.RowChecks.{fits_change}
 
 -- What the outcome of a record says is right.
 
-module _ (c : Case) (budget : ℕ) where
+module _ (c : SearchCase) (budget : ℕ) where
   -- ---- a change
 
   module _ (path : List Bool) (weight : ℕ) (cert : Cert) (e : outcome_of c budget ≡ outcome.Change path weight cert) where

@@ -17,7 +17,7 @@ use Rattle.bound_cert.specs.declared.outcome.Outcome.TheVariants.{Budget, Change
 use Rattle.back_subst.specs.declared.gift.Gift.{Gift}
 use Rattle.record_text.specs.Sheets.{IsSheet, SheetParts}
 use Rattle.record_text.specs.Values.{AreValues}
-use Rattle.record_text.proofs.SheetLaws.{columns_in_header, distinct_columns, one_column_a_field, raws_as_long_as_header, rows_are_records}
+use Rattle.record_text.proofs.SheetLaws.{columns_in_header, distinct_columns, one_column_a_field, row_texts_as_long_as_header, rows_are_records}
 use Rattle.record_text.proofs.ValueLaws.{values_are_row}
 use Rattle.proof_grammar.specs.Limits.{IsPlain}
 use Rattle.proof_grammar.specs.ProofLines.{proof_text}
@@ -146,10 +146,10 @@ module _ (survey : SurveyParts) (sheet : SheetParts) (bytes : List ℕ) (terms :
       head = head-fits survey sheet audit.released audit.proof terms ends history fit (AllZip-long (IsEndOf survey (kept_edits survey) terms.budget sheet.rows) sheet.rows ends each);
       dropped = none-faulty survey formed terms ends history;
     };
-    rows = released_rows survey.fields sheet.columns sheet.raws ends;
+    rows = released_rows survey.fields sheet.columns sheet.row_texts ends;
     released = are-released survey bytes sheet terms ends history audit.proof read each (ends-said survey (kept_edits survey) terms.budget sheet.rows sheet.rows ends each);
-    each = rows-valid r survey.fields sheet.columns sheet.raws sheet.rows ends
-        (each-follows (IsValidEnd r survey.fields sheet.columns) survey (kept_edits survey) sheet.columns (length sheet.header) terms.budget sheet.rows sheet.raws sheet.rows ends read.values (raws_as_long_as_header survey.fields bytes sheet read) each say row-valid);
+    each = rows-valid r survey.fields sheet.columns sheet.row_texts sheet.rows ends
+        (each-follows (IsValidEnd r survey.fields sheet.columns) survey (kept_edits survey) sheet.columns (length sheet.header) terms.budget sheet.rows sheet.row_texts sheet.rows ends read.values (row_texts_as_long_as_header survey.fields bytes sheet read) each say row-valid);
     claims = claims-valid survey terms sheet.rows ends history donations;
   }
 

@@ -23,7 +23,7 @@ use Rattle.edit_paths.proofs.ChoiceLaws.{word-at}
 use Rattle.back_subst.specs.declared.gift.Gift.{Gift}
 use Rattle.back_subst.proofs.FieldPoints.{agrees-held}
 use Rattle.record_text.specs.Sheets.{IsSheet, SheetParts}
-use Rattle.record_text.proofs.SheetLaws.{as_many_raws_as_rows, header_has_text, raws_as_long_as_header}
+use Rattle.record_text.proofs.SheetLaws.{as_many_row_texts_as_rows, header_has_text, row_texts_as_long_as_header}
 use Rattle.edit_report.specs.Ends.{path_found}
 use Rattle.edit_report.specs.Released.{released_rows, released_text_of, released_texts, row_with, text_by, value_text, texts_from}
 use Rattle.edit_report.specs.declared.end.RowEnd.{RowEnd}
@@ -101,14 +101,14 @@ pub texts-length : (fields : List Field) (columns : List ℕ) (changed : ℕ →
 texts-length fields columns changed new j [] = refl
 texts-length fields columns changed new j (text ∷ texts) = ap suc (texts-length fields columns changed new (suc j) texts)
 
-rows-long : (fields : List Field) (columns : List ℕ) (width : ℕ) (raws : List (List (List ℕ))) (ends : List RowEnd) → AllByRecursion (λ (texts : List (List ℕ)). length texts ≡ width) raws
-    → AllByRecursion (λ (texts : List (List ℕ)). length texts ≡ width) (released_rows fields columns raws ends)
+rows-long : (fields : List Field) (columns : List ℕ) (width : ℕ) (row_texts : List (List (List ℕ))) (ends : List RowEnd) → AllByRecursion (λ (texts : List (List ℕ)). length texts ≡ width) row_texts
+    → AllByRecursion (λ (texts : List (List ℕ)). length texts ≡ width) (released_rows fields columns row_texts ends)
 rows-long fields columns width [] ends long = tt
-rows-long fields columns width (texts ∷ raws) [] long = tt
-rows-long fields columns width (texts ∷ raws) (end ∷ ends) long = first (path_found end.proof.outcome) end.gift (rows-long fields columns width raws ends long.1)
+rows-long fields columns width (texts ∷ row_texts) [] long = tt
+rows-long fields columns width (texts ∷ row_texts) (end ∷ ends) long = first (path_found end.proof.outcome) end.gift (rows-long fields columns width row_texts ends long.1)
   where
-    first : (path : List Bool) (gift : Option Gift) → AllByRecursion (λ (ts : List (List ℕ)). length ts ≡ width) (released_rows fields columns raws ends)
-        → AllByRecursion (λ (ts : List (List ℕ)). length ts ≡ width) (row_with fields columns texts path gift ++ released_rows fields columns raws ends)
+    first : (path : List Bool) (gift : Option Gift) → AllByRecursion (λ (ts : List (List ℕ)). length ts ≡ width) (released_rows fields columns row_texts ends)
+        → AllByRecursion (λ (ts : List (List ℕ)). length ts ≡ width) (row_with fields columns texts path gift ++ released_rows fields columns row_texts ends)
     first path None rest = rest
     first path (Some gift) rest = (texts-length fields columns _ gift.row 0 texts ∙ long.0, rest)
 
@@ -118,17 +118,17 @@ rows-long fields columns width (texts ∷ raws) (end ∷ ends) long = first (pat
 pub are-released : (survey : SurveyParts) (bytes : List ℕ) (sheet : SheetParts) (terms : Terms) (ends : List RowEnd) (history : List Entry) (proof : List ℕ) → IsSheet survey.fields bytes sheet
     → AllZip (IsEndOf survey (kept_edits survey) terms.budget sheet.rows) sheet.rows ends
     → AllByRecursion IsSaidReleased ends
-    → AreReleased (audit_of survey sheet (released_text_of survey sheet ends) proof) (proof_of survey terms ends history) (released_rows survey.fields sheet.columns sheet.raws ends)
+    → AreReleased (audit_of survey sheet (released_text_of survey sheet ends) proof) (proof_of survey terms ends history) (released_rows survey.fields sheet.columns sheet.row_texts ends)
 are-released survey bytes sheet terms ends history proof is each told = record {
   first = sheet.header;
-  given = written-read sheet.header (released_rows survey.fields sheet.columns sheet.raws ends) (header_has_text survey.fields bytes sheet is) (sheet_header_kept survey.fields bytes sheet is) long;
+  given = written-read sheet.header (released_rows survey.fields sheet.columns sheet.row_texts ends) (header_has_text survey.fields bytes sheet is) (sheet_header_kept survey.fields bytes sheet is) long;
   header = sheet_header_kept survey.fields bytes sheet is;
   long = long;
-  one_each = released-count survey.fields sheet.columns sheet.raws ends (as_many_raws_as_rows survey.fields bytes sheet is ∙ sym (AllZip-long (IsEndOf survey (kept_edits survey) terms.budget sheet.rows) sheet.rows ends each)) ∙ said-count ends told;
+  one_each = released-count survey.fields sheet.columns sheet.row_texts ends (as_many_row_texts_as_rows survey.fields bytes sheet is ∙ sym (AllZip-long (IsEndOf survey (kept_edits survey) terms.budget sheet.rows) sheet.rows ends each)) ∙ said-count ends told;
 }
   where
-    long : AllByRecursion (λ (texts : List (List ℕ)). length texts ≡ length sheet.header) (released_rows survey.fields sheet.columns sheet.raws ends)
-    long = rows-long survey.fields sheet.columns (length sheet.header) sheet.raws ends (raws_as_long_as_header survey.fields bytes sheet is)
+    long : AllByRecursion (λ (texts : List (List ℕ)). length texts ≡ length sheet.header) (released_rows survey.fields sheet.columns sheet.row_texts ends)
+    long = rows-long survey.fields sheet.columns (length sheet.header) sheet.row_texts ends (row_texts_as_long_as_header survey.fields bytes sheet is)
 
 -- ---- a released row
 

@@ -57,7 +57,7 @@ module _ (fields : List Field) (columns : List ℕ) (reads : List (List ℕ)) (r
 -- the fact holds of the texts, the values and the end of each record
 abbrev pub AreEach : (List (List ℕ) → List Value → RowEnd → Type 0) → List (List (List ℕ)) → List (List Value) → List RowEnd → Type 0
 AreEach P [] [] [] = Unit {0}
-AreEach P (reads ∷ raws) (row ∷ rows) (end ∷ ends) = P reads row end × AreEach P raws rows ends
+AreEach P (reads ∷ row_texts) (row ∷ rows) (end ∷ ends) = P reads row end × AreEach P row_texts rows ends
 AreEach P _ _ _ = ⊥
 
 -- it is told rightly whether a record is released, and what the proof says of it, with its own texts, is valid
@@ -65,30 +65,30 @@ abbrev pub IsValidEnd : RowRules → List Field → List ℕ → List (List ℕ)
 IsValidEnd r fields columns reads row end = IsSaidReleased end × IsValidRow r (own_files fields columns reads row end) (said end)
 
 -- where this holds of each record, what the proof says of all is valid
-pub rows-valid : (r : RowRules) (fields : List Field) (columns : List ℕ) (raws : List (List (List ℕ))) (rows : List (List Value)) (ends : List RowEnd) → AreEach (IsValidEnd r fields columns) raws rows ends
-    → AreValidRows r (map said ends) raws rows (released_rows fields columns raws ends)
+pub rows-valid : (r : RowRules) (fields : List Field) (columns : List ℕ) (row_texts : List (List (List ℕ))) (rows : List (List Value)) (ends : List RowEnd) → AreEach (IsValidEnd r fields columns) row_texts rows ends
+    → AreValidRows r (map said ends) row_texts rows (released_rows fields columns row_texts ends)
 rows-valid r fields columns [] [] [] each = tt
 rows-valid r fields columns [] [] (end ∷ ends) each = absurd each
 rows-valid r fields columns [] (row ∷ rows) ends each = absurd each
-rows-valid r fields columns (reads ∷ raws) [] ends each = absurd each
-rows-valid r fields columns (reads ∷ raws) (row ∷ rows) [] each = absurd each
-rows-valid r fields columns (reads ∷ raws) (row ∷ rows) (end ∷ ends) ((told, valid), later) = (
-  subst (λ (files : RowFiles). IsValidRow r files (said end)) (sym (files-own fields columns reads row end (released_rows fields columns raws ends) told)) valid,
-  subst (λ (released : List (List (List ℕ))). AreValidRows r (map said ends) raws rows released) (sym (behind-own fields columns reads row end (released_rows fields columns raws ends) told)) (rows-valid r fields columns raws rows ends later),
+rows-valid r fields columns (reads ∷ row_texts) [] ends each = absurd each
+rows-valid r fields columns (reads ∷ row_texts) (row ∷ rows) [] each = absurd each
+rows-valid r fields columns (reads ∷ row_texts) (row ∷ rows) (end ∷ ends) ((told, valid), later) = (
+  subst (λ (files : RowFiles). IsValidRow r files (said end)) (sym (files-own fields columns reads row end (released_rows fields columns row_texts ends) told)) valid,
+  subst (λ (released : List (List (List ℕ))). AreValidRows r (map said ends) row_texts rows released) (sym (behind-own fields columns reads row end (released_rows fields columns row_texts ends) told)) (rows-valid r fields columns row_texts rows ends later),
 )
 
 -- what follows of the texts of a row as long as the header, of its values and of its end holds of each record
-pub each-follows : (P : List (List ℕ) → List Value → RowEnd → Type 0) (survey : SurveyParts) (edits : EditsParts) (columns : List ℕ) (width budget : ℕ) (all : List (List Value)) (raws : List (List (List ℕ))) (rows : List (List Value)) (ends : List RowEnd)
-    → AreRows survey.fields columns raws rows → AllByRecursion (λ (reads : List (List ℕ)). length reads ≡ width) raws → AllZip (IsEndOf survey edits budget all) rows ends → AllZip (Says survey edits budget) rows ends
+pub each-follows : (P : List (List ℕ) → List Value → RowEnd → Type 0) (survey : SurveyParts) (edits : EditsParts) (columns : List ℕ) (width budget : ℕ) (all : List (List Value)) (row_texts : List (List (List ℕ))) (rows : List (List Value)) (ends : List RowEnd)
+    → AreRows survey.fields columns row_texts rows → AllByRecursion (λ (reads : List (List ℕ)). length reads ≡ width) row_texts → AllZip (IsEndOf survey edits budget all) rows ends → AllZip (Says survey edits budget) rows ends
     → ((reads : List (List ℕ)) (row : List Value) (end : RowEnd) → AreValues survey.fields columns reads row → length reads ≡ width → IsEndOf survey edits budget all row end → Says survey edits budget row end → P reads row end)
-    → AreEach P raws rows ends
+    → AreEach P row_texts rows ends
 each-follows P survey edits columns width budget all [] [] [] values long each say follows = tt
 each-follows P survey edits columns width budget all [] [] (end ∷ ends) values long each say follows = absurd each
 each-follows P survey edits columns width budget all [] (row ∷ rows) ends values long each say follows = absurd values
-each-follows P survey edits columns width budget all (reads ∷ raws) [] ends values long each say follows = absurd values
-each-follows P survey edits columns width budget all (reads ∷ raws) (row ∷ rows) [] values long each say follows = absurd each
-each-follows P survey edits columns width budget all (reads ∷ raws) (row ∷ rows) (end ∷ ends) values long each say follows =
-    (follows reads row end values.0 long.0 each.0 say.0, each-follows P survey edits columns width budget all raws rows ends values.1 long.1 each.1 say.1 follows)
+each-follows P survey edits columns width budget all (reads ∷ row_texts) [] ends values long each say follows = absurd values
+each-follows P survey edits columns width budget all (reads ∷ row_texts) (row ∷ rows) [] values long each say follows = absurd each
+each-follows P survey edits columns width budget all (reads ∷ row_texts) (row ∷ rows) (end ∷ ends) values long each say follows =
+    (follows reads row end values.0 long.0 each.0 say.0, each-follows P survey edits columns width budget all row_texts rows ends values.1 long.1 each.1 say.1 follows)
 
 -- ---- a record that was given values
 

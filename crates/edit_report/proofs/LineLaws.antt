@@ -26,18 +26,18 @@ row-count fields columns texts path (Some gift) = refl
 pub released-count : ReleasedCountLaw
 released-count fields columns [] [] same = refl
 released-count fields columns [] (end ∷ ends) same = absurd (omega (arith, same))
-released-count fields columns (texts ∷ raws) [] same = absurd (omega (arith, same))
-released-count fields columns (texts ∷ raws) (end ∷ ends) same = joined (released-count fields columns raws ends (omega (arith, same)))
+released-count fields columns (texts ∷ row_texts) [] same = absurd (omega (arith, same))
+released-count fields columns (texts ∷ row_texts) (end ∷ ends) same = joined (released-count fields columns row_texts ends (omega (arith, same)))
   where
     more : (b : Bool) (n : ℕ) → n ≡ length (filter (λ (e : RowEnd). is_some e.gift) ends) → (if b then 1 else 0) + n ≡ length (if b then end ∷ filter (λ (e : RowEnd). is_some e.gift) ends else filter (λ (e : RowEnd). is_some e.gift) ends)
     more true n is = omega (arith, is)
     more false n is = omega (arith, is)
 
-    joined : length (released_rows fields columns raws ends) ≡ length (filter (λ (e : RowEnd). is_some e.gift) ends)
-        → length (released_rows fields columns (texts ∷ raws) (end ∷ ends)) ≡ length (filter (λ (e : RowEnd). is_some e.gift) (end ∷ ends))
+    joined : length (released_rows fields columns row_texts ends) ≡ length (filter (λ (e : RowEnd). is_some e.gift) ends)
+        → length (released_rows fields columns (texts ∷ row_texts) (end ∷ ends)) ≡ length (filter (λ (e : RowEnd). is_some e.gift) (end ∷ ends))
     joined rest =
-        length-append (row_of fields columns texts end) (released_rows fields columns raws ends) ∙ ap (λ n. n + length (released_rows fields columns raws ends)) (row-count fields columns texts (path_found end.proof.outcome) end.gift)
-        ∙ more (is_some end.gift) (length (released_rows fields columns raws ends)) rest
+        length-append (row_of fields columns texts end) (released_rows fields columns row_texts ends) ∙ ap (λ n. n + length (released_rows fields columns row_texts ends)) (row-count fields columns texts (path_found end.proof.outcome) end.gift)
+        ∙ more (is_some end.gift) (length (released_rows fields columns row_texts ends)) rest
 
 -- ---- lines
 

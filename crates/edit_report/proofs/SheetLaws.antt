@@ -18,7 +18,7 @@ sheet-layout fields bytes sheet layout is width columns = record {
 }
 
 -- the rows of a sheet are as long as its header
-pub raw-long : (fields : List Field) (bytes : List ℕ) (sheet : SheetParts) (i : ℕ) → IsSheet fields bytes sheet → i < length sheet.raws → length (get_or sheet.raws i []) ≡ length sheet.header
+pub raw-long : (fields : List Field) (bytes : List ℕ) (sheet : SheetParts) (i : ℕ) → IsSheet fields bytes sheet → i < length sheet.row_texts → length (get_or sheet.row_texts i []) ≡ length sheet.header
 raw-long fields bytes sheet i is below =
-    let long = subst (λ (n : ℕ). AllByRecursion (λ (raw : List (List ℕ)). length raw ≡ n) sheet.raws) (sym (ap length is.header ∙ header_length is.first)) (rows_equally_long 0 (length is.first) sheet.raws (faultless_parts fields is.first sheet.raws is.faultless).2) in
-    each-at (λ (raw : List (List ℕ)). length raw ≡ length sheet.header) sheet.raws i (get_or sheet.raws i []) long below (get_or_default sheet.raws i [] _ below)
+    let long = subst (λ (n : ℕ). AllByRecursion (λ (raw : List (List ℕ)). length raw ≡ n) sheet.row_texts) (sym (ap length is.header ∙ header_length is.first)) (rows_equally_long 0 (length is.first) sheet.row_texts (faultless_parts fields is.first sheet.row_texts is.faultless).2) in
+    each-at (λ (raw : List (List ℕ)). length raw ≡ length sheet.header) sheet.row_texts i (get_or sheet.row_texts i []) long below (get_or_default sheet.row_texts i [] _ below)

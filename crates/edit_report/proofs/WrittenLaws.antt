@@ -36,49 +36,49 @@ none-left text whole rest none before = sym (append-nil text) ∙ ap (λ (rows :
 module _ (fields : List Field) (columns : List ℕ) where
   -- ---- the released rows
 
-  rows-end : (raws : List (List (List ℕ))) → released_rows fields columns raws [] ≡ []
+  rows-end : (row_texts : List (List (List ℕ))) → released_rows fields columns row_texts [] ≡ []
   rows-end [] = refl
-  rows-end (texts ∷ raws) = refl
+  rows-end (texts ∷ row_texts) = refl
 
   -- one record more
-  pub released-more : (raws : List (List (List ℕ))) (ends : List RowEnd) (i : ℕ) (end : RowEnd) (text whole : List ℕ) → i < length raws → i < length ends → end ≡ get_or ends i end
-      → text ++ records_text (released_rows fields columns (drop i raws) (drop i ends)) ≡ whole
-      → (text ++ records_text (row_of fields columns (get_or raws i []) end)) ++ records_text (released_rows fields columns (drop (i + 1) raws) (drop (i + 1) ends)) ≡ whole
-  released-more raws ends i end text whole within below is before =
-      then-rest text (row_of fields columns (get_or raws i []) end) (released_rows fields columns (drop (i + 1) raws) (drop (i + 1) ends))
-      ∙ ap (λ (e : RowEnd). text ++ records_text (row_of fields columns (get_or raws i []) e ++ released_rows fields columns (drop (i + 1) raws) (drop (i + 1) ends))) is
-      ∙ ap (λ (rows : List (List (List ℕ))). text ++ records_text rows) (sym (at_both (released_rows fields columns) raws ends i [] end within below))
+  pub released-more : (row_texts : List (List (List ℕ))) (ends : List RowEnd) (i : ℕ) (end : RowEnd) (text whole : List ℕ) → i < length row_texts → i < length ends → end ≡ get_or ends i end
+      → text ++ records_text (released_rows fields columns (drop i row_texts) (drop i ends)) ≡ whole
+      → (text ++ records_text (row_of fields columns (get_or row_texts i []) end)) ++ records_text (released_rows fields columns (drop (i + 1) row_texts) (drop (i + 1) ends)) ≡ whole
+  released-more row_texts ends i end text whole within below is before =
+      then-rest text (row_of fields columns (get_or row_texts i []) end) (released_rows fields columns (drop (i + 1) row_texts) (drop (i + 1) ends))
+      ∙ ap (λ (e : RowEnd). text ++ records_text (row_of fields columns (get_or row_texts i []) e ++ released_rows fields columns (drop (i + 1) row_texts) (drop (i + 1) ends))) is
+      ∙ ap (λ (rows : List (List (List ℕ))). text ++ records_text rows) (sym (at_both (released_rows fields columns) row_texts ends i [] end within below))
       ∙ before
 
   -- and all of them
-  pub released-all : (raws : List (List (List ℕ))) (ends : List RowEnd) (i : ℕ) (text whole : List ℕ) → length ends ≤ i → text ++ records_text (released_rows fields columns (drop i raws) (drop i ends)) ≡ whole → text ≡ whole
-  released-all raws ends i text whole past before = none-left text whole _ (ap (λ (es : List RowEnd). released_rows fields columns (drop i raws) es) (drop_all i ends past) ∙ rows-end (drop i raws)) before
+  pub released-all : (row_texts : List (List (List ℕ))) (ends : List RowEnd) (i : ℕ) (text whole : List ℕ) → length ends ≤ i → text ++ records_text (released_rows fields columns (drop i row_texts) (drop i ends)) ≡ whole → text ≡ whole
+  released-all row_texts ends i text whole past before = none-left text whole _ (ap (λ (es : List RowEnd). released_rows fields columns (drop i row_texts) es) (drop_all i ends past) ∙ rows-end (drop i row_texts)) before
 
   -- ---- the reasons
 
-  reasons-end : (n : ℕ) (raws : List (List (List ℕ))) → reasons_from fields columns n raws [] ≡ []
+  reasons-end : (n : ℕ) (row_texts : List (List (List ℕ))) → reasons_from fields columns n row_texts [] ≡ []
   reasons-end n [] = refl
-  reasons-end n (texts ∷ raws) = refl
+  reasons-end n (texts ∷ row_texts) = refl
 
   -- those of one record more
-  pub reasons-more : (raws : List (List (List ℕ))) (ends : List RowEnd) (i : ℕ) (end : RowEnd) (text whole : List ℕ) → i < length raws → i < length ends → end ≡ get_or ends i end
-      → text ++ records_text (reasons_from fields columns i (drop i raws) (drop i ends)) ≡ whole
-      → (text ++ records_text (reasons_of fields columns i (get_or raws i []) end)) ++ records_text (reasons_from fields columns (i + 1) (drop (i + 1) raws) (drop (i + 1) ends)) ≡ whole
-  reasons-more raws ends i end text whole within below is before =
-      then-rest text (reasons_of fields columns i (get_or raws i []) end) (reasons_from fields columns (i + 1) (drop (i + 1) raws) (drop (i + 1) ends))
-      ∙ ap (λ (e : RowEnd). text ++ records_text (reasons_of fields columns i (get_or raws i []) e ++ reasons_from fields columns (i + 1) (drop (i + 1) raws) (drop (i + 1) ends))) is
-      ∙ ap (λ (rows : List (List (List ℕ))). text ++ records_text rows) (sym (opened ∙ ap (λ n. reasons_of fields columns i (get_or raws i []) (get_or ends i end) ++ reasons_from fields columns n (drop (i + 1) raws) (drop (i + 1) ends)) next))
+  pub reasons-more : (row_texts : List (List (List ℕ))) (ends : List RowEnd) (i : ℕ) (end : RowEnd) (text whole : List ℕ) → i < length row_texts → i < length ends → end ≡ get_or ends i end
+      → text ++ records_text (reasons_from fields columns i (drop i row_texts) (drop i ends)) ≡ whole
+      → (text ++ records_text (reasons_of fields columns i (get_or row_texts i []) end)) ++ records_text (reasons_from fields columns (i + 1) (drop (i + 1) row_texts) (drop (i + 1) ends)) ≡ whole
+  reasons-more row_texts ends i end text whole within below is before =
+      then-rest text (reasons_of fields columns i (get_or row_texts i []) end) (reasons_from fields columns (i + 1) (drop (i + 1) row_texts) (drop (i + 1) ends))
+      ∙ ap (λ (e : RowEnd). text ++ records_text (reasons_of fields columns i (get_or row_texts i []) e ++ reasons_from fields columns (i + 1) (drop (i + 1) row_texts) (drop (i + 1) ends))) is
+      ∙ ap (λ (rows : List (List (List ℕ))). text ++ records_text rows) (sym (opened ∙ ap (λ n. reasons_of fields columns i (get_or row_texts i []) (get_or ends i end) ++ reasons_from fields columns n (drop (i + 1) row_texts) (drop (i + 1) ends)) next))
       ∙ before
     where
       next : suc i ≡ i + 1
       next = omega arith
 
-      opened : reasons_from fields columns i (drop i raws) (drop i ends) ≡ reasons_of fields columns i (get_or raws i []) (get_or ends i end) ++ reasons_from fields columns (suc i) (drop (i + 1) raws) (drop (i + 1) ends)
-      opened = at_both (reasons_from fields columns i) raws ends i [] end within below
+      opened : reasons_from fields columns i (drop i row_texts) (drop i ends) ≡ reasons_of fields columns i (get_or row_texts i []) (get_or ends i end) ++ reasons_from fields columns (suc i) (drop (i + 1) row_texts) (drop (i + 1) ends)
+      opened = at_both (reasons_from fields columns i) row_texts ends i [] end within below
 
   -- and of all
-  pub reasons-all : (raws : List (List (List ℕ))) (ends : List RowEnd) (i : ℕ) (text whole : List ℕ) → length ends ≤ i → text ++ records_text (reasons_from fields columns i (drop i raws) (drop i ends)) ≡ whole → text ≡ whole
-  reasons-all raws ends i text whole past before = none-left text whole _ (ap (λ (es : List RowEnd). reasons_from fields columns i (drop i raws) es) (drop_all i ends past) ∙ reasons-end i (drop i raws)) before
+  pub reasons-all : (row_texts : List (List (List ℕ))) (ends : List RowEnd) (i : ℕ) (text whole : List ℕ) → length ends ≤ i → text ++ records_text (reasons_from fields columns i (drop i row_texts) (drop i ends)) ≡ whole → text ≡ whole
+  reasons-all row_texts ends i text whole past before = none-left text whole _ (ap (λ (es : List RowEnd). reasons_from fields columns i (drop i row_texts) es) (drop_all i ends past) ∙ reasons-end i (drop i row_texts)) before
 
   -- ---- the lines of the changed fields of a record
 

@@ -12,8 +12,8 @@ use Rattle.edit_report.specs.declared.end.RowEnd.{RowEnd}
 -- there is one released row for each record that was given values
 abbrev pub ReleasedCountLaw : Type 0
 ReleasedCountLaw =
-    (fields : List Field) (columns : List ℕ) (raws : List (List (List ℕ))) (ends : List RowEnd) → length raws ≡ length ends
-    → length (released_rows fields columns raws ends) ≡ length (filter (λ end. is_some end.gift) ends)
+    (fields : List Field) (columns : List ℕ) (row_texts : List (List (List ℕ))) (ends : List RowEnd) → length row_texts ≡ length ends
+    → length (released_rows fields columns row_texts ends) ≡ length (filter (λ end. is_some end.gift) ends)
 
 -- a clean record is released as it was read, and the reasons file has no line of it
 abbrev pub CleanLaw : Type 0

@@ -132,10 +132,10 @@ reasons_header = codes "record" ∷ codes "cause" ∷ codes "field" ∷ codes "b
 
 -- the lines of the records from this number on, in order
 abbrev pub reasons_from : List Field → List ℕ → ℕ → List (List (List ℕ)) → List RowEnd → List (List (List ℕ))
-reasons_from fields columns number (texts ∷ raws) (end ∷ ends) =
-    reasons_of fields columns number texts end ++ reasons_from fields columns (suc number) raws ends
+reasons_from fields columns number (texts ∷ row_texts) (end ∷ ends) =
+    reasons_of fields columns number texts end ++ reasons_from fields columns (suc number) row_texts ends
 reasons_from fields columns number _ _ = []
 
 -- the reasons file: the header and the lines of all records, as csv writes them
 abbrev pub reasons_text_of : SurveyParts → SheetParts → List RowEnd → List ℕ
-reasons_text_of survey sheet ends = records_text (reasons_header ∷ reasons_from survey.fields sheet.columns 0 sheet.raws ends)
+reasons_text_of survey sheet ends = records_text (reasons_header ∷ reasons_from survey.fields sheet.columns 0 sheet.row_texts ends)

@@ -58,9 +58,9 @@ row_of fields columns texts end = row_with fields columns texts (path_found end.
 
 -- the released rows, in order: one for each record that was given values
 abbrev pub released_rows : List Field → List ℕ → List (List (List ℕ)) → List RowEnd → List (List (List ℕ))
-released_rows fields columns (texts ∷ raws) (end ∷ ends) = row_of fields columns texts end ++ released_rows fields columns raws ends
+released_rows fields columns (texts ∷ row_texts) (end ∷ ends) = row_of fields columns texts end ++ released_rows fields columns row_texts ends
 released_rows fields columns _ _ = []
 
 -- the released file: the header and the released rows, as csv writes them
 abbrev pub released_text_of : SurveyParts → SheetParts → List RowEnd → List ℕ
-released_text_of survey sheet ends = records_text (sheet.header ∷ released_rows survey.fields sheet.columns sheet.raws ends)
+released_text_of survey sheet ends = records_text (sheet.header ∷ released_rows survey.fields sheet.columns sheet.row_texts ends)

@@ -6,7 +6,7 @@ ghost use Rattle.record_text.specs.Sheets.{IsSheet};
 ghost use Rattle.record_text.specs.Written.{HasWritten};
 ghost use Rattle.edit_report.specs.Ends.{AreEnds, IsEnd};
 ghost use Rattle.edit_report.specs.Released.{column_text, released_text_of, released_texts, row_of, row_with, given_text};
-ghost use Rattle.edit_report.specs.inner.Columns.{IsLayout, column_at, row_texts};
+ghost use Rattle.edit_report.specs.inner.Columns.{IsLayout, column_at, layout_texts};
 ghost use Rattle.edit_report.specs.inner.Lines.{Adds};
 
 use crate::changed::{all_kept, changed_set, path_found};
@@ -79,7 +79,7 @@ fn push_row(
     requires short { length path.now ≤ length survey.now.fields }
     requires new { IsRow survey.now.fields new.now }
     ensures { OnOk result
-        (Adds HasWritten writer.old writer.new (row_texts survey.now.fields layout.now path.now new.now read.now ∷ [])) }
+        (Adds HasWritten writer.old writer.new (layout_texts survey.now.fields layout.now path.now new.now read.now ∷ [])) }
 {
     if all_kept(path) {
         return writer.push(read);

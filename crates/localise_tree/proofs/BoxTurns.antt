@@ -10,7 +10,7 @@ use Rattle.edit_line.proofs.Members.{in-right}
 use Rattle.categ_combine.specs.BoxLists.{AreBoxesOver}
 use Rattle.categ_combine.specs.declared.box_from.BoxFrom.{BoxFrom}
 use Rattle.bound_cert.specs.Paths.{changes}
-use Rattle.edit_paths.specs.Cases.{Case, IsCase}
+use Rattle.edit_paths.specs.Cases.{SearchCase, IsCase}
 use Rattle.edit_paths.specs.Histories.{History, with_boxes}
 use Rattle.edit_paths.specs.Levels.{history_of}
 use Rattle.edit_paths.specs.PathHistories.{box_history, line_history}
@@ -33,7 +33,7 @@ use Rattle.localise_tree.proofs.ProblemLaws.{placed-at}
 pub boxes-last : (before levels : List Level) (field : ℕ) (boxes : List BoxFrom) → levels ≡ before ++ Boxes field boxes ∷ [] → boxes_in levels ≡ boxes
 boxes-last before levels field boxes is = ap (λ (ls : List Level). boxes_in ls) is ∙ fold-append (λ (bs : List BoxFrom) (level : Level). own_boxes level) [] before (Boxes field boxes ∷ [])
 
-module _ (c : Case) (path : List Bool) (before levels : List Level) (field : ℕ) (boxes : List BoxFrom) (push : levels ≡ before ++ Boxes field boxes ∷ []) (over : AreBoxesOver (shape_of c.survey.fields) boxes) where
+module _ (c : SearchCase) (path : List Bool) (before levels : List Level) (field : ℕ) (boxes : List BoxFrom) (push : levels ≡ before ++ Boxes field boxes ∷ []) (over : AreBoxesOver (shape_of c.survey.fields) boxes) where
   -- with boxes behind the others
   box-lists : (history : History) → history_of before ≡ history → with_boxes history field boxes ≡ box_history c path → boxes ≡ boxes_along c path → HasBoxLists c path levels
   box-lists history is lists along = record {
@@ -52,7 +52,7 @@ module _ (c : Case) (path : List Bool) (before levels : List Level) (field : ℕ
       lists_are : history_of before ≡ line_history c path
       lists_are = lines
 
-module _ (c : Case) (letters : List Bool) (many : number_count c < length letters) (fit : length letters ≤ field_count c) where
+module _ (c : SearchCase) (letters : List Bool) (many : number_count c < length letters) (fit : length letters ≤ field_count c) where
   abbrev path : List Bool
   path = before_last letters
 

@@ -27,7 +27,7 @@ use Rattle.categ_combine.specs.declared.box_from.BoxFrom.{BoxFrom}
 use Rattle.categ_combine.proofs.OverLaws.{over-failing}
 use Rattle.bound_cert.specs.Paths.{changes, keeps_bad}
 use Rattle.bound_cert.proofs.Letters.{kept-any, kept_in}
-use Rattle.edit_paths.specs.Cases.{Case, IsCase}
+use Rattle.edit_paths.specs.Cases.{SearchCase, IsCase}
 use Rattle.edit_paths.specs.Paths.{before_last, changed_numbers, field_count, last_letter, number_count, treated_codes}
 use Rattle.edit_paths.specs.States.{IsOpen, boxes_after, boxes_along, first_boxes, first_failing, lines_along, or_empty, state_of, state_with_boxes, state_with_system, whole_state}
 use Rattle.edit_paths.specs.Works.{pairs_next, work_of}
@@ -52,12 +52,12 @@ use Rattle.localise_tree.proofs.ProblemLaws.{placed-at}
 
 -- ---- what an open path that says something of all numerical fields has
 
-record HasBoxes (c : Case) (path : List Bool) (lines : List Derived) (boxes : List BoxFrom) : Type 0 where
+record HasBoxes (c : SearchCase) (path : List Bool) (lines : List Derived) (boxes : List BoxFrom) : Type 0 where
   held : keeps_bad c.survey.fields c.row path ≡ false
   made : system_of c.edits (changed_numbers c path) ≡ Ok lines
   told : failing_from 0 lines c.row [] ≡ Ok boxes
 
-module _ (c : Case) (path : List Bool) (enough : number_count c ≤ length path) where
+module _ (c : SearchCase) (path : List Bool) (enough : number_count c ≤ length path) where
   late : nat_lt (length path) (number_count c) ≡ false
   late = grind (arith, enough)
 
@@ -123,7 +123,7 @@ any-more test (f ∷ order) (false ∷ path) b short = ap (λ x. test f || x) (a
     or_assoc true y z = refl
     or_assoc false y z = refl
 
-module _ (c : Case) (before : List Bool) (b : Bool) (enough : number_count c ≤ length before) (short : length before < field_count c) (is_open : IsOpen c before) where
+module _ (c : SearchCase) (before : List Bool) (b : Bool) (enough : number_count c ≤ length before) (short : length before < field_count c) (is_open : IsOpen c before) where
   abbrev next_field : ℕ
   next_field = slice_index_or (path_order c.survey.fields) (length before) 0
 
@@ -200,18 +200,18 @@ module _ (c : Case) (before : List Bool) (b : Bool) (enough : number_count c ≤
 -- ---- the record's value at a field
 
 -- a categorical field holds no number
-no-number : (c : Case) → IsCase c → (f : ℕ) (x : Fraction) → has_field (code_fields (shape_of c.survey.fields)) f ≡ true → value_of c.row f ≡ Number x → ⊥
+no-number : (c : SearchCase) → IsCase c → (f : ℕ) (x : Fraction) → has_field (code_fields (shape_of c.survey.fields)) f ≡ true → value_of c.row f ≡ Number x → ⊥
 no-number c is f x there own =
     subst (λ (v : Value). IsCodeValue v) own
     ((code-at c.survey.fields c.row f is.row (sym (ap (λ (fs : List ℕ). has_field fs f) (code_fields-same c.survey.fields)) ∙ there)).0 (λ bad. absurd (cc (sym own ∙ bad))))
 
 -- ---- a look into the path, from the boxes of the path before
 
-boxes-basis : (c : Case) (path : List Bool) (boxes : List BoxFrom) (basis : Basis) → number_count c ≤ length path → AreBoxes boxes basis → boxes ≡ boxes_along c path → IsBasis c path basis
+boxes-basis : (c : SearchCase) (path : List Bool) (boxes : List BoxFrom) (basis : Basis) → number_count c ≤ length path → AreBoxes boxes basis → boxes ≡ boxes_along c path → IsBasis c path basis
 boxes-basis c path boxes (Boxes own) enough are along = (enough, are ∙ along)
 boxes-basis c path boxes (Lines own) enough are along = absurd are
 
-module _ (c : Case) (is : IsCase c) (letters : List Bool) (more : number_count c < length letters) (fit : length letters ≤ field_count c) (reached : IsOpen c (before_last letters)) (boxes : List BoxFrom) (boxes_are : boxes ≡ boxes_along c (before_last letters))
+module _ (c : SearchCase) (is : IsCase c) (letters : List Bool) (more : number_count c < length letters) (fit : length letters ≤ field_count c) (reached : IsOpen c (before_last letters)) (boxes : List BoxFrom) (boxes_are : boxes ≡ boxes_along c (before_last letters))
     (f : ℕ) (field_is : f ≡ slice_index_or (path_order c.survey.fields) (length letters - 1) 0) where
   abbrev before : List Bool
   before = before_last letters
@@ -311,7 +311,7 @@ module _ (c : Case) (is : IsCase c) (letters : List Bool) (more : number_count c
         by (Number x) own h = absurd (no-number c is f x (subst (λ (g : ℕ). has_field (code_fields (shape_of c.survey.fields)) g ≡ true) (sym next_is) (next-code c before b enough short reached)) own)
 
 -- the source keeps the fields that the path changes, since they are those of the path before
-pub codes-kept : (c : Case) (letters : List Bool) → number_count c < length letters → length letters ≤ field_count c → (keeps : ℕ → Bool) → KeepsChanged keeps c (before_last letters) → {E : Type 0} (r : Result (Option Look) E)
+pub codes-kept : (c : SearchCase) (letters : List Bool) → number_count c < length letters → length letters ≤ field_count c → (keeps : ℕ → Bool) → KeepsChanged keeps c (before_last letters) → {E : Type 0} (r : Result (Option Look) E)
     → IfOk r (λ told. IfSome told (λ look. look.state ≡ Open → KeepsChanged keeps c letters))
 codes-kept c letters more fit keeps (bits, chosen, kept) (Ok (Some look)) = λ is_open.
     let split = split-last letters false (omega (arith, more)) in

@@ -8,7 +8,7 @@ use Rattle.linear_elim.specs.Helds.{system_held}
 use Rattle.linear_elim.specs.Systems.{system_of}
 use Rattle.linear_elim.specs.declared.held.Held.{Held}
 use Rattle.bound_cert.specs.Paths.{changes, path_weight}
-use Rattle.edit_paths.specs.Cases.{Case}
+use Rattle.edit_paths.specs.Cases.{SearchCase}
 use Rattle.edit_paths.specs.PathStates.{is_open}
 use Rattle.edit_paths.specs.Paths.{before_last, changed_numbers, field_count, is_complete}
 use Rattle.edit_paths.specs.ReachedPaths.{changed_next, is_before, kept_next, placed}
@@ -35,18 +35,18 @@ first-long a b i below past so_far =
 
 -- ---- bases
 
-basis-before : (c : Case) (path more : List Bool) (k : Basis) → length more ≡ suc (length path) → before_last more ≡ path → IsBasis c path k → IsBasisBefore c more k
+basis-before : (c : SearchCase) (path more : List Bool) (k : Basis) → length more ≡ suc (length path) → before_last more ≡ path → IsBasis c path k → IsBasisBefore c more k
 basis-before c path more (Lines system) longer parent is = (omega (arith, longer, is.0), ap (λ (p : List Bool). system_of c.edits (changed_numbers c p)) parent ∙ is.1)
 basis-before c path more (Boxes boxes) longer parent is = (omega (arith, longer, is.0), is.1 ∙ ap (λ (p : List Bool). boxes_along c p) (sym parent))
 
 -- ---- nodes
 
-none-changed : (c : Case) (fs : List ℕ) → filter (changes c.survey.fields []) fs ≡ []
+none-changed : (c : SearchCase) (fs : List ℕ) → filter (changes c.survey.fields []) fs ≡ []
 none-changed c [] = refl
 none-changed c (f ∷ fs) = none-changed c fs
 
 -- the node of the empty path
-first-node : (c : Case) (held : Held) (before : Basis) → IsOfSystem held before → system_of c.edits (changed_numbers c []) ≡ Ok (system_held held).lines → IsNode c (record { path = []; weight = 0; before = before })
+first-node : (c : SearchCase) (held : Held) (before : Basis) → IsOfSystem held before → system_of c.edits (changed_numbers c []) ≡ Ok (system_held held).lines → IsNode c (record { path = []; weight = 0; before = before })
 first-node c held (Boxes boxes) is made = absurd is
 first-node c held (Lines system) is made = record {
   fit = omega arith;
@@ -56,10 +56,10 @@ first-node c held (Lines system) is made = record {
   basis = (omega arith, made ∙ ap (λ (h : Held). Ok (system_held h).lines) (sym is));
 }
 
-pub first-nodes : (c : Case) (held : Held) (ends : List Node) → IsFirstEnd held ends → system_of c.edits (changed_numbers c []) ≡ Ok (system_held held).lines → AllByRecursion (IsNode c) ends
+pub first-nodes : (c : SearchCase) (held : Held) (ends : List Node) → IsFirstEnd held ends → system_of c.edits (changed_numbers c []) ≡ Ok (system_held held).lines → AllByRecursion (IsNode c) ends
 first-nodes c held ends (before, are, is) made = subst (λ (ns : List Node). AllByRecursion (IsNode c) ns) (sym are) (first-node c held before is made, tt)
 
-module _ (c : Case) (node more : Node) (b : Bool) (is_node : IsNode c node) (short : length node.path < field_count c) (path_is : more.path ≡ node.path ++ b ∷ []) where
+module _ (c : SearchCase) (node more : Node) (b : Bool) (is_node : IsNode c node) (short : length node.path < field_count c) (path_is : more.path ≡ node.path ++ b ∷ []) where
   counted : length more.path ≡ suc (length node.path)
   counted = ap (λ (p : List Bool). length p) path_is ∙ longer node.path b
 
@@ -89,12 +89,12 @@ placed-all P (x ∷ ends) node are is = by (before x node) (placed-all P ends no
     by true rest = (are.0, rest)
     by false rest = (is, are)
 
-before-paths : (c : Case) (a b : Node) → IsNode c a → IsNode c b → before a b ≡ is_before c.survey.fields a.path b.path
+before-paths : (c : SearchCase) (a b : Node) → IsNode c a → IsNode c b → before a b ≡ is_before c.survey.fields a.path b.path
 before-paths c a b is_a is_b =
     ap (λ (n : ℕ). nat_lt n b.weight || ((n == b.weight) && is_first a.path b.path)) is_a.weight
     ∙ ap (λ (n : ℕ). nat_lt (path_weight c.survey.fields a.path) n || ((path_weight c.survey.fields a.path == n) && is_first a.path b.path)) is_b.weight
 
-placed-paths : (c : Case) (ends : List Node) (node : Node) → AllByRecursion (IsNode c) ends → IsNode c node → paths_of (placed before ends node) ≡ placed (is_before c.survey.fields) (paths_of ends) node.path
+placed-paths : (c : SearchCase) (ends : List Node) (node : Node) → AllByRecursion (IsNode c) ends → IsNode c node → paths_of (placed before ends node) ≡ placed (is_before c.survey.fields) (paths_of ends) node.path
 placed-paths c [] node are is = refl
 placed-paths c (x ∷ ends) node are is =
     by (before x node) (placed-paths c ends node are.1 is) ∙ ap (λ (t : Bool). if t then x.path ∷ placed (is_before c.survey.fields) (paths_of ends) node.path else node.path ∷ x.path ∷ paths_of ends) (before-paths c x node are.0 is)
@@ -113,7 +113,7 @@ leads-open (ClosedLine i) complete leads told both = absurd (cc)
 leads-open (ClosedBox i) complete leads told both = absurd (cc)
 leads-open (Overflows e) complete leads told both = absurd (cc)
 
-pub leads-short : (c : Case) (path : List Bool) (state : PathState) (leads : Bool) → length path ≤ field_count c → leads ≡ (is_open state && not (is_complete c path)) → leads ≡ true → length path < field_count c
+pub leads-short : (c : SearchCase) (path : List Bool) (state : PathState) (leads : Bool) → length path ≤ field_count c → leads ≡ (is_open state && not (is_complete c path)) → leads ≡ true → length path < field_count c
 leads-short c path state leads fit told both = by (is_complete c path) refl (is_open state) (sym told ∙ both)
   where
     by : (b : Bool) → (length path == field_count c) ≡ b → (o : Bool) → (o && not b) ≡ true → length path < field_count c
@@ -124,7 +124,7 @@ leads-short c path state leads fit told both = by (is_complete c path) refl (is_
     by true apart true h = absurd (cc)
     by true apart false h = absurd (cc)
 
-module _ (c : Case) (path : List Bool) where
+module _ (c : SearchCase) (path : List Bool) where
   pub leads-both : (leads : Bool) → leads ≡ (is_open (state_of c path) && not (is_complete c path)) → leads ≡ true → next_paths c path ≡ kept_next path ∷ changed_next path ∷ []
   leads-both leads told both = ap (λ (t : Bool). if t then kept_next path ∷ changed_next path ∷ [] else []) (sym told ∙ both)
 

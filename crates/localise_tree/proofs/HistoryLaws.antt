@@ -12,7 +12,7 @@ use Rattle.linear_elim.specs.Systems.{fold_result, overflow_at, system_of}
 use Rattle.categ_combine.specs.declared.box_from.BoxFrom.{BoxFrom}
 use Rattle.edit_model.specs.Corrections.{path_order}
 use Rattle.bound_cert.specs.Paths.{changes, path_place}
-use Rattle.edit_paths.specs.Cases.{Case}
+use Rattle.edit_paths.specs.Cases.{SearchCase}
 use Rattle.edit_paths.specs.Histories.{History, with_boxes, with_lines}
 use Rattle.edit_paths.specs.PathHistories.{and_next, box_history, boxes_reached, line_history, lines_reached}
 use Rattle.edit_paths.specs.Paths.{changed_numbers, field_count, number_count, treated_codes, treats}
@@ -51,15 +51,15 @@ none-chosen [] = refl
 none-chosen (f ∷ fields) = none-chosen fields
 
 -- the empty path changes nothing
-pub none-changed : (c : Case) → changed_numbers c [] ≡ []
+pub none-changed : (c : SearchCase) → changed_numbers c [] ≡ []
 none-changed c = none-chosen (number_fields (shape_of c.survey.fields))
 
 -- its lists are those of the edits alone
-pub history-first : (c : Case) → with_system [] (system_of c.edits (changed_numbers c [])) ≡ line_history c []
+pub history-first : (c : SearchCase) → with_system [] (system_of c.edits (changed_numbers c [])) ≡ line_history c []
 history-first c =
     ap (λ (fs : List ℕ). with_system [] (system_of c.edits fs)) (none-changed c) ∙ sym (ap (λ (fs : List ℕ). lines_reached [] (reduce_derived (base_lines c.edits)) fs) (none-changed c))
 
-module _ (c : Case) (path : List Bool) (b : Bool) (short : length path < field_count c) where
+module _ (c : SearchCase) (path : List Bool) (b : Bool) (short : length path < field_count c) where
   -- a letter that changes a numerical field
   pub history-changed : b ≡ true → length path < number_count c → line_history c (path ++ b ∷ []) ≡ with_system (line_history c path) (system_of c.edits (changed_numbers c (path ++ b ∷ [])))
   history-changed changed few =
@@ -76,7 +76,7 @@ module _ (c : Case) (path : List Bool) (b : Bool) (short : length path < field_c
 
 -- ---- boxes
 
-module _ (c : Case) (path : List Bool) where
+module _ (c : SearchCase) (path : List Bool) where
   -- the boxes of one field more
   boxes-more : (history : History) (boxes : List BoxFrom) (fields : List ℕ) (f : ℕ)
       → boxes_reached c path history boxes (fields ++ f ∷ []) ≡ with_boxes (boxes_reached c path history boxes fields) f (boxes_after c path (fold (boxes_after c path) boxes fields) f)
@@ -104,7 +104,7 @@ module _ (c : Case) (path : List Bool) where
     pub box_history-first : box_history c path ≡ with_boxes (line_history c path) 0 (first_boxes c path)
     box_history-first = ap (λ (fs : List ℕ). boxes_reached c path (with_boxes (line_history c path) 0 (first_boxes c path)) (first_boxes c path) fs) none
 
-module _ (c : Case) (path : List Bool) (b : Bool) (short : length path < field_count c) where
+module _ (c : SearchCase) (path : List Bool) (b : Bool) (short : length path < field_count c) where
   from-same : (history : History) (boxes : List BoxFrom) (fields : List ℕ) → ((f : ℕ) → IsIn f fields → path_place c.survey.fields f ≢ length path)
       → boxes_reached c (path ++ b ∷ []) history boxes fields ≡ boxes_reached c path history boxes fields
   from-same history boxes [] each = refl

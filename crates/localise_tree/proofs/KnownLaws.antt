@@ -6,7 +6,7 @@ use Rattle.std.specs.declared.alloc.Global.{Global}
 use Rattle.std.proofs.lemmas.List.{map-append, take_more}
 use Rattle.edit_model.specs.Corrections.{is_first}
 use Rattle.edit_line.proofs.SetLaws.{both_true}
-use Rattle.edit_paths.specs.Cases.{Case}
+use Rattle.edit_paths.specs.Cases.{SearchCase}
 use Rattle.edit_paths.specs.Certificates.{has_path}
 use Rattle.edit_paths.specs.States.{state_of}
 use Rattle.edit_paths.specs.declared.state.PathState.{PathState}
@@ -40,7 +40,7 @@ has-last (p ∷ paths) path q = ap (λ b. (is_first p q && is_first q p) || b) (
     or_assoc false b d = refl
 
 -- one path more
-module _ (c : Case) (paths : List (List Bool)) (path : List Bool) (state : PathState) (is : state ≡ state_of c path) where
+module _ (c : SearchCase) (paths : List (List Bool)) (path : List Bool) (state : PathState) (is : state ≡ state_of c path) where
   known-with : (q : List Bool) → cond (is_eq (slice_cmp bool_cmp path q)) (Some state) (if has_path paths q then Some (state_of c q) else None) ≡ (if has_path (paths ++ path ∷ []) q then Some (state_of c q) else None)
   known-with q =
       ap (λ b. cond b (Some state) (if has_path paths q then Some (state_of c q) else None)) (same-letters path q)
@@ -68,12 +68,12 @@ module _ (c : Case) (paths : List (List Bool)) (path : List Bool) (state : PathS
 
 -- ---- the paths that were taken
 
-taken-at : (c : Case) (taken : List Taken) (i : ℕ) (t : Taken) → i < length taken → t ≡ slice_index_or taken i t → AllByRecursion (IsTaken c) taken → IsTaken c t
+taken-at : (c : SearchCase) (taken : List Taken) (i : ℕ) (t : Taken) → i < length taken → t ≡ slice_index_or taken i t → AllByRecursion (IsTaken c) taken → IsTaken c t
 taken-at c [] i t below is are = absurd (omega arith)
 taken-at c (x ∷ taken) zero t below is are = subst (λ (y : Taken). IsTaken c y) (sym is) are.0
 taken-at c (x ∷ taken) (suc i) t below is are = taken-at c taken i t (omega arith) is are.1
 
-pub knows-next : (c : Case) (taken : List Taken) (i : ℕ) (t : Taken) (known new : Known) (letters : Vec Bool Global) → i < length taken → t ≡ slice_index_or taken i t → letters.items ≡ t.path
+pub knows-next : (c : SearchCase) (taken : List Taken) (i : ℕ) (t : Taken) (known new : Known) (letters : Vec Bool Global) → i < length taken → t ≡ slice_index_or taken i t → letters.items ≡ t.path
     → AllByRecursion (IsTaken c) taken → Knows c (taken_paths (take i taken)) known
     → ((q : Vec Bool Global) → known_at new q ≡ cond (is_eq (slice_cmp bool_cmp letters.items q.items)) (Some t.state) (known_at known q)) → Knows c (taken_paths (take (i + 1) taken)) new
 knows-next c taken i t known new letters below is same are knows with =

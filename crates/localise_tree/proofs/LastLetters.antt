@@ -1,7 +1,7 @@
 use Rattle.std.proofs.Common.{◌≡◌, ◌++◌, ◌-◌, ◌+◌, ◌<◌, ◌≤◌, Bool, false, true, List, [], ◌∷◌, length, slice_index_or, sym, ap, ◌∙◌, ◌⊎◌, inl, inr, arith}
 use Rattle.std.proofs.lemmas.List.{length-take-le, nil_from_length, take_all, take_more}
 use Rattle.linear_elim.specs.Systems.{system_of}
-use Rattle.edit_paths.specs.Cases.{Case}
+use Rattle.edit_paths.specs.Cases.{SearchCase}
 use Rattle.edit_paths.specs.Histories.{History}
 use Rattle.edit_paths.specs.Levels.{history_of}
 use Rattle.edit_paths.specs.PathHistories.{line_history}
@@ -17,7 +17,7 @@ pub split-last : (letters : List Bool) (d : Bool) → 0 < length letters → let
 split-last letters d some =
     sym (take_all (length letters - 1 + 1) letters (omega arith)) ∙ take_more letters (length letters - 1) d (omega (arith, some))
 
-module _ (c : Case) (letters : List Bool) (some : 0 < length letters) (fit : length letters ≤ field_count c) where
+module _ (c : SearchCase) (letters : List Bool) (some : 0 < length letters) (fit : length letters ≤ field_count c) where
   length-before : length (before_last letters) ≡ length letters - 1
   length-before = length-take-le (length letters - 1) letters (omega arith)
 
@@ -29,7 +29,7 @@ module _ (c : Case) (letters : List Bool) (some : 0 < length letters) (fit : len
       ∙ ap (λ (p : List Bool). line_history c p) (sym (split-last letters false some))
 
 -- where the last letter changes a field, or there is none, the lines of the path's system come last
-pub lines-pushed : (c : Case) (letters : List Bool) (levels : List Level) → length letters ≤ number_count c → HasListsBefore c letters levels → (length letters ≡ 0) ⊎ ((0 < length letters) × (slice_index_or letters (length letters - 1) false ≡ true))
+pub lines-pushed : (c : SearchCase) (letters : List Bool) (levels : List Level) → length letters ≤ number_count c → HasListsBefore c letters levels → (length letters ≡ 0) ⊎ ((0 < length letters) × (slice_index_or letters (length letters - 1) false ≡ true))
     → with_system (history_of levels) (system_of c.edits (changed_numbers c letters)) ≡ line_history c letters
 lines-pushed c letters levels few before (inl none) =
     ap (λ (ls : List Level). with_system (history_of ls) (system_of c.edits (changed_numbers c letters))) (before.first none)

@@ -15,7 +15,7 @@ use Rattle.bound_cert.specs.declared.cert.Leaf.{Leaf}
 use Rattle.bound_cert.specs.declared.cert.LeafWhy.TheVariants as why
 use Rattle.bound_cert.specs.declared.outcome.Event.{Event}
 use Rattle.bound_cert.specs.declared.outcome.Event.TheVariants as event
-use Rattle.edit_paths.specs.Cases.{Case}
+use Rattle.edit_paths.specs.Cases.{SearchCase}
 use Rattle.edit_paths.specs.Certificates.{has_path, leaf, leaves_by, leaves_from}
 use Rattle.edit_paths.specs.PathStates.{is_open}
 use Rattle.edit_paths.specs.Paths.{changed_numbers, field_count, number_count, treated_codes}
@@ -39,7 +39,7 @@ unknown-path : (has : Bool) (state : PathState) → None ≡ (if has then Some s
 unknown-path true state is = absurd (cc)
 unknown-path false state is = refl
 
-module _ (c : Case) (taken : List (List Bool)) (path : List Bool) where
+module _ (c : SearchCase) (taken : List (List Bool)) (path : List Bool) where
   leaves-unknown : (left : ℕ) → has_path taken path ≡ false → leaves_from c taken left path ≡ leaf path why.Bound
   leaves-unknown zero other = ap (λ b. if b then leaves_by c path [] (state_of c path) else leaf path why.Bound) other
   leaves-unknown (suc left) other = ap (λ b. if b then leaves_by c path (leaves_from c taken left (kept_next path) ++ leaves_from c taken left (changed_next path)) (state_of c path) else leaf path why.Bound) other
@@ -68,7 +68,7 @@ module _ (c : Case) (taken : List (List Bool)) (path : List Bool) where
 
 -- ---- by what is known of the letters
 
-module _ (c : Case) (paths : List (List Bool)) (known : Known) (letters : Vec Bool Global) (knows : Knows c paths known) where
+module _ (c : SearchCase) (paths : List (List Bool)) (known : Known) (letters : Vec Bool Global) (knows : Knows c paths known) where
   -- of a path that was not taken
   pub leaves-absent : (left : ℕ) → None ≡ known_at known letters → leaf letters.items why.Bound ≡ leaves_from c paths left letters.items
   leaves-absent left absent = sym (leaves-unknown c paths letters.items left (unknown-path (has_path paths letters.items) (state_of c letters.items) (absent ∙ knows letters)))
@@ -107,7 +107,7 @@ popped letters before after b n count pushed rest =
 
 -- ---- which lists lead to what closes a path
 
-module _ (c : Case) (path : List Bool) where
+module _ (c : SearchCase) (path : List Bool) where
   no_box : (i k : ℕ) (lines : List Derived) → first_failing c path k lines ≡ ClosedBox i → ⊥
   no_box i k [] h = cc h
   no_box i k (d ∷ lines) h = at (asks_kept c path d.line) (fails_at d.line c.row) (no_box i (suc k) lines) h
@@ -175,5 +175,5 @@ module _ (c : Case) (path : List Bool) where
       by false e = let short : length path ≤ number_count c = grind (arith, e) in record { line = λ i s. lists.lines short; box = λ i s. absurd (box-long i (is ∙ s) short) }
 
 -- of a path that was taken
-pub known-leads : (c : Case) (paths : List (List Bool)) (known : Known) (letters : Vec Bool Global) (s : PathState) (levels : List Level) → Knows c paths known → Some s ≡ known_at known letters → HasLists c letters.items levels → LeadTo c letters.items s levels
+pub known-leads : (c : SearchCase) (paths : List (List Bool)) (known : Known) (letters : Vec Bool Global) (s : PathState) (levels : List Level) → Knows c paths known → Some s ≡ known_at known letters → HasLists c letters.items levels → LeadTo c letters.items s levels
 known-leads c paths known letters s levels knows there lists = leads-to c letters.items s levels (known-path (has_path paths letters.items) (state_of c letters.items) s (there ∙ knows letters)).1 lists

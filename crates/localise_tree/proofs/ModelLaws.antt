@@ -4,7 +4,7 @@ use Rattle.edit_model.specs.Parts.{SurveyParts}
 use Rattle.edit_model.specs.declared.value.Value.{Value}
 use Rattle.edit_line.specs.EditSets.{EditsParts}
 use Rattle.bound_cert.specs.declared.outcome.Outcome.{Outcome}
-use Rattle.edit_paths.specs.Cases.{Case, IsCase, case_of}
+use Rattle.edit_paths.specs.Cases.{SearchCase, IsCase, case_of}
 use Rattle.edit_paths.specs.Outcomes.{outcome_of}
 use Rattle.edit_paths.proofs.BudgetLaws.{always-change, enough-budget}
 use Rattle.edit_paths.proofs.CertificateTrees.{change-tree, contradiction-tree}
@@ -15,7 +15,7 @@ use Rattle.edit_paths.specs.Answers.{Certifies, ChoosesFirst, ChoosesLeast, Find
 -- What an exact outcome says in the words of the model.
 
 module _ (survey : SurveyParts) (edits : EditsParts) (row : List Value) (budget : ℕ) (is : IsCase (case_of survey edits row)) where
-  abbrev c : Case
+  abbrev c : SearchCase
   c = case_of survey edits row
 
   pub told-choice : {E : Type 0} (r : Result Outcome E) → IfOk r (λ o. o ≡ outcome_of (case_of survey edits row) budget) → IfOk r (ChoosesFirst (case_of survey edits row))

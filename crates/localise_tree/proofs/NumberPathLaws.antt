@@ -20,7 +20,7 @@ use Rattle.categ_combine.specs.Covers.{cover_count}
 use Rattle.categ_combine.specs.FailingBoxes.{failing_from}
 use Rattle.categ_combine.specs.declared.box_from.BoxFrom.{BoxFrom}
 use Rattle.bound_cert.specs.Paths.{keeps, keeps_bad, kept_set, path_place}
-use Rattle.edit_paths.specs.Cases.{Case, IsCase}
+use Rattle.edit_paths.specs.Cases.{SearchCase, IsCase}
 use Rattle.edit_paths.specs.Paths.{before_last, changed_numbers, last_field, last_letter, number_count, treats}
 use Rattle.edit_paths.specs.States.{asks_kept, boxes_after, boxes_along, first_boxes, or_empty}
 use Rattle.edit_paths.specs.Works.{pairs_next, work_of}
@@ -53,7 +53,7 @@ only-alike s t (f ∷ fields) [] same = refl
 only-alike s t (f ∷ fields) (a ∷ factors) same =
     ap (λ b. (int_eq a (pos 0) || b) && stands_only s fields factors) (same f (inl refl)) ∙ ap (λ b. (int_eq a (pos 0) || t f) && b) (only-alike s t fields factors (λ g at. same g (inr at)))
 
-module _ (c : Case) (is : IsCase c) (path : List Bool) (none : keeps_bad c.survey.fields c.row path ≡ false) where
+module _ (c : SearchCase) (is : IsCase c) (path : List Bool) (none : keeps_bad c.survey.fields c.row path ≡ false) where
   -- the tests of the factors and of the sets tell whether a line is asked
   pub asked-when : (line : LineParts) → HasShape (shape_of c.survey.fields) line → (alone full : Bool) → alone ≡ stands_only (has_number (kept_set c.survey.fields c.row path)) (number_fields line.shape) line.factors
       → full ≡ are_whole (shape_of c.survey.fields) line.sets → (alone && full) ≡ asks_kept c path line
@@ -74,7 +74,7 @@ module _ (c : Case) (is : IsCase c) (path : List Bool) (none : keeps_bad c.surve
 
 -- ---- the work, and the system before
 
-module _ (c : Case) (path : List Bool) where
+module _ (c : SearchCase) (path : List Bool) where
   -- where the last field is changed, the pairs of its step in the system before
   pub changed-work : (lines : List Derived) (f : ℕ) → 0 < length path → length path ≤ number_count c → last_letter path ≡ true → system_of c.edits (changed_numbers c (before_last path)) ≡ Ok lines
       → f ≡ slice_index_or (path_order c.survey.fields) (length path - 1) 0 → work_of c path ≡ 1 + pairs_count lines f
@@ -107,7 +107,7 @@ module _ (c : Case) (path : List Bool) where
 
 -- ---- the boxes of a path that says something of exactly the numerical fields
 
-none-treated : (c : Case) (path : List Bool) (short : length path ≤ number_count c) (k : ℕ) (fields : List ℕ) → Placed c k fields → length path ≤ k → filter (treats c path) fields ≡ []
+none-treated : (c : SearchCase) (path : List Bool) (short : length path ≤ number_count c) (k : ℕ) (fields : List ℕ) → Placed c k fields → length path ≤ k → filter (treats c path) fields ≡ []
 none-treated c path short k [] placed past = refl
 none-treated c path short k (f ∷ fields) placed past =
     ap (λ b. if b then f ∷ filter (treats c path) fields else filter (treats c path) fields) untreated ∙ none-treated c path short (suc k) fields placed.1 (omega (arith, past))
@@ -115,13 +115,13 @@ none-treated c path short k (f ∷ fields) placed past =
     untreated : treats c path f ≡ false
     untreated = ap (λ b. not b || slice_index_or path (path_place c.survey.fields f) false) (get_or_past path (path_place c.survey.fields f) true (omega (arith, past, placed.0))) ∙ get_or_past path (path_place c.survey.fields f) false (omega (arith, past, placed.0))
 
-pub numbers-boxes : (c : Case) (path : List Bool) (lines : List Derived) (boxes : List BoxFrom) → length path ≤ number_count c → system_of c.edits (changed_numbers c path) ≡ Ok lines → failing_from 0 lines c.row [] ≡ Ok boxes → boxes ≡ boxes_along c path
+pub numbers-boxes : (c : SearchCase) (path : List Bool) (lines : List Derived) (boxes : List BoxFrom) → length path ≤ number_count c → system_of c.edits (changed_numbers c path) ≡ Ok lines → failing_from 0 lines c.row [] ≡ Ok boxes → boxes ≡ boxes_along c path
 numbers-boxes c path lines boxes fit made told =
     sym (ap (λ (fs : List ℕ). fold (boxes_after c path) (first_boxes c path) fs) (none-treated c path fit (number_count c) (code_fields (shape_of c.survey.fields)) (codes-placed c) fit)
     ∙ ap (λ r. or_empty (failing_from 0 (or_empty r) c.row [])) made
     ∙ ap (λ r. or_empty r) told)
 
 -- the lines that a shared system tells are the path's
-pub lines-made : (c : Case) (path : List Bool) (held same : Held) (system : SystemParts) (lines : List Derived) → HasLines c path held → same ≡ held → system ≡ system_held same → lines ≡ system.lines
+pub lines-made : (c : SearchCase) (path : List Bool) (held same : Held) (system : SystemParts) (lines : List Derived) → HasLines c path held → same ≡ held → system ≡ system_held same → lines ≡ system.lines
     → system_of c.edits (changed_numbers c path) ≡ Ok lines
 lines-made c path held same system lines has is of are = has ∙ ap (λ (ls : List Derived). Ok ls) (sym (are ∙ ap (λ (s : SystemParts). s.lines) (of ∙ ap (λ (h : Held). system_held h) is)))

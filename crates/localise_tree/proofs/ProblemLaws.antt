@@ -8,7 +8,7 @@ use Rattle.edit_line.specs.Shapes.{has_field, number_fields, shape_of}
 use Rattle.edit_line.proofs.ShapeLaws.{same_fields}
 use Rattle.linear_elim.specs.Systems.{AreNumerical, chosen_fields}
 use Rattle.bound_cert.specs.Paths.{changes, path_place}
-use Rattle.edit_paths.specs.Cases.{Case}
+use Rattle.edit_paths.specs.Cases.{SearchCase}
 use Rattle.edit_paths.specs.Paths.{changed_numbers, number_count}
 use Rattle.edit_paths.proofs.ChildLaws.{chosen-changed}
 use Rattle.edit_paths.proofs.FieldPlaces.{Placed, numbers-placed}
@@ -16,7 +16,7 @@ use Rattle.edit_paths.proofs.FieldPlaces.{Placed, numbers-placed}
 -- The numerical fields of a case, and those that a path changes.
 
 -- a field's place is the place at which it stands
-pub placed-at : (c : Case) (k i : ℕ) (fields : List ℕ) → Placed c k fields → i < length fields → path_place c.survey.fields (slice_index_or fields i 0) ≡ k + i
+pub placed-at : (c : SearchCase) (k i : ℕ) (fields : List ℕ) → Placed c k fields → i < length fields → path_place c.survey.fields (slice_index_or fields i 0) ≡ k + i
 placed-at c k i [] placed below = absurd (omega arith)
 placed-at c k zero (f ∷ fields) placed below = placed.0 ∙ omega arith
 placed-at c k (suc i) (f ∷ fields) placed below = placed-at c (suc k) i fields placed.1 (omega arith) ∙ omega arith
@@ -37,7 +37,7 @@ has-next (g ∷ fields) (suc i) f below = ap (λ b. (g == f) || b) (has-next fie
 has-more : (fields : List ℕ) (i f : ℕ) → i < length fields → has_field (take (i + 1) fields) f ≡ (has_field (take i fields) f || (slice_index_or fields i 0 == f))
 has-more fields i f below = ap (λ (n : ℕ). has_field (take n fields) f) (add-one i) ∙ has-next fields i f below
 
-module _ (c : Case) (numbers : List ℕ) (numbers_are : numbers ≡ corrections.number_fields c.survey.fields) where
+module _ (c : SearchCase) (numbers : List ℕ) (numbers_are : numbers ≡ corrections.number_fields c.survey.fields) where
   -- the numerical fields are those of the shape
   pub numbers-same : numbers ≡ number_fields (shape_of c.survey.fields)
   numbers-same = same_fields numbers c.survey.fields (shape_of c.survey.fields) numbers_are refl

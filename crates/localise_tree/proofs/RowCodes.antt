@@ -8,7 +8,7 @@ use Rattle.edit_model.specs.declared.value.Value.{Value}
 use Rattle.edit_model.specs.declared.value.Value.TheVariants.{Code}
 use Rattle.edit_line.specs.CodeFields.{size_from, size_of}
 use Rattle.edit_line.specs.Shapes.{Categorical, Domain, Numerical, domain_of, shape_of}
-use Rattle.edit_paths.specs.Cases.{Case, IsCase}
+use Rattle.edit_paths.specs.Cases.{SearchCase, IsCase}
 
 -- A record's code at a field is one of the field's.
 
@@ -31,5 +31,5 @@ row-size i (x ∷ fields) (v ∷ values) zero k is own = by x.kind (subst (λ (w
     by (kind.Code codes) h = subst (λ (t : Bool). k < (if t then length codes else size_from (suc i) (shape_of fields) (i + 0))) (sym ((Decides-eqb i (i + 0)).1 (omega arith))) h
 row-size i (x ∷ fields) (v ∷ values) (suc f) k is own = subst (λ n. k < n) (sym (size-next i f (domain_of x.kind) (shape_of fields))) (row-size (suc i) fields values f k is.1 own)
 
-pub row-code : (c : Case) → IsCase c → (f k : ℕ) → value_of c.row f ≡ Code k → k < size_of (shape_of c.survey.fields) f
+pub row-code : (c : SearchCase) → IsCase c → (f k : ℕ) → value_of c.row f ≡ Code k → k < size_of (shape_of c.survey.fields) f
 row-code c is f k own = subst (λ n. k < size_from 0 (shape_of c.survey.fields) n) (omega arith) (row-size 0 c.survey.fields c.row f k is.row own)

@@ -5,7 +5,7 @@ use Rattle.bound_cert.specs.Paths.{path_weight}
 use Rattle.bound_cert.specs.declared.cert.Cert.{Cert}
 use Rattle.bound_cert.specs.declared.outcome.Outcome.{Outcome}
 use Rattle.bound_cert.specs.declared.outcome.Outcome.TheVariants as outcome
-use Rattle.edit_paths.specs.Cases.{Case}
+use Rattle.edit_paths.specs.Cases.{SearchCase}
 use Rattle.edit_paths.specs.Certificates.{certificate_of}
 use Rattle.edit_paths.specs.Outcomes.{end_at, end_by, outcome_of}
 use Rattle.edit_paths.specs.Paths.{is_complete}
@@ -25,14 +25,14 @@ use Rattle.localise_tree.proofs.SearchLoop.{IsSearching, left, searching-ends, s
 
 -- The loop of the search, over nodes and taken paths with their states.
 
-pub record IsRunning (c : Case) (budget spent : ℕ) (taken : List Taken) (ends : List Node) : Type 0 where
+pub record IsRunning (c : SearchCase) (budget spent : ℕ) (taken : List Taken) (ends : List Node) : Type 0 where
   pub searching : IsSearching c budget (taken_paths taken) (paths_of ends)
   pub nodes : AllByRecursion (IsNode c) ends
   pub taken_are : AllByRecursion (IsTaken c) taken
   pub spent_is : spent ≡ work_of_all c (taken_paths taken)
   pub within : spent ≤ budget
 
-module _ (c : Case) (budget spent : ℕ) (taken : List (List Bool)) (path : List Bool) (spent_is : spent ≡ work_of_all c taken) where
+module _ (c : SearchCase) (budget spent : ℕ) (taken : List (List Bool)) (path : List Bool) (spent_is : spent ≡ work_of_all c taken) where
   -- where the work passes the budget
   pub budget-end : spent ≤ budget → budget < spent + work_of c path → end_at c budget taken path ≡ Some (outcome.Budget path spent)
   budget-end within passed =
@@ -54,11 +54,11 @@ taken-more : (taken : List Taken) (t : Taken) → taken_paths (taken ++ t ∷ []
 taken-more [] t = refl
 taken-more (x ∷ taken) t = ap (λ (ps : List (List Bool)). x.path ∷ ps) (taken-more taken t)
 
-are-more : (c : Case) (taken : List Taken) (t : Taken) → AllByRecursion (IsTaken c) taken → IsTaken c t → AllByRecursion (IsTaken c) (taken ++ t ∷ [])
+are-more : (c : SearchCase) (taken : List Taken) (t : Taken) → AllByRecursion (IsTaken c) taken → IsTaken c t → AllByRecursion (IsTaken c) (taken ++ t ∷ [])
 are-more c [] t are is = (is, tt)
 are-more c (x ∷ taken) t are is = (are.0, are-more c taken t are.1 is)
 
-work-one : (c : Case) (paths : List (List Bool)) (path : List Bool) → work_of_all c (paths ++ path ∷ []) ≡ work_of_all c paths + work_of c path
+work-one : (c : SearchCase) (paths : List (List Bool)) (path : List Bool) → work_of_all c (paths ++ path ∷ []) ≡ work_of_all c paths + work_of c path
 work-one c paths path = sum_by-append (work_of c) paths (path ∷ []) ∙ ap (λ (n : ℕ). work_of_all c paths + n) (sum_by-cons (work_of c) path [] ∙ plus_zero (work_of c path))
   where
     plus_zero : (n : ℕ) → n + 0 ≡ n
@@ -72,7 +72,7 @@ pub none-is : {X : Type 0} (o : Option X) → ((x : X) → o ≡ Some x → ⊥)
 none-is None other = refl
 none-is (Some x) other = absurd (other x refl)
 
-module _ (c : Case) (budget spent : ℕ) (taken : List Taken) (ends rest : List Node) (node : Node) (running : IsRunning c budget spent taken ends) (is : ends ≡ node ∷ rest) where
+module _ (c : SearchCase) (budget spent : ℕ) (taken : List Taken) (ends rest : List Node) (node : Node) (running : IsRunning c budget spent taken ends) (is : ends ≡ node ∷ rest) where
   pub run-budget : budget - spent < work_of c node.path → outcome.Budget node.path spent ≡ outcome_of c budget
   run-budget passed =
       searching-ends c budget (taken_paths taken) (paths_of ends) (paths_of rest) node.path running.searching (ap (λ (ns : List Node). paths_of ns) is) (outcome.Budget node.path spent)
@@ -108,15 +108,15 @@ module _ (c : Case) (budget spent : ℕ) (taken : List Taken) (ends rest : List 
 -- ---- what the source keeps
 
 -- it keeps what it kept before
-pub kept-later : (c : Case) (first second : ℕ → Bool) → ((f : ℕ) → first f ≡ true → second f ≡ true) → (ends : List Node) → AreKept first c ends → AreKept second c ends
+pub kept-later : (c : SearchCase) (first second : ℕ → Bool) → ((f : ℕ) → first f ≡ true → second f ≡ true) → (ends : List Node) → AreKept first c ends → AreKept second c ends
 kept-later c first second more [] are = tt
 kept-later c first second more (node ∷ ends) ((bits, chosen, keeps), are) = ((bits, chosen, more bits keeps), kept-later c first second more ends are)
 
-pub path-later : (c : Case) (first second : ℕ → Bool) (path : List Bool) → ((f : ℕ) → first f ≡ true → second f ≡ true) → KeepsChanged first c path → KeepsChanged second c path
+pub path-later : (c : SearchCase) (first second : ℕ → Bool) (path : List Bool) → ((f : ℕ) → first f ≡ true → second f ≡ true) → KeepsChanged first c path → KeepsChanged second c path
 path-later c first second path more (bits, chosen, keeps) = (bits, chosen, more bits keeps)
 
 -- a change ends an open path, which is its own
-change-open : (c : Case) (taken : List (List Bool)) (path : List Bool) (state : PathState) (chosen : List Bool) (weight : ℕ) (cert : Cert) → Some (outcome.Change chosen weight cert) ≡ end_by c taken path state → (state ≡ Open) × (path ≡ chosen)
+change-open : (c : SearchCase) (taken : List (List Bool)) (path : List Bool) (state : PathState) (chosen : List Bool) (weight : ℕ) (cert : Cert) → Some (outcome.Change chosen weight cert) ≡ end_by c taken path state → (state ≡ Open) × (path ≡ chosen)
 change-open c taken path (Overflows e) chosen weight cert is = absurd (cc is)
 change-open c taken path ClosedBad chosen weight cert is = absurd (cc is)
 change-open c taken path (ClosedLine i) chosen weight cert is = absurd (cc is)
@@ -129,7 +129,7 @@ change-open c taken path Open chosen weight cert is = by (is_complete c path) is
     by false e = absurd (cc e)
 
 -- so the source keeps its fields
-pub change-kept : (c : Case) (taken : List (List Bool)) (path : List Bool) (state : PathState) (end : Option Outcome) (o : Outcome) (first second : ℕ → Bool) → end ≡ end_by c taken path state → end ≡ Some o
+pub change-kept : (c : SearchCase) (taken : List (List Bool)) (path : List Bool) (state : PathState) (end : Option Outcome) (o : Outcome) (first second : ℕ → Bool) → end ≡ end_by c taken path state → end ≡ Some o
     → ((f : ℕ) → first f ≡ true → second f ≡ true) → (state ≡ Open → KeepsChanged first c path) → KeepsChange second c o
 change-kept c taken path state end o first second told is more kept chosen weight cert change =
     let (opened, same) = change-open c taken path state chosen weight cert (ap (λ (x : Outcome). Some x) (sym change) ∙ sym is ∙ told) in

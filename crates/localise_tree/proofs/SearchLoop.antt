@@ -4,7 +4,7 @@ use Rattle.std.proofs.lemmas.List.Sorted.{IsPermutation-refl, IsPermutation-sym}
 use Rattle.std.specs.Option.{unwrap_or}
 use Rattle.edit_line.specs.Reductions.{IsIn}
 use Rattle.bound_cert.specs.declared.outcome.Outcome.{Outcome}
-use Rattle.edit_paths.specs.Cases.{Case}
+use Rattle.edit_paths.specs.Cases.{SearchCase}
 use Rattle.edit_paths.specs.Outcomes.{end_at, outcome_from, outcome_of}
 use Rattle.edit_paths.specs.Paths.{field_count}
 use Rattle.edit_paths.specs.ReachedPaths.{in_order, is_before, placed}
@@ -16,16 +16,16 @@ use Rattle.edit_paths.proofs.ReachedLaws.{first-end, next-fits, reached_beyond, 
 -- The loop of a search over a sorted list of ends.
 
 -- how many paths are left
-abbrev pub left : Case → List (List Bool) → ℕ
+abbrev pub left : SearchCase → List (List Bool) → ℕ
 left c ends = length (in_order (is_before c.survey.fields) (reached_beyond c ends))
 
 -- the ends are sorted, no longer than the fields, and the outcome is that of the paths beyond them
-pub record IsSearching (c : Case) (budget : ℕ) (taken ends : List (List Bool)) : Type 0 where
+pub record IsSearching (c : SearchCase) (budget : ℕ) (taken ends : List (List Bool)) : Type 0 where
   pub fit : (x : List Bool) → IsIn x ends → length x ≤ field_count c
   pub sorted : IsSorted (is_before c.survey.fields) (before-total c) (before-chain c) (before-equal c) ends
   pub rest : outcome_from c budget taken (in_order (is_before c.survey.fields) (reached_beyond c ends)) ≡ outcome_of c budget
 
-module _ (c : Case) (budget : ℕ) where
+module _ (c : SearchCase) (budget : ℕ) where
   module _ (taken ends rest : List (List Bool)) (path : List Bool) (before : IsSearching c budget taken ends) (is : ends ≡ path ∷ rest) where
     searching : IsSearching c budget taken (path ∷ rest)
     searching = subst (λ (ps : List (List Bool)). IsSearching c budget taken ps) is before

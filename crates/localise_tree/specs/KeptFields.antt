@@ -4,13 +4,13 @@ use Rattle.linear_elim.specs.Systems.{chosen_fields}
 use Rattle.bound_cert.specs.declared.cert.Cert.{Cert}
 use Rattle.bound_cert.specs.declared.outcome.Outcome.{Outcome}
 use Rattle.bound_cert.specs.declared.outcome.Outcome.TheVariants as outcome
-use Rattle.edit_paths.specs.Cases.{Case}
+use Rattle.edit_paths.specs.Cases.{SearchCase}
 use Rattle.edit_paths.specs.Paths.{changed_numbers}
 
 -- the source keeps the system of the numerical fields that the path changes
-abbrev pub KeepsChanged : (ℕ → Bool) → Case → List Bool → Type 0
+abbrev pub KeepsChanged : (ℕ → Bool) → SearchCase → List Bool → Type 0
 KeepsChanged keeps c path = (bits : ℕ) × (chosen_fields (shape_of c.survey.fields) bits ≡ changed_numbers c path) × (keeps bits ≡ true)
 
 -- at a change, the source keeps the system of the numerical fields that are changed
-abbrev pub KeepsChange : (ℕ → Bool) → Case → Outcome → Type 0
+abbrev pub KeepsChange : (ℕ → Bool) → SearchCase → Outcome → Type 0
 KeepsChange keeps c o = (path : List Bool) (weight : ℕ) (cert : Cert) → o ≡ outcome.Change path weight cert → KeepsChanged keeps c path

@@ -14,7 +14,7 @@ use Rattle.edit_normal.proofs.NormalLines.{normal-lines, normal-over}
 use Rattle.derivation.specs.Refutations.{RefutedBy, left_before, no_values, refutation_of}
 use Rattle.derivation.specs.declared.step.Step.{Step}
 use Rattle.derivation.specs.Premises.{usable_lines}
-use Rattle.edit_paths.specs.Cases.{AreGiven}
+use Rattle.edit_paths.specs.Cases.{AreUsableAmong}
 use Rattle.redundancy.specs.Verdicts.{keeps_line, usable_from}
 use Rattle.redundancy.specs.declared.verdict.Verdict.{Verdict}
 use Rattle.redundancy.specs.declared.verdict.Verdict.TheVariants.{Dropped}
@@ -40,7 +40,7 @@ taken-all P lines taken all = all-in P (map (λ (e : ℕ × LineParts). e.1) (us
     subst (λ l. P l) (sym same) (in-all P e.1 lines all (usable-given 0 lines taken e was).0))
 
 -- each stands at its number
-pub taken-given : (lines : List LineParts) (taken : List Bool) → AreGiven lines taken (usable_from 0 lines taken)
+pub taken-given : (lines : List LineParts) (taken : List Bool) → AreUsableAmong lines taken (usable_from 0 lines taken)
 taken-given lines taken e there =
     let (place, number, at, is_taken) = usable-place 0 lines taken e there in
     let same : place ≡ e.0 = omega (arith, number) in

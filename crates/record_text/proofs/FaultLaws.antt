@@ -16,8 +16,8 @@ by_first false true fault other rest e = (refl, refl, e)
 by_first false false fault other rest e = absurd (cc e)
 
 -- of faultless rows, the first is not past the last number, it is as long as the header, and the others are faultless
-pub first_is_right : (i width : ℕ) (raw : List (List ℕ)) (raws : List (List (List ℕ))) → row_fault i width (raw ∷ raws) ≡ None → ((i == 200000) ≡ false) × ((length raw == width) ≡ true) × (row_fault (suc i) width raws ≡ None)
-first_is_right i width raw raws e = by_first (i == 200000) (length raw == width) TooManyRows (RowLength i) (row_fault (suc i) width raws) e
+pub first_is_right : (i width : ℕ) (raw : List (List ℕ)) (row_texts : List (List (List ℕ))) → row_fault i width (raw ∷ row_texts) ≡ None → ((i == 200000) ≡ false) × ((length raw == width) ≡ true) × (row_fault (suc i) width row_texts ≡ None)
+first_is_right i width raw row_texts e = by_first (i == 200000) (length raw == width) TooManyRows (RowLength i) (row_fault (suc i) width row_texts) e
 
 -- what is wrong with rows behind faultless ones is what is wrong from there on
 pub fault_behind : (i width : ℕ) (done rest : List (List (List ℕ))) → row_fault i width done ≡ None → row_fault i width (done ++ rest) ≡ row_fault (length done + i) width rest
@@ -49,21 +49,21 @@ faulty_count width done rest raw e full =
 -- ---- what follows where nothing is wrong
 
 -- each row is as long as the header
-pub rows_equally_long : (i width : ℕ) (raws : List (List (List ℕ))) → row_fault i width raws ≡ None → AllByRecursion (λ raw. length raw ≡ width) raws
+pub rows_equally_long : (i width : ℕ) (row_texts : List (List (List ℕ))) → row_fault i width row_texts ≡ None → AllByRecursion (λ raw. length raw ≡ width) row_texts
 rows_equally_long i width [] e = tt
-rows_equally_long i width (raw ∷ raws) e =
-    let first = first_is_right i width raw raws e in
+rows_equally_long i width (raw ∷ row_texts) e =
+    let first = first_is_right i width raw row_texts e in
     let fits = first.1 in
-    (grind (arith, nat_tests), rows_equally_long (suc i) width raws first.2)
+    (grind (arith, nat_tests), rows_equally_long (suc i) width row_texts first.2)
 
 -- and there are at most 200,000
-pub few_rows : (i width : ℕ) (raws : List (List (List ℕ))) → i ≤ 200000 → row_fault i width raws ≡ None → length raws + i ≤ 200000
+pub few_rows : (i width : ℕ) (row_texts : List (List (List ℕ))) → i ≤ 200000 → row_fault i width row_texts ≡ None → length row_texts + i ≤ 200000
 few_rows i width [] le e = omega arith
-few_rows i width (raw ∷ raws) le e =
-    let first = first_is_right i width raw raws e in
+few_rows i width (raw ∷ row_texts) le e =
+    let first = first_is_right i width raw row_texts e in
     let other = first.0 in
     let below : i < 200000 = grind (arith, nat_tests) in
-    omega (arith, few_rows (suc i) width raws below first.2)
+    omega (arith, few_rows (suc i) width row_texts below first.2)
 
 -- the header and the rows of records with nothing wrong
 by_parts : (many : Bool) (fault : SheetFault) (a b : Option SheetFault) → (if many then Some fault else option_or a b) ≡ None → (many ≡ false) × (a ≡ None) × (b ≡ None)
@@ -71,6 +71,6 @@ by_parts true fault a b e = absurd (cc e)
 by_parts false fault None b e = (refl, refl, e)
 by_parts false fault (Some x) b e = absurd (cc e)
 
-pub faultless_parts : (fields : List Field) (first : List (List ℕ)) (raws : List (List (List ℕ))) → sheet_fault fields (first ∷ raws) ≡ None
-    → (nat_lt 256 (length first) ≡ false) × (column_fault 0 fields (header_of first) ≡ None) × (row_fault 0 (length first) raws ≡ None)
-faultless_parts fields first raws e = by_parts (nat_lt 256 (length first)) TooManyColumns (column_fault 0 fields (header_of first)) (row_fault 0 (length first) raws) e
+pub faultless_parts : (fields : List Field) (first : List (List ℕ)) (row_texts : List (List (List ℕ))) → sheet_fault fields (first ∷ row_texts) ≡ None
+    → (nat_lt 256 (length first) ≡ false) × (column_fault 0 fields (header_of first) ≡ None) × (row_fault 0 (length first) row_texts ≡ None)
+faultless_parts fields first row_texts e = by_parts (nat_lt 256 (length first)) TooManyColumns (column_fault 0 fields (header_of first)) (row_fault 0 (length first) row_texts) e

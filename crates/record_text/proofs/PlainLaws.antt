@@ -70,12 +70,12 @@ values_plain (field ∷ fields) (column ∷ columns) raw [] are = absurd are
 values_plain (field ∷ fields) (column ∷ columns) raw (v ∷ values) are = (value_plain field.kind _ v are.0, values_plain fields columns raw values are.1)
 
 -- the numbers of a sheet are plain
-pub rows_plain : (fields : List Field) (columns : List ℕ) (raws : List (List (List ℕ))) (rows : List (List Value)) → AreRows fields columns raws rows → AllByRecursion HasPlain rows
+pub rows_plain : (fields : List Field) (columns : List ℕ) (row_texts : List (List (List ℕ))) (rows : List (List Value)) → AreRows fields columns row_texts rows → AllByRecursion HasPlain rows
 rows_plain fields columns [] [] are = tt
 rows_plain fields columns [] (row ∷ rows) are = absurd are
-rows_plain fields columns (raw ∷ raws) [] are = absurd are
-rows_plain fields columns (raw ∷ raws) (row ∷ rows) are = (values_plain fields columns raw row are.0, rows_plain fields columns raws rows are.1)
+rows_plain fields columns (raw ∷ row_texts) [] are = absurd are
+rows_plain fields columns (raw ∷ row_texts) (row ∷ rows) are = (values_plain fields columns raw row are.0, rows_plain fields columns row_texts rows are.1)
 
 pub plain_by_sheet : (fields : List Field) (bytes : List ℕ) (r : Result SheetParts SheetFault) → IfOk r (λ sheet. IsSheet fields bytes sheet) → IfOk r (λ sheet. AllByRecursion HasPlain sheet.rows)
-plain_by_sheet fields bytes (Ok sheet) is = rows_plain fields sheet.columns sheet.raws sheet.rows is.values
+plain_by_sheet fields bytes (Ok sheet) is = rows_plain fields sheet.columns sheet.row_texts sheet.rows is.values
 plain_by_sheet fields bytes (Err e) is = tt

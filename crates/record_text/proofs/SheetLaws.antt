@@ -36,8 +36,8 @@ same_sheet_fault fields bytes a b is other =
 -- bytes with a fault have no sheet
 pub sheet_excludes_fault : (fields : List Field) (bytes : List ℕ) (sheet : SheetParts) (fault : SheetFault) → IsSheet fields bytes sheet → ¬ IsSheetFault fields bytes fault
 sheet_excludes_fault fields bytes sheet fault is other =
-    let records = records_of bytes (is.first ∷ sheet.raws) other.records is.given other.given in
-    let found : sheet_fault fields (is.first ∷ sheet.raws) ≡ Some fault = ap (sheet_fault fields) (sym records) ∙ other.found in
+    let records = records_of bytes (is.first ∷ sheet.row_texts) other.records is.given other.given in
+    let found : sheet_fault fields (is.first ∷ sheet.row_texts) ≡ Some fault = ap (sheet_fault fields) (sym records) ∙ other.found in
     cc (found, is.faultless)
 
 -- so where a fault is answered there is no sheet
@@ -47,25 +47,25 @@ unread_by_fault fields bytes (Ok t) found = tt
 unread_by_fault fields bytes (Err e) found = λ other sheet is. sheet_excludes_fault fields bytes sheet e is (found other)
 
 -- bytes have one sheet: one header, and the same columns, texts and values
-pub same_sheet : (fields : List Field) (bytes : List ℕ) (a b : SheetParts) → IsSheet fields bytes a → IsSheet fields bytes b → (a.header ≡ b.header) × (a.columns ≡ b.columns) × (a.raws ≡ b.raws) × (a.rows ≡ b.rows)
+pub same_sheet : (fields : List Field) (bytes : List ℕ) (a b : SheetParts) → IsSheet fields bytes a → IsSheet fields bytes b → (a.header ≡ b.header) × (a.columns ≡ b.columns) × (a.row_texts ≡ b.row_texts) × (a.rows ≡ b.rows)
 same_sheet fields bytes a b is other =
-    let records = records_of bytes (other.first ∷ b.raws) (is.first ∷ a.raws) other.given is.given in
+    let records = records_of bytes (other.first ∷ b.row_texts) (is.first ∷ a.row_texts) other.given is.given in
     let first : is.first ≡ other.first = cc records in
-    let raws : a.raws ≡ b.raws = cc records in
+    let row_texts : a.row_texts ≡ b.row_texts = cc records in
     let header : a.header ≡ b.header = cc (is.header, other.header, first) in
     let columns : a.columns ≡ b.columns = same_columns fields b.header a.columns b.columns (rw header at is.columns) other.columns in
-    (header, columns, raws, rows_once fields b.columns b.raws a.rows b.rows (rw (columns, raws) at is.values) other.values)
+    (header, columns, row_texts, rows_once fields b.columns b.row_texts a.rows b.rows (rw (columns, row_texts) at is.values) other.values)
 
 -- so the sheet that is answered is the only one
-same_parts : (a b : SheetParts) → a.header ≡ b.header → a.columns ≡ b.columns → a.raws ≡ b.raws → a.rows ≡ b.rows → a ≡ b
-same_parts a b header columns raws rows =
-    ap (λ (h : List (List ℕ)). record { header = h; columns = a.columns; raws = a.raws; rows = a.rows }) header
-    ∙ ap (λ (cs : List ℕ). record { header = b.header; columns = cs; raws = a.raws; rows = a.rows }) columns
-    ∙ ap (λ (ts : List (List (List ℕ))). record { header = b.header; columns = b.columns; raws = ts; rows = a.rows }) raws
-    ∙ ap (λ (vs : List (List Value)). record { header = b.header; columns = b.columns; raws = b.raws; rows = vs }) rows
+same_parts : (a b : SheetParts) → a.header ≡ b.header → a.columns ≡ b.columns → a.row_texts ≡ b.row_texts → a.rows ≡ b.rows → a ≡ b
+same_parts a b header columns row_texts rows =
+    ap (λ (h : List (List ℕ)). record { header = h; columns = a.columns; row_texts = a.row_texts; rows = a.rows }) header
+    ∙ ap (λ (cs : List ℕ). record { header = b.header; columns = cs; row_texts = a.row_texts; rows = a.rows }) columns
+    ∙ ap (λ (ts : List (List (List ℕ))). record { header = b.header; columns = b.columns; row_texts = ts; rows = a.rows }) row_texts
+    ∙ ap (λ (vs : List (List Value)). record { header = b.header; columns = b.columns; row_texts = b.row_texts; rows = vs }) rows
 
 pub only_by_sheet : (fields : List Field) (bytes : List ℕ) (r : Result SheetParts SheetFault) → IfOk r (λ sheet. IsSheet fields bytes sheet) → IfOk r (λ sheet. (other : SheetParts) → IsSheet fields bytes other → other ≡ sheet)
-only_by_sheet fields bytes (Ok sheet) is = λ other also. let (header, columns, raws, rows) = same_sheet fields bytes other sheet also is in same_parts other sheet header columns raws rows
+only_by_sheet fields bytes (Ok sheet) is = λ other also. let (header, columns, row_texts, rows) = same_sheet fields bytes other sheet also is in same_parts other sheet header columns row_texts rows
 only_by_sheet fields bytes (Err e) is = tt
 
 -- and so is the fault
@@ -83,21 +83,21 @@ module _ (fields : List Field) (bytes : List ℕ) (sheet : SheetParts) (is : IsS
   -- the header has at least one text
   pub header_has_text : 1 ≤ length sheet.header
   header_has_text =
-      let some = first_has_field default_config st.StartRecord (strip_bom (strip_bom bytes)) is.first sheet.raws is.given in
+      let some = first_has_field default_config st.StartRecord (strip_bom (strip_bom bytes)) is.first sheet.row_texts is.given in
       omega (arith, first_length)
 
   -- each row has as many texts as the header
-  pub raws_as_long_as_header : AllByRecursion (λ raw. length raw ≡ length sheet.header) sheet.raws
-  raws_as_long_as_header = rw first_length (rows_equally_long 0 (length is.first) sheet.raws (faultless_parts fields is.first sheet.raws is.faultless).2)
+  pub row_texts_as_long_as_header : AllByRecursion (λ raw. length raw ≡ length sheet.header) sheet.row_texts
+  row_texts_as_long_as_header = rw first_length (rows_equally_long 0 (length is.first) sheet.row_texts (faultless_parts fields is.first sheet.row_texts is.faultless).2)
 
   -- there are as many texts as values of rows, at most 200,000
-  pub as_many_raws_as_rows : length sheet.raws ≡ length sheet.rows
-  as_many_raws_as_rows = rows_length fields sheet.columns sheet.raws sheet.rows is.values
+  pub as_many_row_texts_as_rows : length sheet.row_texts ≡ length sheet.rows
+  as_many_row_texts_as_rows = rows_length fields sheet.columns sheet.row_texts sheet.rows is.values
 
   pub few_sheet_rows : length sheet.rows ≤ 200000
   few_sheet_rows =
-      let few = few_rows 0 (length is.first) sheet.raws (omega arith) (faultless_parts fields is.first sheet.raws is.faultless).2 in
-      omega (arith, as_many_raws_as_rows)
+      let few = few_rows 0 (length is.first) sheet.row_texts (omega arith) (faultless_parts fields is.first sheet.row_texts is.faultless).2 in
+      omega (arith, as_many_row_texts_as_rows)
 
   -- there is one column for each field, and it is one of the header's
   pub one_column_a_field : length sheet.columns ≡ length fields
@@ -112,8 +112,8 @@ module _ (fields : List Field) (bytes : List ℕ) (sheet : SheetParts) (is : IsS
 
   -- each row is a record of the survey
   pub rows_are_records : AllByRecursion (IsRow fields) sheet.rows
-  rows_are_records = all_are_rows fields sheet.columns sheet.raws sheet.rows is.values
+  rows_are_records = all_are_rows fields sheet.columns sheet.row_texts sheet.rows is.values
 
   -- the header and the texts of all rows may be written
-  pub sheet_is_written : AreEquallyLong (sheet.header ∷ sheet.raws)
-  sheet_is_written = (header_has_text, raws_as_long_as_header)
+  pub sheet_is_written : AreEquallyLong (sheet.header ∷ sheet.row_texts)
+  sheet_is_written = (header_has_text, row_texts_as_long_as_header)

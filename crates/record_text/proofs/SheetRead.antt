@@ -43,17 +43,17 @@ module _ (fields : List Field) (bytes : List ℕ) (texts : List (List ℕ)) (the
 
   pub faulty_rows : (fault : SheetFault) (columns : List ℕ) → nat_lt 256 (length texts) ≡ false → StandIn fields (header_of texts) columns → IsRowFault (length texts) there fault → IsSheetFault fields bytes fault
   faulty_rows fault columns few stand row = record {
-    records = texts ∷ row.raws;
-    given = all_records row.raws row.records;
+    records = texts ∷ row.row_texts;
+    given = all_records row.row_texts row.records;
     found = rw (few, stand_faultless fields (header_of texts) columns 0 stand) row.found;
   }
 
   -- nothing is wrong, and these are the parts of the sheet
   pub sheet_read : (sheet : SheetParts) → nat_lt 256 (length texts) ≡ false → sheet.header ≡ header_of texts → StandIn fields (header_of texts) sheet.columns
-      → AreRowsFrom fields sheet.columns (length texts) there sheet.raws sheet.rows → IsSheet fields bytes sheet
+      → AreRowsFrom fields sheet.columns (length texts) there sheet.row_texts sheet.rows → IsSheet fields bytes sheet
   sheet_read sheet few header stand rows = record {
     first = texts;
-    given = all_records sheet.raws rows.records;
+    given = all_records sheet.row_texts rows.records;
     faultless = rw (few, stand_faultless fields (header_of texts) sheet.columns 0 stand) rows.faultless;
     header = header;
     columns = rw header stand;

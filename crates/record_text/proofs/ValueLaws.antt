@@ -45,32 +45,32 @@ values_are_row (f ∷ fields) (c ∷ columns) raw (v ∷ values) h = (value_is_o
 -- ---- all rows
 
 -- a row more
-pub rows_more : (fields : List Field) (columns : List ℕ) (raws : List (List (List ℕ))) (rows : List (List Value)) (raw : List (List ℕ)) (values : List Value)
-    → AreRows fields columns raws rows → AreValues fields columns raw values → AreRows fields columns (raws ++ raw ∷ []) (rows ++ values ∷ [])
+pub rows_more : (fields : List Field) (columns : List ℕ) (row_texts : List (List (List ℕ))) (rows : List (List Value)) (raw : List (List ℕ)) (values : List Value)
+    → AreRows fields columns row_texts rows → AreValues fields columns raw values → AreRows fields columns (row_texts ++ raw ∷ []) (rows ++ values ∷ [])
 rows_more fields columns [] [] raw values h row = (row, tt)
 rows_more fields columns [] (w ∷ rows) raw values h row = absurd h
-rows_more fields columns (r ∷ raws) [] raw values h row = absurd h
-rows_more fields columns (r ∷ raws) (w ∷ rows) raw values h row = (h.0, rows_more fields columns raws rows raw values h.1 row)
+rows_more fields columns (r ∷ row_texts) [] raw values h row = absurd h
+rows_more fields columns (r ∷ row_texts) (w ∷ rows) raw values h row = (h.0, rows_more fields columns row_texts rows raw values h.1 row)
 
 -- there are as many texts as values
-pub rows_length : (fields : List Field) (columns : List ℕ) (raws : List (List (List ℕ))) (rows : List (List Value)) → AreRows fields columns raws rows → length raws ≡ length rows
+pub rows_length : (fields : List Field) (columns : List ℕ) (row_texts : List (List (List ℕ))) (rows : List (List Value)) → AreRows fields columns row_texts rows → length row_texts ≡ length rows
 rows_length fields columns [] [] h = refl
 rows_length fields columns [] (w ∷ rows) h = absurd h
-rows_length fields columns (r ∷ raws) [] h = absurd h
-rows_length fields columns (r ∷ raws) (w ∷ rows) h = omega (arith, rows_length fields columns raws rows h.1)
+rows_length fields columns (r ∷ row_texts) [] h = absurd h
+rows_length fields columns (r ∷ row_texts) (w ∷ rows) h = omega (arith, rows_length fields columns row_texts rows h.1)
 
 -- the texts and the values of the row of a number belong together
-pub values_at : (fields : List Field) (columns : List ℕ) (raws : List (List (List ℕ))) (rows : List (List Value)) (i : ℕ) → AreRows fields columns raws rows → i < length rows
-    → AreValues fields columns (get_or raws i []) (get_or rows i [])
+pub values_at : (fields : List Field) (columns : List ℕ) (row_texts : List (List (List ℕ))) (rows : List (List Value)) (i : ℕ) → AreRows fields columns row_texts rows → i < length rows
+    → AreValues fields columns (get_or row_texts i []) (get_or rows i [])
 values_at fields columns [] [] i h lt = absurd (omega arith)
 values_at fields columns [] (row ∷ rows) i h lt = absurd h
-values_at fields columns (raw ∷ raws) [] i h lt = absurd h
-values_at fields columns (raw ∷ raws) (row ∷ rows) zero h lt = h.0
-values_at fields columns (raw ∷ raws) (row ∷ rows) (suc i) h lt = values_at fields columns raws rows i h.1 (omega arith)
+values_at fields columns (raw ∷ row_texts) [] i h lt = absurd h
+values_at fields columns (raw ∷ row_texts) (row ∷ rows) zero h lt = h.0
+values_at fields columns (raw ∷ row_texts) (row ∷ rows) (suc i) h lt = values_at fields columns row_texts rows i h.1 (omega arith)
 
 -- each row is a record of the survey
-pub all_are_rows : (fields : List Field) (columns : List ℕ) (raws : List (List (List ℕ))) (rows : List (List Value)) → AreRows fields columns raws rows → AllByRecursion (IsRow fields) rows
+pub all_are_rows : (fields : List Field) (columns : List ℕ) (row_texts : List (List (List ℕ))) (rows : List (List Value)) → AreRows fields columns row_texts rows → AllByRecursion (IsRow fields) rows
 all_are_rows fields columns [] [] h = tt
 all_are_rows fields columns [] (row ∷ rows) h = absurd h
-all_are_rows fields columns (raw ∷ raws) [] h = absurd h
-all_are_rows fields columns (raw ∷ raws) (row ∷ rows) h = (values_are_row fields columns raw row h.0, all_are_rows fields columns raws rows h.1)
+all_are_rows fields columns (raw ∷ row_texts) [] h = absurd h
+all_are_rows fields columns (raw ∷ row_texts) (row ∷ rows) h = (values_are_row fields columns raw row h.0, all_are_rows fields columns row_texts rows h.1)

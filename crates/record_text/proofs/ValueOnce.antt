@@ -83,13 +83,13 @@ values_once (f ∷ fields) (c ∷ columns) raw (x ∷ v) (y ∷ w) is other =
     let rest = values_once fields columns raw v w is.1 other.1 in
     cc (first, rest)
 
-pub rows_once : (fields : List Field) (columns : List ℕ) (raws : List (List (List ℕ))) (a b : List (List Value)) → AreRows fields columns raws a → AreRows fields columns raws b → a ≡ b
+pub rows_once : (fields : List Field) (columns : List ℕ) (row_texts : List (List (List ℕ))) (a b : List (List Value)) → AreRows fields columns row_texts a → AreRows fields columns row_texts b → a ≡ b
 rows_once fields columns [] [] [] is other = refl
 rows_once fields columns [] [] (y ∷ b) is other = absurd other
 rows_once fields columns [] (x ∷ a) b is other = absurd is
-rows_once fields columns (raw ∷ raws) [] b is other = absurd is
-rows_once fields columns (raw ∷ raws) (x ∷ a) [] is other = absurd other
-rows_once fields columns (raw ∷ raws) (x ∷ a) (y ∷ b) is other =
+rows_once fields columns (raw ∷ row_texts) [] b is other = absurd is
+rows_once fields columns (raw ∷ row_texts) (x ∷ a) [] is other = absurd other
+rows_once fields columns (raw ∷ row_texts) (x ∷ a) (y ∷ b) is other =
     let first = values_once fields columns raw x y is.0 other.0 in
-    let rest = rows_once fields columns raws a b is.1 other.1 in
+    let rest = rows_once fields columns row_texts a b is.1 other.1 in
     cc (first, rest)

@@ -20,15 +20,15 @@ column_fault i (field ∷ fields) header = option_or (field_fault i (columns_of 
 -- the fault of the first faulty row, from number i on: it is row 200,000 from 0, or has not as many fields as the header
 abbrev pub row_fault : ℕ → ℕ → List (List (List ℕ)) → Option SheetFault
 row_fault i width [] = None
-row_fault i width (raw ∷ raws) =
+row_fault i width (raw ∷ row_texts) =
     if i == 200000 then Some TooManyRows
-    else if length raw == width then row_fault (suc i) width raws
+    else if length raw == width then row_fault (suc i) width row_texts
     else Some (RowLength i)
 
 -- the first of what is wrong with the records of a file: no header, a header of more than 256 columns, a field without its
 -- one column, a faulty row; None where nothing is
 abbrev pub sheet_fault : List Field → List (List (List ℕ)) → Option SheetFault
 sheet_fault fields [] = Some NoHeader
-sheet_fault fields (first ∷ raws) =
+sheet_fault fields (first ∷ row_texts) =
     if nat_lt 256 (length first) then Some TooManyColumns
-    else option_or (column_fault 0 fields (header_of first)) (row_fault 0 (length first) raws)
+    else option_or (column_fault 0 fields (header_of first)) (row_fault 0 (length first) row_texts)

@@ -13,7 +13,7 @@ use Rattle.record_text.specs.declared.fault.SheetFault.{SheetFault}
 pub record SheetParts : Type 0 where
   pub header : List (List ℕ)
   pub columns : List ℕ
-  pub raws : List (List (List ℕ))
+  pub row_texts : List (List (List ℕ))
   pub rows : List (List Value)
 
 -- the records that csv gives by its default settings; one byte order mark is taken off before, and csv takes off one more
@@ -24,11 +24,11 @@ AreRecordsOf bytes records = AreRecords default_config st.StartRecord (strip_bom
 -- each field stands in its column, and each row has the values of its texts there
 pub record IsSheet (fields : List Field) (bytes : List ℕ) (sheet : SheetParts) : Type 0 where
   pub first : List (List ℕ)
-  pub given : AreRecordsOf bytes (first ∷ sheet.raws)
-  pub faultless : sheet_fault fields (first ∷ sheet.raws) ≡ None
+  pub given : AreRecordsOf bytes (first ∷ sheet.row_texts)
+  pub faultless : sheet_fault fields (first ∷ sheet.row_texts) ≡ None
   pub header : sheet.header ≡ header_of first
   pub columns : StandIn fields sheet.header sheet.columns
-  pub values : AreRows fields sheet.columns sheet.raws sheet.rows
+  pub values : AreRows fields sheet.columns sheet.row_texts sheet.rows
 
 -- what is wrong with the bytes' records
 pub record IsSheetFault (fields : List Field) (bytes : List ℕ) (fault : SheetFault) : Type 0 where

@@ -33,5 +33,5 @@ AreValues _ _ raw _ = ⊥
 -- the values of each row
 abbrev pub AreRows : List Field → List ℕ → List (List (List ℕ)) → List (List Value) → Type 0
 AreRows fields columns [] [] = Unit {0}
-AreRows fields columns (raw ∷ raws) (row ∷ rows) = AreValues fields columns raw row × AreRows fields columns raws rows
+AreRows fields columns (raw ∷ row_texts) (row ∷ rows) = AreValues fields columns raw row × AreRows fields columns row_texts rows
 AreRows fields columns _ _ = ⊥

@@ -52,7 +52,7 @@ fn read_sheet(alloc: Global, survey: &Survey, bytes: &[u8]) -> Result<Sheet, She
     }
     let header = Texts::of_header(alloc, &csv_record)?;
     let columns = find_columns(alloc, survey.fields(), &header)?;
-    let (raws, rows) = read_rows(
+    let (row_texts, rows) = read_rows(
         alloc,
         survey,
         &columns,
@@ -60,7 +60,7 @@ fn read_sheet(alloc: Global, survey: &Survey, bytes: &[u8]) -> Result<Sheet, She
         &mut reader,
         &mut csv_record,
     )?;
-    Ok(Sheet::from_parts(header, columns, raws, rows))
+    Ok(Sheet::from_parts(header, columns, row_texts, rows))
 }
 
 /// All further records, as rows of `width` texts. `csv_record` is overwritten.
@@ -77,24 +77,24 @@ fn read_rows(
     ensures rows { IfOk result (λ parts. AreRowsBehind reader.old survey.now.fields columns.now width parts.0.items parts.1.items) }
     ensures fault { IfErr result (λ e. e ≢ SheetFault.OutOfMemory → (here : Place) → IsAt reader.old here → IsRowFault width here e) }
 {
-    let mut raws = Vec::new(alloc);
+    let mut row_texts = Vec::new(alloc);
     let mut rows = Vec::new(alloc);
     for row_no in 0..MOST_ROWS {
         if !read_next(reader, csv_record)? {
-            return Ok((raws, rows));
+            return Ok((row_texts, rows));
         }
         if csv_record.len() != width {
             return Err(SheetFault::RowLength { row_no });
         }
         let texts = Texts::of_record(alloc, csv_record)?;
         let row = read_row(alloc, survey, columns, &texts)?;
-        raws.push(texts)?;
+        row_texts.push(texts)?;
         rows.push(row)?;
     }
     if read_next(reader, csv_record)? {
         return Err(SheetFault::TooManyRows);
     }
-    Ok((raws, rows))
+    Ok((row_texts, rows))
 }
 
 /// The row of these texts.

@@ -11,7 +11,7 @@ use std::marker::Model;
 pub struct Sheet {
     header: Texts,
     columns: Vec<u32>,
-    raws: Vec<Texts>,
+    row_texts: Vec<Texts>,
     rows: Vec<Row>,
 }
 
@@ -21,9 +21,9 @@ impl Model for Sheet {
 
     ghost Value = { SheetParts };
 
-    ghost view = { λ s. record { header = s.header; columns = s.columns.items; raws = s.raws.items; rows = s.rows.items } };
+    ghost view = { λ s. record { header = s.header; columns = s.columns.items; row_texts = s.row_texts.items; rows = s.rows.items } };
 
-    ghost invariant = { λ s. (length s.raws.items ≡ length s.rows.items) × (length s.rows.items ≤ 200000) };
+    ghost invariant = { λ s. (length s.row_texts.items ≡ length s.rows.items) × (length s.rows.items ≤ 200000) };
 }
 
 /// The parts of a sheet: the header, the column of each field, and the texts and the values of its rows, in
@@ -32,26 +32,26 @@ impl Model for Sheet {
 pub struct SheetRows {
     pub header: Texts,
     pub columns: Sequence<u32>,
-    pub raws: Sequence<Texts>,
+    pub row_texts: Sequence<Texts>,
     pub rows: Sequence<Row>,
 }
 
 impl Sheet {
-    /// The sheet of these parts. There are as many `raws` as `rows`, and at most 200,000. No memory.
+    /// The sheet of these parts. There are as many `row_texts` as `rows`, and at most 200,000. No memory.
     pub(crate) fn from_parts(
         header: Texts,
         columns: Vec<u32>,
-        raws: Vec<Texts>,
+        row_texts: Vec<Texts>,
         rows: Vec<Row>,
     ) -> Sheet
-        requires equal { length raws.items ≡ length rows.items }
+        requires equal { length row_texts.items ≡ length rows.items }
         requires few { length rows.items ≤ 200000 }
-        ensures { result ≡ record { header = header; columns = columns.items; raws = raws.items; rows = rows.items } }
+        ensures { result ≡ record { header = header; columns = columns.items; row_texts = row_texts.items; rows = rows.items } }
     {
         Sheet {
             header,
             columns,
-            raws,
+            row_texts,
             rows,
         }
     }
@@ -59,7 +59,7 @@ impl Sheet {
     /// How many rows there are. No memory.
     pub fn len(&self) -> u32
         ensures rows { result ≡ length self.now.rows }
-        ensures raws { result ≡ length self.now.raws }
+        ensures row_texts { result ≡ length self.now.row_texts }
     {
         self.rows.len() as u32
     }
@@ -88,10 +88,10 @@ impl Sheet {
 
     /// The texts of the row of this number, from 0. No memory.
     pub fn raw(&self, row_no: u32) -> &Texts
-        requires { row_no < length self.now.raws }
-        ensures { result.now ≡ slice_index_or self.now.raws row_no [] }
+        requires { row_no < length self.now.row_texts }
+        ensures { result.now ≡ slice_index_or self.now.row_texts row_no [] }
     {
-        &self.raws[row_no as usize]
+        &self.row_texts[row_no as usize]
     }
 
     /// The column, from 0, in which a field stands. No memory.
@@ -113,13 +113,13 @@ impl Sheet {
     pub fn into_parts(self) -> SheetRows
         ensures header { result.header ≡ self.header }
         ensures columns { result.columns ≡ self.columns }
-        ensures raws { result.raws ≡ self.raws }
+        ensures row_texts { result.row_texts ≡ self.row_texts }
         ensures rows { result.rows ≡ self.rows }
     {
         SheetRows {
             header: self.header,
             columns: Sequence::from_vec(self.columns),
-            raws: Sequence::from_vec(self.raws),
+            row_texts: Sequence::from_vec(self.row_texts),
             rows: Sequence::from_vec(self.rows),
         }
     }

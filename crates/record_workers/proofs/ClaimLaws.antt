@@ -11,7 +11,7 @@ use Rattle.edit_model.proofs.OrderLaws.{order-length}
 use Rattle.bound_cert.specs.Paths.{keeps_bad, kept_set}
 use Rattle.bound_cert.specs.declared.cert.Cert.{Cert}
 use Rattle.bound_cert.specs.declared.outcome.Outcome.TheVariants as outcome
-use Rattle.edit_paths.specs.Cases.{Case, IsCase}
+use Rattle.edit_paths.specs.Cases.{SearchCase, IsCase}
 use Rattle.edit_paths.specs.Outcomes.{outcome_of}
 use Rattle.edit_paths.specs.Paths.{field_count}
 use Rattle.edit_paths.specs.ReachedPaths.{reached_paths}
@@ -37,7 +37,7 @@ use Rattle.record_workers.specs.inner.Editings.{IsEditing, rows_in}
 
 -- The fields that a path keeps, the ranking for them, and what a first claim is answered.
 
-module _ (c : Case) where
+module _ (c : SearchCase) where
   -- the path of a change is open
   pub change-open : (budget : ℕ) (path : List Bool) (weight : ℕ) (cert : Cert) → outcome_of c budget ≡ outcome.Change path weight cert → IsOpen c path
   change-open budget path weight cert e = (found-from c budget [] (reached_paths c) path weight cert e).open_there

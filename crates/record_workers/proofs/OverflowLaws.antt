@@ -3,7 +3,7 @@ use Rattle.std.specs.Option.{unwrap_or}
 use Rattle.edit_line.specs.Reductions.{IsIn}
 use Rattle.bound_cert.specs.Paths.{path_weight}
 use Rattle.edit_paths.specs.Certificates.{certificate_of}
-use Rattle.edit_paths.specs.Cases.{Case}
+use Rattle.edit_paths.specs.Cases.{SearchCase}
 use Rattle.edit_paths.specs.Outcomes.{end_by, outcome_from, outcome_of}
 use Rattle.edit_paths.specs.Paths.{is_complete}
 use Rattle.edit_paths.specs.ReachedPaths.{reached_paths}
@@ -22,11 +22,11 @@ use Rattle.bound_cert.specs.declared.outcome.Outcome.TheVariants as outcome
 -- An outcome that is an overflow names numbers that leave the range.
 
 -- the search stops at the path, which is one of these
-pub record StopsIn (c : Case) (paths : List (List Bool)) (path : List Bool) (e : Event) : Type 0 where
+pub record StopsIn (c : SearchCase) (paths : List (List Bool)) (path : List Bool) (e : Event) : Type 0 where
   pub there : IsIn path paths
   pub state : state_of c path ≡ Overflows e
 
-module _ (c : Case) (budget : ℕ) where
+module _ (c : SearchCase) (budget : ℕ) where
   later : (first : List Bool) (paths : List (List Bool)) (path : List Bool) (e : Event) → StopsIn c paths path e → StopsIn c (first ∷ paths) path e
   later first paths path e stops = record { there = inr stops.there; state = stops.state }
 

@@ -26,7 +26,7 @@ use Rattle.derivation.specs.declared.proved.Proved.TheVariants as proved
 use Rattle.derivation.specs.declared.step.Step.{Step}
 use Rattle.derivation.proofs.RefutationLaws.{get-below, kept-follow, length-left, row-no_values}
 use Rattle.bound_cert.specs.Paths.{keeps}
-use Rattle.edit_paths.specs.Cases.{Case, IsCase}
+use Rattle.edit_paths.specs.Cases.{SearchCase, IsCase}
 use Rattle.edit_paths.specs.Histories.{steps_to}
 use Rattle.edit_paths.specs.PathHistories.{box_history, line_history}
 use Rattle.edit_paths.specs.Paths.{field_count}
@@ -51,13 +51,13 @@ use Rattle.redundancy.proofs.WalkPaths.{keeps-no_bad, keeps-none, length-changin
 -- ---- where a verdict comes from
 
 -- a path of the walk is closed, and its steps are these
-abbrev pub IsClosedWith : Case → List Step → ℕ → Type 0
+abbrev pub IsClosedWith : SearchCase → List Step → ℕ → Type 0
 IsClosedWith c steps n = (k : ℕ) × ((state_of c (changing n) ≡ ClosedLine k × (steps ≡ steps_to (line_history c (changing n)) k)) ⊎ (state_of c (changing n) ≡ ClosedBox k × (steps ≡ steps_to (box_history c (changing n)) k)))
 
-not-bad : (c : Case) (n : ℕ) → state_of c (changing n) ≡ ClosedBad → ⊥
+not-bad : (c : SearchCase) (n : ℕ) → state_of c (changing n) ≡ ClosedBad → ⊥
 not-bad c n e = cc (sym (is-bad c (changing n) e) ∙ keeps-no_bad c n)
 
-module _ (c : Case) (budget : ℕ) where
+module _ (c : SearchCase) (budget : ℕ) where
   dropped-by : (steps : List Step) (n spent : ℕ) (next : Verdict) (Found : Type 0) → (IsClosedWith c steps n → Found) → (next ≡ Dropped steps → Found)
       → within budget spent (verdict_by c (changing n) (state_of c (changing n)) next) ≡ Dropped steps → Found
   dropped-by steps n spent next Found here later e = by (nat_lt budget spent) (state_of c (changing n)) refl e
@@ -131,7 +131,7 @@ usable-plain i (l ∷ given) (true ∷ usable) = ap (λ (ls : List LineParts). l
 usable-plain i (l ∷ given) (false ∷ usable) = usable-plain (suc i) given usable
 
 module _ (survey : SurveyParts) (lines : List LineParts) (left : List Bool) (line : LineParts) (is : IsCase (negation_case survey lines left line)) where
-  abbrev c : Case
+  abbrev c : SearchCase
   c = negation_case survey lines left line
 
   abbrev p : Premises

@@ -22,7 +22,7 @@ use Rattle.categ_combine.specs.FailingBoxes.{LineFault, failing_from}
 use Rattle.categ_combine.specs.Fixing.{fixed_from}
 use Rattle.categ_combine.specs.declared.box_from.BoxFrom.{BoxFrom}
 use Rattle.bound_cert.specs.Paths.{changes, path_place}
-use Rattle.edit_paths.specs.Cases.{Case, IsCase}
+use Rattle.edit_paths.specs.Cases.{SearchCase, IsCase}
 use Rattle.edit_paths.specs.Histories.{History, steps_to, with_boxes, with_lines}
 use Rattle.edit_paths.specs.PathHistories.{and_next, box_history, boxes_reached, line_history, lines_reached}
 use Rattle.edit_paths.specs.Paths.{changed_numbers, number_count, treated_codes}
@@ -78,12 +78,12 @@ history-more shape history boxes [] f = refl
 history-more shape history boxes (g ∷ fs) f = history-more shape (with_boxes history g (covered_from shape boxes g)) (covered_from shape boxes g) fs f
 
 -- of fields that have their places from a number on, none has a place before
-placed-late : (c : Case) (f k : ℕ) (fields : List ℕ) → Placed c k fields → IsIn f fields → k ≤ path_place c.survey.fields f
+placed-late : (c : SearchCase) (f k : ℕ) (fields : List ℕ) → Placed c k fields → IsIn f fields → k ≤ path_place c.survey.fields f
 placed-late c f k [] placed there = absurd there
 placed-late c f k (g ∷ fields) placed (inl is) = omega (arith, ap (λ h. path_place c.survey.fields h) is, placed.0)
 placed-late c f k (g ∷ fields) placed (inr there) = let late = placed-late c f (suc k) fields placed.1 there in omega (arith, late)
 
-module _ (c : Case) (path : List Bool) where
+module _ (c : SearchCase) (path : List Bool) where
   after-cover : (boxes : List BoxFrom) (f : ℕ) → changes c.survey.fields path f ≡ true → boxes_after c path boxes f ≡ covered_from (shape_of c.survey.fields) boxes f
   after-cover boxes f e = ap (λ b. if b then covered_from (shape_of c.survey.fields) boxes f else fixed_from (shape_of c.survey.fields) boxes f (code_in (value_of c.row f))) e
 
@@ -98,7 +98,7 @@ module _ (c : Case) (path : List Bool) where
       ap (λ (bs : List BoxFrom). boxes_reached c path (with_boxes history f bs) bs fields) (after-cover boxes f (each f (inl refl)))
       ∙ history-covers (with_boxes history f (covered_from (shape_of c.survey.fields) boxes f)) (covered_from (shape_of c.survey.fields) boxes f) fields (λ g at. each g (inr at))
 
-module _ (c : Case) (is : IsCase c) (budget : ℕ) where
+module _ (c : SearchCase) (is : IsCase c) (budget : ℕ) where
   abbrev shape : List Domain
   shape = (shape_of c.survey.fields)
 

@@ -20,7 +20,7 @@ use Rattle.edit_line.specs.declared.derived.Derived.{Derived}
 use Rattle.edit_line.proofs.BoolLaws.{or_none}
 use Rattle.edit_line.proofs.Members.{in-filter-out}
 use Rattle.bound_cert.specs.Paths.{changes, keeps, keeps_bad, path_place}
-use Rattle.edit_paths.specs.Cases.{Case}
+use Rattle.edit_paths.specs.Cases.{SearchCase}
 use Rattle.edit_paths.specs.Paths.{changed_numbers, number_count, treated_codes, treats}
 use Rattle.edit_paths.specs.States.{closed_by, first_failing}
 use Rattle.edit_paths.specs.declared.state.PathState.{PathState}
@@ -56,7 +56,7 @@ take-none zero = refl
 take-none (suc m) = refl
 
 -- the fields that a test takes, where it takes those of the first places
-filter-first : (c : Case) (t : ℕ → Bool) (n k : ℕ) (fields : List ℕ) → Placed c k fields → ((f : ℕ) → t f ≡ nat_lt (path_place c.survey.fields f) n) → filter t fields ≡ take (n - k) fields
+filter-first : (c : SearchCase) (t : ℕ → Bool) (n k : ℕ) (fields : List ℕ) → Placed c k fields → ((f : ℕ) → t f ≡ nat_lt (path_place c.survey.fields f) n) → filter t fields ≡ take (n - k) fields
 filter-first c t n k [] placed each = sym (take-none (n - k))
 filter-first c t n k (f ∷ fields) placed each = by (nat_lt k n) refl (filter-first c t n (suc k) fields placed.1 each)
   where
@@ -80,7 +80,7 @@ filter-first c t n k (f ∷ fields) placed each = by (nat_lt k n) refl (filter-f
         nothing-here : n ≤ k → n - k ≡ 0
         nothing-here past = omega (arith, past)
 
-module _ (c : Case) (n : ℕ) where
+module _ (c : SearchCase) (n : ℕ) where
   pub keeps-none : (f : ℕ) → keeps c.survey.fields (changing n) f ≡ false
   keeps-none f = ap not (letters n (path_place c.survey.fields f))
 
@@ -166,7 +166,7 @@ no-sum (f ∷ fields) (a ∷ factors) row sum none = by (int_eq a (pos 0)) refl 
 pub no-factor : (line : LineParts) (row : List Value) → has_no_factor line ≡ true → fails_at line row ≡ Ok (not (is_enough line.strict line.constant))
 no-factor line row none = ap (λ r. fails_by line.strict r) (no-sum (number_fields line.shape) line.factors row (whole line.constant) none)
 
-module _ (c : Case) (n : ℕ) where
+module _ (c : SearchCase) (n : ℕ) where
   pub stands-none : (fields : List ℕ) (factors : List ℤ) → length factors ≡ length fields → stands_only (keeps c.survey.fields (changing n)) fields factors ≡ list_all (λ a. int_eq a (pos 0)) factors
   stands-none [] [] same = refl
   stands-none [] (a ∷ factors) same = absurd (omega (arith, same))

@@ -6,7 +6,7 @@ use Rattle.edit_line.specs.Shapes.{shape_of}
 use Rattle.derivation.specs.Premises.{usable_lines}
 use Rattle.derivation.specs.Refutations.{RefutedBy, given_lines, left_before, no_values, refutation_of, usable_flags}
 use Rattle.derivation.specs.declared.step.Step.{Step}
-use Rattle.edit_paths.specs.Cases.{Case}
+use Rattle.edit_paths.specs.Cases.{SearchCase}
 use Rattle.edit_paths.specs.Histories.{steps_to}
 use Rattle.edit_paths.specs.PathHistories.{box_history, line_history}
 use Rattle.edit_paths.specs.Paths.{field_count}
@@ -31,7 +31,7 @@ changing (suc n) = changing n ++ true ∷ []
 
 -- what a path of the walk tells: a closed one drops the line with the steps that close it, an overflow keeps it, and after
 -- an open one the walk goes on
-abbrev pub verdict_by : Case → List Bool → PathState → Verdict → Verdict
+abbrev pub verdict_by : SearchCase → List Bool → PathState → Verdict → Verdict
 verdict_by c path (ClosedLine i) next = Dropped (steps_to (line_history c path) i)
 verdict_by c path (ClosedBox i) next = Dropped (steps_to (box_history c path) i)
 verdict_by c path (Overflows event) next = Kept Overflow
@@ -43,18 +43,18 @@ abbrev pub within : ℕ → ℕ → Verdict → Verdict
 within budget work verdict = if nat_lt budget work then Kept Budget else verdict
 
 -- what the path of n fields tells
-abbrev pub verdict_at : Case → ℕ → Verdict → Verdict
+abbrev pub verdict_at : SearchCase → ℕ → Verdict → Verdict
 verdict_at c n next = verdict_by c (changing n) (state_of c (changing n)) next
 
 -- the verdict from the path of n fields on, after the work that was spent, where this many fields are left
-abbrev pub verdict_from : Case → ℕ → ℕ → ℕ → ℕ → Verdict
+abbrev pub verdict_from : SearchCase → ℕ → ℕ → ℕ → ℕ → Verdict
 verdict_from c budget spent n zero = within budget (spent + work_of c (changing n)) (verdict_at c n (Kept Needed))
 verdict_from c budget spent n (suc left) =
     let work = spent + work_of c (changing n) in
     within budget work (verdict_at c n (verdict_from c budget work (suc n) left))
 
 -- the verdict of the walk from the empty path on
-abbrev pub verdict_of : Case → ℕ → Verdict
+abbrev pub verdict_of : SearchCase → ℕ → Verdict
 verdict_of c budget = verdict_from c budget 0 0 (field_count c)
 
 -- ---- the verdicts on all lines
@@ -80,7 +80,7 @@ abbrev pub negation_lines : List LineParts → List Bool → LineParts → List 
 negation_lines lines left line = usable_from 0 (given_lines lines line) (usable_flags left line)
 
 -- the lines that are left and the line's negation, at the record without values
-abbrev pub negation_case : SurveyParts → List LineParts → List Bool → LineParts → Case
+abbrev pub negation_case : SurveyParts → List LineParts → List Bool → LineParts → SearchCase
 negation_case survey lines left line =
     record { survey = survey; edits = negation_lines lines left line; row = no_values survey.fields }
 

@@ -62,7 +62,7 @@ fn a_sheet_has_the_texts_and_the_values_of_its_rows(rt: HostRuntime) -> Result<(
             .as_slice()
     );
     let parts = sheet.into_parts();
-    assert_eq!(rt; (parts.header.len(), parts.raws.len()), (3, 11));
+    assert_eq!(rt; (parts.header.len(), parts.row_texts.len()), (3, 11));
     Ok(())
 }
 

@@ -12,11 +12,11 @@ use Rattle.cert_check.specs.declared.row_check.RowFault.{RowFault}
 -- what is said of all records is valid, or this is its first fault, so many lines behind the head of the first record
 abbrev pub FindsAmong : RowRules → List RowProof → List (List (List ℕ)) → List (List Value) → List (List (List ℕ))
     → Option RowFault → Type 0
-FindsAmong r saids raws rows released None = AreValidRows r saids raws rows released
-FindsAmong r saids raws rows released (Some fault) = IsFaultAmong r saids raws rows released fault.offset fault.why
-    × ¬ AreValidRows r saids raws rows released × (fault.offset < length (flat_map row_lines saids))
+FindsAmong r saids row_texts rows released None = AreValidRows r saids row_texts rows released
+FindsAmong r saids row_texts rows released (Some fault) = IsFaultAmong r saids row_texts rows released fault.offset fault.why
+    × ¬ AreValidRows r saids row_texts rows released × (fault.offset < length (flat_map row_lines saids))
 
 -- the record of this number, with the next of these released rows if it is released
 abbrev pub files_at : RowProof → SheetParts → ℕ → List (List (List ℕ)) → RowFiles
 files_at said records row_no released =
-    files_of said (slice_index_or records.raws row_no []) (slice_index_or records.rows row_no []) released
+    files_of said (slice_index_or records.row_texts row_no []) (slice_index_or records.rows row_no []) released

@@ -24,5 +24,5 @@ abbrev pub column_at : List Field → List ℕ → ℕ → List Value → List (
 column_at fields columns changed new texts j = column_text fields (has_number changed) new (field_in columns j) (slice_index_or texts j [])
 
 -- the texts of a record afterwards, column by column
-abbrev pub row_texts : List Field → LayoutParts → List Bool → List Value → List (List ℕ) → List (List ℕ)
-row_texts fields layout path new texts = released_texts fields layout.columns path new texts
+abbrev pub layout_texts : List Field → LayoutParts → List Bool → List Value → List (List ℕ) → List (List ℕ)
+layout_texts fields layout path new texts = released_texts fields layout.columns path new texts

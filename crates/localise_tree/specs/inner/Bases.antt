@@ -4,27 +4,27 @@ use Rattle.edit_line.specs.declared.derived.Derived.{Derived}
 use Rattle.linear_elim.specs.Helds.{system_held}
 use Rattle.linear_elim.specs.Systems.{SystemOverflow, system_of}
 use Rattle.linear_elim.specs.declared.held.Held.{Held}
-use Rattle.edit_paths.specs.Cases.{Case}
+use Rattle.edit_paths.specs.Cases.{SearchCase}
 use Rattle.edit_paths.specs.Paths.{before_last, changed_numbers, number_count}
 use Rattle.edit_paths.specs.States.{boxes_along}
 use Rattle.localise_tree.specs.declared.looks.Basis.{Basis}
 use Rattle.localise_tree.specs.declared.looks.Basis.TheVariants.{Boxes, Lines}
 
 -- the system of the numerical fields that the path changes
-abbrev pub path_system : Case → List Bool → Result (List Derived) SystemOverflow
+abbrev pub path_system : SearchCase → List Bool → Result (List Derived) SystemOverflow
 path_system c path = system_of c.edits (changed_numbers c path)
 
 -- this is the path's system
-abbrev pub HasLines : Case → List Bool → Held → Type 0
+abbrev pub HasLines : SearchCase → List Bool → Held → Type 0
 HasLines c path system = path_system c path ≡ Ok (system_held system).lines
 
 -- the basis is right for the path: the lines of its system, or, where it says something of all numerical fields, its boxes
-abbrev pub IsBasis : Case → List Bool → Basis → Type 0
+abbrev pub IsBasis : SearchCase → List Bool → Basis → Type 0
 IsBasis c path (Lines system) = (length path < number_count c) × HasLines c path (arc_value system)
 IsBasis c path (Boxes boxes) = (number_count c ≤ length path) × (arc_value boxes ≡ boxes_along c path)
 
 -- the basis is right for the path before its last letter
-abbrev pub IsBasisBefore : Case → List Bool → Basis → Type 0
+abbrev pub IsBasisBefore : SearchCase → List Bool → Basis → Type 0
 IsBasisBefore c path (Lines system) = (length path ≤ number_count c) × HasLines c (before_last path) (arc_value system)
 IsBasisBefore c path (Boxes boxes) = (number_count c < length path) × (arc_value boxes ≡ boxes_along c (before_last path))
 

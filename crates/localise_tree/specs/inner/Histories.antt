@@ -10,7 +10,7 @@ use Rattle.categ_combine.specs.Covers.{covered_from}
 use Rattle.categ_combine.specs.Fixing.{fixed_from}
 use Rattle.categ_combine.specs.declared.box_from.BoxFrom.{BoxFrom}
 use Rattle.bound_cert.specs.declared.cert.Leaf.{Leaf}
-use Rattle.edit_paths.specs.Cases.{Case}
+use Rattle.edit_paths.specs.Cases.{SearchCase}
 use Rattle.edit_paths.specs.Certificates.{leaves_by}
 use Rattle.edit_paths.specs.Histories.{History, with_lines}
 use Rattle.edit_paths.specs.Levels.{history_of}
@@ -29,7 +29,7 @@ with_system before (Ok lines) = with_lines before lines
 with_system before (Err overflow) = before
 
 -- the boxes after one more categorical field, combined where it is changed and else fixed at the record's code
-abbrev pub boxes_by : Case → Bool → List BoxFrom → ℕ → List BoxFrom
+abbrev pub boxes_by : SearchCase → Bool → List BoxFrom → ℕ → List BoxFrom
 boxes_by c changed boxes f =
     if changed
     then covered_from (shape_of c.survey.fields) boxes f
@@ -45,18 +45,18 @@ abbrev pub boxes_in : List Level → List BoxFrom
 boxes_in levels = fold (λ (before : List BoxFrom) level. own_boxes level) [] levels
 
 -- the lists lead to the path's boxes, which are the last one
-pub record HasBoxLists (c : Case) (path : List Bool) (levels : List Level) : Type 0 where
+pub record HasBoxLists (c : SearchCase) (path : List Bool) (levels : List Level) : Type 0 where
   pub lists : history_of levels ≡ box_history c path
   pub along : boxes_in levels ≡ boxes_along c path
   pub over : AreBoxesOver (shape_of c.survey.fields) (boxes_in levels)
 
 -- the lists lead to the path's system, or, where it says something of categorical fields, to its boxes
-pub record HasLists (c : Case) (path : List Bool) (levels : List Level) : Type 0 where
+pub record HasLists (c : SearchCase) (path : List Bool) (levels : List Level) : Type 0 where
   pub lines : length path ≤ number_count c → history_of levels ≡ line_history c path
   pub boxes : number_count c < length path → HasBoxLists c path levels
 
 -- the lists lead to what the path before the last letter has; there are none for the empty path
-pub record HasListsBefore (c : Case) (path : List Bool) (levels : List Level) : Type 0 where
+pub record HasListsBefore (c : SearchCase) (path : List Bool) (levels : List Level) : Type 0 where
   pub first : length path ≡ 0 → levels ≡ []
   pub later : 0 < length path → HasLists c (before_last path) levels
 
@@ -65,14 +65,14 @@ abbrev pub HasMore : List Level → List Level → Type 0
 HasMore before after = (more : List Level) × (after ≡ before ++ more)
 
 -- the lists lead to what closes the path, where this is its state
-pub record LeadTo (c : Case) (path : List Bool) (state : PathState) (levels : List Level) : Type 0 where
+pub record LeadTo (c : SearchCase) (path : List Bool) (state : PathState) (levels : List Level) : Type 0 where
   pub line : (i : ℕ) → state ≡ ClosedLine i → history_of levels ≡ line_history c path
   pub box : (i : ℕ) → state ≡ ClosedBox i → history_of levels ≡ box_history c path
 
 -- the lines of the path's system are the next list, where no number leaves the range
-abbrev pub AddsSystem : Case → List Bool → List Level → List Level → Type 0
+abbrev pub AddsSystem : SearchCase → List Bool → List Level → List Level → Type 0
 AddsSystem c path before after = history_of after ≡ with_system (history_of before) (path_system c path)
 
 -- the leaf of a closed path, by its state, is appended, where the lists lead to what closes it
 abbrev pub AddsClosed : List Bool → PathState → List Level → List Leaf → List Leaf → Type 0
-AddsClosed path state levels before after = (c : Case) → LeadTo c path state levels → after ≡ before ++ leaves_by c path [] state
+AddsClosed path state levels before after = (c : SearchCase) → LeadTo c path state levels → after ≡ before ++ leaves_by c path [] state

@@ -6,7 +6,7 @@ use Rattle.edit_model.specs.Words.{weight_at}
 use Rattle.edit_model.specs.declared.field.Field.{Field}
 use Rattle.linear_elim.specs.declared.held.Held.{Held}
 use Rattle.bound_cert.specs.Paths.{path_weight}
-use Rattle.edit_paths.specs.Cases.{Case}
+use Rattle.edit_paths.specs.Cases.{SearchCase}
 use Rattle.edit_paths.specs.Paths.{before_last, field_count}
 use Rattle.edit_paths.specs.States.{IsOpen, state_of}
 use Rattle.edit_paths.specs.Works.{work_of}
@@ -22,7 +22,7 @@ use Rattle.localise_tree.specs.inner.Bases.{IsBasis, IsBasisBefore}
 -- ---- ends
 
 -- a reached path with its weight, and the basis of the path before
-pub record IsNode (c : Case) (node : Node) : Type 0 where
+pub record IsNode (c : SearchCase) (node : Node) : Type 0 where
   pub fit : length node.path ≤ field_count c
   pub weight : node.weight ≡ path_weight c.survey.fields node.path
   pub few : node.weight ≤ 1000 * length node.path
@@ -38,11 +38,11 @@ abbrev pub before : Node → Node → Bool
 before first second = nat_lt first.weight second.weight || ((first.weight == second.weight) && is_first first.path second.path)
 
 -- the source keeps the system of the path before each end
-abbrev pub AreKept : (ℕ → Bool) → Case → List Node → Type 0
+abbrev pub AreKept : (ℕ → Bool) → SearchCase → List Node → Type 0
 AreKept keeps c ends = AllByRecursion (λ (node : Node). KeepsChanged keeps c (before_last node.path)) ends
 
 -- where the source keeps what the ends need, and the system of the path if it is open, it keeps what the later ends need
-abbrev pub StayKept : Case → List Bool → PathState → List Node → List Node → Type 0
+abbrev pub StayKept : SearchCase → List Bool → PathState → List Node → List Node → Type 0
 StayKept c path state ends later =
     (keeps : ℕ → Bool) → (state ≡ Open → KeepsChanged keeps c path) → AreKept keeps c ends → AreKept keeps c later
 
@@ -62,15 +62,15 @@ IsFirstEnd held ends = (before : Basis) × (ends ≡ record { path = []; weight 
 -- ---- looks
 
 -- the work and the state of the path, and its basis where it is open
-pub record IsLook (c : Case) (path : List Bool) (look : Look) : Type 0 where
+pub record IsLook (c : SearchCase) (path : List Bool) (look : Look) : Type 0 where
   pub work : look.work ≡ work_of c path
   pub state : look.state ≡ state_of c path
   pub basis : look.state ≡ Open → IsBasis c path look.basis
 
 -- the look, if there is one, is right, and its work no more than may be done
-abbrev pub TellsLook : Case → List Bool → ℕ → Option Look → Type 0
+abbrev pub TellsLook : SearchCase → List Bool → ℕ → Option Look → Type 0
 TellsLook c path most told = IfSome told (λ (look : Look). IsLook c path look × (look.work ≤ most))
 
 -- where the path is open, the source keeps the system of the numerical fields that it changes
-abbrev pub KeepsOpen : (ℕ → Bool) → Case → List Bool → Option Look → Type 0
+abbrev pub KeepsOpen : (ℕ → Bool) → SearchCase → List Bool → Option Look → Type 0
 KeepsOpen keeps c path told = IfSome told (λ (look : Look). look.state ≡ Open → KeepsChanged keeps c path)

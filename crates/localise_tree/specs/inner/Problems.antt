@@ -2,7 +2,7 @@ use Rattle.std.specs.Prelude.{◌≡◌, ◌≤◌, length}
 use Rattle.std.specs.Arc.{arc_value}
 use Rattle.edit_line.specs.EditSets.{EditsParts}
 use Rattle.edit_line.specs.Shapes.{shape_of, whole_sets}
-use Rattle.edit_paths.specs.Cases.{Case, IsCase, case_of}
+use Rattle.edit_paths.specs.Cases.{SearchCase, IsCase, case_of}
 use Rattle.localise_tree.specs.declared.problem.Problem.{Problem}
 
 -- the edits of the problem
@@ -10,7 +10,7 @@ abbrev pub edits_in : Problem → EditsParts
 edits_in p = arc_value p.edits.now
 
 -- the case of the problem's record
-abbrev pub case_in : Problem → Case
+abbrev pub case_in : Problem → SearchCase
 case_in p = case_of p.survey.now (edits_in p) p.row.now
 
 -- the parts of the problem fit each other

@@ -1,13 +1,13 @@
 use Rattle.std.specs.Prelude.{◌≡◌, ◌-◌, ℕ, Bool, List, [], if◌then◌else◌, length, map, nat_lt}
 use Rattle.bound_cert.specs.declared.cert.Leaf.{Leaf}
-use Rattle.edit_paths.specs.Cases.{Case}
+use Rattle.edit_paths.specs.Cases.{SearchCase}
 use Rattle.edit_paths.specs.Certificates.{leaves_from}
 use Rattle.edit_paths.specs.Paths.{field_count}
 use Rattle.edit_paths.specs.States.{state_of}
 use Rattle.localise_tree.specs.declared.best_first.Taken.{Taken}
 
 -- what became of a path that was taken is its state
-abbrev pub IsTaken : Case → Taken → Type 0
+abbrev pub IsTaken : SearchCase → Taken → Type 0
 IsTaken c taken = taken.state ≡ state_of c taken.path
 
 -- the paths that were taken
@@ -19,5 +19,5 @@ abbrev pub taken_for : ℕ → List (List Bool) → List (List Bool)
 taken_for weight taken = if nat_lt 0 weight then taken else []
 
 -- the leaves of the tree of the taken paths, from this path on
-abbrev pub leaves_below : Case → List (List Bool) → List Bool → List Leaf
+abbrev pub leaves_below : SearchCase → List (List Bool) → List Bool → List Leaf
 leaves_below c taken path = leaves_from c taken (field_count c - length path) path

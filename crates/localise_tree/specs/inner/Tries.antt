@@ -7,7 +7,7 @@ use Rattle.categ_combine.specs.BoxLists.{sets_of}
 use Rattle.categ_combine.specs.Covers.{cover_count, covered_from}
 use Rattle.categ_combine.specs.Fixing.{fixed_from}
 use Rattle.categ_combine.specs.declared.box_from.BoxFrom.{BoxFrom}
-use Rattle.edit_paths.specs.Cases.{Case}
+use Rattle.edit_paths.specs.Cases.{SearchCase}
 use Rattle.edit_paths.specs.States.{whole_state}
 use Rattle.edit_paths.specs.declared.state.PathState.{PathState}
 use Rattle.edit_paths.specs.declared.state.PathState.TheVariants.{ClosedBad}
@@ -30,17 +30,17 @@ AreBoxes boxes (Lines system) = ⊥
 AreBoxes boxes (Boxes own) = arc_value own ≡ boxes
 
 -- the work of combining the boxes at the field
-abbrev pub cover_work : Case → List BoxFrom → ℕ → ℕ
+abbrev pub cover_work : SearchCase → List BoxFrom → ℕ → ℕ
 cover_work c before f = 1 + cover_count (shape_of c.survey.fields) (sets_of before) f
 
 -- the field was changed: the boxes are combined there
-pub record IsChanged (c : Case) (before : List BoxFrom) (f : ℕ) (look : Look) : Type 0 where
+pub record IsChanged (c : SearchCase) (before : List BoxFrom) (f : ℕ) (look : Look) : Type 0 where
   pub work : look.work ≡ cover_work c before f
   pub basis : AreBoxes (covered_from (shape_of c.survey.fields) before f) look.basis
   pub state : look.state ≡ whole_state c (covered_from (shape_of c.survey.fields) before f)
 
 -- the field was kept: the boxes are fixed at its code, and a field without one closes the path
-abbrev pub IsKept : Case → List BoxFrom → ℕ → Value → Look → Type 0
+abbrev pub IsKept : SearchCase → List BoxFrom → ℕ → Value → Look → Type 0
 IsKept c before f (Code code) look =
     AreBoxes (fixed_from (shape_of c.survey.fields) before f code) look.basis
     × (look.state ≡ whole_state c (fixed_from (shape_of c.survey.fields) before f code))

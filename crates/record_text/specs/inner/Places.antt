@@ -37,17 +37,17 @@ Reads here false texts reader = record_at here ≡ None
 
 -- these are all the records from a place on, none of them is faulty, and these are their values
 pub record AreRowsFrom (fields : List Field) (columns : List ℕ) (width : ℕ) (here : Place)
-    (raws : List (List (List ℕ))) (rows : List (List Value)) : Type 0 where
-  pub records : AreRecords default_config here.state here.left raws
-  pub faultless : row_fault 0 width raws ≡ None
-  pub values : AreRows fields columns raws rows
+    (row_texts : List (List (List ℕ))) (rows : List (List Value)) : Type 0 where
+  pub records : AreRecords default_config here.state here.left row_texts
+  pub faultless : row_fault 0 width row_texts ≡ None
+  pub values : AreRows fields columns row_texts rows
 
 -- these are all the records from where csv's reader stands, none of them is faulty, and these are their values
 abbrev pub AreRowsBehind : Reader (Bor (List ℕ)) → List Field → List ℕ → ℕ → List (List (List ℕ)) → List (List Value) → Type 0
-AreRowsBehind reader fields columns width raws rows = (here : Place) → IsAt reader here → AreRowsFrom fields columns width here raws rows
+AreRowsBehind reader fields columns width row_texts rows = (here : Place) → IsAt reader here → AreRowsFrom fields columns width here row_texts rows
 
 -- the first faulty record from a place on has this fault
 pub record IsRowFault (width : ℕ) (here : Place) (fault : SheetFault) : Type 0 where
-  pub raws : List (List (List ℕ))
-  pub records : AreRecords default_config here.state here.left raws
-  pub found : row_fault 0 width raws ≡ Some fault
+  pub row_texts : List (List (List ℕ))
+  pub records : AreRecords default_config here.state here.left row_texts
+  pub found : row_fault 0 width row_texts ≡ Some fault

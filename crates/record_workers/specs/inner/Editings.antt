@@ -15,7 +15,7 @@ use Rattle.donor_book.specs.declared.claim.Entry.{Entry}
 use Rattle.donor_measure.specs.Measures.{Measures}
 use Rattle.donor_measure.specs.Yardsticks.{yardsticks_of}
 use Rattle.donor_search.specs.CleanRows.{donors_of}
-use Rattle.edit_paths.specs.Cases.{Case, Meets, case_of}
+use Rattle.edit_paths.specs.Cases.{SearchCase, Meets, case_of}
 use Rattle.edit_report.specs.Ends.{path_found}
 use Rattle.edit_report.specs.declared.end.RowEnd.{RowEnd}
 use Rattle.record_workers.specs.Donations.{AreDonations, end_claims}
@@ -33,7 +33,7 @@ abbrev pub rows_in : {F : Type 0} → Editing F → List (List Value)
 rows_in e = e.sheet.now.rows
 
 -- the case of one of them
-abbrev pub case_in : {F : Type 0} → Editing F → List Value → Case
+abbrev pub case_in : {F : Type 0} → Editing F → List Value → SearchCase
 case_in e row = case_of e.survey.now (edits_in e) row
 
 -- what becomes of a record

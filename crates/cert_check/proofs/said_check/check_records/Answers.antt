@@ -1,6 +1,6 @@
 use Rattle.std.proofs.Common.{◌∙◌, ap, arith, length, map, sym, [], is_none}
 use Rattle.std.proofs.lemmas.List.{length-map}
-use Rattle.record_text.proofs.SheetLaws.{columns_in_header, few_sheet_rows, one_column_a_field, raws_as_long_as_header, rows_are_records}
+use Rattle.record_text.proofs.SheetLaws.{columns_in_header, few_sheet_rows, one_column_a_field, row_texts_as_long_as_header, rows_are_records}
 use Rattle.cert_check.specs.inner.Answers.{audit_in}
 use Rattle.cert_check.proofs.AuditLaws.{claims-answers, counts-fit, file-answers, in-limits, record-answers, valid-answers}
 use Rattle.cert_check.proofs.said_check.check_records.Goals as goal
@@ -43,7 +43,7 @@ pub rows_fault-requires-clause-within : goal.rows_fault-requires-clause-within
 rows_fault-requires-clause-within c = rw c.columns.ensures (columns_in_header c.args.audit.now.rules.now.fields c.requires.sheet.0 c.args.audit.now.records.now c.requires.sheet.1)
 
 pub rows_fault-requires-clause-long : goal.rows_fault-requires-clause-long
-rows_fault-requires-clause-long c = raws_as_long_as_header c.args.audit.now.rules.now.fields c.requires.sheet.0 c.args.audit.now.records.now c.requires.sheet.1
+rows_fault-requires-clause-long c = row_texts_as_long_as_header c.args.audit.now.rules.now.fields c.requires.sheet.0 c.args.audit.now.records.now c.requires.sheet.1
 
 pub rows_fault-requires-clause-as_long : goal.rows_fault-requires-clause-as_long
 rows_fault-requires-clause-as_long c =
@@ -56,7 +56,7 @@ returns-in-Some-2 c = λ bytes spelled.
     let usable = c.deref.ensures.value ∙ c.in_ok-usable.ensures ∙ ap (map is_none) c.as_slice.ensures in
     let found = rw (c.in-Some-2.is, c.as_slice-saids.ensures, c.requires.lines, usable, c.columns.ensures) at c.in_ok-fault.ensures in
     rw (c.rejected-in-Some-2.ensures, c.records_line.ensures)
-    (record-answers a c.args.said.now spelled (c.requires.head bytes) c.requires.dropped c.requires.sheet.0 c.requires.sheet.1 c.in-Some.released.raws are c.in-Some-2.fault.offset c.in-Some-2.fault.why found.0 found.1)
+    (record-answers a c.args.said.now spelled (c.requires.head bytes) c.requires.dropped c.requires.sheet.0 c.requires.sheet.1 c.in-Some.released.row_texts are c.in-Some-2.fault.offset c.in-Some-2.fault.why found.0 found.1)
 
 pub claims_fault-requires-clause-rows : goal.claims_fault-requires-clause-rows
 claims_fault-requires-clause-rows c = rows_are_records c.args.audit.now.rules.now.fields c.requires.sheet.0 c.args.audit.now.records.now c.requires.sheet.1
@@ -72,7 +72,7 @@ returns-in-Some-3 c = λ bytes spelled.
     let valid = rw (c.in_default-2.is, c.as_slice-saids.ensures, c.requires.lines, usable, c.columns.ensures) at c.in_ok-fault.ensures in
     let found = rw c.in-Some-3.is at c.in_ok-line.ensures in
     rw c.rejected-in-Some-3.ensures
-    (claims-answers a c.args.said.now spelled (c.requires.head bytes) c.requires.dropped c.requires.sheet.0 c.requires.sheet.1 c.in-Some.released.raws are valid c.in-Some-3.line found)
+    (claims-answers a c.args.said.now spelled (c.requires.head bytes) c.requires.dropped c.requires.sheet.0 c.requires.sheet.1 c.in-Some.released.row_texts are valid c.in-Some-3.line found)
 
 pub returns : goal.returns
 returns c = λ bytes spelled.
@@ -82,4 +82,4 @@ returns c = λ bytes spelled.
     let valid = rw (c.in_default-2.is, c.as_slice-saids.ensures, c.requires.lines, usable, c.columns.ensures) at c.in_ok-fault.ensures in
     let claims = rw c.in_default-3.is at c.in_ok-line.ensures in
     rw (c.released_count-count.ensures, c.as_slice-saids.ensures)
-    (valid-answers a c.args.said.now spelled (c.requires.head bytes) c.requires.dropped c.requires.sheet.0 c.requires.sheet.1 c.in-Some.released.raws are valid claims)
+    (valid-answers a c.args.said.now spelled (c.requires.head bytes) c.requires.dropped c.requires.sheet.0 c.requires.sheet.1 c.in-Some.released.row_texts are valid claims)

@@ -7,4 +7,4 @@ use Rattle.edit_report.proofs.reasons.reasons_text.Given as goal
 abbrev pub invariant-loop-row_no : goal.invariant-loop-row_no
 invariant-loop-row_no l =
     (text : List ℕ) × HasWritten l.writer text
-    × (text ++ records_text (reasons_from l.survey.fields l.sheet.columns l.row_no (drop l.row_no l.sheet.raws) (drop l.row_no l.ends)) ≡ reasons_text_of l.survey l.sheet l.ends)
+    × (text ++ records_text (reasons_from l.survey.fields l.sheet.columns l.row_no (drop l.row_no l.sheet.row_texts) (drop l.row_no l.ends)) ≡ reasons_text_of l.survey l.sheet l.ends)

@@ -4,36 +4,36 @@ use Rattle.record_text.proofs.RowsRead.{faulty_row, read_all, read_more, read_no
 use Rattle.record_text.proofs.reading.read_rows.Goals as goal
 
 pub loop-row_no-init : goal.loop-row_no-init
-loop-row_no-init c = rw (c.new-raws.ensures.items, c.new-rows.ensures.items) (read_none c.args.survey.now.fields c.args.columns.now c.args.width c.args.reader.now, refl)
+loop-row_no-init c = rw (c.new-row_texts.ensures.items, c.new-rows.ensures.items) (read_none c.args.survey.now.fields c.args.columns.now c.args.width c.args.reader.now, refl)
 
 pub returns-then-not-branch-clause-rows : goal.returns-then-not-branch-clause-rows
 returns-then-not-branch-clause-rows c =
     let reads = rw c.if-not-branch.true at c.in_ok-read_next.ensures in
-    read_all c.args.survey.now.fields c.args.columns.now c.args.width c.args.reader.now c.loop-row_no.reader c.read_next.new.reader c.loop-row_no.raws.items c.loop-row_no.rows.items (fields_of c.read_next.new.csv_record)
+    read_all c.args.survey.now.fields c.args.columns.now c.args.width c.args.reader.now c.loop-row_no.reader c.read_next.new.reader c.loop-row_no.row_texts.items c.loop-row_no.rows.items (fields_of c.read_next.new.csv_record)
     c.loop-row_no.invariant.0 reads
 
 pub returns-then-len-width-clause-fault : goal.returns-then-len-width-clause-fault
 returns-then-len-width-clause-fault c = λ other.
     let reads = rw c.if-not-branch.false at c.in_ok-read_next.ensures in
-    faulty_row c.args.survey.now.fields c.args.columns.now c.args.width c.args.reader.now c.loop-row_no.reader c.read_next.new.reader c.loop-row_no.raws.items c.loop-row_no.rows.items (fields_of c.read_next.new.csv_record)
+    faulty_row c.args.survey.now.fields c.args.columns.now c.args.width c.args.reader.now c.loop-row_no.reader c.read_next.new.reader c.loop-row_no.row_texts.items c.loop-row_no.rows.items (fields_of c.read_next.new.csv_record)
     c.loop-row_no.invariant.0 c.loop-row_no.row_no reads c.loop-row_no.invariant.1 c.loop-row_no-test.true (rw c.len.ensures at c.if-len-width.true)
 
 pub loop-row_no-preserved : goal.loop-row_no-preserved
 loop-row_no-preserved c =
     let reads = rw c.if-not-branch.false at c.in_ok-read_next.ensures in
     let texts = fields_of c.read_next.new.csv_record in
-    let more = read_more c.args.survey.now.fields c.args.columns.now c.args.width c.args.reader.now c.loop-row_no.reader c.read_next.new.reader c.loop-row_no.raws.items c.loop-row_no.rows.items texts
+    let more = read_more c.args.survey.now.fields c.args.columns.now c.args.width c.args.reader.now c.loop-row_no.reader c.read_next.new.reader c.loop-row_no.row_texts.items c.loop-row_no.rows.items texts
     c.loop-row_no.invariant.0 c.in_ok-row.row reads (omega (arith, c.loop-row_no.invariant.1, c.loop-row_no-test.true)) (rw c.len.ensures at c.if-len-width.false) (rw c.in_ok-texts.ensures at c.in_ok-row.ensures) in
-    (rw (c.in_ok-push.ensures.items, c.in_ok-push-2.ensures.items, c.in_ok-texts.ensures) more, rw c.in_ok-push.ensures.items (omega (arith, length-append c.loop-row_no.raws.items (c.in_ok-texts.texts ∷ []), c.loop-row_no.invariant.1)))
+    (rw (c.in_ok-push.ensures.items, c.in_ok-push-2.ensures.items, c.in_ok-texts.ensures) more, rw c.in_ok-push.ensures.items (omega (arith, length-append c.loop-row_no.row_texts.items (c.in_ok-texts.texts ∷ []), c.loop-row_no.invariant.1)))
 
 pub returns-then-branch-clause-fault : goal.returns-then-branch-clause-fault
 returns-then-branch-clause-fault c = λ other.
     let reads = rw c.if-branch.true at c.in_ok-read_next-2.ensures in
-    row_too_many c.args.survey.now.fields c.args.columns.now c.args.width c.args.reader.now c.loop-row_no.reader c.read_next-2.new.reader c.loop-row_no.raws.items c.loop-row_no.rows.items (fields_of c.read_next-2.new.csv_record)
+    row_too_many c.args.survey.now.fields c.args.columns.now c.args.width c.args.reader.now c.loop-row_no.reader c.read_next-2.new.reader c.loop-row_no.row_texts.items c.loop-row_no.rows.items (fields_of c.read_next-2.new.csv_record)
     c.loop-row_no.invariant.0 reads (omega arith)
 
 pub returns-clause-rows : goal.returns-clause-rows
 returns-clause-rows c =
     let reads = rw c.if-branch.false at c.in_ok-read_next-2.ensures in
-    read_all c.args.survey.now.fields c.args.columns.now c.args.width c.args.reader.now c.loop-row_no.reader c.read_next-2.new.reader c.loop-row_no.raws.items c.loop-row_no.rows.items (fields_of c.read_next-2.new.csv_record)
+    read_all c.args.survey.now.fields c.args.columns.now c.args.width c.args.reader.now c.loop-row_no.reader c.read_next-2.new.reader c.loop-row_no.row_texts.items c.loop-row_no.rows.items (fields_of c.read_next-2.new.csv_record)
     c.loop-row_no.invariant.0 reads

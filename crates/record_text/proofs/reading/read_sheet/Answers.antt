@@ -43,9 +43,9 @@ read_rows-requires-clause-within c =
     let stand = rw c.fields.ensures.fields at c.in_ok-columns.ensures.columns in
     rw (c.deref.ensures.value, c.len-2.ensures) (columns_within c.args.survey.now.fields c.in_ok-header.header c.in_ok-columns.columns.items stand)
 
-pub returns-in_err-raws-clause-fault : goal.returns-in_err-raws-clause-fault
-returns-in_err-raws-clause-fault c =
-    let p = err_from_is_err_and c.from_residual-in_err-raws.result c.from_residual-in_err-raws.ensures.1 in
+pub returns-in_err-row_texts-clause-fault : goal.returns-in_err-row_texts-clause-fault
+returns-in_err-row_texts-clause-fault c =
+    let p = err_from_is_err_and c.from_residual-in_err-row_texts.result c.from_residual-in_err-row_texts.ensures.1 in
     let at = rw c.without_mark.ensures at c.open_records-reader.ensures in
     let reads = rw c.if-not-branch.false at c.in_ok-read_next.ensures in
     let (there, standing, begins) = reads (start_of c.args.bytes.now) at in
@@ -53,25 +53,25 @@ returns-in_err-raws-clause-fault c =
     let texts = fields_of c.read_next.new.csv_record in
     let width = c.len-2.ensures ∙ ap (λ (ts : List (List ℕ)). length ts) c.in_ok-header.ensures ∙ header_length texts in
     let stand = rw (c.fields.ensures.fields, c.in_ok-header.ensures) at c.in_ok-columns.ensures.columns in
-    let found = rw width at c.in_err-raws.ensures.fault in
-    rw p.1 (λ other. rw p.2 (faulty_rows c.args.survey.now.fields c.args.bytes.now texts there begins c.in_err-raws.field-0.0 c.in_ok-columns.columns.items (grind (arith, nat_tests)) stand (found (rw p.2 at other) there standing)))
+    let found = rw width at c.in_err-row_texts.ensures.fault in
+    rw p.1 (λ other. rw p.2 (faulty_rows c.args.survey.now.fields c.args.bytes.now texts there begins c.in_err-row_texts.field-0.0 c.in_ok-columns.columns.items (grind (arith, nat_tests)) stand (found (rw p.2 at other) there standing)))
 
 pub from_parts-requires-clause-equal : goal.from_parts-requires-clause-equal
 from_parts-requires-clause-equal c =
     let at = rw c.without_mark.ensures at c.open_records-reader.ensures in
     let reads = rw c.if-not-branch.false at c.in_ok-read_next.ensures in
     let (there, standing, begins) = reads (start_of c.args.bytes.now) at in
-    let rows = c.in_ok-raws.ensures.rows there standing in
-    rows_length c.args.survey.now.fields c.deref.result.now c.in_ok-raws.raws.items c.in_ok-raws.rows.items rows.values
+    let rows = c.in_ok-row_texts.ensures.rows there standing in
+    rows_length c.args.survey.now.fields c.deref.result.now c.in_ok-row_texts.row_texts.items c.in_ok-row_texts.rows.items rows.values
 
 pub from_parts-requires-clause-few : goal.from_parts-requires-clause-few
 from_parts-requires-clause-few c =
     let at = rw c.without_mark.ensures at c.open_records-reader.ensures in
     let reads = rw c.if-not-branch.false at c.in_ok-read_next.ensures in
     let (there, standing, begins) = reads (start_of c.args.bytes.now) at in
-    let rows = c.in_ok-raws.ensures.rows there standing in
-    let same = rows_length c.args.survey.now.fields c.deref.result.now c.in_ok-raws.raws.items c.in_ok-raws.rows.items rows.values in
-    let few = few_rows 0 c.len-2.result c.in_ok-raws.raws.items (omega arith) rows.faultless in
+    let rows = c.in_ok-row_texts.ensures.rows there standing in
+    let same = rows_length c.args.survey.now.fields c.deref.result.now c.in_ok-row_texts.row_texts.items c.in_ok-row_texts.rows.items rows.values in
+    let few = few_rows 0 c.len-2.result c.in_ok-row_texts.row_texts.items (omega arith) rows.faultless in
     omega arith
 
 pub returns-clause-sheet : goal.returns-clause-sheet
@@ -83,5 +83,5 @@ returns-clause-sheet c =
     let texts = fields_of c.read_next.new.csv_record in
     let width = c.len-2.ensures ∙ ap (λ (ts : List (List ℕ)). length ts) c.in_ok-header.ensures ∙ header_length texts in
     let stand = rw (c.fields.ensures.fields, c.in_ok-header.ensures) at c.in_ok-columns.ensures.columns in
-    let rows = rw (width, c.deref.ensures.value) at (c.in_ok-raws.ensures.rows there standing) in
+    let rows = rw (width, c.deref.ensures.value) at (c.in_ok-row_texts.ensures.rows there standing) in
     rw c.from_parts.ensures (sheet_read c.args.survey.now.fields c.args.bytes.now texts there begins _ (grind (arith, nat_tests)) c.in_ok-header.ensures stand rows)
