@@ -1,3 +1,3 @@
 pub mod Fits
-pub mod Layouts
+pub mod SurveyShapes
 pub mod Sides

@@ -4,7 +4,7 @@
 #![tactic(auto)]
 
 mod edits;
-mod layout;
+mod survey_shape;
 mod meaning;
 mod narrow;
 mod normal;

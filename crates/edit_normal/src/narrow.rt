@@ -3,18 +3,18 @@ ghost use Rattle.edit_line.specs.inner.SetBounds.{AreWithin};
 ghost use Rattle.edit_line.specs.Shapes.{code_fields, has_field, whole_sets};
 ghost use Rattle.edit_normal.specs.NormalForm.{narrowed};
 
-use crate::layout::Layout;
+use crate::survey_shape::SurveyShape;
 
 /// Narrows the sets at the field to the codes that meet the test: those of the set, or the field's others
 /// where the test is negated.
-pub(crate) fn narrow(layout: &Layout, sets: &mut Vec<u64>, field: u32, negated: bool, codes: u64)
-    requires field { has_field (code_fields layout.now) field ≡ true }
-    requires within { AreWithin sets.old.items (whole_sets layout.now) }
-    ensures sets { sets.new.items ≡ narrowed layout.now sets.old.items field negated codes }
-    ensures within { AreWithin sets.new.items (whole_sets layout.now) }
+pub(crate) fn narrow(fields: &SurveyShape, sets: &mut Vec<u64>, field: u32, negated: bool, codes: u64)
+    requires field { has_field (code_fields fields.now) field ≡ true }
+    requires within { AreWithin sets.old.items (whole_sets fields.now) }
+    ensures sets { sets.new.items ≡ narrowed fields.now sets.old.items field negated codes }
+    ensures within { AreWithin sets.new.items (whole_sets fields.now) }
 {
-    let place = layout.place(field);
-    let wholes = layout.wholes();
+    let place = fields.place(field);
+    let wholes = fields.wholes();
     let wanted = if negated {
         wholes[place] ^ codes
     } else {
@@ -25,16 +25,16 @@ pub(crate) fn narrow(layout: &Layout, sets: &mut Vec<u64>, field: u32, negated: 
 
 /// Narrows the sets at the field to the codes that do not meet the test.
 pub(crate) fn narrow_where_false(
-    layout: &Layout,
+    fields: &SurveyShape,
     sets: &mut Vec<u64>,
     field: u32,
     negated: bool,
     codes: u64,
 )
-    requires field { has_field (code_fields layout.now) field ≡ true }
-    requires within { AreWithin sets.old.items (whole_sets layout.now) }
-    ensures sets { sets.new.items ≡ narrowed layout.now sets.old.items field (not negated) codes }
-    ensures within { AreWithin sets.new.items (whole_sets layout.now) }
+    requires field { has_field (code_fields fields.now) field ≡ true }
+    requires within { AreWithin sets.old.items (whole_sets fields.now) }
+    ensures sets { sets.new.items ≡ narrowed fields.now sets.old.items field (not negated) codes }
+    ensures within { AreWithin sets.new.items (whole_sets fields.now) }
 {
-    narrow(layout, sets, field, !negated, codes);
+    narrow(fields, sets, field, !negated, codes);
 }

@@ -5,7 +5,7 @@ ghost use Rattle.edit_line.specs.Lines.{AreOver};
 ghost use Rattle.edit_line.specs.Shapes.{shape_of};
 ghost use Rattle.edit_normal.specs.RuleLines.{LinesHold, rule_lines_from, normal_lines_of};
 
-use crate::layout::Layout;
+use crate::survey_shape::SurveyShape;
 use crate::rule_line::RuleLine;
 use crate::rule_lines::push_rule;
 use edit_line::Line;
@@ -27,10 +27,10 @@ pub fn normal_lines(alloc: Global, survey: &Survey) -> Result<Vec<RuleLine>, Out
         → HasCodesFrom 0 survey.now.fields p
         → LinesHold lines.items i p ↔ Holds rule p) }
 {
-    let layout = Layout::of(alloc, survey)?;
+    let fields = SurveyShape::of(alloc, survey)?;
     let mut lines = Vec::new(alloc);
     for (number, rule) in survey.rules().iter().enumerate() {
-        push_rule(alloc, &layout, number as u32, rule, &mut lines)?;
+        push_rule(alloc, &fields, number as u32, rule, &mut lines)?;
     }
     Ok(lines)
 }

@@ -8,7 +8,7 @@ ghost use Rattle.edit_normal.specs.NormalForm.{all_lines_of, conclusion_lines, c
 ghost use Rattle.edit_normal.specs.inner.Sides.{joined_by, side_line};
 ghost use Rattle.edit_normal.specs.inner.Fits.{FitsCodes};
 
-use crate::layout::Layout;
+use crate::survey_shape::SurveyShape;
 use crate::narrow::{narrow, narrow_where_false};
 use crate::rule_line::RuleLine;
 use crate::side::{Side, side_line};
@@ -20,53 +20,53 @@ use std::alloc::Global;
 /// Appends the lines of the rule of this number.
 pub(crate) fn push_rule(
     alloc: Global,
-    layout: &Layout,
+    fields: &SurveyShape,
     number: u32,
     rule: &Rule,
     lines: &mut Vec<RuleLine>,
 ) -> Result<(), OutOfMemory>
-    requires conditions { All (FitsCodes layout.now) rule.now.conditions }
-    requires conclusion { FitsCodes layout.now rule.now.conclusion }
-    ensures { OnOk result (lines.new.items ≡ joined_by lines.old.items number (all_lines_of layout.now rule.now)) }
+    requires conditions { All (FitsCodes fields.now) rule.now.conditions }
+    requires conclusion { FitsCodes fields.now rule.now.conclusion }
+    ensures { OnOk result (lines.new.items ≡ joined_by lines.old.items number (all_lines_of fields.now rule.now)) }
 {
-    let mut sets = Vec::from_slice(alloc, layout.wholes())?;
+    let mut sets = Vec::from_slice(alloc, fields.wholes())?;
     for condition in rule.conditions.as_slice() {
         match condition {
             Test::Codes {
                 field,
                 negated,
                 codes,
-            } => narrow(layout, &mut sets, *field, *negated, *codes),
+            } => narrow(fields, &mut sets, *field, *negated, *codes),
             Test::Number(linear) => {
-                return push_condition(alloc, layout, sets, linear, &rule.conclusion, number, lines);
+                return push_condition(alloc, fields, sets, linear, &rule.conclusion, number, lines);
             }
         }
     }
-    push_conclusion(alloc, layout, sets, &rule.conclusion, number, lines)
+    push_conclusion(alloc, fields, sets, &rule.conclusion, number, lines)
 }
 
 // Appends the lines of a conclusion, where the codes are in the sets.
 fn push_conclusion(
     alloc: Global,
-    layout: &Layout,
+    fields: &SurveyShape,
     mut sets: Vec<u64>,
     conclusion: &Test,
     rule: u32,
     lines: &mut Vec<RuleLine>,
 ) -> Result<(), OutOfMemory>
-    requires within { AreWithin sets.items (whole_sets layout.now) }
-    requires fits { FitsCodes layout.now conclusion.now }
-    ensures { OnOk result (lines.new.items ≡ joined_by lines.old.items rule (conclusion_lines layout.now sets.items conclusion.now)) }
+    requires within { AreWithin sets.items (whole_sets fields.now) }
+    requires fits { FitsCodes fields.now conclusion.now }
+    ensures { OnOk result (lines.new.items ≡ joined_by lines.old.items rule (conclusion_lines fields.now sets.items conclusion.now)) }
 {
     match conclusion {
-        Test::Number(linear) => push_compare(alloc, layout, &sets, linear, rule, lines),
+        Test::Number(linear) => push_compare(alloc, fields, &sets, linear, rule, lines),
         Test::Codes {
             field,
             negated,
             codes,
         } => {
-            narrow_where_false(layout, &mut sets, *field, *negated, *codes);
-            push_never(alloc, layout, sets, rule, lines)
+            narrow_where_false(fields, &mut sets, *field, *negated, *codes);
+            push_never(alloc, fields, sets, rule, lines)
         }
     }
 }
@@ -74,17 +74,17 @@ fn push_conclusion(
 // Appends the lines of a comparison as the last condition, where the codes are in the sets.
 fn push_condition(
     alloc: Global,
-    layout: &Layout,
+    fields: &SurveyShape,
     mut sets: Vec<u64>,
     linear: &Linear,
     conclusion: &Test,
     rule: u32,
     lines: &mut Vec<RuleLine>,
 ) -> Result<(), OutOfMemory>
-    requires within { AreWithin sets.items (whole_sets layout.now) }
-    requires fits { FitsCodes layout.now conclusion.now }
+    requires within { AreWithin sets.items (whole_sets fields.now) }
+    requires fits { FitsCodes fields.now conclusion.now }
     ensures { OnOk result (lines.new.items
-        ≡ joined_by lines.old.items rule (condition_lines layout.now sets.items linear.now conclusion.now)) }
+        ≡ joined_by lines.old.items rule (condition_lines fields.now sets.items linear.now conclusion.now)) }
 {
     match conclusion {
         Test::Number(_) => Ok(()),
@@ -93,8 +93,8 @@ fn push_condition(
             negated,
             codes,
         } => {
-            narrow_where_false(layout, &mut sets, *field, *negated, *codes);
-            push_contrary(alloc, layout, &sets, linear, rule, lines)
+            narrow_where_false(fields, &mut sets, *field, *negated, *codes);
+            push_contrary(alloc, fields, &sets, linear, rule, lines)
         }
     }
 }
@@ -102,23 +102,23 @@ fn push_condition(
 // Appends the lines that say that the sum compares so.
 fn push_compare(
     alloc: Global,
-    layout: &Layout,
+    fields: &SurveyShape,
     sets: &[u64],
     linear: &Linear,
     rule: u32,
     lines: &mut Vec<RuleLine>,
 ) -> Result<(), OutOfMemory>
-    requires { AreWithin sets.now (whole_sets layout.now) }
-    ensures { OnOk result (lines.new.items ≡ joined_by lines.old.items rule (lines_for layout.now sets.now linear.now)) }
+    requires { AreWithin sets.now (whole_sets fields.now) }
+    ensures { OnOk result (lines.new.items ≡ joined_by lines.old.items rule (lines_for fields.now sets.now linear.now)) }
 {
     match linear.compare {
-        Compare::Ge => push_side(alloc, layout, sets, linear, Side::AtLeast, rule, lines),
-        Compare::Gt => push_side(alloc, layout, sets, linear, Side::Above, rule, lines),
-        Compare::Le => push_side(alloc, layout, sets, linear, Side::AtMost, rule, lines),
-        Compare::Lt => push_side(alloc, layout, sets, linear, Side::Below, rule, lines),
+        Compare::Ge => push_side(alloc, fields, sets, linear, Side::AtLeast, rule, lines),
+        Compare::Gt => push_side(alloc, fields, sets, linear, Side::Above, rule, lines),
+        Compare::Le => push_side(alloc, fields, sets, linear, Side::AtMost, rule, lines),
+        Compare::Lt => push_side(alloc, fields, sets, linear, Side::Below, rule, lines),
         Compare::Eq => {
-            push_side(alloc, layout, sets, linear, Side::AtLeast, rule, lines)?;
-            push_side(alloc, layout, sets, linear, Side::AtMost, rule, lines)
+            push_side(alloc, fields, sets, linear, Side::AtLeast, rule, lines)?;
+            push_side(alloc, fields, sets, linear, Side::AtMost, rule, lines)
         }
     }
 }
@@ -126,20 +126,20 @@ fn push_compare(
 // Appends the line that says that the sum does not compare so.
 fn push_contrary(
     alloc: Global,
-    layout: &Layout,
+    fields: &SurveyShape,
     sets: &[u64],
     linear: &Linear,
     rule: u32,
     lines: &mut Vec<RuleLine>,
 ) -> Result<(), OutOfMemory>
-    requires { AreWithin sets.now (whole_sets layout.now) }
-    ensures { OnOk result (lines.new.items ≡ joined_by lines.old.items rule (lines_against layout.now sets.now linear.now)) }
+    requires { AreWithin sets.now (whole_sets fields.now) }
+    ensures { OnOk result (lines.new.items ≡ joined_by lines.old.items rule (lines_against fields.now sets.now linear.now)) }
 {
     match linear.compare {
-        Compare::Ge => push_side(alloc, layout, sets, linear, Side::Below, rule, lines),
-        Compare::Gt => push_side(alloc, layout, sets, linear, Side::AtMost, rule, lines),
-        Compare::Le => push_side(alloc, layout, sets, linear, Side::Above, rule, lines),
-        Compare::Lt => push_side(alloc, layout, sets, linear, Side::AtLeast, rule, lines),
+        Compare::Ge => push_side(alloc, fields, sets, linear, Side::Below, rule, lines),
+        Compare::Gt => push_side(alloc, fields, sets, linear, Side::AtMost, rule, lines),
+        Compare::Le => push_side(alloc, fields, sets, linear, Side::Above, rule, lines),
+        Compare::Lt => push_side(alloc, fields, sets, linear, Side::AtLeast, rule, lines),
         Compare::Eq => Ok(()),
     }
 }
@@ -147,18 +147,18 @@ fn push_contrary(
 // Appends the line that says that the sum is on this side of 0, unless a set is empty.
 fn push_side(
     alloc: Global,
-    layout: &Layout,
+    fields: &SurveyShape,
     sets: &[u64],
     linear: &Linear,
     side: Side,
     rule: u32,
     lines: &mut Vec<RuleLine>,
 ) -> Result<(), OutOfMemory>
-    requires { AreWithin sets.now (whole_sets layout.now) }
-    ensures { OnOk result (lines.new.items ≡ joined_by lines.old.items rule (side_line layout.now sets.now linear.now side ∷ [])) }
+    requires { AreWithin sets.now (whole_sets fields.now) }
+    ensures { OnOk result (lines.new.items ≡ joined_by lines.old.items rule (side_line fields.now sets.now linear.now side ∷ [])) }
 {
     if have_codes(sets) {
-        let line = side_line(alloc, layout, sets, linear, side)?;
+        let line = side_line(alloc, fields, sets, linear, side)?;
         lines.push(RuleLine { rule, line })?;
     }
     Ok(())
@@ -167,17 +167,17 @@ fn push_side(
 // Appends the line -1 >= 0, unless a set is empty.
 fn push_never(
     alloc: Global,
-    layout: &Layout,
+    fields: &SurveyShape,
     sets: Vec<u64>,
     rule: u32,
     lines: &mut Vec<RuleLine>,
 ) -> Result<(), OutOfMemory>
-    requires { AreWithin sets.items (whole_sets layout.now) }
-    ensures { OnOk result (lines.new.items ≡ joined_by lines.old.items rule (never layout.now sets.items ∷ [])) }
+    requires { AreWithin sets.items (whole_sets fields.now) }
+    ensures { OnOk result (lines.new.items ≡ joined_by lines.old.items rule (never fields.now sets.items ∷ [])) }
 {
     if have_codes(&sets) {
-        let factors = vec![in alloc; 0; layout.numbers().len()]?;
-        let line = Line::over(layout.shape(), sets, factors, -1, false);
+        let factors = vec![in alloc; 0; fields.numbers().len()]?;
+        let line = Line::over(fields.shape(), sets, factors, -1, false);
         lines.push(RuleLine { rule, line })?;
     }
     Ok(())

@@ -6,7 +6,7 @@ ghost use Rattle.edit_line.specs.Shapes.{whole_sets};
 ghost use Rattle.edit_normal.specs.NormalForm.{term_factor};
 ghost use Rattle.edit_normal.specs.inner.Sides.{is_negative, is_strict, side_line, signed};
 
-use crate::layout::Layout;
+use crate::survey_shape::SurveyShape;
 use edit_line::Line;
 use edit_model::Linear;
 use foundation::OutOfMemory;
@@ -40,19 +40,19 @@ impl Side {
 /// The line that says that the test's sum is on this side of 0 where the codes are in the sets.
 pub(crate) fn side_line(
     alloc: Global,
-    layout: &Layout,
+    fields: &SurveyShape,
     sets: &[u64],
     linear: &Linear,
     side: Side,
 ) -> Result<Line, OutOfMemory>
-    requires { AreSets sets.now (whole_sets layout.now) }
-    ensures { IfOk result (λ line. line ≡ side_line layout.now sets.now linear.now side) }
+    requires { AreSets sets.now (whole_sets fields.now) }
+    ensures { IfOk result (λ line. line ≡ side_line fields.now sets.now linear.now side) }
 {
     let negative = side.is_negative();
     let sets = Vec::from_slice(alloc, sets)?;
-    let factors = factors_of(alloc, layout.numbers(), linear, negative)?;
+    let factors = factors_of(alloc, fields.numbers(), linear, negative)?;
     let constant = signed(linear.constant, negative);
-    Ok(Line::divided(layout.shape(), sets, factors, constant, side.is_strict()))
+    Ok(Line::divided(fields.shape(), sets, factors, constant, side.is_strict()))
 }
 
 // The factor of each field in the test, or its negative.

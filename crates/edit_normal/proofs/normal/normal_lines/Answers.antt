@@ -11,13 +11,13 @@ use Rattle.edit_normal.proofs.normal.normal_lines.Goals as goal
 pub push_rule-requires : goal.push_rule-requires
 push_rule-requires c =
     let survey = c.args.survey.now in
-    let codes = rule-codes survey.fields survey.rules c.rules-rule-items.result.now c.in_ok-layout.layout c.loop-number.number c.rule-item.result c.in_ok-layout.ensures c.rules-rule-items.ensures.rules c.rules-rule-items.ensures.well_formed.rules c.loop-number-test.true c.rule-item.is in
+    let codes = rule-codes survey.fields survey.rules c.rules-rule-items.result.now c.in_ok-fields.fields c.loop-number.number c.rule-item.result c.in_ok-fields.ensures c.rules-rule-items.ensures.rules c.rules-rule-items.ensures.well_formed.rules c.loop-number-test.true c.rule-item.is in
     record { conditions = codes.0; conclusion = codes.1 }
 
 pub loop-number-preserved : goal.loop-number-preserved
 loop-number-preserved c =
     let survey = c.args.survey.now in
-    rule-more (shape_of survey.fields) c.in_ok-layout.layout survey.rules c.rules-rule-items.result.now c.loop-number.number c.rule-item.result c.loop-number.lines.items c.push_rule.new.lines.items _ c.in_ok-layout.ensures c.rules-rule-items.ensures.rules c.loop-number-test.true c.rule-item.is c.in_ok-push_rule.ensures c.loop-number.invariant
+    rule-more (shape_of survey.fields) c.in_ok-fields.fields survey.rules c.rules-rule-items.result.now c.loop-number.number c.rule-item.result c.loop-number.lines.items c.push_rule.new.lines.items _ c.in_ok-fields.ensures c.rules-rule-items.ensures.rules c.loop-number-test.true c.rule-item.is c.in_ok-push_rule.ensures c.loop-number.invariant
 
 pub returns : goal.returns
 returns c =

@@ -11,36 +11,36 @@ use std::marker::Model;
 /// A survey's shape, with what is looked up for each line: the fields of each kind, and the whole set of
 /// each categorical field. Contracts see the shape.
 #[derive(Drop)]
-pub(crate) struct Layout {
+pub(crate) struct SurveyShape {
     shape: Shape,
     numbers: Vec<u32>,
     categories: Vec<u32>,
     wholes: Vec<u64>,
 }
 
-impl Model for Layout {
+impl Model for SurveyShape {
     ghost use Rattle.std.specs.Prelude.{List};
     ghost use Rattle.edit_line.specs.Shapes.{Domain};
-    ghost use Rattle.edit_normal.specs.inner.Layouts.{IsLayout};
+    ghost use Rattle.edit_normal.specs.inner.SurveyShapes.{IsSurveyShape};
     ghost use Rattle.edit_line.specs.Domains.{domains};
 
     ghost Value = { List Domain };
 
     ghost view = { λ l. domains l.shape };
 
-    ghost invariant = { λ l. IsLayout (domains l.shape) l.numbers.items l.categories.items l.wholes.items };
+    ghost invariant = { λ l. IsSurveyShape (domains l.shape) l.numbers.items l.categories.items l.wholes.items };
 }
 
-impl Layout {
-    /// The layout of the survey.
-    pub(crate) fn of(alloc: Global, survey: &Survey) -> Result<Layout, OutOfMemory>
-        ensures { IfOk result (λ layout. layout ≡ shape_of survey.now.fields) }
+impl SurveyShape {
+    /// The shape of the survey, and what is looked up in it.
+    pub(crate) fn of(alloc: Global, survey: &Survey) -> Result<SurveyShape, OutOfMemory>
+        ensures { IfOk result (λ fields. fields ≡ shape_of survey.now.fields) }
     {
         let shape = Shape::of(survey);
         let numbers = Vec::from_slice(alloc, survey.numbers())?;
         let categories = Vec::from_slice(alloc, survey.codes())?;
         let wholes = shape.whole_sets(alloc)?;
-        Ok(Layout {
+        Ok(SurveyShape {
             shape,
             numbers,
             categories,

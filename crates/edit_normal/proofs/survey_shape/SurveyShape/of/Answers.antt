@@ -1,6 +1,6 @@
 use Rattle.std.proofs.Common.{◌∙◌}
 use Rattle.edit_line.proofs.ShapeLaws.{same_codes, same_fields}
-use Rattle.edit_normal.proofs.layout.Layout.of.Goals as goal
+use Rattle.edit_normal.proofs.survey_shape.SurveyShape.of.Goals as goal
 
 pub invariant_of-result : goal.invariant_of-result
 invariant_of-result c = record {
