@@ -34,7 +34,7 @@ fn place_of(shape: &Shape, field: u32) -> usize
     code_fields_before(shape.code_counts(), field as usize)
 }
 
-// How many of the first fields, so many, have codes.
+// How many of this number of first fields have codes.
 fn code_fields_before(counts: &[u8], field: usize) -> usize
     requires { field ≤ length counts.now }
     ensures { result ≡ length (filter (λ k. nat_lt 0 k) (take field counts.now)) }

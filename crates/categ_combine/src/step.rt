@@ -99,7 +99,7 @@ fn step_over(
     }
 }
 
-// The covers of so many codes, or none where more pairs than `most` would be looked at.
+// The covers of the first codes, up to `size` of them, or none where more pairs than `most` would be looked at.
 fn covers_of(
     alloc: Global,
     boxes: &[BoxFrom],
@@ -143,7 +143,7 @@ fn first_cover(alloc: Global, spot: &Spot) -> Result<BoxFrom, OutOfMemory>
     })
 }
 
-// The pairs of so many covers and the boxes that take part for the code.
+// The number of pairs of this number of covers and the boxes that take part for the code.
 fn pairs_for(boxes: &[BoxFrom], covers: usize, spot: &Spot, code: u8) -> u128
     requires { AreBoxesOver (domains spot.now.shape) boxes.now }
     ensures { result ≡ covers * length (filter (λ b. takes_part spot.now.place spot.now.whole code b.code_box.sets) boxes.now) }

@@ -42,7 +42,7 @@ abbrev pub verdict_fault : Premises → Option (List Step) → Option ℕ
 verdict_fault p None = None
 verdict_fault p (Some steps) = refutation_fault p steps
 
--- the first fault if there is one, and else the next, which stands so many lines later
+-- the first fault if there is one, and else the next, which stands `lines` lines later
 abbrev pub or_later : Option ℕ → ℕ → Option ℕ → Option ℕ
 or_later (Some offset) lines next = Some offset
 or_later None lines next = option_map (λ offset. lines + offset) next

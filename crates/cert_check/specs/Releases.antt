@@ -49,7 +49,7 @@ is_allowed most n = nat_le 1 n && nat_le n most
 abbrev pub limits_fit : Proof → Bool
 limits_fit p = is_allowed 1000 p.limit && (is_allowed 64 p.near && is_allowed 1000000000 p.budget)
 
--- the first line of a proof that does not fit so many lines of the rules and so many records: the limits, or either count
+-- the first line of a proof that does not fit these numbers of lines of the rules and of records: the limits, or either count
 abbrev pub head_fault_of : ℕ → ℕ → Proof → Option ℕ
 head_fault_of lines records p =
     if not (limits_fit p) then Some 2
@@ -110,7 +110,7 @@ AreValidRows r (said ∷ saids) (reads ∷ row_texts) (row ∷ rows) released =
     IsValidRow r (files_of said reads row released) said × AreValidRows r saids row_texts rows (behind said released)
 AreValidRows r _ _ _ released = ⊥
 
--- what is said of some record is not: of the first such, the fault stands so many lines behind the head of the first record
+-- what is said of some record is not: of the first such, the fault stands `offset` lines behind the head of the first record
 abbrev pub IsFaultAmong : RowRules → List RowProof → List (List (List ℕ)) → List (List Value) → List (List (List ℕ)) → ℕ → Why → Type 0
 IsFaultAmong r (said ∷ saids) (reads ∷ row_texts) (row ∷ rows) released offset why =
     IsRowFault r (files_of said reads row released) said offset why
@@ -136,7 +136,7 @@ pub record IsValidRelease (a : Audit) : Type 0 where
   pub each : AreValidRows (rules_of a proof) proof.rows a.sheet.row_texts a.sheet.rows rows
   pub claims : AreValidClaims a.survey a.sheet.rows proof
 
--- the proof tells of so many released records
+-- the proof tells of `count` released records
 abbrev pub IsReleasedCount : Audit → ℕ → Type 0
 IsReleasedCount a count = (p : Proof) × Spells a.proof p × (count ≡ length (filter is_released p.rows))
 

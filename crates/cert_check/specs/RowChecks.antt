@@ -96,7 +96,7 @@ IsValidRow r f said = IsValidSaid r f said.outcome said.gift
 
 -- ---- the first fault of a record: how many lines behind its head, and why
 
--- the tree is not valid; its first fault stands so many lines behind the head
+-- the tree is not valid; its first fault stands `offset` lines behind the head
 abbrev pub IsTreeFault : TreeCase → List Leaf → ℕ → Type 0
 IsTreeFault c leaves offset =
     ¬ IsValidTree c leaves × ((leaf : ℕ) × (step : Option ℕ) × IsFirstFault c leaves leaf step × (offset ≡ tree_offset leaves leaf step))
@@ -122,7 +122,7 @@ IsGiftFault r f path weight leaves fault offset why.Cert =
     ⊎ (IsCertified r f path weight leaves × (gift_exists r.survey fault ≡ false) × (offset ≡ 0))
 IsGiftFault r f path weight leaves fault offset other = ⊥
 
--- what the proof says is at fault first so many lines behind the head of a record, for this reason
+-- what the proof says is at fault first `offset` lines behind the head of a record, for this reason
 abbrev pub IsSaidFault : RowRules → RowFiles → Outcome → Option GiftFault → ℕ → Why → Type 0
 IsSaidFault r f (Change path weight cert) None offset why = IsChangeFault r f path weight cert.leaves offset why
 IsSaidFault r f (Change path weight cert) (Some fault) offset why = IsGiftFault r f path weight cert.leaves fault offset why
@@ -131,6 +131,6 @@ IsSaidFault r f (Overflow path event) fault offset why.Cert = (offset ≡ 0) × 
 IsSaidFault r f (Contradictory cert) fault offset why.Cert = IsTreeFault (tree_of r f None) cert.leaves offset
 IsSaidFault r f outcome fault offset other = ⊥
 
--- what the proof says of a record is at fault first so many lines behind its head, for this reason
+-- what the proof says of a record is at fault first `offset` lines behind its head, for this reason
 abbrev pub IsRowFault : RowRules → RowFiles → RowProof → ℕ → Why → Type 0
 IsRowFault r f said offset why = IsSaidFault r f said.outcome said.gift offset why

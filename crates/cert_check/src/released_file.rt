@@ -8,7 +8,7 @@ use foundation::OutOfMemory;
 use record_text::{Sheet, SheetFault, Texts, read_records};
 use std::alloc::Global;
 
-/// The rows of the released bytes, if these are, as a record file, the header and so many rows as long as it. The
+/// The rows of the released bytes, if these are, as a record file, the header and `count` rows as long as it. The
 /// file is read as one of no fields: its texts stand for no values yet.
 pub(crate) fn released_rows(
     alloc: Global,
@@ -34,7 +34,7 @@ fn no_fields(alloc: Global) -> Result<Survey, OutOfMemory>
     Survey::of(alloc, Vec::new(alloc), Vec::new(alloc))
 }
 
-// The sheet, if it has this header and so many rows.
+// The sheet, if it has this header and `count` rows.
 fn if_fits(header: &Texts, sheet: Sheet, count: u32) -> Option<Sheet>
     ensures some { IfSome result (λ kept. (kept ≡ sheet) × (sheet.header ≡ header.now) × (length sheet.rows ≡ count)) }
     ensures none { IfNone result ((sheet.header ≡ header.now) → ¬ (length sheet.rows ≡ count)) }

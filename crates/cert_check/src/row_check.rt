@@ -167,7 +167,7 @@ fn head_fault(right: bool) -> Option<RowFault>
     }
 }
 
-// The fault so many lines behind the head of a record, if there is one.
+// The fault at this number of lines behind the head of a record, if there is one.
 fn cert_fault(offset: Option<u64>) -> Option<RowFault>
     ensures { result ≡ option_map (λ offset. record { offset = offset; why = Why.Cert }) offset }
 {

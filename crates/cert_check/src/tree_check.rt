@@ -58,7 +58,7 @@ fn tree_offset(leaves: &[Leaf], leaf: u64, step: Option<u64>) -> u64
     1 + (lines_before(leaves, leaf as usize) + step_offset(step))
 }
 
-// How many lines the first leaves, so many, have.
+// How many lines this number of first leaves have.
 fn lines_before(leaves: &[Leaf], count: usize) -> u64
     requires count { count ≤ length leaves.now }
     requires few { length (flat_map leaf_lines leaves.now) < 2 ^ 64 }

@@ -8,7 +8,7 @@ use derivation::Step;
 use foundation::{OutOfMemory, Sequence};
 use std::alloc::Global;
 
-/// A certificate that is asked for: the leaves of the full tree of this depth, each closed by so many steps,
+/// A certificate that is asked for: the leaves of the full tree of this depth, each closed by a list of steps of this length,
 /// which all name the one given line. In a broken one the last step of the last leaf names a line that is
 /// not there.
 #[derive(Clone, Copy, Debug, PartialEq, Eq)]

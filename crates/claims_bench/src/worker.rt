@@ -26,7 +26,7 @@ impl Worker {
     }
 }
 
-/// How many donors there are for so many rows: as many, and as the last 4 rows need.
+/// How many donors there are, by the number of rows: as many, and as the last 4 rows need.
 pub fn donors_for(rows: u32) -> u32
     requires { rows < 4000000000 }
     ensures { result ≡ donors_for rows }

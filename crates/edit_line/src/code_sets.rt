@@ -87,7 +87,7 @@ pub(crate) fn are_whole(shape: Shape, sets: &[u64]) -> bool
     place >= sets.len()
 }
 
-// The place behind the set of so many codes, where that is whole. Where there are no codes there is no set.
+// The place behind the set of this number of codes, where that is whole. Where there are no codes there is no set.
 fn behind_whole(sets: &[u64], place: usize, count: u8) -> Option<usize>
     requires { count ≤ 64 }
     ensures some { IfSome result (λ next. IsWholeUpTo sets.now place count next) }

@@ -68,7 +68,7 @@ impl Shape {
     }
 }
 
-// Puts the set of so many codes last, and nothing where there are none.
+// Puts the set of this number of codes last, and nothing where there are none.
 fn push_whole(sets: &mut Vec<u64>, count: u8) -> Result<(), OutOfMemory>
     requires { count ≤ 64 }
     ensures { OnOk result (sets.new.items ≡ sets.old.items ++ whole_sets (domain_with count ∷ [])) }
@@ -79,7 +79,7 @@ fn push_whole(sets: &mut Vec<u64>, count: u8) -> Result<(), OutOfMemory>
     Ok(())
 }
 
-/// The set of so many codes, as bits.
+/// The set of the first codes, by their number, as bits.
 pub(crate) fn whole_set(count: u8) -> u64
     requires { count ≤ 64 }
     ensures { result ≡ 2 ^ count - 1 }

@@ -24,7 +24,7 @@ Costs < 0
 #[derive(Clone, Copy)]
 pub(crate) enum Plan {
     Given(u64),
-    /// The line of the first step, and so many times that of the second, divided.
+    /// The line of the first step, and a multiple of that of the second, divided.
     Sum(u64, u64, i128, i128),
     Fail(u64),
     /// At the second field.
@@ -53,7 +53,7 @@ pub(crate) fn steps_of(alloc: Global, plans: &[Plan]) -> Result<Vec<Step>, Fail>
     Ok(steps)
 }
 
-/// For each of so many lines whether it is usable: all but the one at the place.
+/// For each of this number of lines whether it is usable: all but the one at the place.
 pub(crate) fn all_but(alloc: Global, count: usize, place: usize) -> Result<Vec<bool>, Fail>
     ensures { IfOk result (λ usable. length usable.items ≡ count) }
 {

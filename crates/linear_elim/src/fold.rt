@@ -100,7 +100,7 @@ fn copy_all(alloc: Global, lines: &[Derived]) -> Result<Vec<Derived>, OutOfMemor
     Ok(copies)
 }
 
-// The lines after the field, which has so many codes: if it is numerical and in the set, those of the
+// The lines after the field, which has this number of codes: if it is numerical and in the set, those of the
 // step at it. None stands for the lines that the fold begins with, which are not copied.
 fn next_lines<L: Ledger>(
     alloc: Global,

@@ -5,7 +5,7 @@ use edit_model::{Field, Kind, Name, Survey, SurveyFault};
 use std::alloc::Global;
 use std::test::Fail;
 
-/// A survey of so many fields with one name, or why they make none.
+/// A survey of this number of fields with one name, or why they make none.
 fn fields_of_one_name(alloc: Global, count: usize) -> Result<Result<Survey, SurveyFault>, Fail> {
     let mut fields = Vec::new(alloc);
     for _ in 0..count {

@@ -14,7 +14,7 @@ audit_in a proof = audit_of a.rules.now a.records.now a.released.now proof
 abbrev pub IsOfSheet : declared.Audit → Type 0
 IsOfSheet a = (bytes : List ℕ) × IsSheet a.rules.now.fields bytes a.records.now
 
--- the files are a valid release, with so many released records; or this is the first condition that fails
+-- the files are a valid release, with this number of released records; or this is the first condition that fails
 abbrev pub Answers : Audit → Result ℕ CheckFault → Type 0
 Answers a (Ok count) = IsValidRelease a × IsReleasedCount a count
 Answers a (Err (fault.Rejected line why)) = IsFirstFailure a line why × ¬ IsValidRelease a

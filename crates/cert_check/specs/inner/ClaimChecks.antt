@@ -22,14 +22,14 @@ AreCleanFlags survey rows flags = flags ≡ map (is_clean survey) rows
 abbrev pub OfCleanFlags : List Bool → (SurveyParts → List (List Value) → Type 0) → Type 0
 OfCleanFlags flags P = (survey : SurveyParts) (rows : List (List Value)) → AreCleanFlags survey rows flags → P survey rows
 
--- so many claims stand before the first that is not in form
+-- this number of claims stand before the first that is not in form
 pub record IsFormedCount (survey : SurveyParts) (rows : List (List Value)) (p : Proof) (count : ℕ) : Type 0 where
   pub formed : AllByRecursion (IsClaim survey rows p) (take count p.claims)
   pub next : count < length p.claims → ¬ AllByRecursion (IsClaim survey rows p) (take (count + 1) p.claims)
 
 -- ---- records with a claim
 
--- each of so many records is marked exactly where it has a claim
+-- each of this number of records is marked exactly where it has a claim
 pub record AreMarked (claims : List Entry) (count : ℕ) (marks : List Bool) : Type 0 where
   pub long : length marks ≡ count
   pub marked : (i : ℕ) → i < count → slice_index_or marks i false ≡ is_some (claim_of i (wins_of claims))

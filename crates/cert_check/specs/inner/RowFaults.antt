@@ -13,7 +13,7 @@ abbrev pub FindsSaid : RowRules → RowFiles → Outcome → Option GiftFault �
 FindsSaid r f outcome gift None = IsValidSaid r f outcome gift
 FindsSaid r f outcome gift (Some fault) = IsSaidFault r f outcome gift fault.offset fault.why × ¬ IsValidSaid r f outcome gift
 
--- the fault stands on one of so many lines
+-- the fault stands on one of this number of lines
 abbrev pub IsWithin : ℕ → Option RowFault → Type 0
 IsWithin lines found = IfSome found (λ fault. fault.offset < lines)
 
@@ -34,6 +34,6 @@ abbrev pub FindsInChange : RowRules → RowFiles → List Bool → ℕ → List 
 FindsInChange r f path zero leaves found = found ≡ None
 FindsInChange r f path (suc w) leaves found = FindsInCert r f path (suc w) leaves found
 
--- the place is that of one of so many lines, if there is one
+-- the place is that of one of this number of lines, if there is one
 abbrev pub IsAmong : ℕ → Option ℕ → Type 0
 IsAmong lines found = IfSome found (λ offset. offset < lines)

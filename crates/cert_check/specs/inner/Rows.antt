@@ -4,7 +4,7 @@ use Rattle.std.specs.List.{AllByRecursion}
 use Rattle.record_text.specs.Sheets.{AreRecordsOf}
 use Rattle.record_text.specs.Trimming.{header_of}
 
--- the bytes are, as a record file, this header and so many rows as long as it
+-- the bytes are, as a record file, this header and this number of rows as long as it
 pub record AreRowsOf (header : List (List ℕ)) (bytes : List ℕ) (count : ℕ) (rows : List (List (List ℕ))) : Type 0 where
   pub first : List (List ℕ)
   pub given : AreRecordsOf bytes (first ∷ rows)
@@ -12,7 +12,7 @@ pub record AreRowsOf (header : List (List ℕ)) (bytes : List ℕ) (count : ℕ)
   pub long : AllByRecursion (λ (texts : List (List ℕ)). length texts ≡ length header) rows
   pub counted : length rows ≡ count
 
--- a record file may have such a header, and so many rows
+-- a record file may have such a header, and this number of rows
 pub record AreInLimits (header : List (List ℕ)) (count : ℕ) : Type 0 where
   pub width : length header ≤ 256
   pub few : count ≤ 200000

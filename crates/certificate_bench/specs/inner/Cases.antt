@@ -18,7 +18,7 @@ field_count (suc depth) = suc depth
 abbrev pub field_named : ℕ → Field
 field_named letter = record { name = letter ∷ []; weight = 1; kind = kind.Number 1 }
 
--- so many of them, named by the letters from a on
+-- this number of them, named by the letters from a on
 abbrev pub fields_of : ℕ → List Field
 fields_of count = map (λ i. field_named (97 + i)) (range_with_len 0 count)
 

@@ -16,7 +16,7 @@ path_to depth number = map (λ place. bit_at number (depth - 1 - place) == 1) (r
 abbrev pub step_where : Bool → Bool → Step
 step_where broken last = if broken && last then step.Given 1 else step.Given 0
 
--- so many steps
+-- this number of steps
 abbrev pub steps_of : ℕ → Bool → List Step
 steps_of count broken = map (λ place. step_where broken (place + 1 == count)) (range_with_len 0 count)
 

@@ -6,7 +6,7 @@ abbrev pub step_number : Option ℕ → ℕ
 step_number None = 0
 step_number (Some place) = place + 1
 
--- what is printed of a valid certificate of so many leaves
+-- what is printed of a valid certificate, by the number of its leaves
 abbrev pub accepted_text : ℕ → List ℕ
 accepted_text count = codes "accepted " ++ (decimal count ++ (codes " leaves" ++ 10 ∷ []))
 

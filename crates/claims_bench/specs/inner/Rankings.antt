@@ -1,7 +1,7 @@
 -- The donors, and which of them a row ranks.
 use Rattle.std.specs.Prelude.{ℕ, ◌+◌, ◌*◌, ◌/◌, List, [], ◌∷◌}
 
--- how many donors there are for so many rows: as many, and as the last 4 rows need
+-- how many donors there are, by the number of rows: as many, and as the last 4 rows need
 abbrev pub donors_for : ℕ → ℕ
 donors_for rows = rows + 3
 

@@ -5,7 +5,7 @@ use Rattle.donor_book.specs.Passes.{BookName, PassState}
 use Rattle.claims_bench.specs.inner.Rankings.{donors_for}
 use Rattle.claims_bench.specs.declared.worker.Worker.{Worker}
 
--- the book has a row for each ticket, and the donors for so many rows
+-- the book has a row for each ticket, and the donors for this number of rows
 pub record Fits (row : Row) (book : BookName) : Type 0 where
   pub rows : row.count ≡ book.terms.rows
   pub donors : book.terms.donors ≡ donors_for book.terms.rows

@@ -5,7 +5,7 @@ use crate::check::linear::is_linear;
 use crate::field::{Field, Kind};
 use crate::rule::{Compare, Rule, Test};
 
-// Whether the set, as bits, has no code but the first ones, so many, and is not empty.
+// Whether the set, as bits, has no code but the first `count` ones, and is not empty.
 fn fits_codes(set: u64, count: usize) -> bool
     ensures { IsTrue result ↔ ((0 < set) × (set < 2 ^ count)) }
 {

@@ -14,7 +14,7 @@ numbers_of Coded = 20
 abbrev pub count_of : Differences → ℕ
 count_of system = numbers_of system * (numbers_of system - 1)
 
--- so many numerical fields, and then a field of 8 codes
+-- this number of numerical fields, and then a field of 8 codes
 abbrev pub shape_with : ℕ → List Domain
 shape_with zero = Categorical 8 ∷ []
 shape_with (suc n) = Numerical ∷ shape_with n
@@ -55,6 +55,6 @@ difference_line system place draw =
 abbrev pub numbered_line : Differences → ℕ → ℕ × LineParts
 numbered_line system place = (place, difference_line system place (draw_at place))
 
--- the first lines, so many
+-- this number of the first lines
 abbrev pub differences : Differences → ℕ → List (ℕ × LineParts)
 differences system count = map (λ place. numbered_line system place) (range_with_len 0 count)

@@ -19,7 +19,7 @@ abbrev pub step_at : Listing → ℕ → Step
 step_at Given place = step.Given (place % count_of Plain)
 step_at Sums place = if place == 0 then step.Given 0 else step.Combine (place - 1) (pos 1) 0 (pos 1) (pos 1)
 
--- the first steps, so many
+-- this number of the first steps
 abbrev pub steps_of : Listing → ℕ → List Step
 steps_of listing count = map (λ place. step_at listing place) (range_with_len 0 count)
 
@@ -44,7 +44,7 @@ refused_at (Err place) = Some place
 abbrev pub first_refused : Listing → ℕ → Option ℕ
 first_refused listing count = refused_at (steps_result generated_premises (steps_of listing count))
 
--- what is printed of so many steps, of which the one at this place is refused, if one is
+-- what is printed of this number of steps, of which the one at this place is refused, if one is
 abbrev pub verdict_text : ℕ → Option ℕ → List ℕ
 verdict_text count None = accepted_text count
 verdict_text count (Some place) = refused_text count place

@@ -21,7 +21,7 @@ abbrev pub served : List ℕ → Differences → Option ℕ → Option Task
 served verb system None = None
 served verb system (Some count) = task_over verb system count
 
--- the check of so many steps, where their number was read
+-- the check of this number of steps, where their number was read
 abbrev pub listed : Listing → Option ℕ → Option Task
 listed listing None = None
 listed listing (Some count) = Some (Steps listing count)
@@ -39,7 +39,7 @@ task_in (verb ∷ count ∷ kind ∷ []) =
     else if bytes_eq kind (codes "codes") then served verb Coded (number_in count 0 (numbers_of Coded)) else None
 task_in _ = None
 
--- the system has so many fields to eliminate, and a step to show where steps are asked for
+-- the system has this number of fields to eliminate, and a step to show where steps are asked for
 abbrev pub IsServed : Task → Type 0
 IsServed (Fold system count) = count ≤ numbers_of system
 IsServed (Pairs system count) = (1 ≤ count) × (count ≤ numbers_of system)
