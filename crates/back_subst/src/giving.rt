@@ -17,7 +17,7 @@ use crate::code::code_for;
 use crate::gift::GiveFault;
 use crate::number::number_for;
 use crate::order::set_of;
-use crate::value::{code_of, target_of};
+use crate::value::target_of;
 use edit_line::{Derived, Edits};
 use edit_model::{Row, Survey, Value};
 use foundation::{OutOfMemory, Steps};
@@ -83,7 +83,7 @@ pub(crate) fn give_codes(
 {
     for field in order {
         let value = target_of(donor, *field);
-        let target = code_of(&value);
+        let target = value.code_number();
         let code = code_for(alloc, survey, lines, new, *field, target)?;
         new.set(survey, *field, Value::Code(code));
     }

@@ -4,7 +4,7 @@ ghost use Rattle.edit_model.specs.Rows.{IsRow};
 ghost use Rattle.back_subst.specs.Gifts.{IsDonorRecord, how_of, hows_of, is_target, taken_from};
 
 use crate::gift::How;
-use crate::value::{code_of, number_of, target_of};
+use crate::value::{number_of, target_of};
 use edit_model::{FieldSet, Row, Survey, Value};
 use foundation::OutOfMemory;
 use std::alloc::Global;
@@ -59,7 +59,7 @@ fn is_target(target: &Value, value: &Value) -> bool
     ensures { result ≡ is_target target.now value.now }
 {
     match value {
-        Value::Code(code) => code_of(target) == *code,
+        Value::Code(code) => target.code_number() == *code,
         Value::Number(x) => match number_of(target).compare(*x) {
             Ordering::Equal => true,
             Ordering::Less | Ordering::Greater => false,

@@ -1,23 +1,19 @@
 //! The bounds that the lines of a system give to a numerical field of a record.
-ghost use Rattle.std.specs.Prelude.{◌≡◌, ◌≢◌, ◌<◌, pos, All, length, map};
+ghost use Rattle.std.specs.Prelude.{◌≡◌, ◌≢◌, ◌<◌, pos, All};
 ghost use Rattle.std.specs.Result.{result_ok};
 ghost use lib.IntN.{neg_ℤ};
 ghost use Rattle.foundation.specs.Options.{◌>>?◌};
 ghost use Rattle.fraction128.specs.Formulas.{answered, divided};
 ghost use Rattle.fraction128.specs.Range.{InRange};
-ghost use Rattle.edit_model.specs.RowPoints.{code_in};
 ghost use Rattle.edit_model.specs.Rows.{IsRow, value_of};
 ghost use Rattle.edit_model.specs.declared.value.Value.TheVariants.{Bad};
-ghost use Rattle.edit_line.specs.CodeFields.{codes_in};
 ghost use Rattle.edit_line.specs.Reductions.{lines_of};
-ghost use Rattle.edit_line.specs.Sets.{are_codes_in};
 ghost use Rattle.edit_line.specs.Shapes.{IsNumerical, number_fields, place_in, shape_of};
 ghost use Rattle.edit_line.specs.Sums.{sum_at};
 ghost use Rattle.back_subst.specs.NumberWalk.{bounds_from, no_bounds};
 ghost use Rattle.back_subst.specs.inner.Sides.{bounds_told, ends_of, with_line};
 
 use crate::bound::{Bound, Bounds};
-use crate::value::code_of;
 use edit_line::{Derived, Line, has_code, place_among, value_at};
 use edit_model::{Row, Survey};
 use fraction128::{Fraction, Overflow};
@@ -57,7 +53,7 @@ fn with_line(
     ensures { bounds_told result ≡ with_line i line.now row.now field (ends_of bounds) }
 {
     let factor = line.factors()[place];
-    if factor == 0 || !has_codes_of(survey, line, row) {
+    if factor == 0 || !line.admits_codes_of(survey, row) {
         return Ok(bounds);
     }
     match bound_at(survey, line, row, factor) {
@@ -85,26 +81,4 @@ fn bound_at(survey: &Survey, line: &Line, row: &Row, factor: i128) -> Result<Fra
         Ok(rest) => rest.divide(-factor),
         Err(_) => Err(Overflow),
     }
-}
-
-// Whether the record's codes are in the line's sets.
-fn has_codes_of(survey: &Survey, line: &Line, row: &Row) -> bool
-    requires shape { line.now.shape ≡ shape_of survey.now.fields }
-    requires row { IsRow survey.now.fields row.now }
-    ensures { result ≡ are_codes_in line.now.sets (codes_in line.now.shape row.now) }
-{
-    are_inside(line.sets(), survey.codes(), row)
-}
-
-fn are_inside(sets: &[u64], fields: &[u32], row: &Row) -> bool
-    requires count { length sets.now ≡ length fields.now }
-    requires within { All (λ f. f < length row.now) fields.now }
-    ensures { result ≡ are_codes_in sets.now (map (λ f. code_in (value_of row.now f)) fields.now) }
-{
-    for (place, field) in fields.iter().enumerate() {
-        if !has_code(sets[place], code_of(row.value(*field))) {
-            return false;
-        }
-    }
-    true
 }

@@ -1,21 +1,10 @@
 //! Values as targets.
 ghost use Rattle.std.specs.Prelude.{◌≡◌, ◌<◌, IfSome, length, option_copied};
 ghost use Rattle.fraction128.specs.Formulas.{ratio_of};
-ghost use Rattle.edit_model.specs.RowPoints.{code_in};
 ghost use Rattle.back_subst.specs.Given.{number_in, target_of};
 
 use edit_model::{Row, Value};
 use fraction128::Fraction;
-
-/// The number of a value's code, 0 where it is none.
-pub(crate) fn code_of(value: &Value) -> u8
-    ensures { result ≡ code_in value.now }
-{
-    match value {
-        Value::Code(code) => *code,
-        Value::Number(_) | Value::Bad => 0,
-    }
-}
 
 /// The number of a value, 0 where it is none.
 pub(crate) fn number_of(value: &Value) -> Fraction

@@ -12,7 +12,7 @@ ghost use Rattle.edit_line.specs.Sums.{stands_only};
 
 use crate::code_sets::{are_whole, has_code};
 use crate::line::Line;
-use edit_model::{FieldSet, Row, Survey, Value};
+use edit_model::{FieldSet, Row, Survey};
 
 impl Line {
     /// The factor at the field, 0 where that is not numerical. No memory.
@@ -86,19 +86,9 @@ fn admits_codes(sets: &[u64], fields: &[u32], row: &Row) -> bool
     ensures { result ≡ are_codes_in sets.now (map (λ f. code_in (value_of row.now f)) fields.now) }
 {
     for (place, field) in fields.iter().enumerate() {
-        if !has_code(sets[place], code_in(row.value(*field))) {
+        if !has_code(sets[place], row.value(*field).code_number()) {
             return false;
         }
     }
     true
-}
-
-// The number of a value's code, 0 where it is none.
-fn code_in(value: &Value) -> u8
-    ensures { result ≡ code_in value.now }
-{
-    match value {
-        Value::Code(code) => *code,
-        Value::Number(_) | Value::Bad => 0,
-    }
 }

@@ -2,7 +2,6 @@
 ghost use Rattle.std.specs.Prelude.{◌≡◌, ◌<◌, All, IfOk, OnErr, length, pos};
 ghost use Rattle.fraction128.specs.Formulas.{answered, ratio_of};
 ghost use Rattle.edit_model.specs.Points.{Point, compares, has_code, rule_holds};
-ghost use Rattle.edit_model.specs.RowPoints.{code_in};
 ghost use Rattle.edit_model.specs.Rows.{value_of};
 ghost use Rattle.edit_model.specs.Trials.{AgreesOnRule, CanTry, HasValues, IsNumberValue, rule_at, trial_sum, sum_with, test_at};
 
@@ -43,7 +42,7 @@ fn is_true(test: &Test, row: &Row) -> Result<bool, Overflow>
             field,
             negated,
             codes,
-        } => Ok(is_among(code_of(row.value(*field)), *codes) != *negated),
+        } => Ok(is_among(row.value(*field).code_number(), *codes) != *negated),
     }
 }
 
@@ -86,16 +85,6 @@ fn compares_with_zero(compare: Compare, number: i128) -> bool
         Compare::Le => number <= 0,
         Compare::Lt => number < 0,
         Compare::Eq => number == 0,
-    }
-}
-
-// The number of the code that the value is, 0 where it is none.
-fn code_of(value: &Value) -> u8
-    ensures { result ≡ code_in value.now }
-{
-    match value {
-        Value::Code(code) => *code,
-        Value::Number(_) | Value::Bad => 0,
     }
 }
 

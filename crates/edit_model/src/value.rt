@@ -1,4 +1,5 @@
 ghost use Rattle.std.specs.Prelude.{◌≡◌};
+ghost use Rattle.edit_model.specs.RowPoints.{code_in};
 ghost use Rattle.edit_model.specs.Rows.{is_bad};
 
 use fraction128::Fraction;
@@ -20,5 +21,15 @@ impl Value {
         ensures { result ≡ is_bad self.now }
     {
         matches!(self, Value::Bad)
+    }
+
+    /// The number of the code that the value is, 0 where it is none.
+    pub fn code_number(&self) -> u8
+        ensures { result ≡ code_in self.now }
+    {
+        match self {
+            Value::Code(code) => *code,
+            Value::Number(_) | Value::Bad => 0,
+        }
     }
 }

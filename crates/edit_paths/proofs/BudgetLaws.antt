@@ -26,6 +26,14 @@ module _ (c : SearchCase) (budget : ℕ) where
   work-more : (taken : List (List Bool)) (path : List Bool) → work_of_all c (taken ++ path ∷ []) ≡ work_of_all c taken + work_of c path
   work-more taken path = sum_by-append (work_of c) taken (path ∷ []) ∙ ap (λ n. work_of_all c taken + n) (sum_by-cons (work_of c) path [] ∙ omega arith)
 
+  -- where a path is not open, the work goes on behind it
+  work-on : (path : List Bool) (paths : List (List Bool)) → is_open (state_of c path) ≡ false → work_of c path + (if is_complete c path && is_open (state_of c path) then 0 else work_up_to c paths) ≡ work_of c path + work_up_to c paths
+  work-on path paths e = ap (λ b. work_of c path + (if is_complete c path && b then 0 else work_up_to c paths)) e ∙ none (is_complete c path)
+    where
+      none : (b : Bool) → work_of c path + (if b && false then 0 else work_up_to c paths) ≡ work_of c path + work_up_to c paths
+      none true = refl
+      none false = refl
+
   enough-from : (taken paths : List (List Bool)) → work_of_all c taken + work_up_to c paths ≤ budget → (path : List Bool) (work : ℕ) → outcome_from c budget taken paths ≡ outcome.Budget path work → ⊥
   enough-from taken [] enough q work e = absurd (cc)
   enough-from taken (path ∷ paths) enough q work e =
@@ -43,30 +51,9 @@ module _ (c : SearchCase) (budget : ℕ) where
           at true e rest h = absurd (cc)
           at false e rest h =
               rest (omega (arith, enough, work-more taken path, ap (λ b. work_of c path + (if b && is_open (state_of c path) then 0 else work_up_to c paths)) e)) h
-      by false passed ClosedBad is full whole rest h = rest (omega (arith, enough, work-more taken path, left false (ap is_open is))) h
-        where
-          left : (o : Bool) → is_open (state_of c path) ≡ false → work_of c path + (if is_complete c path && is_open (state_of c path) then 0 else work_up_to c paths) ≡ work_of c path + work_up_to c paths
-          left o e = ap (λ b. work_of c path + (if is_complete c path && b then 0 else work_up_to c paths)) e ∙ none (is_complete c path)
-            where
-              none : (b : Bool) → work_of c path + (if b && false then 0 else work_up_to c paths) ≡ work_of c path + work_up_to c paths
-              none true = refl
-              none false = refl
-      by false passed (ClosedLine i) is full whole rest h = rest (omega (arith, enough, work-more taken path, left (ap is_open is))) h
-        where
-          left : is_open (state_of c path) ≡ false → work_of c path + (if is_complete c path && is_open (state_of c path) then 0 else work_up_to c paths) ≡ work_of c path + work_up_to c paths
-          left e = ap (λ b. work_of c path + (if is_complete c path && b then 0 else work_up_to c paths)) e ∙ none (is_complete c path)
-            where
-              none : (b : Bool) → work_of c path + (if b && false then 0 else work_up_to c paths) ≡ work_of c path + work_up_to c paths
-              none true = refl
-              none false = refl
-      by false passed (ClosedBox i) is full whole rest h = rest (omega (arith, enough, work-more taken path, left (ap is_open is))) h
-        where
-          left : is_open (state_of c path) ≡ false → work_of c path + (if is_complete c path && is_open (state_of c path) then 0 else work_up_to c paths) ≡ work_of c path + work_up_to c paths
-          left e = ap (λ b. work_of c path + (if is_complete c path && b then 0 else work_up_to c paths)) e ∙ none (is_complete c path)
-            where
-              none : (b : Bool) → work_of c path + (if b && false then 0 else work_up_to c paths) ≡ work_of c path + work_up_to c paths
-              none true = refl
-              none false = refl
+      by false passed ClosedBad is full whole rest h = rest (omega (arith, enough, work-more taken path, work-on path paths (ap is_open is))) h
+      by false passed (ClosedLine i) is full whole rest h = rest (omega (arith, enough, work-more taken path, work-on path paths (ap is_open is))) h
+      by false passed (ClosedBox i) is full whole rest h = rest (omega (arith, enough, work-more taken path, work-on path paths (ap is_open is))) h
 
   -- the outcome is Budget only where the total work is more
   pub enough-budget : total_work c ≤ budget → (path : List Bool) (work : ℕ) → outcome_of c budget ≡ outcome.Budget path work → ⊥

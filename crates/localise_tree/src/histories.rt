@@ -18,7 +18,6 @@ use crate::number_paths::system_along;
 use crate::problem::{Problem, number_count};
 use categ_combine::{BoxFault, BoxFrom, Covered, boxes_of, cat_step, fix};
 use edit_line::Derived;
-use edit_model::Value;
 use edit_paths::Level;
 use foundation::{OutOfMemory, Sequence, Steps};
 use linear_elim::{SystemFault, Systems};
@@ -236,8 +235,5 @@ fn code_at(problem: &Problem, field: u32) -> u8
     ensures code { result ≡ code_in (value_of (case_in problem.now).row field) }
     ensures known { result < size_of (shape_of (case_in problem.now).survey.fields) field }
 {
-    match problem.row.value(field) {
-        Value::Code(code) => *code,
-        Value::Number(_) | Value::Bad => 0,
-    }
+    problem.row.value(field).code_number()
 }

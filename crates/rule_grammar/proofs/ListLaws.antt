@@ -1,10 +1,10 @@
 -- What is read as a list of codes has its tokens, and its tokens are read as it.
-use Rattle.std.proofs.Common.{◌≡◌, refl, sym, ap, ◌∙◌, ℕ, Bool, true, false, Some, None, List, [], ◌∷◌, ◌++◌, if◌then◌else◌, arith}
+use Rattle.std.proofs.Common.{◌≡◌, refl, sym, ap, ◌∙◌, ℕ, false, Some, None, List, [], ◌∷◌, ◌++◌, arith}
 use Rattle.std.specs.List.{flat_map}
 use Rattle.std.proofs.lemmas.List.{append_assoc}
 use Rattle.rule_grammar.proofs.ManyLaws.{many_back, many_spells}
-use Rattle.rule_grammar.proofs.ReadLaws.{Shortens, Spells, code_spells, shortens_spelled, spells_after, spells_behind, spells_word}
-use Rattle.rule_grammar.specs.inner.Parsing.{Reading, begins, close_at, code_at, codes_at, comma_code_at, in_list_at, is_comma, is_word, list_at, many_at, rest_of}
+use Rattle.rule_grammar.proofs.ReadLaws.{Shortens, Spells, code_spells, shortens_spelled, spells_after, spells_behind, spells_from_word}
+use Rattle.rule_grammar.specs.inner.Parsing.{Reading, close_at, code_at, codes_at, comma_code_at, in_list_at, is_comma, list_at, many_at}
 use Rattle.rule_grammar.specs.Statements.{list_tokens}
 use Rattle.rule_grammar.specs.declared.statement.CodeList.{CodeList}
 use Rattle.rule_grammar.specs.declared.token.Keyword.TheVariants as keyword
@@ -42,11 +42,7 @@ abbrev pub in_list_tokens : CodeList → List Token
 in_list_tokens list = token.Keyword keyword.In ∷ list_tokens list
 
 pub in_list_spells : (ts : List Token) → Spells in_list_tokens ts (in_list_at ts)
-in_list_spells ts = by_word (begins (is_word keyword.In) ts) refl
-  where
-    by_word : (found : Bool) → begins (is_word keyword.In) ts ≡ found → Spells in_list_tokens ts (if found then list_at (rest_of ts) else None)
-    by_word false is = tt
-    by_word true is = spells_word keyword.In list_tokens ts (list_at (rest_of ts)) is (list_spells (rest_of ts))
+in_list_spells ts = spells_from_word keyword.In list_tokens list_at list_spells ts
 
 -- ---- its tokens are read as it
 

@@ -1,5 +1,5 @@
 -- What is read and what is left of it, joined one after another.
-use Rattle.std.proofs.Common.{◌≡◌, refl, sym, ap, subst, ◌∙◌, ℕ, ◌<◌, ◌==◌, true, Some, None, List, [], ◌∷◌, ◌++◌, length, if◌then◌else◌, arith}
+use Rattle.std.proofs.Common.{◌≡◌, refl, sym, ap, subst, ◌∙◌, ℕ, ◌<◌, ◌==◌, Bool, true, false, Some, None, List, [], ◌∷◌, ◌++◌, length, if◌then◌else◌, arith}
 use Rattle.std.proofs.lemmas.Bool.{eq-eqb, eqb-true}
 use Rattle.std.proofs.lemmas.List.{append_assoc, length-append}
 use Rattle.edit_model.specs.declared.rule.Compare.{Compare as Comparison}
@@ -109,3 +109,12 @@ is_that_word word = eq-eqb (word_number word) (word_number word) refl
 pub spells_word : {X : Type 0} (word : Word) (spelling : X → List Token) (ts : List Token) (reading : Reading X) → begins (is_word word) ts ≡ true → Spells spelling (rest_of ts) reading → Spells (λ x. token.Keyword word ∷ spelling x) ts reading
 spells_word word spelling ts None begun one = tt
 spells_word word spelling ts (Some found) begun one = word_begins word ts begun ∙ ap (λ l. token.Keyword word ∷ l) one
+
+-- and so where the word is looked for
+pub spells_from_word : {X : Type 0} (word : Word) (spelling : X → List Token) (reads : List Token → Reading X) → ((ts : List Token) → Spells spelling ts (reads ts))
+    → (ts : List Token) → Spells (λ x. token.Keyword word ∷ spelling x) ts (if begins (is_word word) ts then reads (rest_of ts) else None)
+spells_from_word {X} word spelling reads spells ts = by_word (begins (is_word word) ts) refl
+  where
+    by_word : (found : Bool) → begins (is_word word) ts ≡ found → Spells (λ (x : X). token.Keyword word ∷ spelling x) ts (if found then reads (rest_of ts) else None)
+    by_word false is = tt
+    by_word true is = spells_word word spelling ts (reads (rest_of ts)) is (spells (rest_of ts))

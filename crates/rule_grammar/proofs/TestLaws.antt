@@ -4,7 +4,7 @@ use Rattle.std.specs.List.{flat_map}
 use Rattle.std.proofs.lemmas.List.{append_assoc}
 use Rattle.edit_model.specs.declared.rule.Compare.{Compare as Comparison}
 use Rattle.rule_grammar.proofs.ListLaws.{in_list_back, in_list_spells, in_list_tokens}
-use Rattle.rule_grammar.proofs.ReadLaws.{Shortens, Spells, compare_spells, name_spells, shortens_spelled, spells_after, spells_as, spells_behind, spells_word, word_begins}
+use Rattle.rule_grammar.proofs.ReadLaws.{Shortens, Spells, compare_spells, name_spells, shortens_spelled, spells_after, spells_as, spells_behind, spells_from_word, word_begins}
 use Rattle.rule_grammar.proofs.SumLaws.{extends_sum, sum_after_back, sum_after_spells, sum_back, sum_spells}
 use Rattle.rule_grammar.specs.inner.Parsing.{and_test_at, begins, codes_after, compare_at, compared_at, in_list_at, is_name_token, is_word, name_at, rest_of, sum_after, sum_at, sums_after, test_after, test_at, then_read}
 use Rattle.rule_grammar.specs.Statements.{signed_term_tokens, sum_tokens, term_tokens, test_tokens}
@@ -55,11 +55,7 @@ abbrev pub and_test_tokens : TestText → List Token
 and_test_tokens t = token.Keyword keyword.And ∷ test_tokens t
 
 pub and_test_spells : (ts : List Token) → Spells and_test_tokens ts (and_test_at ts)
-and_test_spells ts = by_word (begins (is_word keyword.And) ts) refl
-  where
-    by_word : (found : Bool) → begins (is_word keyword.And) ts ≡ found → Spells and_test_tokens ts (if found then test_at (rest_of ts) else None)
-    by_word false is = tt
-    by_word true is = spells_word keyword.And test_tokens ts (test_at (rest_of ts)) is (test_spells (rest_of ts))
+and_test_spells ts = spells_from_word keyword.And test_tokens test_at test_spells ts
 
 pub and_test_shortens : (ts : List Token) → Shortens ts (and_test_at ts)
 and_test_shortens ts = shortens_spelled and_test_tokens ts (and_test_at ts) (λ x. omega arith) (and_test_spells ts)

@@ -34,13 +34,13 @@ pub set-requires-clause-row : goal.set-requires-clause-row
 set-requires-clause-row c = (c.loop-field.invariant c.requires.ready).is_row
 
 pub set-requires-clause-kind : goal.set-requires-clause-kind
-set-requires-clause-kind c = kind-found c.args.survey.now (target_of (option_copied c.args.donor)) c.args.lines.now c.args.order.now c.args.new.now c.requires.ready c.loop-field.field-index c.loop-field-test.true c.loop-field.new (c.loop-field.invariant c.requires.ready) c.code_of-target.result c.in_ok-code.code c.in_ok-code.ensures.0 c.in_ok-code.ensures.2
+set-requires-clause-kind c = kind-found c.args.survey.now (target_of (option_copied c.args.donor)) c.args.lines.now c.args.order.now c.args.new.now c.requires.ready c.loop-field.field-index c.loop-field-test.true c.loop-field.new (c.loop-field.invariant c.requires.ready) c.code_number-target.result c.in_ok-code.code c.in_ok-code.ensures.0 c.in_ok-code.ensures.2
 
 pub loop-field-preserved : goal.loop-field-preserved
 loop-field-preserved c = λ t.
     let target = target_of (option_copied c.args.donor) in
     let g = get_or c.args.order.now c.loop-field.field-index 0 in
-    let same : c.code_of-target.result ≡ code_in (target g) = c.code_of-target.ensures ∙ ap (λ (v : Value). code_in v) c.target_of-value.ensures in
+    let same : c.code_number-target.result ≡ code_in (target g) = c.code_number-target.ensures ∙ ap (λ (v : Value). code_in v) c.target_of-value.ensures in
     subst (λ r. IsUnderWay c.args.survey.now t.edits target t.row (take (c.loop-field.field-index + 1) c.args.order.now) (drop (c.loop-field.field-index + 1) c.args.order.now ++ t.numbers) r) (sym c.set.ensures.set)
     (code-turned c.args.survey.now (target_of (option_copied c.args.donor)) c.args.lines.now c.args.order.now c.args.new.now t c.loop-field.field-index c.loop-field-test.true c.loop-field.new (c.loop-field.invariant t) c.in_ok-code.code c.in_ok-code.ensures.0 c.in_ok-code.ensures.1
     (λ left blank. subst (λ n. IsGivenCode (IsFree (shape_of c.args.survey.now.fields) (boxes_for (shape_of c.args.survey.now.fields) c.loop-field.new left g c.in_ok-code.ensures.0) g) n c.in_ok-code.code) same (c.in_ok-code.ensures.2 left blank)))

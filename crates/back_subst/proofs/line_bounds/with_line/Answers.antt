@@ -13,7 +13,7 @@ use Rattle.back_subst.specs.NumberWalk.{found_at, with_found}
 use Rattle.back_subst.specs.inner.Sides.{ends_of}
 use Rattle.back_subst.proofs.LineSteps.{factor-at, with-bound, without-bound, without-codes, without-factor}
 use Rattle.back_subst.proofs.line_bounds.with_line.Goals as goal
-use Rattle.back_subst.proofs.line_bounds.with_line.Goals.{After-factors, then-factor-eq0-via-then-factor-eq0, then-factor-eq0-via-else-factor-eq0+then-not-has_codes_of}
+use Rattle.back_subst.proofs.line_bounds.with_line.Goals.{After-factors, then-factor-eq0-via-then-factor-eq0, then-factor-eq0-via-else-factor-eq0+then-not-admits_codes_of}
 
 module _ (c : After-factors) where
   within : c.args.place < length c.factors.result.now
@@ -54,7 +54,7 @@ returns-then-factor-eq0 c =
       | then-factor-eq0-via-then-factor-eq0 w ↦
           let fits : FitsSigned w128 (get_or c.factors.result.now c.args.place (pos 0)) = search rules in
           without-factor c.args.i c.args.field line c.args.row.now (ends_of c.args.bounds) (sym (read at fits) ∙ ap (to_z w128) w.if-factor-eq0.true)
-      | then-factor-eq0-via-else-factor-eq0+then-not-has_codes_of w ↦ without-codes c.args.i c.args.field line c.args.row.now (ends_of c.args.bounds) (sym w.if-not-has_codes_of.ensures)
+      | then-factor-eq0-via-else-factor-eq0+then-not-admits_codes_of w ↦ without-codes c.args.i c.args.field line c.args.row.now (ends_of c.args.bounds) (sym w.if-not-admits_codes_of.ensures)
     ]
 
 pub returns-in-Ok : goal.returns-in-Ok
@@ -66,10 +66,10 @@ returns-in-Ok c =
     c.with.ensures ∙ ap (λ (k : ℤ). with_found (ends_of c.args.bounds) (int_lt (pos 0) k) (found_at (ratio_of c.in-Ok.at) c.strict.result c.args.i)) (read at fits)
     ∙ ap (λ s. with_found (ends_of c.args.bounds) (int_lt (pos 0) (factor c.args.line.now f)) (found_at (ratio_of c.in-Ok.at) s c.args.i)) c.strict.ensures
     )
-    ∙ with-bound c.args.i f c.args.line.now c.args.row.now (ends_of c.args.bounds) (sym c.if-not-has_codes_of.ensures) (stands at fits c.if-factor-eq0.false) c.requires.blank (answered c.bound_at.result) (told at fits _ c.bound_at.ensures) (ratio_of c.in-Ok.at) (ap answered c.in-Ok.is)
+    ∙ with-bound c.args.i f c.args.line.now c.args.row.now (ends_of c.args.bounds) (sym c.if-not-admits_codes_of.ensures) (stands at fits c.if-factor-eq0.false) c.requires.blank (answered c.bound_at.result) (told at fits _ c.bound_at.ensures) (ratio_of c.in-Ok.at) (ap answered c.in-Ok.is)
 
 pub returns-in-Err : goal.returns-in-Err
 returns-in-Err c =
     let at = (goal.at.returns-in-Err c).After-factors in
     let fits : FitsSigned w128 (get_or c.factors.result.now c.args.place (pos 0)) = search rules in
-    without-bound c.args.i c.args.field c.args.line.now c.args.row.now (ends_of c.args.bounds) (sym c.if-not-has_codes_of.ensures) (stands at fits c.if-factor-eq0.false) c.requires.blank (answered c.bound_at.result) (told at fits _ c.bound_at.ensures) (ap answered c.in-Err.is)
+    without-bound c.args.i c.args.field c.args.line.now c.args.row.now (ends_of c.args.bounds) (sym c.if-not-admits_codes_of.ensures) (stands at fits c.if-factor-eq0.false) c.requires.blank (answered c.bound_at.result) (told at fits _ c.bound_at.ensures) (ap answered c.in-Err.is)
