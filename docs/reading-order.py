@@ -195,13 +195,12 @@ def is_comment(line):
 
 
 def defined(inner):
-    """How many lines the definitions of all files have, without comments and imports; those of the benches count for nothing."""
-    pages = [p for p in all_pages(inner) if 'bench' not in os.path.relpath(p, TOP).split(os.sep)[1]]
-    return sum(not is_comment(line) for p in pages for lines in Page.at(p).definitions.values() for line in lines)
+    """How many lines the definitions of all files have, without comments and imports."""
+    return sum(not is_comment(line) for p in all_pages(inner) for lines in Page.at(p).definitions.values() for line in lines)
 
 
 def counted():
-    return f'All definitions of `specs/` have {defined(False):,} lines without their comments, and those of `specs/inner/`, which private contracts alone cite, {defined(True):,}; the benches are not counted.'
+    return f'All definitions of `specs/` have {defined(False):,} lines without their comments, and those of `specs/inner/`, which private contracts alone cite, {defined(True):,}.'
 
 
 def written(text):

@@ -1,11 +1,11 @@
 -- What a proof has to say of a line of the rules that it drops: steps that refute its negation.
-use Rattle.std.specs.Prelude.{ℕ, suc, ◌+◌, Bool, if◌then◌else◌, List, [], ◌∷◌, Option, Some, None, Result, Ok, Err, drop, is_none, length, map, option_map}
+use Rattle.std.specs.Prelude.{ℕ, suc, ◌+◌, Bool, if◌then◌else◌, List, [], ◌∷◌, Option, Some, None, Result, Ok, Err, is_none, length, map, option_map}
 use Rattle.edit_model.specs.Parts.{SurveyParts}
 use Rattle.edit_line.specs.Lines.{LineParts}
 use Rattle.edit_line.specs.Shapes.{Domain, shape_of}
 use Rattle.edit_normal.specs.RuleLines.{normal_lines_of}
 use Rattle.derivation.specs.Premises.{Premises}
-use Rattle.derivation.specs.Refutations.{is_absurd, left_before, no_values, refutation_of}
+use Rattle.derivation.specs.Refutations.{is_absurd, left_at, no_values, refutation_of}
 use Rattle.derivation.specs.ValidSteps.{steps_result}
 use Rattle.derivation.specs.declared.proved.Proved.{Proved}
 use Rattle.derivation.specs.declared.step.Step.{Step}
@@ -15,10 +15,6 @@ use Rattle.proof_grammar.specs.declared.proof.Proof.{Proof}
 -- which lines of the rules the proof keeps
 abbrev pub kept_flags : Proof → List Bool
 kept_flags p = map is_none p.verdicts
-
--- which lines are left when the one at a place is refuted: those before it, and of the later ones those that are kept
-abbrev pub left_at : List Bool → ℕ → List Bool
-left_at kept place = left_before place (drop (suc place) kept)
 
 -- what the refutation of the line at a place builds on: the lines that are left, and its negation
 abbrev pub refutation_at : SurveyParts → List Bool → ℕ → LineParts → Premises

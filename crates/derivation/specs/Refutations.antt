@@ -1,5 +1,5 @@
 -- What it is for steps to refute the negation of a line, so that the line follows from others.
-use Rattle.std.specs.Prelude.{◌++◌, ◌&&◌, ℕ, zero, suc, Bool, true, false, List, [], ◌∷◌, IsTrue, map, nat_eq}
+use Rattle.std.specs.Prelude.{◌++◌, ◌&&◌, ℕ, zero, suc, drop, Bool, true, false, List, [], ◌∷◌, IsTrue, map, nat_eq}
 use Rattle.std.specs.Cmp.Lexicographic.{pointwise}
 use Rattle.edit_model.specs.declared.field.Field.{Field}
 use Rattle.edit_model.specs.declared.value.Value.{Value}
@@ -41,6 +41,10 @@ trues (suc n) = true ∷ trues n
 -- which lines are left for the one at a place: all before it, and of the later ones those that are kept. So no two lines are left for each other
 abbrev pub left_before : ℕ → List Bool → List Bool
 left_before place later = trues place ++ false ∷ later
+
+-- the same, by which of all lines are kept
+abbrev pub left_at : List Bool → ℕ → List Bool
+left_at kept place = left_before place (drop (suc place) kept)
 
 -- ---- what a refutation ends in
 

@@ -1,5 +1,5 @@
-use Rattle.std.proofs.Common.{◌≡◌, ◌↔◌, ℕ, suc, ◌+◌, ◌<◌, ◌≤◌, Bool, true, false, if◌then◌else◌, List, [], ◌∷◌, ◌++◌, All, Some, drop, get_or, length, map, slice_get, slice_index_or, take, sym, ap, ◌∙◌, subst, arith}
-use Rattle.std.proofs.lemmas.List.{drop-map, get_or-map, length-map, take_all}
+use Rattle.std.proofs.Common.{◌≡◌, ◌↔◌, ℕ, ◌+◌, ◌<◌, ◌≤◌, Bool, true, false, if◌then◌else◌, List, [], ◌∷◌, ◌++◌, All, Some, get_or, length, map, slice_get, slice_index_or, take, sym, ap, ◌∙◌, subst, arith}
+use Rattle.std.proofs.lemmas.List.{get_or-map, length-map, take_all}
 use Rattle.edit_model.specs.Parts.{SurveyParts}
 use Rattle.edit_model.specs.Points.{HasCodesFrom, IsConsistent, Point}
 use Rattle.edit_model.specs.Surveys.{IsWellFormed}
@@ -11,7 +11,7 @@ use Rattle.edit_line.proofs.Members.{all-in, in-all, in-map-out}
 use Rattle.edit_normal.specs.RuleLines.{normal_lines_of}
 use Rattle.edit_normal.proofs.MeaningLaws.{lines-mean}
 use Rattle.edit_normal.proofs.NormalLines.{normal-lines, normal-over}
-use Rattle.derivation.specs.Refutations.{RefutedBy, left_before, no_values, refutation_of}
+use Rattle.derivation.specs.Refutations.{RefutedBy, left_at, no_values, refutation_of}
 use Rattle.derivation.specs.declared.step.Step.{Step}
 use Rattle.derivation.specs.Premises.{usable_lines}
 use Rattle.edit_paths.specs.Cases.{AreUsableAmong}
@@ -87,10 +87,8 @@ module _ (survey : SurveyParts) (formed : IsWellFormed survey) where
 
   -- the steps of a dropped line refute its negation
   pub rule-refuted : (place : ℕ) (line : LineParts) (steps : List Step) → slice_get (normal_lines_of survey) place ≡ Some line → slice_get (rule_verdicts survey) place ≡ Some (Dropped steps)
-      → RefutedBy (refutation_of (shape_of survey.fields) (normal_lines_of survey) (left_before place (drop (suc place) (rule_flags survey))) line (no_values survey.fields)) steps
-  rule-refuted place line steps at told =
-      subst (λ (later : List Bool). RefutedBy (refutation_of (shape_of survey.fields) (normal_lines_of survey) (left_before place later) line (no_values survey.fields)) steps) (sym (drop-map keeps_line (suc place) (rule_verdicts survey)))
-      (dropped-valid survey formed.fields (normal_lines_of survey) (normal-over survey) (normal-lines survey formed) pruning_budget place line at steps told)
+      → RefutedBy (refutation_of (shape_of survey.fields) (normal_lines_of survey) (left_at (rule_flags survey) place) line (no_values survey.fields)) steps
+  rule-refuted place line steps at told = dropped-valid survey formed.fields (normal_lines_of survey) (normal-over survey) (normal-lines survey formed) pruning_budget place line at steps told
 
   -- a point with codes of the survey meets the kept edits exactly where it meets all rules
   pub kept-mean : (p : Point) → (HasCodesFrom 0 survey.fields p × AllHold (map (λ (e : ℕ × LineParts). e.1) (kept_edits survey).lines) p) ↔ IsConsistent survey p

@@ -3,11 +3,7 @@ use Rattle.std.proofs.Math.ListN.{replicate}
 use Rattle.std.specs.List.Sorted.{IsStrictlyIncreasing}
 use Rattle.std.proofs.lemmas.List.{length-drop, length-map, take_more}
 use Rattle.edit_model.specs.Parts.{SurveyParts}
-use Rattle.edit_model.specs.Rows.{IsRow}
 use Rattle.edit_model.specs.Surveys.{IsField}
-use Rattle.edit_model.specs.declared.field.Field.{Field}
-use Rattle.edit_model.specs.declared.value.Value.{Value}
-use Rattle.edit_model.specs.declared.value.Value.TheVariants.{Bad}
 use Rattle.edit_line.specs.EditSets.{base_lines}
 use Rattle.edit_line.specs.Lines.{AreOver, HaveShape, IsLine, LineParts}
 use Rattle.edit_line.specs.Negations.{negation_of}
@@ -20,13 +16,17 @@ use Rattle.edit_line.proofs.NegationLines.{negation-lines}
 use Rattle.edit_line.proofs.ReductionLaws.{all-reduced}
 use Rattle.linear_elim.proofs.ResultLaws.{base-plain}
 use Rattle.linear_elim.proofs.ShapeLaws.{HaveShape-lines}
-use Rattle.derivation.specs.Refutations.{given_lines, no_values, trues, usable_flags}
+use Rattle.derivation.specs.Refutations.{given_lines, no_values, trues, usable_flags, left_before}
 use Rattle.derivation.proofs.RefutationLaws.{given-over, row-no_values}
 use Rattle.edit_paths.specs.Cases.{IsCase}
-use Rattle.redundancy.specs.Verdicts.{keeps_line, left_at, negation_case, usable_from, verdict_of, verdicts_from}
+use Rattle.redundancy.specs.Verdicts.{keeps_line, negation_case, usable_from, verdict_of, verdicts_from}
 use Rattle.redundancy.specs.declared.verdict.Verdict.{Verdict}
 use Rattle.redundancy.specs.inner.Turns.{lines_verdict}
 use Rattle.redundancy.proofs.WalkLaws.{verdict-walk}
+
+-- which lines are left for the one at a place, by the verdicts on the later ones
+abbrev pub left_by : ℕ → List Verdict → List Bool
+left_by place later = left_before place (map keeps_line later)
 
 -- The lines that the walk of a line's negation begins with.
 
@@ -182,7 +182,7 @@ module _ (survey : SurveyParts) (lines : List LineParts) (budget : ℕ) where
   tried-over left verdicts is = is.verdicts_are
 
   module _ (place : ℕ) (left : List Bool) (verdicts : List Verdict) (before : IsTried survey lines budget (suc place) left verdicts) (line : LineParts) (at : slice_get lines place ≡ Some line) where
-    here : slice_set left place false ≡ left_at place verdicts
+    here : slice_set left place false ≡ left_by place verdicts
     here = ap (λ (bs : List Bool). slice_set bs place false) before.left_are ∙ set-left place (map keeps_line verdicts) false
 
     get-drop : (i : ℕ) (ls : List LineParts) (l : LineParts) → slice_get ls i ≡ Some l → drop i ls ≡ l ∷ drop (suc i) ls
@@ -195,7 +195,7 @@ module _ (survey : SurveyParts) (lines : List LineParts) (budget : ℕ) where
       within = omega (arith, before.within);
       verdicts_are =
           more_is ∙ ap (λ w. w ∷ verdicts) (v_is ∙ ap (λ (bs : List Bool). verdict_of (negation_case survey lines bs line) budget) here)
-          ∙ ap (λ (vs : List Verdict). verdict_of (negation_case survey lines (left_at place vs) line) budget ∷ vs) before.verdicts_are
+          ∙ ap (λ (vs : List Verdict). verdict_of (negation_case survey lines (left_by place vs) line) budget ∷ vs) before.verdicts_are
           ∙ ap (λ (ls : List LineParts). verdicts_from survey lines budget place ls) (sym (get-drop place lines line at));
       left_are = after_is ∙ ap (λ (bs : List Bool). slice_set bs place (keeps_line v)) before.left_are ∙ set-left place (map keeps_line verdicts) (keeps_line v) ∙ ap (λ (vs : List Verdict). trues place ++ map keeps_line vs) (sym more_is);
     }

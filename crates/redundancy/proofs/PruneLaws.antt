@@ -19,7 +19,7 @@ use Rattle.edit_line.proofs.Members.{all-in, in-all, in-get, in-left, in-right}
 use Rattle.edit_line.proofs.NegationLaws.{negation-fails}
 use Rattle.edit_line.proofs.ShapeLaws.{HasCodes-shape}
 use Rattle.derivation.specs.Premises.{Premises, usable_lines}
-use Rattle.derivation.specs.Refutations.{RefutedBy, given_lines, is_absurd, left_before, no_values, refutation_of, usable_flags}
+use Rattle.derivation.specs.Refutations.{RefutedBy, given_lines, is_absurd, left_before, no_values, refutation_of, usable_flags, left_at}
 use Rattle.derivation.specs.ValidSteps.{AreValidSteps, given_line, steps_result}
 use Rattle.derivation.specs.declared.proved.Proved.{Proved}
 use Rattle.derivation.specs.declared.proved.Proved.TheVariants as proved
@@ -39,11 +39,11 @@ use Rattle.edit_paths.proofs.ClosingSteps.{closing-box, closing-line}
 use Rattle.edit_paths.proofs.LineHistories.{AreUsable}
 use Rattle.edit_paths.proofs.OpenPaths.{open-point}
 use Rattle.redundancy.specs.NeededLines.{CanFail}
-use Rattle.redundancy.specs.Verdicts.{changing, keeps_line, left_at, negation_case, usable_from, verdict_by, verdict_from, verdict_of, verdicts_from, within}
+use Rattle.redundancy.specs.Verdicts.{changing, keeps_line, negation_case, usable_from, verdict_by, verdict_from, verdict_of, verdicts_from, within}
 use Rattle.redundancy.specs.declared.verdict.Verdict.{Verdict}
 use Rattle.redundancy.specs.declared.verdict.Verdict.TheVariants.{Dropped, Kept}
 use Rattle.redundancy.specs.declared.verdict.Why.TheVariants.{Budget, Needed}
-use Rattle.redundancy.proofs.BaseLaws.{IsTried, line-is_case, verdicts-count}
+use Rattle.redundancy.proofs.BaseLaws.{IsTried, line-is_case, verdicts-count, left_by}
 use Rattle.redundancy.proofs.WalkPaths.{keeps-no_bad, keeps-none, length-changing, no-factor, stands-none}
 
 -- What the verdicts show.
@@ -197,29 +197,29 @@ module _ (survey : SurveyParts) (are_fields : All IsField survey.fields) (lines 
   verdicts = verdicts_from survey lines budget 0 lines
 
   verdict-from : (place : ℕ) (later : List LineParts) (k : ℕ) (line : LineParts) → slice_get later k ≡ Some line
-      → slice_get (verdicts_from survey lines budget place later) k ≡ Some (verdict_of (negation_case survey lines (left_at (place + k) (drop (suc k) (verdicts_from survey lines budget place later))) line) budget)
+      → slice_get (verdicts_from survey lines budget place later) k ≡ Some (verdict_of (negation_case survey lines (left_by (place + k) (drop (suc k) (verdicts_from survey lines budget place later))) line) budget)
   verdict-from place [] k line at = absurd (cc)
   verdict-from place (l ∷ later) zero line at =
       let same : l ≡ line = cc in
-      ap (λ (m : LineParts). Some (verdict_of (negation_case survey lines (left_at place (verdicts_from survey lines budget (suc place) later)) m) budget)) same
-      ∙ ap (λ n. Some (verdict_of (negation_case survey lines (left_at n (verdicts_from survey lines budget (suc place) later)) line) budget)) (number place)
+      ap (λ (m : LineParts). Some (verdict_of (negation_case survey lines (left_by place (verdicts_from survey lines budget (suc place) later)) m) budget)) same
+      ∙ ap (λ n. Some (verdict_of (negation_case survey lines (left_by n (verdicts_from survey lines budget (suc place) later)) line) budget)) (number place)
     where
       number : (n : ℕ) → n ≡ n + 0
       number n = omega arith
   verdict-from place (l ∷ later) (suc k) line at =
       verdict-from (suc place) later k line at
-      ∙ ap (λ n. Some (verdict_of (negation_case survey lines (left_at n (drop (suc k) (verdicts_from survey lines budget (suc place) later))) line) budget)) (number place k)
+      ∙ ap (λ n. Some (verdict_of (negation_case survey lines (left_by n (drop (suc k) (verdicts_from survey lines budget (suc place) later))) line) budget)) (number place k)
     where
       number : (n k : ℕ) → suc n + k ≡ n + suc k
       number n k = omega arith
 
   module _ (j : ℕ) (line : LineParts) (at : slice_get lines j ≡ Some line) where
     abbrev left : List Bool
-    left = left_at j (drop (suc j) verdicts)
+    left = left_by j (drop (suc j) verdicts)
 
     verdict-at : (v : Verdict) → slice_get verdicts j ≡ Some v → verdict_of (negation_case survey lines left line) budget ≡ v
     verdict-at v told =
-        ap (λ n. verdict_of (negation_case survey lines (left_at n (drop (suc j) verdicts)) line) budget) (number j) ∙ inside (verdict_of (negation_case survey lines (left_at (0 + j) (drop (suc j) verdicts)) line) budget) v (sym (verdict-from 0 lines j line at) ∙ told)
+        ap (λ n. verdict_of (negation_case survey lines (left_by n (drop (suc j) verdicts)) line) budget) (number j) ∙ inside (verdict_of (negation_case survey lines (left_by (0 + j) (drop (suc j) verdicts)) line) budget) v (sym (verdict-from 0 lines j line at) ∙ told)
       where
         number : (n : ℕ) → n ≡ 0 + n
         number n = omega arith
@@ -243,7 +243,7 @@ module _ (survey : SurveyParts) (are_fields : All IsField survey.fields) (lines 
     own_shape = in-all (λ (l : LineParts). l.shape ≡ shape_of survey.fields) line lines over (in-get line lines j at)
 
     -- some point meets the lines that are left when a needed line is tried, and not this one
-    pub needed-fails : slice_get verdicts j ≡ Some (Kept Needed) → CanFail survey.fields (usable_lines lines (left_at j (drop (suc j) verdicts))) line
+    pub needed-fails : slice_get verdicts j ≡ Some (Kept Needed) → CanFail survey.fields (usable_lines lines (left_by j (drop (suc j) verdicts))) line
     needed-fails told =
         let (q, codes, holds) = needed-point survey lines left line case_is budget own own_shape (verdict-at (Kept Needed) told) in
         let both : AllHold (usable_lines lines left ++ negation_of line) q =
@@ -256,8 +256,10 @@ module _ (survey : SurveyParts) (are_fields : All IsField survey.fields) (lines 
         )
 
     -- the steps of a dropped line are valid, and prove something absurd
-    pub dropped-valid : (steps : List Step) → slice_get verdicts j ≡ Some (Dropped steps) → RefutedBy (refutation_of (shape_of survey.fields) lines (left_at j (drop (suc j) verdicts)) line (no_values survey.fields)) steps
-    dropped-valid steps told = let (x, valid, absurd_is) = dropped-steps survey lines left line case_is budget steps (verdict-at (Dropped steps) told) in (x, valid, absurd_is)
+    pub dropped-valid : (steps : List Step) → slice_get verdicts j ≡ Some (Dropped steps) → RefutedBy (refutation_of (shape_of survey.fields) lines (left_at (map keeps_line verdicts) j) line (no_values survey.fields)) steps
+    dropped-valid steps told =
+        let (x, valid, absurd_is) = dropped-steps survey lines left line case_is budget steps (verdict-at (Dropped steps) told) in
+        subst (λ (bs : List Bool). RefutedBy (refutation_of (shape_of survey.fields) lines (left_before j bs) line (no_values survey.fields)) steps) (sym (drop-map keeps_line (suc j) verdicts)) (x, valid, absurd_is)
 
   -- each line follows from the kept ones
   pub lines-follow : (line : LineParts) → IsIn line lines → Follows (usable_lines lines (map keeps_line verdicts)) line
@@ -268,10 +270,7 @@ module _ (survey : SurveyParts) (are_fields : All IsField survey.fields) (lines 
           → (steps : List Step) × RefutedBy (refutation_of (shape_of survey.fields) lines (left_before j (drop (suc j) (map keeps_line verdicts))) l (no_values survey.fields)) steps
       refuted j l at flag = elim (kept-or verdicts j (omega (arith, get-below lines j l at, verdicts-count survey lines budget 0 lines))) [
         | inl kept ↦ absurd (cc (sym kept ∙ flag))
-        | inr gone ↦ (
-          gone.0,
-          subst (λ (bs : List Bool). RefutedBy (refutation_of (shape_of survey.fields) lines (left_before j bs) l (no_values survey.fields)) gone.0) (sym (drop-map keeps_line (suc j) verdicts)) (dropped-valid j l at gone.0 gone.1),
-        )
+        | inr gone ↦ (gone.0, dropped-valid j l at gone.0 gone.1)
       ]
 
 -- ---- what the call tells
@@ -281,14 +280,15 @@ module _ (survey : SurveyParts) (lines : List LineParts) (budget place : ℕ) (l
   told-all = is.verdicts_are ∙ ap (λ n. verdicts_from survey lines budget n (drop n lines)) done
 
   module _ (are_fields : All IsField survey.fields) (over : AreOver (shape_of survey.fields) lines) (are : All IsLine lines) where
-    pub told-needed : (j : ℕ) (line : LineParts) → slice_get lines j ≡ Some line → slice_get told j ≡ Some (Kept Needed) → CanFail survey.fields (usable_lines lines (left_at j (drop (suc j) told))) line
+    pub told-needed : (j : ℕ) (line : LineParts) → slice_get lines j ≡ Some line → slice_get told j ≡ Some (Kept Needed) → CanFail survey.fields (usable_lines lines (left_at (map keeps_line told) j)) line
     told-needed j line at verdict =
-        subst (λ (vs : List Verdict). CanFail survey.fields (usable_lines lines (left_at j (drop (suc j) vs))) line) (sym told-all)
-        (needed-fails survey are_fields lines over are budget j line at (ap (λ (vs : List Verdict). slice_get vs j) (sym told-all) ∙ verdict))
+        subst (λ (vs : List Verdict). CanFail survey.fields (usable_lines lines (left_at (map keeps_line vs) j)) line) (sym told-all)
+        (subst (λ (bs : List Bool). CanFail survey.fields (usable_lines lines (left_before j bs)) line) (sym (drop-map keeps_line (suc j) (verdicts_from survey lines budget 0 lines)))
+        (needed-fails survey are_fields lines over are budget j line at (ap (λ (vs : List Verdict). slice_get vs j) (sym told-all) ∙ verdict)))
 
-    pub told-steps : (j : ℕ) (line : LineParts) (steps : List Step) → slice_get lines j ≡ Some line → slice_get told j ≡ Some (Dropped steps) → RefutedBy (refutation_of (shape_of survey.fields) lines (left_at j (drop (suc j) told)) line (no_values survey.fields)) steps
+    pub told-steps : (j : ℕ) (line : LineParts) (steps : List Step) → slice_get lines j ≡ Some line → slice_get told j ≡ Some (Dropped steps) → RefutedBy (refutation_of (shape_of survey.fields) lines (left_at (map keeps_line told) j) line (no_values survey.fields)) steps
     told-steps j line steps at verdict =
-        subst (λ (vs : List Verdict). RefutedBy (refutation_of (shape_of survey.fields) lines (left_at j (drop (suc j) vs)) line (no_values survey.fields)) steps) (sym told-all)
+        subst (λ (vs : List Verdict). RefutedBy (refutation_of (shape_of survey.fields) lines (left_at (map keeps_line vs) j) line (no_values survey.fields)) steps) (sym told-all)
         (dropped-valid survey are_fields lines over are budget j line at steps (ap (λ (vs : List Verdict). slice_get vs j) (sym told-all) ∙ verdict))
 
     pub told-follow : (line : LineParts) → IsIn line lines → Follows (usable_lines lines (map keeps_line told)) line

@@ -1,10 +1,10 @@
-use Rattle.std.specs.Prelude.{◌≡◌, ℕ, zero, suc, ◌+◌, ◌++◌, Bool, true, false, List, [], ◌∷◌, Some, drop, if◌then◌else◌, map, nat_lt, slice_get}
+use Rattle.std.specs.Prelude.{◌≡◌, ℕ, zero, suc, ◌+◌, ◌++◌, Bool, true, false, List, [], ◌∷◌, Some, if◌then◌else◌, map, nat_lt, slice_get}
 use Rattle.edit_model.specs.Parts.{SurveyParts}
 use Rattle.edit_model.specs.declared.field.Field.{Field}
 use Rattle.edit_line.specs.Lines.{LineParts}
 use Rattle.edit_line.specs.Shapes.{shape_of}
 use Rattle.derivation.specs.Premises.{usable_lines}
-use Rattle.derivation.specs.Refutations.{RefutedBy, given_lines, left_before, no_values, refutation_of, usable_flags}
+use Rattle.derivation.specs.Refutations.{RefutedBy, given_lines, left_at, left_before, no_values, refutation_of, usable_flags}
 use Rattle.derivation.specs.declared.step.Step.{Step}
 use Rattle.edit_paths.specs.Cases.{SearchCase}
 use Rattle.edit_paths.specs.Histories.{steps_to}
@@ -64,11 +64,6 @@ abbrev pub keeps_line : Verdict → Bool
 keeps_line (Kept why) = true
 keeps_line (Dropped steps) = false
 
--- which lines are left when the one at a place is tried, from the verdicts on the later ones: those before it, and the
--- later ones that are kept
-abbrev pub left_at : ℕ → List Verdict → List Bool
-left_at place later = left_before place (map keeps_line later)
-
 -- the usable lines, each with its place among the given ones, from i on
 abbrev pub usable_from : ℕ → List LineParts → List Bool → List (ℕ × LineParts)
 usable_from i (line ∷ given) (true ∷ usable) = (i, line) ∷ usable_from (suc i) given usable
@@ -89,15 +84,11 @@ abbrev pub verdicts_from : SurveyParts → List LineParts → ℕ → ℕ → Li
 verdicts_from survey lines budget place [] = []
 verdicts_from survey lines budget place (line ∷ later) =
     let verdicts = verdicts_from survey lines budget (suc place) later in
-    verdict_of (negation_case survey lines (left_at place verdicts) line) budget ∷ verdicts
+    verdict_of (negation_case survey lines (left_before place (map keeps_line verdicts)) line) budget ∷ verdicts
 
 -- the verdicts on all lines
 abbrev pub verdicts_of : SurveyParts → List LineParts → ℕ → List Verdict
 verdicts_of survey lines budget = verdicts_from survey lines budget 0 lines
-
--- which lines are left when the one at a place is tried, from the verdicts on all lines
-abbrev pub left_for : List Verdict → ℕ → List Bool
-left_for verdicts place = left_at place (drop (suc place) verdicts)
 
 -- ---- what the verdicts say
 
@@ -105,10 +96,10 @@ left_for verdicts place = left_at place (drop (suc place) verdicts)
 abbrev pub AreNeeded : List Field → List LineParts → List Verdict → Type 0
 AreNeeded fields lines verdicts =
     (j : ℕ) (line : LineParts) → slice_get lines j ≡ Some line → slice_get verdicts j ≡ Some (Kept Needed)
-    → CanFail fields (usable_lines lines (left_for verdicts j)) line
+    → CanFail fields (usable_lines lines (left_at (map keeps_line verdicts) j)) line
 
 -- the steps of a dropped line refute its negation by the lines that are left when it is tried
 abbrev pub AreRefuted : List Field → List LineParts → List Verdict → Type 0
 AreRefuted fields lines verdicts =
     (j : ℕ) (line : LineParts) (steps : List Step) → slice_get lines j ≡ Some line → slice_get verdicts j ≡ Some (Dropped steps)
-    → RefutedBy (refutation_of (shape_of fields) lines (left_for verdicts j) line (no_values fields)) steps
+    → RefutedBy (refutation_of (shape_of fields) lines (left_at (map keeps_line verdicts) j) line (no_values fields)) steps
