@@ -50,14 +50,14 @@ stands_changed changed i [] j = false
 stands_changed changed i (column ∷ columns) j = (changed i && (column == j)) || stands_changed changed (suc i) columns j
 
 -- whether the text of column j may be this one, where the other was read: it is the same, or that of a changed field
-abbrev pub may_stand : (ℕ → Bool) → List ℕ → ℕ → List ℕ → List ℕ → Bool
-may_stand changed columns j read text = bytes_eq text read || stands_changed changed 0 columns j
+abbrev pub may_be_released : (ℕ → Bool) → List ℕ → ℕ → List ℕ → List ℕ → Bool
+may_be_released changed columns j read text = bytes_eq text read || stands_changed changed 0 columns j
 
 -- whether each text, from column j on, may be released where the other was read
 abbrev pub same_from : (ℕ → Bool) → List ℕ → ℕ → List (List ℕ) → List (List ℕ) → Bool
 same_from changed columns j [] [] = true
 same_from changed columns j (read ∷ reads) (text ∷ texts) =
-    may_stand changed columns j read text && same_from changed columns (suc j) reads texts
+    may_be_released changed columns j read text && same_from changed columns (suc j) reads texts
 same_from changed columns j _ _ = false
 
 -- ---- a row

@@ -1,7 +1,7 @@
 //! Whether a released row has the texts that were read, but for those of the changed fields.
 ghost use Rattle.std.specs.Prelude.{◌≡◌, length};
 ghost use Rattle.bound_cert.specs.Paths.{changes};
-ghost use Rattle.cert_check.specs.Released.{may_stand, same_from, stands_changed};
+ghost use Rattle.cert_check.specs.Released.{may_be_released, same_from, stands_changed};
 
 use crate::changed_fields::changes;
 use crate::checking::Checking;
@@ -13,7 +13,7 @@ pub(crate) fn are_same(checking: &Checking, path: &[bool], reads: &Texts, texts:
     ensures { result ≡ same_from (changes checking.now.survey.now.fields path.now) checking.now.columns.now 0 reads.now texts.now }
 {
     for column in 0..reads.len() {
-        if !may_stand(checking, path, column, reads.get(column), texts.get(column)) {
+        if !may_be_released(checking, path, column, reads.get(column), texts.get(column)) {
             return false;
         }
     }
@@ -21,8 +21,8 @@ pub(crate) fn are_same(checking: &Checking, path: &[bool], reads: &Texts, texts:
 }
 
 // Whether the text may stand in the column in which the other was read.
-fn may_stand(checking: &Checking, path: &[bool], column: usize, read: &[u8], text: &[u8]) -> bool
-    ensures { result ≡ may_stand (changes checking.now.survey.now.fields path.now) checking.now.columns.now column read.now text.now }
+fn may_be_released(checking: &Checking, path: &[bool], column: usize, read: &[u8], text: &[u8]) -> bool
+    ensures { result ≡ may_be_released (changes checking.now.survey.now.fields path.now) checking.now.columns.now column read.now text.now }
 {
     text == read || stands_changed(checking, path, column)
 }
