@@ -321,8 +321,9 @@ def proofs(attack, examples, dice):
         for changed in some(list(with_other_numbers(proof)), dice):
             attack.proof(changed, {0, 9})
     attack.files(b"number A\nnumber B\ncode C in {x, y}\nA + B = 10\n", b"A,B,C\n3,4,x\n", {0})
-    for proof, expected in large_proofs(MOST_BYTES // 4):
-        attack.proof(proof, expected)
+    for size in (MOST_BYTES // 4, 100 << 20):
+        for proof, expected in large_proofs(size):
+            attack.proof(proof, expected)
     attack.end()
 
 
