@@ -9,7 +9,7 @@ use Rattle.edit_line.specs.Combinations.{in_both}
 use Rattle.categ_combine.specs.Each.{each_from}
 use Rattle.categ_combine.specs.declared.box_from.BoxFrom.{BoxFrom}
 use Rattle.categ_combine.specs.declared.box_from.BoxOrigin.{BoxOrigin}
-use Rattle.categ_combine.specs.declared.box_from.BoxOrigin.TheVariants.{Cover, Failing, Fixed, Unchanged}
+use Rattle.categ_combine.specs.declared.box_from.BoxOrigin.TheVariants.{Cover, Unchanged}
 
 -- two boxes' intersection on the other fields, and the whole set at the place
 abbrev pub meets_but : ℕ → ℕ → List ℕ → List ℕ → List ℕ
@@ -63,9 +63,7 @@ from_of shape sets origin = record { code_box = box_of shape sets; origin = orig
 -- the parts of a cover; another box has none
 abbrev pub cover_parts : BoxOrigin → List ℕ
 cover_parts (Cover parts) = parts
-cover_parts (Failing line) = []
-cover_parts (Unchanged place) = []
-cover_parts (Fixed place) = []
+cover_parts _ = []
 
 -- the box at a place, unchanged, where it is whole at the field
 abbrev pub unchanged_one : ℕ → ℕ → ℕ → BoxFrom → List BoxFrom

@@ -29,7 +29,7 @@ use Rattle.edit_report.specs.Reasons.{reasons_text_of}
 use Rattle.edit_report.specs.Released.{released_rows, released_text_of}
 use Rattle.edit_report.specs.Summaries.{summary_lines}
 use Rattle.edit_report.specs.declared.end.RowEnd.{RowEnd}
-use Rattle.record_workers.specs.Ends.{IsEndOf}
+use Rattle.record_workers.specs.Ends.{ComesOf, IsEndOf}
 use Rattle.record_workers.specs.Said.{Says}
 use Rattle.cert_check.specs.Releases.{Audit, IsValidRelease, audit_of, head_fault, is_released, limits_fit, rules_of}
 use Rattle.cert_check.specs.RowChecks.{AreReleasedTexts, RowFiles, RowRules}
@@ -37,7 +37,7 @@ use Rattle.redundancy.proofs.BaseLaws.{verdicts-count}
 use Rattle.pruned_rules.specs.Pruned.{kept_edits, pruning_budget, rule_flags, rule_verdicts}
 use Rattle.pruned_rules.proofs.KeptLaws.{rules-follow}
 use Rattle.edit_release.specs.Edits.{proof_of, refutation_by, said}
-use Rattle.edit_release.specs.Guarantee.{HasTree, IsGuaranteed}
+use Rattle.edit_release.specs.Guarantee.{HasTree, IsGuaranteed, NamesStop}
 use Rattle.edit_release.specs.Releases.{AllGiven, HasGuarantee, IsReleaseOf, written_in}
 use Rattle.edit_release.specs.declared.release.Release.{Release}
 use Rattle.edit_release.proofs.CoherentLaws.{said-coherent}
@@ -95,6 +95,24 @@ module _ (survey : SurveyParts) (formed : IsWellFormed survey) (budget : ℕ) (a
   -- the proof is coherent
   pub proof-coherent : (terms : Terms) (history : List Entry) (rows : List (List Value)) (ends : List RowEnd) → AllByRecursion (IsRow survey.fields) rows → AllZip (IsEndOf survey (kept_edits survey) budget all) rows ends → IsCoherent (proof_of survey terms ends history)
   proof-coherent terms history rows ends are each = record { verdicts = verdicts-coherent survey formed; rows = all-coherent rows ends are each }
+
+-- a change without values names where the giving of values stopped
+stop-named : (survey : SurveyParts) (row : List Value) (donor : Option (List Value)) (o : Outcome) (stop : Option GiftFault) (gift : Option Gift) → ComesOf survey (kept_edits survey) row donor o stop gift → NamesStop o gift stop
+stop-named survey row donor (Change path weight cert) None None follows = absurd follows
+stop-named survey row donor (Change path weight cert) None (Some gift) follows = tt
+stop-named survey row donor (Change path weight cert) (Some stop) None follows = refl
+stop-named survey row donor (Change path weight cert) (Some stop) (Some gift) follows = tt
+stop-named survey row donor (Budget path work) stop gift follows = tt
+stop-named survey row donor (Overflow path event) stop gift follows = tt
+stop-named survey row donor (Contradictory cert) stop gift follows = tt
+
+all-named : (survey : SurveyParts) (budget : ℕ) (all rows : List (List Value)) (ends : List RowEnd) → AllZip (IsEndOf survey (kept_edits survey) budget all) rows ends
+    → AllByRecursion (λ (end : RowEnd). NamesStop end.proof.outcome end.gift end.proof.gift) ends
+all-named survey budget all [] [] each = tt
+all-named survey budget all [] (end ∷ ends) each = absurd each
+all-named survey budget all (row ∷ rows) [] each = absurd each
+all-named survey budget all (row ∷ rows) (end ∷ ends) each =
+    (stop-named survey row (option_map (row_at all) end.donor) end.proof.outcome end.proof.gift end.gift each.0.follows, all-named survey budget all rows ends each.1)
 
 -- texts are released of a record that is told to be released
 released-told : (r : RowRules) (f : RowFiles) (o : Outcome) (stop : Option GiftFault) (gift : Option Gift) → is_released (record { outcome = o; gift = stop }) ≡ is_some gift → (IsSome gift → AreReleasedTexts r f (path_found o)) → IsReleasedSaid r f o stop
@@ -160,6 +178,7 @@ module _ (survey : SurveyParts) (sheet : SheetParts) (bytes : List ℕ) (terms :
     follow = rules-follow survey formed;
     say = say;
     shown = all-shown survey formed terms.budget sheet.rows sheet.rows ends are each;
+    stops = all-named survey terms.budget sheet.rows sheet.rows ends each;
     legal = donations.legal;
   }
 

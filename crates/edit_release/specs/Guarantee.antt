@@ -1,6 +1,6 @@
 -- The release guarantee: what is so of the records of a sheet that ended so, and of the claims of donors.
-use Rattle.std.specs.Prelude.{⊤, Bool, List, Some, None}
-use Rattle.std.specs.List.{AllZip}
+use Rattle.std.specs.Prelude.{⊤, Bool, List, Option, Some, None, IsSome}
+use Rattle.std.specs.List.{AllByRecursion, AllZip}
 use Rattle.edit_model.specs.Parts.{SurveyParts}
 use Rattle.edit_model.specs.declared.value.Value.{Value}
 use Rattle.edit_line.specs.EditSets.{EditsParts}
@@ -8,8 +8,10 @@ use Rattle.edit_line.specs.Shapes.{shape_of}
 use Rattle.edit_normal.specs.RuleLines.{normal_lines_of}
 use Rattle.redundancy.specs.Verdicts.{usable_from}
 use Rattle.bound_cert.specs.ValidTrees.{IsValidTree, tree_case}
+use Rattle.bound_cert.specs.declared.outcome.GiftFault.{GiftFault}
 use Rattle.bound_cert.specs.declared.outcome.Outcome.{Outcome}
 use Rattle.bound_cert.specs.declared.outcome.Outcome.TheVariants.{Change, Contradictory}
+use Rattle.back_subst.specs.declared.gift.Gift.{Gift}
 use Rattle.donor_book.specs.Entries.{IsLegalHistory}
 use Rattle.donor_book.specs.declared.claim.Entry.{Entry}
 use Rattle.record_text.specs.Sheets.{SheetParts}
@@ -29,13 +31,19 @@ HasTree survey kept row (Change path w cert) = IsValidTree (tree_case survey (no
 HasTree survey kept row (Contradictory cert) = IsValidTree (tree_case survey (normal_lines_of survey) kept row None) cert.leaves
 HasTree survey kept row outcome = ⊤
 
+-- where no values were given to the fields of a change, it is named at which number that stopped
+abbrev pub NamesStop : Outcome → Option Gift → Option GiftFault → Type 0
+NamesStop (Change path weight cert) None stop = IsSome stop
+NamesStop outcome gift stop = ⊤
+
 -- some lines of the rules are kept, and each line follows from these; what the end of each record says of it in terms of
--- corrections is so, and its tree shows it; and the claims are a legal history, in which each donor is given at most as often
--- as the limit says
+-- corrections is so, its tree shows it, and a change without values names the number that left the range; and the claims are a
+-- legal history, in which each donor is given at most as often as the limit says
 pub record IsGuaranteed (survey : SurveyParts) (sheet : SheetParts) (terms : Terms)
     (ends : List RowEnd) (history : List Entry) : Type 0 where
   pub kept : List Bool
   pub follow : AllFollow (normal_lines_of survey) kept
   pub say : AllZip (Says survey (usable_edits survey kept) terms.budget) sheet.rows ends
   pub shown : AllZip (λ row (end : RowEnd). HasTree survey kept row end.proof.outcome) sheet.rows ends
+  pub stops : AllByRecursion (λ (end : RowEnd). NamesStop end.proof.outcome end.gift end.proof.gift) ends
   pub legal : IsLegalHistory terms.limit history

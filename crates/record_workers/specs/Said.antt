@@ -25,11 +25,12 @@ pub record IsCorrected (survey : SurveyParts) (row new : List Value) (path : Lis
   pub least : IsLeastWeight survey row weight
   pub first : IsFirstLeast survey row path
 
--- what an outcome says, with the values that were given: they make a correction of least weight; or the budget is less than the
--- search needs; or a number that is named leaves the range; or no point at all is consistent
+-- what an outcome says, with the values that were given: they make a correction of least weight; or, where none were given, the
+-- weight is the least of all corrections all the same, and the fields are the first that weigh so little; or the budget is less
+-- than the search needs; or a number that is named leaves the range; or no point at all is consistent
 abbrev pub OutcomeSays : SurveyParts → EditsParts → ℕ → List Value → Outcome → Option Gift → Type 0
 OutcomeSays survey edits budget row (Change path weight cert) (Some gift) = IsCorrected survey row gift.row path weight
-OutcomeSays survey edits budget row (Change path weight cert) None = ⊤
+OutcomeSays survey edits budget row (Change path weight cert) None = IsLeastWeight survey row weight × IsFirstLeast survey row path
 OutcomeSays survey edits budget row (Budget path work) gift = budget < total_work (case_of survey edits row)
 OutcomeSays survey edits budget row (Overflow path (event.Step first second place)) gift =
     IsStepOverflow (case_of survey edits row) path first second place
