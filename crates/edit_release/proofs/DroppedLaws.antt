@@ -13,8 +13,9 @@ use Rattle.derivation.specs.declared.step.Step.{Step}
 use Rattle.redundancy.specs.declared.verdict.Verdict.{Verdict}
 use Rattle.redundancy.specs.declared.verdict.Verdict.TheVariants.{Dropped, Kept}
 use Rattle.redundancy.proofs.BaseLaws.{verdicts-count}
-use Rattle.pruned_rules.specs.Pruned.{pruning_budget, rule_flags, rule_verdicts}
+use Rattle.pruned_rules.specs.Pruned.{rule_flags, rule_verdicts}
 use Rattle.pruned_rules.proofs.KeptLaws.{rule-refuted}
+use Rattle.pruned_rules.specs.declared.pruned.TheConstants.{PRUNING_BUDGET}
 use Rattle.proof_grammar.specs.ProofLines.{verdict_lines}
 use Rattle.proof_text.specs.Sizes.{ArePositiveSteps}
 use Rattle.edit_report.specs.declared.end.RowEnd.{RowEnd}
@@ -84,5 +85,5 @@ positive-steps (line ∷ lines) (Dropped steps ∷ verdicts) same positive = (po
 -- what is said of the lines of the rules is coherent
 pub verdicts-coherent : (survey : SurveyParts) → IsWellFormed survey → AllByRecursion (λ v. IfSome v ArePositiveSteps) (map refutation_by (rule_verdicts survey))
 verdicts-coherent survey formed =
-    positive-steps (normal_lines_of survey) (rule_verdicts survey) (verdicts-count survey (normal_lines_of survey) pruning_budget 0 (normal_lines_of survey)) (λ place line steps at told.
+    positive-steps (normal_lines_of survey) (rule_verdicts survey) (verdicts-count survey (normal_lines_of survey) PRUNING_BUDGET 0 (normal_lines_of survey)) (λ place line steps at told.
     let (x, valid, wrong) = rule-refuted survey formed place line steps at told in valid-positive (refutation_at survey (rule_flags survey) place line) steps x valid)

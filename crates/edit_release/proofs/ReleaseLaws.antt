@@ -1,5 +1,5 @@
 -- The files of an edit are a valid release.
-use Rattle.std.proofs.Common.{◌≡◌, ◌≤◌, ◌<◌, ◌∙◌, sym, ap, refl, ℕ, ◌==◌, true, List, [], ◌∷◌, length, map, All, IsSome, IsTrue, ◌↔◌, Option, Some, None, subst, option_map}
+use Rattle.std.proofs.Common.{◌≡◌, ◌<◌, ◌∙◌, sym, ap, refl, ℕ, ◌==◌, true, List, [], ◌∷◌, length, map, All, IsSome, IsTrue, ◌↔◌, Option, Some, None, subst, option_map}
 use Rattle.std.specs.Prelude.{is_some}
 use Rattle.std.specs.List.{AllByRecursion, AllZip}
 use Rattle.std.proofs.lemmas.Bool.{le-leb}
@@ -34,8 +34,9 @@ use Rattle.record_workers.specs.Said.{Says}
 use Rattle.cert_check.specs.Releases.{Audit, IsValidRelease, audit_of, head_fault, is_released, limits_fit, rules_of}
 use Rattle.cert_check.specs.RowChecks.{AreReleasedTexts, RowFiles, RowRules}
 use Rattle.redundancy.proofs.BaseLaws.{verdicts-count}
-use Rattle.pruned_rules.specs.Pruned.{kept_edits, pruning_budget, rule_flags, rule_verdicts}
+use Rattle.pruned_rules.specs.Pruned.{kept_edits, rule_flags, rule_verdicts}
 use Rattle.pruned_rules.proofs.KeptLaws.{rules-follow}
+use Rattle.pruned_rules.specs.declared.pruned.TheConstants.{PRUNING_BUDGET}
 use Rattle.edit_release.specs.Edits.{proof_of, refutation_by, said}
 use Rattle.edit_release.specs.Guarantee.{HasTree, IsGuaranteed, NamesStop}
 use Rattle.edit_release.specs.Releases.{AllGiven, HasGuarantee, IsReleaseOf, written_in}
@@ -67,7 +68,7 @@ module _ (survey : SurveyParts) (sheet : SheetParts) (released proof : List ℕ)
   limits-fit = rw (le-leb 1 terms.limit fit.limit.0, le-leb terms.limit 1000 fit.limit.1, le-leb 1 terms.near fit.near.0, le-leb terms.near 64 fit.near.1, le-leb 1 terms.budget fit.budget.0, le-leb terms.budget 1000000000 fit.budget.1) refl
 
   lines-many : (length p.verdicts == length (normal_lines_of survey)) ≡ true
-  lines-many = counts-agree _ _ (length-map (rule_verdicts survey) refutation_by ∙ verdicts-count survey (normal_lines_of survey) pruning_budget 0 (normal_lines_of survey))
+  lines-many = counts-agree _ _ (length-map (rule_verdicts survey) refutation_by ∙ verdicts-count survey (normal_lines_of survey) PRUNING_BUDGET 0 (normal_lines_of survey))
 
   rows-many : (length p.rows == length sheet.rows) ≡ true
   rows-many = counts-agree _ _ (length-map ends said ∙ many)

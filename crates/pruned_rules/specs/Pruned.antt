@@ -1,19 +1,16 @@
 -- The lines of a survey's rules that are kept, and why the others are dropped.
-use Rattle.std.specs.Prelude.{ℕ, Bool, List, map}
+use Rattle.std.specs.Prelude.{Bool, List, map}
 use Rattle.edit_model.specs.Parts.{SurveyParts}
 use Rattle.edit_line.specs.EditSets.{EditsParts, edits_of}
 use Rattle.edit_line.specs.Shapes.{shape_of}
 use Rattle.edit_normal.specs.RuleLines.{normal_lines_of}
 use Rattle.redundancy.specs.Verdicts.{keeps_line, usable_from, verdicts_of}
 use Rattle.redundancy.specs.declared.verdict.Verdict.{Verdict}
-
--- the most work of the walk that tries one line
-abbrev pub pruning_budget : ℕ
-pruning_budget = 2000
+use Rattle.pruned_rules.specs.declared.pruned.TheConstants.{PRUNING_BUDGET}
 
 -- the verdicts on the lines of the rules
 abbrev pub rule_verdicts : SurveyParts → List Verdict
-rule_verdicts survey = verdicts_of survey (normal_lines_of survey) pruning_budget
+rule_verdicts survey = verdicts_of survey (normal_lines_of survey) PRUNING_BUDGET
 
 -- which lines are kept
 abbrev pub rule_flags : SurveyParts → List Bool
