@@ -1,4 +1,4 @@
-use Rattle.std.specs.Prelude.{ℕ, ◌&&◌, not, Bool, true, false, List, slice_index_or}
+use Rattle.std.specs.Prelude.{ℕ, ◌&&◌, not, Bool, true, false, List, [], ◌∷◌, codes, map, slice_index_or}
 use Rattle.std.specs.List.{filter, list_any, sum_by}
 use Rattle.edit_model.specs.Corrections.{path_order}
 use Rattle.edit_model.specs.FieldSets.{set_of}
@@ -33,3 +33,13 @@ keeps_bad fields row path = list_any (λ f. keeps fields path f && is_bad (value
 -- the set of the fields that the path keeps and at which the record has a value
 abbrev pub kept_set : List Field → List Value → List Bool → ℕ
 kept_set fields row path = set_of (filter (λ f. keeps fields path f && not (is_bad (value_of row f))) (path_order fields))
+
+-- K for a kept field, C for a changed one
+abbrev pub letter : Bool → ℕ
+letter false = 75
+letter true = 67
+
+-- what is told of a path: its letters, and a stroke where it has none
+abbrev pub path_text : List Bool → List ℕ
+path_text [] = codes "-"
+path_text (first ∷ rest) = map letter (first ∷ rest)

@@ -1,10 +1,11 @@
-ghost use Rattle.std.specs.Prelude.{◌≡◌, ◌≤◌, length};
+ghost use Rattle.std.specs.Prelude.{◌≡◌, ◌≤◌, ◌++◌, OnOk, length, map};
 ghost use Rattle.edit_model.specs.Rows.{IsRow};
 ghost use Rattle.derivation.specs.Premises.{HasKept};
-ghost use Rattle.bound_cert.specs.Paths.{keeps_bad, kept_set, path_weight};
+ghost use Rattle.bound_cert.specs.Paths.{keeps_bad, kept_set, letter, path_text, path_weight};
 
 use crate::path_fields::{keeps_bad, kept_set, path_weight};
 use edit_model::{FieldSet, Row, Survey};
+use foundation::OutOfMemory;
 use std::marker::Model;
 
 /// A path: it says of the first fields in path order, numerical before categorical, whether each is kept
@@ -63,4 +64,32 @@ impl Path {
     {
         kept_set(survey, row, self.letters())
     }
+
+    /// Appends its letters, K for a kept field and C for a changed one, or `-` where it has none.
+    pub fn write(&self, text: &mut Vec<u8>) -> Result<(), OutOfMemory>
+        ensures { OnOk result (text.new.items ≡ text.old.items ++ path_text self.now) }
+    {
+        if self.letters().is_empty() {
+            text.push(b'-')?;
+            return Ok(());
+        }
+        write_letters(text, self.letters())
+    }
+}
+
+// Appends the letters.
+fn write_letters(text: &mut Vec<u8>, letters: &[bool]) -> Result<(), OutOfMemory>
+    ensures { OnOk result (text.new.items ≡ text.old.items ++ map letter letters.now) }
+{
+    for changed in letters {
+        text.push(letter(*changed))?;
+    }
+    Ok(())
+}
+
+// The letter of a field that is kept, or changed.
+fn letter(changed: bool) -> u8
+    ensures { result ≡ letter changed }
+{
+    if changed { b'C' } else { b'K' }
 }

@@ -1,10 +1,11 @@
 -- The reasons file.
-use Rattle.std.specs.Prelude.{ℕ, suc, ◌+◌, Bool, true, false, List, [], ◌∷◌, ◌++◌, Option, Some, None, codes, decimal, map, slice_index_or}
+use Rattle.std.specs.Prelude.{ℕ, suc, ◌+◌, List, [], ◌∷◌, ◌++◌, Option, Some, None, codes, decimal, map, slice_index_or}
 use Rattle.edit_line.specs.declared.place.Place.{Place}
 use Rattle.edit_line.specs.declared.place.Place.TheVariants as place
 use Rattle.edit_model.specs.Parts.{SurveyParts}
 use Rattle.edit_model.specs.declared.field.Field.{Field}
 use Rattle.edit_model.specs.declared.value.Value.{Value}
+use Rattle.bound_cert.specs.Paths.{path_text}
 use Rattle.bound_cert.specs.declared.outcome.Event.{Event}
 use Rattle.bound_cert.specs.declared.outcome.Event.TheVariants.{Step, Test}
 use Rattle.bound_cert.specs.declared.outcome.GiftFault.{GiftFault}
@@ -30,16 +31,6 @@ number_text place = decimal (place + 1)
 -- the field's name
 abbrev pub name_of : List Field → ℕ → List ℕ
 name_of fields f = slice_index_or (map (λ (field : Field). field.name) fields) f []
-
--- K for kept, C for changed
-abbrev pub letter_of : Bool → ℕ
-letter_of false = 75
-letter_of true = 67
-
--- a path's letters; a stroke where it has none
-abbrev pub path_text : List Bool → List ℕ
-path_text [] = codes "-"
-path_text (letter ∷ path) = map letter_of (letter ∷ path)
 
 -- a place among the numbers of a line
 abbrev pub place_text : List Field → Place → List ℕ

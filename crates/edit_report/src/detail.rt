@@ -1,6 +1,7 @@
 //! Why a record is not released, in a few words.
-ghost use Rattle.std.specs.Prelude.{◌≡◌, ◌<◌, ◌++◌, IfOk, IfSome, None, OnOk, codes, decimal, length, map};
-ghost use Rattle.edit_report.specs.Reasons.{cause_text, detail_text, event_text, giving_text, letter_of, name_of, number_text, path_text, place_text};
+ghost use Rattle.std.specs.Prelude.{◌≡◌, ◌<◌, ◌++◌, IfOk, IfSome, None, OnOk, codes, decimal, length};
+ghost use Rattle.bound_cert.specs.Paths.{path_text};
+ghost use Rattle.edit_report.specs.Reasons.{cause_text, detail_text, event_text, giving_text, name_of, number_text, place_text};
 
 use bound_cert::{Event, GiftFault, Outcome, Path, RowProof};
 use edit_line::Place;
@@ -41,7 +42,7 @@ fn budget_text(alloc: Global, path: &Path, work: u64) -> Result<Vec<u8>, OutOfMe
     ensures { IfOk result (λ text. text.items ≡ codes "path " ++ (path_text path.now ++ (codes " work " ++ decimal work))) }
 {
     let mut text = Vec::from_slice(alloc, b"path ")?;
-    push_path(&mut text, path.letters())?;
+    path.write(&mut text)?;
     text.extend_from_slice(b" work ")?;
     text.extend_from_slice(Buffer::new().format(work).as_bytes())?;
     Ok(text)
@@ -57,7 +58,7 @@ fn overflow_text(
     ensures { IfOk result (λ text. text.items ≡ codes "path " ++ (path_text path.now ++ event_text survey.now.fields event.now)) }
 {
     let mut text = Vec::from_slice(alloc, b"path ")?;
-    push_path(&mut text, path.letters())?;
+    path.write(&mut text)?;
     push_event(&mut text, survey, event)?;
     Ok(text)
 }
@@ -123,34 +124,6 @@ fn push_place(text: &mut Vec<u8>, survey: &Survey, place: &Place) -> Result<(), 
         Place::Constant => text.extend_from_slice(b"constant")?,
     }
     Ok(())
-}
-
-// Adds a path's letters, or a stroke where it has none.
-fn push_path(text: &mut Vec<u8>, path: &[bool]) -> Result<(), OutOfMemory>
-    ensures { OnOk result (text.new.items ≡ text.old.items ++ path_text path.now) }
-{
-    if path.is_empty() {
-        text.push(b'-')?;
-        return Ok(());
-    }
-    push_letters(text, path)
-}
-
-// Adds the letters.
-fn push_letters(text: &mut Vec<u8>, letters: &[bool]) -> Result<(), OutOfMemory>
-    ensures { OnOk result (text.new.items ≡ text.old.items ++ map letter_of letters.now) }
-{
-    for changed in letters {
-        text.push(letter_of(*changed))?;
-    }
-    Ok(())
-}
-
-// K for kept, C for changed.
-fn letter_of(changed: bool) -> u8
-    ensures { result ≡ letter_of changed }
-{
-    if changed { b'C' } else { b'K' }
 }
 
 // Adds the number of a place that is counted from 0, as it is told: from 1.

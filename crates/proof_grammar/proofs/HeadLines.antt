@@ -7,7 +7,8 @@ use Rattle.proof_grammar.specs.declared.heads.RowHead.{RowHead}
 use Rattle.proof_grammar.specs.declared.heads.RowHead.TheVariants.{BudgetAt, ChangeAt, CleanAt, ContradictoryAt, EventAt, GiftAt}
 use Rattle.proof_grammar.specs.declared.heads.RunLimits.{RunLimits}
 use Rattle.proof_grammar.specs.Limits.{IsEvent, IsGift, IsLong, IsShort}
-use Rattle.proof_grammar.specs.ProofLines.{Line, event_line, gift_words, limits_words, path_word}
+use Rattle.bound_cert.specs.Paths.{path_text}
+use Rattle.proof_grammar.specs.ProofLines.{Line, event_line, gift_words, limits_words}
 
 -- of a verdict: None where it is kept, else the number of its steps
 abbrev pub verdict_head : Option ℕ → Line
@@ -20,10 +21,10 @@ IsVerdictHead (Some n) = IsLong n
 
 -- of a leaf, with the number of its steps
 abbrev pub leaf_head : LeafHead → Line
-leaf_head (BoundAt path) = codes "bound" ∷ path_word path ∷ []
-leaf_head (BadAt path) = codes "bad" ∷ path_word path ∷ []
-leaf_head (LineAt path n) = codes "line" ∷ path_word path ∷ decimal n ∷ []
-leaf_head (BoxAt path n) = codes "box" ∷ path_word path ∷ decimal n ∷ []
+leaf_head (BoundAt path) = codes "bound" ∷ path_text path ∷ []
+leaf_head (BadAt path) = codes "bad" ∷ path_text path ∷ []
+leaf_head (LineAt path n) = codes "line" ∷ path_text path ∷ decimal n ∷ []
+leaf_head (BoxAt path n) = codes "box" ∷ path_text path ∷ decimal n ∷ []
 
 abbrev pub steps_behind : LeafHead → ℕ
 steps_behind (BoundAt path) = 0
@@ -37,9 +38,9 @@ IsLeafHead head = IsLong (steps_behind head)
 -- of a row, with the number of its leaves; the weight of a change is one more than the number here
 abbrev pub row_head : RowHead → Line
 row_head CleanAt = codes "clean" ∷ []
-row_head (ChangeAt w path n) = codes "change" ∷ decimal (suc w) ∷ path_word path ∷ decimal n ∷ []
-row_head (GiftAt weight path fault n) = (codes "gift" ∷ decimal weight ∷ path_word path ∷ gift_words fault) ++ decimal n ∷ []
-row_head (BudgetAt path work) = codes "budget" ∷ path_word path ∷ decimal work ∷ []
+row_head (ChangeAt w path n) = codes "change" ∷ decimal (suc w) ∷ path_text path ∷ decimal n ∷ []
+row_head (GiftAt weight path fault n) = (codes "gift" ∷ decimal weight ∷ path_text path ∷ gift_words fault) ++ decimal n ∷ []
+row_head (BudgetAt path work) = codes "budget" ∷ path_text path ∷ decimal work ∷ []
 row_head (EventAt path event) = event_line path event
 row_head (ContradictoryAt n) = codes "contradictory" ∷ decimal n ∷ []
 

@@ -9,7 +9,8 @@ use Rattle.proof_grammar.specs.declared.heads.LeafHead.{LeafHead}
 use Rattle.proof_grammar.specs.declared.heads.LeafHead.TheVariants.{BadAt, BoundAt, BoxAt, LineAt}
 use Rattle.proof_grammar.proofs.HeadLines.{IsLeafHead, leaf_head}
 use Rattle.proof_grammar.specs.Limits.{IsLong}
-use Rattle.proof_grammar.specs.ProofLines.{Line, letter, path_word}
+use Rattle.bound_cert.specs.Paths.{letter, path_text}
+use Rattle.proof_grammar.specs.ProofLines.{Line}
 use Rattle.proof_grammar.specs.inner.LeafReading.{bad_in, bound_in, box_in, leaf_in, line_in, path_and_number_in, path_in}
 use Rattle.proof_grammar.specs.Words.{is_changed, is_path_letter, path_said}
 use Rattle.proof_grammar.proofs.Productions.{LineForm}
@@ -46,38 +47,38 @@ letters-back [] good = refl
 letters-back (b ∷ bs) good =
     let (here, rest) = both_true (is_path_letter b) (list_all is_path_letter bs) good in ap (λ (k : ℕ). k ∷ map letter (map is_changed bs)) (letter-back b here) ∙ ap (λ (ks : List ℕ). b ∷ ks) (letters-back bs rest)
 
-pub path-again : (path : List Bool) → IsPath path → path_said (path_word path) ≡ Some path
+pub path-again : (path : List Bool) → IsPath path → path_said (path_text path) ≡ Some path
 path-again [] good = refl
 path-again (true ∷ path) good = rw (letters-good path) (ap (λ (p : List Bool). Some (true ∷ p)) (letters-read path))
 path-again (false ∷ path) good = rw (letters-good path) (ap (λ (p : List Bool). Some (false ∷ p)) (letters-read path))
 
-pub path-found : (w : List ℕ) (path : List Bool) → path_said w ≡ Some path → IsPath path × (w ≡ path_word path)
+pub path-found : (w : List ℕ) (path : List Bool) → path_said w ≡ Some path → IsPath path × (w ≡ path_text path)
 path-found [] path e = absurd (cc (e))
 path-found (b ∷ bs) path e = by (bytes_eq (b ∷ bs) (codes "-")) refl e
   where
-    lettered : (c : Bool) → list_all is_path_letter (b ∷ bs) ≡ c → (if c then Some (map is_changed (b ∷ bs)) else None) ≡ Some path → b ∷ bs ≡ path_word path
+    lettered : (c : Bool) → list_all is_path_letter (b ∷ bs) ≡ c → (if c then Some (map is_changed (b ∷ bs)) else None) ≡ Some path → b ∷ bs ≡ path_text path
     lettered false good h = absurd (cc (h))
-    lettered true good h = let own : map is_changed (b ∷ bs) ≡ path = cc (h) in sym (letters-back (b ∷ bs) good) ∙ ap path_word own
+    lettered true good h = let own : map is_changed (b ∷ bs) ≡ path = cc (h) in sym (letters-back (b ∷ bs) good) ∙ ap path_text own
 
-    by : (c : Bool) → bytes_eq (b ∷ bs) (codes "-") ≡ c → (if c then Some [] else if list_all is_path_letter (b ∷ bs) then Some (map is_changed (b ∷ bs)) else None) ≡ Some path → IsPath path × (b ∷ bs ≡ path_word path)
-    by true is h = let own : [] ≡ path = cc (h) in (tt, (bytes_eq-Decides (b ∷ bs) (codes "-")).0 is ∙ ap path_word own)
+    by : (c : Bool) → bytes_eq (b ∷ bs) (codes "-") ≡ c → (if c then Some [] else if list_all is_path_letter (b ∷ bs) then Some (map is_changed (b ∷ bs)) else None) ≡ Some path → IsPath path × (b ∷ bs ≡ path_text path)
+    by true is h = let own : [] ≡ path = cc (h) in (tt, (bytes_eq-Decides (b ∷ bs) (codes "-")).0 is ∙ ap path_text own)
     by false is h = (tt, lettered (list_all is_path_letter (b ∷ bs)) refl h)
 
-abbrev pub path_form : LineForm {L = List ℕ} IsPath path_word
+abbrev pub path_form : LineForm {L = List ℕ} IsPath path_text
 path_form = record { read = path_said; sample = []; sound_sample = tt; again = path-again; found = path-found }
 
 -- ---- a path alone, and a path and a number
 
-pub path-alone : {X : Type 0} (to : List Bool → X) (ws : Line) (x : X) → path_in to ws ≡ Some x → (path : List Bool) × (to path ≡ x) × (ws ≡ path_word path ∷ [])
+pub path-alone : {X : Type 0} (to : List Bool → X) (ws : Line) (x : X) → path_in to ws ≡ Some x → (path : List Bool) × (to path ≡ x) × (ws ≡ path_text path ∷ [])
 path-alone to ws x e =
-    let (path, w1, fits, e1, h1) = next-found IsPath path_word path_form ws _ x e in
-    let (own, none) = end-found (to path) x w1 h1 in (path, own, e1 ∙ ap (λ (v : Line). path_word path ∷ v) none)
+    let (path, w1, fits, e1, h1) = next-found IsPath path_text path_form ws _ x e in
+    let (own, none) = end-found (to path) x w1 h1 in (path, own, e1 ∙ ap (λ (v : Line). path_text path ∷ v) none)
 
-pub path-and-number : {X : Type 0} (to : List Bool → ℕ → X) (ws : Line) (x : X) → path_and_number_in to ws ≡ Some x → (path : List Bool) × (n : ℕ) × IsLong n × (to path n ≡ x) × (ws ≡ path_word path ∷ decimal n ∷ [])
+pub path-and-number : {X : Type 0} (to : List Bool → ℕ → X) (ws : Line) (x : X) → path_and_number_in to ws ≡ Some x → (path : List Bool) × (n : ℕ) × IsLong n × (to path n ≡ x) × (ws ≡ path_text path ∷ decimal n ∷ [])
 path-and-number to ws x e =
-    let (path, w1, fits, e1, h1) = next-found IsPath path_word path_form ws _ x e in
+    let (path, w1, fits, e1, h1) = next-found IsPath path_text path_form ws _ x e in
     let (n, w2, n_fits, e2, h2) = next-found IsLong decimal long_form w1 _ x h1 in
-    let (own, none) = end-found (to path n) x w2 h2 in (path, n, n_fits, own, e1 ∙ ap (λ (v : Line). path_word path ∷ v) (e2 ∙ ap (λ (v : Line). decimal n ∷ v) none))
+    let (own, none) = end-found (to path n) x w2 h2 in (path, n, n_fits, own, e1 ∙ ap (λ (v : Line). path_text path ∷ v) (e2 ∙ ap (λ (v : Line). decimal n ∷ v) none))
 
 -- ---- heads
 
@@ -103,10 +104,10 @@ head-found (w ∷ ws) head e =
     (bound-found, (bad-found, (line-found, (box-found, tt)))) w ws head e
 
 pub head-again : (head : LeafHead) → IsLeafHead head → leaf_in (leaf_head head) ≡ Some head
-head-again (BoundAt path) fits = next-again IsPath path_word path_form path [] _ tt
-head-again (BadAt path) fits = next-again IsPath path_word path_form path [] _ tt
-head-again (LineAt path n) fits = next-again IsPath path_word path_form path _ _ tt ∙ next-again IsLong decimal long_form n [] _ fits
-head-again (BoxAt path n) fits = next-again IsPath path_word path_form path _ _ tt ∙ next-again IsLong decimal long_form n [] _ fits
+head-again (BoundAt path) fits = next-again IsPath path_text path_form path [] _ tt
+head-again (BadAt path) fits = next-again IsPath path_text path_form path [] _ tt
+head-again (LineAt path n) fits = next-again IsPath path_text path_form path _ _ tt ∙ next-again IsLong decimal long_form n [] _ fits
+head-again (BoxAt path n) fits = next-again IsPath path_text path_form path _ _ tt ∙ next-again IsLong decimal long_form n [] _ fits
 
 abbrev pub leaf_form : LineForm IsLeafHead leaf_head
 leaf_form = record { read = leaf_in; sample = BoundAt []; sound_sample = omega arith; again = head-again; found = head-found }

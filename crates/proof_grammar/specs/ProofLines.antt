@@ -1,11 +1,12 @@
 -- The lines of a proof file, each a list of words. These equations are the grammar: bytes are in it where they are the text of a proof.
-use Rattle.std.specs.Prelude.{ℕ, zero, suc, ◌+◌, Bool, true, false, List, [], ◌∷◌, ◌++◌, Option, Some, None, codes, length, map}
+use Rattle.std.specs.Prelude.{ℕ, zero, suc, ◌+◌, Bool, List, [], ◌∷◌, ◌++◌, Option, Some, None, codes, length, map}
 use Rattle.std.specs.Fmt.{decimal, signed_decimal}
 use Rattle.std.specs.List.{flat_map}
 use Rattle.edit_line.specs.declared.place.Place.{Place}
 use Rattle.edit_line.specs.declared.place.Place.TheVariants.{Field, Constant}
 use Rattle.derivation.specs.declared.step.Step.{Step}
 use Rattle.derivation.specs.declared.step.Step.TheVariants as step
+use Rattle.bound_cert.specs.Paths.{path_text}
 use Rattle.bound_cert.specs.declared.cert.Leaf.{Leaf}
 use Rattle.bound_cert.specs.declared.cert.LeafWhy.{LeafWhy}
 use Rattle.bound_cert.specs.declared.cert.LeafWhy.TheVariants as why
@@ -34,16 +35,6 @@ abbrev pub named_or_0 : Option ℕ → List ℕ
 named_or_0 None = codes "0"
 named_or_0 (Some i) = named i
 
--- K for a kept field, C for a changed one
-abbrev pub letter : Bool → ℕ
-letter false = 75
-letter true = 67
-
--- the letters of a path, `-` where there is none
-abbrev pub path_word : List Bool → List ℕ
-path_word [] = codes "-"
-path_word (first ∷ rest) = letter first ∷ map letter rest
-
 -- the field of a number that left the range, 0 for the constant
 abbrev pub place_word : Place → List ℕ
 place_word Constant = codes "0"
@@ -64,7 +55,7 @@ abbrev pub with_steps : Line → List Step → List Line
 with_steps words steps = (words ++ decimal (length steps) ∷ []) ∷ map step_line steps
 
 abbrev pub leaf_lines : Leaf → List Line
-leaf_lines leaf = reason_lines (path_word leaf.path) leaf.why
+leaf_lines leaf = reason_lines (path_text leaf.path) leaf.why
   where
     reason_lines : List ℕ → LeafWhy → List Line
     reason_lines path why.Bound = (codes "bound" ∷ path ∷ []) ∷ []
@@ -90,12 +81,12 @@ gift_words (gift.Test rule) = codes "0" ∷ named rule ∷ []
 -- a change without such a number; one that weighs nothing is a clean row
 abbrev pub change_lines : List Bool → ℕ → List Leaf → List Line
 change_lines path zero leaves = (codes "clean" ∷ []) ∷ []
-change_lines path (suc w) leaves = with_leaves (codes "change" ∷ decimal (suc w) ∷ path_word path ∷ []) leaves
+change_lines path (suc w) leaves = with_leaves (codes "change" ∷ decimal (suc w) ∷ path_text path ∷ []) leaves
 
 abbrev pub event_line : List Bool → Event → Line
 event_line path (event.Step first second place) =
-    codes "step" ∷ path_word path ∷ named first ∷ named second ∷ place_word place ∷ []
-event_line path (event.Test line field) = codes "test" ∷ path_word path ∷ named line ∷ named field ∷ []
+    codes "step" ∷ path_text path ∷ named first ∷ named second ∷ place_word place ∷ []
+event_line path (event.Test line field) = codes "test" ∷ path_text path ∷ named line ∷ named field ∷ []
 
 abbrev pub row_lines : RowProof → List Line
 row_lines row = outcome_lines row.outcome row.gift
@@ -103,8 +94,8 @@ row_lines row = outcome_lines row.outcome row.gift
     outcome_lines : Outcome → Option GiftFault → List Line
     outcome_lines (outcome.Change path weight cert) None = change_lines path weight cert.leaves
     outcome_lines (outcome.Change path weight cert) (Some fault) =
-        with_leaves (codes "gift" ∷ decimal weight ∷ path_word path ∷ gift_words fault) cert.leaves
-    outcome_lines (outcome.Budget path work) fault = (codes "budget" ∷ path_word path ∷ decimal work ∷ []) ∷ []
+        with_leaves (codes "gift" ∷ decimal weight ∷ path_text path ∷ gift_words fault) cert.leaves
+    outcome_lines (outcome.Budget path work) fault = (codes "budget" ∷ path_text path ∷ decimal work ∷ []) ∷ []
     outcome_lines (outcome.Overflow path event) fault = event_line path event ∷ []
     outcome_lines (outcome.Contradictory cert) fault = with_leaves (codes "contradictory" ∷ []) cert.leaves
 

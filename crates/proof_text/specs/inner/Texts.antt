@@ -7,7 +7,8 @@ use Rattle.donor_book.specs.declared.claim.Entry.{Entry}
 use Rattle.bound_cert.specs.declared.outcome.GiftFault.{GiftFault}
 use Rattle.proof_grammar.specs.declared.proof.Proof.{Proof}
 use Rattle.bound_cert.specs.declared.outcome.RowProof.{RowProof}
-use Rattle.proof_grammar.specs.ProofLines.{Line, claim_line, count_line, gift_words, limits_words, line_text, lines_text, named, path_word, row_lines, verdict_lines, with_leaves}
+use Rattle.bound_cert.specs.Paths.{path_text}
+use Rattle.proof_grammar.specs.ProofLines.{Line, claim_line, count_line, gift_words, limits_words, line_text, lines_text, named, row_lines, verdict_lines, with_leaves}
 
 -- The texts of the parts of a proof. Private contracts alone cite this page.
 
@@ -29,7 +30,7 @@ claims_text claims = line_text (count_line (codes "claims") claims) ++ flat_map 
 -- a change with a number that left the range while values were given
 abbrev pub gift_text : List Bool → ℕ → GiftFault → List Leaf → List ℕ
 gift_text path weight fault leaves =
-    lines_text (with_leaves (codes "gift" ∷ decimal weight ∷ path_word path ∷ gift_words fault) leaves)
+    lines_text (with_leaves (codes "gift" ∷ decimal weight ∷ path_text path ∷ gift_words fault) leaves)
 
 abbrev pub parts_text : Proof → List ℕ
 parts_text p =

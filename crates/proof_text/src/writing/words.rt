@@ -1,9 +1,10 @@
 //! Words, each behind a space.
-ghost use Rattle.std.specs.Prelude.{◌≡◌, ◌∷◌, ◌++◌, [], map, IfSome, OnOk};
+ghost use Rattle.std.specs.Prelude.{◌≡◌, ◌∷◌, ◌++◌, [], IfSome, OnOk};
 ghost use Rattle.std.specs.Fmt.{decimal, signed_decimal};
 ghost use Rattle.std.specs.List.{AllByRecursion, flat_map};
+ghost use Rattle.bound_cert.specs.Paths.{path_text};
 ghost use Rattle.proof_grammar.specs.Limits.{IsLong, IsPlace, IsShort};
-ghost use Rattle.proof_grammar.specs.ProofLines.{letter, named, named_or_0, path_word, place_word};
+ghost use Rattle.proof_grammar.specs.ProofLines.{named, named_or_0, place_word};
 ghost use Rattle.proof_text.specs.Sizes.{IsWide};
 
 use bound_cert::Path;
@@ -95,34 +96,8 @@ pub(super) fn write_place(text: &mut Vec<u8>, place: Place) -> Result<(), OutOfM
 
 /// Appends the letters of a path.
 pub(super) fn write_path(text: &mut Vec<u8>, path: &Path) -> Result<(), OutOfMemory>
-    ensures { OnOk result (text.new.items ≡ text.old.items ++ 32 ∷ path_word path.now) }
+    ensures { OnOk result (text.new.items ≡ text.old.items ++ 32 ∷ path_text path.now) }
 {
     text.push(b' ')?;
-    match path.letters().split_first() {
-        None => {
-            text.push(b'-')?;
-            Ok(())
-        }
-        Some((first, rest)) => {
-            text.push(letter(*first))?;
-            write_letters(text, rest)
-        }
-    }
-}
-
-// Appends the letters.
-fn write_letters(text: &mut Vec<u8>, changed: &[bool]) -> Result<(), OutOfMemory>
-    ensures { OnOk result (text.new.items ≡ text.old.items ++ map letter changed.now) }
-{
-    for changed in changed {
-        text.push(letter(*changed))?;
-    }
-    Ok(())
-}
-
-// The letter of a field that is kept, or changed.
-fn letter(changed: bool) -> u8
-    ensures { result ≡ letter changed }
-{
-    if changed { b'C' } else { b'K' }
+    path.write(text)
 }
