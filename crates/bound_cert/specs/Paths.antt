@@ -1,4 +1,5 @@
-use Rattle.std.specs.Prelude.{ℕ, ◌&&◌, not, Bool, true, false, List, [], ◌∷◌, codes, map, slice_index_or}
+use Rattle.std.specs.Prelude.{ℕ, ◌+◌, ◌&&◌, not, Bool, true, false, List, [], ◌∷◌, codes, map, slice_index_or}
+use Rattle.std.specs.Fmt.{decimal}
 use Rattle.std.specs.List.{filter, list_any, sum_by}
 use Rattle.edit_model.specs.Corrections.{path_order}
 use Rattle.edit_model.specs.FieldSets.{set_of}
@@ -43,3 +44,7 @@ letter true = 67
 abbrev pub path_text : List Bool → List ℕ
 path_text [] = codes "-"
 path_text (first ∷ rest) = map letter (first ∷ rest)
+
+-- what is numbered from 0 is told from 1 on
+abbrev pub named : ℕ → List ℕ
+named i = decimal (i + 1)

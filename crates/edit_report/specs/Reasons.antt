@@ -1,11 +1,11 @@
 -- The reasons file.
-use Rattle.std.specs.Prelude.{ℕ, suc, ◌+◌, List, [], ◌∷◌, ◌++◌, Option, Some, None, codes, decimal, map, slice_index_or}
+use Rattle.std.specs.Prelude.{ℕ, suc, List, [], ◌∷◌, ◌++◌, Option, Some, None, codes, decimal, map, slice_index_or}
 use Rattle.edit_line.specs.declared.place.Place.{Place}
 use Rattle.edit_line.specs.declared.place.Place.TheVariants as place
 use Rattle.edit_model.specs.Parts.{SurveyParts}
 use Rattle.edit_model.specs.declared.field.Field.{Field}
 use Rattle.edit_model.specs.declared.value.Value.{Value}
-use Rattle.bound_cert.specs.Paths.{path_text}
+use Rattle.bound_cert.specs.Paths.{named, path_text}
 use Rattle.bound_cert.specs.declared.outcome.Event.{Event}
 use Rattle.bound_cert.specs.declared.outcome.Event.TheVariants.{Step, Test}
 use Rattle.bound_cert.specs.declared.outcome.GiftFault.{GiftFault}
@@ -23,10 +23,6 @@ use Rattle.edit_report.specs.Released.{given_text}
 use Rattle.edit_report.specs.declared.end.RowEnd.{RowEnd}
 
 -- ---- parts of a line
-
--- a place that is counted from 0, as it is told: from 1
-abbrev pub number_text : ℕ → List ℕ
-number_text place = decimal (place + 1)
 
 -- the field's name
 abbrev pub name_of : List Field → ℕ → List ℕ
@@ -46,7 +42,7 @@ how_text Nearest = codes "nearest"
 -- the donor's number, nothing where there is none
 abbrev pub donor_text : Option ℕ → List ℕ
 donor_text None = []
-donor_text (Some donor) = number_text donor
+donor_text (Some donor) = named donor
 
 -- ---- why a record is not released
 
@@ -60,14 +56,14 @@ cause_text (Contradictory cert) = codes "contradictory"
 -- the lines at which a number left the range in the search, and the field there
 abbrev pub event_text : List Field → Event → List ℕ
 event_text fields (Step first second at) =
-    codes " lines " ++ (number_text first ++ (codes " " ++ (number_text second ++ (codes " at " ++ place_text fields at))))
-event_text fields (Test line field) = codes " line " ++ (number_text line ++ (codes " at " ++ name_of fields field))
+    codes " lines " ++ (named first ++ (codes " " ++ (named second ++ (codes " at " ++ place_text fields at))))
+event_text fields (Test line field) = codes " line " ++ (named line ++ (codes " at " ++ name_of fields field))
 
 -- where a number left the range when values were given
 abbrev pub giving_text : List Field → Option GiftFault → List ℕ
 giving_text fields None = []
-giving_text fields (Some (gift_fault.Bound field line)) = codes "giving " ++ (name_of fields field ++ (codes " line " ++ number_text line))
-giving_text fields (Some (gift_fault.Test rule)) = codes "giving rule " ++ number_text rule
+giving_text fields (Some (gift_fault.Bound field line)) = codes "giving " ++ (name_of fields field ++ (codes " line " ++ named line))
+giving_text fields (Some (gift_fault.Test rule)) = codes "giving rule " ++ named rule
 
 -- where the search or the giving of values ended
 abbrev pub detail_text : List Field → Outcome → Option GiftFault → List ℕ
@@ -81,7 +77,7 @@ detail_text fields (Contradictory cert) fault = []
 -- the line of a record that is not released
 abbrev pub unresolved_line : List Field → ℕ → RowProof → List (List ℕ)
 unresolved_line fields number found =
-    number_text number ∷ cause_text found.outcome ∷ [] ∷ [] ∷ [] ∷ [] ∷ detail_text fields found.outcome found.gift ∷ []
+    named number ∷ cause_text found.outcome ∷ [] ∷ [] ∷ [] ∷ [] ∷ detail_text fields found.outcome found.gift ∷ []
 
 -- the texts of the line of a changed field: the record's number, the field's name, the text that was read, that of the new
 -- value, the donor's number, and how the value was found
@@ -95,7 +91,7 @@ text_before columns texts f = slice_index_or texts (slice_index_or columns f 0) 
 -- the line of a changed field
 abbrev pub changed_line : List Field → List ℕ → ℕ → List (List ℕ) → Option ℕ → List Value → ℕ → How → List (List ℕ)
 changed_line fields columns number texts donor new f how =
-    line_texts (number_text number) (name_of fields f) (text_before columns texts f) (given_text fields new f) (donor_text donor)
+    line_texts (named number) (name_of fields f) (text_before columns texts f) (given_text fields new f) (donor_text donor)
     (how_text how)
 
 -- the lines of the changed fields, each with how its value was found

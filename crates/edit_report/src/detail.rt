@@ -1,7 +1,7 @@
 //! Why a record is not released, in a few words.
 ghost use Rattle.std.specs.Prelude.{◌≡◌, ◌<◌, ◌++◌, IfOk, IfSome, None, OnOk, codes, decimal, length};
-ghost use Rattle.bound_cert.specs.Paths.{path_text};
-ghost use Rattle.edit_report.specs.Reasons.{cause_text, detail_text, event_text, giving_text, name_of, number_text, place_text};
+ghost use Rattle.bound_cert.specs.Paths.{named, path_text};
+ghost use Rattle.edit_report.specs.Reasons.{cause_text, detail_text, event_text, giving_text, name_of, place_text};
 
 use bound_cert::{Event, GiftFault, Outcome, Path, RowProof};
 use edit_line::Place;
@@ -128,7 +128,7 @@ fn push_place(text: &mut Vec<u8>, survey: &Survey, place: &Place) -> Result<(), 
 
 // Adds the number of a place that is counted from 0, as it is told: from 1.
 fn push_number(text: &mut Vec<u8>, place: u64) -> Result<(), OutOfMemory>
-    ensures { OnOk result (text.new.items ≡ text.old.items ++ number_text place) }
+    ensures { OnOk result (text.new.items ≡ text.old.items ++ named place) }
 {
     text.extend_from_slice(Buffer::new().format(u128::from(place) + 1).as_bytes())?;
     Ok(())
@@ -136,7 +136,7 @@ fn push_number(text: &mut Vec<u8>, place: u64) -> Result<(), OutOfMemory>
 
 /// The number of a place that is counted from 0, as it is told: from 1.
 pub(crate) fn number_text(alloc: Global, place: u32) -> Result<Vec<u8>, OutOfMemory>
-    ensures { IfOk result (λ text. text.items ≡ number_text place) }
+    ensures { IfOk result (λ text. text.items ≡ named place) }
 {
     let mut text = Vec::new(alloc);
     push_number(&mut text, u64::from(place))?;

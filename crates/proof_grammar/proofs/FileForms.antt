@@ -1,11 +1,12 @@
 use Rattle.std.proofs.Common.{◌≡◌, ℕ, List, [], ◌∷◌, Option, Some, None, codes, option_map, refl, ap, ◌∙◌, subst, arith}
 use Rattle.std.specs.Fmt.{decimal}
 use Rattle.donor_book.specs.declared.claim.Entry.{Entry}
+use Rattle.bound_cert.specs.Paths.{named}
 use Rattle.proof_grammar.specs.declared.heads.RunLimits.{RunLimits}
 use Rattle.proof_grammar.specs.inner.FileReading.{claim_behind, claim_in, count_in, drop_in, end_in, entry_of, keep_in, limits_in, verdict_in, version_in}
 use Rattle.proof_grammar.proofs.HeadLines.{AreLimits, IsVerdictHead, limits_line, verdict_head}
 use Rattle.proof_grammar.specs.Limits.{IsEntry, IsLong, IsShort}
-use Rattle.proof_grammar.specs.ProofLines.{Line, claim_line, end_line, named, named_or_0, version_line}
+use Rattle.proof_grammar.specs.ProofLines.{Line, claim_line, end_line, named_or_0, version_line}
 use Rattle.proof_grammar.specs.Words.{named_short}
 use Rattle.proof_grammar.specs.inner.WordLists.{all_in}
 use Rattle.proof_grammar.proofs.MoreWordForms.{Always, IsOption, fixed_form, option_form}

@@ -6,10 +6,11 @@ use Rattle.std.proofs.lemmas.Fmt.{decimal_digit}
 use Rattle.std.proofs.lemmas.Slice.Eq.{bytes_eq-Decides}
 use Rattle.edit_line.specs.declared.place.Place.{Place}
 use Rattle.edit_line.specs.declared.place.Place.TheVariants.{Field, Constant}
+use Rattle.bound_cert.specs.Paths.{named}
 use Rattle.bound_cert.specs.declared.outcome.GiftFault.{GiftFault}
 use Rattle.bound_cert.specs.declared.outcome.GiftFault.TheVariants as gift
 use Rattle.proof_grammar.specs.Limits.{IsGift, IsLong, IsPlace, IsShort}
-use Rattle.proof_grammar.specs.ProofLines.{Line, gift_words, named, named_or_0, place_word}
+use Rattle.proof_grammar.specs.ProofLines.{Line, gift_words, named_or_0, place_word}
 use Rattle.proof_grammar.specs.inner.RowReading.{gift_fault_behind, gift_fault_in}
 use Rattle.proof_grammar.specs.Words.{decimal_said, fixed_said, named_or_none, named_short_or_0, place_said, positive_said, said_place}
 use Rattle.proof_grammar.specs.inner.WordLists.{then_in}

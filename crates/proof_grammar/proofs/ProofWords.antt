@@ -21,8 +21,8 @@ use Rattle.bound_cert.specs.declared.outcome.Outcome.{Outcome}
 use Rattle.bound_cert.specs.declared.outcome.Outcome.TheVariants as outcome
 use Rattle.proof_grammar.specs.declared.proof.Proof.{Proof}
 use Rattle.proof_grammar.specs.Limits.{AreFit, IsChange, IsEntry, IsEvent, IsGift, IsLeaf, IsLong, IsOutcome, IsPlace, IsPlain, IsRowProof, IsShort, IsStep}
-use Rattle.bound_cert.specs.Paths.{letter, path_text}
-use Rattle.proof_grammar.specs.ProofLines.{Line, change_lines, claim_line, event_line, gift_words, leaf_lines, named, named_or_0, place_word, proof_lines, proof_text, row_lines, step_line, verdict_lines}
+use Rattle.bound_cert.specs.Paths.{letter, named, path_text}
+use Rattle.proof_grammar.specs.ProofLines.{Line, change_lines, claim_line, event_line, gift_words, leaf_lines, named_or_0, place_word, proof_lines, proof_text, row_lines, step_line, verdict_lines}
 use Rattle.proof_grammar.specs.Cuts.{lines_in}
 use Rattle.proof_grammar.proofs.Cutting.{IsWord, IsWordLine, lines-cut, text-of-lines, without}
 use Rattle.proof_grammar.proofs.ProofGrammar.{proof-again, proof-found, proof_in}

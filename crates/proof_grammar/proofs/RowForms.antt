@@ -5,8 +5,8 @@ use Rattle.proof_grammar.specs.declared.heads.RowHead.{RowHead}
 use Rattle.proof_grammar.specs.declared.heads.RowHead.TheVariants.{BudgetAt, ChangeAt, CleanAt, ContradictoryAt, EventAt, GiftAt}
 use Rattle.proof_grammar.proofs.HeadLines.{IsRowHead, row_head}
 use Rattle.proof_grammar.specs.Limits.{IsLong, IsPlace, IsShort}
-use Rattle.bound_cert.specs.Paths.{path_text}
-use Rattle.proof_grammar.specs.ProofLines.{Line, gift_words, named, place_word}
+use Rattle.bound_cert.specs.Paths.{named, path_text}
+use Rattle.proof_grammar.specs.ProofLines.{Line, gift_words, place_word}
 use Rattle.proof_grammar.specs.inner.RowReading.{budget_in, change_in, clean_in, contradictory_in, gift_in, row_in, step_event_in, test_event_in}
 use Rattle.proof_grammar.proofs.LeafForms.{IsPath, path-and-number, path_form}
 use Rattle.proof_grammar.proofs.MoreWordForms.{IsLess, gift-next, gift-then, place_form, positive_form}

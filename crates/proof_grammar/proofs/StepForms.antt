@@ -6,8 +6,9 @@ use Rattle.std.proofs.lemmas.Slice.Eq.{bytes_eq-Decides}
 use Rattle.fraction128.specs.Range.{InRange}
 use Rattle.derivation.specs.declared.step.Step.{Step}
 use Rattle.derivation.specs.declared.step.Step.TheVariants as step
+use Rattle.bound_cert.specs.Paths.{named}
 use Rattle.proof_grammar.specs.Limits.{IsLong, IsShort, IsStep}
-use Rattle.proof_grammar.specs.ProofLines.{Line, named, step_line}
+use Rattle.proof_grammar.specs.ProofLines.{Line, step_line}
 use Rattle.proof_grammar.specs.inner.StepReading.{combine_in, cover_in, fail_in, fix_in, given_in, step_in}
 use Rattle.proof_grammar.specs.Words.{named_long}
 use Rattle.proof_grammar.specs.inner.WordLists.{all_in}

@@ -3,8 +3,9 @@ use Rattle.std.specs.Fmt.{decimal, signed_decimal}
 use Rattle.std.specs.List.{AllByRecursion}
 use Rattle.std.proofs.lemmas.Bool.Decides.{Decides-ltb}
 use Rattle.fraction128.specs.Range.{InRange}
+use Rattle.bound_cert.specs.Paths.{named}
 use Rattle.proof_grammar.specs.Limits.{IsLong, IsShort}
-use Rattle.proof_grammar.specs.ProofLines.{Line, named}
+use Rattle.proof_grammar.specs.ProofLines.{Line}
 use Rattle.proof_grammar.specs.Words.{below, decimal_said, divisor_said, ended, named_below, not_negative, whole_said, with_rest, word_in}
 use Rattle.proof_grammar.specs.inner.WordLists.{all_in, consed, then_in}
 use Rattle.proof_grammar.proofs.NumberLaws.{positive-Decides}

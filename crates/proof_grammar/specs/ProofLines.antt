@@ -1,12 +1,12 @@
 -- The lines of a proof file, each a list of words. These equations are the grammar: bytes are in it where they are the text of a proof.
-use Rattle.std.specs.Prelude.{ℕ, zero, suc, ◌+◌, Bool, List, [], ◌∷◌, ◌++◌, Option, Some, None, codes, length, map}
+use Rattle.std.specs.Prelude.{ℕ, zero, suc, Bool, List, [], ◌∷◌, ◌++◌, Option, Some, None, codes, length, map}
 use Rattle.std.specs.Fmt.{decimal, signed_decimal}
 use Rattle.std.specs.List.{flat_map}
 use Rattle.edit_line.specs.declared.place.Place.{Place}
 use Rattle.edit_line.specs.declared.place.Place.TheVariants.{Field, Constant}
 use Rattle.derivation.specs.declared.step.Step.{Step}
 use Rattle.derivation.specs.declared.step.Step.TheVariants as step
-use Rattle.bound_cert.specs.Paths.{path_text}
+use Rattle.bound_cert.specs.Paths.{named, path_text}
 use Rattle.bound_cert.specs.declared.cert.Leaf.{Leaf}
 use Rattle.bound_cert.specs.declared.cert.LeafWhy.{LeafWhy}
 use Rattle.bound_cert.specs.declared.cert.LeafWhy.TheVariants as why
@@ -25,10 +25,6 @@ abbrev pub Line : Type 0
 Line = List (List ℕ)
 
 -- ---- words
-
--- what is numbered from 0 is named from 1 on
-abbrev pub named : ℕ → List ℕ
-named i = decimal (i + 1)
 
 -- 0 is none
 abbrev pub named_or_0 : Option ℕ → List ℕ

@@ -1,6 +1,7 @@
 use Rattle.std.proofs.Common.{◌≡◌, ℕ, List, [], ◌∷◌, ◌++◌, codes, map, refl, sym, ap, ◌∙◌, append_assoc}
 use Rattle.std.specs.List.{flat_map}
-use Rattle.proof_grammar.specs.ProofLines.{Line, claim_line, count_line, line_text, lines_text, named, proof_text, row_lines, verdict_lines, words_text}
+use Rattle.bound_cert.specs.Paths.{named}
+use Rattle.proof_grammar.specs.ProofLines.{Line, claim_line, count_line, line_text, lines_text, proof_text, row_lines, verdict_lines, words_text}
 use Rattle.donor_book.specs.declared.claim.Entry.{Entry}
 use Rattle.proof_grammar.specs.declared.proof.Proof.{Proof}
 use Rattle.bound_cert.specs.declared.outcome.RowProof.{RowProof}

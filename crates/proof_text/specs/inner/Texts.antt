@@ -7,8 +7,8 @@ use Rattle.donor_book.specs.declared.claim.Entry.{Entry}
 use Rattle.bound_cert.specs.declared.outcome.GiftFault.{GiftFault}
 use Rattle.proof_grammar.specs.declared.proof.Proof.{Proof}
 use Rattle.bound_cert.specs.declared.outcome.RowProof.{RowProof}
-use Rattle.bound_cert.specs.Paths.{path_text}
-use Rattle.proof_grammar.specs.ProofLines.{Line, claim_line, count_line, gift_words, limits_words, line_text, lines_text, named, row_lines, verdict_lines, with_leaves}
+use Rattle.bound_cert.specs.Paths.{named, path_text}
+use Rattle.proof_grammar.specs.ProofLines.{Line, claim_line, count_line, gift_words, limits_words, line_text, lines_text, row_lines, verdict_lines, with_leaves}
 
 -- The texts of the parts of a proof. Private contracts alone cite this page.
 

@@ -1,8 +1,9 @@
 //! The lines of claims.
 ghost use Rattle.std.specs.Prelude.{◌≡◌, ◌∷◌, ◌++◌, OnOk};
 ghost use Rattle.std.specs.List.{AllByRecursion, flat_map};
+ghost use Rattle.bound_cert.specs.Paths.{named};
 ghost use Rattle.proof_grammar.specs.Limits.{IsEntry, IsShort};
-ghost use Rattle.proof_grammar.specs.ProofLines.{claim_line, line_text, named};
+ghost use Rattle.proof_grammar.specs.ProofLines.{claim_line, line_text};
 
 use super::words::{write_named, write_named_or_0};
 use donor_book::Entry;

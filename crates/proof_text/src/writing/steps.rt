@@ -2,8 +2,9 @@
 ghost use Rattle.std.specs.Prelude.{◌≡◌, ◌∷◌, ◌++◌, [], codes, length, map, OnOk};
 ghost use Rattle.std.specs.Fmt.{decimal, signed_decimal};
 ghost use Rattle.derivation.specs.declared.step.Step.TheVariants as step;
+ghost use Rattle.bound_cert.specs.Paths.{named};
 ghost use Rattle.proof_grammar.specs.Limits.{IsLong};
-ghost use Rattle.proof_grammar.specs.ProofLines.{lines_text, named, step_line, words_text};
+ghost use Rattle.proof_grammar.specs.ProofLines.{lines_text, step_line, words_text};
 ghost use Rattle.proof_text.specs.Sizes.{AreSizedSteps, IsSizedStep, IsWide};
 ghost use Rattle.proof_text.specs.inner.Texts.{combine_line, counted_text};
 

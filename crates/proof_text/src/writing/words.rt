@@ -2,9 +2,9 @@
 ghost use Rattle.std.specs.Prelude.{◌≡◌, ◌∷◌, ◌++◌, [], IfSome, OnOk};
 ghost use Rattle.std.specs.Fmt.{decimal, signed_decimal};
 ghost use Rattle.std.specs.List.{AllByRecursion, flat_map};
-ghost use Rattle.bound_cert.specs.Paths.{path_text};
+ghost use Rattle.bound_cert.specs.Paths.{named, path_text};
 ghost use Rattle.proof_grammar.specs.Limits.{IsLong, IsPlace, IsShort};
-ghost use Rattle.proof_grammar.specs.ProofLines.{named, named_or_0, place_word};
+ghost use Rattle.proof_grammar.specs.ProofLines.{named_or_0, place_word};
 ghost use Rattle.proof_text.specs.Sizes.{IsWide};
 
 use bound_cert::Path;

@@ -1,7 +1,8 @@
 use Rattle.std.proofs.Common.{◌≡◌, ◌∷◌, ◌++◌, [], ℕ, List, codes, arith, sym, ap, ◌∙◌}
 use Rattle.std.proofs.lemmas.Grind.{common_steps}
 use Rattle.std.specs.List.{flat_map}
-use Rattle.proof_grammar.specs.ProofLines.{named, named_or_0}
+use Rattle.bound_cert.specs.Paths.{named}
+use Rattle.proof_grammar.specs.ProofLines.{named_or_0}
 use Rattle.proof_text.proofs.PartTexts.{named-words}
 use Rattle.proof_text.proofs.writing.claims.write_claim.Goals as goal
 

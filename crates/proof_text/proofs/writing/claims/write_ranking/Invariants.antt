@@ -1,6 +1,6 @@
 use Rattle.std.proofs.Common.{◌≡◌, ◌∷◌, ◌++◌, ℕ, take}
 use Rattle.std.specs.List.{AllByRecursion, flat_map}
-use Rattle.proof_grammar.specs.ProofLines.{named}
+use Rattle.bound_cert.specs.Paths.{named}
 use Rattle.proof_grammar.specs.Limits.{IsShort}
 use Rattle.proof_text.proofs.writing.claims.write_ranking.Given as goal
 

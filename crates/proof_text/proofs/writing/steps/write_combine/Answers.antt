@@ -2,7 +2,7 @@ use Rattle.std.proofs.Common.{FitsSigned, rules}
 use Rattle.std.proofs.lemmas.Int.{to_z-of_z}
 use mir.Syntax.{w128}
 use Rattle.std.specs.Fmt.{signed_decimal}
-use Rattle.proof_grammar.specs.ProofLines.{named}
+use Rattle.bound_cert.specs.Paths.{named}
 use Rattle.proof_text.proofs.PartTexts.{combine-words}
 use Rattle.proof_text.proofs.writing.steps.write_combine.Goals as goal
 

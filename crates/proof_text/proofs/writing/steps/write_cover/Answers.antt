@@ -1,7 +1,7 @@
 use Rattle.std.proofs.Common.{◌≡◌, ◌∷◌, ◌++◌, ℕ, List, codes, arith, sym, ap, ◌∙◌}
 use Rattle.std.proofs.lemmas.Grind.{common_steps}
 use Rattle.std.specs.List.{flat_map}
-use Rattle.proof_grammar.specs.ProofLines.{named}
+use Rattle.bound_cert.specs.Paths.{named}
 use Rattle.proof_text.proofs.PartTexts.{named-words}
 use Rattle.proof_text.proofs.writing.steps.write_cover.Goals as goal
 
