@@ -5,7 +5,8 @@ use Rattle.edit_model.specs.Rows.{IsRow}
 use Rattle.edit_model.specs.declared.field.Field.{Field}
 use Rattle.edit_model.specs.declared.value.Value.{Value}
 use Rattle.bound_cert.specs.Paths.{changes, path_place}
-use Rattle.cert_check.specs.Released.{AreValuesFrom, IsReleasedAs, IsValueOf, same_from, text_at}
+use Rattle.record_text.specs.Sheets.{text_at}
+use Rattle.cert_check.specs.Released.{AreValuesFrom, IsReleasedAs, IsValueOf, same_from}
 use Rattle.cert_check.specs.RowChecks.{AreReleasedTexts}
 use Rattle.cert_check.specs.declared.checking.Checking.{Checking}
 use Rattle.cert_check.specs.declared.checking.RowAt.{RowAt}

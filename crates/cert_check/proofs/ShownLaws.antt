@@ -17,7 +17,7 @@ use Rattle.edit_normal.proofs.NormalLines.{normal-over}
 use Rattle.derivation.specs.Premises.{usable_lines}
 use Rattle.derivation.proofs.RefutationLaws.{usable-among}
 use Rattle.donor_book.proofs.LegalLaws.{uses_within}
-use Rattle.record_text.specs.Sheets.{IsSheet}
+use Rattle.record_text.specs.Sheets.{IsSheet, text_at}
 use Rattle.record_text.proofs.SheetLaws.{rows_are_records}
 use Rattle.bound_cert.specs.Paths.{changes, path_weight}
 use Rattle.bound_cert.specs.ValidTrees.{IsValidTree}
@@ -30,7 +30,7 @@ use Rattle.bound_cert.proofs.CertLaws.{tree-shows}
 use Rattle.proof_grammar.specs.Limits.{IsChange, IsOutcome, IsRowProof}
 use Rattle.proof_grammar.specs.declared.proof.Proof.{Proof}
 use Rattle.cert_check.specs.Dropped.{kept_flags}
-use Rattle.cert_check.specs.Released.{IsReleasedAs, text_at}
+use Rattle.cert_check.specs.Released.{IsReleasedAs}
 use Rattle.cert_check.specs.Releases.{AreValidRows, Audit, Fits, IsValidRelease, behind, files_of, rules_of}
 use Rattle.cert_check.specs.RowChecks.{AreReleasedTexts, IsValidChange, IsValidSaid, RowFiles, fits_change, tree_of}
 use Rattle.cert_check.specs.Shown.{IsLeastRelease, ShowAll, Shows, ShowsSaid}

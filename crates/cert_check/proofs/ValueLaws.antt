@@ -4,7 +4,8 @@ use Rattle.edit_model.specs.Rows.{value_of}
 use Rattle.edit_model.specs.declared.field.Field.{Field}
 use Rattle.edit_model.specs.declared.value.Value.{Value}
 use Rattle.bound_cert.specs.Paths.{changes}
-use Rattle.cert_check.specs.Released.{IsGivenText, IsValueOf, is_same, text_at}
+use Rattle.record_text.specs.Sheets.{text_at}
+use Rattle.cert_check.specs.Released.{IsGivenText, IsValueOf, is_same}
 use Rattle.cert_check.specs.declared.checking.Checking.{Checking}
 use Rattle.cert_check.specs.inner.Checks.{IsValueAt}
 

@@ -1,5 +1,5 @@
 -- What a released row gives of the record that was read.
-use Rattle.std.specs.Prelude.{◌≡◌, ℕ, suc, ◌==◌, ◌&&◌, ◌||◌, Bool, true, false, List, [], ◌∷◌, Some, slice_index_or, ◌*ℤ◌}
+use Rattle.std.specs.Prelude.{◌≡◌, ℕ, suc, ◌==◌, ◌&&◌, ◌||◌, Bool, true, false, List, [], ◌∷◌, Some, ◌*ℤ◌}
 use Rattle.std.specs.Ordering.{int_eq}
 use Rattle.std.specs.Str.{bytes_eq}
 use Rattle.fraction128.specs.Spelling.{spelling}
@@ -10,6 +10,7 @@ use Rattle.edit_model.specs.declared.field.Kind.{Kind}
 use Rattle.edit_model.specs.declared.field.Kind.TheVariants as kind
 use Rattle.edit_model.specs.declared.value.Value.{Value}
 use Rattle.edit_model.specs.declared.value.Value.TheVariants.{Code, Number}
+use Rattle.record_text.specs.Sheets.{text_at}
 use Rattle.record_text.specs.Values.{code_number}
 
 -- ---- values
@@ -39,10 +40,6 @@ AreValuesFrom changed text i (field ∷ fields) (read ∷ row) (v ∷ new) =
 AreValuesFrom changed text i _ _ _ = ⊥
 
 -- ---- texts
-
--- the text of a field: that of the column in which it stands
-abbrev pub text_at : List ℕ → List (List ℕ) → ℕ → List ℕ
-text_at columns texts f = slice_index_or texts (slice_index_or columns f 0) []
 
 -- whether a changed field, of those from number i on, stands in the column j
 abbrev pub stands_changed : (ℕ → Bool) → ℕ → List ℕ → ℕ → Bool

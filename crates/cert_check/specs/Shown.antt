@@ -15,7 +15,8 @@ use Rattle.bound_cert.specs.declared.outcome.RowProof.{RowProof}
 use Rattle.donor_book.specs.Claims.{uses_of}
 use Rattle.donor_book.specs.Entries.{IsLegalHistory, wins_of}
 use Rattle.cert_check.specs.Dropped.{kept_flags}
-use Rattle.cert_check.specs.Released.{AreValuesFrom, text_at}
+use Rattle.record_text.specs.Sheets.{text_at}
+use Rattle.cert_check.specs.Released.{AreValuesFrom}
 use Rattle.cert_check.specs.Releases.{Audit, AreReleased, Spells, behind, files_of}
 use Rattle.cert_check.specs.RowChecks.{RowFiles}
 use Rattle.proof_grammar.specs.declared.proof.Proof.{Proof}

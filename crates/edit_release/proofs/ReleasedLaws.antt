@@ -22,7 +22,7 @@ use Rattle.bound_cert.specs.declared.outcome.Outcome.TheVariants.{Budget, Change
 use Rattle.edit_paths.proofs.ChoiceLaws.{word-at}
 use Rattle.back_subst.specs.declared.gift.Gift.{Gift}
 use Rattle.back_subst.proofs.FieldPoints.{agrees-held}
-use Rattle.record_text.specs.Sheets.{IsSheet, SheetParts}
+use Rattle.record_text.specs.Sheets.{IsSheet, SheetParts, text_at}
 use Rattle.record_text.proofs.SheetLaws.{as_many_row_texts_as_rows, header_has_text, row_texts_as_long_as_header}
 use Rattle.edit_report.specs.Ends.{path_found}
 use Rattle.edit_report.specs.Released.{released_rows, released_text_of, released_texts, row_with, text_by, value_text, texts_from}
@@ -30,7 +30,6 @@ use Rattle.edit_report.specs.declared.end.RowEnd.{RowEnd}
 use Rattle.edit_report.proofs.LineLaws.{released-count}
 use Rattle.record_workers.specs.Ends.{ComesOf, IsEndOf, IsGiftOf}
 use Rattle.record_workers.specs.Said.{IsCorrected}
-use Rattle.cert_check.specs.Released as checked
 use Rattle.cert_check.specs.Released.{IsGivenText, IsReleasedAs, IsValueOf}
 use Rattle.cert_check.specs.Releases.{AreReleased, audit_of, is_released}
 use Rattle.pruned_rules.specs.Pruned.{kept_edits}
@@ -151,17 +150,17 @@ module _ (survey : SurveyParts) (columns : List ℕ) (reads : List (List ℕ)) (
   agrees f below = corrected.correction.agrees f below refl
 
   -- the text of a changed field is that of its value
-  text-given : (f : ℕ) (field : Field) → slice_get survey.fields f ≡ Some field → changes survey.fields path f ≡ true → IsGivenText field.kind (checked.text_at columns texts f) (value_of gift.row f)
+  text-given : (f : ℕ) (field : Field) → slice_get survey.fields f ≡ Some field → changes survey.fields path f ≡ true → IsGivenText field.kind (text_at columns texts f) (value_of gift.row f)
   text-given f field at is =
       let below = slice_get_within survey.fields f field at in
       let there : f < length gift.row = omega (arith, below, row-length survey.fields gift.row given.imputed.fits) in
       let own : IsField field = subst IsField (get_or_from_slice_get survey.fields f field field at) (well.fields f field below) in
       let fits : IsOfKind field.kind (value_of gift.row f) = subst (λ (o : Option Field). IsSomeAnd o (λ g. IsOfKind g.kind (value_of gift.row f))) at (value-held survey.fields gift.row f given.imputed.fits below) in
-      let text : checked.text_at columns texts f ≡ value_text field.kind (value_of gift.row f) =
+      let text : text_at columns texts f ≡ value_text field.kind (value_of gift.row f) =
       changed-text survey.fields columns (changes survey.fields path) gift.row f reads distinct (omega (arith, below, one_each)) (within f 0 (omega (arith, below, one_each))) is ∙ ap (λ (o : Option Field). text_by o (value_of gift.row f)) at in
       subst (λ (t : List ℕ). IsGivenText field.kind t (value_of gift.row f)) (sym text) (given-text field.kind (value_of gift.row f) own.fits fits (agrees-held gift.row corrected.point f (agrees f there)))
 
-  value-told : (f : ℕ) (field : Field) (told : Bool) → slice_get survey.fields f ≡ Some field → changes survey.fields path f ≡ told → IsValueOf told field.kind (checked.text_at columns texts f) (value_of row f) (value_of gift.row f)
+  value-told : (f : ℕ) (field : Field) (told : Bool) → slice_get survey.fields f ≡ Some field → changes survey.fields path f ≡ told → IsValueOf told field.kind (text_at columns texts f) (value_of row f) (value_of gift.row f)
   value-told f field false at is = given.imputed.keeps f (sym (changed-given f (slice_get_within survey.fields f field at)) ∙ is)
   value-told f field true at is =
       let below = slice_get_within survey.fields f field at in (
@@ -172,9 +171,9 @@ module _ (survey : SurveyParts) (columns : List ℕ) (reads : List (List ℕ)) (
   -- the row is released where it is told which fields the path changes
   released-as : (told : ℕ → Bool) → ((f : ℕ) → told f ≡ changes survey.fields path f) → IsReleasedAs survey columns told reads row texts gift.row
   released-as told same = record {
-    values = values-from told (checked.text_at columns texts) 0 survey.fields row gift.row is_row given.imputed.fits (λ k field at.
+    values = values-from told (text_at columns texts) 0 survey.fields row gift.row is_row given.imputed.fits (λ k field at.
         let own : 0 + k ≡ k = omega arith in
-        subst (λ n. IsValueOf (told n) field.kind (checked.text_at columns texts n) (value_of row k) (value_of gift.row k)) (sym own) (value-told k field (told k) at (sym (same k))));
+        subst (λ n. IsValueOf (told n) field.kind (text_at columns texts n) (value_of row k) (value_of gift.row k)) (sym own) (value-told k field (told k) at (sym (same k))));
     elsewhere = same-elsewhere survey.fields columns (changes survey.fields path) gift.row told same 0 reads;
     clean = held-clean survey gift.row (λ f below. agrees-held gift.row corrected.point f (agrees f below)) given.tested;
   }

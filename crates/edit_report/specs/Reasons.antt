@@ -16,7 +16,7 @@ use Rattle.bound_cert.specs.declared.outcome.RowProof.{RowProof}
 use Rattle.back_subst.specs.declared.gift.Gift.{Gift}
 use Rattle.back_subst.specs.declared.gift.How.{How}
 use Rattle.back_subst.specs.declared.gift.How.TheVariants.{Default, Donor, Nearest}
-use Rattle.record_text.specs.Sheets.{SheetParts}
+use Rattle.record_text.specs.Sheets.{SheetParts, text_at}
 use Rattle.record_text.specs.Texts.{records_text}
 use Rattle.edit_report.specs.Ends.{changed_fields, path_found}
 use Rattle.edit_report.specs.Released.{given_text}
@@ -84,14 +84,10 @@ unresolved_line fields number found =
 abbrev pub line_texts : List ℕ → List ℕ → List ℕ → List ℕ → List ℕ → List ℕ → List (List ℕ)
 line_texts number name before after donor how = number ∷ codes "changed" ∷ name ∷ before ∷ after ∷ donor ∷ how ∷ []
 
--- the text that was read for the field
-abbrev pub text_before : List ℕ → List (List ℕ) → ℕ → List ℕ
-text_before columns texts f = slice_index_or texts (slice_index_or columns f 0) []
-
 -- the line of a changed field
 abbrev pub changed_line : List Field → List ℕ → ℕ → List (List ℕ) → Option ℕ → List Value → ℕ → How → List (List ℕ)
 changed_line fields columns number texts donor new f how =
-    line_texts (named number) (name_of fields f) (text_before columns texts f) (given_text fields new f) (donor_text donor)
+    line_texts (named number) (name_of fields f) (text_at columns texts f) (given_text fields new f) (donor_text donor)
     (how_text how)
 
 -- the lines of the changed fields, each with how its value was found

@@ -1,4 +1,4 @@
-use Rattle.std.specs.Prelude.{◌≡◌, ℕ, List, ◌∷◌, Some, None}
+use Rattle.std.specs.Prelude.{◌≡◌, ℕ, List, [], ◌∷◌, Some, None, slice_index_or}
 use Rattle.csv.specs.Reading.{AreRecords, default_config, strip_bom}
 use Rattle.csv.specs.declared.parser.State.TheVariants as st
 use Rattle.edit_model.specs.declared.field.Field.{Field}
@@ -15,6 +15,10 @@ pub record SheetParts : Type 0 where
   pub columns : List ℕ
   pub row_texts : List (List (List ℕ))
   pub rows : List (List Value)
+
+-- the text of a field in a row: that of the column in which it stands
+abbrev pub text_at : List ℕ → List (List ℕ) → ℕ → List ℕ
+text_at columns texts f = slice_index_or texts (slice_index_or columns f 0) []
 
 -- the records that csv gives by its default settings; one byte order mark is taken off before, and csv takes off one more
 abbrev pub AreRecordsOf : List ℕ → List (List (List ℕ)) → Type 0

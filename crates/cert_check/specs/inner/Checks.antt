@@ -6,7 +6,8 @@ use Rattle.edit_model.specs.declared.value.Value.{Value}
 use Rattle.edit_line.specs.Lines.{AreOver}
 use Rattle.edit_line.specs.Shapes.{shape_of}
 use Rattle.bound_cert.specs.Paths.{changes}
-use Rattle.cert_check.specs.Released.{AreValuesFrom, IsValueOf, text_at}
+use Rattle.record_text.specs.Sheets.{text_at}
+use Rattle.cert_check.specs.Released.{AreValuesFrom, IsValueOf}
 use Rattle.cert_check.specs.RowChecks.{RowFiles, RowRules}
 use Rattle.cert_check.specs.declared.checking.Checking.{Checking}
 use Rattle.cert_check.specs.declared.checking.RowAt.{RowAt}

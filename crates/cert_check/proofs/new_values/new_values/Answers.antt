@@ -2,7 +2,7 @@ use Rattle.std.proofs.Common.{◌<◌, add-one, ap, arith, length, List}
 use Rattle.edit_model.proofs.RowLaws.{row-length}
 use Rattle.edit_model.specs.declared.field.Field.{Field}
 use Rattle.bound_cert.specs.Paths.{changes}
-use Rattle.cert_check.specs.Released.{text_at}
+use Rattle.record_text.specs.Sheets.{text_at}
 use Rattle.cert_check.proofs.ValueLoop.{begun-all, begun-more, begun-stuck}
 use Rattle.cert_check.proofs.new_values.new_values.Goals as goal
 

@@ -1,5 +1,5 @@
 use Rattle.bound_cert.specs.Paths.{changes}
-use Rattle.cert_check.specs.Released.{text_at}
+use Rattle.record_text.specs.Sheets.{text_at}
 use Rattle.cert_check.proofs.ValueLoop.{IsBegun}
 use Rattle.cert_check.proofs.new_values.new_values.Given as goal
 

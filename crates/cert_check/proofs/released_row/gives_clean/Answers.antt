@@ -1,5 +1,5 @@
 use Rattle.bound_cert.specs.Paths.{changes}
-use Rattle.cert_check.specs.Released.{text_at}
+use Rattle.record_text.specs.Sheets.{text_at}
 use Rattle.cert_check.proofs.NewRowLaws.{values-row}
 use Rattle.cert_check.proofs.released_row.gives_clean.Goals as goal
 
