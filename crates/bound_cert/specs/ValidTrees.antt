@@ -1,4 +1,4 @@
-use Rattle.std.specs.Prelude.{◌≡◌, ℕ, zero, suc, ◌≤◌, ◌&&◌, ◌⊎◌, Bool, true, false, List, [], ◌∷◌, Option, Some, None, IsSomeAnd, length, map, nat_le, IfSome, slice_get, ◌<◌}
+use Rattle.std.specs.Prelude.{◌≡◌, ℕ, zero, suc, ◌≤◌, ◌&&◌, ◌⊎◌, Bool, true, false, List, [], ◌∷◌, Option, Some, None, Result, Err, IsSomeAnd, length, map, nat_le, IfSome, slice_get, ◌<◌}
 use Rattle.std.specs.List.{AllByRecursion}
 use Rattle.std.specs.Result.{result_err}
 use Rattle.edit_model.specs.Corrections.{change_weight}
@@ -18,6 +18,8 @@ use Rattle.bound_cert.specs.Trees.{AreLeafPaths, may_end, may_stand}
 use Rattle.bound_cert.specs.declared.cert.Leaf.{Leaf}
 use Rattle.bound_cert.specs.declared.cert.LeafWhy.{LeafWhy}
 use Rattle.bound_cert.specs.declared.cert.LeafWhy.TheVariants as why
+use Rattle.bound_cert.specs.declared.fault.CertFault.{CertFault}
+use Rattle.bound_cert.specs.declared.fault.CertFault.TheVariants.{Bad}
 
 -- what a tree is about: lines over a survey's fields, of which the usable ones are taken to hold, a record, and the weight that each change of it is said to have at least; without a weight there is said to be none
 pub record TreeCase : Type 0 where
@@ -85,8 +87,8 @@ invalid_step c path (why.Box steps) = first_invalid (premises_at c path) steps
 abbrev pub IsFaultBehind : TreeCase → Option (List Bool) → List Leaf → ℕ → Option ℕ → Type 0
 IsFaultBehind c before [] place step = ⊥
 IsFaultBehind c before (leaf ∷ later) zero step =
-    ((is_right c before leaf.path later ≡ false) × (step ≡ None))
-    ⊎ ((is_right c before leaf.path later ≡ true) × ¬ IsValidLeaf c leaf.path leaf.why × (step ≡ invalid_step c leaf.path leaf.why))
+    ((is_right c before leaf.path later ≡ false) × (step ≡ None)) ⊎
+    ((is_right c before leaf.path later ≡ true) × ¬ IsValidLeaf c leaf.path leaf.why × (step ≡ invalid_step c leaf.path leaf.why))
 IsFaultBehind c before (leaf ∷ later) (suc place) step =
     (is_right c before leaf.path later ≡ true) × IsValidLeaf c leaf.path leaf.why × IsFaultBehind c (Some leaf.path) later place step
 
@@ -96,6 +98,10 @@ IsFirstFault c [] place step = (place ≡ 0) × (step ≡ None)
 IsFirstFault c (leaf ∷ later) place step = IsFaultBehind c None (leaf ∷ later) place step
 
 -- ---- what a fault names
+
+-- the claim holds of the leaf at fault, and of the step there, if the call names one
+abbrev pub IfBad : {A : Type 0} → Result A CertFault → (ℕ → Option ℕ → Type 0) → Type 0
+IfBad result P = (leaf : ℕ) (step : Option ℕ) → result ≡ Err (Bad leaf step) → P leaf step
 
 -- the steps of a leaf, none where it needs none
 abbrev pub steps_in : LeafWhy → List Step

@@ -1,9 +1,9 @@
-ghost use Rattle.std.specs.Prelude.{◌≡◌, ℕ, Err, OnOk, Option, length};
+ghost use Rattle.std.specs.Prelude.{◌≡◌, OnOk, length};
 ghost use Rattle.edit_model.specs.Rows.{IsRow};
 ghost use Rattle.edit_line.specs.Lines.{AreOver};
 ghost use Rattle.edit_line.specs.Shapes.{shape_of};
 ghost use Rattle.bound_cert.specs.inner.Tasks.{IsTask, case};
-ghost use Rattle.bound_cert.specs.ValidTrees.{IsFirstFault, IsNamed, IsValidTree, NoneIsLighter, tree_case};
+ghost use Rattle.bound_cert.specs.ValidTrees.{IfBad, IsFirstFault, IsNamed, IsValidTree, NoneIsLighter, tree_case};
 
 use crate::cert::{Cert, Leaf};
 use crate::fault::CertFault;
@@ -32,11 +32,10 @@ pub fn check_cert(
     requires over { AreOver (shape_of survey.now.fields) given.now }
     requires row { IsRow survey.now.fields row.now }
     ensures valid { OnOk result (IsValidTree (tree_case survey.now given.now usable.now row.now weight) cert.now.leaves) }
-    ensures bad { (leaf : ℕ) (step : Option ℕ) → result ≡ Err (CertFault.Bad leaf step)
-        → IsFirstFault (tree_case survey.now given.now usable.now row.now weight) cert.now.leaves leaf step }
-    ensures named { (leaf : ℕ) (step : Option ℕ) → result ≡ Err (CertFault.Bad leaf step) → IsNamed cert.now.leaves leaf step }
-    ensures invalid { (leaf : ℕ) (step : Option ℕ) → result ≡ Err (CertFault.Bad leaf step)
-        → ¬ IsValidTree (tree_case survey.now given.now usable.now row.now weight) cert.now.leaves }
+    ensures bad { IfBad result (IsFirstFault (tree_case survey.now given.now usable.now row.now weight) cert.now.leaves) }
+    ensures named { IfBad result (IsNamed cert.now.leaves) }
+    ensures invalid { IfBad result (λ leaf step.
+        ¬ IsValidTree (tree_case survey.now given.now usable.now row.now weight) cert.now.leaves) }
     ensures shown { OnOk result (NoneIsLighter (tree_case survey.now given.now usable.now row.now weight)) }
 {
     let task = Task {
@@ -53,8 +52,7 @@ pub fn check_cert(
 fn check_leaves(alloc: Global, task: &Task, leaves: &[Leaf]) -> Result<(), CertFault>
     requires { IsTask task.now }
     ensures valid { OnOk result (IsValidTree (case task.now) leaves.now) }
-    ensures bad { (leaf : ℕ) (step : Option ℕ) → result ≡ Err (CertFault.Bad leaf step)
-        → IsFirstFault (case task.now) leaves.now leaf step }
+    ensures bad { IfBad result (IsFirstFault (case task.now) leaves.now) }
 {
     if leaves.is_empty() {
         return Err(CertFault::Bad {

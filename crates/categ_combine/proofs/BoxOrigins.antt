@@ -1,4 +1,4 @@
-use Rattle.std.proofs.Common.{◌≡◌, ◌⊎◌, inl, inr, ℕ, zero, suc, ◌+◌, ◌<◌, Bool, true, false, not, if◌then◌else◌, List, [], ◌∷◌, ◌++◌, All, Option, Some, None, IsSomeAnd, Result, Ok, Err, bit_and, length, slice_get, slice_index_or, slice_set, length-append, refl, sym, ap, ◌∙◌, subst, arith}
+use Rattle.std.proofs.Common.{◌≡◌, ◌⊎◌, inl, inr, ℕ, zero, suc, ◌+◌, ◌<◌, Bool, true, false, not, if◌then◌else◌, List, [], ◌∷◌, ◌++◌, Option, Some, None, IsSomeAnd, Result, Ok, Err, bit_and, length, slice_get, slice_index_or, slice_set, length-append, refl, sym, ap, ◌∙◌, subst, arith}
 use Rattle.std.specs.List.{fold, list_any}
 use Rattle.std.proofs.lemmas.Bool.Decides.{Decides-eqb}
 use Rattle.foundation.specs.Results.{◌>>=◌, fault_as}
@@ -16,12 +16,12 @@ use Rattle.edit_line.proofs.ListPlaces.{StandsAt, first-at, later-at, whole-at}
 use Rattle.edit_line.proofs.Members.{all-in, in-all, in-either, in-flat_map-out, in-get, in-taken}
 use Rattle.edit_line.proofs.OtherFields.{set-set, set-whole}
 use Rattle.edit_line.proofs.BoolLaws.{both_true}
-use Rattle.categ_combine.specs.BoxLists.{AreBoxesOver, sets_of}
-use Rattle.categ_combine.specs.Covers.{cover_count, covered_from, covers_from, first_cover, from_of, is_whole_at, joined, joined_for, meets_but, cover_parts, row_of, takes_part, unchanged_one, with_code_from}
+use Rattle.categ_combine.specs.BoxLists.{AreBoxesOver}
+use Rattle.categ_combine.specs.Covers.{IsElimination, covered_from, covers_from, first_cover, from_of, is_whole_at, joined, joined_for, meets_but, cover_parts, row_of, takes_part, unchanged_one, with_code_from}
 use Rattle.categ_combine.specs.Each.{each_from}
 use Rattle.categ_combine.specs.FailingBoxes.{failing_from, line_fault, taken}
 use Rattle.categ_combine.specs.Fixing.{fixed_from, fixed_one}
-use Rattle.categ_combine.specs.Origins.{ComesFromCover, ComesFromFix, ComesFromLine, HaveInCommon, IsUnchanged, whole_box}
+use Rattle.categ_combine.specs.Origins.{AllCome, ComesFromCover, ComesFromFix, ComesFromLine, HaveInCommon, IsUnchanged, whole_box}
 use Rattle.categ_combine.specs.Steps.{IsDone}
 use Rattle.categ_combine.specs.declared.box_from.BoxFrom.{BoxFrom}
 use Rattle.categ_combine.specs.declared.box_from.BoxOrigin.{BoxOrigin}
@@ -71,7 +71,7 @@ module _ (lines : List Derived) (row : List Value) where
       by (Err f) is h next = absurd (cc)
 
   -- each box of a record comes from a line that fails there
-  pub failing-comes : (boxes : List BoxFrom) → failing_from 0 lines row [] ≡ Ok boxes → All (λ (b : BoxFrom). ComesFromLine lines row b.code_box b.origin) boxes
+  pub failing-comes : (boxes : List BoxFrom) → failing_from 0 lines row [] ≡ Ok boxes → AllCome (ComesFromLine lines row) boxes
   failing-comes boxes told = all-in FromLine boxes (λ b there. from-failing 0 lines [] boxes (whole-at lines) (λ e none. absurd none) told b there)
 
 module _ (shape : List Domain) (boxes : List BoxFrom) (f : ℕ) (over : AreBoxesOver shape boxes) where
@@ -110,7 +110,7 @@ module _ (shape : List Domain) (boxes : List BoxFrom) (f : ℕ) (over : AreBoxes
               (e, ap (λ (s : List Domain). box_of s (slice_set x.code_box.sets (place_of shape f) (whole_of shape f))) (over-at i x at))
 
   -- each box that a code leaves comes from one that has the code
-  pub fixed-comes : (code : ℕ) → All (λ (b : BoxFrom). ComesFromFix shape boxes f code b.code_box b.origin) (fixed_from shape boxes f code)
+  pub fixed-comes : (code : ℕ) → AllCome (ComesFromFix shape boxes f code) (fixed_from shape boxes f code)
   fixed-comes code = all-in (FromFix code) (fixed_from shape boxes f code) (λ b there.
       let (i, x, at, made) = in-each (fixed_one place whole code) boxes 0 boxes b (whole-at boxes) (in-reduce_from b _ there) in
       from-fixed code i x b at made)
@@ -213,7 +213,7 @@ module _ (shape : List Domain) (boxes : List BoxFrom) (f : ℕ) (over : AreBoxes
   })
 
   -- each box that elimination leaves comes from one that is whole at the field, or from one for each code
-  pub covered-comes : TakesCodes shape f → All (λ (b : BoxFrom). ComesFromCover shape boxes f b.code_box b.origin) (covered_from shape boxes f)
+  pub covered-comes : TakesCodes shape f → AllCome (ComesFromCover shape boxes f) (covered_from shape boxes f)
   covered-comes takes = all-in FromCover (covered_from shape boxes f) (λ b there. at b (in-either b (each_from (unchanged_one place whole) 0 boxes) (covers_from shape boxes f (codes_of shape f)) (in-reduce_from b _ there)))
     where
       first : (b : BoxFrom) → IsIn b (first_cover shape ∷ []) → IsPart 0 b
@@ -235,7 +235,7 @@ module _ (shape : List Domain) (boxes : List BoxFrom) (f : ℕ) (over : AreBoxes
 
 -- so do the boxes of a step that is done
 pub done-comes : (own shape : List Domain) (boxes : List BoxFrom) (f : ℕ) → own ≡ shape → AreBoxesOver shape boxes → TakesCodes shape f → (told : Covered)
-    → IsDone told (λ left pairs. (left ≡ covered_from own boxes f) × (pairs ≡ cover_count own (sets_of boxes) f)) → IsDone told (λ left pairs. All (λ (b : BoxFrom). ComesFromCover shape boxes f b.code_box b.origin) left)
+    → IsDone told (IsElimination own boxes f) → IsDone told (λ left pairs. AllCome (ComesFromCover shape boxes f) left)
 done-comes own shape boxes f same over takes (Done left pairs) are =
-    subst (λ (bs : List BoxFrom). All (λ (b : BoxFrom). ComesFromCover shape boxes f b.code_box b.origin) bs) (sym (are.0 ∙ ap (λ s. covered_from s boxes f) same)) (covered-comes shape boxes f over takes)
+    subst (λ (bs : List BoxFrom). AllCome (ComesFromCover shape boxes f) bs) (sym (are.0 ∙ ap (λ s. covered_from s boxes f) same)) (covered-comes shape boxes f over takes)
 done-comes own shape boxes f same over takes Passed are = tt

@@ -10,8 +10,8 @@ use Rattle.edit_line.specs.CodeFields.{codes_of, place_of, whole_of}
 use Rattle.edit_line.proofs.Members.{all-in, in-all, in-either, in-taken}
 use Rattle.edit_model.specs.declared.value.Value.{Value}
 use Rattle.edit_model.specs.Points.{has_code}
-use Rattle.categ_combine.specs.BoxLists.{AreBoxesOver, sets_of, with_from}
-use Rattle.categ_combine.specs.Covers.{cover_count, covered_from, covers_from, first_cover, from_of, is_whole_at, unchanged_one, with_code_from}
+use Rattle.categ_combine.specs.BoxLists.{AreBoxesOver, with_from}
+use Rattle.categ_combine.specs.Covers.{IsElimination, covered_from, covers_from, first_cover, from_of, is_whole_at, unchanged_one, with_code_from}
 use Rattle.categ_combine.specs.Each.{each_from}
 use Rattle.categ_combine.specs.FailingBoxes.{failing_from, line_fault, taken}
 use Rattle.categ_combine.specs.Fixing.{fixed_from, fixed_one}
@@ -101,6 +101,6 @@ module _ (shape : List Domain) where
 
 -- a step that is done leaves boxes over the fields
 pub done-over : (own shape : List Domain) (boxes : List BoxFrom) (f : ℕ) → own ≡ shape → AreBoxesOver shape boxes → (told : Covered)
-    → IsDone told (λ left pairs. (left ≡ covered_from own boxes f) × (pairs ≡ cover_count own (sets_of boxes) f)) → IsDone told (λ left pairs. AreBoxesOver shape left)
+    → IsDone told (IsElimination own boxes f) → IsDone told (λ left pairs. AreBoxesOver shape left)
 done-over own shape boxes f same over (Done left pairs) are = subst (λ bs. AreBoxesOver shape bs) (sym (are.0 ∙ ap (λ s. covered_from s boxes f) same)) (over-covered shape boxes f over)
 done-over own shape boxes f same over Passed are = tt

@@ -5,10 +5,10 @@ use Rattle.edit_line.specs.Boxes.{IsBox}
 use Rattle.edit_line.specs.Shapes.{Domain, HasCodes, codes_at, whole_sets}
 use Rattle.edit_line.proofs.Members.{in-all, in-map-out}
 use Rattle.edit_line.proofs.ShapeLaws.{length-wholes}
-use Rattle.categ_combine.specs.BoxLists.{AreBoxesOver, Avoids, avoid, reduce_from, sets_of}
+use Rattle.categ_combine.specs.BoxLists.{AreBoxesOver, Avoids, SayWithSomeCode, avoid, reduce_from, sets_of}
 use Rattle.categ_combine.specs.inner.FitBoxes.{AreBoxes}
 use Rattle.edit_line.specs.CodeFields.{TakesCodes, codes_of, codes_up, place_of, size_of, whole_of, with_code_at}
-use Rattle.categ_combine.specs.Covers.{code_pairs, cover_count, covered, covered_from, first_cover, row_of, with_code, with_code_from}
+use Rattle.categ_combine.specs.Covers.{IsElimination, code_pairs, cover_count, covered, covered_from, first_cover, row_of, with_code, with_code_from}
 use Rattle.categ_combine.specs.Each.{each_from}
 use Rattle.categ_combine.specs.Fixing.{fixed, fixed_from, fixed_one}
 use Rattle.categ_combine.specs.Steps.{IsDone}
@@ -63,22 +63,19 @@ module _ (own shape : List Domain) (boxes left : List BoxFrom) (f code place who
 -- ---- elimination
 
 module _ (own shape : List Domain) (boxes : List BoxFrom) (f : ℕ) (same : own ≡ shape) where
-  abbrev pub IsExact : List Domain → List BoxFrom → ℕ → Type 0
-  IsExact s left pairs = (left ≡ covered_from s boxes f) × (pairs ≡ cover_count s (sets_of boxes) f)
-
-  pub done-sets : (told : Covered) → IsDone told (IsExact own) → IsDone told (λ left pairs. sets_of left ≡ covered shape (sets_of boxes) f)
+  pub done-sets : (told : Covered) → IsDone told (IsElimination own boxes f) → IsDone told (λ left pairs. sets_of left ≡ covered shape (sets_of boxes) f)
   done-sets (Done left pairs) are = ap (λ bs. sets_of bs) are.0 ∙ sets-covered own boxes f ∙ ap (λ s. covered s (sets_of boxes) f) same
   done-sets Passed are = tt
 
-  pub done-same : (p : Point) → AreBoxesOver shape boxes → TakesCodes shape f → HasCodes 0 shape p → (told : Covered) → IsDone told (IsExact own) → IsDone told (λ left pairs. AreBoxes boxes)
-      → IsDone told (λ left pairs. Avoids shape (sets_of left) p ↔ ((code : ℕ) × (code < size_of shape f) × Avoids shape (sets_of boxes) (with_code_at p f code)))
-  done-same p over takes held (Done left pairs) are fit =
+  pub done-same : AreBoxesOver shape boxes → TakesCodes shape f → (told : Covered) → IsDone told (IsElimination own boxes f) → IsDone told (λ left pairs. AreBoxes boxes)
+      → IsDone told (λ left pairs. SayWithSomeCode shape boxes f left)
+  done-same over takes (Done left pairs) are fit = λ p held.
       let is = done-sets (Done left pairs) are in
       let sets = have-sets shape boxes over fit in (
         λ h. covered-lifts shape (sets_of boxes) f p sets takes held (ap (λ bs. avoid bs (codes_at shape p)) (sym is) ∙ h),
         λ h. ap (λ bs. avoid bs (codes_at shape p)) is ∙ covered-holds shape (sets_of boxes) f p sets takes held h.0 h.1 h.2,
       )
-  done-same p over takes held Passed are fit = tt
+  done-same over takes Passed are fit = tt
 
 -- ---- no boxes
 

@@ -1,9 +1,9 @@
-use Rattle.std.specs.Prelude.{◌≡◌, ◌<◌, ℕ, not, Bool, false, List, [], All, IsTrue, map}
+use Rattle.std.specs.Prelude.{◌≡◌, ◌<◌, ◌↔◌, ℕ, not, Bool, false, List, [], All, IsTrue, map}
 use Rattle.std.specs.List.{fold, list_any}
 use Rattle.edit_model.specs.Points.{Point}
 use Rattle.edit_line.specs.Sets.{are_subsets, are_codes_in}
-use Rattle.edit_line.specs.Shapes.{Domain, codes_at}
-use Rattle.edit_line.specs.CodeFields.{TakesCodes, size_of}
+use Rattle.edit_line.specs.Shapes.{Domain, HasCodes, codes_at}
+use Rattle.edit_line.specs.CodeFields.{TakesCodes, size_of, with_code_at}
 use Rattle.edit_line.specs.Reductions.{kept_with}
 use Rattle.categ_combine.specs.declared.box_from.BoxFrom.{BoxFrom}
 
@@ -48,3 +48,17 @@ HaveCodeField boxes f = (shape : List Domain) × AreBoxesOver shape boxes × Tak
 -- the boxes are over the fields of one shape, in which the field has the code
 abbrev pub HaveCode : List BoxFrom → ℕ → ℕ → Type 0
 HaveCode boxes f code = (shape : List Domain) × AreBoxesOver shape boxes × (code < size_of shape f)
+
+-- whatever shape the boxes are over, the claim holds of it if the field has the code there; each categorical field has code 0
+abbrev pub ForShape : List BoxFrom → ℕ → ℕ → (List Domain → Type 0) → Type 0
+ForShape boxes f code P = (shape : List Domain) → AreBoxesOver shape boxes → code < size_of shape f → P shape
+
+-- a point avoids the boxes that are left exactly where, with this code at the field, it avoids the boxes
+abbrev pub SayWithCode : List Domain → List BoxFrom → ℕ → ℕ → List BoxFrom → Type 0
+SayWithCode shape boxes f code left = (p : Point)
+    → HasCodes 0 shape p → Avoids shape (sets_of left) p ↔ Avoids shape (sets_of boxes) (with_code_at p f code)
+
+-- a point avoids the boxes that are left exactly where, with some code at the field, it avoids the boxes
+abbrev pub SayWithSomeCode : List Domain → List BoxFrom → ℕ → List BoxFrom → Type 0
+SayWithSomeCode shape boxes f left = (p : Point) → HasCodes 0 shape p
+    → Avoids shape (sets_of left) p ↔ ((code : ℕ) × (code < size_of shape f) × Avoids shape (sets_of boxes) (with_code_at p f code))

@@ -1,9 +1,9 @@
-use Rattle.std.specs.Prelude.{ℕ, ◌+◌, ◌*◌, ◌&&◌, not, Bool, List, [], ◌∷◌, ◌++◌, if◌then◌else◌, length, map, nat_eq, slice_index_or, slice_set}
+use Rattle.std.specs.Prelude.{◌≡◌, ℕ, ◌+◌, ◌*◌, ◌&&◌, not, Bool, List, [], ◌∷◌, ◌++◌, if◌then◌else◌, length, map, nat_eq, slice_index_or, slice_set}
 use Rattle.std.specs.List.{filter, flat_map, fold}
 use Rattle.edit_line.specs.Boxes.{box_of}
 use Rattle.edit_line.specs.Sets.{none_is_empty}
 use Rattle.edit_line.specs.Shapes.{Domain, whole_sets}
-use Rattle.categ_combine.specs.BoxLists.{reduce_boxes, reduce_from}
+use Rattle.categ_combine.specs.BoxLists.{reduce_boxes, reduce_from, sets_of}
 use Rattle.edit_line.specs.CodeFields.{codes_of, has_code_at, place_of, whole_of}
 use Rattle.edit_line.specs.Combinations.{in_both}
 use Rattle.categ_combine.specs.Each.{each_from}
@@ -104,3 +104,7 @@ covers_from shape boxes f codes = fold (with_code_from (place_of shape f) (whole
 abbrev pub covered_from : List Domain → List BoxFrom → ℕ → List BoxFrom
 covered_from shape boxes f =
     reduce_from (each_from (unchanged_one (place_of shape f) (whole_of shape f)) 0 boxes ++ covers_from shape boxes f (codes_of shape f))
+
+-- what the elimination of the field leaves, and the pairs that it looks at
+abbrev pub IsElimination : List Domain → List BoxFrom → ℕ → List BoxFrom → ℕ → Type 0
+IsElimination shape boxes f left pairs = (left ≡ covered_from shape boxes f) × (pairs ≡ cover_count shape (sets_of boxes) f)

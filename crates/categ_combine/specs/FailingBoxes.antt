@@ -1,10 +1,13 @@
-use Rattle.std.specs.Prelude.{ℕ, suc, Bool, List, [], ◌∷◌, Result, Ok, if◌then◌else◌}
+use Rattle.std.specs.Prelude.{◌↔◌, ℕ, suc, Bool, List, [], ◌∷◌, All, Result, Ok, if◌then◌else◌}
 use Rattle.foundation.specs.Results.{◌>>=◌, fault_as}
+use Rattle.edit_model.specs.Points.{Point}
 use Rattle.edit_model.specs.declared.value.Value.{Value}
-use Rattle.edit_line.specs.Lines.{LineParts}
-use Rattle.edit_line.specs.Sums.{fails_at}
+use Rattle.edit_line.specs.Lines.{AllHold, LineParts}
+use Rattle.edit_line.specs.Reductions.{lines_of}
+use Rattle.edit_line.specs.Shapes.{Domain}
+use Rattle.edit_line.specs.Sums.{AgreesOnLine, fails_at}
 use Rattle.edit_line.specs.declared.derived.Derived.{Derived}
-use Rattle.categ_combine.specs.BoxLists.{with_box, with_from}
+use Rattle.categ_combine.specs.BoxLists.{Avoids, sets_of, with_box, with_from}
 use Rattle.categ_combine.specs.Covers.{from_of}
 use Rattle.categ_combine.specs.declared.box_from.BoxFrom.{BoxFrom}
 use Rattle.categ_combine.specs.declared.box_from.BoxOrigin.TheVariants.{Failing}
@@ -30,6 +33,11 @@ abbrev pub failing_boxes : List LineParts → List Value → Result (List (List 
 failing_boxes lines row = boxes_from 0 lines row []
 
 -- ---- failing boxes with their origins
+
+-- at a point that agrees with the record on the lines, these all hold exactly where the codes avoid the boxes
+abbrev pub SayTheLines : List Domain → List Derived → List Value → List BoxFrom → Type 0
+SayTheLines shape lines row boxes = (p : Point)
+    → All (λ (d : Derived). AgreesOnLine row p d.line) lines → AllHold (lines_of lines) p ↔ Avoids shape (sets_of boxes) p
 
 -- the kept boxes, with the sets of a line at a place where it fails
 abbrev pub taken : List BoxFrom → ℕ → LineParts → Bool → List BoxFrom

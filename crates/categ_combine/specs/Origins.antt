@@ -1,4 +1,4 @@
-use Rattle.std.specs.Prelude.{◌≡◌, ℕ, suc, true, List, [], ◌∷◌, Ok, IsSomeAnd, length, slice_get}
+use Rattle.std.specs.Prelude.{◌≡◌, ℕ, suc, true, List, [], ◌∷◌, All, Ok, IsSomeAnd, length, slice_get}
 use Rattle.edit_model.specs.declared.value.Value.{Value}
 use Rattle.edit_line.specs.Boxes.{BoxParts, box_of}
 use Rattle.edit_line.specs.CodeFields.{has_code_at, place_of, size_of, whole_at, whole_of}
@@ -13,6 +13,10 @@ use Rattle.categ_combine.specs.declared.box_from.BoxOrigin.{BoxOrigin}
 use Rattle.categ_combine.specs.declared.box_from.BoxOrigin.TheVariants.{Cover, Failing, Fixed, Unchanged}
 
 -- What the origin of a box names. Places are those in the list that the call took, from 0.
+
+-- each box comes from what its origin names
+abbrev pub AllCome : (BoxParts → BoxOrigin → Type 0) → List BoxFrom → Type 0
+AllCome Comes boxes = All (λ (b : BoxFrom). Comes b.code_box b.origin) boxes
 
 -- the line fails at the record, and the box has its sets
 abbrev pub FailsAs : Derived → List Value → BoxParts → Type 0

@@ -1,2 +1,3 @@
 pub mod FitBoxes
+pub mod SpotCovers
 pub mod Spots

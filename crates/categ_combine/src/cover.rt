@@ -59,7 +59,8 @@ fn take_row(
 ) -> Result<(), OutOfMemory>
     requires boxes { AreBoxesOver (domains spot.now.shape) boxes.now }
     requires cover { cover.now.code_box.shape ≡ domains spot.now.shape }
-    ensures { OnOk result (next.new.items ≡ fold with_from next.old.items (row_of spot.now.place spot.now.whole code boxes.now cover.now)) }
+    ensures { OnOk result (next.new.items
+        ≡ fold with_from next.old.items (row_of spot.now.place spot.now.whole code boxes.now cover.now)) }
 {
     for (i, b) in boxes.iter().enumerate() {
         take_joined(alloc, next, sets, cover, spot, code, i as u64, b)?;

@@ -1,13 +1,10 @@
-ghost use Rattle.std.specs.Prelude.{◌≡◌, ◌↔◌, [], All, Err, IfOk, Ok, OnOk, ℕ};
-ghost use Rattle.edit_model.specs.Points.{Point};
+ghost use Rattle.std.specs.Prelude.{◌≡◌, [], All, Err, IfOk, Ok, OnOk, ℕ};
 ghost use Rattle.edit_model.specs.Rows.{IsRow};
-ghost use Rattle.edit_line.specs.Lines.{AllHold};
 ghost use Rattle.edit_line.specs.Reductions.{lines_of};
 ghost use Rattle.edit_line.specs.Shapes.{shape_of};
-ghost use Rattle.edit_line.specs.Sums.{AgreesOnLine};
-ghost use Rattle.categ_combine.specs.BoxLists.{AreBoxesOver, Avoids, sets_of};
-ghost use Rattle.categ_combine.specs.FailingBoxes.{failing_boxes, failing_from, line_fault, taken};
-ghost use Rattle.categ_combine.specs.Origins.{ComesFromLine};
+ghost use Rattle.categ_combine.specs.BoxLists.{AreBoxesOver, sets_of};
+ghost use Rattle.categ_combine.specs.FailingBoxes.{SayTheLines, failing_boxes, failing_from, line_fault, taken};
+ghost use Rattle.categ_combine.specs.Origins.{AllCome, ComesFromLine};
 ghost use Rattle.categ_combine.specs.declared.fault.BoxFault.TheVariants.{Overflow};
 
 use crate::box_from::{BoxFrom, BoxOrigin};
@@ -38,10 +35,8 @@ pub fn boxes_of(
         → failing_from 0 lines.now row.now [] ≡ Err (line_fault line field) }
     ensures overflow_sets { (line field : ℕ) → result ≡ Err (Overflow line field)
         → failing_boxes (lines_of lines.now) row.now ≡ Err (line_fault line field) }
-    ensures origins { IfOk result (λ boxes. All (λ b. ComesFromLine lines.now row.now b.code_box b.origin) boxes.items) }
-    ensures forbid { IfOk result (λ boxes. (p : Point)
-        → All (λ derived. AgreesOnLine row.now p derived.line) lines.now
-        → AllHold (lines_of lines.now) p ↔ Avoids (shape_of survey.now.fields) (sets_of boxes.items) p) }
+    ensures origins { IfOk result (λ boxes. AllCome (ComesFromLine lines.now row.now) boxes.items) }
+    ensures forbid { IfOk result (λ boxes. SayTheLines (shape_of survey.now.fields) lines.now row.now boxes.items) }
 {
     let mut kept = Vec::new(alloc);
     for (i, derived) in lines.iter().enumerate() {

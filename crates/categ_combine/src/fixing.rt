@@ -1,15 +1,12 @@
-ghost use Rattle.std.specs.Prelude.{◌≡◌, ◌<◌, ◌↔◌, All, IfOk, List, OnOk, slice_set};
+ghost use Rattle.std.specs.Prelude.{◌≡◌, IfOk, OnOk, slice_set};
 ghost use Rattle.std.specs.List.{fold};
-ghost use Rattle.edit_model.specs.Points.{Point};
 ghost use Rattle.edit_line.specs.Boxes.{IsBox, box_of};
 ghost use Rattle.edit_line.specs.Domains.{domains};
-ghost use Rattle.edit_line.specs.Shapes.{Domain, HasCodes};
-ghost use Rattle.categ_combine.specs.BoxLists.{AreBoxesOver, Avoids, HaveCode, reduce_from, sets_of, with_from};
+ghost use Rattle.categ_combine.specs.BoxLists.{AreBoxesOver, ForShape, HaveCode, SayWithCode, reduce_from, sets_of, with_from};
 ghost use Rattle.categ_combine.specs.inner.FitBoxes.{AreBoxes};
-ghost use Rattle.edit_line.specs.CodeFields.{size_of, with_code_at};
 ghost use Rattle.categ_combine.specs.Each.{each_from};
 ghost use Rattle.categ_combine.specs.Fixing.{fixed, fixed_from, fixed_one};
-ghost use Rattle.categ_combine.specs.Origins.{ComesFromFix};
+ghost use Rattle.categ_combine.specs.Origins.{AllCome, ComesFromFix};
 
 use crate::box_from::{BoxFrom, BoxOrigin};
 use crate::code_field::{set_at, spot_of};
@@ -28,21 +25,16 @@ pub fn fix(
     code: u8,
 ) -> Result<Vec<BoxFrom>, OutOfMemory>
     requires { HaveCode boxes.now field code }
-    ensures exact { IfOk result (λ left. (shape : List Domain)
-        → AreBoxesOver shape boxes.now → code < size_of shape field
-        → left.items ≡ fixed_from shape boxes.now field code) }
-    ensures over { IfOk result (λ left. (shape : List Domain)
-        → AreBoxesOver shape boxes.now → code < size_of shape field
-        → AreBoxesOver shape left.items) }
-    ensures origins { IfOk result (λ left. (shape : List Domain)
-        → AreBoxesOver shape boxes.now → code < size_of shape field
-        → All (λ b. ComesFromFix shape boxes.now field code b.code_box b.origin) left.items) }
-    ensures sets { IfOk result (λ left. (shape : List Domain)
-        → AreBoxesOver shape boxes.now → code < size_of shape field
-        → sets_of left.items ≡ fixed shape (sets_of boxes.now) field code) }
-    ensures same { IfOk result (λ left. (shape : List Domain) (p : Point)
-        → AreBoxesOver shape boxes.now → code < size_of shape field → HasCodes 0 shape p
-        → Avoids shape (sets_of left.items) p ↔ Avoids shape (sets_of boxes.now) (with_code_at p field code)) }
+    ensures exact { IfOk result (λ left. ForShape boxes.now field code (λ shape.
+        left.items ≡ fixed_from shape boxes.now field code)) }
+    ensures over { IfOk result (λ left. ForShape boxes.now field code (λ shape.
+        AreBoxesOver shape left.items)) }
+    ensures origins { IfOk result (λ left. ForShape boxes.now field code (λ shape.
+        AllCome (ComesFromFix shape boxes.now field code) left.items)) }
+    ensures sets { IfOk result (λ left. ForShape boxes.now field code (λ shape.
+        sets_of left.items ≡ fixed shape (sets_of boxes.now) field code)) }
+    ensures same { IfOk result (λ left. ForShape boxes.now field code (λ shape.
+        SayWithCode shape boxes.now field code left.items)) }
 {
     match boxes.first() {
         None => Ok(Vec::new(alloc)),
@@ -61,7 +53,8 @@ fn fix_at(
     code: u8,
 ) -> Result<Vec<BoxFrom>, OutOfMemory>
     requires { AreBoxesOver (domains spot.now.shape) boxes.now }
-    ensures left { IfOk result (λ left. left.items ≡ reduce_from (each_from (fixed_one spot.now.place spot.now.whole code) 0 boxes.now)) }
+    ensures left { IfOk result (λ left. left.items
+        ≡ reduce_from (each_from (fixed_one spot.now.place spot.now.whole code) 0 boxes.now)) }
     ensures fit { OnOk result (AreBoxes boxes.now) }
 {
     let mut kept = Vec::new(alloc);

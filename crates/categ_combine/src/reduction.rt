@@ -26,7 +26,8 @@ pub(crate) fn lie_inside(sets: &[u64], kept: &[BoxFrom]) -> bool
 
 /// Appends the box without those that lie inside it.
 pub(crate) fn put_in(kept: &mut Vec<BoxFrom>, new: BoxFrom) -> Result<(), OutOfMemory>
-    ensures { OnOk result (kept.new.items ≡ filter (λ b. not (are_subsets b.code_box.sets new.code_box.sets)) kept.old.items ++ new ∷ []) }
+    ensures { OnOk result (kept.new.items
+        ≡ filter (λ b. not (are_subsets b.code_box.sets new.code_box.sets)) kept.old.items ++ new ∷ []) }
 {
     remove_inside(kept, &new);
     kept.push(new)?;

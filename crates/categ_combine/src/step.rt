@@ -1,15 +1,14 @@
-ghost use Rattle.std.specs.Prelude.{◌≡◌, ◌<◌, ◌≤◌, ◌*◌, ◌↔◌, [], ◌∷◌, All, IfNone, IfOk, IfSome, List, OnOk, length, ℕ};
+ghost use Rattle.std.specs.Prelude.{◌≡◌, ◌<◌, ◌≤◌, ◌*◌, ◌↔◌, IfNone, IfOk, IfSome, OnOk, length};
 ghost use Rattle.std.specs.List.{filter, fold};
-ghost use Rattle.edit_model.specs.Points.{Point};
 ghost use Rattle.edit_line.specs.Boxes.{IsBox};
 ghost use Rattle.edit_line.specs.Domains.{domains};
-ghost use Rattle.edit_line.specs.Shapes.{Domain, HasCodes, whole_sets};
-ghost use Rattle.categ_combine.specs.BoxLists.{AreBoxesOver, Avoids, HaveCodeField, reduce_from, sets_of, with_from};
+ghost use Rattle.categ_combine.specs.BoxLists.{AreBoxesOver, ForShape, HaveCodeField, SayWithSomeCode, reduce_from, sets_of, with_from};
 ghost use Rattle.categ_combine.specs.inner.FitBoxes.{AreBoxes};
-ghost use Rattle.edit_line.specs.CodeFields.{TakesCodes, codes_up, size_of, with_code_at};
-ghost use Rattle.categ_combine.specs.Covers.{code_pairs, cover_count, covered, covered_from, first_cover, takes_part, unchanged_one, with_code_from};
+ghost use Rattle.categ_combine.specs.inner.SpotCovers.{cover_pairs, covers_at};
+ghost use Rattle.edit_line.specs.CodeFields.{TakesCodes};
+ghost use Rattle.categ_combine.specs.Covers.{IsElimination, cover_count, covered, first_cover, takes_part, unchanged_one};
 ghost use Rattle.categ_combine.specs.Each.{each_from};
-ghost use Rattle.categ_combine.specs.Origins.{ComesFromCover};
+ghost use Rattle.categ_combine.specs.Origins.{AllCome, ComesFromCover};
 ghost use Rattle.categ_combine.specs.Steps.{IsDone, IsPassed};
 
 use crate::box_from::{BoxFrom, BoxOrigin};
@@ -40,25 +39,18 @@ pub fn cat_step(
     most: u64,
 ) -> Result<Covered, OutOfMemory>
     requires { HaveCodeField boxes.now field }
-    ensures exact { IfOk result (λ told. (shape : List Domain)
-        → AreBoxesOver shape boxes.now → TakesCodes shape field
-        → IsDone told (λ left pairs. (left ≡ covered_from shape boxes.now field) × (pairs ≡ cover_count shape (sets_of boxes.now) field))) }
-    ensures passed { IfOk result (λ told. (shape : List Domain)
-        → AreBoxesOver shape boxes.now → TakesCodes shape field
-        → IsPassed told ↔ (most < cover_count shape (sets_of boxes.now) field)) }
-    ensures over { IfOk result (λ told. (shape : List Domain)
-        → AreBoxesOver shape boxes.now → TakesCodes shape field
-        → IsDone told (λ left pairs. AreBoxesOver shape left)) }
-    ensures origins { IfOk result (λ told. (shape : List Domain)
-        → AreBoxesOver shape boxes.now → TakesCodes shape field
-        → IsDone told (λ left pairs. All (λ b. ComesFromCover shape boxes.now field b.code_box b.origin) left)) }
-    ensures sets { IfOk result (λ told. (shape : List Domain)
-        → AreBoxesOver shape boxes.now → TakesCodes shape field
-        → IsDone told (λ left pairs. sets_of left ≡ covered shape (sets_of boxes.now) field)) }
-    ensures same { IfOk result (λ told. (shape : List Domain) (p : Point)
-        → AreBoxesOver shape boxes.now → TakesCodes shape field → HasCodes 0 shape p
-        → IsDone told (λ left pairs. Avoids shape (sets_of left) p
-        ↔ ((code : ℕ) × (code < size_of shape field) × Avoids shape (sets_of boxes.now) (with_code_at p field code)))) }
+    ensures exact { IfOk result (λ told. ForShape boxes.now field 0 (λ shape.
+        IsDone told (IsElimination shape boxes.now field))) }
+    ensures passed { IfOk result (λ told. ForShape boxes.now field 0 (λ shape.
+        IsPassed told ↔ (most < cover_count shape (sets_of boxes.now) field))) }
+    ensures over { IfOk result (λ told. ForShape boxes.now field 0 (λ shape.
+        IsDone told (λ left _. AreBoxesOver shape left))) }
+    ensures origins { IfOk result (λ told. ForShape boxes.now field 0 (λ shape.
+        IsDone told (λ left _. AllCome (ComesFromCover shape boxes.now field) left))) }
+    ensures sets { IfOk result (λ told. ForShape boxes.now field 0 (λ shape.
+        IsDone told (λ left _. sets_of left ≡ covered shape (sets_of boxes.now) field))) }
+    ensures same { IfOk result (λ told. ForShape boxes.now field 0 (λ shape.
+        IsDone told (λ left _. SayWithSomeCode shape boxes.now field left))) }
 {
     match boxes.first() {
         None => Ok(Covered::Done {
@@ -79,9 +71,7 @@ fn step_over(
 ) -> Result<Covered, OutOfMemory>
     requires over { AreBoxesOver (domains shape) boxes.now }
     requires field { TakesCodes (domains shape) field }
-    ensures exact { IfOk result (λ told. IsDone told (λ left pairs.
-        (left ≡ covered_from (domains shape) boxes.now field)
-        × (pairs ≡ cover_count (domains shape) (sets_of boxes.now) field))) }
+    ensures exact { IfOk result (λ told. IsDone told (IsElimination (domains shape) boxes.now field)) }
     ensures passed { IfOk result (λ told. IsPassed told ↔ (most < cover_count (domains shape) (sets_of boxes.now) field)) }
     ensures fit { IfOk result (λ told. IsDone told (λ left pairs. AreBoxes boxes.now)) }
 {
@@ -108,12 +98,10 @@ fn covers_of(
     most: u64,
 ) -> Result<Option<Covers>, OutOfMemory>
     requires { AreBoxesOver (domains spot.now.shape) boxes.now }
-    ensures covers { IfOk result (λ found. IfSome found (λ covers. covers.boxes.items
-        ≡ fold (with_code_from spot.now.place spot.now.whole boxes.now) (first_cover (domains spot.now.shape) ∷ []) (codes_up 0 size))) }
-    ensures pairs { IfOk result (λ found. IfSome found (λ covers. (covers.pairs ≤ most) × (covers.pairs
-        ≡ code_pairs spot.now.place spot.now.whole (sets_of boxes.now) (whole_sets (domains spot.now.shape) ∷ []) (codes_up 0 size)))) }
-    ensures passed { IfOk result (λ found. IfNone found (most
-        < code_pairs spot.now.place spot.now.whole (sets_of boxes.now) (whole_sets (domains spot.now.shape) ∷ []) (codes_up 0 size))) }
+    ensures covers { IfOk result (λ found. IfSome found (λ covers. covers.boxes.items ≡ covers_at spot.now boxes.now size)) }
+    ensures pairs { IfOk result (λ found. IfSome found (λ covers.
+        (covers.pairs ≤ most) × (covers.pairs ≡ cover_pairs spot.now boxes.now size))) }
+    ensures passed { IfOk result (λ found. IfNone found (most < cover_pairs spot.now boxes.now size)) }
 {
     let mut covers = Vec::new(alloc);
     covers.push(first_cover(alloc, spot)?)?;

@@ -61,8 +61,9 @@ pub struct EditWords<'a> {
 }
 
 impl<'a> Model for EditWords<'a> {
-    ghost use Rattle.std.specs.Prelude.{◌≤◌, ◌∷◌, []};
+    ghost use Rattle.std.specs.Prelude.{◌∷◌, []};
     ghost use Rattle.command_words.specs.Asked.{EditAsked};
+    ghost use Rattle.command_words.specs.inner.Bounds.{InBounds};
     ghost use Rattle.command_words.specs.Options.{AreApart};
 
     ghost Value = { EditAsked };
@@ -81,7 +82,7 @@ impl<'a> Model for EditWords<'a> {
     } };
 
     ghost invariant = { λ w. AreApart (w.rules.now ∷ w.records.now ∷ w.released.now ∷ w.reasons.now ∷ w.proof.now ∷ [])
-        × (1 ≤ w.budget) × (w.budget ≤ 1000000000) × (1 ≤ w.limit) × (w.limit ≤ 1000) × (1 ≤ w.near) × (w.near ≤ 64) };
+        × InBounds w.budget w.limit w.near };
 }
 
 /// Reads the words after the program's name as the command `edit` with pairs of an option and its value, in any

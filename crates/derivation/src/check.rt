@@ -2,7 +2,8 @@ ghost use Rattle.std.specs.Prelude.{◌≡◌, ◌<◌, ◌⊎◌, Err, IfOk, Ok
 ghost use Rattle.edit_model.specs.Rows.{IsRow};
 ghost use Rattle.edit_line.specs.Lines.{AreOver};
 ghost use Rattle.edit_line.specs.Shapes.{shape_of};
-ghost use Rattle.derivation.specs.inner.Bases.{IsBasis, premises};
+ghost use Rattle.derivation.specs.declared.fault.StepsFault.TheVariants.{Bad};
+ghost use Rattle.derivation.specs.inner.Bases.{IsBasis, premises, shape_in};
 ghost use Rattle.derivation.specs.inner.Meanings.{AllOver, meaning, meant};
 ghost use Rattle.derivation.specs.Premises.{HasKept, premises_over};
 ghost use Rattle.derivation.specs.Shown.{IsOver, IsShown};
@@ -43,9 +44,9 @@ pub fn check_steps(
     requires row { IsRow survey.now.fields row.now }
     requires kept { HasKept row.now kept }
     ensures proved { IfOk result (λ proved. AreValidSteps (premises_over survey.now given.now usable.now row.now kept) steps.now proved) }
-    ensures bad { (place : ℕ) → result ≡ Err (StepsFault.Bad place)
+    ensures bad { (place : ℕ) → result ≡ Err (Bad place)
         → IsFirstInvalid (premises_over survey.now given.now usable.now row.now kept) steps.now place }
-    ensures named { (place : ℕ) → result ≡ Err (StepsFault.Bad place) → ((steps.now ≡ []) × (place ≡ 0)) ⊎ (place < length steps.now) }
+    ensures named { (place : ℕ) → result ≡ Err (Bad place) → ((steps.now ≡ []) × (place ≡ 0)) ⊎ (place < length steps.now) }
     ensures shown { IfOk result (λ proved. IsShown (premises_over survey.now given.now usable.now row.now kept) proved) }
     ensures over { IfOk result (λ proved. IsOver (shape_of survey.now.fields) proved) }
 {
@@ -65,7 +66,7 @@ pub fn check_steps(
 // The last of what was proved, or place 0 where there is none.
 fn last_known(alloc: Global, mut known: Vec<Known>) -> Result<Proved, StepsFault>
     ensures proved { IfOk result (λ proved. last_proved (Ok (map meaning known.entry.items)) ≡ Ok proved) }
-    ensures bad { (place : ℕ) → result ≡ Err (StepsFault.Bad place) → last_proved (Ok (map meaning known.entry.items)) ≡ Err place }
+    ensures bad { (place : ℕ) → result ≡ Err (Bad place) → last_proved (Ok (map meaning known.entry.items)) ≡ Err place }
 {
     match known.pop() {
         None => Err(StepsFault::Bad { place: 0 }),
@@ -81,7 +82,7 @@ fn known_of<'a>(
 ) -> Result<Vec<Known<'a>>, StepsFault>
     requires { IsBasis basis.now }
     ensures proved { IfOk result (λ known. proved_from (premises basis.now) [] steps.now ≡ Ok (map meaning known.items)) }
-    ensures bad { (place : ℕ) → result ≡ Err (StepsFault.Bad place) → proved_from (premises basis.now) [] steps.now ≡ Err place }
+    ensures bad { (place : ℕ) → result ≡ Err (Bad place) → proved_from (premises basis.now) [] steps.now ≡ Err place }
 {
     let mut known = Vec::with_capacity(alloc, steps.len())?;
     for step in steps {
@@ -103,7 +104,7 @@ fn made_by<'a>(
     step: &Step,
 ) -> Result<Option<Known<'a>>, OutOfMemory>
     requires basis { IsBasis basis.now }
-    requires over { AllOver (shape_of basis.now.survey.now.fields) known.now }
+    requires over { AllOver (shape_in basis.now) known.now }
     ensures { IfOk result (λ made. meant made ≡ proved_by (premises basis.now) (map meaning known.now) step.now) }
 {
     match step {

@@ -3,8 +3,7 @@ ghost use Rattle.std.specs.List.{list_all};
 ghost use Rattle.std.specs.Ordering.{int_eq};
 ghost use Rattle.edit_line.specs.Combinations.{divides};
 ghost use Rattle.edit_line.specs.Divisors.{divided_by};
-ghost use Rattle.edit_line.specs.Shapes.{shape_of};
-ghost use Rattle.derivation.specs.inner.Bases.{premises};
+ghost use Rattle.derivation.specs.inner.Bases.{premises, shape_in};
 ghost use Rattle.derivation.specs.inner.Meanings.{AllOver, meaning, meant};
 ghost use Rattle.derivation.specs.ValidSteps.{combined_line, only_if, proved_by};
 ghost use Rattle.derivation.specs.declared.proved.Proved.{Proved};
@@ -35,7 +34,7 @@ pub(crate) fn combined<'a>(
     b: u64,
     by: Multipliers,
 ) -> Result<Option<Known<'a>>, OutOfMemory>
-    requires { AllOver (shape_of basis.now.survey.now.fields) known.now }
+    requires { AllOver (shape_in basis.now) known.now }
     ensures { IfOk result (λ made. meant made
         ≡ proved_by (premises basis.now) (map meaning known.now) (Step.Combine a by.first b by.second by.divisor)) }
 {

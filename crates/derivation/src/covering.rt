@@ -1,8 +1,8 @@
 ghost use Rattle.std.specs.Prelude.{◌≡◌, ◌≤◌, IfOk, IfSome, List, Some, length, map, option_map};
 ghost use Rattle.edit_line.specs.inner.SetBounds.{AreWithin};
 ghost use Rattle.edit_line.specs.Sets.{AreSets};
-ghost use Rattle.edit_line.specs.Shapes.{Domain, code_fields, shape_of, whole_sets};
-ghost use Rattle.derivation.specs.inner.Bases.{IsBasis, premises};
+ghost use Rattle.edit_line.specs.Shapes.{Domain, code_fields, whole_sets};
+ghost use Rattle.derivation.specs.inner.Bases.{IsBasis, premises, shape_in, wholes_in};
 ghost use Rattle.derivation.specs.inner.Meanings.{AllOver, meaning, meant, place_there};
 ghost use Rattle.derivation.specs.ValidSteps.{common_from, covered_box, covered_sets, part_with};
 
@@ -23,7 +23,7 @@ pub(crate) fn covered<'a>(
     parts: &[u64],
 ) -> Result<Option<Known<'a>>, OutOfMemory>
     requires basis { IsBasis basis.now }
-    requires over { AllOver (shape_of basis.now.survey.now.fields) known.now }
+    requires over { AllOver (shape_in basis.now) known.now }
     ensures { IfOk result (λ made. meant made ≡ covered_box (premises basis.now) (map meaning known.now) field parts.now) }
 {
     let Some(place) = place_of(basis.survey, field) else {
@@ -47,9 +47,9 @@ fn covered_at<'a>(
     place: usize,
 ) -> Result<Option<Known<'a>>, OutOfMemory>
     requires basis { IsBasis basis.now }
-    requires within { AreWithin common.items (whole_sets (shape_of basis.now.survey.now.fields)) }
-    requires place { place_there (code_fields (shape_of basis.now.survey.now.fields)) field ≡ Some place }
-    ensures { IfOk result (λ made. meant made ≡ covered_sets (shape_of basis.now.survey.now.fields) field common.items) }
+    requires within { AreWithin common.items (wholes_in basis.now) }
+    requires place { place_there (code_fields (shape_in basis.now)) field ≡ Some place }
+    ensures { IfOk result (λ made. meant made ≡ covered_sets (shape_in basis.now) field common.items) }
 {
     let whole = whole_at(alloc, basis.survey, place)?;
     common[place] = whole;
@@ -70,12 +70,12 @@ fn common_sets(
     parts: &[u64],
 ) -> Result<Option<Vec<u64>>, OutOfMemory>
     requires basis { IsBasis basis.now }
-    requires over { AllOver (shape_of basis.now.survey.now.fields) known.now }
+    requires over { AllOver (shape_in basis.now) known.now }
     requires few { length parts.now ≤ 64 }
     ensures common { IfOk result (λ found. option_map (λ v. v.items) found
-        ≡ common_from (map meaning known.now) place 0 parts.now (whole_sets (shape_of basis.now.survey.now.fields))) }
+        ≡ common_from (map meaning known.now) place 0 parts.now (wholes_in basis.now)) }
     ensures within { IfOk result (λ found. IfSome found (λ sets.
-        AreWithin sets.items (whole_sets (shape_of basis.now.survey.now.fields)))) }
+        AreWithin sets.items (wholes_in basis.now))) }
 {
     let mut common = Shape::of(basis.survey).whole_sets(alloc)?;
     for (code, part) in parts.iter().enumerate() {

@@ -1,7 +1,7 @@
 ghost use Rattle.std.specs.Prelude.{◌≡◌, IfOk, map};
 ghost use Rattle.edit_model.specs.Rows.{IsRow};
 ghost use Rattle.edit_line.specs.Shapes.{shape_of};
-ghost use Rattle.derivation.specs.inner.Bases.{IsBasis, premises};
+ghost use Rattle.derivation.specs.inner.Bases.{IsBasis, premises, shape_in};
 ghost use Rattle.derivation.specs.inner.Meanings.{AllOver, meaning, meant};
 ghost use Rattle.derivation.specs.ValidSteps.{failed_box, fails_at_kept, proved_by};
 ghost use Rattle.derivation.specs.declared.step.Step.{Step};
@@ -22,7 +22,7 @@ pub(crate) fn failed<'a>(
     place: u64,
 ) -> Result<Option<Known<'a>>, OutOfMemory>
     requires basis { IsBasis basis.now }
-    requires over { AllOver (shape_of basis.now.survey.now.fields) known.now }
+    requires over { AllOver (shape_in basis.now) known.now }
     ensures { IfOk result (λ made. meant made ≡ proved_by (premises basis.now) (map meaning known.now) (Step.Fail place)) }
 {
     match line_at(known, place) {
@@ -38,7 +38,7 @@ fn failed_box<'a>(
     line: &Line,
 ) -> Result<Option<Known<'a>>, OutOfMemory>
     requires basis { IsBasis basis.now }
-    requires over { line.now.shape ≡ shape_of basis.now.survey.now.fields }
+    requires over { line.now.shape ≡ shape_in basis.now }
     ensures { IfOk result (λ known. meant known ≡ failed_box (premises basis.now) line.now) }
 {
     if !fails_at_kept(basis.survey, basis.row, basis.kept, line) {

@@ -1,8 +1,8 @@
 ghost use Rattle.std.specs.Prelude.{◌≡◌, ◌<◌, IfOk, Some, map, true};
 ghost use Rattle.edit_model.specs.FieldSets.{has_number};
 ghost use Rattle.edit_model.specs.Rows.{value_of};
-ghost use Rattle.edit_line.specs.Shapes.{code_fields, has_field, shape_of};
-ghost use Rattle.derivation.specs.inner.Bases.{IsBasis, premises};
+ghost use Rattle.edit_line.specs.Shapes.{code_fields, has_field};
+ghost use Rattle.derivation.specs.inner.Bases.{IsBasis, premises, shape_in};
 ghost use Rattle.derivation.specs.inner.Meanings.{AllOver, meaning, meant, place_there};
 ghost use Rattle.derivation.specs.ValidSteps.{fixed_box, fixed_sets, has_value};
 
@@ -23,7 +23,7 @@ pub(crate) fn fixed<'a>(
     part: u64,
 ) -> Result<Option<Known<'a>>, OutOfMemory>
     requires basis { IsBasis basis.now }
-    requires over { AllOver (shape_of basis.now.survey.now.fields) known.now }
+    requires over { AllOver (shape_in basis.now) known.now }
     ensures { IfOk result (λ made. meant made ≡ fixed_box (premises basis.now) (map meaning known.now) field part) }
 {
     let Some(place) = place_of(basis.survey, field) else {
@@ -40,7 +40,7 @@ pub(crate) fn fixed<'a>(
 
 // Whether the categorical field is kept.
 fn is_kept(basis: &Basis, field: u32) -> bool
-    requires { has_field (code_fields (shape_of basis.now.survey.now.fields)) field ≡ true }
+    requires { has_field (code_fields (shape_in basis.now)) field ≡ true }
     ensures { result ≡ has_number basis.now.kept field }
 {
     let _fields = basis.survey.fields(); // read for what it says: there are at most 64
@@ -56,10 +56,10 @@ fn fixed_at<'a>(
     place: usize,
 ) -> Result<Option<Known<'a>>, OutOfMemory>
     requires basis { IsBasis basis.now }
-    requires over { code_box.now.shape ≡ shape_of basis.now.survey.now.fields }
-    requires place { place_there (code_fields (shape_of basis.now.survey.now.fields)) field ≡ Some place }
+    requires over { code_box.now.shape ≡ shape_in basis.now }
+    requires place { place_there (code_fields (shape_in basis.now)) field ≡ Some place }
     ensures { IfOk result (λ made. meant made
-        ≡ fixed_sets (shape_of basis.now.survey.now.fields) field (value_of basis.now.row.now field) code_box.now.sets) }
+        ≡ fixed_sets (shape_in basis.now) field (value_of basis.now.row.now field) code_box.now.sets) }
 {
     let _fields = basis.survey.fields(); // read for what it says: a record has a value for each
     if !has_value(code_box.sets()[place], basis.row.value(field)) {

@@ -45,7 +45,8 @@ pub(crate) fn put(
 pub(crate) fn farthest(nearest: &[Candidate], near: usize) -> Option<u64>
     requires few { length nearest.now ≤ near }
     requires order { IsInOrder is_before nearest.now }
-    ensures { IfSome result (λ most. (x : AnyCandidate) → most < x.distance → nearest.now ≡ take near (placed is_before x nearest.now)) }
+    ensures { IfSome result (λ most. (x : AnyCandidate)
+        → most < x.distance → nearest.now ≡ take near (placed is_before x nearest.now)) }
 {
     if nearest.len() < near {
         return None;

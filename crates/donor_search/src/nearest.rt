@@ -29,7 +29,8 @@ pub fn ranking<F: Fn(u32, &Value, &Value) -> u64>(
     requires measures { Measures F.Fn measure.now.closure measure.now.yardsticks }
     requires row { HasMeasurable measure.now.yardsticks kept row.now }
     requires donors { All (IsRankable measure.now.yardsticks sheet.now.rows kept) deck.now }
-    ensures ranking { IfOk result (λ ranking. ranking.items ≡ ranking_of measure.now.yardsticks sheet.now.rows deck.now row.now kept near) }
+    ensures ranking { IfOk result (λ ranking. ranking.items
+        ≡ ranking_of measure.now.yardsticks sheet.now.rows deck.now row.now kept near) }
     ensures order { IfOk result (λ ranking. IsInOrder (nearer_to measure.now.yardsticks sheet.now.rows row.now kept) ranking.items) }
     ensures few { IfOk result (λ ranking. length ranking.items ≤ near) }
     ensures among { IfOk result (λ ranking. All (Contains deck.now) ranking.items) }

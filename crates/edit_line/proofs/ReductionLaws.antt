@@ -1,7 +1,7 @@
 use Rattle.std.proofs.Common.{◌≡◌, ◌↔◌, zero, suc, ◌++◌, ◌||◌, Bool, true, false, not, if◌then◌else◌, List, [], ◌∷◌, All, ◌⊎◌, inl, inr, refl, sym, ap, ◌∙◌, subst, arith}
 use Rattle.std.specs.List.{filter, fold, list_any}
 use Rattle.edit_model.specs.Points.{Point}
-use Rattle.edit_line.specs.Lines.{AllHold, AreOver, Follows, HasShape, HaveShape, LineHolds, LineParts}
+use Rattle.edit_line.specs.Lines.{AllHold, AreOver, Follows, HasShape, HaveOneShape, HaveShape, LineHolds, LineParts}
 use Rattle.edit_line.specs.Reductions.{IsCovered, IsIn, lines_of, reduce, reduce_derived, with_derived, with_line}
 use Rattle.edit_line.specs.Shapes.{Domain}
 use Rattle.edit_line.specs.Subsumption.{is_trivial, subsumes}
@@ -152,12 +152,12 @@ pub all-reduced : (P : LineParts → Type 0) (lines kept : List Derived) → kep
 all-reduced P lines kept is all = subst (λ (ls : List LineParts). All P ls) (sym (ap (λ (ds : List Derived). lines_of ds) is ∙ reduce-lines lines)) (all-reduce P (lines_of lines) all)
 
 -- what the reduced list covers, and says
-pub reduced-covers : (lines kept : List Derived) → kept ≡ reduce_derived lines → (shape : List Domain) → AreOver shape (lines_of lines) → All (λ line. IsCovered (lines_of kept) line) (lines_of lines)
-reduced-covers lines kept is shape over =
+pub reduced-covers : (lines kept : List Derived) → kept ≡ reduce_derived lines → HaveOneShape (lines_of lines) → All (λ line. IsCovered (lines_of kept) line) (lines_of lines)
+reduced-covers lines kept is (shape, over) =
     let same : lines_of kept ≡ reduce (lines_of lines) = ap (λ (ds : List Derived). lines_of ds) is ∙ reduce-lines lines in
     subst (λ (ls : List LineParts). All (λ line. IsCovered ls line) (lines_of lines)) (sym same) (reduce-covers shape (lines_of lines) over)
 
-pub reduced-same : (lines kept : List Derived) → kept ≡ reduce_derived lines → (shape : List Domain) (p : Point) → AreOver shape (lines_of lines) → AllHold (lines_of kept) p ↔ AllHold (lines_of lines) p
-reduced-same lines kept is shape p over =
+pub reduced-same : (lines kept : List Derived) → kept ≡ reduce_derived lines → (p : Point) → HaveOneShape (lines_of lines) → AllHold (lines_of kept) p ↔ AllHold (lines_of lines) p
+reduced-same lines kept is p (shape, over) =
     let same : lines_of kept ≡ reduce (lines_of lines) = ap (λ (ds : List Derived). lines_of ds) is ∙ reduce-lines lines in
     (λ holds. holds-reduce shape (lines_of lines) p over (subst (λ (ls : List LineParts). AllHold ls p) same holds), λ holds. subst (λ (ls : List LineParts). AllHold ls p) (sym same) (reduce-holds (lines_of lines) p holds))

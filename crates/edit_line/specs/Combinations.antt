@@ -1,4 +1,4 @@
-use Rattle.std.specs.Prelude.{◌≡◌, ℕ, suc, ℤ, pos, ◌^◌, ◌&&◌, ◌||◌, not, Bool, true, List, [], ◌∷◌, ◌++◌, Option, Some, None, is_none, Result, Ok, Err, map, int_lt, int_rem, bit_and, nat_eq, nat_lt, unsigned_abs, ◌<ℤ◌, ◌+ℤ◌, ◌*ℤ◌, if◌then◌else◌}
+use Rattle.std.specs.Prelude.{ℕ, suc, ℤ, pos, ◌^◌, ◌&&◌, ◌||◌, not, Bool, true, List, [], ◌∷◌, ◌++◌, Option, Some, None, is_none, Result, Ok, Err, map, int_lt, int_rem, bit_and, nat_eq, nat_lt, unsigned_abs, ◌+ℤ◌, ◌*ℤ◌, if◌then◌else◌}
 use Rattle.std.specs.List.{list_all}
 use Rattle.std.specs.Ordering.{int_eq}
 use Rattle.edit_line.specs.Lines.{LineParts, parts_of}
@@ -22,8 +22,8 @@ combined m n first [] = map (λ a. m *ℤ a) first
 
 -- m times s and n times t, where both sets meet, and strict where one is
 abbrev pub sum_of : ℤ → ℤ → LineParts → LineParts → LineParts
-sum_of m n s t =
-    parts_of s.shape (in_both s.sets t.sets) (combined m n s.factors t.factors) (m *ℤ s.constant +ℤ n *ℤ t.constant) (s.strict || t.strict)
+sum_of m n s t = parts_of s.shape (in_both s.sets t.sets) (combined m n s.factors t.factors)
+    (m *ℤ s.constant +ℤ n *ℤ t.constant) (s.strict || t.strict)
 
 -- ---- the numbers formed on the way
 

@@ -65,3 +65,7 @@ HaveShape shape lines = All (λ line. HasShape shape line) lines
 -- all lines are over the fields of this shape
 abbrev pub AreOver : List Domain → List LineParts → Type 0
 AreOver shape lines = All (λ (line : LineParts). line.shape ≡ shape) lines
+
+-- all lines are over the fields of one shape
+abbrev pub HaveOneShape : List LineParts → Type 0
+HaveOneShape lines = (shape : List Domain) × AreOver shape lines

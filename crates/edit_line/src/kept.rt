@@ -1,7 +1,7 @@
-ghost use Rattle.std.specs.Prelude.{◌≡◌, ◌<◌, ◌-◌, ◌++◌, [], ◌∷◌, drop, length, not, take, OnErr, OnOk};
+ghost use Rattle.std.specs.Prelude.{◌≡◌, ◌<◌, ◌-◌, ◌++◌, [], ◌∷◌, length, not, take, OnErr, OnOk};
 ghost use Rattle.std.specs.List.{filter, list_any};
 ghost use Rattle.std.specs.Vec.{vec_capacity, vec_len};
-ghost use Rattle.edit_line.specs.inner.Keys.{NoneOver, NoneUnder, key_of, keys_of, not_under};
+ghost use Rattle.edit_line.specs.inner.Keys.{NoneOver, NoneUnder, key_of, keys_of, left_from};
 ghost use Rattle.edit_line.specs.Reductions.{derived_from, with_derived};
 ghost use Rattle.edit_line.specs.Subsumption as subsumption;
 
@@ -188,8 +188,7 @@ fn remove_at(
     requires keyed { keys.old.items ≡ keys_of lines.old.items }
     requires key { key ≡ key_of line.now.factors }
     requires place { place < length lines.old.items }
-    ensures lines { take result lines.new.items ++ not_under line.now (drop result lines.new.items)
-        ≡ take place lines.old.items ++ not_under line.now (drop place lines.old.items) }
+    ensures lines { left_from result line.now lines.new.items ≡ left_from place line.now lines.old.items }
     ensures keyed { keys.new.items ≡ keys_of lines.new.items }
     ensures room { vec_len lines.old < vec_capacity lines.old → vec_len lines.new < vec_capacity lines.new }
     ensures key_room { vec_len keys.old < vec_capacity keys.old → vec_len keys.new < vec_capacity keys.new }

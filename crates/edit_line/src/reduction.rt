@@ -1,8 +1,7 @@
-ghost use Rattle.std.specs.Prelude.{◌≡◌, ◌↔◌, All, IfOk, List};
+ghost use Rattle.std.specs.Prelude.{◌≡◌, ◌↔◌, All, IfOk};
 ghost use Rattle.edit_model.specs.Points.{Point};
-ghost use Rattle.edit_line.specs.Lines.{AllHold, AreOver};
+ghost use Rattle.edit_line.specs.Lines.{AllHold, HaveOneShape};
 ghost use Rattle.edit_line.specs.Reductions.{IsCovered, lines_of, reduce_derived};
-ghost use Rattle.edit_line.specs.Shapes.{Domain};
 
 use crate::derived::Derived;
 use crate::kept::Kept;
@@ -14,11 +13,10 @@ use std::alloc::Global;
 /// A dropped line always holds or follows from one that stays, so what is left says the same.
 pub fn reduce(alloc: Global, lines: Vec<Derived>) -> Result<Vec<Derived>, OutOfMemory>
     ensures exact { IfOk result (λ kept. kept.items ≡ reduce_derived lines.items) }
-    ensures dropped { IfOk result (λ kept. (shape : List Domain)
-        → AreOver shape (lines_of lines.items)
+    ensures dropped { IfOk result (λ kept. HaveOneShape (lines_of lines.items)
         → All (λ line. IsCovered (lines_of kept.items) line) (lines_of lines.items)) }
-    ensures same { IfOk result (λ kept. (shape : List Domain) (p : Point)
-        → AreOver shape (lines_of lines.items)
+    ensures same { IfOk result (λ kept. (p : Point)
+        → HaveOneShape (lines_of lines.items)
         → AllHold (lines_of kept.items) p ↔ AllHold (lines_of lines.items) p) }
 {
     let mut kept = Kept::new(alloc);

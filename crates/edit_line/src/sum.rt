@@ -72,7 +72,8 @@ fn with_field(sum: Fraction, factor: i128, field: u32, row: &Row) -> Result<Frac
     requires in_range { InRange factor }
     requires place { field < length row.now }
     ensures sum { IfOk result (λ next. next_sum factor (value_of row.now field) (ratio_of sum) ≡ Some (ratio_of next)) }
-    ensures overflow { IfErr result (λ fault. (fault.field ≡ field) × (next_sum factor (value_of row.now field) (ratio_of sum) ≡ None)) }
+    ensures overflow { IfErr result (λ fault. (fault.field ≡ field)
+        × (next_sum factor (value_of row.now field) (ratio_of sum) ≡ None)) }
 {
     if factor == 0 {
         return Ok(sum);

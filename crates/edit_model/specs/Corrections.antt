@@ -50,7 +50,7 @@ is_numerical (kind.Code codes) = false
 -- the numbers of the fields, from i on, for which the test is true
 abbrev pub numbers_from : (Kind → Bool) → ℕ → List Field → List ℕ
 numbers_from test i [] = []
-numbers_from test i (field ∷ fields) = if test field.kind then i ∷ numbers_from test (suc i) fields else numbers_from test (suc i) fields
+numbers_from test i (field ∷ more) = if test field.kind then i ∷ numbers_from test (suc i) more else numbers_from test (suc i) more
 
 -- the numbers of the numerical fields, in declared order
 abbrev pub number_fields : List Field → List ℕ

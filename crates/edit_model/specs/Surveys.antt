@@ -26,8 +26,8 @@ has_name_form (b ∷ bs) = is_letter b && list_all (λ c. is_letter c || (is_dig
 
 -- the words of the rule language, which name no field
 abbrev pub reserved_words : List (List ℕ)
-reserved_words =
-    codes "number" ∷ codes "code" ∷ codes "weight" ∷ codes "scale" ∷ codes "in" ∷ codes "not" ∷ codes "if" ∷ codes "and" ∷ codes "then" ∷ []
+reserved_words = codes "number" ∷ codes "code" ∷ codes "weight" ∷ codes "scale" ∷ codes "in"
+    ∷ codes "not" ∷ codes "if" ∷ codes "and" ∷ codes "then" ∷ []
 
 -- 1 to 32 bytes in the form of a name, and no word of the rule language
 pub record IsName (name : List ℕ) : Type 0 where

@@ -1,16 +1,9 @@
-ghost use Rattle.std.specs.Prelude.{◌↔◌};
-ghost use Rattle.std.specs.List.{AllByRecursion};
 ghost use Rattle.edit_model.specs.Parts.{SurveyParts};
-ghost use Rattle.edit_model.specs.Points.{HasCodesFrom, Holds, Point};
 ghost use Rattle.edit_model.specs.Surveys.{IsWellFormed};
-ghost use Rattle.edit_line.specs.Lines.{AllHold};
-ghost use Rattle.edit_normal.specs.RuleLines.{normal_lines_of};
+ghost use Rattle.edit_normal.specs.RuleLines.{SayAllRules, normal_lines_of};
 
 /// The normal form says what the rules say: at a point with codes of their fields, all normal lines of a
 /// well-formed survey hold exactly where all its rules do. The call does nothing; its contract is the law.
 pub fn normal_form_law()
-    ensures same { (survey : SurveyParts) (p : Point)
-        → IsWellFormed survey
-        → HasCodesFrom 0 survey.fields p
-        → AllHold (normal_lines_of survey) p ↔ AllByRecursion (λ rule. Holds rule p) survey.rules }
+    ensures same { (survey : SurveyParts) → IsWellFormed survey → SayAllRules survey (normal_lines_of survey) }
 {}

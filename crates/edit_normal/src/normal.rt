@@ -1,13 +1,11 @@
-ghost use Rattle.std.specs.Prelude.{◌≡◌, ◌↔◌, ◌≤◌, ◌==◌, ◌*◌, ℕ, Some, IfOk, count_by, length, map, slice_get};
-ghost use Rattle.edit_model.specs.Points.{HasCodesFrom, Holds, Point};
-ghost use Rattle.edit_model.specs.declared.rule.Rule.{Rule as AnyRule};
+ghost use Rattle.std.specs.Prelude.{◌≡◌, ◌≤◌, ◌==◌, ◌*◌, ℕ, IfOk, count_by, length, map};
 ghost use Rattle.edit_line.specs.Lines.{AreOver};
 ghost use Rattle.edit_line.specs.Shapes.{shape_of};
-ghost use Rattle.edit_normal.specs.RuleLines.{LinesHold, rule_lines_from, normal_lines_of};
+ghost use Rattle.edit_normal.specs.RuleLines.{SayEachRule, normal_lines_of, rule_lines_from};
 
-use crate::survey_shape::SurveyShape;
 use crate::rule_line::RuleLine;
 use crate::rule_lines::push_rule;
+use crate::survey_shape::SurveyShape;
 use edit_line::Line;
 use edit_model::Survey;
 use foundation::OutOfMemory;
@@ -22,10 +20,7 @@ pub fn normal_lines(alloc: Global, survey: &Survey) -> Result<Vec<RuleLine>, Out
     ensures over { IfOk result (λ lines. AreOver (shape_of survey.now.fields) (map (λ l. l.line) lines.items)) }
     ensures few { IfOk result (λ lines. (i : ℕ) → count_by (λ l. l.rule == i) lines.items ≤ 2) }
     ensures most { IfOk result (λ lines. length lines.items ≤ 2 * length survey.now.rules) }
-    ensures same { IfOk result (λ lines. (i : ℕ) (rule : AnyRule) (p : Point)
-        → slice_get survey.now.rules i ≡ Some rule
-        → HasCodesFrom 0 survey.now.fields p
-        → LinesHold lines.items i p ↔ Holds rule p) }
+    ensures same { IfOk result (λ lines. SayEachRule survey.now lines.items) }
 {
     let fields = SurveyShape::of(alloc, survey)?;
     let mut lines = Vec::new(alloc);

@@ -23,7 +23,8 @@ use Rattle.edit_paths.specs.Walks.{walk}
 
 -- where a path is closed, no point at which the edits hold has the record's values at all fields that it keeps
 abbrev pub ClosedPathLaw : Type 0
-ClosedPathLaw = (c : SearchCase) (path : List Bool) → IsCase c → IsClosed c path → (p : Point) → Meets c p → ¬ AgreesAlong c path p
+ClosedPathLaw = (c : SearchCase) (path : List Bool)
+    → IsCase c → IsClosed c path → (p : Point) → Meets c p → ¬ AgreesAlong c path p
 
 -- a path that says something of all fields, and for which no number leaves the range, is open exactly where
 -- some point at which the edits hold differs from the record only at the fields that it changes
@@ -48,8 +49,8 @@ StepOverflowLaw =
 
 -- a path that overflows in a test does so at this line of its system, at this field
 abbrev pub TestOverflowLaw : Type 0
-TestOverflowLaw =
-    (c : SearchCase) (path : List Bool) (line field : ℕ) → state_of c path ≡ Overflows (event.Test line field) → IsTestOverflow c path line field
+TestOverflowLaw = (c : SearchCase) (path : List Bool) (line field : ℕ)
+    → state_of c path ≡ Overflows (event.Test line field) → IsTestOverflow c path line field
 
 -- ---- outcomes
 

@@ -83,7 +83,7 @@ pub start-same : (shape : List Domain) (edits : List (ℕ × LineParts)) (start 
     → (q : Point) → AllHold (lines_of start) q ↔ AllHold (map (λ (e : ℕ × LineParts). e.1) edits) q
 start-same shape edits start are is q =
     let base_over = subst (λ (ls : List LineParts). AreOver shape ls) (sym (base-plain edits)) (All-map (λ (line : LineParts). line.shape ≡ shape) (λ (e : ℕ × LineParts). e.1) edits are.over) in
-    let both = reduced-same (base_lines edits) start is shape q base_over in (
+    let both = reduced-same (base_lines edits) start is q (shape, base_over) in (
       λ holds. subst (λ (ls : List LineParts). AllHold ls q) (base-plain edits) (both.0 holds),
       λ holds. both.1 (subst (λ (ls : List LineParts). AllHold ls q) (sym (base-plain edits)) holds),
     )

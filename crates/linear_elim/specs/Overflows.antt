@@ -23,8 +23,8 @@ overflow_of s t f = first_overflow 0 (first_multiplier s t f) (second_multiplier
 
 -- no number leaves the range in the pairs of these two lines of the list
 abbrev pub PairFits : List Derived → ℕ → ℕ → ℕ → Type 0
-PairFits lines f i j = (s t : Derived)
-    → slice_get lines i ≡ Some s → slice_get lines j ≡ Some t → AreCombined f s.line t.line → overflow_of s.line t.line f ≡ None
+PairFits lines f i j = (s t : Derived) → slice_get lines i ≡ Some s → slice_get lines j ≡ Some t
+    → AreCombined f s.line t.line → overflow_of s.line t.line f ≡ None
 
 -- no number of any combination leaves the range
 abbrev pub AllPairsFit : List Derived → ℕ → Type 0

@@ -1,7 +1,6 @@
-ghost use Rattle.std.specs.Prelude.{◌≡◌, ◌↔◌, ◌+◌, ◌++◌, ◌≤◌, ◌<◌, [], ◌∷◌, All, OnOk, IfOk, List, true, if◌then◌else◌, IfErr, IfSome};
+ghost use Rattle.std.specs.Prelude.{◌≡◌, ◌+◌, ◌++◌, ◌≤◌, ◌<◌, [], ◌∷◌, All, OnOk, IfOk, List, true, if◌then◌else◌, IfErr, IfSome};
 ghost use Rattle.std.specs.List.{fold, slice_get};
-ghost use Rattle.edit_model.specs.Points.{Point};
-ghost use Rattle.edit_line.specs.Lines.{AllHold, HaveShape};
+ghost use Rattle.edit_line.specs.Lines.{HaveShape};
 ghost use Rattle.edit_line.specs.Reductions.{AreOwn, lines_of, reduce_derived, with_derived};
 ghost use Rattle.edit_line.specs.Domains.{domains};
 ghost use Rattle.edit_line.specs.Shapes.{Domain, IsNumerical};
@@ -9,11 +8,11 @@ ghost use Rattle.linear_elim.specs.Answers.{Answers};
 ghost use Rattle.linear_elim.specs.Combinations.{is_lower, is_upper};
 ghost use Rattle.linear_elim.specs.Origins.{AllComeFrom};
 ghost use Rattle.linear_elim.specs.Overflows.{AllPairsFit, IsFirstOverflow};
-ghost use Rattle.linear_elim.specs.PointChanges.{CanHoldAt};
-ghost use Rattle.linear_elim.specs.Steps.{OneShape, collect, flat_from, is_opposite, opposites, pair_result, pairs_count, row_count, row_result, step_result};
+ghost use Rattle.linear_elim.specs.PointChanges.{LiftedAt};
+ghost use Rattle.linear_elim.specs.Steps.{OneShape, collect, flat_from, is_opposite, opposites, pairs_count, row_count, row_result, step_result};
 ghost use Rattle.linear_elim.specs.Told.{told_step};
 ghost use Rattle.linear_elim.specs.inner.Taken.{TakesIn};
-ghost use Rattle.linear_elim.specs.inner.Uppers.{found_count, found_result, places_from};
+ghost use Rattle.linear_elim.specs.inner.Uppers.{found_count, found_result, pairs_with, places_from};
 
 use crate::column::Column;
 use crate::combine::combine;
@@ -41,9 +40,10 @@ struct Placed<'a> {
 pub fn step(alloc: Global, lines: &[Derived], field: u32) -> Result<Vec<Derived>, StepFault>
     requires { OneShape lines.now }
     ensures exact { Answers (λ v. v.items) told_step result (step_result lines.now field) }
-    ensures over { IfOk result (λ v. (shape : List Domain) → HaveShape shape (lines_of lines.now) → HaveShape shape (lines_of v.items)) }
-    ensures lifts { IfOk result (λ v. (shape : List Domain) (p : Point) → HaveShape shape (lines_of lines.now) → IsNumerical shape field
-        → AllHold (lines_of v.items) p ↔ CanHoldAt (lines_of lines.now) field p) }
+    ensures over { IfOk result (λ v. (shape : List Domain)
+        → HaveShape shape (lines_of lines.now) → HaveShape shape (lines_of v.items)) }
+    ensures lifts { IfOk result (λ v. (shape : List Domain)
+        → HaveShape shape (lines_of lines.now) → IsNumerical shape field → LiftedAt field lines.now v.items) }
     ensures fits { IfOk result (λ v. AllPairsFit lines.now field) }
     ensures overflow { IfErr result (λ fault. IfSome (told_step fault) (λ o. IsFirstOverflow lines.now field o)) }
     ensures origins { IfOk result (λ v. (shape : List Domain) → HaveShape shape (lines_of lines.now) → AllComeFrom lines.now v.items) }
@@ -282,7 +282,7 @@ fn take_row<L: Ledger>(
     requires uppers { uppers.now ≡ places_from (is_upper column.now.field) 0 lines.now }
     requires line_over { line.old.shape ≡ domains column.now.shape }
     ensures exact { TakesIn told_step kept.old kept.new result
-        (collect (pair_result column.now.field s.entry.place s.entry.derived.now) 0 lines.now) }
+        (collect (pairs_with column.now.field s.entry) 0 lines.now) }
     ensures counted { OnOk result (steps.new ≡ steps.old + opposites column.now.field s.entry.derived.now lines.now) }
     ensures few { steps.new ≤ steps.old + opposites column.now.field s.entry.derived.now lines.now }
     ensures over { line.new.shape ≡ line.old.shape }
@@ -313,7 +313,7 @@ fn take_at<L: Ledger>(
     requires over { All (λ t. t.line.shape ≡ domains column.now.shape) lines.now }
     requires line_over { line.old.shape ≡ domains column.now.shape }
     ensures exact { TakesIn told_step kept.old kept.new result
-        (found_result (pair_result column.now.field s.entry.place s.entry.derived.now) place (slice_get lines.now place)) }
+        (found_result (pairs_with column.now.field s.entry) place (slice_get lines.now place)) }
     ensures counted { steps.new
         ≡ steps.old + found_count (is_opposite column.now.field s.entry.derived.now.line) (slice_get lines.now place) }
     ensures over { line.new.shape ≡ line.old.shape }
@@ -343,7 +343,7 @@ fn take_pair<L: Ledger>(
     requires t_over { t.derived.now.line.shape ≡ domains column.now.shape }
     requires line_over { line.old.shape ≡ domains column.now.shape }
     ensures exact { TakesIn told_step kept.old kept.new result
-        (pair_result column.now.field s.entry.place s.entry.derived.now t.entry.place t.entry.derived.now) }
+        (pairs_with column.now.field s.entry t.entry.place t.entry.derived.now) }
     ensures counted { steps.new
         ≡ steps.old + (if is_opposite column.now.field s.entry.derived.now.line t.entry.derived.now.line then 1 else 0) }
     ensures over { line.new.shape ≡ line.old.shape }

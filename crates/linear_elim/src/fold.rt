@@ -81,7 +81,7 @@ fn fold_lines<L: Ledger>(
 
 // The lines of the fold so far: those that it begins with, until a step has made others.
 fn so_far<'a>(base: &'a [Derived], lines: &'a Option<Vec<Derived>>) -> &'a [Derived]
-    ensures { result.now ≡ so_far (λ v. v.items) base.now lines.now }
+    ensures { result.now ≡ so_far base.now lines.now }
 {
     match lines {
         Some(lines) => lines.as_slice(),
@@ -111,14 +111,14 @@ fn next_lines<L: Ledger>(
     fields: FieldSet,
     steps: &mut Steps<L>,
 ) -> Result<Option<Vec<Derived>>, SystemFault>
-    requires shape { OneShape (so_far (λ v. v.items) base.now lines) }
-    requires own { AreOwn (lines_of (so_far (λ v. v.items) base.now lines)) }
+    requires shape { OneShape (so_far base.now lines) }
+    requires own { AreOwn (lines_of (so_far base.now lines)) }
     requires field { field < 64 }
-    ensures exact { Answers (λ next. so_far (λ v. v.items) base.now next) told_system result
-        (fold_result (so_far (λ v. v.items) base.now lines) (next_fields fields field count)) }
+    ensures exact { Answers (λ next. so_far base.now next) told_system result
+        (fold_result (so_far base.now lines) (next_fields fields field count)) }
     ensures counted { OnOk result (steps.new
-        ≡ steps.old + fold_count (so_far (λ v. v.items) base.now lines) (next_fields fields field count)) }
-    ensures few { steps.new ≤ steps.old + fold_count (so_far (λ v. v.items) base.now lines) (next_fields fields field count) }
+        ≡ steps.old + fold_count (so_far base.now lines) (next_fields fields field count)) }
+    ensures few { steps.new ≤ steps.old + fold_count (so_far base.now lines) (next_fields fields field count) }
 {
     if count > 0 || !fields.has(field) {
         return Ok(lines);

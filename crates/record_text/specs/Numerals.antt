@@ -24,9 +24,9 @@ pub record SpellsQuotient (above below : List ℕ) (numerator denominator : ℕ)
 
 -- a numeral without its sign: digits, digits with a point among them, or a quotient
 abbrev pub IsUnsigned : List ℕ → ℕ → ℕ → Type 0
-IsUnsigned text numerator denominator =
-    SpellsDecimal text [] numerator denominator
-    ⊎ ((whole : List ℕ) × (decimals : List ℕ) × (text ≡ whole ++ 46 ∷ decimals) × SpellsDecimal whole decimals numerator denominator)
+IsUnsigned text numerator denominator = SpellsDecimal text [] numerator denominator
+    ⊎ ((whole : List ℕ) × (decimals : List ℕ)
+    × (text ≡ whole ++ 46 ∷ decimals) × SpellsDecimal whole decimals numerator denominator)
     ⊎ ((above : List ℕ) × (below : List ℕ) × (text ≡ above ++ 47 ∷ below) × SpellsQuotient above below numerator denominator)
 
 -- what follows the sign, `+` or `-`, where there is one

@@ -32,7 +32,8 @@ pub fn read_records(alloc: Global, survey: &Survey, bytes: &[u8]) -> Result<Shee
     ensures fault { IfErr result (λ e. e ≢ SheetFault.OutOfMemory → IsSheetFault survey.now.fields bytes.now e) }
     ensures only { IfOk result (λ sheet. (other : SheetParts) → IsSheet survey.now.fields bytes.now other → other ≡ sheet) }
     ensures first { IfErr result (λ e. e ≢ SheetFault.OutOfMemory → IsOnlyFault survey.now.fields bytes.now e) }
-    ensures unread { IfErr result (λ e. e ≢ SheetFault.OutOfMemory → (sheet : SheetParts) → ¬ IsSheet survey.now.fields bytes.now sheet) }
+    ensures unread { IfErr result (λ e. e ≢ SheetFault.OutOfMemory
+        → (sheet : SheetParts) → ¬ IsSheet survey.now.fields bytes.now sheet) }
 {
     read_sheet(alloc, survey, bytes)
 }
@@ -75,7 +76,8 @@ fn read_rows(
     requires columns { length columns.now ≡ length survey.now.fields }
     requires within { All (λ column. column < width) columns.now }
     ensures rows { IfOk result (λ parts. AreRowsBehind reader.old survey.now.fields columns.now width parts.0.items parts.1.items) }
-    ensures fault { IfErr result (λ e. e ≢ SheetFault.OutOfMemory → (here : Place) → IsAt reader.old here → IsRowFault width here e) }
+    ensures fault { IfErr result (λ e. e ≢ SheetFault.OutOfMemory
+        → (here : Place) → IsAt reader.old here → IsRowFault width here e) }
 {
     let mut row_texts = Vec::new(alloc);
     let mut rows = Vec::new(alloc);

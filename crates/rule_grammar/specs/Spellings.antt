@@ -89,7 +89,7 @@ pub record IsLongestToken (inside : Bool) (text : List ℕ) (t : Token) (rest : 
   pub front : List ℕ
   pub parts : text ≡ front ++ rest
   pub spelled : IsSpelled inside t front
-  pub longest : (u : Token) (other after : List ℕ) → text ≡ other ++ after → IsSpelled inside u other → length other ≤ length front
+  pub longest : (u : Token) (other end : List ℕ) → text ≡ other ++ end → IsSpelled inside u other → length other ≤ length front
 
 -- the tokens of a text, from left to right, with blanks between them that mean nothing: each is the longest that can be read
 abbrev pub AreLongestTokens : Bool → List ℕ → List Token → Type 0

@@ -21,7 +21,8 @@ use Rattle.rule_grammar.specs.declared.token.Token.TheVariants as token
 
 -- term = NUM [ "*" ] NAME | NAME | NUM
 abbrev pub term_tokens : TermText → List Token
-term_tokens (term.Product factor times field) = token.Numeral factor ∷ ((if times then token.Times ∷ [] else []) ++ token.Name field ∷ [])
+term_tokens (term.Product factor times field) =
+    token.Numeral factor ∷ ((if times then token.Times ∷ [] else []) ++ token.Name field ∷ [])
 term_tokens (term.Field field) = token.Name field ∷ []
 term_tokens (term.Constant number) = token.Numeral number ∷ []
 

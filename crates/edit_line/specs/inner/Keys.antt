@@ -35,6 +35,10 @@ NoneOver place line lines = any_over line (drop place lines) ≡ any_over line l
 abbrev pub not_under : LineParts → List Derived → List Derived
 not_under line lines = filter (λ (b : Derived). not (subsumes line b.line)) lines
 
+-- the lines before this place, and of the others those that the line does not subsume
+abbrev pub left_from : ℕ → LineParts → List Derived → List Derived
+left_from place line lines = take place lines ++ not_under line (drop place lines)
+
 -- the line subsumes none of the lines before this place
 abbrev pub NoneUnder : ℕ → LineParts → List Derived → Type 0
-NoneUnder place line lines = take place lines ++ not_under line (drop place lines) ≡ not_under line lines
+NoneUnder place line lines = left_from place line lines ≡ not_under line lines

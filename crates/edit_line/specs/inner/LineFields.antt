@@ -2,7 +2,6 @@
 use Rattle.std.specs.Prelude.{IsTrue, List, ℕ}
 use Rattle.edit_model.specs.Rows.{value_of}
 use Rattle.edit_model.specs.Trials.{IsNumberValue}
-use Rattle.edit_model.specs.declared.field.Kind.TheVariants as kind
 use Rattle.edit_model.specs.declared.value.Value.{Value}
 use Rattle.edit_line.specs.Lines.{LineParts}
 use Rattle.edit_line.specs.Shapes.{Domain, code_fields, has_field, number_fields}

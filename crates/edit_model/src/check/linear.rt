@@ -1,6 +1,7 @@
-ghost use Rattle.std.specs.Prelude.{◌≡◌, ◌≤◌, ◌^◌, ◌↔◌, All, IsTrue, map, unsigned_abs};
+ghost use Rattle.std.specs.Prelude.{◌↔◌, All, IsTrue, map, unsigned_abs};
 ghost use Rattle.std.specs.List.Sorted.{IsStrictlyIncreasing};
-ghost use Rattle.edit_model.specs.Surveys.{IsTerm};
+ghost use Rattle.edit_model.specs.Surveys.{IsTerm, IsTest};
+ghost use Rattle.edit_model.specs.declared.rule.Test.TheVariants.{Number};
 
 use crate::field::{Field, Kind};
 use crate::rule::{Linear, Term};
@@ -34,13 +35,18 @@ fn are_rising(terms: &[Term]) -> bool
     true
 }
 
-/// Whether the terms are in rising field order and within the limits, and the constant is.
-pub(crate) fn is_linear(fields: &[Field], linear: &Linear) -> bool
+// Whether the terms are in rising field order and within the limits.
+fn has_terms(fields: &[Field], linear: &Linear) -> bool
     ensures { IsTrue result ↔ (IsStrictlyIncreasing (map (λ t. t.field) linear.now.terms)
-        × All (IsTerm fields.now) linear.now.terms × (unsigned_abs linear.now.constant ≤ 10 ^ 15)) }
+        × All (IsTerm fields.now) linear.now.terms) }
 {
     let terms = linear.terms.as_slice();
-    are_rising(terms)
-        && terms.iter().all(|term| is_term(fields, term))
-        && linear.constant.unsigned_abs() <= MOST_CONSTANT
+    are_rising(terms) && terms.iter().all(|term| is_term(fields, term))
+}
+
+/// Whether the terms are in rising field order and within the limits, and the constant is.
+pub(crate) fn is_linear(fields: &[Field], linear: &Linear) -> bool
+    ensures { IsTrue result ↔ IsTest fields.now (Number linear.now) }
+{
+    has_terms(fields, linear) && linear.constant.unsigned_abs() <= MOST_CONSTANT
 }

@@ -9,6 +9,7 @@ taken_in kept (Ok more) = Ok (fold with_derived kept more)
 taken_in kept (Err fault) = Err fault
 
 -- the call takes what was computed in among the kept lines, or tells its first fault; a fault that tells nothing, as want of memory, may always come
-abbrev pub TakesIn : {A E F : Type 0} → (E → Option F) → List Derived → List Derived → Result A E → Result (List Derived) F → Type 0
+abbrev pub TakesIn : {A E F : Type 0}
+    → (E → Option F) → List Derived → List Derived → Result A E → Result (List Derived) F → Type 0
 TakesIn told old new (Ok done) answer = taken_in old answer ≡ Ok new
 TakesIn told old new (Err e) answer = IfSome (told e) (λ f. answer ≡ Err f)

@@ -43,8 +43,10 @@ pub record AreRowsFrom (fields : List Field) (columns : List ℕ) (width : ℕ) 
   pub values : AreRows fields columns row_texts rows
 
 -- these are all the records from where csv's reader stands, none of them is faulty, and these are their values
-abbrev pub AreRowsBehind : Reader (Bor (List ℕ)) → List Field → List ℕ → ℕ → List (List (List ℕ)) → List (List Value) → Type 0
-AreRowsBehind reader fields columns width row_texts rows = (here : Place) → IsAt reader here → AreRowsFrom fields columns width here row_texts rows
+abbrev pub AreRowsBehind : Reader (Bor (List ℕ)) → List Field → List ℕ → ℕ
+    → List (List (List ℕ)) → List (List Value) → Type 0
+AreRowsBehind reader fields columns width row_texts rows = (here : Place)
+    → IsAt reader here → AreRowsFrom fields columns width here row_texts rows
 
 -- the first faulty record from a place on has this fault
 pub record IsRowFault (width : ℕ) (here : Place) (fault : SheetFault) : Type 0 where

@@ -21,7 +21,8 @@ pub(super) struct Lexeme<'a> {
 
 /// The first token of a text that begins inside braces or outside, or None where it has no token.
 pub(super) fn first_lexeme<'a>(inside: bool, text: &'a [u8]) -> Option<Lexeme<'a>>
-    ensures some { IfSome result (λ l. tokens_from inside text.now ≡ l.token ∷ tokens_from (is_inside_after inside l.token) l.rest.now) }
+    ensures some { IfSome result (λ l. tokens_from inside text.now
+        ≡ l.token ∷ tokens_from (is_inside_after inside l.token) l.rest.now) }
     ensures none { IfNone result (tokens_from inside text.now ≡ []) }
 {
     let text = without_blanks(text);

@@ -7,7 +7,7 @@ invariant_of-result c =
     let budget = between _ _ _ _ _ c.in_ok-budget.ensures.some (omega arith) (omega arith) in
     let limit = between _ _ _ _ _ c.in_ok-limit.ensures.some (omega arith) (omega arith) in
     let near = between _ _ _ _ _ c.in_ok-near.ensures.some (omega arith) (omega arith) in
-    (search rules, budget.0, budget.1, limit.0, limit.1, near.0, near.1)
+    (search rules, (budget.0, budget.1, limit.0, limit.1, near.0, near.1))
 
 pub overflow_cast-result : goal.overflow_cast-result
 overflow_cast-result c = let limit = between _ _ _ _ _ c.in_ok-limit.ensures.some (omega arith) (omega arith) in record { fits = omega (arith, limit.1) }

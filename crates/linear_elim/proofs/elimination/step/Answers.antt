@@ -10,7 +10,7 @@ pub returns-clause-over : goal.returns-clause-over
 returns-clause-over c = if_ok-lines (λ v. v.items) told_step (step_result c.args.lines.now c.args.field) c.step_from.result (λ v is shape over. HaveShape-result shape c.args.lines.now c.args.field v.items is over) c.step_from.ensures.exact
 
 pub returns-clause-lifts : goal.returns-clause-lifts
-returns-clause-lifts c = if_ok-lines (λ v. v.items) told_step (step_result c.args.lines.now c.args.field) c.step_from.result (λ v is shape p over number. lifts-result shape c.args.lines.now c.args.field v.items is over p number) c.step_from.ensures.exact
+returns-clause-lifts c = if_ok-lines (λ v. v.items) told_step (step_result c.args.lines.now c.args.field) c.step_from.result (λ v is shape over number p. lifts-result shape c.args.lines.now c.args.field v.items is over p number) c.step_from.ensures.exact
 
 pub returns-clause-origins : goal.returns-clause-origins
 returns-clause-origins c = if_ok-lines (λ v. v.items) told_step (step_result c.args.lines.now c.args.field) c.step_from.result (λ v is shape over. origins-result shape c.args.lines.now c.args.field over v.items is) c.step_from.ensures.exact

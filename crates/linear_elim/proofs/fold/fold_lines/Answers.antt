@@ -27,7 +27,7 @@ loop-field-init g c =
     )
 
 pub next_lines-requires-clause-shape : goal.next_lines-requires-clause-shape
-next_lines-requires-clause-shape g c = OneShape-have c.args.edits.now.shape (so_far (λ v. v.items) c.reduced-base.result.now c.loop-field.lines) c.loop-field.invariant.2
+next_lines-requires-clause-shape g c = OneShape-have c.args.edits.now.shape (so_far c.reduced-base.result.now c.loop-field.lines) c.loop-field.invariant.2
 
 pub loop-field-preserved : goal.loop-field-preserved
 loop-field-preserved g c =
@@ -35,8 +35,8 @@ loop-field-preserved g c =
     let counts = c.code_counts-count-items.result.now in
     let i = c.loop-field.field in
     let k = get_or counts i 0 in
-    let lines = so_far (λ v. v.items) c.reduced-base.result.now c.loop-field.lines in
-    let next = so_far (λ v. v.items) c.reduced-base.result.now c.in-Ok.next in
+    let lines = so_far c.reduced-base.result.now c.loop-field.lines in
+    let next = so_far c.reduced-base.result.now c.in-Ok.next in
     let is = c.in-Ok.ensures.exact in
     let count = count-more fields counts i k c.loop-field-test.true (search rules) lines next is in (
       fold-more fields counts i k c.loop-field-test.true (search rules) lines next (system_at c.args.edits.now fields) c.loop-field.invariant.0 is,
@@ -51,14 +51,14 @@ returns-in-Err-clause-exact g c =
     let counts = c.code_counts-count-items.result.now in
     let i = c.loop-field.field in
     let whole = system_at c.args.edits.now fields in
-    let lines = so_far (λ v. v.items) c.reduced-base.result.now c.loop-field.lines in
+    let lines = so_far c.reduced-base.result.now c.loop-field.lines in
     if_told (told_system c.in-Err.fault) (λ fault is. fold-stops fields counts i (get_or counts i 0) c.loop-field-test.true (search rules) lines fault whole c.loop-field.invariant.0 is) c.in-Err.ensures.exact
 
 pub returns-in-Err-clause-few : goal.returns-in-Err-clause-few
 returns-in-Err-clause-few g c =
     let counts = c.code_counts-count-items.result.now in
     let i = c.loop-field.field in
-    let part = count-stops c.args.fields counts i (get_or counts i 0) c.loop-field-test.true (search rules) (so_far (λ v. v.items) c.reduced-base.result.now c.loop-field.lines) in
+    let part = count-stops c.args.fields counts i (get_or counts i 0) c.loop-field-test.true (search rules) (so_far c.reduced-base.result.now c.loop-field.lines) in
     omega (arith, part, c.in-Err.ensures.few, c.loop-field.invariant.1)
 
 pub returns-in-Some-clause-made : goal.returns-in-Some-clause-made
@@ -67,7 +67,7 @@ returns-in-Some-clause-made g c =
     let start = c.reduced-base.result.now in
     let none = chosen-end c.args.fields c.code_counts-count-items.result.now c.loop-field.field (omega (arith, c.loop-field-test.false)) in
     system-made edits start c.reduced-base.ensures.kept c.args.fields c.in-Some.lines.items c.requires
-    (reached-end _ c.in-Some.lines.items _ (system_at edits c.args.fields) none c.loop-field.invariant.0 (ap (λ ls. so_far (λ v. v.items) start ls) c.in-Some.is))
+    (reached-end _ c.in-Some.lines.items _ (system_at edits c.args.fields) none c.loop-field.invariant.0 (ap (λ ls. so_far start ls) c.in-Some.is))
 
 pub returns-in_ok-copy_all-in-None-clause-made : goal.returns-in_ok-copy_all-in-None-clause-made
 returns-in_ok-copy_all-in-None-clause-made g c =
@@ -76,4 +76,4 @@ returns-in_ok-copy_all-in-None-clause-made g c =
     let lines = c.in_ok-copy_all-in-None.field-0.items in
     let none = chosen-end c.args.fields c.code_counts-count-items.result.now c.loop-field.field (omega (arith, c.loop-field-test.false)) in
     system-made edits start c.reduced-base.ensures.kept c.args.fields lines c.requires
-    (reached-end _ lines _ (system_at edits c.args.fields) none c.loop-field.invariant.0 (ap (λ ls. so_far (λ v. v.items) start ls) c.in-None.is ∙ sym c.in_ok-copy_all-in-None.ensures))
+    (reached-end _ lines _ (system_at edits c.args.fields) none c.loop-field.invariant.0 (ap (λ ls. so_far start ls) c.in-None.is ∙ sym c.in_ok-copy_all-in-None.ensures))
