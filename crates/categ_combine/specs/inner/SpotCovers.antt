@@ -9,7 +9,7 @@ use Rattle.categ_combine.specs.Covers.{code_pairs, first_cover, with_code_from}
 use Rattle.categ_combine.specs.declared.box_from.BoxFrom.{BoxFrom}
 use Rattle.categ_combine.specs.declared.spot.Spot.{Spot}
 
--- the covers of so many codes
+-- the covers of this number of first codes
 abbrev pub covers_at : Spot → List BoxFrom → ℕ → List BoxFrom
 covers_at spot boxes size = fold (with_code_from spot.place spot.whole boxes) (first_cover (domains spot.shape) ∷ []) (codes_up 0 size)
 
