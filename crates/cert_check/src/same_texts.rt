@@ -21,7 +21,13 @@ pub(crate) fn are_same(checking: &Checking, path: &[bool], reads: &Texts, texts:
 }
 
 // Whether the text may stand in the column in which the other was read.
-fn may_be_released(checking: &Checking, path: &[bool], column: usize, read: &[u8], text: &[u8]) -> bool
+fn may_be_released(
+    checking: &Checking,
+    path: &[bool],
+    column: usize,
+    read: &[u8],
+    text: &[u8],
+) -> bool
     ensures { result ≡ may_be_released (changes checking.now.survey.now.fields path.now) checking.now.columns.now column read.now text.now }
 {
     text == read || stands_changed(checking, path, column)

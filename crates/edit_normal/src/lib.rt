@@ -4,13 +4,13 @@
 #![tactic(auto)]
 
 mod edits;
-mod survey_shape;
 mod meaning;
 mod narrow;
 mod normal;
 mod rule_line;
 mod rule_lines;
 mod side;
+mod survey_shape;
 
 pub use edits::rule_edits;
 pub use meaning::normal_form_law;

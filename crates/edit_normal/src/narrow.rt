@@ -7,7 +7,13 @@ use crate::survey_shape::SurveyShape;
 
 /// Narrows the sets at the field to the codes that meet the test: those of the set, or the field's others
 /// where the test is negated.
-pub(crate) fn narrow(fields: &SurveyShape, sets: &mut Vec<u64>, field: u32, negated: bool, codes: u64)
+pub(crate) fn narrow(
+    fields: &SurveyShape,
+    sets: &mut Vec<u64>,
+    field: u32,
+    negated: bool,
+    codes: u64,
+)
     requires field { has_field (code_fields fields.now) field ≡ true }
     requires within { AreWithin sets.old.items (whole_sets fields.now) }
     ensures sets { sets.new.items ≡ narrowed fields.now sets.old.items field negated codes }

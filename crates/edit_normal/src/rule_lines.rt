@@ -8,10 +8,10 @@ ghost use Rattle.edit_normal.specs.NormalForm.{all_lines_of, conclusion_lines, c
 ghost use Rattle.edit_normal.specs.inner.Sides.{joined_by, side_line};
 ghost use Rattle.edit_normal.specs.inner.Fits.{FitsCodes};
 
-use crate::survey_shape::SurveyShape;
 use crate::narrow::{narrow, narrow_where_false};
 use crate::rule_line::RuleLine;
 use crate::side::{Side, side_line};
+use crate::survey_shape::SurveyShape;
 use edit_line::Line;
 use edit_model::{Compare, Linear, Rule, Test};
 use foundation::OutOfMemory;
