@@ -1,8 +1,11 @@
-ghost use Rattle.std.specs.Prelude.{◌≡◌, ◌⊎◌, IfOk};
+ghost use Rattle.std.specs.Prelude.{◌≡◌, ◌≢◌, ◌⊎◌, IfOk};
 ghost use Rattle.std.specs.Process.{exit_status};
-ghost use Rattle.bench_frame.specs.Endings.{IsEnding, status_after};
+ghost use Rattle.edit_desk.specs.Desk.{Told, raised};
+ghost use Rattle.edit_desk.specs.Printer.{after_line};
+ghost use Rattle.bench_frame.specs.Endings.{IsEnding, IsLeft, PrintsText, in_lines, printed_after, status_after};
 
 use crate::fault::Fault;
+use edit_desk::{PrintFailed, Printer};
 use foundation::OutOfMemory;
 use std::alloc::Global;
 use std::process::ExitCode;
@@ -36,16 +39,37 @@ pub fn ending_of(
     }
 }
 
-/// Prints what a bench with this usage told, or why it told nothing, and answers its exit status: 6 where the text
-/// could not be written, 7 where memory was refused.
-pub fn leave<R: Print + AllocGlobal>(rt: &R, usage: &str, told: Result<String, Fault>) -> ExitCode
-    ensures { (exit_status result ≡ status_after told) ⊎ (exit_status result ≡ 6) ⊎ (exit_status result ≡ 7) }
+/// Prints what a bench with this usage told, or why it told nothing, in whole lines, and answers its exit status: 6
+/// exactly where the printer failed, and 7 where memory was refused.
+pub fn leave<P: Printer>(
+    alloc: Global,
+    printer: &mut P,
+    usage: &str,
+    told: Result<String, Fault>,
+) -> ExitCode
+    ensures status { (exit_status result ≡ status_after told) ⊎ (exit_status result ≡ 6) ⊎ (exit_status result ≡ 7) }
+    ensures failed { exit_status result ≡ 6 → P.faults printer.new ≡ raised (P.faults printer.old) }
+    ensures unfailed { exit_status result ≢ 6 → P.faults printer.new ≡ P.faults printer.old }
+    ensures printed { Told (P.printed printer.old) (P.printed printer.new)
+        (IsLeft (in_lines (printed_after usage.now told)) (exit_status result)) }
 {
-    let Ok(ending) = ending_of(rt.alloc(), usage, told) else {
+    let Ok(ending) = ending_of(alloc, usage, told) else {
         return ExitCode::from(Fault::OutOfMemory.status());
     };
-    match rt.print(ending.text.as_str()) {
+    match print_lines(printer, ending.text.as_bytes()) {
         Ok(()) => ExitCode::from(ending.status),
-        Err(_) => ExitCode::from(6),
+        Err(PrintFailed) => ExitCode::from(6),
+    }
+}
+
+// Prints the text, and a line feed behind its last line if none stands there.
+fn print_lines<P: Printer>(printer: &mut P, text: &[u8]) -> Result<(), PrintFailed>
+    ensures printed { Told (P.printed printer.old) (P.printed printer.new) (λ old new. PrintsText old new (in_lines text.now) result) }
+    ensures faults { P.faults printer.new ≡ after_line result (P.faults printer.old) }
+{
+    match text.last() {
+        None => Ok(()),
+        Some(b'\n') => printer.line(&text[..text.len() - 1]),
+        Some(_) => printer.line(text),
     }
 }

@@ -11,6 +11,7 @@ mod verdict;
 mod words;
 
 use bench_frame::{Fault, after_program_name, leave};
+use edit_desk::OutPrinter;
 use std::alloc::Global;
 use std::process::ExitCode;
 
@@ -18,8 +19,9 @@ use std::process::ExitCode;
 const USAGE: &str = "usage: certificate_bench leaves DEPTH | steps COUNT [broken]";
 
 fn main(rt: HostRuntime) -> ExitCode {
-    let told = told(&rt, rt.alloc());
-    leave(&rt, USAGE, told)
+    let alloc = rt.alloc();
+    let told = told(&rt, alloc);
+    leave(alloc, &mut OutPrinter::new(rt), USAGE, told)
 }
 
 // What is printed of the words after the program's name.

@@ -13,6 +13,7 @@ mod worker;
 
 use bench_frame::{Fault, after_program_name, leave};
 use donor_book::Won;
+use edit_desk::OutPrinter;
 use foundation::OutOfMemory;
 use std::alloc::Global;
 use std::process::ExitCode;
@@ -23,8 +24,9 @@ use tally::{Plan, carry_out};
 const USAGE: &str = "usage: claims_bench [COUNT THREADS]";
 
 fn main(rt: HostRuntime) -> ExitCode {
-    let told = told(&rt, rt.alloc());
-    leave(&rt, USAGE, told)
+    let alloc = rt.alloc();
+    let told = told(&rt, alloc);
+    leave(alloc, &mut OutPrinter::new(rt), USAGE, told)
 }
 
 // What is printed of the words after the program's name.

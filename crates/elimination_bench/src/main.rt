@@ -13,6 +13,7 @@ mod listing;
 mod words;
 
 use bench_frame::{Fault, after_program_name, leave};
+use edit_desk::OutPrinter;
 use std::alloc::Global;
 use std::process::ExitCode;
 use words::Task;
@@ -21,8 +22,9 @@ use words::Task;
 const USAGE: &str = "usage: elimination_bench fold|pairs FIELDS [codes] | steps COUNT [sums]";
 
 fn main(rt: HostRuntime) -> ExitCode {
-    let told = told(&rt, rt.alloc());
-    leave(&rt, USAGE, told)
+    let alloc = rt.alloc();
+    let told = told(&rt, alloc);
+    leave(alloc, &mut OutPrinter::new(rt), USAGE, told)
 }
 
 // What is printed of the words after the program's name.

@@ -6,6 +6,7 @@ ghost use Rattle.std.specs.Prelude.{◌≡◌, IfOk, string_bytes};
 ghost use Rattle.proof_bench.specs.inner.Told.{IsTold, counts_text, fault_text};
 
 use bench_frame::{Fault, after_program_name, leave};
+use edit_desk::OutPrinter;
 use proof_text::{Proof, ProofFault, read_proof};
 use std::alloc::Global;
 use std::fs;
@@ -16,8 +17,9 @@ use std::process::ExitCode;
 const USAGE: &str = "usage: proof_bench FILE";
 
 fn main(rt: HostRuntime) -> ExitCode {
-    let told = told(&rt, rt.alloc());
-    leave(&rt, USAGE, told)
+    let alloc = rt.alloc();
+    let told = told(&rt, alloc);
+    leave(alloc, &mut OutPrinter::new(rt), USAGE, told)
 }
 
 // What is printed of the file that the one word names.

@@ -12,6 +12,7 @@ mod search;
 mod tests;
 
 use bench_frame::{Fault, after_program_name, leave};
+use edit_desk::OutPrinter;
 use edit_language::{RulesFault, read_rules};
 use record_text::{SheetFault, read_records};
 use std::alloc::Global;
@@ -23,8 +24,9 @@ use std::process::ExitCode;
 const USAGE: &str = "usage: search_bench RULES RECORDS";
 
 fn main(rt: HostRuntime) -> ExitCode {
-    let told = told(&rt, rt.alloc());
-    leave(&rt, USAGE, told)
+    let alloc = rt.alloc();
+    let told = told(&rt, alloc);
+    leave(alloc, &mut OutPrinter::new(rt), USAGE, told)
 }
 
 // What is printed of the files that the words name.
