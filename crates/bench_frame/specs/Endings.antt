@@ -35,7 +35,9 @@ abbrev pub PrintsText : List ℕ → List ℕ → List ℕ → Result (Unit {0})
 PrintsText old new text (Ok done) = new ≡ old ++ text
 PrintsText old new text (Err failed) = (kept : ℕ) × (new ≡ old ++ take kept text)
 
--- a bench that ends with this status has printed the text, or with 6 some first bytes of it, or with 7 nothing
-abbrev pub IsLeft : List ℕ → ℕ → List ℕ → List ℕ → Type 0
-IsLeft text status old new =
-    (new ≡ old ++ text) ⊎ ((status ≡ 6) × ((kept : ℕ) × (new ≡ old ++ take kept text))) ⊎ ((status ≡ 7) × (new ≡ old))
+-- a bench has printed the text and ends with the status after it, or with 6 and some first bytes of it, or with 7 and nothing
+abbrev pub IsLeft : List ℕ → ℕ → ℕ → List ℕ → List ℕ → Type 0
+IsLeft text after status old new =
+    ((status ≡ after) × (new ≡ old ++ text))
+    ⊎ ((status ≡ 6) × ((kept : ℕ) × (new ≡ old ++ take kept text)))
+    ⊎ ((status ≡ 7) × (new ≡ old))

@@ -51,7 +51,7 @@ pub fn leave<P: Printer>(
     ensures failed { exit_status result ≡ 6 → P.faults printer.new ≡ raised (P.faults printer.old) }
     ensures unfailed { exit_status result ≢ 6 → P.faults printer.new ≡ P.faults printer.old }
     ensures printed { Told (P.printed printer.old) (P.printed printer.new)
-        (IsLeft (in_lines (printed_after usage.now told)) (exit_status result)) }
+        (IsLeft (in_lines (printed_after usage.now told)) (status_after told) (exit_status result)) }
 {
     let Ok(ending) = ending_of(alloc, usage, told) else {
         return ExitCode::from(Fault::OutOfMemory.status());
