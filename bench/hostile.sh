@@ -2,7 +2,7 @@
 # Runs the built program on files that nobody should send: random bytes, files that are cut off anywhere, files
 # with one byte changed, files at each limit and one past it, and large files that are made to be hard.
 #
-# usage: bench/hostile.sh [SEED]      (default: 1)
+# usage: bench/hostile.sh [SEED [GROUP..]]      (default: 1, and all groups)
 #
 # Each run has to end with a status of the README's table, never by a signal, and within a time that grows with
 # the files and their wrong values; where nothing was released, the files under the three names that `edit` writes have to
@@ -14,4 +14,4 @@
 set -eu
 top=$(cd "$(dirname "$0")/.." && pwd)
 "$top/forxainde" >/dev/null 2>&1 || true    # builds the program
-exec python3 "$top/bench/hostile/attack.py" "$top/crates/edit_program/out/edit_program" "$top/examples" "${1:-1}"
+exec python3 "$top/bench/hostile/attack.py" "$top/crates/edit_program/out/edit_program" "$top/examples" "${@:-1}"
