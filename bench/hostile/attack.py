@@ -305,7 +305,8 @@ line KK 1
 given 1
 bound KC
 bound C
-claims 0
+claims 1
+claim 1 0
 end
 """
 
@@ -387,7 +388,7 @@ def large_proofs(size):
     yield with_text(given, b"given" + many(b" ") + b"1\n"), {9}
     yield with_text(b"lines 2\nkeep\nkeep\n", counted(b"lines", many(b"keep\n"))), {9}
     yield with_text(b"lines 2\n", b"lines 4000000000\n"), {9}
-    yield with_text(b"claims 0\n", counted(b"claims", many(b"claim 1 0\n"))), {9}
+    yield with_text(b"claims 1\nclaim 1 0\n", counted(b"claims", many(b"claim 1 0\n"))), {9}
     yield SUM_PROOF + many(b"\n"), {9}
 
 
