@@ -44,12 +44,12 @@ pub fn reasons_text(
     let mut writer = RecordWriter::new(alloc);
     push_header(&mut writer)?;
     for row_no in 0..sheet.len() {
-        let record = Record {
+        let row = Record {
             number: row_no,
             read: sheet.raw(row_no),
             end: &ends[row_no as usize],
         };
-        push_reasons(alloc, &mut writer, survey, &layout, &record)?;
+        push_reasons(alloc, &mut writer, survey, &layout, &row)?;
     }
     writer.into_bytes()
 }
@@ -69,16 +69,16 @@ fn push_reasons(
     writer: &mut RecordWriter,
     survey: &Survey,
     layout: &Layout,
-    record: &Record,
+    row: &Record,
 ) -> Result<(), OutOfMemory>
     requires layout { IsLayout survey.now.fields layout.now }
-    requires width { length record.now.read.now ≡ layout.now.width }
-    requires end { IsEnd survey.now.fields record.now.end.now }
-    ensures { OnOk result (Adds HasWritten writer.old writer.new (record_lines survey.now.fields layout.now record.now)) }
+    requires width { length row.now.read.now ≡ layout.now.width }
+    requires end { IsEnd survey.now.fields row.now.end.now }
+    ensures { OnOk result (Adds HasWritten writer.old writer.new (record_lines survey.now.fields layout.now row.now)) }
 {
-    match &record.end.gift {
-        None => push_unresolved(alloc, writer, survey, record.number, &record.end.proof),
-        Some(gift) => push_changes(alloc, writer, survey, layout, record, gift),
+    match &row.end.gift {
+        None => push_unresolved(alloc, writer, survey, row.number, &row.end.proof),
+        Some(gift) => push_changes(alloc, writer, survey, layout, row, gift),
     }
 }
 
@@ -111,15 +111,15 @@ fn push_changes(
     writer: &mut RecordWriter,
     survey: &Survey,
     layout: &Layout,
-    record: &Record,
+    row: &Record,
     gift: &Gift,
 ) -> Result<(), OutOfMemory>
     requires layout { IsLayout survey.now.fields layout.now }
-    requires width { length record.now.read.now ≡ layout.now.width }
-    requires gift { IsGift survey.now.fields (path_found record.now.end.now.proof.outcome) gift.now }
-    ensures { OnOk result (Adds HasWritten writer.old writer.new (gift_lines survey.now.fields layout.now record.now gift.now)) }
+    requires width { length row.now.read.now ≡ layout.now.width }
+    requires gift { IsGift survey.now.fields (path_found row.now.end.now.proof.outcome) gift.now }
+    ensures { OnOk result (Adds HasWritten writer.old writer.new (gift_lines survey.now.fields layout.now row.now gift.now)) }
 {
-    let changed = changed_fields(alloc, survey, path_found(&record.end.proof.outcome))?;
+    let changed = changed_fields(alloc, survey, path_found(&row.end.proof.outcome))?;
     let fields = changed.as_slice();
     let hows = gift.how.as_slice();
     for place in 0..fields.len() {
@@ -128,7 +128,7 @@ fn push_changes(
             writer,
             survey,
             layout,
-            record,
+            row,
             &gift.row,
             fields[place],
             hows[place],
@@ -143,23 +143,23 @@ fn push_change(
     writer: &mut RecordWriter,
     survey: &Survey,
     layout: &Layout,
-    record: &Record,
+    row: &Record,
     new: &Row,
     field: u32,
     how: How,
 ) -> Result<(), OutOfMemory>
     requires layout { IsLayout survey.now.fields layout.now }
-    requires width { length record.now.read.now ≡ layout.now.width }
+    requires width { length row.now.read.now ≡ layout.now.width }
     requires new { IsRow survey.now.fields new.now }
     requires field { field < length survey.now.fields }
     ensures { OnOk result
-        (Adds HasWritten writer.old writer.new (field_line survey.now.fields layout.now record.now new.now field how ∷ [])) }
+        (Adds HasWritten writer.old writer.new (field_line survey.now.fields layout.now row.now new.now field how ∷ [])) }
 {
-    let number = number_text(alloc, record.number)?;
+    let number = number_text(alloc, row.number)?;
     let after = text_at(alloc, survey, new, field)?;
-    let donor = donor_text(alloc, record.end.donor)?;
+    let donor = donor_text(alloc, row.end.donor)?;
     let name = name_of(survey, field);
-    let before = record.read.get(layout.column(field));
+    let before = row.read.get(layout.column(field));
     push_line(writer, &number, name, before, &after, &donor, how_text(how))
 }
 

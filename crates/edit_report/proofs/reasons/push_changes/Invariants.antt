@@ -7,5 +7,5 @@ use Rattle.edit_report.proofs.reasons.push_changes.Given as goal
 abbrev pub invariant-loop-place : goal.invariant-loop-place
 invariant-loop-place l =
     (bytes : List ℕ) → HasWritten l.fn.writer bytes → (text : List ℕ) × HasWritten l.writer text
-    × (text ++ records_text (changed_lines l.survey.fields l.layout.columns l.record.number l.record.read.now l.record.end.now.donor l.gift.row (drop l.place l.fields) (drop l.place l.hows))
-    ≡ bytes ++ records_text (changed_lines l.survey.fields l.layout.columns l.record.number l.record.read.now l.record.end.now.donor l.gift.row l.fields l.hows))
+    × (text ++ records_text (changed_lines l.survey.fields l.layout.columns l.row.number l.row.read.now l.row.end.now.donor l.gift.row (drop l.place l.fields) (drop l.place l.hows))
+    ≡ bytes ++ records_text (changed_lines l.survey.fields l.layout.columns l.row.number l.row.read.now l.row.end.now.donor l.gift.row l.fields l.hows))
