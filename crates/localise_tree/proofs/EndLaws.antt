@@ -81,7 +81,7 @@ module _ (c : SearchCase) (node more : Node) (b : Bool) (is_node : IsNode c node
 
 -- ---- an end at its place
 
-placed-all : (P : Node → Type 0) (ends : List Node) (node : Node) → AllByRecursion P ends → P node → AllByRecursion P (placed before ends node)
+pub placed-all : (P : Node → Type 0) (ends : List Node) (node : Node) → AllByRecursion P ends → P node → AllByRecursion P (placed before ends node)
 placed-all P [] node are is = (is, tt)
 placed-all P (x ∷ ends) node are is = by (before x node) (placed-all P ends node are.1 is)
   where
@@ -89,12 +89,12 @@ placed-all P (x ∷ ends) node are is = by (before x node) (placed-all P ends no
     by true rest = (are.0, rest)
     by false rest = (is, are)
 
-before-paths : (c : SearchCase) (a b : Node) → IsNode c a → IsNode c b → before a b ≡ is_before c.survey.fields a.path b.path
+pub before-paths : (c : SearchCase) (a b : Node) → IsNode c a → IsNode c b → before a b ≡ is_before c.survey.fields a.path b.path
 before-paths c a b is_a is_b =
     ap (λ (n : ℕ). nat_lt n b.weight || ((n == b.weight) && is_first a.path b.path)) is_a.weight
     ∙ ap (λ (n : ℕ). nat_lt (path_weight c.survey.fields a.path) n || ((path_weight c.survey.fields a.path == n) && is_first a.path b.path)) is_b.weight
 
-placed-paths : (c : SearchCase) (ends : List Node) (node : Node) → AllByRecursion (IsNode c) ends → IsNode c node → paths_of (placed before ends node) ≡ placed (is_before c.survey.fields) (paths_of ends) node.path
+pub placed-paths : (c : SearchCase) (ends : List Node) (node : Node) → AllByRecursion (IsNode c) ends → IsNode c node → paths_of (placed before ends node) ≡ placed (is_before c.survey.fields) (paths_of ends) node.path
 placed-paths c [] node are is = refl
 placed-paths c (x ∷ ends) node are is =
     by (before x node) (placed-paths c ends node are.1 is) ∙ ap (λ (t : Bool). if t then x.path ∷ placed (is_before c.survey.fields) (paths_of ends) node.path else node.path ∷ x.path ∷ paths_of ends) (before-paths c x node are.0 is)

@@ -7,6 +7,7 @@ pub mod LastLetters
 pub mod LeafLaws
 pub mod ModelLaws
 pub mod NumberPathLaws
+pub mod PlaceLaws
 pub mod ProblemLaws
 pub mod RowCodes
 pub mod SearchLaws

@@ -1,5 +1,6 @@
 ghost use Rattle.std.specs.Prelude.{◌≡◌, ℕ, ◌&&◌, ◌≤◌, ◌<◌, ◌++◌, [], ◌∷◌, IfNone, IfOk, IfSome, OnOk, if◌then◌else◌, length, not, true};
 ghost use Rattle.std.specs.List.{AllByRecursion, insert};
+ghost use Rattle.std.specs.List.Sorted.{IsPartitionedBy};
 ghost use Rattle.edit_line.specs.EditSets.{EditsParts};
 ghost use Rattle.edit_model.specs.Corrections.{is_first};
 ghost use Rattle.edit_paths.specs.PathStates.{is_open};
@@ -9,7 +10,7 @@ ghost use Rattle.edit_paths.specs.States.{state_of};
 ghost use Rattle.edit_paths.specs.Walks.{ends_after};
 ghost use Rattle.edit_paths.specs.declared.state.PathState.TheVariants.{Open};
 ghost use Rattle.localise_tree.specs.inner.Bases.{IsBasis};
-ghost use Rattle.localise_tree.specs.inner.Nodes.{AreKept, IsFirstEnd, IsLook, IsNode, StayKept, before, paths_of, weight_in_order};
+ghost use Rattle.localise_tree.specs.inner.Nodes.{AreInOrder, AreKept, IsFirstEnd, IsLook, IsNode, StayKept, before, paths_of, weight_in_order};
 ghost use Rattle.localise_tree.specs.inner.Problems.{IsProblem, case_in, edits_in};
 
 use crate::looks::{Basis, Look};
@@ -20,6 +21,7 @@ use edit_paths::PathState;
 use foundation::{OutOfMemory, Steps};
 use linear_elim::{Held, SystemFault, Systems};
 use std::alloc::Global;
+use std::collections::VecDeque;
 use std::sync::Arc;
 use std::sync::ledger::Ledger;
 
@@ -46,7 +48,7 @@ pub(crate) fn first_end<S: Systems, L: Ledger>(
     source: &mut S,
     problem: &Problem,
     steps: &mut Steps<L>,
-) -> Result<Vec<Node>, OutOfMemory>
+) -> Result<VecDeque<Node>, OutOfMemory>
     requires problem { IsProblem problem.now }
     requires served { S.serves source.old (edits_in problem.now) }
     ensures paths { IfOk result (λ ends. paths_of ends.items ≡ [] ∷ []) }
@@ -63,12 +65,12 @@ pub(crate) fn first_end<S: Systems, L: Ledger>(
 }
 
 // The empty path alone, with the system of no field.
-fn one_end(alloc: Global, held: Held) -> Result<Vec<Node>, OutOfMemory>
+fn one_end(alloc: Global, held: Held) -> Result<VecDeque<Node>, OutOfMemory>
     ensures { IfOk result (λ ends. IsFirstEnd held ends.items) }
 {
     let before = Basis::Lines(Arc::new(alloc, held)?);
-    let mut ends = Vec::new(alloc);
-    ends.push(Node {
+    let mut ends = VecDeque::new(alloc);
+    ends.push_back(Node {
         path: Path::new(Vec::new(alloc)),
         weight: 0,
         before,
@@ -77,21 +79,18 @@ fn one_end(alloc: Global, held: Held) -> Result<Vec<Node>, OutOfMemory>
 }
 
 /// Takes the first end out of the list. No memory.
-pub(crate) fn take_first(ends: &mut Vec<Node>) -> Option<Node>
+pub(crate) fn take_first(ends: &mut VecDeque<Node>) -> Option<Node>
     ensures some { IfSome result (λ node. ends.old.items ≡ node ∷ ends.new.items) }
     ensures none { IfNone result (ends.old.items ≡ []) }
 {
-    if ends.is_empty() {
-        return None;
-    }
-    Some(ends.remove(0))
+    ends.pop_front()
 }
 
 /// Puts the paths that the path leads on to among the ends, in order.
 pub(crate) fn lead_on(
     alloc: Global,
     problem: &Problem,
-    ends: &mut Vec<Node>,
+    ends: &mut VecDeque<Node>,
     node: &Node,
     look: Look,
 ) -> Result<(), OutOfMemory>
@@ -99,6 +98,7 @@ pub(crate) fn lead_on(
     requires node { IsNode (case_in problem.now) node.now }
     requires look { IsLook (case_in problem.now) node.now.path look }
     requires ends { AllByRecursion (IsNode (case_in problem.now)) ends.old.items }
+    requires order { AreInOrder (case_in problem.now) (paths_of ends.old.items) }
     ensures paths { OnOk result
         (paths_of ends.new.items ≡ ends_after (case_in problem.now) node.now.path (paths_of ends.old.items)) }
     ensures nodes { OnOk result (AllByRecursion (IsNode (case_in problem.now)) ends.new.items) }
@@ -172,8 +172,10 @@ fn with_letter(alloc: Global, letters: &[bool], letter: bool) -> Result<Vec<bool
     Ok(more)
 }
 
-// Puts the end behind those that come before it.
-fn place_end(ends: &mut Vec<Node>, node: Node) -> Result<(), OutOfMemory>
+// Puts the end behind those that come before it. They stand in front of all others, so that half of the ends are passed
+// over at each look, and the shorter part of them moves.
+fn place_end(ends: &mut VecDeque<Node>, node: Node) -> Result<(), OutOfMemory>
+    requires { IsPartitionedBy (λ end. before end node) ends.old.items }
     ensures { OnOk result (ends.new.items ≡ placed before ends.old.items node) }
 {
     let place = before_count(ends, &node);
@@ -181,17 +183,13 @@ fn place_end(ends: &mut Vec<Node>, node: Node) -> Result<(), OutOfMemory>
     Ok(())
 }
 
-// How many of the first ends come before the node.
-fn before_count(ends: &[Node], node: &Node) -> usize
-    ensures place { insert ends.now result node.now ≡ placed before ends.now node.now }
-    ensures fits { result ≤ length ends.now }
+// How many of the ends come before the node.
+fn before_count(ends: &VecDeque<Node>, node: &Node) -> usize
+    requires { IsPartitionedBy (λ end. before end node.now) ends.now.items }
+    ensures place { insert ends.now.items result node.now ≡ placed before ends.now.items node.now }
+    ensures fits { result ≤ length ends.now.items }
 {
-    for (place, end) in ends.iter().enumerate() {
-        if !comes_before(end, node) {
-            return place;
-        }
-    }
-    ends.len()
+    ends.partition_point(|end| comes_before(end, node))
 }
 
 // Whether the first path comes before the second, or is the same.

@@ -8,6 +8,7 @@ use Rattle.localise_tree.specs.inner.Takens.{taken_paths}
 use Rattle.localise_tree.specs.declared.ends.Node.{Node}
 use Rattle.localise_tree.specs.declared.looks.Look.{Look}
 use Rattle.localise_tree.proofs.SearchLaws.{change-kept, kept-later, none-is, none-of, path-later, run-budget, run-ends, run-less, run-turn}
+use Rattle.localise_tree.proofs.PlaceLaws.{rest-order}
 use Rattle.localise_tree.proofs.best_first.search.Goals as goal
 
 pub returns-in_default-2-clause-exact : goal.returns-in_default-2-clause-exact
@@ -47,3 +48,7 @@ loop-node-preserved g c =
       λ e h. c.in_ok-outcome.ensures.serves e (c.in_ok-look.ensures.serves e (c.loop-node.invariant.2 e h)),
       λ f h. c.in_ok-outcome.ensures.keeps f (c.in_ok-look.ensures.keeps f (c.loop-node.invariant.3 f h)),
     )
+
+pub lead_on-requires-clause-order : goal.lead_on-requires-clause-order
+lead_on-requires-clause-order g c =
+    rest-order (case_in c.args.problem.now) c.loop-node.ends.items c.take_first.new.ends.items c.in-Some.node c.in-Some.ensures.some c.loop-node.invariant.0.searching.sorted

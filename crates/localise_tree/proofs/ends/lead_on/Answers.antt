@@ -6,6 +6,7 @@ use Rattle.edit_paths.specs.Walks.{next_paths}
 use Rattle.edit_paths.specs.declared.state.PathState.{PathState}
 use Rattle.localise_tree.specs.inner.Problems.{case_in}
 use Rattle.localise_tree.proofs.EndLaws.{child-kept, leads-both, leads-open, leads-short, led-kept, led-nodes, led-paths}
+use Rattle.localise_tree.proofs.PlaceLaws.{parted, parted-next}
 use Rattle.localise_tree.proofs.ends.lead_on.Goals as goal
 
 module _ (c : goal.In_ok-place_end-2) where
@@ -29,3 +30,11 @@ returns-clause-kept c keeps kept are =
     led-kept (case_in c.args.problem.now) c.args.node.now.path c.args.ends.now.items c.place_end.new.ends.items c.place_end-2.new.ends.items c.in_ok-kept.kept c.in_ok-changed.changed c.in_ok-place_end.ensures c.in_ok-place_end-2.ensures keeps are
     (child-kept (case_in c.args.problem.now) c.args.node.now c.in_ok-kept.kept false c.requires.node short c.in_ok-kept.ensures.path keeps (kept opened))
     (child-kept (case_in c.args.problem.now) c.args.node.now c.in_ok-changed.changed true c.requires.node short c.in_ok-changed.ensures.path keeps (kept opened))
+
+pub place_end-requires : goal.place_end-requires
+place_end-requires c = parted (case_in c.args.problem.now) c.args.ends.now.items c.in_ok-kept.kept c.requires.ends c.in_ok-kept.ensures.node c.requires.order
+
+pub place_end-requires-2 : goal.place_end-requires-2
+place_end-requires-2 c =
+    parted-next (case_in c.args.problem.now) c.args.ends.now.items c.place_end.new.ends.items c.in_ok-kept.kept c.in_ok-changed.changed c.in_ok-place_end.ensures
+    c.requires.ends c.in_ok-kept.ensures.node c.in_ok-changed.ensures.node c.requires.order
