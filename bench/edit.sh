@@ -2,11 +2,12 @@
 # Times `edit` and the `check` of what it wrote, over a business survey of 16 fields and 30 rules, and over a labour force
 # survey beside a branch and bound.
 #
-# usage: bench/edit.sh [ROWS..]      (default: 50000 100000 200000)
+# usage: bench/edit.sh [ROWS..]      (default: 10000 50000 100000)
 #
 # The business survey (bench/yardstick/business_survey.py): about one row in 20 has a wrong number. Each line has the
 # rows, how many of them were changed, the MiB of the record file, the seconds, the rows a second, and the peak bytes of
-# memory for each byte of input. Time and memory should grow in proportion to the rows. Then come the seconds of `check`
+# memory for each byte of input. Memory should grow in proportion to the rows, and so should the time of `check`; that of `edit`
+# grows with the changed rows times the clean ones, since each changed row looks at all donors. Then come the seconds of `check`
 # on the files that were just written, and what share that is of the time of `edit`: of the seconds of the processor,
 # which say more than those of the clock where the machine has other work. A check reads the proof and goes through its
 # steps, and neither searches nor eliminates; it is to take at most half the time of the edit.
@@ -42,7 +43,7 @@ best() {
 }
 
 "$top/forxainde" >/dev/null 2>&1 || true    # builds the program, so that the build is not timed
-for rows in "${@:-50000 100000 200000}"; do
+for rows in "${@:-10000 50000 100000}"; do
     for count in $rows; do
         python3 "$yardstick/business_survey.py" --rules "$work/rules" --records "$work/records" --rows "$count" --one-in 20
         size=$(stat -c %s "$work/records")

@@ -1,0 +1,44 @@
+#!/bin/bash
+# Times `edit` over records whose rules nothing meets, and the `check` of what it wrote.
+#
+# usage: bench/contradictions.sh [ROWS]      (default: 10)
+#
+# The rules are those of the business survey (bench/yardstick/business_survey.py: 12 numerical and 4 categorical fields), and two
+# more that contradict each other. Before a record is said to be contradictory, each path that the rules leave open is looked
+# into, and its tree has a leaf for each that they close. So the later the fields of the contradiction stand in the path order,
+# the more a record costs. In `numbers` it is at the last numerical field, and in `codes` at the last field of all: then there are
+# 65,536 leaves.
+#
+# How to read a line: the kind; the records; the seconds of the processor a record, the leaves of its tree, and the KiB that it
+# takes of the proof; and the seconds of the check a record.
+set -eu
+top=$(cd "$(dirname "$0")/.." && pwd)
+program="$top/crates/edit_program/out/edit_program"
+rows=${1:-10}
+work=$(mktemp -d)
+trap 'rm -rf "$work"' EXIT
+
+# The seconds of the processor of the program with these words; it ends with the status that is wanted.
+seconds_of() {
+    local wanted=$1 status=0
+    local TIMEFORMAT='%U %S'
+    { time "$program" "${@:2}" >"$work/printed" || status=$?; } 2>"$work/time"
+    [ "$status" = "$wanted" ] || { cat "$work/printed" >&2; echo "the program ended with status $status" >&2; exit 1; }
+    awk '{ print $1 + $2 }' "$work/time"
+}
+
+"$top/forxainde" >/dev/null 2>&1 || true    # builds the program, so that the build is not timed
+python3 "$top/bench/yardstick/business_survey.py" --rules "$work/survey" --records "$work/records" --rows "$rows"
+for kind in numbers codes; do
+    cp "$work/survey" "$work/rules"
+    case $kind in
+        numbers) printf 'Invest >= 5\nInvest <= 3\n' ;;
+        codes) printf 'Form in {sole}\nForm in {company}\n' ;;
+    esac >>"$work/rules"
+    edit=$(seconds_of 1 edit --rules "$work/rules" --records "$work/records" --released "$work/released" --reasons "$work/reasons" --proof "$work/proof")
+    check=$(seconds_of 0 check --rules "$work/rules" --records "$work/records" --released "$work/released" --proof "$work/proof")
+    leaves=$(awk '$1 == "contradictory" { sum += $2 } END { print sum }' "$work/proof")
+    awk -v kind="$kind" -v n="$rows" -v edit="$edit" -v check="$check" -v leaves="$leaves" -v size="$(stat -c %s "$work/proof")" 'BEGIN {
+        printf "%s: %d records, %.3f s, %.0f leaves and %.0f KiB a record; check %.3f s\n", kind, n, edit / n, leaves / n, size / 1024 / n, check / n
+    }'
+done
