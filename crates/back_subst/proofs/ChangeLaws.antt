@@ -17,14 +17,13 @@ use Rattle.edit_paths.specs.Cases.{SearchCase, IsCase, Meets, case_of}
 use Rattle.edit_paths.specs.Certificates.{certificate_of}
 use Rattle.edit_paths.specs.Outcomes.{end_by, outcome_from, outcome_of}
 use Rattle.edit_paths.specs.Paths.{field_count, is_complete}
-use Rattle.edit_paths.specs.ReachedPaths.{IsReached, is_before, reached_paths}
+use Rattle.edit_paths.specs.ReachedPaths.{AreInOrder, IsReached, is_before, reached_paths}
 use Rattle.edit_paths.specs.States.{IsOpen, state_of}
 use Rattle.edit_paths.specs.Works.{work_of, work_of_all}
 use Rattle.edit_paths.specs.declared.state.PathState.{PathState}
 use Rattle.edit_paths.specs.declared.state.PathState.TheVariants.{ClosedBad, ClosedBox, ClosedLine, Open, Overflows}
 use Rattle.edit_paths.proofs.ChoiceLaws.{EndsNot, FoundAt, change-choice, found-from, sorted-after}
 use Rattle.edit_paths.proofs.LeastLaws.{choice-least}
-use Rattle.edit_paths.proofs.OrderLaws.{IsSorted}
 use Rattle.edit_paths.proofs.PathOrder.{before-chain, before-equal, before-extends, before-total}
 use Rattle.edit_paths.proofs.ReachedLaws.{reached-are, reached-sorted}
 use Rattle.back_subst.specs.Gifts.{CanGive, IsCheap, IsNeeded, path_of}
@@ -100,8 +99,8 @@ module _ (c : SearchCase) (is : IsCase c) (budget : ℕ) (path : List Bool) (wei
       extends : is_before c.survey.fields (take k path) path ≡ true
       extends = subst (λ (p : List Bool). is_before c.survey.fields (take k path) p ≡ true) (take-append-drop k path) (before-extends c (take k path) (drop k path))
 
-      sorted : IsSorted (is_before c.survey.fields) (before-total c) (before-chain c) (before-equal c) (found.before ++ path ∷ found.after)
-      sorted = subst (λ (ps : List (List Bool)). IsSorted (is_before c.survey.fields) (before-total c) (before-chain c) (before-equal c) ps) found.paths_are (reached-sorted c)
+      sorted : AreInOrder (is_before c.survey.fields) (found.before ++ path ∷ found.after)
+      sorted = subst (λ (ps : List (List Bool)). AreInOrder (is_before c.survey.fields) ps) found.paths_are (reached-sorted c)
 
   cheap : budget < 2 ^ 64 → IsCheap c path
   cheap small k few =

@@ -28,7 +28,7 @@ use Rattle.edit_paths.specs.Outcomes.{outcome_of}
 use Rattle.edit_paths.specs.PathHistories.{box_history, line_history}
 use Rattle.edit_paths.specs.PathStates.{is_open}
 use Rattle.edit_paths.specs.Paths.{field_count}
-use Rattle.edit_paths.specs.ReachedPaths.{changed_next, is_before, kept_next, reached_paths}
+use Rattle.edit_paths.specs.ReachedPaths.{AreInOrder, changed_next, is_before, kept_next, reached_paths}
 use Rattle.edit_paths.specs.States.{state_of}
 use Rattle.edit_paths.specs.declared.state.PathState.{PathState}
 use Rattle.edit_paths.specs.declared.state.PathState.TheVariants.{ClosedBad, ClosedBox, ClosedLine, Open, Overflows}
@@ -38,7 +38,6 @@ use Rattle.edit_paths.proofs.ClosingSteps.{closing-box, closing-line, only-kept}
 use Rattle.edit_paths.proofs.KeptLines.{asks-whole, kept-number}
 use Rattle.edit_paths.proofs.LetterLaws.{longer}
 use Rattle.edit_paths.proofs.LineHistories.{AreUsable}
-use Rattle.edit_paths.proofs.OrderLaws.{IsSorted}
 use Rattle.edit_paths.proofs.PathOrder.{before-chain, before-equal, before-total, first-equal, first-self, tells}
 use Rattle.edit_paths.proofs.ReachedLaws.{empty-reached, next-reached, reached-sorted}
 
@@ -181,7 +180,7 @@ module _ (c : SearchCase) (is : IsCase c) (given : List LineParts) (usable : Lis
           bound p (inr (inr late)) other =
               lighter p
               (sorted-after c is found.before path p found.after
-              (subst (λ (ps : List (List Bool)). IsSorted (is_before c.survey.fields) (before-total c) (before-chain c) (before-equal c) ps) found.paths_are (reached-sorted c)) late)
+              (subst (λ (ps : List (List Bool)). AreInOrder (is_before c.survey.fields) ps) found.paths_are (reached-sorted c)) late)
       by found false none = tree-all (Some weight) [] (λ p nothing. absurd nothing) (λ p there other. omega (arith, found.weight_is, least none))
         where
           least : nat_lt 0 (path_weight c.survey.fields path) ≡ false → path_weight c.survey.fields path ≤ 0

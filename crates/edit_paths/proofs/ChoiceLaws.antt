@@ -13,7 +13,7 @@ use Rattle.edit_paths.specs.Cases.{SearchCase, IsCase, Meets}
 use Rattle.edit_paths.specs.Choices.{IsChoice}
 use Rattle.edit_paths.specs.Certificates.{certificate_of}
 use Rattle.edit_paths.specs.Outcomes.{end_by, outcome_from, outcome_of}
-use Rattle.edit_paths.specs.ReachedPaths.{is_before, reached_paths}
+use Rattle.edit_paths.specs.ReachedPaths.{AreInOrder, is_before, reached_paths}
 use Rattle.edit_paths.specs.Works.{work_of, work_of_all}
 use Rattle.edit_paths.specs.Paths.{AgreesAlong, field_count, is_complete}
 use Rattle.bound_cert.specs.Paths.{changes, path_place, path_weight}
@@ -30,7 +30,6 @@ use Rattle.edit_paths.proofs.LetterLaws.{all-treated, taken-kept}
 use Rattle.edit_paths.proofs.OpenPaths.{open-point}
 use Rattle.edit_model.proofs.OrderLaws.{order-length}
 use Rattle.edit_line.proofs.FieldLists.{there-has}
-use Rattle.edit_paths.proofs.OrderLaws.{IsSorted}
 use Rattle.edit_paths.proofs.PathOrder.{before-chain, before-equal, before-extends, before-total, sum-less, tells}
 use Rattle.edit_paths.proofs.ReachedLaws.{empty-reached, next-reached, reached-sorted}
 use Rattle.edit_line.proofs.FieldLists.{there-has}
@@ -225,7 +224,7 @@ contradictory c is budget cert e p meets = word-ends c is p meets (reached_paths
 -- ---- the choice
 
 module _ (c : SearchCase) (is : IsCase c) where
-  pub sorted-after : (before : List (List Bool)) (path z : List Bool) (after : List (List Bool)) → IsSorted (is_before c.survey.fields) (before-total c) (before-chain c) (before-equal c) (before ++ path ∷ after) → IsIn z after → is_before c.survey.fields path z ≡ true
+  pub sorted-after : (before : List (List Bool)) (path z : List Bool) (after : List (List Bool)) → AreInOrder (is_before c.survey.fields) (before ++ path ∷ after) → IsIn z after → is_before c.survey.fields path z ≡ true
   sorted-after [] path z after sorted there = sorted.0 z there
   sorted-after (x ∷ before) path z after sorted there = sorted-after before path z after sorted.1 there
 
@@ -258,7 +257,7 @@ module _ (c : SearchCase) (is : IsCase c) where
               | inl at ↦ at
               | inr at ↦ elim at [
                 | inl same ↦ absurd (after_path k (subst (λ (p : List Bool). is_before c.survey.fields path p ≡ true) (sym same) itself))
-                | inr late ↦ absurd (after_path k (sorted-after found.before path (take k (word_of c.survey c.row q)) found.after (subst (λ (ps : List (List Bool)). IsSorted (is_before c.survey.fields) (before-total c) (before-chain c) (before-equal c) ps) found.paths_are (reached-sorted c)) late))
+                | inr late ↦ absurd (after_path k (sorted-after found.before path (take k (word_of c.survey c.row q)) found.after (subst (λ (ps : List (List Bool)). AreInOrder (is_before c.survey.fields) ps) found.paths_are (reached-sorted c)) late))
               ]
             ]
 

@@ -2,7 +2,7 @@ use Rattle.std.proofs.Common.{Bool, List, None, [], ap, arith, drop, false, if�
 use Rattle.std.proofs.lemmas.List.{at_drop_all}
 use Rattle.std.specs.List.{fold, list_any}
 use Rattle.derivation.specs.declared.step.Step.{Step}
-use Rattle.edit_paths.specs.Histories.{Element, History, is_element, made_or, maker, making_at, number_in, step_parts, proof_by, renumbered, with_proof, with_step}
+use Rattle.edit_paths.specs.Histories.{Element, History, is_element, made_or, maker, making_at, step_number, step_parts, proof_by, renumbered, with_proof, with_step}
 use Rattle.edit_paths.specs.Levels.{history_of, makings_of}
 use Rattle.edit_paths.specs.declared.levels.Level.{Level}
 use Rattle.edit_paths.specs.declared.making.Making.{Making}
@@ -54,7 +54,7 @@ module _ (levels before : List Level) (level : Level) (place : ℕ) (is : levels
 
   -- its step comes behind those of its parts
   pub proof-here : (done parted : List Written) (step written : Step) → making_at (makings_of level) place ≡ By step → list_any (λ (w : Written). is_element w.element (length before, place)) done ≡ false
-      → parted ≡ fold (λ done i. with_proof (history_of before) i done) done (step_parts step) → written ≡ renumbered (λ i. number_in parted (maker (history_of before) i)) step
+      → parted ≡ fold (λ done i. with_proof (history_of before) i done) done (step_parts step) → written ≡ renumbered (λ i. step_number parted (maker (history_of before) i)) step
       → parted ++ record { element = (length before, place); step = written } ∷ [] ≡ with_proof (history_of levels) place done
   proof-here done parted step written made new parts number =
       sym (

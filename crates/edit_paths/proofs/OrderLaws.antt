@@ -4,17 +4,12 @@ use Rattle.std.specs.List.Sorted.{IsPermutation}
 use Rattle.std.proofs.lemmas.List.Sorted.{IsPermutation-append_right, IsPermutation-cons, IsPermutation-middle, IsPermutation-refl, IsPermutation-sym, IsPermutation-trans, sum_by-IsPermutation}
 use Rattle.std.proofs.lemmas.List.Sums.{sum_by-append, sum_by-cons}
 use Rattle.edit_line.specs.Reductions.{IsIn}
-use Rattle.edit_paths.specs.ReachedPaths.{in_order, placed}
+use Rattle.edit_paths.specs.ReachedPaths.{AreInOrder, in_order, placed}
 
 -- A list in order: it has the elements of the list, each as often, and is the only such list.
 
 module _ {X : Type 0} (before : X → X → Bool) (total : (x y : X) → before x y ≡ false → before y x ≡ true) (chain : (x y z : X) → before x y ≡ true → before y z ≡ true → before x z ≡ true)
     (equal : (x y : X) → before x y ≡ true → before y x ≡ true → x ≡ y) where
-  -- each element comes before all later ones
-  abbrev pub IsSorted : List X → Type 0
-  IsSorted [] = Unit {0}
-  IsSorted (x ∷ xs) = ((y : X) → IsIn y xs → before x y ≡ true) × IsSorted xs
-
   self : (x : X) → before x x ≡ true
   self x = by (before x x) refl
     where
@@ -51,13 +46,13 @@ module _ {X : Type 0} (before : X → X → Bool) (total : (x y : X) → before 
   in-counted a (x ∷ xs) (inr there) = let rest = in-counted a xs there in omega (arith, rest, count-cons a x xs)
 
   -- two lists in order with the same elements are the same
-  pub same-sorted : (xs ys : List X) → IsSorted xs → IsSorted ys → ((a : X) → count a xs ≡ count a ys) → xs ≡ ys
+  pub same-sorted : (xs ys : List X) → AreInOrder before xs → AreInOrder before ys → ((a : X) → count a xs ≡ count a ys) → xs ≡ ys
   same-sorted [] [] first second same = refl
   same-sorted [] (y ∷ ys) first second same = let some = in-counted y (y ∷ ys) (inl refl) in absurd (omega (arith, some, same y))
   same-sorted (x ∷ xs) [] first second same = let some = in-counted x (x ∷ xs) (inl refl) in absurd (omega (arith, some, same x))
   same-sorted (x ∷ xs) (y ∷ ys) first second same = heads ∙ ap (λ (zs : List X). y ∷ zs) (same-sorted xs ys first.1 second.1 rest)
     where
-      least : (u v : X) (us : List X) → IsSorted (v ∷ us) → IsIn u (v ∷ us) → before v u ≡ true
+      least : (u v : X) (us : List X) → AreInOrder before (v ∷ us) → IsIn u (v ∷ us) → before v u ≡ true
       least u v us sorted (inl e) = subst (λ (w : X). before v w ≡ true) (sym e) (self v)
       least u v us sorted (inr there) = sorted.0 u there
 
@@ -99,11 +94,11 @@ module _ {X : Type 0} (before : X → X → Bool) (total : (x y : X) → before 
       by true rest (inr later) = elim (rest later) [ inl e ↦ inl e | inr at ↦ inr (inr at) ]
       by false rest h = h
 
-  placed-sorted : (x : X) (ys : List X) → IsSorted ys → IsSorted (placed before ys x)
+  placed-sorted : (x : X) (ys : List X) → AreInOrder before ys → AreInOrder before (placed before ys x)
   placed-sorted x [] sorted = (λ y none. absurd none, tt)
   placed-sorted x (y ∷ ys) sorted = by (before y x) refl (placed-sorted x ys sorted.1)
     where
-      by : (b : Bool) → before y x ≡ b → IsSorted (placed before ys x) → IsSorted (if b then y ∷ placed before ys x else x ∷ y ∷ ys)
+      by : (b : Bool) → before y x ≡ b → AreInOrder before (placed before ys x) → AreInOrder before (if b then y ∷ placed before ys x else x ∷ y ∷ ys)
       by true e rest = (λ z there. elim (in-placed z x ys there) [ inl same ↦ subst (λ (w : X). before y w ≡ true) (sym same) e | inr at ↦ sorted.0 z at ], rest)
       by false e rest =
           let first = total y x e in (
@@ -111,11 +106,11 @@ module _ {X : Type 0} (before : X → X → Bool) (total : (x y : X) → before 
             sorted,
           )
 
-  pub folded-sorted : (done xs : List X) → IsSorted done → IsSorted (fold (placed before) done xs)
+  pub folded-sorted : (done xs : List X) → AreInOrder before done → AreInOrder before (fold (placed before) done xs)
   folded-sorted done [] sorted = sorted
   folded-sorted done (x ∷ xs) sorted = folded-sorted (placed before done x) xs (placed-sorted x done sorted)
 
-  pub in_order-sorted : (xs : List X) → IsSorted (in_order before xs)
+  pub in_order-sorted : (xs : List X) → AreInOrder before (in_order before xs)
   in_order-sorted xs = folded-sorted [] xs tt
 
   pub in-folded : (z : X) (done xs : List X) → IsIn z (fold (placed before) done xs) → IsIn z done ⊎ IsIn z xs

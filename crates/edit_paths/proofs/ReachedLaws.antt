@@ -9,7 +9,7 @@ use Rattle.edit_line.specs.Reductions.{IsIn}
 use Rattle.edit_line.proofs.Members.{in-either, in-left, in-right}
 use Rattle.edit_line.proofs.Members.{in-flat_map-out}
 use Rattle.edit_paths.specs.Cases.{SearchCase}
-use Rattle.edit_paths.specs.ReachedPaths.{IsReached, changed_next, in_order, is_before, kept_next, placed, reached_from, reached_paths}
+use Rattle.edit_paths.specs.ReachedPaths.{AreInOrder, IsReached, changed_next, in_order, is_before, kept_next, placed, reached_from, reached_paths}
 use Rattle.edit_paths.specs.Outcomes.{end_at, outcome_from, outcome_of}
 use Rattle.edit_paths.specs.Paths.{field_count, is_complete}
 use Rattle.edit_paths.specs.PathStates.{is_open}
@@ -20,7 +20,7 @@ use Rattle.std.proofs.Math.Seq.{take-append_seam, take-length, take-suc}
 use Rattle.std.proofs.lemmas.List.{length-take-le, nil_from_length}
 use Rattle.edit_paths.specs.Walks.{next_paths, walk}
 use Rattle.edit_paths.proofs.LetterLaws.{longer}
-use Rattle.edit_paths.proofs.OrderLaws.{IsSorted, count, count-append, folded-sorted, in-folded, in-order, in_order-sorted, least-first, out-order, permuted-folded, same-order}
+use Rattle.edit_paths.proofs.OrderLaws.{count, count-append, folded-sorted, in-folded, in-order, in_order-sorted, least-first, out-order, permuted-folded, same-order}
 use Rattle.edit_paths.proofs.PathOrder.{before-chain, before-equal, before-extends, before-total}
 
 -- The reached paths in their order, as a best-first walk takes them.
@@ -165,7 +165,7 @@ module _ (c : SearchCase) where
       by true true e h = absurd h
       by false b e h = absurd h
 
-  walk-all : (more : ℕ) (ends : List (List Bool)) → ((x : List Bool) → IsIn x ends → length x ≤ field_count c) → IsSorted (is_before c.survey.fields) (before-total c) (before-chain c) (before-equal c) ends
+  walk-all : (more : ℕ) (ends : List (List Bool)) → ((x : List Bool) → IsIn x ends → length x ≤ field_count c) → AreInOrder (is_before c.survey.fields) ends
       → length (order (reached_beyond c ends)) ≤ more → walk c more ends ≡ order (reached_beyond c ends)
   walk-all zero ends fit sorted few = sym (nil_from_length (order (reached_beyond c ends)) (omega (arith, few)))
   walk-all (suc more) [] fit sorted few = refl
@@ -234,7 +234,7 @@ module _ (c : SearchCase) where
       (step-in (field_count c) [] path b (omega arith) (out-order (is_before c.survey.fields) (before-total c) (before-chain c) (before-equal c) path (reached_from c (field_count c) []) there) opened short)
 
   -- each reached path comes before the later ones
-  pub reached-sorted : IsSorted (is_before c.survey.fields) (before-total c) (before-chain c) (before-equal c) (reached_paths c)
+  pub reached-sorted : AreInOrder (is_before c.survey.fields) (reached_paths c)
   reached-sorted = in_order-sorted (is_before c.survey.fields) (before-total c) (before-chain c) (before-equal c) (reached_from c (field_count c) [])
 
   -- ---- the search

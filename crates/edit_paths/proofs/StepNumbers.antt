@@ -4,7 +4,7 @@ use Rattle.std.specs.Option.{is_some, option_map, option_or, unwrap_or}
 use Rattle.std.specs.Ordering.{is_eq, nat_cmp, ordering_then}
 use Rattle.std.specs.declared.cmp.Ordering.{Ordering}
 use Rattle.std.specs.declared.cmp.Ordering.TheVariants.{Equal, Greater, Less}
-use Rattle.edit_paths.specs.Histories.{Element, is_element, number_in}
+use Rattle.edit_paths.specs.Histories.{Element, is_element, step_number}
 use Rattle.edit_paths.specs.declared.making.Written.{Written}
 use Rattle.edit_paths.specs.inner.Writing.{number_of}
 use Rattle.edit_paths.proofs.StepsWritten.{same_element}
@@ -20,11 +20,11 @@ number-any (w ∷ done) e = by (is_element w.element e) (number_of done e) (numb
     by false None h = h
     by false (Some n) h = h
 
-pub number-in : (done : List Written) (e : Element) → number_in done e ≡ unwrap_or (number_of done e) (length done)
+pub number-in : (done : List Written) (e : Element) → step_number done e ≡ unwrap_or (number_of done e) (length done)
 number-in [] e = refl
 number-in (w ∷ done) e = by (is_element w.element e) (number_of done e) (number-in done e)
   where
-    by : (b : Bool) (o : Option ℕ) → number_in done e ≡ unwrap_or o (length done) → (if b then 0 else suc (number_in done e)) ≡ unwrap_or (if b then Some 0 else option_map suc o) (suc (length done))
+    by : (b : Bool) (o : Option ℕ) → step_number done e ≡ unwrap_or o (length done) → (if b then 0 else suc (step_number done e)) ≡ unwrap_or (if b then Some 0 else option_map suc o) (suc (length done))
     by true o h = refl
     by false None h = ap (λ n. suc n) h
     by false (Some n) h = ap (λ n. suc n) h

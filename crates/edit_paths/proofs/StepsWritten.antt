@@ -20,7 +20,7 @@ use Rattle.derivation.specs.ValidSteps.{as_box, as_line, common_from, covered_se
 use Rattle.derivation.specs.declared.proved.Proved.{Proved}
 use Rattle.derivation.specs.declared.step.Step.{Step}
 use Rattle.derivation.specs.declared.step.Step.TheVariants.{Combine, Cover, Fail, Fix, Given}
-use Rattle.edit_paths.specs.Histories.{Element, History, is_element, made_or, maker, making_at, number_in, step_parts, proof_by, renumbered, steps_to, with_proof, with_step}
+use Rattle.edit_paths.specs.Histories.{Element, History, is_element, made_or, maker, making_at, step_number, step_parts, proof_by, renumbered, steps_to, with_proof, with_step}
 use Rattle.edit_paths.specs.declared.making.Making.{Making}
 use Rattle.edit_paths.specs.declared.making.Making.TheVariants.{By, Same}
 use Rattle.edit_paths.specs.declared.making.Written.{Written}
@@ -195,12 +195,12 @@ module _ (p : Premises) (all : Elements) where
   HasStep done e = (w : Written) × IsIn w done × (w.element ≡ e)
 
   -- the step that proves an element has its number
-  number-at : (done : List Written) (values : List Proved) (e : Element) (u : Proved) → Match done values → HasStep done e → value_at all e ≡ Some u → slice_get values (number_in done e) ≡ Some u
+  number-at : (done : List Written) (values : List Proved) (e : Element) (u : Proved) → Match done values → HasStep done e → value_at all e ≡ Some u → slice_get values (step_number done e) ≡ Some u
   number-at [] values e u match has is = absurd has.1
   number-at (w ∷ done) [] e u match has is = absurd match
   number-at (w ∷ done) (v ∷ values) e u match has is = by (is_element w.element e) refl (λ rest. number-at done values e u match.1 rest is)
     where
-      by : (b : Bool) → is_element w.element e ≡ b → (HasStep done e → slice_get values (number_in done e) ≡ Some u) → slice_get (v ∷ values) (if b then 0 else suc (number_in done e)) ≡ Some u
+      by : (b : Bool) → is_element w.element e ≡ b → (HasStep done e → slice_get values (step_number done e) ≡ Some u) → slice_get (v ∷ values) (if b then 0 else suc (step_number done e)) ≡ Some u
       by true h rest = sym match.0 ∙ ap (λ (x : Element). value_at all x) (same_element w.element e h) ∙ is
       by false h rest = rest (later has)
         where
@@ -267,7 +267,7 @@ module _ (p : Premises) (all : Elements) where
       known = parts-written prove maker before writes (step_parts step) done (step-parts p before step v made) sound
 
       new : Written
-      new = record { element = e; step = renumbered (λ i. number_in (fold (λ done i. prove i done) done (step_parts step)) (maker i)) step }
+      new = record { element = e; step = renumbered (λ i. step_number (fold (λ done i. prove i done) done (step_parts step)) (maker i)) step }
 
       by : (b : Bool) → list_any (λ (w : Written). is_element w.element e) done ≡ b → IsWritten done (if b then done else with_step e maker step (fold (λ done i. prove i done) done (step_parts step))) e v
       by true h =
@@ -278,8 +278,8 @@ module _ (p : Premises) (all : Elements) where
           values = known.0.values ++ v ∷ [];
           proved =
               ap (λ (steps : List Step). proved_from p [] steps) (map-append (λ (w : Written). w.step) (fold (λ done i. prove i done) done (step_parts step)) (new ∷ []))
-              ∙ proved-more [] (steps_of (fold (λ done i. prove i done) done (step_parts step))) known.0.values (renumbered (λ i. number_in (fold (λ done i. prove i done) done (step_parts step)) (maker i)) step) v known.0.proved
-              (step-moved p before known.0.values (λ i. number_in (fold (λ done i. prove i done) done (step_parts step)) (maker i)) step v (λ a there u at. let (has, is) = known.2 a u there at in number-at (fold (λ done i. prove i done) done (step_parts step)) known.0.values (maker a) u known.0.match has is) made);
+              ∙ proved-more [] (steps_of (fold (λ done i. prove i done) done (step_parts step))) known.0.values (renumbered (λ i. step_number (fold (λ done i. prove i done) done (step_parts step)) (maker i)) step) v known.0.proved
+              (step-moved p before known.0.values (λ i. step_number (fold (λ done i. prove i done) done (step_parts step)) (maker i)) step v (λ a there u at. let (has, is) = known.2 a u there at in number-at (fold (λ done i. prove i done) done (step_parts step)) known.0.values (maker a) u known.0.match has is) made);
           match = match-more (fold (λ done i. prove i done) done (step_parts step)) known.0.values new v known.0.match value;
         };
         keeps = λ x has. let (w, there, is) = known.1 x has in (w, in-left w (fold (λ done i. prove i done) done (step_parts step)) (new ∷ []) there, is);
@@ -338,7 +338,7 @@ last-written p (list ∷ history) (values ∷ before) made place v at = by (maki
     by (Same i) is rest = rest i v is
     by (By step) is rest = (
       fold (λ done i. with_proof history i done) [] (step_parts step),
-      record { element = (length history, place); step = renumbered (λ i. number_in (fold (λ done i. with_proof history i done) [] (step_parts step)) (maker history i)) step },
+      record { element = (length history, place); step = renumbered (λ i. step_number (fold (λ done i. with_proof history i done) [] (step_parts step)) (maker history i)) step },
       refl,
       refl,
     )

@@ -65,9 +65,9 @@ maker [] place = (0, place)
 maker (list ∷ before) place = made_or (length before, place) (λ i. maker before i) (making_at list place)
 
 -- the number of the step that proves the element
-abbrev pub number_in : List Written → Element → ℕ
-number_in [] element = 0
-number_in (w ∷ done) element = if is_element w.element element then 0 else suc (number_in done element)
+abbrev pub step_number : List Written → Element → ℕ
+step_number [] element = 0
+step_number (w ∷ done) element = if is_element w.element element then 0 else suc (step_number done element)
 
 -- the places that a step builds on, in order
 abbrev pub step_parts : Step → List ℕ
@@ -87,7 +87,7 @@ renumbered number (Fix field part) = Fix field (number part)
 
 -- one more step, whose parts have their steps
 abbrev pub with_step : Element → (ℕ → Element) → Step → List Written → List Written
-with_step element maker step done = done ++ record { element = element; step = renumbered (λ i. number_in done (maker i)) step } ∷ []
+with_step element maker step done = done ++ record { element = element; step = renumbered (λ i. step_number done (maker i)) step } ∷ []
 
 -- whether one of the steps proves the element
 abbrev pub has_step : Element → List Written → Bool

@@ -14,7 +14,7 @@ use Rattle.edit_paths.specs.Cases.{SearchCase, IsCase, Meets, TellCorrections, c
 use Rattle.edit_paths.specs.Choices.{IsChoice}
 use Rattle.edit_paths.specs.Events.{IsStepOverflow, IsTestOverflow}
 use Rattle.edit_paths.specs.Paths.{AgreesAlong, DiffersOnlyOn, field_count}
-use Rattle.edit_paths.specs.ReachedPaths.{IsReached, reached_paths}
+use Rattle.edit_paths.specs.ReachedPaths.{AreInOrder, IsReached, is_before, reached_paths}
 use Rattle.edit_paths.specs.States.{StaysInRange, IsClosed, IsOpen, state_of}
 use Rattle.edit_paths.specs.declared.state.PathState.TheVariants.{Overflows}
 use Rattle.edit_paths.specs.Walks.{walk}
@@ -36,6 +36,10 @@ OpenPathLaw =
 -- the reached paths are just those, of at most as many fields as there are, of which all that they extend are open
 abbrev pub ReachedLaw : Type 0
 ReachedLaw = (c : SearchCase) (path : List Bool) → IsIn path (reached_paths c) ↔ ((length path ≤ field_count c) × IsReached c path)
+
+-- the reached paths are in order: each comes before all later ones, by weight and then letter by letter
+abbrev pub OrderLaw : Type 0
+OrderLaw = (c : SearchCase) → AreInOrder (is_before c.survey.fields) (reached_paths c)
 
 -- a best-first walk from the empty path on takes the reached paths in their order
 abbrev pub WalkLaw : Type 0

@@ -1,7 +1,8 @@
-use Rattle.std.specs.Prelude.{ℕ, zero, suc, ◌<◌, ◌==◌, ◌++◌, ◌&&◌, ◌||◌, Bool, true, false, List, [], ◌∷◌, if◌then◌else◌, length, nat_lt, take}
+use Rattle.std.specs.Prelude.{◌≡◌, ℕ, zero, suc, ◌<◌, ◌==◌, ◌++◌, ◌&&◌, ◌||◌, Bool, true, false, List, [], ◌∷◌, if◌then◌else◌, length, nat_lt, take}
 use Rattle.std.specs.List.{fold}
 use Rattle.edit_model.specs.Corrections.{is_first}
 use Rattle.edit_model.specs.declared.field.Field.{Field}
+use Rattle.edit_line.specs.Reductions.{IsIn}
 use Rattle.bound_cert.specs.Paths.{path_weight}
 use Rattle.edit_paths.specs.Cases.{SearchCase}
 use Rattle.edit_paths.specs.PathStates.{is_open}
@@ -41,6 +42,11 @@ placed before (y ∷ ys) x = if before y x then y ∷ placed before ys x else x 
 -- the elements in order
 abbrev pub in_order : {X : Type 0} → (X → X → Bool) → List X → List X
 in_order before xs = fold (placed before) [] xs
+
+-- the elements are in order: each comes before all later ones
+abbrev pub AreInOrder : {X : Type 0} → (X → X → Bool) → List X → Type 0
+AreInOrder before [] = Unit {0}
+AreInOrder {X} before (x ∷ xs) = ((later : X) → IsIn later xs → before x later ≡ true) × AreInOrder before xs
 
 -- the reached paths in the order of paths
 abbrev pub reached_paths : SearchCase → List (List Bool)

@@ -1,15 +1,17 @@
 ghost use Rattle.std.specs.Prelude.{ℕ};
 ghost use Rattle.edit_paths.specs.Answers.{Certifies, ChoosesFirst, FindsChange, IsBudgetEnough, NoneMeets, ShowsContradiction};
 ghost use Rattle.edit_paths.specs.Cases.{SearchCase, IsCase};
-ghost use Rattle.edit_paths.specs.Laws.{ClosedPathLaw, LeastLaw, OpenPathLaw, ReachedLaw, StepOverflowLaw, TestOverflowLaw, WalkLaw};
+ghost use Rattle.edit_paths.specs.Laws.{ClosedPathLaw, LeastLaw, OpenPathLaw, OrderLaw, ReachedLaw, StepOverflowLaw, TestOverflowLaw, WalkLaw};
 ghost use Rattle.edit_paths.specs.Outcomes.{outcome_of};
 
 /// What the state of a path tells of the points at which the edits hold, which paths are reached, in which
-/// order a best-first walk takes them, and which numbers the event of an overflow names. Nothing is computed.
+/// order they stand and a best-first walk takes them, and which numbers the event of an overflow names.
+/// Nothing is computed.
 pub fn path_laws()
     ensures closed_path { ClosedPathLaw }
     ensures open_path { OpenPathLaw }
     ensures reached { ReachedLaw }
+    ensures order { OrderLaw }
     ensures walk { WalkLaw }
     ensures step_overflow { StepOverflowLaw }
     ensures test_overflow { TestOverflowLaw }

@@ -1,5 +1,5 @@
 ghost use Rattle.std.specs.Prelude.{◌≡◌, ◌++◌, ◌∷◌, [], IfOk, OnOk, false, map};
-ghost use Rattle.edit_paths.specs.Histories.{has_step, number_in};
+ghost use Rattle.edit_paths.specs.Histories.{has_step, step_number};
 
 use crate::making::Written;
 use derivation::Step;
@@ -47,7 +47,7 @@ impl StepList {
 
     /// The number of the element's step, past the end where it has none. No memory.
     pub(crate) fn number_of(&self, element: (u64, u64)) -> u64
-        ensures { result ≡ number_in self.now element }
+        ensures { result ≡ step_number self.now element }
     {
         match self.numbers.get(&element) {
             Some(number) => *number,

@@ -1,6 +1,6 @@
 //! The steps that prove an element of a derived list: each element once, parts before the whole.
 ghost use Rattle.std.specs.Prelude.{◌≡◌, IfOk, OnOk, map};
-ghost use Rattle.edit_paths.specs.Histories.{maker, number_in, step_parts, renumbered, steps_to, with_proof};
+ghost use Rattle.edit_paths.specs.Histories.{maker, step_number, step_parts, renumbered, steps_to, with_proof};
 ghost use Rattle.edit_paths.specs.Levels.{history_of};
 
 use crate::levels::{Level, earlier_at, making_at};
@@ -85,7 +85,7 @@ pub fn parts_of(alloc: Global, step: &Step) -> Result<Vec<u64>, OutOfMemory>
 
 // The number of the step that proves the element at this place of the last list.
 fn part_number(levels: &[Level], done: &StepList, place: u64) -> u64
-    ensures { result ≡ number_in done.now (maker (history_of levels.now) place) }
+    ensures { result ≡ step_number done.now (maker (history_of levels.now) place) }
 {
     done.number_of(maker(levels, place))
 }
@@ -97,7 +97,7 @@ fn part_numbers(
     done: &StepList,
     parts: &[u64],
 ) -> Result<Vec<u64>, OutOfMemory>
-    ensures { IfOk result (λ numbers. numbers.items ≡ map (λ i. number_in done.now (maker (history_of levels.now) i)) parts.now) }
+    ensures { IfOk result (λ numbers. numbers.items ≡ map (λ i. step_number done.now (maker (history_of levels.now) i)) parts.now) }
 {
     Ok(
         parts
@@ -114,7 +114,7 @@ fn renumbered(
     done: &StepList,
     step: Step,
 ) -> Result<Step, OutOfMemory>
-    ensures { IfOk result (λ with. with ≡ renumbered (λ i. number_in done.now (maker (history_of levels.now) i)) step) }
+    ensures { IfOk result (λ with. with ≡ renumbered (λ i. step_number done.now (maker (history_of levels.now) i)) step) }
 {
     match step {
         Step::Given(number) => Ok(Step::Given(number)),

@@ -9,7 +9,7 @@ use Rattle.record_text.specs.declared.fault.SheetFault.{SheetFault}
 use Rattle.record_text.specs.declared.fault.SheetFault.TheVariants as sheet
 use Rattle.cert_check.specs.declared.fault.CheckFault.{CheckFault}
 use Rattle.cert_check.specs.declared.fault.CheckFault.TheVariants as check
-use Rattle.edit_program.specs.Faults.{sheet_fault}
+use Rattle.edit_program.specs.Faults.{sheet_refusal}
 use Rattle.edit_program.specs.Run.{AreCallsTo, CallsEndAt}
 use Rattle.edit_program.specs.inner.Parts.{AreCallsOf, IsOfFetch, IsOfRecords, IsOfRules, IsOfStores, faults_after}
 use Rattle.edit_program.specs.declared.fault.Fault.{Fault}
@@ -101,7 +101,7 @@ records-calls first name rest calls fault.OutOfMemory kind h = calls-between (fe
 records-calls first name rest calls f kind h = absurd kind
 
 -- the one call of a file of records that was fetched and not read
-as-sheet : (fields : List Field) (name : List ℕ) (told : SheetFault) → AreCallsTo (fetched name ∷ []) (sheet_fault fields told) (fetched name ∷ [])
+as-sheet : (fields : List Field) (name : List ℕ) (told : SheetFault) → AreCallsTo (fetched name ∷ []) (sheet_refusal fields told) (fetched name ∷ [])
 as-sheet fields name sheet.OutOfMemory = (1, refl)
 as-sheet fields name sheet.NoHeader = refl
 as-sheet fields name sheet.TooManyColumns = refl
@@ -110,9 +110,9 @@ as-sheet fields name (sheet.DoubleColumn n) = refl
 as-sheet fields name sheet.TooManyRows = refl
 as-sheet fields name (sheet.RowLength n) = refl
 
-pub sheet-calls : (a b : Option (List Asked)) (fields : List Field) (name : List ℕ) (told : SheetFault) (f : Fault) → (f ≡ sheet_fault fields told) ⊎ (f ≡ fault.OutOfMemory)
+pub sheet-calls : (a b : Option (List Asked)) (fields : List Field) (name : List ℕ) (told : SheetFault) (f : Fault) → (f ≡ sheet_refusal fields told) ⊎ (f ≡ fault.OutOfMemory)
     → PutsOnRecord a b (λ calls. calls ≡ fetched name ∷ []) → PutsOnRecord a b (AreCallsTo (fetched name ∷ []) f)
-sheet-calls a b fields name told f (inl same) p = less-calls a b (AreCallsTo (fetched name ∷ []) f) (λ x e. rw same (subst (AreCallsTo (fetched name ∷ []) (sheet_fault fields told)) (sym e) (as-sheet fields name told))) p
+sheet-calls a b fields name told f (inl same) p = less-calls a b (AreCallsTo (fetched name ∷ []) f) (λ x e. rw same (subst (AreCallsTo (fetched name ∷ []) (sheet_refusal fields told)) (sym e) (as-sheet fields name told))) p
 sheet-calls a b fields name told f (inr memory) p = less-calls a b (AreCallsTo (fetched name ∷ []) f) (λ x e. rw memory (1, e)) p
 
 -- ---- all calls, and then perhaps want of memory

@@ -11,7 +11,7 @@ use Rattle.edit_release.specs.declared.release.Release.{Release}
 use Rattle.edit_desk.specs.Desk.{Files, raised}
 use Rattle.command_words.specs.Asked.{EditAsked}
 use Rattle.edit_program.specs.EditRun.{IsMade, Leaves, edit_files}
-use Rattle.edit_program.specs.Edits.{HasReleased, IsStatusOf, terms_of}
+use Rattle.edit_program.specs.Edits.{HasReleased, IsStatusOf, terms_asked}
 use Rattle.edit_program.specs.Faults.{fault_status}
 use Rattle.edit_program.specs.Readings.{HoldsRecords, HoldsRules}
 use Rattle.edit_program.specs.Run.{IsFaultless, LeavesOf, Run, faults_by}
@@ -39,7 +39,7 @@ shown-by false ends h = inr (refl, λ all. let t = h.1 all in absurd cc)
 
 -- what is to be made of the files that were read
 pub made : (asked : EditAsked) (files : Files) (survey : SurveyParts) (s : SheetParts) (release : Release) → HoldsRules files asked.names.rules survey → HoldsRecords files asked.names.records survey.fields s
-    → IsReleaseOf survey s (terms_of asked) release → IsMade asked (edit_status release) files (written_in release)
+    → IsReleaseOf survey s (terms_asked asked) release → IsMade asked (edit_status release) files (written_in release)
 made asked files survey s release hr hs h = record {
   survey = survey;
   sheet = s;

@@ -5,7 +5,7 @@ use Rattle.edit_model.specs.Parts.{SurveyParts}
 use Rattle.record_text.specs.Sheets.{SheetParts}
 use Rattle.edit_release.specs.Edits.{Written}
 use Rattle.command_words.specs.Asked.{EditAsked}
-use Rattle.edit_program.specs.Edits.{HasReleased, IsEditWith, terms_of}
+use Rattle.edit_program.specs.Edits.{HasReleased, IsEditWith, terms_asked}
 use Rattle.edit_program.specs.Faults.{IsOfEdit}
 use Rattle.edit_program.specs.Readings.{HoldsRecords, HoldsRules, Refuses}
 use Rattle.edit_program.specs.Run.{AreTold, AreUntold, IsFaultless, IsRefused, LeavesOf, Refusals, Run}
@@ -32,7 +32,7 @@ pub record IsMade (asked : EditAsked) (answer : Status) (files : Files) (written
   pub sheet : SheetParts
   pub rules : HoldsRules files asked.names.rules survey
   pub records : HoldsRecords files asked.names.records survey.fields sheet
-  pub edit : IsEditWith survey sheet (terms_of asked) answer written
+  pub edit : IsEditWith survey sheet (terms_asked asked) answer written
 
 -- the three files of an edit stand there, and every other one is as it was
 pub record AreWritten (asked : EditAsked) (written : Written) (before after : Files) : Type 0 where

@@ -23,8 +23,8 @@ pub record IsEditWith (survey : SurveyParts) (sheet : SheetParts) (terms : Terms
   pub ended : IsStatusOf ends answer
 
 -- the terms that an edit is asked for
-abbrev pub terms_of : EditAsked → Terms
-terms_of asked = record { budget = asked.budget; limit = asked.limit; near = asked.near }
+abbrev pub terms_asked : EditAsked → Terms
+terms_asked asked = record { budget = asked.budget; limit = asked.limit; near = asked.near }
 
 -- the statuses of an edit that did all of this
 abbrev pub HasReleased : Status → Type 0

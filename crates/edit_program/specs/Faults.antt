@@ -28,20 +28,20 @@ fault_status (Rejected line why) = status.Rejected
 fault_status OutOfMemory = status.OutOfMemory
 
 -- what is wrong with the records: the kind's number and name, and the field by its name, or the row, counted from 1
-abbrev pub records_text : RecordsFault → List ℕ
-records_text records.NoHeader = codes "kind 11 NoHeader"
-records_text (records.NoColumn field) = codes "kind 12 NoColumn field " ++ field
-records_text (records.DoubleColumn field) = codes "kind 13 DoubleColumn field " ++ field
-records_text (records.RowLength row_no) = codes "kind 14 RowLength row " ++ decimal (row_no + 1)
-records_text records.TooManyRows = codes "kind 15 TooManyRows"
-records_text records.TooManyColumns = codes "kind 16 TooManyColumns"
+abbrev pub records_fault_text : RecordsFault → List ℕ
+records_fault_text records.NoHeader = codes "kind 11 NoHeader"
+records_fault_text (records.NoColumn field) = codes "kind 12 NoColumn field " ++ field
+records_fault_text (records.DoubleColumn field) = codes "kind 13 DoubleColumn field " ++ field
+records_fault_text (records.RowLength row_no) = codes "kind 14 RowLength row " ++ decimal (row_no + 1)
+records_fault_text records.TooManyRows = codes "kind 15 TooManyRows"
+records_fault_text records.TooManyColumns = codes "kind 16 TooManyColumns"
 
 -- the line that is printed of a run that is refused, without its line feed; lines of a file are counted from 1
 abbrev pub fault_text : Fault → List ℕ
 fault_text Usage = codes "fault: usage"
 fault_text (Rules line kind) =
     codes "fault: rules line " ++ decimal line ++ codes " kind " ++ decimal (kind_number kind) ++ codes " " ++ kind_name kind
-fault_text (Records fault) = codes "fault: records " ++ records_text fault
+fault_text (Records fault) = codes "fault: records " ++ records_fault_text fault
 fault_text (Read name) = codes "fault: read " ++ name
 fault_text (Write name) = codes "fault: write " ++ name
 fault_text (TooLong name) = codes "fault: too long " ++ name
@@ -69,11 +69,11 @@ IsOfRulesCommand OutOfMemory = ⊤
 IsOfRulesCommand fault = ⊥
 
 -- the refusal for records of these fields that were not read
-abbrev pub sheet_fault : List Field → SheetFault → Fault
-sheet_fault fields sheet.NoHeader = Records records.NoHeader
-sheet_fault fields sheet.TooManyColumns = Records records.TooManyColumns
-sheet_fault fields (sheet.NoColumn number) = Records (records.NoColumn (name_of fields number))
-sheet_fault fields (sheet.DoubleColumn number) = Records (records.DoubleColumn (name_of fields number))
-sheet_fault fields sheet.TooManyRows = Records records.TooManyRows
-sheet_fault fields (sheet.RowLength row_no) = Records (records.RowLength row_no)
-sheet_fault fields sheet.OutOfMemory = OutOfMemory
+abbrev pub sheet_refusal : List Field → SheetFault → Fault
+sheet_refusal fields sheet.NoHeader = Records records.NoHeader
+sheet_refusal fields sheet.TooManyColumns = Records records.TooManyColumns
+sheet_refusal fields (sheet.NoColumn number) = Records (records.NoColumn (name_of fields number))
+sheet_refusal fields (sheet.DoubleColumn number) = Records (records.DoubleColumn (name_of fields number))
+sheet_refusal fields sheet.TooManyRows = Records records.TooManyRows
+sheet_refusal fields (sheet.RowLength row_no) = Records (records.RowLength row_no)
+sheet_refusal fields sheet.OutOfMemory = OutOfMemory

@@ -9,7 +9,7 @@ use Rattle.record_text.specs.Sheets.{IsSheet, IsSheetFault, SheetParts}
 use Rattle.record_text.specs.declared.fault.SheetFault.{SheetFault}
 use Rattle.cert_check.specs.Releases.{Audit, IsFirstFailure, IsValidRelease}
 use Rattle.command_words.specs.Asked.{CheckAsked, EditAsked, RulesAsked}
-use Rattle.edit_program.specs.Faults.{sheet_fault}
+use Rattle.edit_program.specs.Faults.{sheet_refusal}
 use Rattle.edit_program.specs.declared.fault.Fault.{Fault}
 use Rattle.edit_program.specs.declared.fault.Fault.TheVariants as fault
 use Rattle.edit_program.specs.declared.fault.RecordsFault.{RecordsFault}
@@ -66,7 +66,7 @@ pub record AreNoRecords (fields : List Field) (what : RecordsFault) (bytes : Lis
   pub unread : (sheet : SheetParts) → ¬ IsSheet fields bytes sheet
   pub found : SheetFault
   pub first : IsSheetFault fields bytes found
-  pub told : sheet_fault fields found ≡ fault.Records what
+  pub told : sheet_refusal fields found ≡ fault.Records what
 
 -- some survey is read from a file of this name, and the claim holds of it
 abbrev pub WithRules : Files → List ℕ → (SurveyParts → Type 0) → Type 0

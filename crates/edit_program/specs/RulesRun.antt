@@ -6,7 +6,7 @@ use Rattle.edit_normal.specs.RuleLines.{normal_lines_of}
 use Rattle.derivation.specs.Refutations.{AllFollow}
 use Rattle.redundancy.specs.Verdicts.{AreNeeded, AreRefuted}
 use Rattle.pruned_rules.specs.Pruned.{rule_verdicts, rule_flags}
-use Rattle.rule_report.specs.Reports.{texts_from}
+use Rattle.rule_report.specs.Reports.{reports_from}
 use Rattle.command_words.specs.Asked.{RulesAsked}
 use Rattle.edit_program.specs.Faults.{IsOfRulesCommand}
 use Rattle.edit_program.specs.Readings.{HoldsRules, RefusesRulesCommand}
@@ -20,7 +20,7 @@ rules_calls asked = fetched asked.rules ∷ []
 
 -- what is printed of all lines of a survey's rules, numbered from 1
 abbrev pub report_of : SurveyParts → List (List ℕ)
-report_of survey = texts_from survey.fields 1 (normal_lines_of survey) (rule_verdicts survey)
+report_of survey = reports_from survey.fields 1 (normal_lines_of survey) (rule_verdicts survey)
 
 -- ---- what the verdicts mean
 

@@ -4,7 +4,7 @@ ghost use Rattle.std.specs.List.{AllByRecursion};
 ghost use Rattle.edit_desk.specs.Desk.{PutsOnRecord, Told};
 ghost use Rattle.edit_model.specs.PlainNumbers.{HasPlain};
 ghost use Rattle.edit_program.specs.EditRun.{IsEditComplete, IsEditStopped, IsEdited, edit_calls};
-ghost use Rattle.edit_program.specs.Edits.{HasReleased, terms_of};
+ghost use Rattle.edit_program.specs.Edits.{HasReleased, terms_asked};
 ghost use Rattle.edit_program.specs.Faults.{IsOfEdit};
 ghost use Rattle.edit_program.specs.Readings.{AnswersDue, IsDue, Refuses};
 ghost use Rattle.edit_program.specs.Run.{ran};
@@ -74,7 +74,7 @@ fn edit<'a, D: Desk>(
 {
     let survey = fetch_survey(alloc, asked.rules, desk)?;
     let sheet = fetch_sheet(alloc, asked.records, &survey, desk)?;
-    let Ok(release) = release_of(alloc, &survey, &sheet, terms_of(asked)) else {
+    let Ok(release) = release_of(alloc, &survey, &sheet, terms_asked(asked)) else {
         return Err(Refusal::out_of_memory());
     };
     store_release(alloc, asked, &release, desk)?;
@@ -82,8 +82,8 @@ fn edit<'a, D: Desk>(
 }
 
 // On what terms the records are edited.
-fn terms_of(asked: &EditWords) -> Terms
-    ensures terms { result ≡ terms_of asked.now }
+fn terms_asked(asked: &EditWords) -> Terms
+    ensures terms { result ≡ terms_asked asked.now }
     ensures are { AreTerms result }
 {
     Terms {

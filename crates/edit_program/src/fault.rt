@@ -2,7 +2,7 @@ ghost use Rattle.std.specs.Prelude.{◌≡◌, ◌<◌, ◌++◌, IfOk, length};
 ghost use Rattle.edit_program.specs.inner.Refused.{IsOfFields, check_fault, rules_fault};
 ghost use Rattle.edit_report.specs.Reasons.{name_of};
 ghost use Rattle.edit_program.specs.declared.fault.Fault.TheVariants as faults;
-ghost use Rattle.edit_program.specs.Faults.{fault_status, fault_text, sheet_fault};
+ghost use Rattle.edit_program.specs.Faults.{fault_status, fault_text, sheet_refusal};
 
 use crate::status::Status;
 use cert_check::{CheckFault, Why};
@@ -91,7 +91,7 @@ impl<'a> Fault<'a> {
     /// The refusal for records of these fields that were not read.
     pub fn of_records(fields: &[Field], fault: SheetFault) -> Self
         requires { IsOfFields fields.now fault }
-        ensures { result ≡ sheet_fault fields.now fault }
+        ensures { result ≡ sheet_refusal fields.now fault }
     {
         let fault = match fault {
             SheetFault::NoHeader => RecordsFault::NoHeader,

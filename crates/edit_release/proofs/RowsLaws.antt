@@ -14,7 +14,7 @@ use Rattle.bound_cert.specs.declared.outcome.Outcome.TheVariants.{Budget, Change
 use Rattle.back_subst.specs.declared.gift.Gift.{Gift}
 use Rattle.record_text.specs.Values.{AreRows, AreValues}
 use Rattle.edit_report.specs.Ends.{path_found}
-use Rattle.edit_report.specs.Released.{released_rows, released_texts, row_of, row_with}
+use Rattle.edit_report.specs.Released.{released_rows, released_texts, released_of, row_with}
 use Rattle.edit_report.specs.declared.end.RowEnd.{RowEnd}
 use Rattle.record_workers.specs.Ends.{ComesOf, IsEndOf}
 use Rattle.record_workers.specs.Said.{OutcomeSays, Says}
@@ -35,7 +35,7 @@ own_files fields columns reads row end = files_with fields columns reads row (pa
 
 module _ (fields : List Field) (columns : List ℕ) (reads : List (List ℕ)) (row : List Value) (end : RowEnd) (rest : List (List (List ℕ))) (told : IsSaidReleased end) where
   -- they stand first among the released rows of the records from this one on
-  pub files-own : files_of (said end) reads row (row_of fields columns reads end ++ rest) ≡ own_files fields columns reads row end
+  pub files-own : files_of (said end) reads row (released_of fields columns reads end ++ rest) ≡ own_files fields columns reads row end
   files-own = by end.gift told rest
     where
       by : (gift : Option Gift) → is_released (said end) ≡ is_some gift → (released : List (List (List ℕ))) → files_of (said end) reads row (row_with fields columns reads (path_found end.proof.outcome) gift ++ released) ≡ files_with fields columns reads row (path_found end.proof.outcome) gift
@@ -44,7 +44,7 @@ module _ (fields : List Field) (columns : List ℕ) (reads : List (List ℕ)) (r
       by (Some gift) e released = ap (λ (b : Bool). record { reads = reads; row = row; texts = if b then Some (released_texts fields columns (path_found end.proof.outcome) gift.row reads) else None }) e
 
   -- and those of the other records are behind them
-  pub behind-own : behind (said end) (row_of fields columns reads end ++ rest) ≡ rest
+  pub behind-own : behind (said end) (released_of fields columns reads end ++ rest) ≡ rest
   behind-own = by end.gift told rest
     where
       by : (gift : Option Gift) → is_released (said end) ≡ is_some gift → (released : List (List (List ℕ))) → behind (said end) (row_with fields columns reads (path_found end.proof.outcome) gift ++ released) ≡ released

@@ -41,8 +41,8 @@ refutation_by (Kept why) = None
 refutation_by (Dropped steps) = Some steps
 
 -- the proof on these terms that tells these verdicts on the lines of the rules, these ends of the records, and these claims
-abbrev pub proof_by : List Verdict → Terms → List RowEnd → List Entry → Proof
-proof_by verdicts terms ends history = record {
+abbrev pub proof_telling : List Verdict → Terms → List RowEnd → List Entry → Proof
+proof_telling verdicts terms ends history = record {
   limit = terms.limit;
   near = terms.near;
   budget = terms.budget;
@@ -53,7 +53,7 @@ proof_by verdicts terms ends history = record {
 
 -- the proof of an edit on these terms
 abbrev pub proof_of : SurveyParts → Terms → List RowEnd → List Entry → Proof
-proof_of survey terms ends history = proof_by (rule_verdicts survey) terms ends history
+proof_of survey terms ends history = proof_telling (rule_verdicts survey) terms ends history
 
 -- ---- the edit
 

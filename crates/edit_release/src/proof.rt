@@ -1,7 +1,7 @@
 //! The proof of an edit.
 ghost use Rattle.std.specs.Prelude.{◌≡◌, [], IfOk, None, map};
 ghost use Rattle.bound_cert.specs.declared.outcome.Outcome.TheVariants.{Change};
-ghost use Rattle.edit_release.specs.Edits.{proof_by, refutation_by, said, said_of};
+ghost use Rattle.edit_release.specs.Edits.{proof_telling, refutation_by, said, said_of};
 
 use bound_cert::{Cert, Outcome, Path, RowProof};
 use derivation::Step;
@@ -20,7 +20,7 @@ pub(crate) fn proof_of(
     terms: Terms,
     edited: Edited,
 ) -> Result<Proof, OutOfMemory>
-    ensures { IfOk result (λ proof. proof ≡ proof_by verdicts.items terms edited.ends.items edited.history.items) }
+    ensures { IfOk result (λ proof. proof ≡ proof_telling verdicts.items terms edited.ends.items edited.history.items) }
 {
     Ok(Proof {
         limit: terms.limit,

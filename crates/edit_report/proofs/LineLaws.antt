@@ -12,7 +12,7 @@ use Rattle.back_subst.specs.declared.gift.How.{How}
 use Rattle.edit_report.specs.Ends.{IsGift, changed_fields, path_found}
 use Rattle.edit_report.specs.Laws.{ChangedCountLaw, CleanLaw, ReleasedCountLaw, UnresolvedLaw}
 use Rattle.edit_report.specs.Reasons.{changed_lines, lines_with}
-use Rattle.edit_report.specs.Released.{released_rows, row_of, row_with}
+use Rattle.edit_report.specs.Released.{released_rows, released_of, row_with}
 use Rattle.edit_report.specs.declared.end.RowEnd.{RowEnd}
 use Rattle.edit_report.proofs.ChangedLaws.{none-changed}
 use Rattle.edit_report.proofs.ReleasedLaws.{texts-kept}
@@ -36,7 +36,7 @@ released-count fields columns (texts ∷ row_texts) (end ∷ ends) same = joined
     joined : length (released_rows fields columns row_texts ends) ≡ length (filter (λ (e : RowEnd). is_some e.gift) ends)
         → length (released_rows fields columns (texts ∷ row_texts) (end ∷ ends)) ≡ length (filter (λ (e : RowEnd). is_some e.gift) (end ∷ ends))
     joined rest =
-        length-append (row_of fields columns texts end) (released_rows fields columns row_texts ends) ∙ ap (λ n. n + length (released_rows fields columns row_texts ends)) (row-count fields columns texts (path_found end.proof.outcome) end.gift)
+        length-append (released_of fields columns texts end) (released_rows fields columns row_texts ends) ∙ ap (λ n. n + length (released_rows fields columns row_texts ends)) (row-count fields columns texts (path_found end.proof.outcome) end.gift)
         ∙ more (is_some end.gift) (length (released_rows fields columns row_texts ends)) rest
 
 -- ---- lines

@@ -11,7 +11,7 @@ use Rattle.back_subst.specs.declared.gift.How.TheVariants.{Donor}
 use Rattle.record_text.specs.Texts.{records_text}
 use Rattle.record_text.proofs.WritingLaws.{records_text-append}
 use Rattle.edit_report.specs.Reasons.{changed_line, changed_lines, reasons_from, reasons_of}
-use Rattle.edit_report.specs.Released.{released_rows, row_of}
+use Rattle.edit_report.specs.Released.{released_rows, released_of}
 use Rattle.edit_report.specs.declared.end.RowEnd.{RowEnd}
 
 -- what holds of each holds of the one at a place
@@ -43,10 +43,10 @@ module _ (fields : List Field) (columns : List ℕ) where
   -- one record more
   pub released-more : (row_texts : List (List (List ℕ))) (ends : List RowEnd) (i : ℕ) (end : RowEnd) (text whole : List ℕ) → i < length row_texts → i < length ends → end ≡ get_or ends i end
       → text ++ records_text (released_rows fields columns (drop i row_texts) (drop i ends)) ≡ whole
-      → (text ++ records_text (row_of fields columns (get_or row_texts i []) end)) ++ records_text (released_rows fields columns (drop (i + 1) row_texts) (drop (i + 1) ends)) ≡ whole
+      → (text ++ records_text (released_of fields columns (get_or row_texts i []) end)) ++ records_text (released_rows fields columns (drop (i + 1) row_texts) (drop (i + 1) ends)) ≡ whole
   released-more row_texts ends i end text whole within below is before =
-      then-rest text (row_of fields columns (get_or row_texts i []) end) (released_rows fields columns (drop (i + 1) row_texts) (drop (i + 1) ends))
-      ∙ ap (λ (e : RowEnd). text ++ records_text (row_of fields columns (get_or row_texts i []) e ++ released_rows fields columns (drop (i + 1) row_texts) (drop (i + 1) ends))) is
+      then-rest text (released_of fields columns (get_or row_texts i []) end) (released_rows fields columns (drop (i + 1) row_texts) (drop (i + 1) ends))
+      ∙ ap (λ (e : RowEnd). text ++ records_text (released_of fields columns (get_or row_texts i []) e ++ released_rows fields columns (drop (i + 1) row_texts) (drop (i + 1) ends))) is
       ∙ ap (λ (rows : List (List (List ℕ))). text ++ records_text rows) (sym (at_both (released_rows fields columns) row_texts ends i [] end within below))
       ∙ before
 

@@ -5,7 +5,7 @@ use Rattle.edit_model.specs.declared.field.Field.{Field}
 use Rattle.back_subst.specs.declared.gift.Gift.{Gift}
 use Rattle.edit_report.specs.Ends.{IsEnd, changed_fields, path_found}
 use Rattle.edit_report.specs.Reasons.{reasons_of}
-use Rattle.edit_report.specs.Released.{released_rows, row_of}
+use Rattle.edit_report.specs.Released.{released_rows, released_of}
 use Rattle.edit_report.specs.Summaries.{keeps_all, is_unresolved}
 use Rattle.edit_report.specs.declared.end.RowEnd.{RowEnd}
 
@@ -19,7 +19,7 @@ ReleasedCountLaw =
 abbrev pub CleanLaw : Type 0
 CleanLaw =
     (fields : List Field) (columns : List ℕ) (number : ℕ) (texts : List (List ℕ)) (end : RowEnd) → keeps_all end ≡ true
-    → (row_of fields columns texts end ≡ texts ∷ []) × (reasons_of fields columns number texts end ≡ [])
+    → (released_of fields columns texts end ≡ texts ∷ []) × (reasons_of fields columns number texts end ≡ [])
 
 -- a record that was given values has one line for each field that is changed
 abbrev pub ChangedCountLaw : Type 0
@@ -32,4 +32,4 @@ ChangedCountLaw =
 abbrev pub UnresolvedLaw : Type 0
 UnresolvedLaw =
     (fields : List Field) (columns : List ℕ) (number : ℕ) (texts : List (List ℕ)) (end : RowEnd) → is_unresolved end ≡ true
-    → (row_of fields columns texts end ≡ []) × (length (reasons_of fields columns number texts end) ≡ 1)
+    → (released_of fields columns texts end ≡ []) × (length (reasons_of fields columns number texts end) ≡ 1)

@@ -53,12 +53,13 @@ row_with fields columns texts path None = []
 row_with fields columns texts path (Some gift) = released_texts fields columns path gift.row texts ∷ []
 
 -- what is released of a record
-abbrev pub row_of : List Field → List ℕ → List (List ℕ) → RowEnd → List (List (List ℕ))
-row_of fields columns texts end = row_with fields columns texts (path_found end.proof.outcome) end.gift
+abbrev pub released_of : List Field → List ℕ → List (List ℕ) → RowEnd → List (List (List ℕ))
+released_of fields columns texts end = row_with fields columns texts (path_found end.proof.outcome) end.gift
 
 -- the released rows, in order: one for each record that was given values
 abbrev pub released_rows : List Field → List ℕ → List (List (List ℕ)) → List RowEnd → List (List (List ℕ))
-released_rows fields columns (texts ∷ row_texts) (end ∷ ends) = row_of fields columns texts end ++ released_rows fields columns row_texts ends
+released_rows fields columns (texts ∷ row_texts) (end ∷ ends) =
+    released_of fields columns texts end ++ released_rows fields columns row_texts ends
 released_rows fields columns _ _ = []
 
 -- the released file: the header and the released rows, as csv writes them

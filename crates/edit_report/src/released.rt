@@ -5,7 +5,7 @@ ghost use Rattle.edit_model.specs.Rows.{IsRow};
 ghost use Rattle.record_text.specs.Sheets.{IsSheet};
 ghost use Rattle.record_text.specs.Written.{HasWritten};
 ghost use Rattle.edit_report.specs.Ends.{AreEnds, IsEnd};
-ghost use Rattle.edit_report.specs.Released.{column_text, released_text_of, released_texts, row_of, row_with, given_text};
+ghost use Rattle.edit_report.specs.Released.{column_text, released_text_of, released_texts, released_of, row_with, given_text};
 ghost use Rattle.edit_report.specs.inner.Columns.{IsLayout, column_at, layout_texts};
 ghost use Rattle.edit_report.specs.inner.Lines.{Adds};
 
@@ -53,7 +53,7 @@ fn push_released(
     requires layout { IsLayout survey.now.fields layout.now }
     requires width { length read.now ≡ layout.now.width }
     requires end { IsEnd survey.now.fields end.now }
-    ensures { OnOk result (Adds HasWritten writer.old writer.new (row_of survey.now.fields layout.now.columns read.now end.now)) }
+    ensures { OnOk result (Adds HasWritten writer.old writer.new (released_of survey.now.fields layout.now.columns read.now end.now)) }
 {
     match &end.gift {
         None => Ok(()),

@@ -3,11 +3,11 @@ use Rattle.std.specs.List.{AllByRecursion, insert}
 use Rattle.std.specs.List.Sorted.{IsPartitionPoint, IsPartitionedBy}
 use Rattle.edit_line.specs.Reductions.{IsIn}
 use Rattle.edit_paths.specs.Cases.{SearchCase}
-use Rattle.edit_paths.specs.ReachedPaths.{is_before, placed}
-use Rattle.edit_paths.proofs.OrderLaws.{IsSorted, folded-sorted}
+use Rattle.edit_paths.specs.ReachedPaths.{AreInOrder, is_before, placed}
+use Rattle.edit_paths.proofs.OrderLaws.{folded-sorted}
 use Rattle.edit_paths.proofs.PathOrder.{before-chain, before-equal, before-total}
 use Rattle.localise_tree.specs.declared.ends.Node.{Node}
-use Rattle.localise_tree.specs.inner.Nodes.{AreInOrder, IsNode, before, paths_of}
+use Rattle.localise_tree.specs.inner.Nodes.{IsNode, before, paths_of}
 use Rattle.localise_tree.proofs.EndLaws.{before-paths, placed-all, placed-paths}
 
 -- The place of a node among ends in order.
@@ -38,7 +38,7 @@ module _ (c : SearchCase) where
   end-node (x ∷ ends) (suc j) d below are = end-node ends j d (omega (arith, below)) are.1
 
   -- of ends in order those that come before a node stand in front of all others
-  pub parted : (ends : List Node) (node : Node) → AllByRecursion (IsNode c) ends → IsNode c node → AreInOrder c (paths_of ends) → IsPartitionedBy (λ (end : Node). before end node) ends
+  pub parted : (ends : List Node) (node : Node) → AllByRecursion (IsNode c) ends → IsNode c node → AreInOrder (is_before c.survey.fields) (paths_of ends) → IsPartitionedBy (λ (end : Node). before end node) ends
   parted [] node are is order i j d below within passes = absurd (omega (arith, within))
   parted (x ∷ ends) node are is order zero zero d below within passes = passes
   parted (x ∷ ends) node are is order zero (suc j) d below within passes =
@@ -49,27 +49,17 @@ module _ (c : SearchCase) where
   parted (x ∷ ends) node are is order (suc i) zero d below within passes = absurd (omega (arith, below))
   parted (x ∷ ends) node are is order (suc i) (suc j) d below within passes = parted ends node are.1 is order.1 i j d (omega (arith, below)) (omega (arith, within)) passes
 
-  -- ---- order
-
-  to-sorted : (paths : List (List Bool)) → AreInOrder c paths → IsSorted (is_before c.survey.fields) (before-total c) (before-chain c) (before-equal c) paths
-  to-sorted [] order = tt
-  to-sorted (path ∷ paths) order = (order.0, to-sorted paths order.1)
-
-  pub from-sorted : (paths : List (List Bool)) → IsSorted (is_before c.survey.fields) (before-total c) (before-chain c) (before-equal c) paths → AreInOrder c paths
-  from-sorted [] sorted = tt
-  from-sorted (path ∷ paths) sorted = (sorted.0, from-sorted paths sorted.1)
-
   -- ends stay in order where a node is placed among them
-  placed-order : (ends : List Node) (node : Node) → AllByRecursion (IsNode c) ends → IsNode c node → AreInOrder c (paths_of ends) → AreInOrder c (paths_of (placed before ends node))
+  placed-order : (ends : List Node) (node : Node) → AllByRecursion (IsNode c) ends → IsNode c node → AreInOrder (is_before c.survey.fields) (paths_of ends) → AreInOrder (is_before c.survey.fields) (paths_of (placed before ends node))
   placed-order ends node are is order =
-      subst (λ (ps : List (List Bool)). AreInOrder c ps) (sym (placed-paths c ends node are is))
-      (from-sorted _ (folded-sorted (is_before c.survey.fields) (before-total c) (before-chain c) (before-equal c) (paths_of ends) (node.path ∷ []) (to-sorted (paths_of ends) order)))
+      subst (λ (ps : List (List Bool)). AreInOrder (is_before c.survey.fields) ps) (sym (placed-paths c ends node are is))
+      (folded-sorted (is_before c.survey.fields) (before-total c) (before-chain c) (before-equal c) (paths_of ends) (node.path ∷ []) order)
 
-  pub parted-next : (ends one : List Node) (kept changed : Node) → one ≡ placed before ends kept → AllByRecursion (IsNode c) ends → IsNode c kept → IsNode c changed → AreInOrder c (paths_of ends) → IsPartitionedBy (λ (end : Node). before end changed) one
+  pub parted-next : (ends one : List Node) (kept changed : Node) → one ≡ placed before ends kept → AllByRecursion (IsNode c) ends → IsNode c kept → IsNode c changed → AreInOrder (is_before c.survey.fields) (paths_of ends) → IsPartitionedBy (λ (end : Node). before end changed) one
   parted-next ends one kept changed first are is_kept is_changed order =
       subst (λ (ns : List Node). IsPartitionedBy (λ (end : Node). before end changed) ns) (sym first)
       (parted (placed before ends kept) changed (placed-all (λ (node : Node). IsNode c node) ends kept are is_kept) is_changed (placed-order ends kept are is_kept order))
 
   -- the ends behind the first one
-  pub rest-order : (ends rest : List Node) (node : Node) → ends ≡ node ∷ rest → IsSorted (is_before c.survey.fields) (before-total c) (before-chain c) (before-equal c) (paths_of ends) → AreInOrder c (paths_of rest)
-  rest-order ends rest node is sorted = from-sorted (paths_of rest) (subst (λ (ns : List Node). IsSorted (is_before c.survey.fields) (before-total c) (before-chain c) (before-equal c) (paths_of ns)) is sorted).1
+  pub rest-order : (ends rest : List Node) (node : Node) → ends ≡ node ∷ rest → AreInOrder (is_before c.survey.fields) (paths_of ends) → AreInOrder (is_before c.survey.fields) (paths_of rest)
+  rest-order ends rest node is sorted = (subst (λ (ns : List Node). AreInOrder (is_before c.survey.fields) (paths_of ns)) is sorted).1

@@ -7,9 +7,9 @@ use Rattle.bound_cert.specs.declared.outcome.Outcome.{Outcome}
 use Rattle.edit_paths.specs.Cases.{SearchCase}
 use Rattle.edit_paths.specs.Outcomes.{end_at, outcome_from, outcome_of}
 use Rattle.edit_paths.specs.Paths.{field_count}
-use Rattle.edit_paths.specs.ReachedPaths.{in_order, is_before, placed}
+use Rattle.edit_paths.specs.ReachedPaths.{AreInOrder, in_order, is_before, placed}
 use Rattle.edit_paths.specs.Walks.{next_paths}
-use Rattle.edit_paths.proofs.OrderLaws.{IsSorted, folded-sorted, in-folded, permuted-folded}
+use Rattle.edit_paths.proofs.OrderLaws.{folded-sorted, in-folded, permuted-folded}
 use Rattle.edit_paths.proofs.PathOrder.{before-chain, before-equal, before-total}
 use Rattle.edit_paths.proofs.ReachedLaws.{first-end, next-fits, reached_beyond, same_ends, search-turn}
 
@@ -22,7 +22,7 @@ left c ends = length (in_order (is_before c.survey.fields) (reached_beyond c end
 -- the ends are sorted, no longer than the fields, and the outcome is that of the paths beyond them
 pub record IsSearching (c : SearchCase) (budget : ℕ) (taken ends : List (List Bool)) : Type 0 where
   pub fit : (x : List Bool) → IsIn x ends → length x ≤ field_count c
-  pub sorted : IsSorted (is_before c.survey.fields) (before-total c) (before-chain c) (before-equal c) ends
+  pub sorted : AreInOrder (is_before c.survey.fields) ends
   pub rest : outcome_from c budget taken (in_order (is_before c.survey.fields) (reached_beyond c ends)) ≡ outcome_of c budget
 
 module _ (c : SearchCase) (budget : ℕ) where
@@ -46,7 +46,7 @@ module _ (c : SearchCase) (budget : ℕ) where
       searching-turn after none more = record {
         fit = λ x there. new-fit x (subst (λ (ps : List (List Bool)). IsIn x ps) made there);
         sorted =
-            subst (λ (ps : List (List Bool)). IsSorted (is_before c.survey.fields) (before-total c) (before-chain c) (before-equal c) ps) (sym made)
+            subst (λ (ps : List (List Bool)). AreInOrder (is_before c.survey.fields) ps) (sym made)
             (folded-sorted (is_before c.survey.fields) (before-total c) (before-chain c) (before-equal c) rest (next_paths c path) searching.sorted.1);
         rest =
             ap (λ (ps : List (List Bool)). outcome_from c budget ps (in_order (is_before c.survey.fields) (reached_beyond c new))) more

@@ -5,12 +5,12 @@ ghost use Rattle.edit_line.specs.EditSets.{EditsParts};
 ghost use Rattle.edit_model.specs.Corrections.{is_first};
 ghost use Rattle.edit_paths.specs.PathStates.{is_open};
 ghost use Rattle.edit_paths.specs.Paths.{field_count, is_complete};
-ghost use Rattle.edit_paths.specs.ReachedPaths.{placed};
+ghost use Rattle.edit_paths.specs.ReachedPaths.{AreInOrder, is_before, placed};
 ghost use Rattle.edit_paths.specs.States.{state_of};
 ghost use Rattle.edit_paths.specs.Walks.{ends_after};
 ghost use Rattle.edit_paths.specs.declared.state.PathState.TheVariants.{Open};
 ghost use Rattle.localise_tree.specs.inner.Bases.{IsBasis};
-ghost use Rattle.localise_tree.specs.inner.Nodes.{AreInOrder, AreKept, IsFirstEnd, IsLook, IsNode, StayKept, before, paths_of, weight_in_order};
+ghost use Rattle.localise_tree.specs.inner.Nodes.{AreKept, IsFirstEnd, IsLook, IsNode, StayKept, before, paths_of, weight_in_order};
 ghost use Rattle.localise_tree.specs.inner.Problems.{IsProblem, case_in, edits_in};
 
 use crate::looks::{Basis, Look};
@@ -98,7 +98,7 @@ pub(crate) fn lead_on(
     requires node { IsNode (case_in problem.now) node.now }
     requires look { IsLook (case_in problem.now) node.now.path look }
     requires ends { AllByRecursion (IsNode (case_in problem.now)) ends.old.items }
-    requires order { AreInOrder (case_in problem.now) (paths_of ends.old.items) }
+    requires order { AreInOrder (is_before (case_in problem.now).survey.fields) (paths_of ends.old.items) }
     ensures paths { OnOk result
         (paths_of ends.new.items ≡ ends_after (case_in problem.now) node.now.path (paths_of ends.old.items)) }
     ensures nodes { OnOk result (AllByRecursion (IsNode (case_in problem.now)) ends.new.items) }

@@ -2,7 +2,7 @@ use Rattle.std.proofs.Common.{◌≡◌, ℕ, suc, ◌+◌, Bool, true, false, L
 use Rattle.std.specs.List.{fold, list_any, position, position_or_len}
 use Rattle.std.specs.Option.{unwrap_or}
 use Rattle.derivation.specs.declared.step.Step.{Step}
-use Rattle.edit_paths.specs.Histories.{Element, History, is_element, maker, making_at, number_in, step_parts, proof_by, renumbered, with_proof, with_step}
+use Rattle.edit_paths.specs.Histories.{Element, History, is_element, maker, making_at, step_number, step_parts, proof_by, renumbered, with_proof, with_step}
 use Rattle.edit_paths.specs.declared.making.Making.{Making}
 use Rattle.edit_paths.specs.declared.making.Making.TheVariants.{By}
 use Rattle.edit_paths.specs.declared.making.Written.{Written}
@@ -11,15 +11,15 @@ use Rattle.redundancy.proofs.WalkPaths.{position-cons}
 -- The steps that prove an element of the last list, from those of the lists before.
 
 -- an element's step has its place among the steps as its number
-pub number-place : (done : List Written) (e : Element) → number_in done e ≡ unwrap_or (position (λ (w : Written). is_element w.element e) done) (length done)
+pub number-place : (done : List Written) (e : Element) → step_number done e ≡ unwrap_or (position (λ (w : Written). is_element w.element e) done) (length done)
 number-place [] e = refl
 number-place (w ∷ done) e = by (is_element w.element e) (nat_lt (position_or_len is_its done) (length done)) (number-place done e) ∙ sym (ap (λ o. unwrap_or o (suc (length done))) (position-cons is_its w done))
   where
     is_its : Written → Bool
     is_its w = is_element w.element e
 
-    by : (b l : Bool) → number_in done e ≡ unwrap_or (cond l (Some (position_or_len is_its done)) None) (length done)
-        → (if b then 0 else suc (number_in done e)) ≡ unwrap_or (if b then Some 0 else cond l (Some (1 + position_or_len is_its done)) None) (suc (length done))
+    by : (b l : Bool) → step_number done e ≡ unwrap_or (cond l (Some (position_or_len is_its done)) None) (length done)
+        → (if b then 0 else suc (step_number done e)) ≡ unwrap_or (if b then Some 0 else cond l (Some (1 + position_or_len is_its done)) None) (suc (length done))
     by true l h = refl
     by false true h = omega (arith, h)
     by false false h = ap (λ n. suc n) h
@@ -35,7 +35,7 @@ module _ (list : List Making) (before : History) (place : ℕ) (done : List Writ
 
   -- its step comes behind those of its parts
   pub proof-here : (parted : List Written) (written : Step) → list_any (λ (w : Written). is_element w.element (length before, place)) done ≡ false → parted ≡ fold (λ done i. with_proof before i done) done (step_parts step)
-      → written ≡ renumbered (λ i. number_in parted (maker before i)) step → parted ++ record { element = (length before, place); step = written } ∷ [] ≡ with_proof (list ∷ before) place done
+      → written ≡ renumbered (λ i. step_number parted (maker before i)) step → parted ++ record { element = (length before, place); step = written } ∷ [] ≡ with_proof (list ∷ before) place done
   proof-here parted written new parts number =
       sym (
       ap (λ (m : Making). proof_by (length before, place) (λ i. maker before i) (λ i done. with_proof before i done) m done) made

@@ -1,7 +1,7 @@
 //! The steps that prove an element of a derived list: each element once, parts before the whole.
 ghost use Rattle.std.specs.Prelude.{◌≡◌, IfOk, OnOk, map};
 ghost use Rattle.std.specs.List.{position};
-ghost use Rattle.edit_paths.specs.Histories.{has_step, is_element, maker, number_in, renumbered, steps_to, with_proof};
+ghost use Rattle.edit_paths.specs.Histories.{has_step, is_element, maker, step_number, renumbered, steps_to, with_proof};
 
 use crate::history::History;
 use derivation::Step;
@@ -85,7 +85,7 @@ fn first_step(done: &[Written], element: (u64, u64)) -> Option<usize>
 
 // The number of the element's step, past the end where it has none. No memory.
 fn number_of(done: &[Written], element: (u64, u64)) -> u64
-    ensures { result ≡ number_in done.now element }
+    ensures { result ≡ step_number done.now element }
 {
     match first_step(done, element) {
         Some(number) => number as u64,
@@ -109,7 +109,7 @@ fn maker(lists: &[Sequence<Making>], place: u64) -> (u64, u64)
 
 // The number of the step that proves the element at this place of the first of the lists. No memory.
 fn part_number(lists: &[Sequence<Making>], done: &[Written], place: u64) -> u64
-    ensures { result ≡ number_in done.now (maker lists.now place) }
+    ensures { result ≡ step_number done.now (maker lists.now place) }
 {
     number_of(done, maker(lists, place))
 }
@@ -121,7 +121,7 @@ fn part_numbers(
     done: &[Written],
     parts: &[u64],
 ) -> Result<Vec<u64>, OutOfMemory>
-    ensures { IfOk result (λ numbers. numbers.items ≡ map (λ i. number_in done.now (maker lists.now i)) parts.now) }
+    ensures { IfOk result (λ numbers. numbers.items ≡ map (λ i. step_number done.now (maker lists.now i)) parts.now) }
 {
     Ok(
         parts
@@ -138,7 +138,7 @@ fn renumbered(
     done: &[Written],
     step: &Step,
 ) -> Result<Step, OutOfMemory>
-    ensures { IfOk result (λ with. with ≡ renumbered (λ i. number_in done.now (maker lists.now i)) step.now) }
+    ensures { IfOk result (λ with. with ≡ renumbered (λ i. step_number done.now (maker lists.now i)) step.now) }
 {
     match step {
         Step::Given(number) => Ok(Step::Given(*number)),

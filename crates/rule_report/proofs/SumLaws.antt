@@ -8,7 +8,7 @@ use Rattle.edit_model.specs.declared.rule.Term.{Term}
 use Rattle.edit_language.specs.Printing.{compare_text, later_constant_text, later_terms_text, linear_text, sum_text}
 use Rattle.edit_line.specs.Lines.{LineParts}
 use Rattle.edit_line.specs.Shapes.{number_fields}
-use Rattle.rule_report.specs.LineTexts.{linear_of, terms_of}
+use Rattle.rule_report.specs.LineTexts.{linear_part, line_terms}
 use Rattle.rule_report.specs.inner.Written.{led_text}
 
 -- what is still to be printed of a sum: all of it, or what stands behind its first term
@@ -27,19 +27,19 @@ step false false fields field factor constant terms = sym (append_assoc (led_tex
 
 module _ (numbers : List ℕ) (factors : List ℤ) (i : ℕ) (many : length factors ≡ length numbers) where
   terms-at : i < length numbers
-      → terms_of (drop i numbers) (drop i factors) ≡ (if int_eq (get_or factors i (pos 0)) (pos 0) then terms_of (drop (i + 1) numbers) (drop (i + 1) factors) else record { field = get_or numbers i 0; factor = get_or factors i (pos 0) } ∷ terms_of (drop (i + 1) numbers) (drop (i + 1) factors))
+      → line_terms (drop i numbers) (drop i factors) ≡ (if int_eq (get_or factors i (pos 0)) (pos 0) then line_terms (drop (i + 1) numbers) (drop (i + 1) factors) else record { field = get_or numbers i 0; factor = get_or factors i (pos 0) } ∷ line_terms (drop (i + 1) numbers) (drop (i + 1) factors))
   terms-at below =
-      rw (add-one) (ap (λ fs. terms_of fs (drop i factors)) (drop-cons numbers i 0 below) ∙ ap (λ (as_ : List ℤ). terms_of (get_or numbers i 0 ∷ drop (suc i) numbers) as_) (drop-cons factors i (pos 0) (omega arith)))
+      rw (add-one) (ap (λ fs. line_terms fs (drop i factors)) (drop-cons numbers i 0 below) ∙ ap (λ (as_ : List ℤ). line_terms (get_or numbers i 0 ∷ drop (suc i) numbers) as_) (drop-cons factors i (pos 0) (omega arith)))
 
   -- one field more of the sum
   pub sum-more : (fields : List Field) (constant : ℤ) (first next : Bool) (before now : List ℕ) (whole : List ℕ) → i < length numbers
       → now ≡ before ++ (if int_eq (get_or factors i (pos 0)) (pos 0) then [] else led_text first fields (get_or numbers i 0) (get_or factors i (pos 0)))
       → next ≡ (first && int_eq (get_or factors i (pos 0)) (pos 0))
-      → before ++ rest_text first fields (terms_of (drop i numbers) (drop i factors)) constant ≡ whole
-      → now ++ rest_text next fields (terms_of (drop (i + 1) numbers) (drop (i + 1) factors)) constant ≡ whole
+      → before ++ rest_text first fields (line_terms (drop i numbers) (drop i factors)) constant ≡ whole
+      → now ++ rest_text next fields (line_terms (drop (i + 1) numbers) (drop (i + 1) factors)) constant ≡ whole
   sum-more fields constant first next before now whole below is moved rest =
       let factor = get_or factors i (pos 0) in
-      let later = terms_of (drop (i + 1) numbers) (drop (i + 1) factors) in
+      let later = line_terms (drop (i + 1) numbers) (drop (i + 1) factors) in
       let term = if int_eq factor (pos 0) then [] else led_text first fields (get_or numbers i 0) factor in
       ap (λ (t : List ℕ). t ++ rest_text next fields later constant) is
       ∙ ap (λ (b : Bool). (before ++ term) ++ rest_text b fields later constant) moved
@@ -50,7 +50,7 @@ module _ (numbers : List ℕ) (factors : List ℤ) (i : ℕ) (many : length fact
 -- the sum of a line, and behind it the comparison
 pub linear-is : (line : LineParts) (fields all : List Field) (numbers : List ℕ) (factors : List ℤ) (constant : ℤ) (before between now comparison : List ℕ)
     → all ≡ fields → numbers ≡ number_fields line.shape → factors ≡ line.factors → constant ≡ line.constant
-    → between ≡ before ++ sum_text all (terms_of numbers factors) constant → now ≡ between ++ comparison → comparison ≡ compare_text (if line.strict then Gt else Ge)
-    → now ≡ before ++ linear_text fields (linear_of line)
+    → between ≡ before ++ sum_text all (line_terms numbers factors) constant → now ≡ between ++ comparison → comparison ≡ compare_text (if line.strict then Gt else Ge)
+    → now ≡ before ++ linear_text fields (linear_part line)
 linear-is line fields all numbers factors constant before between now comparison same are kept is sum end compare =
-    rw (end, sum, compare, same, are, kept, is) (append_assoc before (sum_text fields (terms_of (number_fields line.shape) line.factors) line.constant) (compare_text (if line.strict then Gt else Ge)))
+    rw (end, sum, compare, same, are, kept, is) (append_assoc before (sum_text fields (line_terms (number_fields line.shape) line.factors) line.constant) (compare_text (if line.strict then Gt else Ge)))

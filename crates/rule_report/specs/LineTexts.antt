@@ -13,12 +13,12 @@ use Rattle.edit_line.specs.Shapes.{code_fields, number_fields, whole_sets}
 use Rattle.edit_line.specs.Subsumption.{is_false}
 
 -- the fields that stand in a line, each with its factor
-abbrev pub terms_of : List ℕ → List ℤ → List Term
-terms_of (f ∷ fields) (a ∷ factors) =
+abbrev pub line_terms : List ℕ → List ℤ → List Term
+line_terms (f ∷ fields) (a ∷ factors) =
     if int_eq a (pos 0)
-    then terms_of fields factors
-    else record { field = f; factor = a } ∷ terms_of fields factors
-terms_of _ _ = []
+    then line_terms fields factors
+    else record { field = f; factor = a } ∷ line_terms fields factors
+line_terms _ _ = []
 
 -- for each categorical field whose set is not whole, that its code is in the set
 abbrev pub conditions_of : List ℕ → List ℕ → List ℕ → List Test
@@ -29,16 +29,16 @@ conditions_of (f ∷ fields) (set ∷ sets) (whole ∷ wholes) =
 conditions_of _ _ _ = []
 
 -- the linear part of a line
-abbrev pub linear_of : LineParts → Linear
-linear_of line = record {
-  terms = terms_of (number_fields line.shape) line.factors;
+abbrev pub linear_part : LineParts → Linear
+linear_part line = record {
+  terms = line_terms (number_fields line.shape) line.factors;
   constant = line.constant;
   compare = if line.strict then Gt else Ge;
 }
 
 -- what a line says where its codes are in its sets: `never` where that is never true
 abbrev pub linear_words : List Field → LineParts → List ℕ
-linear_words fields line = if is_false line then codes "never" else linear_text fields (linear_of line)
+linear_words fields line = if is_false line then codes "never" else linear_text fields (linear_part line)
 
 -- the text of a line over the fields
 abbrev pub line_text : List Field → LineParts → List ℕ

@@ -41,7 +41,7 @@ texts_of fields number line verdict =
     head_text fields number line verdict ∷ map step_text (steps_of verdict)
 
 -- of the lines from this number on
-abbrev pub texts_from : List Field → ℕ → List LineParts → List Verdict → List (List ℕ)
-texts_from fields number (line ∷ lines) (verdict ∷ verdicts) =
-    texts_of fields number line verdict ++ texts_from fields (suc number) lines verdicts
-texts_from fields number _ _ = []
+abbrev pub reports_from : List Field → ℕ → List LineParts → List Verdict → List (List ℕ)
+reports_from fields number (line ∷ lines) (verdict ∷ verdicts) =
+    texts_of fields number line verdict ++ reports_from fields (suc number) lines verdicts
+reports_from fields number _ _ = []

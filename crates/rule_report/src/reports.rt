@@ -2,7 +2,7 @@
 ghost use Rattle.std.specs.Prelude.{◌≡◌, ◌++◌, ◌∷◌, IfOk, OnOk, codes, map};
 ghost use Rattle.edit_line.specs.Lines.{AreOver};
 ghost use Rattle.edit_line.specs.Shapes.{shape_of};
-ghost use Rattle.rule_report.specs.Reports.{head_text, step_text, texts_from, texts_of, verdict_text};
+ghost use Rattle.rule_report.specs.Reports.{head_text, step_text, reports_from, texts_of, verdict_text};
 ghost use Rattle.rule_report.specs.inner.Written.{texts_in};
 
 use crate::lines::line_text;
@@ -24,7 +24,7 @@ pub fn report(
     verdicts: &[Verdict],
 ) -> Result<Vec<Vec<u8>>, OutOfMemory>
     requires over { AreOver (shape_of survey.now.fields) lines.now }
-    ensures texts { IfOk result (λ texts. map (λ t. t.items) texts.items ≡ texts_from survey.now.fields 1 lines.now verdicts.now) }
+    ensures texts { IfOk result (λ texts. map (λ t. t.items) texts.items ≡ reports_from survey.now.fields 1 lines.now verdicts.now) }
 {
     let mut texts = Vec::new(alloc);
     for place in 0..lines.len().min(verdicts.len()) {

@@ -4,7 +4,7 @@ ghost use Rattle.std.specs.Ordering.{int_eq};
 ghost use Rattle.edit_model.specs.declared.rule.Compare.TheVariants.{Ge, Gt};
 ghost use Rattle.edit_language.specs.Printing.{linear_text, sum_text};
 ghost use Rattle.edit_line.specs.Shapes.{shape_of};
-ghost use Rattle.rule_report.specs.LineTexts.{linear_of, terms_of};
+ghost use Rattle.rule_report.specs.LineTexts.{linear_part, line_terms};
 ghost use Rattle.rule_report.specs.inner.Written.{factor_text};
 
 use edit_language::{compare_text, write_constant, write_term};
@@ -19,7 +19,7 @@ pub(crate) fn write_linear(
     line: &Line,
 ) -> Result<(), OutOfMemory>
     requires { line.now.shape ≡ shape_of survey.now.fields }
-    ensures { OnOk result (text.new.items ≡ text.old.items ++ linear_text survey.now.fields (linear_of line.now)) }
+    ensures { OnOk result (text.new.items ≡ text.old.items ++ linear_text survey.now.fields (linear_part line.now)) }
 {
     write_sum(
         text,
@@ -48,7 +48,7 @@ fn write_sum(
     constant: i128,
 ) -> Result<(), OutOfMemory>
     requires { length factors.now ≡ length numbers.now }
-    ensures { OnOk result (text.new.items ≡ text.old.items ++ sum_text fields.now (terms_of numbers.now factors.now) constant) }
+    ensures { OnOk result (text.new.items ≡ text.old.items ++ sum_text fields.now (line_terms numbers.now factors.now) constant) }
 {
     let mut first = true;
     for (place, number) in numbers.iter().enumerate() {

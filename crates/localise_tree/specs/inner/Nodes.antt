@@ -4,12 +4,10 @@ use Rattle.std.specs.List.{AllByRecursion}
 use Rattle.edit_model.specs.Corrections.{is_first, path_order}
 use Rattle.edit_model.specs.Words.{weight_at}
 use Rattle.edit_model.specs.declared.field.Field.{Field}
-use Rattle.edit_line.specs.Reductions.{IsIn}
 use Rattle.linear_elim.specs.declared.held.Held.{Held}
 use Rattle.bound_cert.specs.Paths.{path_weight}
 use Rattle.edit_paths.specs.Cases.{SearchCase}
 use Rattle.edit_paths.specs.Paths.{before_last, field_count}
-use Rattle.edit_paths.specs.ReachedPaths.{is_before}
 use Rattle.edit_paths.specs.States.{IsOpen, state_of}
 use Rattle.edit_paths.specs.Works.{work_of}
 use Rattle.edit_paths.specs.declared.state.PathState.{PathState}
@@ -38,11 +36,6 @@ paths_of nodes = map (λ (node : Node). node.path) nodes
 -- the first comes before the second, by their weights and then letter by letter, or has the same path
 abbrev pub before : Node → Node → Bool
 before first second = nat_lt first.weight second.weight || ((first.weight == second.weight) && is_first first.path second.path)
-
--- paths in order: each comes before all later ones
-abbrev pub AreInOrder : SearchCase → List (List Bool) → Type 0
-AreInOrder c [] = Unit {0}
-AreInOrder c (path ∷ paths) = ((later : List Bool) → IsIn later paths → is_before c.survey.fields path later ≡ true) × AreInOrder c paths
 
 -- the source keeps the system of the path before each end
 abbrev pub AreKept : (ℕ → Bool) → SearchCase → List Node → Type 0

@@ -1,7 +1,7 @@
 use Rattle.edit_paths.proofs.ClosedPaths.{closed-path}
 use Rattle.edit_paths.proofs.EventLaws.{step-names, test-names}
 use Rattle.edit_paths.proofs.OpenPaths.{open-path}
-use Rattle.edit_paths.proofs.ReachedLaws.{best-first, reached-are}
+use Rattle.edit_paths.proofs.ReachedLaws.{best-first, reached-are, reached-sorted}
 use Rattle.edit_paths.proofs.laws.path_laws.Goals as goal
 
 pub returns-clause-closed_path : goal.returns-clause-closed_path
@@ -12,6 +12,9 @@ returns-clause-open_path c d path is complete fits = open-path d is path complet
 
 pub returns-clause-reached : goal.returns-clause-reached
 returns-clause-reached c d path = reached-are d path
+
+pub returns-clause-order : goal.returns-clause-order
+returns-clause-order c d = reached-sorted d
 
 pub returns-clause-walk : goal.returns-clause-walk
 returns-clause-walk c d = best-first d

@@ -2,7 +2,7 @@ use Rattle.std.proofs.Common.{List, ap, drop, sym, ℕ, ◌+◌, ◌∙◌}
 use Rattle.std.specs.List.{fold}
 use Rattle.std.proofs.lemmas.List.{at_drop_more}
 use Rattle.derivation.specs.declared.step.Step.{Step}
-use Rattle.edit_paths.specs.Histories.{maker, number_in, renumbered, with_proof}
+use Rattle.edit_paths.specs.Histories.{maker, step_number, renumbered, with_proof}
 use Rattle.edit_paths.specs.Levels.{history_of}
 use Rattle.edit_paths.specs.declared.making.Written.{Written}
 use Rattle.edit_paths.proofs.HistoryLists.{parts-apart, parts-end, proof-here, proof-there}
@@ -33,4 +33,4 @@ returns-in_ok-push-in-By t c =
     (sym c.in_ok-earlier.ensures ∙ c.in-By.is)
     (sym c.has.ensures ∙ c.if-has.false)
     (parts-end (history_of c.in-Some.before.now) c.args.done.now c.loop-part.done c.deref-part-items.result.now _ c.loop-part.part-index c.loop-part-test.false c.loop-part.invariant.0 (c.deref-part-items.ensures.value ∙ c.in_ok-parts-in-By.ensures))
-    (c.in_ok-step-in-By.ensures ∙ ap (λ (whole : Step). renumbered (λ i. number_in c.loop-part.done (maker (history_of c.in-Some.before.now) i)) whole) c.loop-part.invariant.1)
+    (c.in_ok-step-in-By.ensures ∙ ap (λ (whole : Step). renumbered (λ i. step_number c.loop-part.done (maker (history_of c.in-Some.before.now) i)) whole) c.loop-part.invariant.1)

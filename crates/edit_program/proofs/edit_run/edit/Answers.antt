@@ -3,7 +3,7 @@ use Rattle.edit_desk.specs.Desk.{Asked, PutsOnRecord, Told, fetched, stored}
 use Rattle.edit_release.specs.Releases.{IsReleaseOf, written_in}
 use Rattle.record_workers.specs.declared.terms.Terms.{Terms}
 use Rattle.command_words.specs.Asked.{EditAsked}
-use Rattle.edit_program.specs.Edits.{terms_of}
+use Rattle.edit_program.specs.Edits.{terms_asked}
 use Rattle.edit_program.specs.EditRun.{AreWritten, IsMade, Leaves, edit_calls, edit_files}
 use Rattle.edit_program.specs.Faults.{fault_status}
 use Rattle.edit_program.specs.Readings.{AnswersDue, IsDue, Refuses}
@@ -66,7 +66,7 @@ returns-in_err-store_release-clause-files g c =
     rw (handed c.from_residual-in_err-store_release.result _ c.from_residual-in_err-store_release.ensures.1)
     (subst (λ (a : EditAsked). Told (g.D.Desk.files c.args.desk.now) (g.D.Desk.files c.store_release.new.desk) (Leaves a f)) c.asked.view_is
     (from-told (g.D.Desk.files c.args.desk.now) _ (λ old new is h. stores-leave (edit_of c.asked.inside.rules.now c.asked.inside.records.now c.asked.inside.released.now c.asked.inside.reasons.now c.asked.inside.proof.now c.asked.inside.budget c.asked.inside.limit c.asked.inside.near) f (edit_status c.in-Ok.release) (written_in c.in-Ok.release) old new c.in_err-store_release.ensures.kind is h)
-    (both-told (g.D.Desk.files c.args.desk.now) (λ o hr hs. made (edit_of c.asked.inside.rules.now c.asked.inside.records.now c.asked.inside.released.now c.asked.inside.reasons.now c.asked.inside.proof.now c.asked.inside.budget c.asked.inside.limit c.asked.inside.near) o c.in_ok-survey.survey c.in_ok-sheet.sheet c.in-Ok.release hr hs (subst (λ (t : Terms). IsReleaseOf c.in_ok-survey.survey c.in_ok-sheet.sheet t c.in-Ok.release) (c.terms_of.ensures.terms ∙ ap terms_of (sym c.asked.view_is)) c.in-Ok.ensures.edit)) c.in_ok-survey.ensures.read (rw c.in_ok-survey.ensures.unchanged at c.in_ok-sheet.ensures.read))
+    (both-told (g.D.Desk.files c.args.desk.now) (λ o hr hs. made (edit_of c.asked.inside.rules.now c.asked.inside.records.now c.asked.inside.released.now c.asked.inside.reasons.now c.asked.inside.proof.now c.asked.inside.budget c.asked.inside.limit c.asked.inside.near) o c.in_ok-survey.survey c.in_ok-sheet.sheet c.in-Ok.release hr hs (subst (λ (t : Terms). IsReleaseOf c.in_ok-survey.survey c.in_ok-sheet.sheet t c.in-Ok.release) (c.terms_asked.ensures.terms ∙ ap terms_asked (sym c.asked.view_is)) c.in-Ok.ensures.edit)) c.in_ok-survey.ensures.read (rw c.in_ok-survey.ensures.unchanged at c.in_ok-sheet.ensures.read))
     (rw (← c.asked.view_is, c.in_ok-sheet.ensures.unchanged, c.in_ok-survey.ensures.unchanged) at c.in_err-store_release.ensures.files)))
 
 pub returns-in_err-store_release-clause-asked : goal.returns-in_err-store_release-clause-asked
@@ -86,7 +86,7 @@ pub returns-clause-files : goal.returns-clause-files
 returns-clause-files g c =
     subst (λ (a : EditAsked). Told (g.D.Desk.files c.args.desk.now) (g.D.Desk.files c.store_release.new.desk) (λ old new. IsMade a (edit_status c.in-Ok.release) old (written_in c.in-Ok.release) × AreWritten a (written_in c.in-Ok.release) old new)) c.asked.view_is
     (from-told (g.D.Desk.files c.args.desk.now) _ (λ old new is h. (is, all-written (edit_of c.asked.inside.rules.now c.asked.inside.records.now c.asked.inside.released.now c.asked.inside.reasons.now c.asked.inside.proof.now c.asked.inside.budget c.asked.inside.limit c.asked.inside.near) (written_in c.in-Ok.release) old new c.asked.invariant.0 h))
-    (both-told (g.D.Desk.files c.args.desk.now) (λ o hr hs. made (edit_of c.asked.inside.rules.now c.asked.inside.records.now c.asked.inside.released.now c.asked.inside.reasons.now c.asked.inside.proof.now c.asked.inside.budget c.asked.inside.limit c.asked.inside.near) o c.in_ok-survey.survey c.in_ok-sheet.sheet c.in-Ok.release hr hs (subst (λ (t : Terms). IsReleaseOf c.in_ok-survey.survey c.in_ok-sheet.sheet t c.in-Ok.release) (c.terms_of.ensures.terms ∙ ap terms_of (sym c.asked.view_is)) c.in-Ok.ensures.edit)) c.in_ok-survey.ensures.read (rw c.in_ok-survey.ensures.unchanged at c.in_ok-sheet.ensures.read))
+    (both-told (g.D.Desk.files c.args.desk.now) (λ o hr hs. made (edit_of c.asked.inside.rules.now c.asked.inside.records.now c.asked.inside.released.now c.asked.inside.reasons.now c.asked.inside.proof.now c.asked.inside.budget c.asked.inside.limit c.asked.inside.near) o c.in_ok-survey.survey c.in_ok-sheet.sheet c.in-Ok.release hr hs (subst (λ (t : Terms). IsReleaseOf c.in_ok-survey.survey c.in_ok-sheet.sheet t c.in-Ok.release) (c.terms_asked.ensures.terms ∙ ap terms_asked (sym c.asked.view_is)) c.in-Ok.ensures.edit)) c.in_ok-survey.ensures.read (rw c.in_ok-survey.ensures.unchanged at c.in_ok-sheet.ensures.read))
     (rw (← c.asked.view_is, c.in_ok-sheet.ensures.unchanged, c.in_ok-survey.ensures.unchanged) at c.in_ok-store_release.ensures.files))
 
 pub returns-clause-asked : goal.returns-clause-asked

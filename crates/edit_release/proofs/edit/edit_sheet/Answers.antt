@@ -10,7 +10,7 @@ use Rattle.edit_report.specs.declared.end.RowEnd.{RowEnd}
 use Rattle.record_workers.specs.Ends.{IsEndOf}
 use Rattle.record_workers.specs.Said.{Says}
 use Rattle.redundancy.specs.declared.verdict.Verdict.{Verdict}
-use Rattle.edit_release.specs.Edits.{proof_by}
+use Rattle.edit_release.specs.Edits.{proof_telling}
 use Rattle.edit_release.specs.Releases.{AllGiven}
 use Rattle.edit_release.specs.declared.release.Release.{Release}
 use Rattle.edit_release.proofs.ReleaseLaws.{guarantee-of, release-of}
@@ -39,7 +39,7 @@ returns g c =
     let release : Release = record { proof = c.in_ok-proof.proof; reasons = c.in_ok-reasons.reasons; released = c.in_ok-released.released; summary = c.in_ok-summary.summary; whole = c.are_given-whole.result } in
     let each = subst (λ (edits : EditsParts). AllZip (IsEndOf survey edits terms.budget sheet.rows) sheet.rows ends) c.in_ok-edits.ensures.edits c.in_ok-edited.ensures.ends in
     let say = subst (λ (edits : EditsParts). AllZip (Says survey edits terms.budget) sheet.rows ends) c.in_ok-edits.ensures.edits c.in_ok-edited.ensures.say in
-    let same = c.in_ok-proof_of.ensures ∙ ap (λ (verdicts : List Verdict). proof_by verdicts terms ends history) c.in_ok-pruned.ensures.verdicts in
+    let same = c.in_ok-proof_of.ensures ∙ ap (λ (verdicts : List Verdict). proof_telling verdicts terms ends history) c.in_ok-pruned.ensures.verdicts in
     let released = c.in_ok-released.ensures ∙ ap (λ (es : List RowEnd). released_text_of survey sheet es) c.as_slice-ends.ensures.value in
     record {
       guaranteed = guarantee-of survey sheet c.requires.read.0 terms ends history c.fields-fields.ensures.well_formed c.requires.read.1 c.requires.terms each say c.in_ok-edited.ensures.donations

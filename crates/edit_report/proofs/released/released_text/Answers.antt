@@ -1,7 +1,7 @@
 use Rattle.std.proofs.Common.{List, [], ap, arith, length, get_or, ◌++◌, ◌∙◌, ◌<◌, ◌∷◌, sym, ℕ}
 use Rattle.record_text.specs.Texts.{records_text}
 use Rattle.record_text.proofs.WritingLaws.{records_text-append}
-use Rattle.edit_report.specs.Released.{released_rows, row_of}
+use Rattle.edit_report.specs.Released.{released_rows, released_of}
 use Rattle.edit_report.proofs.SheetLaws.{raw-long, sheet-layout}
 use Rattle.edit_report.proofs.WrittenLaws.{ok-then, released-all, released-more}
 use Rattle.edit_report.proofs.released.released_text.Goals as goal
@@ -25,7 +25,7 @@ loop-row_no-preserved c =
     let fields = c.args.survey.now.fields in
     let in_row_texts : c.loop-row_no.row_no < length c.args.sheet.now.row_texts = omega (arith, c.loop-row_no-test.true, c.len-row_no-end.ensures.row_texts) in
     let in_ends : c.loop-row_no.row_no < length c.args.ends.now = omega (arith, c.loop-row_no-test.true, c.len-row_no-end.ensures.rows, c.requires.ends.one_each) in (
-      inv.0 ++ records_text (row_of fields c.args.sheet.now.columns (get_or c.args.sheet.now.row_texts c.loop-row_no.row_no []) c.index-ends-row_no.result),
+      inv.0 ++ records_text (released_of fields c.args.sheet.now.columns (get_or c.args.sheet.now.row_texts c.loop-row_no.row_no []) c.index-ends-row_no.result),
       rw (c.in_ok-layout.ensures.columns, c.raw.ensures) at (c.in_ok-push_released.ensures inv.0 inv.1),
       released-more fields c.args.sheet.now.columns c.args.sheet.now.row_texts c.args.ends.now c.loop-row_no.row_no c.index-ends-row_no.result inv.0 _ in_row_texts in_ends c.index-ends-row_no.is inv.2,
     )
