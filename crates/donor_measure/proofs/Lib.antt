@@ -1,2 +1,3 @@
 pub mod BucketLaws
+pub mod MarkLaws
 pub mod YardstickLaws

@@ -3,10 +3,12 @@
 //! to answer in `specs/Measures.antt`. Begin with [`Measure`] and [`field_distance`].
 #![tactic(auto)]
 
+mod bucket;
 mod distance;
 mod measure;
 mod yardstick;
 
+pub use bucket::{apart_by_buckets, bucket_no, mark_of};
 pub use distance::field_distance;
 pub use measure::Measure;
 pub use yardstick::{Yardstick, Yardsticks};

@@ -1,10 +1,12 @@
-ghost use Rattle.std.specs.Prelude.{◌≡◌, ◌<◌, ◌≤◌, ◌*◌, All, IfNone, IfSome, length};
+ghost use Rattle.std.specs.Prelude.{◌≡◌, ◌<◌, ◌≤◌, ◌+◌, ◌*◌, All, IfNone, IfSome, length};
 ghost use Rattle.donor_measure.specs.Distances.{distance, distance_at};
 ghost use Rattle.donor_measure.specs.Measures.{HasMeasurable, Measures};
 ghost use Rattle.donor_measure.specs.Yardsticks.{IsYardstick, yardstick_at, yardsticks_of};
 
 use crate::yardstick::Yardsticks;
 use edit_model::{FieldSet, Row, Survey, Value};
+use foundation::Steps;
+use std::sync::ledger::Ledger;
 
 /// How far apart two records of a survey are at the fields that are kept: a closure that answers the
 /// distance of two values of a field, beside the weights and scales that it answers by. Contracts say
@@ -32,25 +34,37 @@ impl<F: Fn(u32, &Value, &Value) -> u64> Measure<F> {
     }
 
     /// The distance of two records, which have codes or numbers at the kept fields, numbers as above.
-    /// No memory.
-    pub fn between(&self, a: &Row, b: &Row, kept: FieldSet) -> u64
+    /// One step is counted. No memory.
+    pub fn between<L: Ledger>(&self, a: &Row, b: &Row, kept: FieldSet, steps: &mut Steps<L>) -> u64
         requires measures { Measures F.Fn self.now.closure self.now.yardsticks }
         requires first { HasMeasurable self.now.yardsticks kept a.now }
         requires second { HasMeasurable self.now.yardsticks kept b.now }
-        ensures { result ≡ distance self.now.yardsticks kept a.now b.now }
+        ensures distance { result ≡ distance self.now.yardsticks kept a.now b.now }
+        ensures step { steps.new ≡ steps.old + 1 }
     {
+        steps.tick();
         self.sum_within(a, b, kept, u64::MAX)
     }
 
     /// The distance of two records as above where it is at most `most`, and None exactly where it is more:
-    /// then the fields behind the first at which this shows are not looked at. No memory.
-    pub fn between_within(&self, a: &Row, b: &Row, kept: FieldSet, most: u64) -> Option<u64>
+    /// then the fields behind the first at which this shows are not looked at. One step is counted.
+    /// No memory.
+    pub fn between_within<L: Ledger>(
+        &self,
+        a: &Row,
+        b: &Row,
+        kept: FieldSet,
+        most: u64,
+        steps: &mut Steps<L>,
+    ) -> Option<u64>
         requires measures { Measures F.Fn self.now.closure self.now.yardsticks }
         requires first { HasMeasurable self.now.yardsticks kept a.now }
         requires second { HasMeasurable self.now.yardsticks kept b.now }
         ensures some { IfSome result (λ sum. (sum ≡ distance self.now.yardsticks kept a.now b.now) × (sum ≤ most)) }
         ensures none { IfNone result (most < distance self.now.yardsticks kept a.now b.now) }
+        ensures step { steps.new ≡ steps.old + 1 }
     {
+        steps.tick();
         let sum = self.sum_within(a, b, kept, most);
         if sum <= most { Some(sum) } else { None }
     }

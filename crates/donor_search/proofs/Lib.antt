@@ -1,6 +1,12 @@
 pub mod CleanLaws
 pub mod DonorLaws
+pub mod GapLaws
 pub mod OrderLaws
 pub mod PlaceLaws
+pub mod ProfileLaws
 pub mod RankedLaws
 pub mod RankingLaws
+pub mod ReachLaws
+pub mod SameLaws
+pub mod WalkLaws
+pub mod WalkSteps

@@ -10,7 +10,7 @@ use Rattle.donor_search.proofs.RankingLaws.{placed-cons}
 
 -- What a ranking is, in other words than how it is made.
 
-all_more : {X : Type 0} (P Q : X → Type 0) (xs : List X) → ((x : X) → P x → Q x) → AllByRecursion P xs → AllByRecursion Q xs
+pub all_more : {X : Type 0} (P Q : X → Type 0) (xs : List X) → ((x : X) → P x → Q x) → AllByRecursion P xs → AllByRecursion Q xs
 all_more P Q [] step all = tt
 all_more P Q (x ∷ xs) step all = (step x all.0, all_more P Q xs step all.1)
 
@@ -95,7 +95,7 @@ pub nearest_order : (near : ℕ) (candidates nearest : List Candidate) → neare
 nearest_order near candidates nearest is = subst (IsInOrder is_before) (sym is) (take_order is_before turned on near (in_order is_before candidates) (fold_order is_before turned on candidates [] tt))
 
 module _ (far : ℕ → ℕ) where
-  nearer_order : (donors : List ℕ) → IsInOrder (is_nearer far) (in_order (is_nearer far) donors)
+  pub nearer_order : (donors : List ℕ) → IsInOrder (is_nearer far) (in_order (is_nearer far) donors)
   nearer_order donors =
       fold_order (is_nearer far) (λ a b. turned (candidate_of far a) (candidate_of far b)) (λ a b c. on (candidate_of far a) (candidate_of far b) (candidate_of far c)) donors [] tt
 
@@ -109,7 +109,7 @@ module _ (far : ℕ → ℕ) where
 -- ---- candidates that are too far
 
 -- in a list in order none is farther than the last
-none_farther : (y last : Candidate) (ys : List Candidate) → IsInOrder is_before (y ∷ ys) → Some last ≡ slice_get (y ∷ ys) (length ys) → AllByRecursion (λ (z : Candidate). z.distance ≤ last.distance) (y ∷ ys)
+pub none_farther : (y last : Candidate) (ys : List Candidate) → IsInOrder is_before (y ∷ ys) → Some last ≡ slice_get (y ∷ ys) (length ys) → AllByRecursion (λ (z : Candidate). z.distance ≤ last.distance) (y ∷ ys)
 none_farther y last [] is at = let same : last ≡ y = cc in (rw same (omega arith), tt)
 none_farther y last (z ∷ zs) is at =
     let rest = none_farther z last zs is.1 at in

@@ -69,11 +69,11 @@ module _ (far : ℕ → ℕ) where
       by true rest = refl
       by false rest = ap (λ cs. candidate_of far y ∷ cs) rest
 
-  order-map : (xs ys : List ℕ) → fold (λ ordered c. placed is_before c ordered) (map (candidate_of far) ys) (map (candidate_of far) xs) ≡ map (candidate_of far) (fold (λ ordered x. placed (is_nearer far) x ordered) ys xs)
+  pub order-map : (xs ys : List ℕ) → fold (λ ordered c. placed is_before c ordered) (map (candidate_of far) ys) (map (candidate_of far) xs) ≡ map (candidate_of far) (fold (λ ordered x. placed (is_nearer far) x ordered) ys xs)
   order-map [] ys = refl
   order-map (x ∷ xs) ys = ap (λ cs. fold (λ ordered c. placed is_before c ordered) cs (map (candidate_of far) xs)) (placed-map x ys) ∙ order-map xs (placed (is_nearer far) x ys)
 
-  names : (xs : List ℕ) → map (λ (c : Candidate). c.donor) (map (candidate_of far) xs) ≡ xs
+  pub names : (xs : List ℕ) → map (λ (c : Candidate). c.donor) (map (candidate_of far) xs) ≡ xs
   names [] = refl
   names (x ∷ xs) = ap (λ ys. x ∷ ys) (names xs)
 

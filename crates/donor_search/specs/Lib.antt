@@ -1,4 +1,6 @@
+pub mod Asked
 pub mod CleanRows
+pub mod Decks
 pub mod Places
-pub mod inner
 pub mod Rankings
+pub mod inner

@@ -1,1 +1,4 @@
 pub mod Candidates
+pub mod Profiles
+pub mod Searches
+pub mod Spans

@@ -1,8 +1,7 @@
-ghost use Rattle.std.specs.Prelude.{◌≡◌, ◌<◌, ◌≤◌, length, take, IfSome, OnOk};
+ghost use Rattle.std.specs.Prelude.{◌≡◌, ◌+◌, ◌<◌, ◌≤◌, true, false, length, take, IfNone, IfSome, OnOk};
 ghost use Rattle.std.specs.List.{position, position_or_len};
 ghost use Rattle.donor_search.specs.Rankings.{IsInOrder, placed};
-ghost use Rattle.donor_search.specs.declared.candidate.Candidate.{Candidate as AnyCandidate};
-ghost use Rattle.donor_search.specs.inner.Candidates.{is_before};
+ghost use Rattle.donor_search.specs.inner.Candidates.{IsClosedAt, IsOpenOrReaches, Reaches, is_before};
 
 use foundation::OutOfMemory;
 
@@ -45,8 +44,9 @@ pub(crate) fn put(
 pub(crate) fn farthest(nearest: &[Candidate], near: usize) -> Option<u64>
     requires few { length nearest.now ≤ near }
     requires order { IsInOrder is_before nearest.now }
-    ensures { IfSome result (λ most. (x : AnyCandidate)
-        → most < x.distance → nearest.now ≡ take near (placed is_before x nearest.now)) }
+    ensures closed { IfSome result (λ most. IsClosedAt near (most + 1) nearest.now) }
+    ensures reached { IfSome result (λ most. Reaches most nearest.now) }
+    ensures none { IfNone result (1 ≤ near → length nearest.now < near) }
 {
     if nearest.len() < near {
         return None;
@@ -54,6 +54,19 @@ pub(crate) fn farthest(nearest: &[Candidate], near: usize) -> Option<u64>
     match nearest.last() {
         Some(last) => Some(last.distance),
         None => None,
+    }
+}
+
+/// Whether no donor that is at least so far has a place among the nearest.
+pub(crate) fn is_closed_at(nearest: &[Candidate], near: usize, gap: u64) -> bool
+    requires few { length nearest.now ≤ near }
+    requires order { IsInOrder is_before nearest.now }
+    ensures closed { result ≡ true → IsClosedAt near gap nearest.now }
+    ensures reaches { result ≡ false → IsOpenOrReaches near gap nearest.now }
+{
+    match farthest(nearest, near) {
+        Some(most) => most < gap,
+        None => false,
     }
 }
 

@@ -1,30 +1,48 @@
-ghost use Rattle.std.specs.Prelude.{◌≡◌, ◌<◌, ◌++◌, length, All, IfOk, OnOk};
+ghost use Rattle.std.specs.Prelude.{◌≡◌, ℕ, ◌<◌, ◌++◌, length, All, IfOk, OnOk};
 ghost use Rattle.std.specs.List.{AllByRecursion};
 ghost use Rattle.std.specs.List.Sorted.{IsStrictlyIncreasing};
 ghost use Rattle.edit_model.specs.CleanRecords.{is_clean};
 ghost use Rattle.edit_model.specs.Rows.{IsRow};
+ghost use Rattle.edit_model.specs.PlainNumbers.{HasPlain};
+ghost use Rattle.donor_measure.specs.Yardsticks.{yardstick_at, yardsticks_of};
 ghost use Rattle.donor_search.specs.CleanRows.{CanAllGive, IsCleanRow, donors_of, row_at};
+ghost use Rattle.donor_search.specs.Decks.{AreSlots, IsDeckOf, slots_at};
+ghost use Rattle.donor_search.specs.declared.slot.Slot.{Slot as AnySlot};
 ghost use Rattle.donor_search.specs.Places.{place_if};
 
+use crate::index::{marks_of_rows, marks_of_slots, slots_of};
+use crate::slot::Slot;
+use donor_measure::Yardsticks;
 use edit_model::{Survey, is_clean};
-use foundation::OutOfMemory;
+use foundation::{OutOfMemory, Sequence};
 use record_text::Sheet;
 use std::alloc::Global;
 use std::marker::Model;
 
-/// The donors of a sheet: the numbers of its clean rows, in rising order. Contracts see the list.
+/// The donors of a sheet: the numbers of its clean rows, in rising order. Beside them it keeps, for each numerical field, the
+/// donors in the order of their buckets there, and marks, which tell donors that are far away. Contracts see the lists.
 #[derive(Debug, Drop)]
 pub struct Deck {
     rows: Vec<u32>,
+    index: Vec<Sequence<Slot>>,
+    marks: Vec<u32>,
+    first: u32,
+    walk_marks: Vec<u32>,
 }
 
 impl Model for Deck {
-    ghost use Rattle.std.specs.Prelude.{ℕ, List};
     ghost use Rattle.std.specs.List.Sorted.{IsStrictlyIncreasing};
+    ghost use Rattle.donor_search.specs.Decks.{DeckParts};
 
-    ghost Value = { List ℕ };
+    ghost Value = { DeckParts };
 
-    ghost view = { λ d. d.rows.items };
+    ghost view = { λ d. record {
+      donors = d.rows.items;
+      index = d.index.items;
+      marks = d.marks.items;
+      first = d.first;
+      walk_marks = d.walk_marks.items;
+    } };
 
     ghost invariant = { λ d. IsStrictlyIncreasing d.rows.items };
 }
@@ -35,22 +53,109 @@ impl Deck {
     /// at most 10^6, a ranking for any kept fields may be asked of the donors.
     pub fn new(alloc: Global, survey: &Survey, sheet: &Sheet) -> Result<Deck, OutOfMemory>
         requires { AllByRecursion (IsRow survey.now.fields) sheet.now.rows }
-        ensures clean { IfOk result (λ deck. deck ≡ donors_of survey.now sheet.now.rows) }
-        ensures rows { IfOk result (λ deck. All (IsCleanRow survey.now sheet.now.rows) deck) }
-        ensures rising { IfOk result (λ deck. IsStrictlyIncreasing deck) }
-        ensures measurable { IfOk result (CanAllGive survey.now sheet.now.rows) }
+        ensures clean { IfOk result (λ deck. deck.donors ≡ donors_of survey.now sheet.now.rows) }
+        ensures rows { IfOk result (λ deck. All (IsCleanRow survey.now sheet.now.rows) deck.donors) }
+        ensures rising { IfOk result (λ deck. IsStrictlyIncreasing deck.donors) }
+        ensures measurable { IfOk result (λ deck. CanAllGive survey.now sheet.now.rows deck.donors) }
+        ensures index { IfOk result (λ deck. AllByRecursion HasPlain sheet.now.rows
+            → IsDeckOf (yardsticks_of survey.now.fields) sheet.now.rows deck) }
     {
         let rows = clean_rows(alloc, survey, sheet)?;
-        Ok(Deck { rows })
+        let index = index_of(alloc, survey, sheet, &rows)?;
+        let marks = marks_of_rows(alloc, survey, sheet)?;
+        let first = first_number(survey);
+        let walk_marks = marks_of_slots(alloc, survey, sheet, slots_in(&index, first))?;
+        Ok(Deck {
+            rows,
+            index,
+            marks,
+            first,
+            walk_marks,
+        })
     }
 
     /// The numbers of the clean rows, in rising order. No memory.
     pub fn rows(&self) -> &[u32]
-        ensures rows { result.now ≡ self.now }
+        ensures rows { result.now ≡ self.now.donors }
         ensures rising { IsStrictlyIncreasing result.now }
     {
         self.rows.as_slice()
     }
+
+    // The slots of a field.
+    pub(crate) fn slots(&self, field: u32) -> &[Slot]
+        ensures { result.now ≡ slots_at self.now.index field }
+    {
+        slots_in(&self.index, field)
+    }
+
+    // The marks of all rows.
+    #[inline(always)]
+    pub(crate) fn marks(&self) -> &[u32]
+        ensures { result.now ≡ self.now.marks }
+    {
+        self.marks.as_slice()
+    }
+
+    // The first numerical field, if there is one.
+    pub(crate) fn first(&self) -> u32
+        ensures { result ≡ self.now.first }
+    {
+        self.first
+    }
+
+    // The marks of the donors in the order of the slots of that field.
+    #[inline(always)]
+    pub(crate) fn walk_marks(&self) -> &[u32]
+        ensures { result.now ≡ self.now.walk_marks }
+    {
+        self.walk_marks.as_slice()
+    }
+}
+
+// The slots of a field; none past the last.
+fn slots_in(index: &[Sequence<Slot>], field: u32) -> &[Slot]
+    ensures { result.now ≡ slots_at index.now field }
+{
+    match index.get(field as usize) {
+        Some(slots) => slots.as_slice(),
+        None => &[],
+    }
+}
+
+// The first numerical field; how many fields there are, where there is none.
+fn first_number(survey: &Survey) -> u32 {
+    let yardsticks = Yardsticks::of(survey);
+    for field in 0..yardsticks.count() {
+        if yardsticks.at(field).scale.is_some() {
+            return field;
+        }
+    }
+    yardsticks.count()
+}
+
+// The slots of each field.
+fn index_of(
+    alloc: Global,
+    survey: &Survey,
+    sheet: &Sheet,
+    donors: &[u32],
+) -> Result<Vec<Sequence<Slot>>, OutOfMemory>
+    requires rows { AllByRecursion (IsRow survey.now.fields) sheet.now.rows }
+    requires donors { All (λ donor. donor < length sheet.now.rows) donors.now }
+    ensures fields { IfOk result (λ index. length index.items ≡ length survey.now.fields) }
+    ensures donors { IfOk result (λ index. (f : ℕ)
+        → All (λ (s : AnySlot). s.donor < length sheet.now.rows) (slots_at index.items f)) }
+    ensures slots { IfOk result (λ index. AllByRecursion HasPlain sheet.now.rows → (f : ℕ) → f < length survey.now.fields
+        → AreSlots (yardstick_at (yardsticks_of survey.now.fields) f).scale sheet.now.rows f donors.now (slots_at index.items f)) }
+{
+    let yardsticks = Yardsticks::of(survey);
+    let mut index = Vec::new(alloc);
+    for field in 0..yardsticks.count() {
+        let scale = yardsticks.at(field).scale;
+        index.push(slots_of(alloc, survey, sheet, donors, field, scale)?)?;
+    }
+    Ok(index)
 }
 
 // The numbers of the clean rows, in order.

@@ -1,4 +1,4 @@
-ghost use Rattle.std.specs.Prelude.{◌≡◌, ◌≢◌, true};
+ghost use Rattle.std.specs.Prelude.{◌≡◌, ◌≢◌, ◌<◌, true};
 ghost use Rattle.std.specs.List.{AllByRecursion};
 ghost use Rattle.edit_model.specs.PlainNumbers.{HasPlain};
 ghost use Rattle.edit_model.specs.Rows.{IsRow, value_of};
@@ -6,9 +6,12 @@ ghost use Rattle.edit_model.specs.Rows.{IsRow, value_of};
 use crate::{Deck, ranking};
 use donor_measure::{Measure, field_distance};
 use edit_model::{Compare, Field, FieldSet, Kind, Linear, Name, Rule, Survey, Term, Test, Value};
-use foundation::Sequence;
+use foundation::{Sequence, Steps};
 use record_text::{Sheet, read_records};
 use std::alloc::Global;
+use std::cell::Cell;
+use std::marker::Brand;
+use std::sync::ledger::{Blank, Ledger};
 use std::test::Fail;
 
 fn number(name: &[u8], scale: u64) -> Result<Field, Fail> {
@@ -62,19 +65,26 @@ fn is_number(value: &Value) -> bool
     }
 }
 
-// The nearest donors for a row of which A alone is kept.
-fn nearest(
+// The nearest donors for a row of which A alone is kept, and how often two values were measured for them.
+fn nearest<L: Ledger>(
     alloc: Global,
     survey: &Survey,
     sheet: &Sheet,
     row_no: u32,
     near: u32,
-) -> Result<Vec<u32>, Fail>
+    blank: Blank,
+) -> Result<(Vec<u32>, u64), Fail>
+    requires name { blank.name ≡ L.name }
+    requires parts { blank.parts ≡ L.parts }
+    requires counts { 0 < blank.parts }
     requires rows { AllByRecursion (IsRow survey.now.fields) sheet.now.rows }
     requires plain { AllByRecursion HasPlain sheet.now.rows }
 {
+    let mut steps = Steps::<L>::start(blank);
     let deck = Deck::new(alloc, survey, sheet)?;
+    let measured = Cell::new(0u64);
     let measure = Measure::new(survey, |field: u32, first: &Value, second: &Value| {
+        measured.set(measured.get().wrapping_add(1));
         field_distance(survey, field, first, second)
     });
     if row_no >= sheet.len() {
@@ -85,7 +95,8 @@ fn nearest(
         return Err(Fail::from("no number"));
     }
     let kept = FieldSet::empty().with(0);
-    Ok(ranking(alloc, &deck, sheet, &measure, row, kept, near)?)
+    let ranking = ranking(alloc, &deck, sheet, &measure, row, kept, near, &mut steps)?;
+    Ok((ranking, measured.get()))
 }
 
 // The nearest donors for a row of these records, of which A alone is kept.
@@ -98,7 +109,7 @@ fn nearest_in(
 ) -> Result<Vec<u32>, Fail> {
     let survey = survey(alloc, scale)?;
     let sheet = read_records(alloc, &survey, records)?;
-    nearest(alloc, &survey, &sheet, row_no, near)
+    Ok(nearest::<Brand>(alloc, &survey, &sheet, row_no, near, Blank::new(1))?.0)
 }
 
 #[test]
@@ -116,6 +127,26 @@ fn nearer_donors_come_first_and_of_equal_ones_the_earlier(rt: HostRuntime) -> Re
     let close = b"A,B\n1,2\n0,3\n0.9,\n";
     assert_eq!(rt;
         nearest_in(alloc, 1000, close, 2, 1)?.as_slice(),
+        [0].as_slice()
+    );
+    Ok(())
+}
+
+// How often two values are measured for the nearest donor of the last of three rows, of which A alone is kept.
+fn measured_in(alloc: Global, records: &[u8]) -> Result<u64, Fail> {
+    let survey = survey(alloc, 1000)?;
+    let sheet = read_records(alloc, &survey, records)?;
+    Ok(nearest::<Brand>(alloc, &survey, &sheet, 2, 1, Blank::new(1))?.1)
+}
+
+#[test]
+fn no_donor_is_measured_of_which_the_bucket_is_too_far(rt: HostRuntime) -> Result<(), Fail> {
+    let alloc = rt.alloc();
+    assert_eq!(rt; measured_in(alloc, b"A,B\n0,3\n5000,4\n0.9,\n")?, 1);
+    assert!(rt; measured_in(alloc, b"A,B\n1,2\n0,3\n0.9,\n")? <= 2);
+    let far = b"A,B\n0,3\n5000,4\n0.9,\n";
+    assert_eq!(rt;
+        nearest_in(alloc, 1000, far, 2, 1)?.as_slice(),
         [0].as_slice()
     );
     Ok(())

@@ -68,7 +68,7 @@ module _ (c : SearchCase) where
 -- ---- the ranking
 
 module _ {F : Type 0} (calls : Shared F (ℕ × (Bor Value × (Bor Value × Unit {0}))) ℕ) (e : Editing F) (editing : IsEditing calls e) (row_no : ℕ) (row : List Value) (kept : ℕ) (ranking : List ℕ)
-    (there : row ≡ row_at (rows_in e) row_no) (is : ranking ≡ ranking_of e.measure.now.yardsticks (rows_in e) e.deck.now row kept e.terms.near) where
+    (there : row ≡ row_at (rows_in e) row_no) (is : ranking ≡ ranking_of e.measure.now.yardsticks (rows_in e) e.deck.now.donors row kept e.terms.near) where
   -- the deck and the measure rank the clean records by the survey's yardsticks
   pub ranking-is : ranking ≡ ranking_of (yardsticks_of e.survey.now.fields) (rows_in e) (donors_of e.survey.now (rows_in e)) (row_at (rows_in e) row_no) kept e.terms.near
   ranking-is = is ∙ (λ i. ranking_of (editing.yardsticks i) (rows_in e) (editing.deck i) (there i) kept e.terms.near)

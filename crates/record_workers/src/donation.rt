@@ -13,19 +13,21 @@ use bound_cert::Path;
 use donor_book::{Book, Claim};
 use donor_search::ranking;
 use edit_model::Value;
-use foundation::OutOfMemory;
+use foundation::{OutOfMemory, Steps};
 use std::alloc::Global;
+use std::sync::ledger::Ledger;
 
 /// The donor of a record for which a change of this path and weight was found. Where that weighs something the record
 /// claims one: it ranks the nearest clean records at the fields that are kept, and is given the first that was given less
 /// often than the limit. Nobody where there is none, or where the change weighs nothing; then nothing is claimed.
-pub(crate) fn donor_for<F: Fn(u32, &Value, &Value) -> u64>(
+pub(crate) fn donor_for<F: Fn(u32, &Value, &Value) -> u64, L: Ledger>(
     alloc: Global,
     editing: &Editing<F>,
     book: &mut Book,
     row_no: u32,
     path: &Path,
     weight: u64,
+    steps: &mut Steps<L>,
 ) -> Result<Option<u32>, OutOfMemory>
     requires editing { IsEditing F.Fn editing.now }
     requires book { IsBookOf editing.now book.old }
@@ -50,6 +52,7 @@ pub(crate) fn donor_for<F: Fn(u32, &Value, &Value) -> u64>(
         row,
         path.kept_set(editing.survey, row),
         editing.terms.near,
+        steps,
     )?;
     Ok(reply_of(book.claim_on(row_no, ranking)))
 }

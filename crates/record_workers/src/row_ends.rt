@@ -56,7 +56,7 @@ pub(crate) fn edit_record<F: Fn(u32, &Value, &Value) -> u64, S: Systems, L: Ledg
         steps,
     )? {
         Outcome::Change { path, weight, cert } => {
-            let donor = donor_for(alloc, editing, book, row_no, &path, weight)?;
+            let donor = donor_for(alloc, editing, book, row_no, &path, weight, steps)?;
             let change = Change { path, weight, cert };
             with_values(alloc, source, editing, row, change, donor, steps)
         }

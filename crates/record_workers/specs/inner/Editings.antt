@@ -15,6 +15,7 @@ use Rattle.donor_book.specs.declared.claim.Entry.{Entry}
 use Rattle.donor_measure.specs.Measures.{Measures}
 use Rattle.donor_measure.specs.Yardsticks.{yardsticks_of}
 use Rattle.donor_search.specs.CleanRows.{donors_of}
+use Rattle.donor_search.specs.Decks.{IsDeckOf}
 use Rattle.edit_paths.specs.Cases.{SearchCase, Meets, case_of}
 use Rattle.edit_report.specs.Ends.{path_found}
 use Rattle.edit_report.specs.declared.end.RowEnd.{RowEnd}
@@ -73,7 +74,8 @@ pub record IsEditing {F : Type 0} (calls : Shared F (ℕ × (Bor Value × (Bor V
   pub same : (row : List Value) (p : Point) → Meets (case_in e row) p ↔ IsCorrection e.survey.now p
   pub rows : AllByRecursion (IsRow e.survey.now.fields) (rows_in e)
   pub plain : AllByRecursion HasPlain (rows_in e)
-  pub deck : e.deck.now ≡ donors_of e.survey.now (rows_in e)
+  pub deck : e.deck.now.donors ≡ donors_of e.survey.now (rows_in e)
+  pub index : IsDeckOf (yardsticks_of e.survey.now.fields) (rows_in e) e.deck.now
   pub measures : Measures calls e.measure.now.closure e.measure.now.yardsticks
   pub yardsticks : e.measure.now.yardsticks ≡ yardsticks_of e.survey.now.fields
   pub budget : e.terms.budget < 2 ^ 64

@@ -8,6 +8,7 @@ use Rattle.edit_model.specs.declared.value.Value.TheVariants.{Bad}
 use Rattle.donor_measure.specs.Measures.{HasMeasurable}
 use Rattle.donor_measure.specs.declared.yardstick.Yardstick.{Yardstick}
 use Rattle.donor_search.specs.CleanRows.{IsRankable}
+use Rattle.donor_search.specs.Decks.{IsDeckOf}
 use Rattle.donor_search.proofs.CleanLaws.{is_row_at}
 use Rattle.donor_search.proofs.DonorLaws.{has_kept}
 use Rattle.donor_search.proofs.tests.nearest.Goals as goal
@@ -24,7 +25,7 @@ only_field kept row (suc f) others first has = absurd (differ (sym (others (suc 
     differ e = cc
 
 pub ranking-requires-clause-row : goal.ranking-requires-clause-row
-ranking-requires-clause-row c =
+ranking-requires-clause-row g c =
     let sheet = c.args.sheet.now in
     let fields = c.args.survey.now.fields in
     let kept = c.with-kept.result in
@@ -36,5 +37,9 @@ ranking-requires-clause-row c =
     (has_kept fields c.row-row.result.now kept is has (λ f within at. only_field kept c.row-row.result.now f (λ g other. c.with-kept.ensures.others g other ∙ c.empty.ensures.none g) first at))
 
 pub ranking-requires-clause-donors : goal.ranking-requires-clause-donors
-ranking-requires-clause-donors c =
-    subst (λ (ys : List Yardstick). All (IsRankable ys c.args.sheet.now.rows c.with-kept.result) c.in_ok-deck.deck) (sym c.new-measure.ensures.yardsticks) (c.in_ok-deck.ensures.measurable c.requires.plain c.with-kept.result)
+ranking-requires-clause-donors g c =
+    subst (λ (ys : List Yardstick). All (IsRankable ys c.args.sheet.now.rows c.with-kept.result) c.in_ok-deck.deck.donors) (sym c.new-measure.ensures.yardsticks) (c.in_ok-deck.ensures.measurable c.requires.plain c.with-kept.result)
+
+pub ranking-requires-clause-deck : goal.ranking-requires-clause-deck
+ranking-requires-clause-deck g c =
+    subst (λ (ys : List Yardstick). IsDeckOf ys c.args.sheet.now.rows c.in_ok-deck.deck) (sym c.new-measure.ensures.yardsticks) (c.in_ok-deck.ensures.index c.requires.plain)

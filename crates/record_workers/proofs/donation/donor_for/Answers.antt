@@ -11,6 +11,7 @@ use Rattle.donor_book.specs.Entries.{BookParts, entry_of, wins_of}
 use Rattle.donor_measure.specs.Measures.{HasMeasurable}
 use Rattle.donor_measure.specs.declared.yardstick.Yardstick.{Yardstick}
 use Rattle.donor_search.specs.CleanRows.{IsRankable, IsCleanRow, donors_of, row_at}
+use Rattle.donor_search.specs.Decks.{IsDeckOf}
 use Rattle.donor_search.proofs.CleanLaws.{is_row_at}
 use Rattle.donor_search.proofs.DonorLaws.{donors_give, has_kept}
 use Rattle.record_workers.specs.inner.Donors.{Donates}
@@ -38,6 +39,12 @@ ranking-requires-clause-donors g c =
     let rows = rows_in c.args.editing.now in
     subst (λ (ds : List ℕ). All (IsRankable c.args.editing.now.measure.now.yardsticks rows c.kept_set.result) ds) (sym editing.deck)
     (subst (λ (ys : List Yardstick). All (IsRankable ys rows c.kept_set.result) (donors_of survey rows)) (sym editing.yardsticks) (donors_give survey rows editing.rows editing.plain c.kept_set.result))
+
+pub ranking-requires-clause-deck : goal.ranking-requires-clause-deck
+ranking-requires-clause-deck g c =
+    let editing = c.requires.editing in
+    let e = c.args.editing.now in
+    subst (λ (ys : List Yardstick). IsDeckOf ys (rows_in e) e.deck.now) (sym editing.yardsticks) editing.index
 
 pub claim_on-requires-clause-donors : goal.claim_on-requires-clause-donors
 claim_on-requires-clause-donors g c =

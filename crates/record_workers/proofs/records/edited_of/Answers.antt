@@ -15,6 +15,7 @@ edit_all-requires-clause-editing g c =
       rows = c.requires.rows;
       plain = c.requires.plain;
       deck = c.in_ok-deck.ensures.clean;
+      index = c.in_ok-deck.ensures.index c.requires.plain;
       measures = c.requires.measures;
       yardsticks = c.requires.yardsticks;
       budget = search rules;

@@ -1,0 +1,157 @@
+//! Where numbers lie, in buckets: what tells that two records are far apart before they are measured.
+ghost use Rattle.std.specs.Prelude.{◌≡◌, ℕ, ◌+◌, ◌-◌, ◌*◌, ◌<◌, ◌≤◌, ◌^◌, ◌+ℤ◌, ◌*ℤ◌, ◌<ℤ◌, min, pos, unsigned_abs, true};
+ghost use Rattle.std.specs.Int.{abs_diff, int_div_euclid};
+ghost use Rattle.edit_model.specs.PlainNumbers.{IsPlain, IsPlainValue};
+ghost use Rattle.donor_measure.specs.Distances.{bucket_of};
+ghost use Rattle.donor_measure.specs.Buckets.{bucket_no, mark_of, number_bucket};
+ghost use Rattle.donor_measure.specs.Yardsticks.{IsScale};
+
+use edit_model::Value;
+use fraction128::Fraction;
+
+// No bucket of a plain number is further from 0.
+const LOWEST_BUCKET: i128 = 1_000_000_000_000_000_000_000_000;
+
+// The bucket of which the mark is 0: 2^30 below 0.
+const LOWEST_MARKED: u128 = 999_999_999_999_998_926_258_176;
+
+// The greatest mark.
+const MOST_MARKED: u32 = 2_147_483_648;
+
+/// The bucket of a number, how many thousandths of the scale it is, rounded down and counted from -10^24 on: the lowest that
+/// a number with a numerator below 10^21 has. 0 where the value is no such number. No memory.
+pub fn bucket_no(scale: u64, value: &Value) -> u128
+    requires { (1 ≤ scale) × (scale ≤ 10 ^ 12) }
+    ensures is { IsPlainValue value.now → result ≡ bucket_no scale value.now }
+    ensures few { result ≤ 2 * 10 ^ 24 }
+{
+    match value {
+        Value::Number(x) => number_bucket(scale, x),
+        Value::Code(_) | Value::Bad => 0,
+    }
+}
+
+// The bucket of a number, 0 where its parts are not as small as those of records.
+fn number_bucket(scale: u64, x: &Fraction) -> u128
+    requires { (1 ≤ scale) × (scale ≤ 10 ^ 12) }
+    ensures is { IsPlain x.now → result ≡ number_bucket scale x.now }
+    ensures few { result ≤ 2 * 10 ^ 24 }
+{
+    if is_plain(x) {
+        plain_bucket(scale, x)
+    } else {
+        0
+    }
+}
+
+// Whether the parts of a number are as small as those of records.
+fn is_plain(x: &Fraction) -> bool
+    ensures yes { result ≡ true → IsPlain x.now }
+    ensures all { IsPlain x.now → result ≡ true }
+{
+    let small = x.numerator().unsigned_abs() < 1_000_000_000_000_000_000_000;
+    small && x.denominator() <= 1_000_000
+}
+
+// The bucket of a plain number, counted from the lowest.
+fn plain_bucket(scale: u64, x: &Fraction) -> u128
+    requires scale { (1 ≤ scale) × (scale ≤ 10 ^ 12) }
+    requires plain { IsPlain x.now }
+    ensures is { result ≡ number_bucket scale x.now }
+    ensures few { result ≤ 2 * 10 ^ 24 }
+{
+    counted(bucket_of(scale, x))
+}
+
+// The bucket of a plain number.
+fn bucket_of(scale: u64, x: &Fraction) -> i128
+    requires scale { (1 ≤ scale) × (scale ≤ 10 ^ 12) }
+    requires plain { IsPlain x.now }
+    ensures bucket { result ≡ bucket_of scale x.now }
+    ensures few { unsigned_abs result ≤ 10 ^ 24 }
+{
+    rounded_down(thousands(x), unit(scale, x))
+}
+
+// A thousand times the numerator.
+fn thousands(x: &Fraction) -> i128
+    requires { IsPlain x.now }
+    ensures product { result ≡ pos 1000 *ℤ x.now.numerator }
+    ensures few { unsigned_abs result ≤ 10 ^ 24 }
+{
+    1000 * x.numerator()
+}
+
+// The denominator times the scale.
+fn unit(scale: u64, x: &Fraction) -> i128
+    requires scale { (1 ≤ scale) × (scale ≤ 10 ^ 12) }
+    requires plain { IsPlain x.now }
+    ensures { result ≡ x.now.denominator *ℤ pos scale }
+{
+    x.denominator() * i128::from(scale)
+}
+
+// A quotient, rounded down.
+fn rounded_down(size: i128, unit: i128) -> i128
+    requires few { unsigned_abs size ≤ 10 ^ 24 }
+    requires some { pos 0 <ℤ unit }
+    ensures quotient { result ≡ int_div_euclid size unit }
+    ensures few { unsigned_abs result ≤ 10 ^ 24 }
+{
+    size.div_euclid(unit)
+}
+
+// A bucket, counted from the lowest.
+fn counted(bucket: i128) -> u128
+    requires { unsigned_abs bucket ≤ 10 ^ 24 }
+    ensures is { result ≡ unsigned_abs (bucket +ℤ pos (10 ^ 24)) }
+    ensures few { result ≤ 2 * 10 ^ 24 }
+{
+    (bucket + LOWEST_BUCKET).unsigned_abs()
+}
+
+/// A value's mark: where two values have marks of which the difference is d, they are at least d - 1 apart, or 1000. It is the
+/// bucket of a number, where that is not too far from 0, and 2000 times a code. No memory.
+pub fn mark_of(scale: Option<u64>, value: &Value) -> u32
+    requires { IsScale scale }
+    ensures { IsPlainValue value.now → result ≡ mark_of scale value.now }
+{
+    match scale {
+        Some(scale) => bucket_mark(bucket_no(scale, value)),
+        None => 2000 * u32::from(value.code_number()),
+    }
+}
+
+// The mark of a bucket.
+fn bucket_mark(bucket: u128) -> u32
+    ensures { result ≡ min (2 ^ 31) (bucket - (10 ^ 24 - 2 ^ 30)) }
+{
+    let above = bucket.saturating_sub(LOWEST_MARKED);
+    if above >= u128::from(MOST_MARKED) {
+        MOST_MARKED
+    } else {
+        above as u32
+    }
+}
+
+/// The whole buckets that lie between two buckets, at most 1000. No memory.
+#[inline(always)]
+pub fn apart_by_buckets(first: u128, second: u128) -> u64
+    ensures { result ≡ min 1000 (abs_diff first second - 1) }
+{
+    let apart = first.abs_diff(second);
+    if apart > 1000 {
+        1000
+    } else {
+        between(apart as u64)
+    }
+}
+
+// The whole buckets below one that is so many further.
+#[inline(always)]
+fn between(apart: u64) -> u64
+    requires { apart ≤ 1000 }
+    ensures { result ≡ apart - 1 }
+{
+    apart.saturating_sub(1)
+}

@@ -1,0 +1,10 @@
+use Rattle.std.proofs.Common.{◌≡◌, ◌++◌, drop}
+use Rattle.std.specs.List.{AllByRecursion, flat_map}
+use Rattle.edit_model.specs.PlainNumbers.{HasPlain}
+use Rattle.donor_measure.specs.Buckets.{marks_of}
+use Rattle.donor_measure.specs.Yardsticks.{yardsticks_of}
+use Rattle.donor_search.proofs.index.marks_of_rows.Given as goal
+
+abbrev pub invariant-loop-row_no : goal.invariant-loop-row_no
+invariant-loop-row_no l = AllByRecursion HasPlain l.sheet.rows
+    → l.marks.items ++ flat_map (marks_of (yardsticks_of l.survey.fields)) (drop l.row_no l.sheet.rows) ≡ flat_map (marks_of (yardsticks_of l.survey.fields)) l.sheet.rows

@@ -1,0 +1,7 @@
+use Rattle.std.proofs.Common.{◌≡◌, ◌++◌, drop}
+use Rattle.edit_model.specs.PlainNumbers.{HasPlain}
+use Rattle.donor_measure.specs.Buckets.{marks_from, marks_of}
+use Rattle.donor_search.proofs.index.push_marks.Given as goal
+
+abbrev pub invariant-loop-field : goal.invariant-loop-field
+invariant-loop-field l = HasPlain l.row → l.marks.items ++ marks_from l.field (drop l.field l.yardsticks) l.row ≡ l.initial.marks.items ++ marks_of l.yardsticks l.row

@@ -1,0 +1,52 @@
+-- What contracts see of a deck: its donors, and what it keeps to find the near ones.
+use Rattle.std.specs.Prelude.{◌≡◌, ℕ, ◌<◌, List, [], Option, Some, None, length, map, slice_index_or}
+use Rattle.std.specs.List.{AllByRecursion, flat_map}
+use Rattle.std.specs.List.Sorted.{IsNonDecreasingBy, IsPermutation, IsStrictlyIncreasing}
+use Rattle.edit_model.specs.Rows.{value_of}
+use Rattle.edit_model.specs.declared.value.Value.{Value}
+use Rattle.donor_measure.specs.Buckets.{bucket_no, marks_of}
+use Rattle.donor_measure.specs.Yardsticks.{yardstick_at}
+use Rattle.donor_measure.specs.declared.yardstick.Yardstick.{Yardstick}
+use Rattle.donor_search.specs.CleanRows.{row_at}
+use Rattle.donor_search.specs.declared.slot.Slot.{Slot}
+
+-- the donors of a deck; of each field its slots; the marks of all rows; and a field, with the marks of the donors in the order of
+-- its slots
+pub record DeckParts : Type 0 where
+  pub donors : List ℕ
+  pub index : List (List Slot)
+  pub marks : List ℕ
+  pub first : ℕ
+  pub walk_marks : List ℕ
+
+-- a donor with its bucket at a field of this scale
+abbrev pub slot_of : ℕ → List (List Value) → ℕ → ℕ → Slot
+slot_of scale rows field donor = record { bucket = bucket_no scale (value_of (row_at rows donor) field); donor = donor }
+
+-- the slots of a numerical field: each donor with its bucket, in the order of the buckets
+abbrev pub AreSlots : Option ℕ → List (List Value) → ℕ → List ℕ → List Slot → Type 0
+AreSlots None rows field donors slots = Unit {0}
+AreSlots (Some scale) rows field donors slots =
+    IsPermutation (map (slot_of scale rows field) donors) slots × IsNonDecreasingBy (λ (s : Slot). s.bucket) slots
+
+-- the slots of a field; none past the end
+abbrev pub slots_at : List (List Slot) → ℕ → List Slot
+slots_at index field = slice_index_or index field []
+
+-- the slot at a place
+abbrev pub slot_at : List Slot → ℕ → Slot
+slot_at slots place = slice_index_or slots place (record { bucket = 0; donor = 0 })
+
+-- the marks of the donor of a slot
+abbrev pub slot_marks : List Yardstick → List (List Value) → Slot → List ℕ
+slot_marks yardsticks rows slot = marks_of yardsticks (row_at rows slot.donor)
+
+-- a deck is one of these rows and yardsticks: its donors rise, and it has their slots at each numerical field, the marks of all rows,
+-- and those of the donors in the order of the slots of one field
+pub record IsDeckOf (yardsticks : List Yardstick) (rows : List (List Value)) (deck : DeckParts) : Type 0 where
+  pub rising : IsStrictlyIncreasing deck.donors
+  pub fields : length deck.index ≡ length yardsticks
+  pub slots : (f : ℕ) → f < length yardsticks
+      → AreSlots (yardstick_at yardsticks f).scale rows f deck.donors (slots_at deck.index f)
+  pub marks : deck.marks ≡ flat_map (marks_of yardsticks) rows
+  pub walk_marks : deck.walk_marks ≡ flat_map (slot_marks yardsticks rows) (slots_at deck.index deck.first)

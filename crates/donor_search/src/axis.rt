@@ -1,0 +1,64 @@
+//! The field by whose buckets donors are walked over.
+ghost use Rattle.std.specs.Prelude.{◌≡◌, ◌&&◌, ◌<◌, ◌≤◌, false, None, IfNone, IfSome, Some, is_some, length};
+ghost use Rattle.edit_model.specs.FieldSets.{has_number};
+ghost use Rattle.donor_measure.specs.Yardsticks.{yardstick_at};
+ghost use Rattle.donor_search.specs.Asked.{index_field};
+ghost use Rattle.donor_search.specs.inner.Searches.{IsAxis};
+ghost use Rattle.donor_search.specs.inner.Spans.{bucket_gap_at};
+
+use donor_measure::{Yardsticks, apart_by_buckets};
+use edit_model::FieldSet;
+
+/// A kept numerical field, with its weight and its scale.
+#[derive(Clone, Copy, Debug, PartialEq, Eq)]
+pub(crate) struct Axis {
+    pub field: u32,
+    pub weight: u32,
+    pub scale: u64,
+}
+
+impl Axis {
+    /// The gap of two buckets at the field.
+    #[inline(always)]
+    pub fn gap(self, first: u128, second: u128) -> u64
+        requires { self.weight ≤ 1000 }
+        ensures { result ≡ bucket_gap_at self first second }
+    {
+        u64::from(self.weight) * apart_by_buckets(first, second)
+    }
+}
+
+/// The first kept numerical field.
+pub(crate) fn first_axis(yardsticks: &Yardsticks, kept: FieldSet) -> Option<Axis>
+    ensures some { IfSome result (λ axis. IsAxis yardsticks.now kept axis × (index_field yardsticks.now kept ≡ Some axis.field)) }
+    ensures none { IfNone result (index_field yardsticks.now kept ≡ None) }
+{
+    for field in 0..yardsticks.count() {
+        let axis = axis_at(yardsticks, kept, field);
+        if axis.is_some() {
+            return axis;
+        }
+    }
+    None
+}
+
+// The field, where it is kept and numerical.
+fn axis_at(yardsticks: &Yardsticks, kept: FieldSet, field: u32) -> Option<Axis>
+    requires field { field < length yardsticks.now }
+    requires small { field < 64 }
+    ensures some { IfSome result (λ axis. IsAxis yardsticks.now kept axis × (axis.field ≡ field)) }
+    ensures none { IfNone result ((has_number kept field && is_some (yardstick_at yardsticks.now field).scale) ≡ false) }
+{
+    let yardstick = yardsticks.at(field);
+    if !kept.has(field) {
+        return None;
+    }
+    match yardstick.scale {
+        Some(scale) => Some(Axis {
+            field,
+            weight: yardstick.weight,
+            scale,
+        }),
+        None => None,
+    }
+}

@@ -1,0 +1,161 @@
+//! What a deck keeps beside its donors.
+ghost use Rattle.std.specs.Prelude.{◌≡◌, ◌++◌, ◌<◌, ◌≤◌, ◌^◌, All, IfOk, OnOk, length, map};
+ghost use Rattle.std.specs.List.{AllByRecursion, flat_map};
+ghost use Rattle.std.specs.List.Sorted.{IsNonDecreasingBy, IsPermutation};
+ghost use Rattle.edit_model.specs.PlainNumbers.{HasPlain};
+ghost use Rattle.edit_model.specs.Rows.{IsRow};
+ghost use Rattle.donor_measure.specs.Buckets.{marks_of};
+ghost use Rattle.donor_measure.specs.Yardsticks.{IsScale, yardsticks_of};
+ghost use Rattle.donor_search.specs.Decks.{AreSlots, slot_marks, slot_of};
+ghost use Rattle.donor_search.specs.declared.slot.Slot.{Slot as AnySlot};
+
+use crate::slot::Slot;
+use donor_measure::{Yardsticks, bucket_no, mark_of};
+use edit_model::{Row, Survey};
+use foundation::{OutOfMemory, Sequence};
+use record_text::Sheet;
+use std::alloc::Global;
+
+/// The slots of a field: none where it is categorical, and else the donors in the order of their buckets there.
+pub(crate) fn slots_of(
+    alloc: Global,
+    survey: &Survey,
+    sheet: &Sheet,
+    donors: &[u32],
+    field: u32,
+    scale: Option<u64>,
+) -> Result<Sequence<Slot>, OutOfMemory>
+    requires field { field < length survey.now.fields }
+    requires scale { IsScale scale }
+    requires rows { AllByRecursion (IsRow survey.now.fields) sheet.now.rows }
+    requires donors { All (λ donor. donor < length sheet.now.rows) donors.now }
+    ensures slots { IfOk result (λ slots. AllByRecursion HasPlain sheet.now.rows
+        → AreSlots scale sheet.now.rows field donors.now slots) }
+    ensures donors { IfOk result (λ slots. All (λ (s : AnySlot). s.donor < length sheet.now.rows) slots) }
+{
+    let slots = match scale {
+        Some(scale) => sorted_slots(alloc, survey, sheet, donors, field, scale)?,
+        None => Vec::new(alloc),
+    };
+    Ok(Sequence::from_vec(slots))
+}
+
+// The donors with their buckets at a numerical field, in the order of the buckets.
+fn sorted_slots(
+    alloc: Global,
+    survey: &Survey,
+    sheet: &Sheet,
+    donors: &[u32],
+    field: u32,
+    scale: u64,
+) -> Result<Vec<Slot>, OutOfMemory>
+    requires field { field < length survey.now.fields }
+    requires scale { (1 ≤ scale) × (scale ≤ 10 ^ 12) }
+    requires rows { AllByRecursion (IsRow survey.now.fields) sheet.now.rows }
+    requires donors { All (λ donor. donor < length sheet.now.rows) donors.now }
+    ensures same { IfOk result (λ slots. AllByRecursion HasPlain sheet.now.rows
+        → IsPermutation (map (slot_of scale sheet.now.rows field) donors.now) slots.items) }
+    ensures order { IfOk result (λ slots. IsNonDecreasingBy (λ (s : AnySlot). s.bucket) slots.items) }
+    ensures donors { IfOk result (λ slots. All (λ (s : AnySlot). s.donor < length sheet.now.rows) slots.items) }
+{
+    let mut slots = row_slots(alloc, survey, sheet, donors, field, scale)?;
+    sort(&mut slots);
+    Ok(slots)
+}
+
+// Puts the slots in the order of their buckets.
+fn sort(slots: &mut Vec<Slot>)
+    ensures same { IsPermutation slots.old.items slots.new.items }
+    ensures order { IsNonDecreasingBy (λ (s : AnySlot). s.bucket) slots.new.items }
+{
+    slots.sort_unstable_by_key(|slot| slot.bucket);
+}
+
+// The donors with their buckets at a numerical field.
+fn row_slots(
+    alloc: Global,
+    survey: &Survey,
+    sheet: &Sheet,
+    donors: &[u32],
+    field: u32,
+    scale: u64,
+) -> Result<Vec<Slot>, OutOfMemory>
+    requires field { field < length survey.now.fields }
+    requires scale { (1 ≤ scale) × (scale ≤ 10 ^ 12) }
+    requires rows { AllByRecursion (IsRow survey.now.fields) sheet.now.rows }
+    requires donors { All (λ donor. donor < length sheet.now.rows) donors.now }
+    ensures slots { IfOk result (λ slots. AllByRecursion HasPlain sheet.now.rows
+        → slots.items ≡ map (slot_of scale sheet.now.rows field) donors.now) }
+    ensures donors { IfOk result (λ slots. All (λ (s : AnySlot). s.donor < length sheet.now.rows) slots.items) }
+{
+    let mut slots = Vec::with_capacity(alloc, donors.len())?;
+    for donor in donors {
+        slots.push(slot(survey, sheet, *donor, field, scale))?;
+    }
+    Ok(slots)
+}
+
+// A donor with its bucket.
+fn slot(survey: &Survey, sheet: &Sheet, donor: u32, field: u32, scale: u64) -> Slot
+    requires field { field < length survey.now.fields }
+    requires scale { (1 ≤ scale) × (scale ≤ 10 ^ 12) }
+    requires rows { AllByRecursion (IsRow survey.now.fields) sheet.now.rows }
+    requires donor { donor < length sheet.now.rows }
+    ensures slot { AllByRecursion HasPlain sheet.now.rows → result ≡ slot_of scale sheet.now.rows field donor }
+    ensures donor { result.donor ≡ donor }
+{
+    let _ = survey;
+    Slot {
+        bucket: bucket_no(scale, sheet.row(donor).value(field)),
+        donor,
+    }
+}
+
+/// The marks of all rows, one after the other.
+pub(crate) fn marks_of_rows(
+    alloc: Global,
+    survey: &Survey,
+    sheet: &Sheet,
+) -> Result<Vec<u32>, OutOfMemory>
+    requires { AllByRecursion (IsRow survey.now.fields) sheet.now.rows }
+    ensures { IfOk result (λ marks. AllByRecursion HasPlain sheet.now.rows
+        → marks.items ≡ flat_map (marks_of (yardsticks_of survey.now.fields)) sheet.now.rows) }
+{
+    let yardsticks = Yardsticks::of(survey);
+    let mut marks = Vec::new(alloc);
+    for row_no in 0..sheet.len() {
+        push_marks(&mut marks, &yardsticks, sheet.row(row_no))?;
+    }
+    Ok(marks)
+}
+
+/// The marks of the donors, in the order of these slots.
+pub(crate) fn marks_of_slots(
+    alloc: Global,
+    survey: &Survey,
+    sheet: &Sheet,
+    slots: &[Slot],
+) -> Result<Vec<u32>, OutOfMemory>
+    requires rows { AllByRecursion (IsRow survey.now.fields) sheet.now.rows }
+    requires donors { All (λ (s : AnySlot). s.donor < length sheet.now.rows) slots.now }
+    ensures { IfOk result (λ marks. AllByRecursion HasPlain sheet.now.rows
+        → marks.items ≡ flat_map (slot_marks (yardsticks_of survey.now.fields) sheet.now.rows) slots.now) }
+{
+    let yardsticks = Yardsticks::of(survey);
+    let mut marks = Vec::new(alloc);
+    for slot in slots {
+        push_marks(&mut marks, &yardsticks, sheet.row(slot.donor))?;
+    }
+    Ok(marks)
+}
+
+// Puts the marks of a row last.
+fn push_marks(marks: &mut Vec<u32>, yardsticks: &Yardsticks, row: &Row) -> Result<(), OutOfMemory>
+    requires { length yardsticks.now ≡ length row.now }
+    ensures { HasPlain row.now → OnOk result (marks.new.items ≡ marks.old.items ++ marks_of yardsticks.now row.now) }
+{
+    for field in 0..yardsticks.count() {
+        marks.push(mark_of(yardsticks.at(field).scale, row.value(field)))?;
+    }
+    Ok(())
+}

@@ -1,0 +1,128 @@
+//! Whether a donor is too far away to be measured, by marks.
+ghost use Rattle.std.specs.Prelude.{◌≡◌, ◌<◌, ◌≤◌, ◌*◌, ◌-◌, All, length, min, take, true};
+ghost use Rattle.std.specs.Int.{abs_diff};
+ghost use Rattle.donor_measure.specs.Measures.{HasMeasurable};
+ghost use Rattle.donor_measure.specs.Yardsticks.{yardstick_at};
+ghost use Rattle.donor_search.specs.inner.Profiles.{IsProfile, told, told_by, weighed_at, weighed_from};
+ghost use Rattle.donor_search.specs.declared.profile.Weighed.{Weighed as AnyWeighed};
+
+use donor_measure::{Yardsticks, mark_of};
+use edit_model::{FieldSet, Row};
+use std::marker::Model;
+
+/// The mark of a record at a field, with the weight that counts there.
+#[derive(Clone, Copy, Debug, PartialEq, Eq)]
+pub(crate) struct Weighed {
+    pub weight: u32,
+    pub mark: u32,
+}
+
+// What stands in the places behind the last field.
+const NONE: Weighed = Weighed { weight: 0, mark: 0 };
+
+/// Whether the marks of a donor tell that it is farther from a record than `most`: then nothing needs to be measured.
+#[inline(always)]
+pub(crate) fn is_farther(own: &[Weighed], marks: &[u32], most: u64) -> bool
+    requires equal { length own.now ≡ length marks.now }
+    requires few { length own.now ≤ 64 }
+    requires weights { All (λ (w : AnyWeighed). w.weight ≤ 1000) own.now }
+    ensures { result ≡ true → most < told own.now marks.now }
+{
+    u64::from(told(own, marks)) > most
+}
+
+// What the marks tell of how far the donor is. All are looked at, since a test at each field would take more time than it spares.
+#[inline(always)]
+fn told(own: &[Weighed], marks: &[u32]) -> u32
+    requires equal { length own.now ≡ length marks.now }
+    requires few { length own.now ≤ 64 }
+    requires weights { All (λ (w : AnyWeighed). w.weight ≤ 1000) own.now }
+    ensures { result ≡ told own.now marks.now }
+{
+    let mut sum = 0;
+    for i in 0..own.len() {
+        sum += told_by(&own[i], marks[i]);
+    }
+    sum
+}
+
+// What two marks tell of how far two values are apart.
+#[inline(always)]
+fn told_by(own: &Weighed, mark: u32) -> u32
+    requires { own.now.weight ≤ 1000 }
+    ensures told { result ≡ told_by own.now mark }
+    ensures few { result ≤ 1000 * 1000 }
+{
+    own.weight * own.mark.abs_diff(mark).saturating_sub(1).min(1000)
+}
+
+/// A record's marks at all fields, with their weights. Contracts see them as a list, in declared order.
+#[derive(Drop)]
+pub(crate) struct Profile {
+    places: [Weighed; 64],
+    count: usize,
+}
+
+impl Model for Profile {
+    ghost use Rattle.std.specs.Prelude.{◌≡◌, ◌≤◌, All, List, length, take};
+    ghost use Rattle.donor_search.specs.declared.profile.Weighed as weighed;
+
+    ghost Value = { List weighed.Weighed };
+
+    ghost view = { λ p. take p.count p.places };
+
+    ghost invariant = { λ p. (p.count ≤ 64) × All (λ (w : weighed.Weighed). w.weight ≤ 1000) (take p.count p.places) };
+}
+
+impl Profile {
+    /// The profile of a record, which can be measured at the kept fields.
+    pub fn of(yardsticks: &Yardsticks, row: &Row, kept: FieldSet) -> Profile
+        requires { HasMeasurable yardsticks.now kept row.now }
+        ensures { IsProfile yardsticks.now kept row.now result }
+    {
+        Profile {
+            places: places_of(yardsticks, row, kept),
+            count: yardsticks.count() as usize,
+        }
+    }
+
+    /// The marks with their weights.
+    #[inline(always)]
+    pub fn as_slice(&self) -> &[Weighed]
+        ensures same { result.now ≡ self.now }
+        ensures few { length result.now ≤ 64 }
+        ensures weights { All (λ (w : AnyWeighed). w.weight ≤ 1000) result.now }
+    {
+        &self.places[..self.count]
+    }
+}
+
+// The marks with their weights, in the first places.
+fn places_of(yardsticks: &Yardsticks, row: &Row, kept: FieldSet) -> [Weighed; 64]
+    requires { HasMeasurable yardsticks.now kept row.now }
+    ensures { take (length yardsticks.now) result ≡ weighed_from 0 yardsticks.now kept row.now }
+{
+    let mut places = [NONE; 64];
+    for field in 0..yardsticks.count() {
+        places[field as usize] = weighed_at(yardsticks, field, row, kept);
+    }
+    places
+}
+
+// The mark at a field, with the field's weight.
+fn weighed_at(yardsticks: &Yardsticks, field: u32, row: &Row, kept: FieldSet) -> Weighed
+    requires field { field < length yardsticks.now }
+    requires small { field < 64 }
+    requires row { HasMeasurable yardsticks.now kept row.now }
+    ensures { result ≡ weighed_at (yardstick_at yardsticks.now field) field kept row.now }
+{
+    if kept.has(field) {
+        let yardstick = yardsticks.at(field);
+        Weighed {
+            weight: yardstick.weight,
+            mark: mark_of(yardstick.scale, row.value(field)),
+        }
+    } else {
+        NONE
+    }
+}

@@ -1,0 +1,137 @@
+//! A search for the nearest donors of one record.
+ghost use Rattle.std.specs.Prelude.{◌≡◌, ◌+◌, ◌*◌, ◌<◌, ◌≤◌, OnOk, drop, length, take};
+ghost use Rattle.donor_measure.specs.Buckets.{marks_of};
+ghost use Rattle.donor_search.specs.CleanRows.{IsRankable, row_at};
+ghost use Rattle.donor_search.specs.inner.Candidates.{IsClosedAt, Ranks, is_before};
+ghost use Rattle.donor_search.specs.Decks.{IsDeckOf, slot_at, slot_marks, slots_at};
+ghost use Rattle.donor_search.specs.inner.Profiles.{IsProfile};
+ghost use Rattle.donor_search.specs.inner.Searches.{IsSearch, far_in, yardsticks_in};
+ghost use Rattle.donor_search.specs.Rankings.{IsInOrder};
+
+use crate::candidate::{Candidate, farthest, put};
+use crate::deck::Deck;
+use crate::profile::{Profile, is_farther};
+use donor_measure::Measure;
+use edit_model::{FieldSet, Row, Value};
+use foundation::{OutOfMemory, Steps};
+use record_text::Sheet;
+use std::sync::ledger::Ledger;
+
+/// What donors are ranked by: as many of the deck's, which are rows of the sheet, as `near` for this row, by their distance over
+/// the kept fields.
+#[derive(Clone, Copy)]
+pub(crate) struct Search<'a, F> {
+    pub deck: &'a Deck,
+    pub sheet: &'a Sheet,
+    pub measure: &'a Measure<F>,
+    pub row: &'a Row,
+    pub kept: FieldSet,
+    pub near: usize,
+}
+
+/// Puts the donor at its place among at most `near`, of which no more than that stay. It is not measured where marks tell
+/// that it has none.
+pub(crate) fn rank<F: Fn(u32, &Value, &Value) -> u64, L: Ledger>(
+    best: &mut Vec<Candidate>,
+    donor: u32,
+    marks: &[u32],
+    search: &Search<F>,
+    profile: &Profile,
+    steps: &mut Steps<L>,
+) -> Result<(), OutOfMemory>
+    requires search { IsSearch F.Fn search.now }
+    requires profile { IsProfile (yardsticks_in search.now) search.now.kept search.now.row.now profile.now }
+    requires donor { IsRankable (yardsticks_in search.now) search.now.sheet.now.rows search.now.kept donor }
+    requires marks { marks.now ≡ marks_of (yardsticks_in search.now) (row_at search.now.sheet.now.rows donor) }
+    requires few { length best.old.items ≤ search.now.near }
+    requires order { IsInOrder is_before best.old.items }
+    ensures ranks { OnOk result (Ranks (far_in search.now) search.now.near donor best.old.items best.new.items) }
+    ensures steps { steps.new ≤ steps.old + 1 }
+{
+    let values = search.sheet.row(donor);
+    match farthest(best, search.near) {
+        None => {
+            let distance = search
+                .measure
+                .between(search.row, values, search.kept, steps);
+            put(best, Candidate { distance, donor }, search.near)
+        }
+        Some(most) => {
+            if is_farther(profile.as_slice(), marks, most) {
+                return Ok(());
+            }
+            rank_within(best, donor, search, most, steps)
+        }
+    }
+}
+
+// Measures the donor, and puts it at its place where it is not farther than `most`, the last of `near`.
+fn rank_within<F: Fn(u32, &Value, &Value) -> u64, L: Ledger>(
+    best: &mut Vec<Candidate>,
+    donor: u32,
+    search: &Search<F>,
+    most: u64,
+    steps: &mut Steps<L>,
+) -> Result<(), OutOfMemory>
+    requires search { IsSearch F.Fn search.now }
+    requires donor { IsRankable (yardsticks_in search.now) search.now.sheet.now.rows search.now.kept donor }
+    requires few { length best.old.items ≤ search.now.near }
+    requires farther { IsClosedAt search.now.near (most + 1) best.old.items }
+    ensures ranks { OnOk result (Ranks (far_in search.now) search.now.near donor best.old.items best.new.items) }
+    ensures steps { steps.new ≤ steps.old + 1 }
+{
+    let values = search.sheet.row(donor);
+    let measure = search.measure;
+    match measure.between_within(search.row, values, search.kept, most, steps) {
+        Some(distance) => put(best, Candidate { distance, donor }, search.near),
+        None => Ok(()),
+    }
+}
+
+/// The marks of a donor.
+#[inline(always)]
+pub(crate) fn marks_at<'a, F>(search: &Search<'a, F>, donor: u32) -> &'a [u32]
+    requires deck { IsDeckOf (yardsticks_in search.now) search.now.sheet.now.rows search.now.deck.now }
+    requires donor { donor < length search.now.sheet.now.rows }
+    ensures { result.now ≡ marks_of (yardsticks_in search.now) (row_at search.now.sheet.now.rows donor) }
+{
+    let count = search.measure.yardsticks.count() as usize;
+    let start = donor as usize * count;
+    &search.deck.marks()[start..start + count]
+}
+
+/// The marks of the donor of a slot. Most walks go by the first numerical field, and then these stand in the order of the walk,
+/// so that memory is read in order.
+#[inline(always)]
+pub(crate) fn marks_in_walk<'a, F>(
+    search: &Search<'a, F>,
+    field: u32,
+    place: usize,
+    donor: u32,
+) -> &'a [u32]
+    requires deck { IsDeckOf (yardsticks_in search.now) search.now.sheet.now.rows search.now.deck.now }
+    requires donor { donor < length search.now.sheet.now.rows }
+    requires place { place < length (slots_at search.now.deck.now.index field) }
+    requires slot { donor ≡ (slot_at (slots_at search.now.deck.now.index field) place).donor }
+    ensures { result.now ≡ marks_of (yardsticks_in search.now) (row_at search.now.sheet.now.rows donor) }
+{
+    if field == search.deck.first() {
+        marks_at_place(search, place)
+    } else {
+        marks_at(search, donor)
+    }
+}
+
+// The marks of the donor at a place of the walk by the first numerical field.
+#[inline(always)]
+fn marks_at_place<'a, F>(search: &Search<'a, F>, place: usize) -> &'a [u32]
+    requires deck { IsDeckOf (yardsticks_in search.now) search.now.sheet.now.rows search.now.deck.now }
+    requires place { place < length (slots_at search.now.deck.now.index search.now.deck.now.first) }
+    ensures { result.now ≡ slot_marks (yardsticks_in search.now) search.now.sheet.now.rows
+        (slot_at (slots_at search.now.deck.now.index search.now.deck.now.first) place) }
+{
+    let marks = search.deck.walk_marks();
+    let count = search.measure.yardsticks.count() as usize;
+    let start = place * count;
+    &marks[start..start + count]
+}

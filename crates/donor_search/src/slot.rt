@@ -1,0 +1,6 @@
+/// A donor with its bucket at a field, counted from the lowest that a number can have.
+#[derive(Clone, Copy, Debug, PartialEq, Eq)]
+pub struct Slot {
+    pub bucket: u128,
+    pub donor: u32,
+}
