@@ -29,3 +29,13 @@ each-taken {X} {A} {B} f give a xs i d below =
 
     first : 0 + i ≡ i
     first = omega arith
+
+-- what the elements up to one more give
+pub each-next : {X A : Type 0} (give : ℕ → X → List A) (xs : List X) (i : ℕ) (d : X) → i < length xs → each_from give 0 (take (i + 1) xs) ≡ each_from give 0 (take i xs) ++ give i (get_or xs i d)
+each-next {X} {A} give xs i d below = ap (λ n. each_from give 0 (take n xs)) next ∙ each-more give 0 xs i d below ∙ ap (λ n. each_from give 0 (take i xs) ++ give n (get_or xs i d)) first
+  where
+    next : i + 1 ≡ suc i
+    next = omega arith
+
+    first : 0 + i ≡ i
+    first = omega arith

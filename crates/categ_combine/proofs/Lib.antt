@@ -1,3 +1,4 @@
+pub mod ApartLaws
 pub mod AvoidLaws
 pub mod BoxOrigins
 pub mod BoxSets

@@ -1,3 +1,4 @@
+pub mod Apart
 pub mod BoxLists
 pub mod Covers
 pub mod Each

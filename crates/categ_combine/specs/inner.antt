@@ -1,3 +1,4 @@
+pub mod Clear
 pub mod FitBoxes
 pub mod SpotCovers
 pub mod Spots

@@ -1,4 +1,4 @@
-ghost use Rattle.std.specs.Prelude.{◌≡◌, ◌≤◌, IfOk, length, nat_lt, slice_index_or, take};
+ghost use Rattle.std.specs.Prelude.{◌≡◌, ◌≤◌, length, nat_lt, slice_index_or, take};
 ghost use Rattle.std.specs.List.{filter};
 ghost use Rattle.edit_line.specs.Boxes.{IsBox};
 ghost use Rattle.edit_line.specs.Domains.{domains};
@@ -6,24 +6,22 @@ ghost use Rattle.edit_line.specs.CodeFields.{TakesCodes, place_of, whole_of};
 
 use crate::box_from::BoxFrom;
 use crate::spot::Spot;
-use edit_line::Shape;
-use foundation::OutOfMemory;
-use std::alloc::Global;
+use edit_line::{Shape, whole_set};
 
-/// Where the field stands among the categorical ones.
-pub(crate) fn spot_of(alloc: Global, shape: Shape, field: u32) -> Result<Spot, OutOfMemory>
+/// Where the field stands among the categorical ones. No memory.
+pub(crate) fn spot_of(shape: Shape, field: u32) -> Spot
     requires { TakesCodes (domains shape) field }
-    ensures place { IfOk result (λ spot. spot.place ≡ place_of (domains shape) field) }
-    ensures whole { IfOk result (λ spot. spot.whole ≡ whole_of (domains shape) field) }
-    ensures shape { IfOk result (λ spot. spot.shape ≡ shape) }
+    ensures place { result.place ≡ place_of (domains shape) field }
+    ensures whole { result.whole ≡ whole_of (domains shape) field }
+    ensures shape { result.shape ≡ shape }
 {
     let place = place_of(&shape, field);
-    let whole = shape.whole_sets(alloc)?[place];
-    Ok(Spot {
+    let whole = whole_set(shape.size_of(field));
+    Spot {
         shape,
         place,
         whole,
-    })
+    }
 }
 
 // The field's place among the categorical ones.

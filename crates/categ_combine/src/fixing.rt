@@ -39,7 +39,7 @@ pub fn fix(
     match boxes.first() {
         None => Ok(Vec::new(alloc)),
         Some(first) => {
-            let spot = spot_of(alloc, first.shape(), field)?;
+            let spot = spot_of(first.shape(), field);
             fix_at(alloc, boxes, &spot, code)
         }
     }
@@ -90,8 +90,8 @@ fn take_fixed(
     take_in(kept, BoxFrom { code_box, origin })
 }
 
-// The box with all codes of the field.
-fn made_whole(alloc: Global, spot: &Spot, b: &BoxFrom) -> Result<CodeBox, OutOfMemory>
+/// The box with all codes of the field.
+pub(crate) fn made_whole(alloc: Global, spot: &Spot, b: &BoxFrom) -> Result<CodeBox, OutOfMemory>
     requires { b.now.code_box.shape ≡ domains spot.now.shape }
     ensures { IfOk result (λ whole. whole ≡ box_of b.now.code_box.shape (slice_set b.now.code_box.sets spot.now.place spot.now.whole)) }
 {

@@ -4,7 +4,6 @@ ghost use Rattle.edit_line.specs.Sets.{are_subsets};
 ghost use Rattle.categ_combine.specs.BoxLists.{with_from};
 
 use crate::box_from::BoxFrom;
-use edit_line::are_inside;
 use foundation::OutOfMemory;
 
 /// Appends the box without those that lie inside it, unless it lies inside one of them.
@@ -21,7 +20,7 @@ pub(crate) fn take_in(kept: &mut Vec<BoxFrom>, new: BoxFrom) -> Result<(), OutOf
 pub(crate) fn lie_inside(sets: &[u64], kept: &[BoxFrom]) -> bool
     ensures { result ≡ list_any (λ b. are_subsets sets.now b.code_box.sets) kept.now }
 {
-    kept.iter().any(|b| are_inside(sets, b.sets()))
+    kept.iter().any(|b| b.code_box.has_inside(sets))
 }
 
 /// Appends the box without those that lie inside it.
@@ -38,5 +37,5 @@ pub(crate) fn put_in(kept: &mut Vec<BoxFrom>, new: BoxFrom) -> Result<(), OutOfM
 fn remove_inside(kept: &mut Vec<BoxFrom>, new: &BoxFrom)
     ensures { kept.new.items ≡ filter (λ b. not (are_subsets b.code_box.sets new.now.code_box.sets)) kept.old.items }
 {
-    kept.retain(|b| !are_inside(b.sets(), new.sets()));
+    kept.retain(|b| !new.code_box.has_inside(b.sets()));
 }

@@ -23,9 +23,9 @@ use std::alloc::Global;
 
 /// The covers that are left, and the pairs that were looked at.
 #[derive(Debug, Drop)]
-struct Covers {
-    boxes: Vec<BoxFrom>,
-    pairs: u64,
+pub(crate) struct Covers {
+    pub(crate) boxes: Vec<BoxFrom>,
+    pub(crate) pairs: u64,
 }
 
 /// The boxes without a categorical field (Fellegi and Holt 1976): those that are whole there, and for
@@ -75,7 +75,7 @@ fn step_over(
     ensures passed { IfOk result (λ told. IsPassed told ↔ (most < cover_count (domains shape) (sets_of boxes.now) field)) }
     ensures fit { IfOk result (λ told. IsDone told (λ left pairs. AreBoxes boxes.now)) }
 {
-    let spot = spot_of(alloc, shape, field)?;
+    let spot = spot_of(shape, field);
     let size = shape.size_of(field);
     match covers_of(alloc, boxes, &spot, size, most)? {
         None => Ok(Covered::Passed),
@@ -89,8 +89,8 @@ fn step_over(
     }
 }
 
-// The covers of the first codes, up to `size` of them, or none where more pairs than `most` would be looked at.
-fn covers_of(
+/// The covers of the first codes, up to `size` of them, or none where more pairs than `most` would be looked at.
+pub(crate) fn covers_of(
     alloc: Global,
     boxes: &[BoxFrom],
     spot: &Spot,
@@ -186,8 +186,11 @@ fn take_unchanged(
     )
 }
 
-// The kept boxes with the covers, without those that lie inside another.
-fn with_covers(mut kept: Vec<BoxFrom>, covers: Vec<BoxFrom>) -> Result<Vec<BoxFrom>, OutOfMemory>
+/// The kept boxes with the covers, without those that lie inside another.
+pub(crate) fn with_covers(
+    mut kept: Vec<BoxFrom>,
+    covers: Vec<BoxFrom>,
+) -> Result<Vec<BoxFrom>, OutOfMemory>
     ensures { IfOk result (λ all. all.items ≡ fold with_from kept.items covers.items) }
 {
     for cover in covers {

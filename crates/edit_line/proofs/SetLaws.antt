@@ -55,6 +55,13 @@ all_inside-end first second i past = ap (λ ts. are_subsets (drop i first) ts) (
     no_more [] = refl
     no_more (s ∷ ss) = refl
 
+-- where one set has a code that the other has not, the sets do not lie inside the others
+pub outside_at : (first second : List ℕ) (i : ℕ) → i < length first → i < length second → nat_eq (bit_and (get_or first i 0) (get_or second i 0)) (get_or first i 0) ≡ false → are_subsets first second ≡ false
+outside_at [] second i short below apart = absurd (omega (arith, short))
+outside_at (s ∷ first) [] i short below apart = absurd (omega (arith, below))
+outside_at (s ∷ first) (t ∷ second) zero short below apart = ap (λ b. b && are_subsets first second) apart
+outside_at (s ∷ first) (t ∷ second) (suc i) short below apart = ap (λ b. nat_eq (bit_and s t) s && b) (outside_at first second i (omega (arith, short)) (omega (arith, below)) apart) ∙ and_false _
+
 -- ---- sets within their fields' codes
 
 pub AreWithin-length : (sets wholes : List ℕ) → AreWithin sets wholes → length sets ≡ length wholes

@@ -1,10 +1,10 @@
 ghost use Rattle.std.specs.Prelude.{◌≡◌, ◌↔◌, IfOk, true};
 ghost use Rattle.edit_line.specs.Boxes.{IsBox, are_whole, box_of};
-ghost use Rattle.edit_line.specs.Sets.{AreSets};
+ghost use Rattle.edit_line.specs.Sets.{AreSets, are_subsets};
 ghost use Rattle.edit_line.specs.Domains.{domains};
 ghost use Rattle.edit_line.specs.Shapes.{shape_of, whole_sets};
 
-use crate::code_sets::are_whole;
+use crate::code_sets::{are_inside, are_whole, first_narrow, is_outside_at};
 use crate::shape::Shape;
 use edit_model::Survey;
 use foundation::OutOfMemory;
@@ -17,6 +17,8 @@ use std::marker::Model;
 pub struct CodeBox {
     sets: Vec<u64>,
     shape: Shape,
+    /// The place at which a comparison looks first: that of the first set without all codes. Any other would do.
+    probe: usize,
 }
 
 impl Model for CodeBox {
@@ -44,7 +46,8 @@ impl CodeBox {
         requires { IsBox (box_of (domains shape) sets.items) }
         ensures { result ≡ box_of (domains shape) sets.items }
     {
-        CodeBox { sets, shape }
+        let probe = first_narrow(shape, &sets);
+        CodeBox { sets, shape, probe }
     }
 
     /// The set of codes, as bits, of each categorical field, in declared order. No memory.
@@ -53,6 +56,13 @@ impl CodeBox {
         ensures fit { AreSets self.now.sets (whole_sets self.now.shape) }
     {
         self.sets.as_slice()
+    }
+
+    /// Whether the sets lie inside those of the box. Most that do not are told by one place. No memory.
+    pub fn has_inside(&self, sets: &[u64]) -> bool
+        ensures { result ≡ are_subsets sets.now self.now.sets }
+    {
+        !is_outside_at(sets, self.sets(), self.probe) && are_inside(sets, self.sets())
     }
 
     /// Whether the sets have all codes: the box has the codes of every point. No memory.
@@ -78,6 +88,7 @@ impl CodeBox {
         Ok(CodeBox {
             sets,
             shape: self.shape,
+            probe: self.probe,
         })
     }
 }

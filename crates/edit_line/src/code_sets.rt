@@ -1,5 +1,5 @@
 //! Sets of codes, as bits: a set for each categorical field, in declared order.
-ghost use Rattle.std.specs.Prelude.{◌≡◌, ◌≤◌, IfNone, IfOk, IfSome, length};
+ghost use Rattle.std.specs.Prelude.{◌≡◌, ◌≤◌, IfNone, IfOk, IfSome, false, length, true};
 ghost use Rattle.edit_line.specs.inner.WholePlaces.{IsNotWhole, IsWholeUpTo};
 ghost use Rattle.edit_model.specs.Points.{has_code};
 ghost use Rattle.edit_line.specs.Boxes.{are_whole};
@@ -24,6 +24,25 @@ pub fn are_inside(first: &[u64], second: &[u64]) -> bool
         }
     }
     true
+}
+
+/// Whether at the place a code is in the set of the first, and not in that of the second. No memory.
+pub(crate) fn is_outside_at(first: &[u64], second: &[u64], place: usize) -> bool
+    ensures { result ≡ true → are_subsets first.now second.now ≡ false }
+{
+    place < first.len() && place < second.len() && first[place] & second[place] != first[place]
+}
+
+/// The place of the first set that has not all codes of its field, and one past the last where there is none. No memory.
+pub(crate) fn first_narrow(shape: Shape, sets: &[u64]) -> usize {
+    let mut place = 0;
+    for count in shape.code_counts() {
+        match behind_whole(sets, place, *count) {
+            Some(next) => place = next,
+            None => return place,
+        }
+    }
+    place
 }
 
 /// Whether some code of each field is in both sets. No memory.

@@ -34,6 +34,6 @@ pub use line::Line;
 pub use overflow::LineOverflow;
 pub use place::{Place, place_among};
 pub use reduction::reduce;
-pub use shape::Shape;
+pub use shape::{Shape, whole_set};
 pub use subsumption::{is_false, subsumes};
 pub use sum::{fails, value_at};

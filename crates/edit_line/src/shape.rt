@@ -79,8 +79,8 @@ fn push_whole(sets: &mut Vec<u64>, count: u8) -> Result<(), OutOfMemory>
     Ok(())
 }
 
-/// The set of the first codes, by their number, as bits.
-pub(crate) fn whole_set(count: u8) -> u64
+/// The set of the first codes, by their number, as bits. No memory.
+pub fn whole_set(count: u8) -> u64
     requires { count ≤ 64 }
     ensures { result ≡ 2 ^ count - 1 }
 {

@@ -68,6 +68,7 @@ fn sum_over(
 }
 
 // The sum with the factor times the record's number at the field.
+#[inline(always)]
 fn with_field(sum: Fraction, factor: i128, field: u32, row: &Row) -> Result<Fraction, LineOverflow>
     requires in_range { InRange factor }
     requires place { field < length row.now }
@@ -85,6 +86,7 @@ fn with_field(sum: Fraction, factor: i128, field: u32, row: &Row) -> Result<Frac
 }
 
 // The sum with the factor times the value; a value that is no number adds nothing.
+#[inline(always)]
 fn with_value(sum: Fraction, factor: i128, value: &Value) -> Result<Fraction, Overflow>
     requires { InRange factor }
     ensures { answered result ≡ sum_with (ratio_of sum) factor value.now }

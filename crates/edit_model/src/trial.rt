@@ -66,6 +66,7 @@ fn constant_of(linear: &Linear) -> Fraction
 }
 
 // The sum with the factor times the record's value; a value that is no number adds nothing.
+#[inline(always)]
 fn with_term(sum: Fraction, term: &Term, row: &Row) -> Result<Fraction, Overflow>
     requires { term.now.field < length row.now }
     ensures { answered result ≡ sum_with (ratio_of sum) term.now.factor (value_of row.now term.now.field) }

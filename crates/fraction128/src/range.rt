@@ -4,6 +4,7 @@ ghost use Rattle.fraction128.specs.Range.{InRange, AllInRange};
 use crate::Overflow;
 
 /// The product, where it is in range. Where both numbers have 64 bits no check is needed.
+#[inline(always)]
 pub(crate) fn product(a: i128, b: i128) -> Result<i128, Overflow>
     ensures { OkIff result (InRange (a *ℤ b)) (a *ℤ b) }
 {
@@ -25,6 +26,7 @@ fn product_of(a: i128, b: i128) -> Result<i128, Overflow>
 }
 
 /// The sum, where it is in range.
+#[inline(always)]
 pub(crate) fn sum(a: i128, b: i128) -> Result<i128, Overflow>
     ensures { OkIff result (InRange (a +ℤ b)) (a +ℤ b) }
 {

@@ -1,7 +1,11 @@
+pub mod ApartPaths
 pub mod BoxTurns
 pub mod CodePathLaws
+pub mod CodeTests
 pub mod EndLaws
 pub mod HistoryLaws
+pub mod HoldingLaws
+pub mod KeptWalk
 pub mod KnownLaws
 pub mod LastLetters
 pub mod LeafLaws

@@ -58,7 +58,7 @@ are-more : (c : SearchCase) (taken : List Taken) (t : Taken) → AllByRecursion 
 are-more c [] t are is = (is, tt)
 are-more c (x ∷ taken) t are is = (are.0, are-more c taken t are.1 is)
 
-work-one : (c : SearchCase) (paths : List (List Bool)) (path : List Bool) → work_of_all c (paths ++ path ∷ []) ≡ work_of_all c paths + work_of c path
+pub work-one : (c : SearchCase) (paths : List (List Bool)) (path : List Bool) → work_of_all c (paths ++ path ∷ []) ≡ work_of_all c paths + work_of c path
 work-one c paths path = sum_by-append (work_of c) paths (path ∷ []) ∙ ap (λ (n : ℕ). work_of_all c paths + n) (sum_by-cons (work_of c) path [] ∙ plus_zero (work_of c path))
   where
     plus_zero : (n : ℕ) → n + 0 ≡ n

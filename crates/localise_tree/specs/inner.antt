@@ -1,3 +1,4 @@
+pub mod AllKept
 pub mod Bases
 pub mod Histories
 pub mod Knowns

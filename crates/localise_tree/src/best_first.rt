@@ -13,6 +13,7 @@ ghost use Rattle.localise_tree.specs.inner.Nodes.{IsNode};
 ghost use Rattle.localise_tree.specs.inner.Problems.{IsProblem, case_in, edits_in};
 ghost use Rattle.localise_tree.specs.inner.Takens.{IsTaken, taken_for, taken_paths};
 
+use crate::all_kept::unchanged;
 use crate::certificates::certificate;
 use crate::ends::{Node, first_end, lead_on, take_first};
 use crate::looks::look_into;
@@ -61,6 +62,31 @@ pub fn localise<S: Systems, L: Ledger>(
     ensures serves { (e : EditsParts) → S.serves source.old e → S.serves source.new e }
     ensures keeps { (f : ℕ) → S.keeps source.old f ≡ true → S.keeps source.new f ≡ true }
 {
+    case_known(survey, edits, row);
+    found(alloc, source, survey, edits, row, budget, steps)
+}
+
+// What is found of the record: nothing is searched where all lines hold there.
+fn found<S: Systems, L: Ledger>(
+    alloc: Global,
+    source: &mut S,
+    survey: &Survey,
+    edits: &Arc<Edits>,
+    row: &Row,
+    budget: u64,
+    steps: &mut Steps<L>,
+) -> Result<Outcome, OutOfMemory>
+    requires row { IsRow survey.now.fields row.now }
+    requires shape { (arc_value edits.now).shape ≡ shape_of survey.now.fields }
+    requires served { S.serves source.old (arc_value edits.now) }
+    ensures exact { IfOk result (λ o. o ≡ outcome_of (case_of survey.now (arc_value edits.now) row.now) budget) }
+    ensures kept { IfOk result (KeepsChange (S.keeps source.new) (case_of survey.now (arc_value edits.now) row.now)) }
+    ensures serves { (e : EditsParts) → S.serves source.old e → S.serves source.new e }
+    ensures keeps { (f : ℕ) → S.keeps source.old f ≡ true → S.keeps source.new f ≡ true }
+{
+    if let Some(outcome) = unchanged(alloc, source, survey, edits, row, budget, steps)? {
+        return Ok(outcome);
+    }
     case_known(survey, edits, row);
     let wholes = edits.shape().whole_sets(alloc)?;
     let problem = Problem {

@@ -5,6 +5,7 @@ ghost use Rattle.std.specs.List.{position};
 ghost use Rattle.edit_model.specs.Rows.{value_of};
 ghost use Rattle.edit_line.specs.CodeFields.{TakesCodes};
 ghost use Rattle.edit_line.specs.Shapes.{shape_of};
+ghost use Rattle.categ_combine.specs.Apart.{LieApart};
 ghost use Rattle.categ_combine.specs.BoxLists.{AreBoxesOver};
 ghost use Rattle.edit_paths.specs.Paths.{before_last, field_count, number_count};
 ghost use Rattle.edit_paths.specs.States.{IsOpen, boxes_along, whole_state};
@@ -15,7 +16,7 @@ ghost use Rattle.localise_tree.specs.inner.Tries.{IsChanged, IsKept, cover_work}
 
 use crate::looks::{Basis, Look};
 use crate::problem::Problem;
-use categ_combine::{BoxFrom, Covered, cat_step, fix};
+use categ_combine::{BoxFrom, Covered, fix_apart, step_apart};
 use edit_model::Value;
 use edit_paths::PathState;
 use foundation::{OutOfMemory, Sequence};
@@ -59,12 +60,13 @@ fn look_at_changed(
 ) -> Result<Option<Look>, OutOfMemory>
     requires problem { IsProblem problem.now }
     requires over { AreBoxesOver (shape_of problem.now.survey.now.fields) before.now }
+    requires apart { LieApart before.now }
     requires takes { TakesCodes (shape_of problem.now.survey.now.fields) field }
     requires some { 0 < most }
     ensures passed { IfOk result (λ told. IfNone told (most < cover_work (case_in problem.now) before.now field)) }
     ensures look { IfOk result (λ told. IfSome told (λ look. IsChanged (case_in problem.now) before.now field look × (look.work ≤ most))) }
 {
-    match cat_step(alloc, before, field, most - 1)? {
+    match step_apart(alloc, before, field, most - 1)? {
         Covered::Passed => Ok(None),
         Covered::Done { boxes, pairs } => Ok(Some(Look {
             work: 1 + pairs,
@@ -83,13 +85,14 @@ fn look_at_kept(
 ) -> Result<Look, OutOfMemory>
     requires problem { IsProblem problem.now }
     requires over { AreBoxesOver (shape_of problem.now.survey.now.fields) before.now }
+    requires apart { LieApart before.now }
     requires within { field < length problem.now.row.now }
     ensures work { IfOk result (λ look. look.work ≡ 1) }
     ensures look { IfOk result (λ look. IsKept (case_in problem.now) before.now field (value_of problem.now.row.now field) look) }
 {
     match problem.row.value(field) {
         Value::Code(code) => {
-            let boxes = fix(alloc, before, field, *code)?;
+            let boxes = fix_apart(alloc, before, field, *code)?;
             Ok(Look {
                 work: 1,
                 state: first_whole(problem, boxes.as_slice()),

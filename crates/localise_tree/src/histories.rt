@@ -5,6 +5,7 @@ ghost use Rattle.edit_model.specs.Rows.{value_of};
 ghost use Rattle.edit_line.specs.CodeFields.{TakesCodes, size_of};
 ghost use Rattle.edit_line.specs.EditSets.{EditsParts};
 ghost use Rattle.edit_line.specs.Shapes.{shape_of};
+ghost use Rattle.categ_combine.specs.Apart.{LieApart};
 ghost use Rattle.categ_combine.specs.BoxLists.{AreBoxesOver};
 ghost use Rattle.categ_combine.specs.FailingBoxes.{failing_from};
 ghost use Rattle.edit_paths.specs.Levels.{history_of};
@@ -16,7 +17,7 @@ ghost use Rattle.localise_tree.specs.inner.Problems.{IsProblem, case_in, edits_i
 
 use crate::number_paths::system_along;
 use crate::problem::{Problem, number_count};
-use categ_combine::{BoxFault, BoxFrom, Covered, boxes_of, cat_step, fix};
+use categ_combine::{BoxFault, BoxFrom, Covered, boxes_of, fix_apart, step_apart};
 use edit_line::Derived;
 use edit_paths::Level;
 use foundation::{OutOfMemory, Sequence, Steps};
@@ -212,18 +213,19 @@ fn boxes_after(
 ) -> Result<Sequence<BoxFrom>, OutOfMemory>
     requires problem { IsProblem problem.now }
     requires over { AreBoxesOver (shape_of (case_in problem.now).survey.fields) before.now }
+    requires apart { LieApart before.now }
     requires takes { TakesCodes (shape_of (case_in problem.now).survey.fields) field }
     requires within { field < field_count (case_in problem.now) }
     ensures boxes { IfOk result (λ boxes. boxes ≡ boxes_by (case_in problem.now) changed before.now field) }
     ensures over { IfOk result (λ boxes. AreBoxesOver (shape_of (case_in problem.now).survey.fields) boxes) }
 {
     if changed {
-        return match cat_step(alloc, before, field, u64::MAX)? {
+        return match step_apart(alloc, before, field, u64::MAX)? {
             Covered::Done { boxes, .. } => Ok(boxes),
             Covered::Passed => Err(OutOfMemory),
         };
     }
-    let boxes = fix(alloc, before, field, code_at(problem, field))?;
+    let boxes = fix_apart(alloc, before, field, code_at(problem, field))?;
     Ok(Sequence::from_vec(boxes))
 }
 

@@ -4,6 +4,7 @@
 //! systems the source keeps.
 #![tactic(auto)]
 
+mod all_kept;
 mod best_first;
 mod certificates;
 mod code_paths;

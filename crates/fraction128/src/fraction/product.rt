@@ -9,6 +9,7 @@ use crate::{Fraction, Overflow};
 impl Fraction {
     /// The fraction times a whole number in range. What the factor and the denominator share is divided
     /// out first, and then it overflows exactly where the numerator leaves the range.
+    #[inline(always)]
     pub fn scale(self, factor: i128) -> Result<Fraction, Overflow>
         requires { InRange factor }
         ensures value { IfOk result (λ z. IsProduct self factor z) }
@@ -23,6 +24,7 @@ impl Fraction {
     }
 
     /// A whole number times a whole number in range.
+    #[inline(always)]
     fn scale_whole(self, factor: i128) -> Result<Fraction, Overflow>
         requires whole { self.denominator ≡ pos 1 }
         requires in_range { InRange factor }
@@ -35,6 +37,7 @@ impl Fraction {
     }
 
     /// Any fraction times a whole number in range.
+    #[inline(never)]
     fn scale_parts(self, factor: i128) -> Result<Fraction, Overflow>
         requires { InRange factor }
         ensures value { IfOk result (λ z. IsProduct self factor z) }

@@ -10,6 +10,7 @@ use crate::{Fraction, Overflow};
 impl Fraction {
     /// The sum. It overflows exactly where a number of the formula over the least common multiple of
     /// the denominators is out of range.
+    #[inline(always)]
     pub fn add(self, other: Fraction) -> Result<Fraction, Overflow>
         ensures value { IfOk result (λ z. IsSum self other z) }
         ensures fits { OnOk result (AllInRange (sum_numbers self other)) }
@@ -23,6 +24,7 @@ impl Fraction {
     }
 
     /// The sum of two whole numbers.
+    #[inline(always)]
     fn add_whole(self, other: Fraction) -> Result<Fraction, Overflow>
         requires first { self.denominator ≡ pos 1 }
         requires second { other.denominator ≡ pos 1 }
@@ -35,6 +37,7 @@ impl Fraction {
     }
 
     /// The sum of any two fractions.
+    #[inline(never)]
     fn add_parts(self, other: Fraction) -> Result<Fraction, Overflow>
         ensures value { IfOk result (λ z. IsSum self other z) }
         ensures fits { OnOk result (AllInRange (sum_numbers self other)) }

@@ -10,53 +10,53 @@ use Rattle.categ_combine.proofs.OverLaws.{over-fixed}
 use Rattle.categ_combine.proofs.StepLaws.{first-shape, fixed-exact, fixed-same, fixed-sets, if_ok}
 use Rattle.categ_combine.proofs.fixing.fix.Goals as goal
 
-pub returns-in_ok-spot-in-Some-clause-over : goal.returns-in_ok-spot-in-Some-clause-over
-returns-in_ok-spot-in-Some-clause-over c =
+pub returns-in-Some-clause-over : goal.returns-in-Some-clause-over
+returns-in-Some-clause-over c =
     let boxes = c.args.boxes.now in
-    let spot = c.in_ok-spot-in-Some.spot in
+    let spot = c.spot_of-spot.result in
     let own = domains c.shape.result in
     if_ok (λ left. left.items ≡ reduce_from (each_from (fixed_one spot.place spot.whole c.args.code) 0 boxes)) (λ left. AreBoxes boxes)
     (λ left. ForShape boxes c.args.field c.args.code (λ shape. AreBoxesOver shape left.items))
     c.fix_at.result (
     λ left is fit. λ shape over below.
-    subst (λ bs. AreBoxesOver shape bs) (sym (fixed-exact own shape boxes left.items c.args.field c.args.code spot.place spot.whole (c.shape.ensures ∙ first-shape boxes c.in-Some.first.now shape c.in-Some.ensures.value over) c.in_ok-spot-in-Some.ensures.place c.in_ok-spot-in-Some.ensures.whole is))
+    subst (λ bs. AreBoxesOver shape bs) (sym (fixed-exact own shape boxes left.items c.args.field c.args.code spot.place spot.whole (c.shape.ensures ∙ first-shape boxes c.in-Some.first.now shape c.in-Some.ensures.value over) c.spot_of-spot.ensures.place c.spot_of-spot.ensures.whole is))
     (over-fixed shape boxes c.args.field c.args.code over)
     ) c.fix_at.ensures.left c.fix_at.ensures.fit
 
-pub returns-in_ok-spot-in-Some-clause-origins : goal.returns-in_ok-spot-in-Some-clause-origins
-returns-in_ok-spot-in-Some-clause-origins c =
+pub returns-in-Some-clause-origins : goal.returns-in-Some-clause-origins
+returns-in-Some-clause-origins c =
     let boxes = c.args.boxes.now in
-    let spot = c.in_ok-spot-in-Some.spot in
+    let spot = c.spot_of-spot.result in
     let own = domains c.shape.result in
     if_ok (λ left. left.items ≡ reduce_from (each_from (fixed_one spot.place spot.whole c.args.code) 0 boxes)) (λ left. AreBoxes boxes)
     (λ left. ForShape boxes c.args.field c.args.code (λ shape. AllCome (ComesFromFix shape boxes c.args.field c.args.code) left.items))
     c.fix_at.result (
     λ left is fit. λ shape over below.
     subst (λ bs. AllCome (ComesFromFix shape boxes c.args.field c.args.code) bs)
-    (sym (fixed-exact own shape boxes left.items c.args.field c.args.code spot.place spot.whole (c.shape.ensures ∙ first-shape boxes c.in-Some.first.now shape c.in-Some.ensures.value over) c.in_ok-spot-in-Some.ensures.place c.in_ok-spot-in-Some.ensures.whole is))
+    (sym (fixed-exact own shape boxes left.items c.args.field c.args.code spot.place spot.whole (c.shape.ensures ∙ first-shape boxes c.in-Some.first.now shape c.in-Some.ensures.value over) c.spot_of-spot.ensures.place c.spot_of-spot.ensures.whole is))
     (fixed-comes shape boxes c.args.field over c.args.code)
     ) c.fix_at.ensures.left c.fix_at.ensures.fit
 
-pub returns-in_ok-spot-in-Some-clause-sets : goal.returns-in_ok-spot-in-Some-clause-sets
-returns-in_ok-spot-in-Some-clause-sets c =
+pub returns-in-Some-clause-sets : goal.returns-in-Some-clause-sets
+returns-in-Some-clause-sets c =
     let boxes = c.args.boxes.now in
-    let spot = c.in_ok-spot-in-Some.spot in
+    let spot = c.spot_of-spot.result in
     let own = domains c.shape.result in
     if_ok (λ left. left.items ≡ reduce_from (each_from (fixed_one spot.place spot.whole c.args.code) 0 boxes)) (λ left. AreBoxes boxes)
     (λ left. ForShape boxes c.args.field c.args.code (λ shape. sets_of left.items ≡ fixed shape (sets_of boxes) c.args.field c.args.code))
     c.fix_at.result (
     λ left is fit. λ shape over below.
-    fixed-sets own shape boxes left.items c.args.field c.args.code spot.place spot.whole (c.shape.ensures ∙ first-shape boxes c.in-Some.first.now shape c.in-Some.ensures.value over) c.in_ok-spot-in-Some.ensures.place c.in_ok-spot-in-Some.ensures.whole is
+    fixed-sets own shape boxes left.items c.args.field c.args.code spot.place spot.whole (c.shape.ensures ∙ first-shape boxes c.in-Some.first.now shape c.in-Some.ensures.value over) c.spot_of-spot.ensures.place c.spot_of-spot.ensures.whole is
     ) c.fix_at.ensures.left c.fix_at.ensures.fit
 
-pub returns-in_ok-spot-in-Some-clause-same : goal.returns-in_ok-spot-in-Some-clause-same
-returns-in_ok-spot-in-Some-clause-same c =
+pub returns-in-Some-clause-same : goal.returns-in-Some-clause-same
+returns-in-Some-clause-same c =
     let boxes = c.args.boxes.now in
-    let spot = c.in_ok-spot-in-Some.spot in
+    let spot = c.spot_of-spot.result in
     let own = domains c.shape.result in
     if_ok (λ left. left.items ≡ reduce_from (each_from (fixed_one spot.place spot.whole c.args.code) 0 boxes)) (λ left. AreBoxes boxes)
     (λ left. ForShape boxes c.args.field c.args.code (λ shape. SayWithCode shape boxes c.args.field c.args.code left.items))
     c.fix_at.result (
     λ left is fit. λ shape over below p held.
-    fixed-same own shape boxes left.items c.args.field c.args.code spot.place spot.whole (c.shape.ensures ∙ first-shape boxes c.in-Some.first.now shape c.in-Some.ensures.value over) c.in_ok-spot-in-Some.ensures.place c.in_ok-spot-in-Some.ensures.whole is p over fit below held
+    fixed-same own shape boxes left.items c.args.field c.args.code spot.place spot.whole (c.shape.ensures ∙ first-shape boxes c.in-Some.first.now shape c.in-Some.ensures.value over) c.spot_of-spot.ensures.place c.spot_of-spot.ensures.whole is p over fit below held
     ) c.fix_at.ensures.left c.fix_at.ensures.fit

@@ -8,8 +8,8 @@ use Rattle.localise_tree.specs.inner.Tries.{IsKept}
 use Rattle.localise_tree.proofs.RowCodes.{row-code}
 use Rattle.localise_tree.proofs.code_paths.look_at_kept.Goals as goal
 
-pub fix-requires : goal.fix-requires
-fix-requires c = (shape_of c.args.problem.now.survey.now.fields, c.requires.over, row-code (case_in c.args.problem.now) c.requires.problem.case c.args.field c.in-Code.code (sym c.value.ensures ∙ c.in-Code.is))
+pub fix_apart-requires-clause-code : goal.fix_apart-requires-clause-code
+fix_apart-requires-clause-code c = (shape_of c.args.problem.now.survey.now.fields, c.requires.over, row-code (case_in c.args.problem.now) c.requires.problem.case c.args.field c.in-Code.code (sym c.value.ensures ∙ c.in-Code.is))
 
 pub returns-in_ok-new-in-Code-clause-look : goal.returns-in_ok-new-in-Code-clause-look
 returns-in_ok-new-in-Code-clause-look c =

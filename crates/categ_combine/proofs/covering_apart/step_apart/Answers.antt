@@ -1,0 +1,20 @@
+use Rattle.std.proofs.Common.{◌∙◌}
+use Rattle.edit_line.specs.Domains.{domains}
+use Rattle.categ_combine.specs.BoxLists.{AreBoxesOver, ForShape}
+use Rattle.categ_combine.specs.inner.FitBoxes.{AreBoxes}
+use Rattle.categ_combine.specs.Covers.{IsElimination}
+use Rattle.categ_combine.specs.Steps.{IsDone}
+use Rattle.categ_combine.proofs.OverLaws.{done-over}
+use Rattle.categ_combine.proofs.StepLaws.{first-shape, if_ok}
+use Rattle.categ_combine.proofs.covering_apart.step_apart.Goals as goal
+
+pub returns-in-Some-clause-over : goal.returns-in-Some-clause-over
+returns-in-Some-clause-over c =
+    let boxes = c.args.boxes.now in
+    let own = domains c.shape.result in
+    if_ok (λ told. IsDone told (IsElimination own boxes c.args.field)) (λ told. IsDone told (λ left pairs. AreBoxes boxes))
+    (λ told. ForShape boxes c.args.field 0 (λ shape. IsDone told (λ left pairs. AreBoxesOver shape left)))
+    c.step_over.result (
+    λ told are fit. λ shape over takes.
+    done-over own shape boxes c.args.field (c.shape.ensures ∙ first-shape boxes c.in-Some.first.now shape c.in-Some.ensures.value over) over told are
+    ) c.step_over.ensures.exact c.step_over.ensures.fit

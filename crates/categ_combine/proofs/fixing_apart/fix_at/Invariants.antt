@@ -1,0 +1,11 @@
+use Rattle.std.proofs.Common.{◌≡◌, drop, take}
+use Rattle.categ_combine.specs.BoxLists.{reduce_from}
+use Rattle.categ_combine.specs.inner.Clear.{AllClear}
+use Rattle.categ_combine.specs.Each.{each_from}
+use Rattle.categ_combine.specs.Fixing.{fixed_one}
+use Rattle.categ_combine.proofs.fixing_apart.fix_at.Given as goal
+
+abbrev pub invariant-loop-i : goal.invariant-loop-i
+invariant-loop-i l =
+    (l.kept.items ≡ reduce_from (each_from (fixed_one l.spot.place l.spot.whole l.code) 0 (take l.i l.boxes)))
+    × AllClear l.spot.place l.spot.whole l.kept.items (drop l.i l.boxes)
