@@ -17,4 +17,6 @@ mod records;
 #[cfg(test)]
 mod redundant_lines;
 #[cfg(test)]
+mod shared_systems;
+#[cfg(test)]
 mod systems;

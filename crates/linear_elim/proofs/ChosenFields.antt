@@ -15,7 +15,7 @@ chosen-has shape bits f numerical there = there-has f (chosen_fields shape bits)
 -- ---- a set with a later field more
 
 -- of a set that has no field from number i on, none is chosen there
-none-chosen : (bits i : ℕ) (shape : List Domain) → ((g : ℕ) → i ≤ g → has_number bits g ≡ false) → filter (has_number bits) (numbers_from i shape) ≡ []
+pub none-chosen : (bits i : ℕ) (shape : List Domain) → ((g : ℕ) → i ≤ g → has_number bits g ≡ false) → filter (has_number bits) (numbers_from i shape) ≡ []
 none-chosen bits i [] none = refl
 none-chosen bits i (Numerical ∷ shape) none =
     ap (λ b. if b then i ∷ filter (has_number bits) (numbers_from (suc i) shape) else filter (has_number bits) (numbers_from (suc i) shape)) (none i (omega arith))

@@ -2,6 +2,7 @@ pub mod BetweenLaws
 pub mod ChosenFields
 pub mod ColumnLaws
 pub mod CountLaws
+pub mod ExtensionLaws
 pub mod FlatLaws
 pub mod FoldLaws
 pub mod MadeLaws

@@ -1,6 +1,7 @@
 pub mod Answers
 pub mod Combinations
 pub mod Helds
+pub mod LastFields
 pub mod Origins
 pub mod Overflows
 pub mod Parts

@@ -1,3 +1,7 @@
+ghost use Rattle.std.specs.Prelude.{◌≡◌, option_map};
+ghost use Rattle.linear_elim.specs.Systems.{overflow_at};
+ghost use Rattle.linear_elim.specs.Told.{told_step, told_system};
+
 use edit_line::Place;
 use foundation::OutOfMemory;
 use std::alloc::AllocFailed;
@@ -94,5 +98,24 @@ impl<T: Drop> From<AllocFailed<T>> for StepFault {
 
     fn from(_refused: AllocFailed<T>) -> Self {
         StepFault::OutOfMemory
+    }
+}
+
+/// The fault of the fold that stops at this field.
+pub(crate) fn at_field(fault: StepFault, field: u32) -> SystemFault
+    ensures { told_system result ≡ option_map (overflow_at field) (told_step fault) }
+{
+    match fault {
+        StepFault::Overflow {
+            first,
+            second,
+            place,
+        } => SystemFault::Overflow {
+            field,
+            first,
+            second,
+            place,
+        },
+        StepFault::OutOfMemory => SystemFault::OutOfMemory,
     }
 }

@@ -10,7 +10,7 @@ ghost use Rattle.linear_elim.specs.Told.{told_system};
 ghost use Rattle.linear_elim.specs.inner.FoldLines.{next_fields, so_far};
 
 use crate::elimination::reduced_step;
-use crate::fault::{StepFault, SystemFault};
+use crate::fault::{SystemFault, at_field};
 use crate::system::System;
 use edit_line::{Derived, Edits};
 use edit_model::FieldSet;
@@ -125,18 +125,6 @@ fn next_lines<L: Ledger>(
     }
     match reduced_step(alloc, so_far(base, &lines), field, steps) {
         Ok(next) => Ok(Some(next)),
-        Err(
-            StepFault::Overflow {
-                first,
-                second,
-                place,
-            },
-        ) => Err(SystemFault::Overflow {
-            field,
-            first,
-            second,
-            place,
-        }),
-        Err(StepFault::OutOfMemory) => Err(SystemFault::OutOfMemory),
+        Err(fault) => Err(at_field(fault, field)),
     }
 }

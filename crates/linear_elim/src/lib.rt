@@ -9,7 +9,9 @@
 mod column;
 mod combine;
 mod elimination;
+mod extension;
 mod fault;
+mod fields;
 mod fold;
 mod held;
 mod pair_count;
@@ -17,7 +19,9 @@ mod system;
 mod systems;
 
 pub use elimination::{reduced_step, step};
+pub use extension::extend;
 pub use fault::{StepFault, SystemFault};
+pub use fields::last_field;
 pub use fold::fold_system;
 pub use held::Held;
 pub use pair_count::pairs;

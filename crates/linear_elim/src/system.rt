@@ -1,5 +1,7 @@
 ghost use Rattle.std.specs.Prelude.{◌≡◌};
 ghost use Rattle.std.specs.Arc.{arc_value};
+ghost use Rattle.edit_model.specs.FieldSets.{with_number};
+ghost use Rattle.edit_line.specs.Shapes.{IsNumerical};
 ghost use Rattle.linear_elim.specs.Origins.{HaveOrigins};
 ghost use Rattle.linear_elim.specs.Parts.{IsFlat, IsMade, IsOver, Lifts, parts_of_system};
 ghost use Rattle.linear_elim.specs.Systems.{IsSystem};
@@ -55,6 +57,16 @@ impl System {
         ensures { result ≡ self.now.fields }
     {
         self.fields
+    }
+
+    /// The fields that were eliminated, and one numerical field more. No memory.
+    pub fn fields_with(&self, field: u32) -> FieldSet
+        requires { IsNumerical self.now.edits.shape field }
+        ensures { result ≡ with_number self.now.fields field }
+    {
+        let shape = self.edits.shape();
+        let _counts = shape.code_counts(); // read for what it says: they are at most 64
+        self.fields.with(field)
     }
 
     /// The lines, in order, with their origins in the lines that the last step took, which are those of the

@@ -1,14 +1,20 @@
 ghost use Rattle.std.specs.Prelude.{◌≡◌, ◌+◌, ◌≤◌, ℕ, Bool, true, IfOk, OnOk};
 ghost use Rattle.std.specs.Arc.{arc_value};
+ghost use Rattle.edit_model.specs.FieldSets.{with_number};
 ghost use Rattle.edit_line.specs.EditSets.{EditsParts};
+ghost use Rattle.edit_line.specs.Shapes.{IsNumerical};
 ghost use Rattle.linear_elim.specs.Answers.{Answers};
 ghost use Rattle.linear_elim.specs.Helds.{system_held};
+ghost use Rattle.linear_elim.specs.LastFields.{IsPast};
+ghost use Rattle.linear_elim.specs.Steps.{pairs_count};
 ghost use Rattle.linear_elim.specs.Systems.{AreNumerical, pairs_at, system_at};
 ghost use Rattle.linear_elim.specs.Told.{told_system};
 
+use crate::extension::extend;
 use crate::fault::SystemFault;
 use crate::fold::fold_system;
 use crate::held::Held;
+use crate::system::System;
 use edit_line::Edits;
 use edit_model::FieldSet;
 use foundation::Steps;
@@ -43,6 +49,27 @@ pub trait Systems {
         ensures serves { (e : EditsParts) → serves self.old e → serves self.new e }
         ensures keeps { (f : ℕ) → keeps self.old f ≡ true → keeps self.new f ≡ true }
         ensures kept { OnOk result (keeps self.new fields ≡ true) };
+
+    /// The system with one numerical field more than `before`, which is past all fields of that: what `system` answers
+    /// for all these fields. At most one step is counted for each pair that the step from `before` combines.
+    fn system_after<L: Ledger>(
+        &mut self,
+        alloc: Global,
+        before: &System,
+        field: u32,
+        steps: &mut Steps<L>,
+    ) -> Result<Held, SystemFault>
+        requires numerical { IsNumerical before.now.edits.shape field }
+        requires past { IsPast before.now.fields field }
+        requires served { serves self.old before.now.edits }
+        ensures edits { IfOk result (λ held. (system_held held).edits ≡ before.now.edits) }
+        ensures fields { IfOk result (λ held. (system_held held).fields ≡ with_number before.now.fields field) }
+        ensures exact { Answers (λ held. (system_held held).lines) told_system result
+            (system_at before.now.edits (with_number before.now.fields field)) }
+        ensures few { steps.new ≤ steps.old + pairs_count before.now.lines field }
+        ensures serves { (e : EditsParts) → serves self.old e → serves self.new e }
+        ensures keeps { (f : ℕ) → keeps self.old f ≡ true → keeps self.new f ≡ true }
+        ensures kept { OnOk result (keeps self.new (with_number before.now.fields field) ≡ true) };
 }
 
 /// The source that folds each system anew, and counts one step for each pair that its fold combines.
@@ -71,6 +98,28 @@ impl Systems for Recompute {
         ensures few { steps.new ≤ steps.old + pairs_at (arc_value edits.now) fields }
     {
         match fold_system(alloc, edits, fields, steps) {
+            Ok(system) => Ok(Held::Own(system)),
+            Err(fault) => Err(fault),
+        }
+    }
+
+    fn system_after<L: Ledger>(
+        &mut self,
+        alloc: Global,
+        before: &System,
+        field: u32,
+        steps: &mut Steps<L>,
+    ) -> Result<Held, SystemFault>
+        requires numerical { IsNumerical before.now.edits.shape field }
+        requires past { IsPast before.now.fields field }
+        ensures edits { IfOk result (λ held. (system_held held).edits ≡ before.now.edits) }
+        ensures fields { IfOk result (λ held. (system_held held).fields ≡ with_number before.now.fields field) }
+        ensures exact { Answers (λ held. (system_held held).lines) told_system result
+            (system_at before.now.edits (with_number before.now.fields field)) }
+        ensures counted { OnOk result (steps.new ≡ steps.old + pairs_count before.now.lines field) }
+        ensures few { steps.new ≤ steps.old + pairs_count before.now.lines field }
+    {
+        match extend(alloc, before, field, steps) {
             Ok(system) => Ok(Held::Own(system)),
             Err(fault) => Err(fault),
         }

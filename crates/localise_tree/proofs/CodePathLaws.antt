@@ -28,6 +28,7 @@ use Rattle.categ_combine.proofs.OverLaws.{over-failing}
 use Rattle.bound_cert.specs.Paths.{changes, keeps_bad}
 use Rattle.bound_cert.proofs.Letters.{kept-any, kept_in}
 use Rattle.edit_paths.specs.Cases.{SearchCase, IsCase}
+use Rattle.edit_model.specs.FieldSets.{set_of}
 use Rattle.edit_paths.specs.Paths.{before_last, changed_numbers, field_count, last_letter, number_count, treated_codes}
 use Rattle.edit_paths.specs.States.{IsOpen, boxes_after, boxes_along, first_boxes, first_failing, lines_along, or_empty, state_of, state_with_boxes, state_with_system, whole_state}
 use Rattle.edit_paths.specs.Works.{pairs_next, work_of}
@@ -313,9 +314,10 @@ module _ (c : SearchCase) (is : IsCase c) (letters : List Bool) (more : number_c
 -- the source keeps the fields that the path changes, since they are those of the path before
 pub codes-kept : (c : SearchCase) (letters : List Bool) → number_count c < length letters → length letters ≤ field_count c → (keeps : ℕ → Bool) → KeepsChanged keeps c (before_last letters) → {E : Type 0} (r : Result (Option Look) E)
     → IfOk r (λ told. IfSome told (λ look. look.state ≡ Open → KeepsChanged keeps c letters))
-codes-kept c letters more fit keeps (bits, chosen, kept) (Ok (Some look)) = λ is_open.
+codes-kept c letters more fit keeps kept (Ok (Some look)) = λ is_open.
     let split = split-last letters false (omega (arith, more)) in
     let counted = ap (λ (p : List Bool). length p) split ∙ longer (before_last letters) (last_letter letters) in
-    (bits, chosen ∙ sym (ap (λ (p : List Bool). changed_numbers c p) split ∙ child-numbers-same c (before_last letters) (last_letter letters) (omega (arith, fit, counted)) (omega (arith, more, counted))), kept)
+    let same = ap (λ (p : List Bool). changed_numbers c p) split ∙ child-numbers-same c (before_last letters) (last_letter letters) (omega (arith, fit, counted)) (omega (arith, more, counted)) in
+    subst (λ (fs : List ℕ). keeps (set_of fs) ≡ true) (sym same) kept
 codes-kept c letters more fit keeps known (Ok None) = tt
 codes-kept c letters more fit keeps known (Err e) = tt

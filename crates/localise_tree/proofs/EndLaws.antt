@@ -1,16 +1,15 @@
-use Rattle.std.proofs.Common.{◌≡◌, ◌≢◌, ◌&&◌, ◌||◌, ◌==◌, ℕ, suc, ◌+◌, ◌<◌, ◌≤◌, Bool, true, false, not, if◌then◌else◌, nat_lt, List, [], ◌∷◌, ◌++◌, Ok, length, drop, slice_index_or, refl, sym, ap, ◌∙◌, subst, arith}
+use Rattle.std.proofs.Common.{◌≡◌, ◌≢◌, ◌&&◌, ◌||◌, ◌==◌, ℕ, suc, ◌+◌, ◌<◌, ◌≤◌, Bool, true, false, not, if◌then◌else◌, nat_lt, List, [], ◌∷◌, ◌++◌, length, drop, slice_index_or, refl, sym, ap, ◌∙◌, subst, arith}
 use Rattle.std.specs.List.{AllByRecursion, filter, fold, sum_by}
 use Rattle.std.proofs.lemmas.Bool.Decides.{Decides-eqb}
 use Rattle.std.proofs.lemmas.List.{at_drop_all, at_drop_more}
 use Rattle.edit_model.specs.Corrections.{is_first, path_order}
 use Rattle.edit_model.specs.Words.{weight_at}
-use Rattle.linear_elim.specs.Helds.{system_held}
-use Rattle.linear_elim.specs.Systems.{system_of}
+use Rattle.std.specs.Arc.{arc_value}
 use Rattle.linear_elim.specs.declared.held.Held.{Held}
 use Rattle.bound_cert.specs.Paths.{changes, path_weight}
 use Rattle.edit_paths.specs.Cases.{SearchCase}
 use Rattle.edit_paths.specs.PathStates.{is_open}
-use Rattle.edit_paths.specs.Paths.{before_last, changed_numbers, field_count, is_complete}
+use Rattle.edit_paths.specs.Paths.{before_last, field_count, is_complete}
 use Rattle.edit_paths.specs.ReachedPaths.{changed_next, is_before, kept_next, placed}
 use Rattle.edit_paths.specs.States.{IsOpen, boxes_along, state_of}
 use Rattle.edit_paths.specs.Walks.{next_paths}
@@ -22,7 +21,7 @@ use Rattle.localise_tree.specs.KeptFields.{KeepsChanged}
 use Rattle.localise_tree.specs.declared.ends.Node.{Node}
 use Rattle.localise_tree.specs.declared.looks.Basis.{Basis}
 use Rattle.localise_tree.specs.declared.looks.Basis.TheVariants.{Boxes, Lines}
-use Rattle.localise_tree.specs.inner.Bases.{IsBasis, IsBasisBefore}
+use Rattle.localise_tree.specs.inner.Bases.{IsBasis, IsBasisBefore, IsPathSystem}
 use Rattle.localise_tree.specs.inner.Nodes.{AreKept, IsFirstEnd, IsNode, IsOfSystem, before, paths_of}
 
 -- The ends of a search: nodes whose paths are reached.
@@ -36,7 +35,7 @@ first-long a b i below past so_far =
 -- ---- bases
 
 basis-before : (c : SearchCase) (path more : List Bool) (k : Basis) → length more ≡ suc (length path) → before_last more ≡ path → IsBasis c path k → IsBasisBefore c more k
-basis-before c path more (Lines system) longer parent is = (omega (arith, longer, is.0), ap (λ (p : List Bool). system_of c.edits (changed_numbers c p)) parent ∙ is.1)
+basis-before c path more (Lines system) longer parent is = (omega (arith, longer, is.0), subst (λ (p : List Bool). IsPathSystem c p (arc_value system)) (sym parent) is.1)
 basis-before c path more (Boxes boxes) longer parent is = (omega (arith, longer, is.0), is.1 ∙ ap (λ (p : List Bool). boxes_along c p) (sym parent))
 
 -- ---- nodes
@@ -46,17 +45,17 @@ none-changed c [] = refl
 none-changed c (f ∷ fs) = none-changed c fs
 
 -- the node of the empty path
-first-node : (c : SearchCase) (held : Held) (before : Basis) → IsOfSystem held before → system_of c.edits (changed_numbers c []) ≡ Ok (system_held held).lines → IsNode c (record { path = []; weight = 0; before = before })
+first-node : (c : SearchCase) (held : Held) (before : Basis) → IsOfSystem held before → IsPathSystem c [] held → IsNode c (record { path = []; weight = 0; before = before })
 first-node c held (Boxes boxes) is made = absurd is
 first-node c held (Lines system) is made = record {
   fit = omega arith;
   weight = sym (ap (λ (fs : List ℕ). sum_by (weight_at c.survey.fields) fs) (none-changed c (path_order c.survey.fields)));
   few = omega arith;
   reached = λ some. absurd (omega (arith, some));
-  basis = (omega arith, made ∙ ap (λ (h : Held). Ok (system_held h).lines) (sym is));
+  basis = (omega arith, subst (λ (h : Held). IsPathSystem c [] h) (sym is) made);
 }
 
-pub first-nodes : (c : SearchCase) (held : Held) (ends : List Node) → IsFirstEnd held ends → system_of c.edits (changed_numbers c []) ≡ Ok (system_held held).lines → AllByRecursion (IsNode c) ends
+pub first-nodes : (c : SearchCase) (held : Held) (ends : List Node) → IsFirstEnd held ends → IsPathSystem c [] held → AllByRecursion (IsNode c) ends
 first-nodes c held ends (before, are, is) made = subst (λ (ns : List Node). AllByRecursion (IsNode c) ns) (sym are) (first-node c held before is made, tt)
 
 module _ (c : SearchCase) (node more : Node) (b : Bool) (is_node : IsNode c node) (short : length node.path < field_count c) (path_is : more.path ≡ node.path ++ b ∷ []) where

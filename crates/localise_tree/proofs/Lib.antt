@@ -10,6 +10,7 @@ pub mod KnownLaws
 pub mod LastLetters
 pub mod LeafLaws
 pub mod ModelLaws
+pub mod NextFields
 pub mod NumberPathLaws
 pub mod PlaceLaws
 pub mod ProblemLaws

@@ -1,9 +1,9 @@
-use Rattle.std.proofs.Common.{◌≡◌, ◌&&◌, ◌||◌, inl, inr, ℕ, zero, suc, ◌+◌, ◌-◌, ◌<◌, ◌≤◌, Bool, true, false, not, if◌then◌else◌, List, [], ◌∷◌, ◌++◌, ℤ, pos, length, slice_index_or, Ok, refl, sym, ap, ◌∙◌, subst, arith}
+use Rattle.std.proofs.Common.{◌≡◌, ◌&&◌, ◌||◌, inl, inr, ℕ, zero, suc, ◌+◌, ◌-◌, ◌<◌, ◌≤◌, Bool, true, false, not, if◌then◌else◌, List, [], ◌∷◌, ◌++◌, ℤ, pos, length, slice_index_or, Result, Ok, Err, IfOk, refl, sym, ap, ◌∙◌, subst, arith}
 use Rattle.std.specs.List.{filter, fold}
 use Rattle.std.proofs.lemmas.List.{get_or_past}
 use Rattle.std.specs.Ordering.{int_eq}
 use Rattle.edit_model.specs.Corrections.{path_order}
-use Rattle.edit_model.specs.FieldSets.{has_number}
+use Rattle.edit_model.specs.FieldSets.{has_number, set_of}
 use Rattle.edit_line.specs.Boxes.{are_whole}
 use Rattle.edit_line.specs.Lines.{HasShape, LineParts}
 use Rattle.edit_line.specs.Reductions.{IsIn}
@@ -11,6 +11,10 @@ use Rattle.edit_line.specs.Shapes.{Domain, code_fields, has_field, number_fields
 use Rattle.edit_line.specs.Sums.{stands_only}
 use Rattle.edit_line.specs.declared.derived.Derived.{Derived}
 use Rattle.edit_line.proofs.FieldLists.{there-has}
+use Rattle.edit_line.specs.EditSets.{edits_of}
+use Rattle.linear_elim.specs.Answers.{Answers}
+use Rattle.linear_elim.specs.Told.{told_system}
+use Rattle.linear_elim.specs.declared.fault.SystemFault.{SystemFault}
 use Rattle.linear_elim.specs.Helds.{system_held}
 use Rattle.linear_elim.specs.Steps.{pairs_count}
 use Rattle.linear_elim.specs.Systems.{SystemParts, system_of}
@@ -28,7 +32,7 @@ use Rattle.edit_paths.proofs.ChildLaws.{child-kept}
 use Rattle.edit_paths.proofs.FieldPlaces.{Placed, codes-placed}
 use Rattle.edit_paths.proofs.KeptLines.{derived-over, kept-number}
 use Rattle.edit_paths.proofs.LetterLaws.{count-kinds, longer, number-field, order-shape}
-use Rattle.localise_tree.specs.inner.Bases.{HasLines}
+use Rattle.localise_tree.specs.inner.Bases.{IsPathSystem}
 use Rattle.localise_tree.proofs.LastLetters.{split-last}
 
 -- Paths that say something of numerical fields alone.
@@ -40,7 +44,7 @@ in-index [] i d below = absurd (omega arith)
 in-index (x ∷ xs) zero d below = inl refl
 in-index (x ∷ xs) (suc i) d below = inr (in-index xs i d (omega arith))
 
-first-of : (xs ys : List ℕ) (i : ℕ) → i < length xs → slice_index_or (xs ++ ys) i 0 ≡ slice_index_or xs i 0
+pub first-of : (xs ys : List ℕ) (i : ℕ) → i < length xs → slice_index_or (xs ++ ys) i 0 ≡ slice_index_or xs i 0
 first-of [] ys i below = absurd (omega arith)
 first-of (x ∷ xs) ys zero below = refl
 first-of (x ∷ xs) ys (suc i) below = first-of xs ys i (omega arith)
@@ -105,6 +109,14 @@ module _ (c : SearchCase) (path : List Bool) where
           let counted = ap (λ (q : List Bool). length q) split ∙ longer (before_last path) (last_letter path) in
           ap (λ (q : List Bool). changed_numbers c q) split ∙ child-kept c (before_last path) (last_letter path) (omega (arith, counted, fit, count-kinds c)) kept
 
+  -- so its system is theirs
+  pub kept-system : (held : Held) → changed_numbers c path ≡ changed_numbers c (before_last path) → IsPathSystem c (before_last path) held → IsPathSystem c path held
+  kept-system held same is = record {
+    edits = is.edits;
+    fields = is.fields ∙ sym (ap (λ (fs : List ℕ). set_of fs) same);
+    lines = ap (λ (fs : List ℕ). system_of c.edits fs) same ∙ is.lines;
+  }
+
 -- ---- the boxes of a path that says something of exactly the numerical fields
 
 none-treated : (c : SearchCase) (path : List Bool) (short : length path ≤ number_count c) (k : ℕ) (fields : List ℕ) → Placed c k fields → length path ≤ k → filter (treats c path) fields ≡ []
@@ -122,6 +134,13 @@ numbers-boxes c path lines boxes fit made told =
     ∙ ap (λ r. or_empty r) told)
 
 -- the lines that a shared system tells are the path's
-pub lines-made : (c : SearchCase) (path : List Bool) (held same : Held) (system : SystemParts) (lines : List Derived) → HasLines c path held → same ≡ held → system ≡ system_held same → lines ≡ system.lines
+pub lines-made : (c : SearchCase) (path : List Bool) (held same : Held) (system : SystemParts) (lines : List Derived) → IsPathSystem c path held → same ≡ held → system ≡ system_held same → lines ≡ system.lines
     → system_of c.edits (changed_numbers c path) ≡ Ok lines
-lines-made c path held same system lines has is of are = has ∙ ap (λ (ls : List Derived). Ok ls) (sym (are ∙ ap (λ (s : SystemParts). s.lines) (of ∙ ap (λ (h : Held). system_held h) is)))
+lines-made c path held same system lines has is of are = has.lines ∙ ap (λ (ls : List Derived). Ok ls) (sym (are ∙ ap (λ (s : SystemParts). s.lines) (of ∙ ap (λ (h : Held). system_held h) is)))
+
+-- a system that a source answers for the set of the changed numerical fields is the path's
+pub answered-system : (c : SearchCase) (path : List Bool) (r : Result Held SystemFault) → IfOk r (λ held. (system_held held).edits ≡ edits_of (shape_of c.survey.fields) c.edits)
+    → IfOk r (λ held. (system_held held).fields ≡ set_of (changed_numbers c path)) → Answers (λ held. (system_held held).lines) told_system r (system_of c.edits (changed_numbers c path))
+    → IfOk r (IsPathSystem c path)
+answered-system c path (Ok held) edits fields exact = record { edits = edits; fields = fields; lines = exact }
+answered-system c path (Err fault) edits fields exact = tt

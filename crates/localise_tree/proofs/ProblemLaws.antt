@@ -81,7 +81,7 @@ module _ (c : SearchCase) (numbers : List ℕ) (numbers_are : numbers ≡ correc
 
     -- all of them
     module _ (i set : ℕ) (past : length numbers ≤ i) (all : AreChanged i set) where
-      whole : (f : ℕ) → has_number set f ≡ (has_field (number_fields (shape_of c.survey.fields)) f && changes c.survey.fields path f)
+      pub whole : (f : ℕ) → has_number set f ≡ (has_field (number_fields (shape_of c.survey.fields)) f && changes c.survey.fields path f)
       whole f = all f ∙ ap (λ (ns : List ℕ). has_field ns f && changes c.survey.fields path f) (take_all i (number_fields (shape_of c.survey.fields)) (omega (arith, past, numbers-counted)))
 
       pub changed-chosen : chosen_fields (shape_of c.survey.fields) set ≡ changed_numbers c path

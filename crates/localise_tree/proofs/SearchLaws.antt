@@ -8,7 +8,8 @@ use Rattle.bound_cert.specs.declared.outcome.Outcome.TheVariants as outcome
 use Rattle.edit_paths.specs.Cases.{SearchCase}
 use Rattle.edit_paths.specs.Certificates.{certificate_of}
 use Rattle.edit_paths.specs.Outcomes.{end_at, end_by, outcome_of}
-use Rattle.edit_paths.specs.Paths.{is_complete}
+use Rattle.edit_model.specs.FieldSets.{set_of}
+use Rattle.edit_paths.specs.Paths.{before_last, changed_numbers, is_complete}
 use Rattle.edit_paths.specs.ReachedPaths.{is_before, placed}
 use Rattle.edit_paths.specs.States.{state_of}
 use Rattle.edit_paths.specs.Walks.{next_paths}
@@ -110,10 +111,10 @@ module _ (c : SearchCase) (budget spent : ℕ) (taken : List Taken) (ends rest :
 -- it keeps what it kept before
 pub kept-later : (c : SearchCase) (first second : ℕ → Bool) → ((f : ℕ) → first f ≡ true → second f ≡ true) → (ends : List Node) → AreKept first c ends → AreKept second c ends
 kept-later c first second more [] are = tt
-kept-later c first second more (node ∷ ends) ((bits, chosen, keeps), are) = ((bits, chosen, more bits keeps), kept-later c first second more ends are)
+kept-later c first second more (node ∷ ends) (keeps, are) = (more (set_of (changed_numbers c (before_last node.path))) keeps, kept-later c first second more ends are)
 
 pub path-later : (c : SearchCase) (first second : ℕ → Bool) (path : List Bool) → ((f : ℕ) → first f ≡ true → second f ≡ true) → KeepsChanged first c path → KeepsChanged second c path
-path-later c first second path more (bits, chosen, keeps) = (bits, chosen, more bits keeps)
+path-later c first second path more keeps = more (set_of (changed_numbers c path)) keeps
 
 -- a change ends an open path, which is its own
 change-open : (c : SearchCase) (taken : List (List Bool)) (path : List Bool) (state : PathState) (chosen : List Bool) (weight : ℕ) (cert : Cert) → Some (outcome.Change chosen weight cert) ≡ end_by c taken path state → (state ≡ Open) × (path ≡ chosen)

@@ -1,6 +1,5 @@
 use Rattle.std.specs.Prelude.{◌≡◌, ℕ, Bool, true, List}
-use Rattle.edit_line.specs.Shapes.{shape_of}
-use Rattle.linear_elim.specs.Systems.{chosen_fields}
+use Rattle.edit_model.specs.FieldSets.{set_of}
 use Rattle.bound_cert.specs.declared.cert.Cert.{Cert}
 use Rattle.bound_cert.specs.declared.outcome.Outcome.{Outcome}
 use Rattle.bound_cert.specs.declared.outcome.Outcome.TheVariants as outcome
@@ -9,7 +8,7 @@ use Rattle.edit_paths.specs.Paths.{changed_numbers}
 
 -- the source keeps the system of the numerical fields that the path changes
 abbrev pub KeepsChanged : (ℕ → Bool) → SearchCase → List Bool → Type 0
-KeepsChanged keeps c path = (bits : ℕ) × (chosen_fields (shape_of c.survey.fields) bits ≡ changed_numbers c path) × (keeps bits ≡ true)
+KeepsChanged keeps c path = keeps (set_of (changed_numbers c path)) ≡ true
 
 -- at a change, the source keeps the system of the numerical fields that are changed
 abbrev pub KeepsChange : (ℕ → Bool) → SearchCase → Outcome → Type 0

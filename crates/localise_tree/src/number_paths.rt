@@ -1,6 +1,7 @@
 //! Paths that say something of numerical fields alone.
 ghost use Rattle.std.specs.Prelude.{◌≡◌, ℕ, ◌+◌, ◌≤◌, ◌<◌, IfOk, IfNone, OnOk, Ok, if◌then◌else◌, false, length, true};
 ghost use Rattle.std.specs.Arc.{arc_value};
+ghost use Rattle.edit_model.specs.FieldSets.{set_of};
 ghost use Rattle.edit_line.specs.EditSets.{EditsParts};
 ghost use Rattle.edit_line.specs.Lines.{HasShape};
 ghost use Rattle.edit_line.specs.Shapes.{shape_of};
@@ -15,7 +16,7 @@ ghost use Rattle.edit_paths.specs.Works.{work_of};
 ghost use Rattle.edit_paths.specs.declared.state.PathState.{PathState as State};
 ghost use Rattle.edit_paths.specs.declared.state.PathState.TheVariants.{Open};
 ghost use Rattle.localise_tree.specs.KeptFields.{KeepsChanged};
-ghost use Rattle.localise_tree.specs.inner.Bases.{HasLines, IsBasis, path_system};
+ghost use Rattle.localise_tree.specs.inner.Bases.{IsBasis, IsPathSystem, path_system};
 ghost use Rattle.localise_tree.specs.inner.Nodes.{KeepsOpen, TellsLook};
 ghost use Rattle.localise_tree.specs.inner.Problems.{IsProblem, case_in, edits_in};
 ghost use Rattle.localise_tree.specs.inner.Tries.{or_next};
@@ -28,7 +29,7 @@ use edit_line::{Derived, Line, fails};
 use edit_model::FieldSet;
 use edit_paths::PathState;
 use foundation::{OutOfMemory, Sequence, Steps};
-use linear_elim::{Held, SystemFault, Systems, pairs};
+use linear_elim::{Held, System, SystemFault, Systems, pairs};
 use std::alloc::Global;
 use std::sync::Arc;
 use std::sync::ledger::Ledger;
@@ -47,7 +48,7 @@ pub(crate) fn look_at_numbers<S: Systems, L: Ledger>(
     requires problem { IsProblem problem.now }
     requires served { S.serves source.old (edits_in problem.now) }
     requires fit { length path.now ≤ number_count (case_in problem.now) }
-    requires system { HasLines (case_in problem.now) (before_last path.now) (arc_value system.now) }
+    requires system { IsPathSystem (case_in problem.now) (before_last path.now) (arc_value system.now) }
     requires before { KeepsChanged (S.keeps source.old) (case_in problem.now) (before_last path.now) }
     requires some { 0 < most }
     ensures passed { IfOk result (λ told. IfNone told (most < work_of (case_in problem.now) path.now)) }
@@ -75,6 +76,7 @@ pub(crate) fn system_along<S: Systems, L: Ledger>(
     requires problem { IsProblem problem.now }
     requires served { S.serves source.old (edits_in problem.now) }
     ensures exact { Answers (λ held. (system_held held).lines) told_system result (path_system (case_in problem.now) letters.now) }
+    ensures system { IfOk result (IsPathSystem (case_in problem.now) letters.now) }
     ensures kept { OnOk result (KeepsChanged (S.keeps source.new) (case_in problem.now) letters.now) }
     ensures serves { (e : EditsParts) → S.serves source.old e → S.serves source.new e }
     ensures keeps { (f : ℕ) → S.keeps source.old f ≡ true → S.keeps source.new f ≡ true }
@@ -119,7 +121,7 @@ fn looked_at<S: Systems, L: Ledger>(
     requires problem { IsProblem problem.now }
     requires served { S.serves source.old (edits_in problem.now) }
     requires fit { length path.now ≤ number_count (case_in problem.now) }
-    requires system { HasLines (case_in problem.now) (before_last path.now) (arc_value system.now) }
+    requires system { IsPathSystem (case_in problem.now) (before_last path.now) (arc_value system.now) }
     requires before { KeepsChanged (S.keeps source.old) (case_in problem.now) (before_last path.now) }
     ensures work { IfOk result (λ look. look.work ≡ work) }
     ensures state { IfOk result (λ look. look.state ≡ state_of (case_in problem.now) path.now) }
@@ -177,10 +179,11 @@ fn next_system<S: Systems, L: Ledger>(
     requires problem { IsProblem problem.now }
     requires served { S.serves source.old (edits_in problem.now) }
     requires fit { length letters.now ≤ number_count (case_in problem.now) }
-    requires system { HasLines (case_in problem.now) (before_last letters.now) (arc_value before.now) }
+    requires system { IsPathSystem (case_in problem.now) (before_last letters.now) (arc_value before.now) }
     requires before { KeepsChanged (S.keeps source.old) (case_in problem.now) (before_last letters.now) }
     ensures exact { Answers (λ next. (system_held (arc_value next)).lines) told_system result
         (path_system (case_in problem.now) letters.now) }
+    ensures system { IfOk result (λ next. IsPathSystem (case_in problem.now) letters.now (arc_value next)) }
     ensures kept { OnOk result (KeepsChanged (S.keeps source.new) (case_in problem.now) letters.now) }
     ensures serves { (e : EditsParts) → S.serves source.old e → S.serves source.new e }
     ensures keeps { (f : ℕ) → S.keeps source.old f ≡ true → S.keeps source.new f ≡ true }
@@ -188,10 +191,36 @@ fn next_system<S: Systems, L: Ledger>(
     if !ends_changed(letters) {
         return Ok(share(before)?);
     }
-    match system_along(alloc, source, problem, letters, steps) {
+    match changed_system(alloc, source, problem, letters, before.system(), steps) {
         Ok(held) => Ok(alone(alloc, held)?),
         Err(fault) => Err(fault),
     }
+}
+
+// The system of a path that changes its last field, by one step from that of the path before.
+fn changed_system<S: Systems, L: Ledger>(
+    alloc: Global,
+    source: &mut S,
+    problem: &Problem,
+    letters: &[bool],
+    before: &System,
+    steps: &mut Steps<L>,
+) -> Result<Held, SystemFault>
+    requires problem { IsProblem problem.now }
+    requires served { S.serves source.old (edits_in problem.now) }
+    requires some { 0 < length letters.now }
+    requires fit { length letters.now ≤ number_count (case_in problem.now) }
+    requires changed { last_letter letters.now ≡ true }
+    requires edits { before.now.edits ≡ edits_in problem.now }
+    requires fields { before.now.fields ≡ set_of (changed_numbers (case_in problem.now) (before_last letters.now)) }
+    ensures exact { Answers (λ held. (system_held held).lines) told_system result (path_system (case_in problem.now) letters.now) }
+    ensures system { IfOk result (IsPathSystem (case_in problem.now) letters.now) }
+    ensures kept { OnOk result (KeepsChanged (S.keeps source.new) (case_in problem.now) letters.now) }
+    ensures serves { (e : EditsParts) → S.serves source.old e → S.serves source.new e }
+    ensures keeps { (f : ℕ) → S.keeps source.old f ≡ true → S.keeps source.new f ≡ true }
+{
+    let field = problem.survey.path_field((letters.len() - 1) as u32);
+    source.system_after(alloc, before, field, steps)
 }
 
 // The system, owned once more: its lines are not copied.
@@ -219,7 +248,7 @@ fn tried(
     requires problem { IsProblem problem.now }
     requires fit { length path.now ≤ number_count (case_in problem.now) }
     requires held { keeps_bad problem.now.survey.now.fields problem.now.row.now path.now ≡ false }
-    requires system { HasLines (case_in problem.now) path.now (arc_value system) }
+    requires system { IsPathSystem (case_in problem.now) path.now (arc_value system) }
     ensures work { IfOk result (λ look. look.work ≡ work) }
     ensures state { IfOk result (λ look. look.state ≡ state_of (case_in problem.now) path.now) }
     ensures basis { IfOk result (λ look. look.state ≡ Open → IsBasis (case_in problem.now) path.now look.basis) }

@@ -1,5 +1,5 @@
 ghost use Rattle.std.specs.Prelude.{◌≡◌, ◌<◌, ◌≤◌, ◌==◌, ◌&&◌, ◌||◌, ℕ, false, slice_index_or};
-ghost use Rattle.edit_model.specs.FieldSets.{has_number};
+ghost use Rattle.edit_model.specs.FieldSets.{has_number, set_of};
 ghost use Rattle.edit_line.specs.Shapes.{shape_of};
 ghost use Rattle.linear_elim.specs.Systems.{AreNumerical, chosen_fields};
 ghost use Rattle.edit_paths.specs.Paths.{changed_numbers, field_count, number_count};
@@ -38,6 +38,7 @@ pub(crate) fn field_count(problem: &Problem) -> usize
 /// The set of the numerical fields that the path changes. No memory.
 pub(crate) fn changed_numbers(problem: &Problem, letters: &[bool]) -> FieldSet
     requires { IsProblem problem.now }
+    ensures set { result ≡ set_of (changed_numbers (case_in problem.now) letters.now) }
     ensures chosen { chosen_fields (shape_of problem.now.survey.now.fields) result ≡ changed_numbers (case_in problem.now) letters.now }
     ensures numerical { AreNumerical (shape_of problem.now.survey.now.fields) result }
 {

@@ -1,3 +1,2 @@
 pub mod Donors
 pub mod Editings
-pub mod Known

@@ -6,7 +6,6 @@
 mod donation;
 mod edited;
 mod editing;
-mod known_systems;
 mod records;
 mod row_ends;
 mod terms;

@@ -13,7 +13,6 @@ ghost use Rattle.record_workers.specs.inner.Editings.{AllSayIn, AreDonationsIn, 
 
 use crate::edited::Edited;
 use crate::editing::Editing;
-use crate::known_systems::KnownSystems;
 use crate::row_ends::edit_record;
 use crate::terms::Terms;
 use donor_book::Book;
@@ -24,16 +23,18 @@ use edit_model::{Survey, Value};
 use foundation::{OutOfMemory, Steps};
 use linear_elim::Systems;
 use record_text::Sheet;
+use shared_edits::{Pool, PoolSource};
 use std::alloc::Global;
 use std::marker::Brand;
-use std::sync::Arc;
 use std::sync::ledger::{Blank, Ledger};
+use std::sync::{Arc, Wait};
 
 /// What becomes of each record of a sheet, in order: the outcome of its search by the edits, and the values of its
 /// changed fields, for which it claims a donor among the clean records. The edits are over the survey's fields, and
 /// they say of a point with codes of these what the rules say. The measure is one of the survey, and the numbers of
 /// the records have numerators below 10^21 and denominators of at most 10^6.
-pub fn edit_records<F: Fn(u32, &Value, &Value) -> u64>(
+pub fn edit_records<F: Fn(u32, &Value, &Value) -> u64, R: Wait>(
+    rt: &R,
     alloc: Global,
     survey: &Survey,
     edits: Edits,
@@ -51,11 +52,21 @@ pub fn edit_records<F: Fn(u32, &Value, &Value) -> u64>(
     ensures say { IfOk result (λ edited. AllZip (Says survey.now edits terms.budget) sheet.now.rows edited.ends.items) }
     ensures donations { IfOk result (λ edited. AreDonations survey.now sheet.now.rows terms edited.ends.items edited.history.items) }
 {
-    edited_of::<F, Brand>(alloc, survey, edits, sheet, measure, terms, Blank::new(1))
+    edited_of::<F, R, Brand>(
+        rt,
+        alloc,
+        survey,
+        edits,
+        sheet,
+        measure,
+        terms,
+        Blank::new(1),
+    )
 }
 
 // What becomes of each record of a sheet, with a ledger for the counter of the steps of its searches.
-fn edited_of<F: Fn(u32, &Value, &Value) -> u64, L: Ledger>(
+fn edited_of<F: Fn(u32, &Value, &Value) -> u64, R: Wait, L: Ledger>(
+    rt: &R,
     alloc: Global,
     survey: &Survey,
     edits: Edits,
@@ -80,7 +91,13 @@ fn edited_of<F: Fn(u32, &Value, &Value) -> u64, L: Ledger>(
     let edits = Arc::new(alloc, edits)?;
     let deck = Deck::new(alloc, survey, sheet)?;
     let mut steps = Steps::<L>::start(blank);
-    let mut source = KnownSystems::new(alloc, Arc::try_clone(&edits)?);
+    let pool = Pool::new(alloc, Arc::try_clone(&edits)?)?;
+    let mut reader = pool.reader(alloc)?;
+    let mut source = PoolSource {
+        pool: &pool,
+        reader: &mut reader,
+        rt,
+    };
     let editing = Editing {
         survey,
         edits: &edits,

@@ -1,5 +1,8 @@
 use Rattle.std.specs.Prelude.{◌≡◌, ◌<◌, ◌≤◌, Bool, List, Ok, Result, length}
 use Rattle.std.specs.Arc.{arc_value}
+use Rattle.edit_model.specs.FieldSets.{set_of}
+use Rattle.edit_line.specs.EditSets.{edits_of}
+use Rattle.edit_line.specs.Shapes.{shape_of}
 use Rattle.edit_line.specs.declared.derived.Derived.{Derived}
 use Rattle.linear_elim.specs.Helds.{system_held}
 use Rattle.linear_elim.specs.Systems.{SystemOverflow, system_of}
@@ -14,18 +17,20 @@ use Rattle.localise_tree.specs.declared.looks.Basis.TheVariants.{Boxes, Lines}
 abbrev pub path_system : SearchCase → List Bool → Result (List Derived) SystemOverflow
 path_system c path = system_of c.edits (changed_numbers c path)
 
--- this is the path's system
-abbrev pub HasLines : SearchCase → List Bool → Held → Type 0
-HasLines c path system = path_system c path ≡ Ok (system_held system).lines
+-- this is the path's system: that of the edits without the numerical fields that the path changes
+pub record IsPathSystem (c : SearchCase) (path : List Bool) (held : Held) : Type 0 where
+  pub edits : (system_held held).edits ≡ edits_of (shape_of c.survey.fields) c.edits
+  pub fields : (system_held held).fields ≡ set_of (changed_numbers c path)
+  pub lines : path_system c path ≡ Ok (system_held held).lines
 
 -- the basis is right for the path: the lines of its system, or, where it says something of all numerical fields, its boxes
 abbrev pub IsBasis : SearchCase → List Bool → Basis → Type 0
-IsBasis c path (Lines system) = (length path < number_count c) × HasLines c path (arc_value system)
+IsBasis c path (Lines system) = (length path < number_count c) × IsPathSystem c path (arc_value system)
 IsBasis c path (Boxes boxes) = (number_count c ≤ length path) × (arc_value boxes ≡ boxes_along c path)
 
 -- the basis is right for the path before its last letter
 abbrev pub IsBasisBefore : SearchCase → List Bool → Basis → Type 0
-IsBasisBefore c path (Lines system) = (length path ≤ number_count c) × HasLines c (before_last path) (arc_value system)
+IsBasisBefore c path (Lines system) = (length path ≤ number_count c) × IsPathSystem c (before_last path) (arc_value system)
 IsBasisBefore c path (Boxes boxes) = (number_count c < length path) × (arc_value boxes ≡ boxes_along c (before_last path))
 
 -- both bases have the same lines, or the same boxes

@@ -1,7 +1,8 @@
 use Rattle.std.proofs.Common.{arith}
 use Rattle.edit_model.specs.Corrections.{is_numerical}
 use Rattle.edit_model.proofs.OrderLaws.{own-number}
-use Rattle.localise_tree.proofs.ProblemLaws.{changed-chosen, changed-more, changed-numerical}
+use Rattle.localise_tree.proofs.NextFields.{changed-set}
+use Rattle.localise_tree.proofs.ProblemLaws.{changed-chosen, changed-more, changed-numerical, whole}
 use Rattle.localise_tree.specs.inner.Problems.{case_in}
 use Rattle.localise_tree.proofs.problem.changed_numbers.Goals as goal
 
@@ -20,3 +21,8 @@ returns-clause-chosen c = changed-chosen (case_in c.args.problem.now) c.numbers-
 
 pub returns-clause-numerical : goal.returns-clause-numerical
 returns-clause-numerical c = changed-numerical (case_in c.args.problem.now) c.numbers-field-items.result.now c.numbers-field-items.ensures c.args.letters.now c.loop-place.place c.loop-place.set c.loop-place-test.false c.loop-place.invariant
+
+pub returns-clause-set : goal.returns-clause-set
+returns-clause-set c =
+    changed-set (case_in c.args.problem.now) c.args.letters.now c.loop-place.set
+    (whole (case_in c.args.problem.now) c.numbers-field-items.result.now c.numbers-field-items.ensures c.args.letters.now c.loop-place.place c.loop-place.set c.loop-place-test.false c.loop-place.invariant)

@@ -1,0 +1,249 @@
+//! The trade survey's systems in a pool: obtained and kept there, and found by another reader.
+ghost use Rattle.std.specs.Prelude.{◌≡◌, ◌<◌, [], IfOk};
+ghost use Rattle.std.specs.Arc.{arc_value};
+ghost use Rattle.linear_elim.specs.Systems.{AreNumerical};
+ghost use Rattle.shared_edits.specs.Pools.{IsReaderOf};
+
+use super::reading::{LinePlan, TRADE, edits_of, is_line, number_set, rule_lines, survey_of};
+use edit_line::Edits;
+use edit_model::FieldSet;
+use foundation::Steps;
+use linear_elim::{Held, System, fold_system};
+use shared_edits::{Pool, Published, Reader};
+use std::alloc::Global;
+use std::marker::Brand;
+use std::sync::ledger::{Blank, Ledger};
+use std::sync::{Arc, Wait};
+use std::test::Fail;
+use std::thread;
+use std::thread::Threads;
+
+/// The lines without Costs.
+const WITHOUT_COSTS: &[LinePlan] = &[
+    (&[], &[1, 0, 0], 0, false),
+    (&[], &[3, 0, -5], 0, false),
+    (&[], &[1, 0, -1], 0, false),
+];
+
+/// The line without Costs and Profit.
+const WITHOUT_BOTH: &[LinePlan] = &[(&[], &[1, 0, 0], 0, false)];
+
+/// The edits of the trade survey, and the sets of Costs and of Costs and Profit.
+#[derive(Drop)]
+struct Trade {
+    edits: Arc<Edits>,
+    costs: FieldSet,
+    both: FieldSet,
+    ghost one: { AreNumerical (arc_value edits).shape costs },
+    ghost two: { AreNumerical (arc_value edits).shape both },
+}
+
+fn read_trade(alloc: Global) -> Result<Trade, Fail> {
+    let survey = survey_of(alloc, TRADE)?;
+    let lines = rule_lines(alloc, &survey)?;
+    Ok(Trade {
+        edits: edits_of(alloc, &survey, &lines)?,
+        costs: number_set(&survey, &[1])?,
+        both: number_set(&survey, &[1, 2])?,
+    })
+}
+
+/// Whether the system has these lines.
+fn has_lines(system: &System, wanted: &[LinePlan]) -> bool {
+    let lines = system.lines();
+    lines.len() == wanted.len()
+        && lines
+            .iter()
+            .zip(wanted)
+            .all(|(derived, plan)| is_line(&derived.line, plan))
+}
+
+/// Whether the system is shared, and has these lines.
+fn is_shared(held: &Held, wanted: &[LinePlan]) -> bool {
+    match held {
+        Held::Shared(system) => has_lines(system, wanted),
+        Held::Own(_) => false,
+    }
+}
+
+/// Whether the reader is answered the system with these lines, shared with the pool.
+fn obtains<R: Wait, L: Ledger>(
+    rt: &R,
+    alloc: Global,
+    pool: &Pool,
+    reader: &mut Reader,
+    fields: FieldSet,
+    wanted: &[LinePlan],
+    steps: &mut Steps<L>,
+) -> bool
+    requires numerical { AreNumerical pool.now.edits.shape fields }
+    requires reader { IsReaderOf pool.now reader.old }
+    ensures { IsReaderOf pool.now reader.new }
+{
+    match pool.obtain(rt, alloc, reader, fields, steps) {
+        Ok(held) => is_shared(&held, wanted),
+        Err(_) => false,
+    }
+}
+
+/// Whether it is answered the system without Costs, and then the one without Costs and Profit.
+fn obtains_both<R: Wait, L: Ledger>(
+    rt: &R,
+    alloc: Global,
+    pool: &Pool,
+    reader: &mut Reader,
+    trade: &Trade,
+    steps: &mut Steps<L>,
+) -> bool
+    requires edits { pool.now.edits ≡ arc_value trade.now.edits }
+    requires reader { IsReaderOf pool.now reader.old }
+    ensures { IsReaderOf pool.now reader.new }
+{
+    if !obtains(rt, alloc, pool, reader, trade.costs, WITHOUT_COSTS, steps) {
+        return false;
+    }
+    obtains(rt, alloc, pool, reader, trade.both, WITHOUT_BOTH, steps)
+}
+
+/// Whether the reader finds the system with these lines.
+fn finds(pool: &Pool, reader: &mut Reader, fields: FieldSet, wanted: &[LinePlan]) -> bool
+    requires { IsReaderOf pool.now reader.old }
+    ensures { IsReaderOf pool.now reader.new }
+{
+    match pool.find(reader, fields) {
+        Some(system) => has_lines(system, wanted),
+        None => false,
+    }
+}
+
+/// A pool for these edits.
+fn pool_of(alloc: Global, edits: &Arc<Edits>) -> Result<Pool, Fail>
+    ensures { IfOk result (λ pool. pool.edits ≡ arc_value edits.now) }
+{
+    let edits = Arc::try_clone(edits)?;
+    Ok(Pool::new(alloc, edits).ok().ok_or("memory")?)
+}
+
+/// A reader of the pool.
+fn reader_of(alloc: Global, pool: &Pool) -> Result<Reader, Fail>
+    ensures { IfOk result (λ reader. reader ≡ []) }
+{
+    Ok(pool.reader(alloc).ok().ok_or("memory")?)
+}
+
+/// Whether a new pool has no system; then one reader is answered the systems of both sets, twice; and then another reader
+/// finds the first.
+fn are_kept<R: Wait, L: Ledger>(rt: &R, alloc: Global, blank: Blank) -> Result<bool, Fail>
+    requires name { blank.name ≡ L.name }
+    requires parts { blank.parts ≡ L.parts }
+    requires counts { 0 < blank.parts }
+{
+    let trade = read_trade(alloc)?;
+    let pool = pool_of(alloc, &trade.edits)?;
+    let mut first = reader_of(alloc, &pool)?;
+    let mut second = reader_of(alloc, &pool)?;
+    let mut steps = Steps::<L>::start(blank);
+    if pool.find(&mut first, trade.costs).is_some() {
+        return Ok(false);
+    }
+    if !obtains_both(rt, alloc, &pool, &mut first, &trade, &mut steps) {
+        return Ok(false);
+    }
+    if !obtains_both(rt, alloc, &pool, &mut first, &trade, &mut steps) {
+        return Ok(false);
+    }
+    Ok(finds(&pool, &mut second, trade.costs, WITHOUT_COSTS))
+}
+
+#[test]
+fn systems_are_kept_for_other_readers(rt: HostRuntime) -> Result<(), Fail> {
+    assert!(rt; are_kept::<HostRuntime, Brand>(&rt, rt.alloc(), Blank::new(1))?);
+    Ok(())
+}
+
+/// Whether a system that was folded is stored, and then found.
+fn is_published<R: Wait, L: Ledger>(rt: &R, alloc: Global, blank: Blank) -> Result<bool, Fail>
+    requires name { blank.name ≡ L.name }
+    requires parts { blank.parts ≡ L.parts }
+    requires counts { 0 < blank.parts }
+{
+    let trade = read_trade(alloc)?;
+    let pool = pool_of(alloc, &trade.edits)?;
+    let mut reader = reader_of(alloc, &pool)?;
+    let mut steps = Steps::<L>::start(blank);
+    let system = fold_system(alloc, &trade.edits, trade.both, &mut steps)
+        .ok()
+        .ok_or("a system")?;
+    match pool
+        .publish(rt, alloc, &mut reader, system)
+        .ok()
+        .ok_or("memory")?
+    {
+        Published::Stored(_) => Ok(finds(&pool, &mut reader, trade.both, WITHOUT_BOTH)),
+        Published::Full(_) => Ok(false),
+    }
+}
+
+#[test]
+fn a_system_is_published(rt: HostRuntime) -> Result<(), Fail> {
+    assert!(rt; is_published::<HostRuntime, Brand>(&rt, rt.alloc(), Blank::new(1))?);
+    Ok(())
+}
+
+/// Whether a reader of its own is answered both systems.
+fn works<R: Wait, L: Ledger>(
+    rt: &R,
+    alloc: Global,
+    pool: &Pool,
+    mut reader: Reader,
+    trade: &Trade,
+    blank: Blank,
+) -> bool
+    requires name { blank.name ≡ L.name }
+    requires parts { blank.parts ≡ L.parts }
+    requires counts { 0 < blank.parts }
+    requires edits { pool.now.edits ≡ arc_value trade.now.edits }
+    requires reader { IsReaderOf pool.now reader }
+{
+    let mut steps = Steps::<L>::start(blank);
+    obtains_both(rt, alloc, pool, &mut reader, trade, &mut steps)
+}
+
+/// The same, where nothing is counted.
+fn works_alone<R: Wait>(
+    rt: &R,
+    alloc: Global,
+    pool: &Pool,
+    reader: Reader,
+    trade: &Trade,
+) -> bool
+    requires edits { pool.now.edits ≡ arc_value trade.now.edits }
+    requires reader { IsReaderOf pool.now reader }
+{
+    works::<R, Brand>(rt, alloc, pool, reader, trade, Blank::new(1))
+}
+
+/// Whether two threads that share a pool are both answered both systems.
+fn work_side_by_side<R: Threads + Wait + Sync>(rt: &R, alloc: Global) -> Result<bool, Fail> {
+    let trade = read_trade(alloc)?;
+    let pool = pool_of(alloc, &trade.edits)?;
+    let first = reader_of(alloc, &pool)?;
+    let second = reader_of(alloc, &pool)?;
+    let (shared, edits) = (&pool, &trade);
+    let (one, other) = thread::join(
+        rt,
+        move || -> bool
+            requires { (shared.now.edits ≡ arc_value edits.now.edits) × IsReaderOf shared.now first }
+        { works_alone(rt, alloc, shared, first, edits) },
+        move || -> bool
+            requires { (shared.now.edits ≡ arc_value edits.now.edits) × IsReaderOf shared.now second }
+        { works_alone(rt, alloc, shared, second, edits) },
+    );
+    Ok(one && other)
+}
+
+#[test]
+fn threads_share_a_pool(rt: HostRuntime) -> Result<(), Fail> {
+    assert!(rt; work_side_by_side(&rt, rt.alloc())?);
+    Ok(())
+}

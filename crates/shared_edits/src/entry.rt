@@ -1,0 +1,22 @@
+ghost use Rattle.std.specs.Prelude.{◌≡◌, length};
+ghost use Rattle.std.specs.Arc.{arc_value};
+ghost use Rattle.linear_elim.specs.Systems.{IsSystem};
+
+use boxcar::Pushed;
+use edit_model::FieldSet;
+use linear_elim::System;
+use std::sync::Arc;
+
+/// An entry that a reader has walked: what shows it, whether the reader published it, whether its edits are the pool's, the
+/// fields of its system, and how many lines that has.
+#[derive(Drop)]
+pub(crate) struct Entry {
+    pub(crate) token: Pushed<Arc<System>>,
+    pub(crate) own: bool,
+    pub(crate) fits: bool,
+    pub(crate) fields: FieldSet,
+    pub(crate) lines: u64,
+    pub(crate) ghost system: { IsSystem (arc_value token.value) },
+    pub(crate) ghost carried: { fields ≡ (arc_value token.value).fields },
+    pub(crate) ghost counted: { lines ≡ length (arc_value token.value).lines },
+}

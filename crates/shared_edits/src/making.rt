@@ -1,0 +1,69 @@
+//! Systems that a reader does not know: each is made from the system of the most first fields that it knows.
+ghost use Rattle.std.specs.Prelude.{◌≡◌, ◌+◌, ◌≤◌, ℕ, IfOk, map};
+ghost use Rattle.edit_model.specs.FieldSets.{without_number};
+ghost use Rattle.linear_elim.specs.Answers.{Answers};
+ghost use Rattle.linear_elim.specs.LastFields.{IsFirstOf, IsLast};
+ghost use Rattle.linear_elim.specs.Systems.{AreNumerical, pairs_at, system_at};
+ghost use Rattle.linear_elim.specs.Told.{told_system};
+ghost use Rattle.shared_edits.specs.Pools.{IsReaderOf, Knows};
+ghost use Rattle.shared_edits.specs.inner.Entries.{walked_of};
+
+use crate::entry::Entry;
+use crate::pool::Pool;
+use edit_model::FieldSet;
+use foundation::Steps;
+use linear_elim::{System, SystemFault, extend, fold_system, last_field};
+use std::alloc::Global;
+use std::sync::ledger::Ledger;
+
+impl Pool {
+    /// The system of the pool's edits without these fields, by one step for each field that is past those of a walked system.
+    pub(crate) fn make<L: Ledger>(
+        &self,
+        alloc: Global,
+        entries: &[Entry],
+        fields: FieldSet,
+        steps: &mut Steps<L>,
+    ) -> Result<System, SystemFault>
+        requires numerical { AreNumerical self.now.edits.shape fields }
+        requires entries { IsReaderOf self.now (map walked_of entries.now) }
+        requires unknown { ¬ Knows self.now fields (map walked_of entries.now) }
+        ensures edits { IfOk result (λ system. system.edits ≡ self.now.edits) }
+        ensures fields { IfOk result (λ system. system.fields ≡ fields) }
+        ensures exact { Answers (λ system. system.lines) told_system result (system_at self.now.edits fields) }
+        ensures few { steps.new ≤ steps.old + pairs_at self.now.edits fields }
+        ensures onwards { (first : ℕ) → IsFirstOf first fields → Knows self.now first (map walked_of entries.now)
+            → steps.new + pairs_at self.now.edits first ≤ steps.old + pairs_at self.now.edits fields }
+    {
+        let Some(last) = last_field(self.edits(), fields) else {
+            return fold_system(alloc, self.edits(), fields, steps);
+        };
+        let others = fields.without(last);
+        if let Some(system) = self.known(entries, others) {
+            return with_last(alloc, system, fields, last, steps);
+        }
+        match self.make(alloc, entries, others, steps) {
+            Ok(system) => with_last(alloc, &system, fields, last, steps),
+            Err(fault) => Err(fault),
+        }
+    }
+}
+
+// The system without the last field of the set too, from the one without the others.
+fn with_last<L: Ledger>(
+    alloc: Global,
+    others: &System,
+    fields: FieldSet,
+    last: u32,
+    steps: &mut Steps<L>,
+) -> Result<System, SystemFault>
+    requires numerical { AreNumerical others.now.edits.shape fields }
+    requires last { IsLast fields last }
+    requires others { others.now.fields ≡ without_number fields last }
+    ensures edits { IfOk result (λ system. system.edits ≡ others.now.edits) }
+    ensures fields { IfOk result (λ system. system.fields ≡ fields) }
+    ensures exact { Answers (λ system. system.lines) told_system result (system_at others.now.edits fields) }
+    ensures few { steps.new + pairs_at others.now.edits (without_number fields last) ≤ steps.old + pairs_at others.now.edits fields }
+{
+    extend(alloc, others, last, steps)
+}

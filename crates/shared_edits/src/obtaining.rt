@@ -1,0 +1,121 @@
+//! Systems that are found in the pool, or else made and published.
+ghost use Rattle.std.specs.Prelude.{◌≡◌, ◌+◌, ◌≤◌, ℕ, IfOk, OnErr};
+ghost use Rattle.std.specs.Arc.{arc_value};
+ghost use Rattle.edit_model.specs.FieldSets.{with_number};
+ghost use Rattle.edit_line.specs.Shapes.{IsNumerical};
+ghost use Rattle.linear_elim.specs.Answers.{Answers};
+ghost use Rattle.linear_elim.specs.Helds.{system_held};
+ghost use Rattle.linear_elim.specs.LastFields.{IsFirstOf, IsPast};
+ghost use Rattle.linear_elim.specs.Steps.{pairs_count};
+ghost use Rattle.linear_elim.specs.Systems.{AreNumerical, pairs_at, system_at};
+ghost use Rattle.linear_elim.specs.Told.{told_system};
+ghost use Rattle.shared_edits.specs.Pools.{IsReaderOf, Knows};
+ghost use Rattle.shared_edits.specs.Walks.{IsKept, WalksAndObtains, WalksOn};
+
+use crate::pool::Pool;
+use crate::publication::{PublishFault, Published};
+use crate::reader::Reader;
+use edit_model::FieldSet;
+use foundation::{OutOfMemory, Steps};
+use linear_elim::{Held, System, SystemFault, extend};
+use std::alloc::Global;
+use std::sync::ledger::Ledger;
+use std::sync::{Arc, Wait};
+
+impl Pool {
+    /// The system of the pool's edits without these fields, which are all numerical, as the fold answers it: one that the
+    /// reader has walked by now, or else one that is made and then published. No step is counted for the first fields of the
+    /// set whose system the reader knew, so none where it knew the system itself.
+    pub fn obtain<R: Wait, L: Ledger>(
+        &self,
+        rt: &R,
+        alloc: Global,
+        reader: &mut Reader,
+        fields: FieldSet,
+        steps: &mut Steps<L>,
+    ) -> Result<Held, SystemFault>
+        requires numerical { AreNumerical self.now.edits.shape fields }
+        requires reader { IsReaderOf self.now reader.old }
+        ensures reader { IsReaderOf self.now reader.new }
+        ensures edits { IfOk result (λ held. (system_held held).edits ≡ self.now.edits) }
+        ensures fields { IfOk result (λ held. (system_held held).fields ≡ fields) }
+        ensures exact { Answers (λ held. (system_held held).lines) told_system result (system_at self.now.edits fields) }
+        ensures obtained { IfOk result (λ held. WalksAndObtains self.now fields reader.old held reader.new) }
+        ensures refused { OnErr result (WalksOn reader.old reader.new) }
+        ensures few { steps.new ≤ steps.old + pairs_at self.now.edits fields }
+        ensures onwards { (first : ℕ) → IsFirstOf first fields → Knows self.now first reader.old
+            → steps.new + pairs_at self.now.edits first ≤ steps.old + pairs_at self.now.edits fields }
+        ensures known { Knows self.now fields reader.old → steps.new ≡ steps.old }
+    {
+        if let Some(system) = self.find(reader, fields) {
+            return Ok(Held::Shared(share(system)?));
+        }
+        match self.make(alloc, reader.walked.as_slice(), fields, steps) {
+            Ok(system) => Ok(self.keep(rt, alloc, reader, system)?),
+            Err(fault) => Err(fault),
+        }
+    }
+
+    /// The system with one numerical field more than `before`, which is past all fields of that: one that the reader has
+    /// walked by now, or else one that is made from `before` by one step and then published.
+    pub fn obtain_after<R: Wait, L: Ledger>(
+        &self,
+        rt: &R,
+        alloc: Global,
+        reader: &mut Reader,
+        before: &System,
+        field: u32,
+        steps: &mut Steps<L>,
+    ) -> Result<Held, SystemFault>
+        requires edits { before.now.edits ≡ self.now.edits }
+        requires numerical { IsNumerical self.now.edits.shape field }
+        requires past { IsPast before.now.fields field }
+        requires reader { IsReaderOf self.now reader.old }
+        ensures reader { IsReaderOf self.now reader.new }
+        ensures edits { IfOk result (λ held. (system_held held).edits ≡ self.now.edits) }
+        ensures fields { IfOk result (λ held. (system_held held).fields ≡ with_number before.now.fields field) }
+        ensures exact { Answers (λ held. (system_held held).lines) told_system result
+            (system_at self.now.edits (with_number before.now.fields field)) }
+        ensures obtained { IfOk result (λ held. WalksAndObtains self.now (with_number before.now.fields field) reader.old held reader.new) }
+        ensures refused { OnErr result (WalksOn reader.old reader.new) }
+        ensures few { steps.new ≤ steps.old + pairs_count before.now.lines field }
+        ensures known { Knows self.now (with_number before.now.fields field) reader.old → steps.new ≡ steps.old }
+    {
+        if let Some(system) = self.find(reader, before.fields_with(field)) {
+            return Ok(Held::Shared(share(system)?));
+        }
+        match extend(alloc, before, field, steps) {
+            Ok(system) => Ok(self.keep(rt, alloc, reader, system)?),
+            Err(fault) => Err(fault),
+        }
+    }
+
+    // A system that was made, which is published or the caller's own.
+    fn keep<R: Wait>(
+        &self,
+        rt: &R,
+        alloc: Global,
+        reader: &mut Reader,
+        system: System,
+    ) -> Result<Held, OutOfMemory>
+        requires reader { IsReaderOf self.now reader.old }
+        requires edits { system.edits ≡ self.now.edits }
+        ensures reader { IsReaderOf self.now reader.new }
+        ensures held { IfOk result (λ held. system_held held ≡ system) }
+        ensures kept { IfOk result (λ held. IsKept held reader.old reader.new) }
+        ensures refused { OnErr result (reader.new ≡ reader.old) }
+    {
+        match self.publish(rt, alloc, reader, system) {
+            Ok(Published::Stored(shared)) => Ok(Held::Shared(shared)),
+            Ok(Published::Full(system)) => Ok(Held::Own(system)),
+            Err(PublishFault::OutOfMemory(_)) => Err(OutOfMemory),
+        }
+    }
+}
+
+// One more owner of a system.
+fn share(system: &Arc<System>) -> Result<Arc<System>, OutOfMemory>
+    ensures { IfOk result (λ other. arc_value other ≡ arc_value system.now) }
+{
+    Ok(Arc::try_clone(system)?)
+}

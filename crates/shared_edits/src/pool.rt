@@ -1,0 +1,206 @@
+ghost use Rattle.std.specs.Prelude.{◌≡◌, ◌<◌, ◌≤◌, [], false, IfErr, IfNone, IfOk, IfSome, MatchBool, Ok, OnErr, length, map};
+ghost use Rattle.std.specs.Arc.{arc_value};
+ghost use Rattle.boxcar.specs.Table.{Shows};
+ghost use Rattle.edit_model.specs.FieldSets.{with_number, without_number};
+ghost use Rattle.edit_line.specs.Shapes.{IsNumerical};
+ghost use Rattle.linear_elim.specs.Answers.{Answers};
+ghost use Rattle.linear_elim.specs.Helds.{system_held};
+ghost use Rattle.linear_elim.specs.LastFields.{IsLast, IsPast};
+ghost use Rattle.linear_elim.specs.Steps.{pairs_count};
+ghost use Rattle.linear_elim.specs.Systems.{AreNumerical, pairs_at, system_at};
+ghost use Rattle.linear_elim.specs.Told.{told_system};
+ghost use Rattle.shared_edits.specs.Pools.{IsOf, IsReaderOf, Knows};
+ghost use Rattle.shared_edits.specs.Walks.{IsKept, IsPublished, WalksAndObtains, WalksOn, handed_back};
+ghost use Rattle.shared_edits.specs.inner.Entries.{WalksAt, walked_of};
+
+use crate::entry::Entry;
+use crate::publication::{PublishFault, Published};
+use crate::reader::{MOST_WALKED, Reader, has_own, is_full, own_entry, place_of};
+use boxcar::Pushed;
+use edit_line::Edits;
+use edit_model::FieldSet;
+use foundation::{OutOfMemory, Steps};
+use linear_elim::{Held, System, SystemFault, extend, fold_system, last_field};
+use std::alloc::Global;
+use std::marker::Model;
+use std::sync::ledger::Ledger;
+use std::sync::{Arc, Wait};
+
+/// The derived systems of some edits that were published so far. Threads share it through a `&`.
+#[derive(Drop)]
+pub struct Pool {
+    entries: boxcar::Vec<Arc<System>>,
+    edits: Arc<Edits>,
+}
+
+impl Model for Pool {
+    ghost use Rattle.std.specs.Arc.{arc_value};
+    ghost use Rattle.shared_edits.specs.Pools.{PoolParts};
+
+    ghost Value = { PoolParts };
+
+    ghost view = { λ p. record { entries = p.entries; edits = arc_value p.edits } };
+}
+
+impl Pool {
+    /// A pool for the systems of these edits.
+    pub fn new(alloc: Global, edits: Arc<Edits>) -> Result<Pool, OutOfMemory>
+        ensures { IfOk result (λ pool. pool.edits ≡ arc_value edits) }
+    {
+        Ok(Pool {
+            entries: boxcar::Vec::new(alloc)?,
+            edits,
+        })
+    }
+
+    /// The edits. No memory.
+    pub fn edits(&self) -> &Arc<Edits>
+        ensures { arc_value result.now ≡ self.now.edits }
+    {
+        &self.edits
+    }
+
+    /// A reader that has walked nothing. The room for all its walks is taken here.
+    pub fn reader(&self, alloc: Global) -> Result<Reader, OutOfMemory>
+        ensures { IfOk result (λ reader. reader ≡ []) }
+    {
+        Ok(Reader {
+            walked: Vec::with_capacity(alloc, MOST_WALKED)?,
+            next: 0,
+        })
+    }
+
+    // An entry that another reader published. Its edits are compared here, once.
+    fn entry_of(&self, token: Pushed<Arc<System>>) -> Entry
+        requires { Shows self.now.entries token }
+        ensures of { IsOf self.now (walked_of result) }
+        ensures token { result.token ≡ token }
+        ensures own { result.own ≡ false }
+    {
+        let system = self.entries.value(&token);
+        Entry {
+            own: false,
+            fits: system.edits().same(&self.edits),
+            fields: system.fields(),
+            lines: system.lines().len() as u64,
+            token,
+        }
+    }
+
+    // The system at a walked entry.
+    fn system_at<'a>(&'a self, entry: &Entry) -> &'a Arc<System>
+        requires { Shows self.now.entries entry.now.token }
+        ensures { result.now ≡ entry.now.token.value }
+    {
+        self.entries.value(&entry.token)
+    }
+
+    /// The system without these fields, if it is that of a walked entry.
+    pub(crate) fn known<'a>(
+        &'a self,
+        entries: &[Entry],
+        fields: FieldSet,
+    ) -> Option<&'a Arc<System>>
+        requires { IsReaderOf self.now (map walked_of entries.now) }
+        ensures edits { IfSome result (λ system. (arc_value system.now).edits ≡ self.now.edits) }
+        ensures fields { IfSome result (λ system. (arc_value system.now).fields ≡ fields) }
+        ensures exact { IfSome result (λ system. system_at self.now.edits fields ≡ Ok (arc_value system.now).lines) }
+        ensures known { IfSome result (λ _. Knows self.now fields (map walked_of entries.now)) }
+        ensures none { IfNone result (¬ Knows self.now fields (map walked_of entries.now)) }
+    {
+        let place = place_of(entries, fields)?;
+        Some(self.system_at(&entries[place]))
+    }
+
+    // Walks the entry at this index, unless it is the reader's own. False where there is none yet.
+    fn walk_at(&self, walked: &mut Vec<Entry>, index: usize) -> bool
+        requires { length walked.old.items < walked.old.cap }
+        ensures room { walked.new.cap ≡ walked.old.cap }
+        ensures entry { MatchBool result (WalksAt self.now index walked.old.items walked.new.items) (walked.new.items ≡ walked.old.items) }
+    {
+        let Some(token) = self.entries.witness(index) else {
+            return false;
+        };
+        if !has_own(walked.as_slice(), index) {
+            walked.push_reserved(self.entry_of(token));
+        }
+        true
+    }
+
+    // Walks the entries that are new to the reader, up to the first that is not there.
+    fn walk(&self, reader: &mut Reader)
+        requires { IsReaderOf self.now reader.old }
+        ensures reader { IsReaderOf self.now reader.new }
+        ensures walked { WalksOn reader.old reader.new }
+        ensures few { length reader.new ≤ 4160 }
+    {
+        while reader.next < MOST_WALKED && reader.walked.len() < MOST_WALKED {
+            if !self.walk_at(&mut reader.walked, reader.next) {
+                return;
+            }
+            reader.next += 1;
+        }
+    }
+
+    /// The system without these fields, if the reader has walked it by now. It walks the entries that are new to it, up to
+    /// index 4,159, and 4,160 entries at most. No memory, and it waits for nobody.
+    pub fn find<'a>(&'a self, reader: &mut Reader, fields: FieldSet) -> Option<&'a Arc<System>>
+        requires { IsReaderOf self.now reader.old }
+        ensures reader { IsReaderOf self.now reader.new }
+        ensures walked { WalksOn reader.old reader.new }
+        ensures few { length reader.new ≤ 4160 }
+        ensures edits { IfSome result (λ system. (arc_value system.now).edits ≡ self.now.edits) }
+        ensures fields { IfSome result (λ system. (arc_value system.now).fields ≡ fields) }
+        ensures exact { IfSome result (λ system. system_at self.now.edits fields ≡ Ok (arc_value system.now).lines) }
+        ensures known { IfSome result (λ _. Knows self.now fields reader.new) }
+        ensures none { IfNone result (¬ Knows self.now fields reader.new) }
+    {
+        self.walk(reader);
+        self.known(reader.walked.as_slice(), fields)
+    }
+
+    /// Stores a system of the pool's edits for all readers, unless this reader has walked 4,096 entries, or they have more
+    /// than 200,000 lines with those of the system.
+    pub fn publish<R: Wait>(
+        &self,
+        rt: &R,
+        alloc: Global,
+        reader: &mut Reader,
+        system: System,
+    ) -> Result<Published, PublishFault>
+        requires reader { IsReaderOf self.now reader.old }
+        requires edits { system.edits ≡ self.now.edits }
+        ensures reader { IsReaderOf self.now reader.new }
+        ensures answer { IfOk result (λ published. IsPublished system reader.old published reader.new) }
+        ensures refused { OnErr result (reader.new ≡ reader.old) }
+        ensures back { IfErr result (λ fault. handed_back fault ≡ system) }
+    {
+        let count = system.lines().len() as u64;
+        if is_full(reader.walked.as_slice(), count) {
+            return Ok(Published::Full(system));
+        }
+        let fields = system.fields();
+        let shared = share_new(alloc, system)?;
+        let Ok(kept) = Arc::try_clone(&shared) else {
+            return Err(PublishFault::OutOfMemory(Held::Shared(shared)));
+        };
+        match self.entries.push_shown(rt, shared) {
+            Ok(token) => {
+                reader.walked.push_reserved(own_entry(token, fields, count));
+                Ok(Published::Stored(kept))
+            }
+            Err(back) => Err(PublishFault::OutOfMemory(Held::Shared(back))),
+        }
+    }
+}
+
+// The system, to be shared.
+fn share_new(alloc: Global, system: System) -> Result<Arc<System>, PublishFault>
+    ensures shared { IfOk result (λ shared. arc_value shared ≡ system) }
+    ensures back { IfErr result (λ fault. handed_back fault ≡ system) }
+{
+    match Arc::new(alloc, system) {
+        Ok(shared) => Ok(shared),
+        Err(refused) => Err(PublishFault::OutOfMemory(Held::Own(refused.value))),
+    }
+}

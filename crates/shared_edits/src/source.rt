@@ -1,0 +1,48 @@
+use crate::pool::Pool;
+use crate::reader::Reader;
+use edit_line::Edits;
+use edit_model::FieldSet;
+use foundation::Steps;
+use linear_elim::{Held, System, SystemFault, Systems};
+use std::alloc::Global;
+use std::sync::ledger::Ledger;
+use std::sync::{Arc, Wait};
+
+/// A pool, and what one worker has walked of it, as a source of systems: those of the pool's edits, where the reader is of
+/// this pool. It keeps the systems that the reader knows, and all where the reader publishes no more.
+#[derive(Drop)]
+pub struct PoolSource<'a, R: Wait> {
+    pub pool: &'a Pool,
+    pub reader: &'a mut Reader,
+    pub rt: &'a R,
+}
+
+impl<'a, R: Wait> Systems for PoolSource<'a, R> {
+    ghost use Rattle.std.specs.Prelude.{◌≡◌};
+    ghost use Rattle.shared_edits.specs.Pools.{IsReaderOf, keeps_fields};
+
+    ghost serves = { λ s edits. (edits ≡ s.pool.now.edits) × IsReaderOf s.pool.now s.reader.now };
+
+    ghost keeps = { λ s fields. keeps_fields s.pool.now fields s.reader.now };
+
+    fn system<L: Ledger>(
+        &mut self,
+        alloc: Global,
+        _edits: &Arc<Edits>,
+        fields: FieldSet,
+        steps: &mut Steps<L>,
+    ) -> Result<Held, SystemFault> {
+        self.pool.obtain(self.rt, alloc, self.reader, fields, steps)
+    }
+
+    fn system_after<L: Ledger>(
+        &mut self,
+        alloc: Global,
+        before: &System,
+        field: u32,
+        steps: &mut Steps<L>,
+    ) -> Result<Held, SystemFault> {
+        self.pool
+            .obtain_after(self.rt, alloc, self.reader, before, field, steps)
+    }
+}
