@@ -28,9 +28,11 @@ use foundation::OutOfMemory;
 use record_text::Sheet;
 use record_workers::Terms;
 use std::alloc::Global;
+use std::sync::Wait;
 
 /// Edits what the words ask for, and prints the summary, or why the run is refused.
-pub(crate) fn run_edit<D: Desk, P: Printer>(
+pub(crate) fn run_edit<D: Desk, P: Printer, R: Wait>(
+    rt: &R,
     alloc: Global,
     asked: &EditWords,
     desk: &mut D,
@@ -42,7 +44,7 @@ pub(crate) fn run_edit<D: Desk, P: Printer>(
     ensures complete { IsEditComplete asked.now result (ran D.Desk P.Printer desk printer) }
     ensures due { IfSome (D.files desk.old) (λ files. AnswersDue (IsDue asked.now files) result) }
 {
-    match edit(alloc, asked, desk) {
+    match edit(rt, alloc, asked, desk) {
         Ok(release) => tell_all(printer, &release.summary, status_of(&release)),
         Err(refusal) => refuse(printer, refusal.line(), refusal.status()),
     }
@@ -60,7 +62,8 @@ fn status_of(release: &Release) -> Status
 }
 
 // Does on the desk all that an edit does there, up to the first fault.
-fn edit<'a, D: Desk>(
+fn edit<'a, D: Desk, R: Wait>(
+    rt: &R,
     alloc: Global,
     asked: &EditWords<'a>,
     desk: &mut D,
@@ -74,7 +77,7 @@ fn edit<'a, D: Desk>(
 {
     let survey = fetch_survey(alloc, asked.rules, desk)?;
     let sheet = fetch_sheet(alloc, asked.records, &survey, desk)?;
-    let Ok(release) = release_of(alloc, &survey, &sheet, terms_asked(asked)) else {
+    let Ok(release) = release_of(rt, alloc, &survey, &sheet, terms_asked(asked)) else {
         return Err(Refusal::out_of_memory());
     };
     store_release(alloc, asked, &release, desk)?;
@@ -94,7 +97,8 @@ fn terms_asked(asked: &EditWords) -> Terms
 }
 
 // What the edit of the sheet releases. How far records are apart is told by the distances of their fields' values.
-fn release_of(
+fn release_of<R: Wait>(
+    rt: &R,
     alloc: Global,
     survey: &Survey,
     sheet: &Sheet,
@@ -108,5 +112,5 @@ fn release_of(
     let measure = Measure::new(survey, |field: u32, first: &Value, second: &Value| {
         field_distance(survey, field, first, second)
     });
-    edit_sheet(alloc, survey, sheet, &measure, terms)
+    edit_sheet(rt, alloc, survey, sheet, &measure, terms)
 }

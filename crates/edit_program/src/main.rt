@@ -26,9 +26,12 @@ fn main(rt: HostRuntime) -> ExitCode {
     let Ok(out) = rt.clone() else {
         return ExitCode::from(Status::OutOfMemory.number());
     };
+    let Ok(files) = rt.clone() else {
+        return ExitCode::from(Status::OutOfMemory.number());
+    };
     let mut printer = OutPrinter::new(out);
     let status = match words::after_program_name(&rt) {
-        Ok(words) => run::fh_main(alloc, &words, &mut FileDesk::new(rt), &mut printer),
+        Ok(words) => run::fh_main(&rt, alloc, &words, &mut FileDesk::new(files), &mut printer),
         Err(status) => telling::refuse_words(&mut printer, status),
     };
     ExitCode::from(status.number())

@@ -18,12 +18,14 @@ use pruned_rules::prune_rules;
 use record_text::Sheet;
 use record_workers::{Terms, edit_records};
 use std::alloc::Global;
+use std::sync::Wait;
 
 /// The edit of a sheet of the survey's records on these terms: a budget from 1 to 1,000,000,000, a limit from 1 to
 /// 1,000, and 1 to 64 donors that a record ranks. Lines of the rules that follow from the others are dropped first, and
 /// the records are searched by those that are kept. The measure, by which the nearest donors are found, is one of the
 /// survey, and the numbers of the records have numerators below 10^21 and denominators of at most 10^6.
-pub fn edit_sheet<F: Fn(u32, &Value, &Value) -> u64>(
+pub fn edit_sheet<F: Fn(u32, &Value, &Value) -> u64, R: Wait>(
+    rt: &R,
     alloc: Global,
     survey: &Survey,
     sheet: &Sheet,
@@ -41,7 +43,7 @@ pub fn edit_sheet<F: Fn(u32, &Value, &Value) -> u64>(
     let _fields = survey.fields(); // read for what it says: the survey is well formed
     let pruned = prune_rules(alloc, survey)?;
     let edits = pruned.kept_edits(alloc, survey)?;
-    let edited = edit_records(alloc, survey, edits, sheet, measure, terms)?;
+    let edited = edit_records(rt, alloc, survey, edits, sheet, measure, terms)?;
     let ends = edited.ends.as_slice();
     let reasons = reasons_text(alloc, sheet, survey, ends)?;
     let released = released_text(alloc, sheet, survey, ends)?;

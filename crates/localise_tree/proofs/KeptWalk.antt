@@ -4,10 +4,8 @@ use Rattle.std.proofs.lemmas.Bool.Decides.{Decides-eqb, Decides-ltb}
 use Rattle.std.proofs.lemmas.List.{length-replicate}
 use Rattle.edit_model.specs.Corrections.{is_first, path_order}
 use Rattle.edit_model.specs.Words.{weight_at}
-use Rattle.edit_model.specs.FieldSets.{has_number}
-use Rattle.edit_model.proofs.FieldSetLaws.{has-set_of}
+use Rattle.edit_model.specs.FieldSets.{set_of}
 use Rattle.edit_line.specs.Reductions.{IsIn}
-use Rattle.edit_line.specs.Shapes.{number_fields, shape_of}
 use Rattle.bound_cert.specs.declared.cert.Cert.{Cert}
 use Rattle.bound_cert.specs.Paths.{changes, path_weight}
 use Rattle.bound_cert.specs.declared.cert.Leaf.{Leaf}
@@ -169,7 +167,7 @@ module _ (c : SearchCase) where
 -- a source that keeps the system of no field keeps that of this outcome
 pub keeps-start : (keeps : ℕ → Bool) (c : SearchCase) (count : ℕ) (o : Outcome) → o ≡ all_kept count → keeps 0 ≡ true → KeepsChange keeps c o
 keeps-start keeps c count o told kept path weight cert change =
-    subst (λ (p : List Bool). KeepsChanged keeps c p) same (0, filter-none (has_number 0) (number_fields (shape_of c.survey.fields)) (λ f. has-set_of [] f) ∙ sym (kept-numbers c count), kept)
+    subst (λ (p : List Bool). KeepsChanged keeps c p) same (subst (λ (fields : List ℕ). keeps (set_of fields) ≡ true) (sym (kept-numbers c count)) kept)
   where
     same : kept_path count ≡ path
     same = cc (sym told ∙ change)

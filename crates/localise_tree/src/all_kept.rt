@@ -22,7 +22,8 @@ use std::alloc::Global;
 use std::sync::Arc;
 use std::sync::ledger::Ledger;
 
-/// The outcome of a record at which all lines hold, if the budget is for its paths: nothing is changed. None of any other.
+/// The outcome of a record at which all lines hold, where the budget is above the number of fields: nothing is changed. It is
+/// that of the search, whose first paths keep all their fields. None of any other record.
 pub(crate) fn unchanged<S: Systems, L: Ledger>(
     alloc: Global,
     source: &mut S,

@@ -18,7 +18,8 @@ is_within_at place whole sets = nat_eq (bit_and (slice_index_or sets place 0) wh
 -- the kept box and a later one need no comparison but where a box was made whole at the place: the later one, made whole there,
 -- does not lie inside a kept box that was not, and where the later one is whole there already, the kept box does not lie inside it
 pub record IsClear (place whole : ℕ) (kept : BoxFrom) (sets : List ℕ) : Type 0 where
-  pub unchanged : was_fixed kept.origin ≡ false → is_within_at place whole sets ≡ true → are_subsets (slice_set sets place whole) kept.code_box.sets ≡ false
+  pub unchanged : was_fixed kept.origin ≡ false → is_within_at place whole sets ≡ true
+      → are_subsets (slice_set sets place whole) kept.code_box.sets ≡ false
   pub outside : is_whole_at place whole sets ≡ true → are_subsets kept.code_box.sets sets ≡ false
 
 -- each kept box is so beside each later one
