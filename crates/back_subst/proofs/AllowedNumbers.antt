@@ -61,7 +61,7 @@ with_number p f x above = put p f (p.code f) (x.numerator *ℤ p.denominator) x.
 
 -- a line's bound at the field, by the other values of a point
 abbrev pub IsBoundedAt : Point → ℕ → Ratio → LineParts → Type 0
-IsBoundedAt p f x line = IsEnough line.strict (factor line f *ℤ (x.numerator *ℤ p.denominator) +ℤ rest_at line f p *ℤ x.denominator)
+IsBoundedAt p f x line = IsEnough line.relation (factor line f *ℤ (x.numerator *ℤ p.denominator) +ℤ rest_at line f p *ℤ x.denominator)
 
 module _ (survey : SurveyParts) (edits : List LineParts) (row : List Value) (f : ℕ) (before : List ℕ)
     (is_row : IsRow survey.fields row) (over : HaveShape (shape_of survey.fields) edits) (decide : DecideFor survey edits row (f ∷ before))
@@ -183,7 +183,7 @@ module _ (survey : SurveyParts) (edits : List LineParts) (row : List Value) (f :
         let same : line.shape ≡ shape = in-all (λ l. l.shape ≡ shape) line (system edits before) (λ k d below. (HaveShape-system shape edits before over k d below).same) there in
         let here : LineHolds line at_x = in-all (λ l. LineHolds l at_x) line (system edits before) holds there in
         let codes : codes_at line.shape at_x ≡ codes_at shape p = ap (λ s. codes_at s at_x) same ∙ map-agree at_x.code p.code (code_fields shape) (λ i _. put-code p f (x.numerator *ℤ p.denominator) x.denominator above i) in
-        subst (λ (z : ℤ). IsEnough line.strict z) (amount-put p f (p.code f) (x.numerator *ℤ p.denominator) x.denominator above line) (here.enough (subst (λ (cs : List ℕ). AreCodesIn line.sets cs) (sym codes) inside))
+        subst (λ (z : ℤ). IsEnough line.relation z) (amount-put p f (p.code f) (x.numerator *ℤ p.denominator) x.denominator above line) (here.enough (subst (λ (cs : List ℕ). AreCodesIn line.sets cs) (sym codes) inside))
 
     pub bounded-holds : AreBounded → AllHold (system edits before) at_x
     bounded-holds bounded = all-in (λ line. LineHolds line at_x) (system edits before) each

@@ -6,6 +6,7 @@ use Rattle.std.proofs.lemmas.Int.{ints}
 use Rattle.fraction128.specs.Formulas.{ratio_of}
 use Rattle.fraction128.specs.declared.fraction.Fraction.{Fraction}
 use Rattle.fraction128.proofs.FractionOrder.{IsBelow}
+use Rattle.edit_line.specs.Lines.{bound_relation}
 use Rattle.edit_line.specs.Subsumption.{is_enough}
 use Rattle.back_subst.specs.NumberWalk.{inside_by, is_further_in}
 use Rattle.back_subst.specs.inner.Sides.{found_of, side_of}
@@ -15,15 +16,15 @@ use Rattle.back_subst.proofs.BoundLaws.{minus, once}
 -- Bounds, as the code compares them.
 
 -- ---- signs
-short : (strict : Bool) (z : ℤ) → z <ℤ pos 0 → is_enough strict z ≡ false
+short : (strict : Bool) (z : ℤ) → z <ℤ pos 0 → is_enough (bound_relation strict) z ≡ false
 short true z h = grind (arith, ints)
 short false z h = grind (arith, ints)
 
-plenty : (strict : Bool) (z : ℤ) → pos 0 <ℤ z → is_enough strict z ≡ true
+plenty : (strict : Bool) (z : ℤ) → pos 0 <ℤ z → is_enough (bound_relation strict) z ≡ true
 plenty true z h = grind (arith, ints)
 plenty false z h = grind (arith, ints)
 
-at_end : (strict : Bool) (z : ℤ) → z ≡ pos 0 → is_enough strict z ≡ not strict
+at_end : (strict : Bool) (z : ℤ) → z ≡ pos 0 → is_enough (bound_relation strict) z ≡ not strict
 at_end true z h = rw h refl
 at_end false z h = rw h refl
 
@@ -47,15 +48,15 @@ no_neg z h = rw h refl
 
 -- ---- a number on either side of a bound
 
-pub admits-less : (lower : Bool) (b : Bound) (x : Fraction) → IsBelow x b.at → not lower ≡ is_enough b.strict (inside_by (side_of lower) (found_of b) (ratio_of x))
+pub admits-less : (lower : Bool) (b : Bound) (x : Fraction) → IsBelow x b.at → not lower ≡ is_enough (bound_relation b.strict) (inside_by (side_of lower) (found_of b) (ratio_of x))
 admits-less true b x h = sym (short b.strict _ (subst (λ (z : ℤ). z <ℤ pos 0) (sym (once _)) (less_gap _ _ h)))
 admits-less false b x h = sym (plenty b.strict _ (subst (λ (z : ℤ). pos 0 <ℤ z) (sym (minus _)) (more_gap _ _ h)))
 
-pub admits-greater : (lower : Bool) (b : Bound) (x : Fraction) → IsBelow b.at x → lower ≡ is_enough b.strict (inside_by (side_of lower) (found_of b) (ratio_of x))
+pub admits-greater : (lower : Bool) (b : Bound) (x : Fraction) → IsBelow b.at x → lower ≡ is_enough (bound_relation b.strict) (inside_by (side_of lower) (found_of b) (ratio_of x))
 admits-greater true b x h = sym (plenty b.strict _ (subst (λ (z : ℤ). pos 0 <ℤ z) (sym (once _)) (above_gap _ _ h)))
 admits-greater false b x h = sym (short b.strict _ (subst (λ (z : ℤ). z <ℤ pos 0) (sym (minus _)) (under_gap _ _ h)))
 
-pub admits-equal : (lower : Bool) (b : Bound) (x : Fraction) → x ≡ b.at → not b.strict ≡ is_enough b.strict (inside_by (side_of lower) (found_of b) (ratio_of x))
+pub admits-equal : (lower : Bool) (b : Bound) (x : Fraction) → x ≡ b.at → not b.strict ≡ is_enough (bound_relation b.strict) (inside_by (side_of lower) (found_of b) (ratio_of x))
 admits-equal true b x same = sym (at_end b.strict _ (once _ ∙ no_gap _ _ (ap (λ (y : Fraction). y.numerator *ℤ b.at.denominator) same ∙ ap (λ (y : Fraction). b.at.numerator *ℤ y.denominator) (sym same))))
 admits-equal false b x same = sym (at_end b.strict _ (minus _ ∙ no_neg _ (no_gap _ _ (ap (λ (y : Fraction). y.numerator *ℤ b.at.denominator) same ∙ ap (λ (y : Fraction). b.at.numerator *ℤ y.denominator) (sym same)))))
 

@@ -4,8 +4,9 @@ use Rattle.std.proofs.lemmas.Int.{ints}
 use Rattle.fraction128.specs.Formulas.{Ratio}
 use Rattle.fraction128.proofs.Signs.{above-*, above_cancel, at_least-*}
 use Rattle.fraction128.proofs.Whole.{parts, ring, same_dif}
-use Rattle.edit_line.specs.Lines.{IsEnough}
+use Rattle.edit_line.specs.Lines.{IsEnough, bound_relation}
 use Rattle.edit_line.proofs.Enough.{IsEnough-above, IsEnough-at_least, IsEnough-more, IsEnough-times, IsEnough_cancel, is_enough-Decides}
+use Rattle.edit_line.proofs.RelationLaws.{bound_apart}
 use Rattle.edit_line.proofs.SetLaws.{both_true}
 use Rattle.linear_elim.proofs.BetweenLaws.{above_neg, by_sign}
 use Rattle.back_subst.specs.Intervals.{End, Interval, IsEndOf, gap_from, is_past_any, is_between, halfway}
@@ -48,16 +49,16 @@ module _ (side : ℤ) (unit : side *ℤ side ≡ pos 1) (allowed : Ratio → Typ
       by : (o : Option End) → is_past_any (neg_ℤ side) o y ≡ true → is_past_any (neg_ℤ side) o x ≡ true
       by None h = refl
       by (Some o) h =
-          (is_enough-Decides o.strict (depth (neg_ℤ side) o x)).1 (IsEnough_cancel o.strict (depth (neg_ℤ side) o x) y.denominator y_above
-          (subst (λ (z : ℤ). IsEnough o.strict z) (sym (sum-gaps (neg_ℤ side) o.at.numerator o.at.denominator y.numerator y.denominator x.numerator x.denominator))
-          (IsEnough-more o.strict o.strict (depth (neg_ℤ side) o y *ℤ x.denominator) (neg_ℤ side *ℤ (x.numerator *ℤ y.denominator -ℤ y.numerator *ℤ x.denominator) *ℤ o.at.denominator)
-          (IsEnough-times o.strict (depth (neg_ℤ side) o y) x.denominator above ((is_enough-Decides o.strict (depth (neg_ℤ side) o y)).0 h))
+          (is_enough-Decides (bound_relation o.strict) (depth (neg_ℤ side) o x)).1 (IsEnough_cancel (bound_relation o.strict) (depth (neg_ℤ side) o x) y.denominator y_above
+          (subst (λ (z : ℤ). IsEnough (bound_relation o.strict) z) (sym (sum-gaps (neg_ℤ side) o.at.numerator o.at.denominator y.numerator y.denominator x.numerator x.denominator))
+          (IsEnough-more (bound_relation o.strict) (bound_relation o.strict) (depth (neg_ℤ side) o y *ℤ x.denominator) (neg_ℤ side *ℤ (x.numerator *ℤ y.denominator -ℤ y.numerator *ℤ x.denominator) *ℤ o.at.denominator) (bound_apart o.strict)
+          (IsEnough-times (bound_relation o.strict) (depth (neg_ℤ side) o y) x.denominator above ((is_enough-Decides (bound_relation o.strict) (depth (neg_ℤ side) o y)).0 h))
           (above-* _ o.at.denominator (subst (λ (z : ℤ). pos 0 <ℤ z) (turned side x.numerator x.denominator y.numerator y.denominator) gap) o.positive))))
 
   -- the end is the innermost fraction that no allowed number is outside of
   pub end-is : (e : End) → end ≡ Some e → IsEndOf side allowed e.at
   end-is e is = record {
-    none_outside = λ x above h. IsEnough-at_least e.strict (depth side e x) ((is_enough-Decides e.strict (depth side e x)).0 (subst (λ (o : Option End). is_past_any side o x ≡ true) is ((exact x above).0 h).0));
+    none_outside = λ x above h. IsEnough-at_least (bound_relation e.strict) (depth side e x) ((is_enough-Decides (bound_relation e.strict) (depth side e x)).0 (subst (λ (o : Option End). is_past_any side o x ≡ true) is ((exact x above).0 h).0));
     innermost = λ w above bound. least-or (gap_from side w e.at) (λ further. contrary w above bound (subst (λ (z : ℤ). pos 0 <ℤ z) (sym (reversed side w.numerator w.denominator e.at.numerator e.at.denominator)) further));
   }
     where
@@ -92,7 +93,7 @@ module _ (side : ℤ) (unit : side *ℤ side ≡ pos 1) (allowed : Ratio → Typ
 
           m_allowed : allowed (halfway e.at w)
           m_allowed = (exact (halfway e.at w) m_above).1 (
-            subst (λ (o : Option End). is_past_any side o (halfway e.at w) ≡ true) (sym is) ((is_enough-Decides e.strict (depth side e (halfway e.at w))).1 (IsEnough-above e.strict _ m_e)),
+            subst (λ (o : Option End). is_past_any side o (halfway e.at w) ≡ true) (sym is) ((is_enough-Decides (bound_relation e.strict) (depth side e (halfway e.at w))).1 (IsEnough-above (bound_relation e.strict) _ (bound_apart e.strict) m_e)),
             past-before (halfway e.at w) m_above m_y,
           )
 

@@ -1,4 +1,4 @@
-use Rattle.std.proofs.Common.{◌≡◌, ◌⊎◌, inl, inr, ℕ, suc, ◌&&◌, ◌++◌, nat_lt, not, Bool, true, false, if◌then◌else◌, List, [], ◌∷◌, Option, Some, None, Ok, Err, append-nil, append_assoc, reverse, pos, int_lt, refl, sym, ap, ◌∙◌, subst, arith}
+use Rattle.std.proofs.Common.{◌≡◌, ◌⊎◌, inl, inr, ℕ, suc, ◌&&◌, ◌++◌, nat_lt, not, Bool, true, false, if◌then◌else◌, List, [], ◌∷◌, Option, Some, None, Ok, Err, append-nil, append_assoc, reverse, pos, refl, sym, ap, ◌∙◌, subst, arith}
 use Rattle.std.specs.List.{filter}
 use Rattle.std.specs.Ordering.{int_eq}
 use Rattle.std.proofs.lemmas.Bool.Decides.{Decides-int_eq, Decides-ltb}
@@ -27,7 +27,7 @@ use Rattle.linear_elim.proofs.PointLaws.{number-no_code}
 use Rattle.linear_elim.proofs.SystemLaws.{HaveShape-system}
 use Rattle.back_subst.specs.GiveFaults.{AllHoldAt, AreComputed, AreGivenFirst, IsFirstOut, StopsThere, StopsAtLine, StopsAtRule}
 use Rattle.back_subst.specs.Given.{IsGiven, giving_order, number_in, target_of}
-use Rattle.back_subst.specs.NumberWalk.{FoundBounds, bound_at, bounds_from, found_at, is_bounding, no_bounds, number_result, with_found, nearest_found}
+use Rattle.back_subst.specs.NumberWalk.{FoundBounds, bound_at, bounds_from, is_bounding, nearest_found, no_bounds, number_result, with_bound}
 use Rattle.back_subst.specs.declared.gift.GiveFault.{GiveFault}
 use Rattle.back_subst.specs.declared.gift.GiveFault.TheVariants.{Bound, OutOfMemory, Test}
 use Rattle.back_subst.specs.inner.Systems.{start_lines}
@@ -56,7 +56,7 @@ module _ (shape : List Domain) (row : List Value) (f : ℕ) (none : has_field (n
   no-ends : (i : ℕ) (lines : List LineParts) (ends : FoundBounds) → ((line : LineParts) → IsIn line lines → line.shape ≡ shape) → bounds_from i lines row f ends ≡ Ok ends
   no-ends i [] ends over = refl
   no-ends i (line ∷ lines) ends over =
-      ap (λ b. if b then (ok_or (bound_at line row f) i >>= (λ at. bounds_from (suc i) lines row f (with_found ends (int_lt (pos 0) (factor line f)) (found_at at line.strict i)))) else bounds_from (suc i) lines row f ends) (no-bounding line (over line (inl refl)))
+      ap (λ b. if b then (ok_or (bound_at line row f) i >>= (λ at. bounds_from (suc i) lines row f (with_bound ends line f at i))) else bounds_from (suc i) lines row f ends) (no-bounding line (over line (inl refl)))
       ∙ no-ends (suc i) lines ends (λ l there. over l (inr there))
 
 -- ---- the faults

@@ -1,4 +1,4 @@
-use Rattle.std.proofs.Common.{◌≡◌, ◌≢◌, ℕ, zero, suc, ◌+◌, ◌<◌, ◌≤◌, ◌&&◌, not, Bool, true, false, if◌then◌else◌, List, [], ◌∷◌, Option, Some, None, Result, Ok, Err, IfOk, OnOk, OnErr, drop, get_or, length, slice_set, ℤ, pos, int_lt, refl, sym, ap, ◌∙◌, arith}
+use Rattle.std.proofs.Common.{◌≡◌, ◌≢◌, ℕ, zero, suc, ◌+◌, ◌<◌, ◌≤◌, ◌&&◌, not, Bool, true, false, if◌then◌else◌, List, [], ◌∷◌, Option, Some, None, Result, Ok, Err, IfOk, OnOk, OnErr, drop, get_or, length, slice_set, ℤ, pos, refl, sym, ap, ◌∙◌, arith}
 use lib.IntN.{neg_ℤ}
 use Rattle.std.specs.Ordering.{int_eq}
 use Rattle.std.proofs.Math.Seq.{drop-cons}
@@ -25,7 +25,7 @@ use Rattle.edit_line.specs.Shapes.{Domain, number_fields, place_in}
 use Rattle.edit_line.specs.Sums.{sum_at}
 use Rattle.edit_line.specs.declared.derived.Derived.{Derived}
 use Rattle.linear_elim.proofs.ColumnLaws.{beside-place}
-use Rattle.back_subst.specs.NumberWalk.{FoundBounds, bound_at, bounds_from, found_at, is_bounding, with_found}
+use Rattle.back_subst.specs.NumberWalk.{FoundBounds, bound_at, bounds_from, is_bounding, with_bound}
 use Rattle.back_subst.specs.inner.Sides.{with_line}
 
 -- The bounds of lines, as the code gathers them.
@@ -63,8 +63,8 @@ no-bound line row a f sum = ap (λ s. (result_ok s >>? (λ s. divided s (neg_ℤ
 
 module _ (i f : ℕ) (line : LineParts) (row : List Value) (ends : FoundBounds) where
   by-bounding : (b : Bool) → is_bounding line row f ≡ b
-      → (if b then (ok_or (bound_at line row f) i >>= (λ at. Ok (with_found ends (int_lt (pos 0) (factor line f)) (found_at at line.strict i)))) else Ok ends) ≡ with_line i line row f ends
-  by-bounding b e = ap (λ t. if t then (ok_or (bound_at line row f) i >>= (λ at. Ok (with_found ends (int_lt (pos 0) (factor line f)) (found_at at line.strict i)))) else Ok ends) (sym e)
+      → (if b then (ok_or (bound_at line row f) i >>= (λ at. Ok (with_bound ends line f at i))) else Ok ends) ≡ with_line i line row f ends
+  by-bounding b e = ap (λ t. if t then (ok_or (bound_at line row f) i >>= (λ at. Ok (with_bound ends line f at i))) else Ok ends) (sym e)
 
   pub without-factor : factor line f ≡ pos 0 → Ok ends ≡ with_line i line row f ends
   without-factor none = by-bounding false (ap (λ b. are_codes_in line.sets (codes_in line.shape row) && not b) ((Decides-int_eq (factor line f) (pos 0)).1 none) ∙ nothing (are_codes_in line.sets (codes_in line.shape row)))
@@ -87,14 +87,14 @@ module _ (i f : ℕ) (line : LineParts) (row : List Value) (ends : FoundBounds) 
     bound-is : o ≡ bound_at line row f
     bound-is = o_is ∙ ap (λ ws. (result_ok (sum_at line ws) >>? (λ s. divided s (neg_ℤ (factor line f))))) (sym (set-again row f blank))
 
-    stepped : (ok_or o i >>= (λ at. Ok (with_found ends (int_lt (pos 0) (factor line f)) (found_at at line.strict i)))) ≡ with_line i line row f ends
-    stepped = ap (λ b. (ok_or b i >>= (λ at. Ok (with_found ends (int_lt (pos 0) (factor line f)) (found_at at line.strict i))))) bound-is ∙ by-bounding true bounding
+    stepped : (ok_or o i >>= (λ at. Ok (with_bound ends line f at i))) ≡ with_line i line row f ends
+    stepped = ap (λ b. (ok_or b i >>= (λ at. Ok (with_bound ends line f at i)))) bound-is ∙ by-bounding true bounding
 
-    pub with-bound : (at : Ratio) → o ≡ Some at → Ok (with_found ends (int_lt (pos 0) (factor line f)) (found_at at line.strict i)) ≡ with_line i line row f ends
-    with-bound at e = ap (λ b. (ok_or b i >>= (λ at. Ok (with_found ends (int_lt (pos 0) (factor line f)) (found_at at line.strict i))))) (sym e) ∙ stepped
+    pub with-bound : (at : Ratio) → o ≡ Some at → Ok (with_bound ends line f at i) ≡ with_line i line row f ends
+    with-bound at e = ap (λ b. (ok_or b i >>= (λ at. Ok (with_bound ends line f at i)))) (sym e) ∙ stepped
 
     pub without-bound : o ≡ None → Err i ≡ with_line i line row f ends
-    without-bound e = ap (λ b. (ok_or b i >>= (λ at. Ok (with_found ends (int_lt (pos 0) (factor line f)) (found_at at line.strict i))))) (sym e) ∙ stepped
+    without-bound e = ap (λ b. (ok_or b i >>= (λ at. Ok (with_bound ends line f at i)))) (sym e) ∙ stepped
 
   -- ---- and the lines after it
 
@@ -104,8 +104,8 @@ module _ (i f : ℕ) (line : LineParts) (row : List Value) (ends : FoundBounds) 
     next (Err p) = Err p
 
     then-ends : (b : Bool) (o : Option Ratio)
-        → next (if b then (ok_or o i >>= (λ at. Ok (with_found ends (int_lt (pos 0) (factor line f)) (found_at at line.strict i)))) else Ok ends)
-        ≡ (if b then (ok_or o i >>= (λ at. bounds_from (suc i) rest row f (with_found ends (int_lt (pos 0) (factor line f)) (found_at at line.strict i)))) else bounds_from (suc i) rest row f ends)
+        → next (if b then (ok_or o i >>= (λ at. Ok (with_bound ends line f at i))) else Ok ends)
+        ≡ (if b then (ok_or o i >>= (λ at. bounds_from (suc i) rest row f (with_bound ends line f at i))) else bounds_from (suc i) rest row f ends)
     then-ends true None = refl
     then-ends true (Some at) = refl
     then-ends false o = refl

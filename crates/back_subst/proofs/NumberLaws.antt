@@ -1,7 +1,8 @@
-use Rattle.std.proofs.Common.{int_lt, ◌≡◌, ◌≢◌, ◌↔◌, ◌⊎◌, inl, inr, ℕ, zero, suc, ◌==◌, ◌||◌, ◌&&◌, not, Bool, true, false, if◌then◌else◌, List, [], ◌∷◌, Option, Some, None, All, IsTrue, slice_set, ℤ, pos, negsuc, ◌<ℤ◌, ◌+ℤ◌, ◌-ℤ◌, ◌*ℤ◌, refl, sym, ap, ◌∙◌, subst, arith}
+use Rattle.std.proofs.Common.{int_lt, ◌≡◌, ◌≢◌, ◌↔◌, ◌⊎◌, inl, inr, ℕ, zero, suc, ◌==◌, ◌||◌, ◌&&◌, not, Bool, true, false, if◌then◌else◌, List, [], ◌∷◌, All, IsTrue, slice_set, ℤ, pos, negsuc, ◌<ℤ◌, ◌+ℤ◌, ◌-ℤ◌, ◌*ℤ◌, refl, sym, ap, ◌∙◌, subst, arith}
 use lib.IntN.{neg_ℤ}
 use Rattle.std.specs.List.{filter}
-use Rattle.std.proofs.lemmas.Bool.Decides.{Decides-eqb}
+use Rattle.std.specs.Ordering.{int_eq}
+use Rattle.std.proofs.lemmas.Bool.Decides.{Decides-eqb, Decides-int_eq}
 use Rattle.std.proofs.lemmas.Int.{ints}
 use Rattle.fraction128.specs.Formulas.{Ratio}
 use Rattle.fraction128.proofs.Signs.{above-*}
@@ -18,22 +19,25 @@ use Rattle.edit_line.specs.CodeFields.{codes_in}
 use Rattle.edit_line.specs.Lines.{HaveShape, IsEnough, LineParts, factor}
 use Rattle.edit_line.specs.Reductions.{IsIn}
 use Rattle.edit_line.specs.Sets.{AreCodesIn, are_codes_in}
+use Rattle.edit_line.specs.Subsumption.{is_enough}
+use Rattle.edit_line.specs.declared.relation.Relation.{Relation}
 use Rattle.edit_line.specs.Shapes.{Domain, IsNumerical, code_fields, codes_at, has_field, number_fields, shape_of}
 use Rattle.edit_line.proofs.Enough.{IsEnough-times, IsEnough_cancel, is_enough-Decides}
 use Rattle.edit_line.proofs.Members.{in-all, in-filter, in-filter-out}
 use Rattle.edit_line.proofs.SetLaws.{both_true, is_inside-Decides}
-use Rattle.linear_elim.specs.Combinations.{is_lower, is_upper}
 use Rattle.linear_elim.specs.Systems.{system}
-use Rattle.linear_elim.proofs.BetweenLaws.{IsTightest, above_neg, by_sign, lower_implies, tightest, upper_implies}
+use Rattle.linear_elim.proofs.BetweenLaws.{above_neg, by_sign}
 use Rattle.linear_elim.proofs.PointLaws.{map-agree, put-code, put-differs, rest_at}
-use Rattle.linear_elim.proofs.StepLaws.{above_tells, below_tells}
 use Rattle.linear_elim.proofs.SystemLaws.{HaveShape-system}
 use Rattle.back_subst.specs.Allowed.{AllowsNumber, Completes}
-use Rattle.back_subst.specs.Intervals.{End, Interval, is_past_any, is_between}
+use Rattle.back_subst.specs.Intervals.{Interval, is_between}
+use Rattle.back_subst.specs.NumberWalk.{FoundBounds, bounded_by, no_bounds}
 use Rattle.back_subst.specs.inner.Bounds.{AreWithinBounds, BoundsField, DecideFor, IsWithinBound, RestsFit}
 use Rattle.back_subst.proofs.AllowedNumbers.{IsBoundedAt, allowed-bounded}
 use Rattle.edit_line.proofs.FactorLaws.{factor-numerical}
 use Rattle.linear_elim.proofs.PointLaws.{number-no_code}
+use Rattle.back_subst.specs.inner.Sides.{side_of}
+use Rattle.back_subst.proofs.NumberWalkLaws.{AreProper, between-within, bounds-proper, bounds-within, inside_at, interval_of, within_found}
 use Rattle.back_subst.proofs.FieldPoints.{Agrees-carried, agrees-held, code-at, number-at, number-listed}
 use Rattle.back_subst.proofs.Rests.{Adds, rest-over, value-other, value-set, without_number}
 use Rattle.linear_elim.proofs.FlatLaws.{system-flat}
@@ -62,8 +66,8 @@ same_bound a x_n x_d d r_n r_d r h = opened a x_n x_d d r_d r ∙ ap (λ (k : �
 pub bound-over : (line : LineParts) (f : ℕ) (p : Point) (r x : Ratio) → r.numerator *ℤ p.denominator ≡ rest_at line f p *ℤ r.denominator → pos 0 <ℤ r.denominator → IsBoundedAt p f x line ↔ IsWithinBound line f r x
 bound-over line f p r x over above =
     let same = same_bound (factor line f) x.numerator x.denominator p.denominator r.numerator r.denominator (rest_at line f p) over in (
-      λ h. IsEnough_cancel line.strict _ p.denominator p.positive (subst (λ (z : ℤ). IsEnough line.strict z) same (IsEnough-times line.strict _ r.denominator above h)),
-      λ h. IsEnough_cancel line.strict _ r.denominator above (subst (λ (z : ℤ). IsEnough line.strict z) (sym same) (IsEnough-times line.strict _ p.denominator p.positive h)),
+      λ h. IsEnough_cancel line.relation _ p.denominator p.positive (subst (λ (z : ℤ). IsEnough line.relation z) same (IsEnough-times line.relation _ r.denominator above h)),
+      λ h. IsEnough_cancel line.relation _ r.denominator above (subst (λ (z : ℤ). IsEnough line.relation z) (sym same) (IsEnough-times line.relation _ p.denominator p.positive h)),
     )
 
 module _ (survey : SurveyParts) (edits : List LineParts) (row : List Value) (f : ℕ) (before : List ℕ)
@@ -141,21 +145,19 @@ module _ (survey : SurveyParts) (edits : List LineParts) (row : List Value) (f :
 
   -- ---- the allowed numbers are an interval
 
-  -- the lines that bound f from one side
-  abbrev on_side : (ℕ → LineParts → Bool) → List LineParts
-  on_side test = filter (λ l. test f l && are_codes_in l.sets (codes_at shape p)) lines
+  -- the lines that bound f
+  abbrev bounding : List LineParts
+  bounding = filter (λ l. not (int_eq (factor l f) (pos 0)) && are_codes_in l.sets (codes_at shape p)) lines
 
   abbrev Meets_all : List LineParts → Ratio → Type 0
   Meets_all bounds x = (line : LineParts) → IsIn line bounds → IsBoundedAt p f x line
 
-  -- the end of the numbers that the lines of one side leave
-  pub record IsEndOf (side : ℤ) (bounds : List LineParts) (end : Option End) : Type 0 where
-    pub tells : (x : Ratio) → pos 0 <ℤ x.denominator → Meets_all bounds x ↔ (is_past_any side end x ≡ true)
+  -- bounds that leave the numbers that meet all these lines
+  record AreBoundsOf (bounds : List LineParts) (ends : FoundBounds) : Type 0 where
+    pub proper : AreProper ends
+    pub tells : (x : Ratio) → pos 0 <ℤ x.denominator → (within_found ends x ≡ true) ↔ Meets_all bounds x
 
-  no_end : (side : ℤ) → IsEndOf side [] None
-  no_end side = record { tells = λ x above. (λ _. refl, λ _ line none. absurd none) }
-
-  -- a lower end
+  -- a lower bound
   low-past : (a x_n x_d d r : ℤ) → a *ℤ (x_n *ℤ d) +ℤ r *ℤ x_d ≡ pos 1 *ℤ (x_n *ℤ (a *ℤ d) -ℤ neg_ℤ r *ℤ x_d)
   low-past a x_n x_d d r = rw (parts a, parts x_n, parts x_d, parts d, parts r) (simp ring (same_dif _ _ _ _ (omega arith)))
 
@@ -163,90 +165,97 @@ module _ (survey : SurveyParts) (edits : List LineParts) (row : List Value) (f :
   high-past : (a x_n x_d d r : ℤ) → a *ℤ (x_n *ℤ d) +ℤ r *ℤ x_d ≡ negsuc 0 *ℤ (x_n *ℤ (neg_ℤ a *ℤ d) -ℤ r *ℤ x_d)
   high-past a x_n x_d d r = rw (parts a, parts x_n, parts x_d, parts d, parts r) (simp ring (same_dif _ _ _ _ (omega arith)))
 
-  abbrev Tightest : List LineParts → LineParts → Type 0
-  Tightest bounds best = IsTightest (λ l. factor l f) (λ l. rest_at l f p) (λ (l : LineParts). l.strict) bounds best
+  -- the number at which a line bounds f
+  record IsBoundOf (line : LineParts) (at : Ratio) : Type 0 where
+    pub above : pos 0 <ℤ at.denominator
+    pub says : (x : Ratio) → (is_enough line.relation (inside_at (int_lt (pos 0) (factor line f)) at x) ≡ true) ↔ IsBoundedAt p f x line
 
-  -- the tightest line's own end is that of all
-  end-of : (side : ℤ) (bounds : List LineParts) (best : LineParts) (end : End) → Tightest bounds best → end.strict ≡ best.strict
-      → ((x : Ratio) → factor best f *ℤ (x.numerator *ℤ p.denominator) +ℤ rest_at best f p *ℤ x.denominator ≡ side *ℤ (x.numerator *ℤ end.at.denominator -ℤ end.at.numerator *ℤ x.denominator)) → IsEndOf side bounds (Some end)
-  end-of side bounds best end is strict same = record {
-    tells = λ x above. (
-      λ meets. (is_enough-Decides end.strict (gap x)).1 (subst (λ b. IsEnough b (gap x)) (sym strict) (subst (λ (z : ℤ). IsEnough best.strict z) (same x) (meets best is.there))),
-      λ past line there. is.tightest line there (x.numerator *ℤ p.denominator) x.denominator above (subst (λ (z : ℤ). IsEnough best.strict z) (sym (same x)) (subst (λ b. IsEnough b (gap x)) strict ((is_enough-Decides end.strict (gap x)).0 past))),
-    );
-  }
+  same-enough : (relation : Relation) (y z : ℤ) → y ≡ z → (is_enough relation z ≡ true) ↔ IsEnough relation y
+  same-enough relation y z same = (
+    λ h. subst (λ (k : ℤ). IsEnough relation k) (sym same) ((is_enough-Decides relation z).0 h),
+    λ h. (is_enough-Decides relation z).1 (subst (λ (k : ℤ). IsEnough relation k) same h),
+  )
+
+  bound_of : (line : LineParts) → factor line f ≢ pos 0 → (at : Ratio) × IsBoundOf line at
+  bound_of line some = by (by_sign (factor line f))
     where
-      gap : Ratio → ℤ
-      gap x = side *ℤ (x.numerator *ℤ end.at.denominator -ℤ end.at.numerator *ℤ x.denominator)
+      rising : (a : ℤ) → pos 0 <ℤ a → int_lt (pos 0) a ≡ true
+      rising a h = grind (arith, ints)
 
-  lower_end : (bounds : List LineParts) → ((l : LineParts) → IsIn l bounds → pos 0 <ℤ factor l f) → (end : Option End) × IsEndOf (pos 1) bounds end
-  lower_end [] rising = (None, no_end (pos 1))
-  lower_end (l ∷ bounds) rising =
-      let (best, is) = tightest (λ l. factor l f) (λ l. rest_at l f p) (λ (l : LineParts). l.strict) l bounds
-      (λ y z y_in z_in. lower_implies (λ l. factor l f) (λ l. rest_at l f p) (λ (l : LineParts). l.strict) y z (rising y y_in) (rising z z_in)) in
-      let end : End = record {
-        at = record { numerator = neg_ℤ (rest_at best f p); denominator = factor best f *ℤ p.denominator };
-        positive = above-* (factor best f) p.denominator (rising best is.there) p.positive;
-        strict = best.strict;
-      } in
-      (Some end, end-of (pos 1) (l ∷ bounds) best end is refl (λ x. low-past (factor best f) x.numerator x.denominator p.denominator (rest_at best f p)))
+      falling : (a : ℤ) → a <ℤ pos 0 → int_lt (pos 0) a ≡ false
+      falling a h = grind (arith, ints)
 
-  upper_end : (bounds : List LineParts) → ((l : LineParts) → IsIn l bounds → factor l f <ℤ pos 0) → (end : Option End) × IsEndOf (negsuc 0) bounds end
-  upper_end [] falling = (None, no_end (negsuc 0))
-  upper_end (l ∷ bounds) falling =
-      let (best, is) = tightest (λ l. factor l f) (λ l. rest_at l f p) (λ (l : LineParts). l.strict) l bounds
-      (λ y z y_in z_in. upper_implies (λ l. factor l f) (λ l. rest_at l f p) (λ (l : LineParts). l.strict) y z (falling y y_in) (falling z z_in)) in
-      let end : End = record {
-        at = record { numerator = rest_at best f p; denominator = neg_ℤ (factor best f) *ℤ p.denominator };
-        positive = above-* (neg_ℤ (factor best f)) p.denominator (above_neg (factor best f) (falling best is.there)) p.positive;
-        strict = best.strict;
-      } in
-      (Some end, end-of (negsuc 0) (l ∷ bounds) best end is refl (λ x. high-past (factor best f) x.numerator x.denominator p.denominator (rest_at best f p)))
+      by : (pos 0 <ℤ factor line f) ⊎ ((factor line f ≡ pos 0) ⊎ (factor line f <ℤ pos 0)) → (at : Ratio) × IsBoundOf line at
+      by (inl above) = (
+        record { numerator = neg_ℤ (rest_at line f p); denominator = factor line f *ℤ p.denominator },
+        record {
+          above = above-* (factor line f) p.denominator above p.positive;
+          says = λ x. same-enough line.relation _ _ (low-past (factor line f) x.numerator x.denominator p.denominator (rest_at line f p)
+              ∙ ap (λ b. side_of b *ℤ (x.numerator *ℤ (factor line f *ℤ p.denominator) -ℤ neg_ℤ (rest_at line f p) *ℤ x.denominator)) (sym (rising (factor line f) above)));
+        },
+      )
+      by (inr (inl none)) = absurd (some none)
+      by (inr (inr below)) = (
+        record { numerator = rest_at line f p; denominator = neg_ℤ (factor line f) *ℤ p.denominator },
+        record {
+          above = above-* (neg_ℤ (factor line f)) p.denominator (above_neg (factor line f) below) p.positive;
+          says = λ x. same-enough line.relation _ _ (high-past (factor line f) x.numerator x.denominator p.denominator (rest_at line f p)
+              ∙ ap (λ b. side_of b *ℤ (x.numerator *ℤ (neg_ℤ (factor line f) *ℤ p.denominator) -ℤ rest_at line f p *ℤ x.denominator)) (sym (falling (factor line f) below)));
+        },
+      )
+
+  both : (a b : Bool) → a ≡ true → b ≡ true → (a && b) ≡ true
+  both true b e h = h
+  both false b e h = absurd (cc)
+
+  bounds_of : (bounds : List LineParts) → ((l : LineParts) → IsIn l bounds → factor l f ≢ pos 0) → (ends : FoundBounds) × AreBoundsOf bounds ends
+  bounds_of [] some = (no_bounds, record { proper = (tt, tt); tells = λ x above. (λ _ line none. absurd none, λ _. refl) })
+  bounds_of (line ∷ bounds) some =
+      let (ends, is) = bounds_of bounds (λ l there. some l (inr there)) in
+      let (at, here) = bound_of line (some line (inl refl)) in (
+        bounded_by line.relation ends (int_lt (pos 0) (factor line f)) at 0,
+        record {
+          proper = bounds-proper line.relation ends (int_lt (pos 0) (factor line f)) at 0 is.proper here.above;
+          tells = λ x above.
+              let same = bounds-within line.relation ends (int_lt (pos 0) (factor line f)) at 0 is.proper here.above x above in (
+                λ h. let (before, own) = both_true _ _ (sym same ∙ h) in met x ((here.says x).0 own) ((is.tells x above).0 before),
+                λ meets. same ∙ both _ _ ((is.tells x above).1 (λ l there. meets l (inr there))) ((here.says x).1 (meets line (inl refl))),
+              );
+        },
+      )
+    where
+      met : (x : Ratio) → IsBoundedAt p f x line → Meets_all bounds x → Meets_all (line ∷ bounds) x
+      met x own rest l (inl same) = subst (λ (k : LineParts). IsBoundedAt p f x k) (sym same) own
+      met x own rest l (inr there) = rest l there
 
   -- where some correction completes the record, the numbers allowed at f are an interval that is not empty, and its ends are fractions
   pub allowed-interval : (i : Interval) × ((x : Ratio) → pos 0 <ℤ x.denominator → AllowsNumber survey row (f ∷ before) f x ↔ IsTrue (is_between i x)) × ((x : Ratio) × (pos 0 <ℤ x.denominator) × AllowsNumber survey row (f ∷ before) f x)
   allowed-interval =
-      let (low, low_is) = lower_end (on_side is_lower) (λ l there. above_tells (factor l f) (both_true _ _ (in-filter-out _ l lines there).1).0) in
-      let (high, high_is) = upper_end (on_side is_upper) (λ l there. below_tells (factor l f) (both_true _ _ (in-filter-out _ l lines there).1).0) in (
-        record { lower = low; upper = high },
-        λ x above. exact x above low high low_is high_is,
+      let (ends, is) = bounds_of bounding (λ l there. stands l (both_true _ _ (in-filter-out _ l lines there).1).0) in (
+        interval_of ends is.proper,
+        λ x above. exact x above ends is,
         (record { numerator = p.numerator f; denominator = p.denominator }, p.positive, (p, completes, refl)),
       )
     where
-      both : (a b : Bool) → a ≡ true → b ≡ true → (a && b) ≡ true
-      both true b e h = h
-      both false b e h = absurd (cc)
+      stands : (l : LineParts) → not (int_eq (factor l f) (pos 0)) ≡ true → factor l f ≢ pos 0
+      stands l h none = absurd (cc (sym h ∙ ap not ((Decides-int_eq (factor l f) (pos 0)).1 none)))
 
-      told_above : (a : ℤ) → pos 0 <ℤ a → int_lt (pos 0) a ≡ true
-      told_above a h = grind (arith, ints)
-
-      told_below : (a : ℤ) → a <ℤ pos 0 → int_lt a (pos 0) ≡ true
-      told_below a h = grind (arith, ints)
-
-      of_side : (test : ℕ → LineParts → Bool) (x : Ratio)
-          → ((line : LineParts) → IsIn line lines → AreCodesIn line.sets (codes_at shape p) → factor line f ≢ pos 0 → IsBoundedAt p f x line) → ((l : LineParts) → test f l ≡ true → factor l f ≢ pos 0) → Meets_all (on_side test) x
-      of_side test x bounded stands line there =
-          let (was, passes) = in-filter-out (λ l. test f l && are_codes_in l.sets (codes_at shape p)) line lines there in
-          let (side, inside) = both_true _ _ passes in
-          bounded line was ((is_inside-Decides line.sets (codes_at shape p)).0 inside) (stands line side)
-
-      exact : (x : Ratio) → pos 0 <ℤ x.denominator → (low high : Option End) → IsEndOf (pos 1) (on_side is_lower) low → IsEndOf (negsuc 0) (on_side is_upper) high
-          → AllowsNumber survey row (f ∷ before) f x ↔ IsTrue (is_between (record { lower = low; upper = high }) x)
-      exact x above low high low_is high_is =
-          let law = allowed-bounded survey edits row f before is_row over decide number numbers other p completes x above in (
-            λ allowed.
-                let bounded = law.0 allowed in
-                both _ _ ((low_is.tells x above).0 (of_side is_lower x bounded (λ l is none. absurd (cc (sym is ∙ ap (λ (a : ℤ). int_lt (pos 0) a) none)))))
-                ((high_is.tells x above).0 (of_side is_upper x bounded (λ l is none. absurd (cc (sym is ∙ ap (λ (a : ℤ). int_lt a (pos 0)) none))))),
-            λ within.
-                let (past_low, past_high) = both_true _ _ within in
-                law.1 (λ line there inside some. at line there inside some (by_sign (factor line f)) ((low_is.tells x above).1 past_low) ((high_is.tells x above).1 past_high)),
-          )
+      told : (l : LineParts) → factor l f ≢ pos 0 → not (int_eq (factor l f) (pos 0)) ≡ true
+      told l some = by (int_eq (factor l f) (pos 0)) refl
         where
-          at : (line : LineParts) → IsIn line lines → AreCodesIn line.sets (codes_at shape p) → factor line f ≢ pos 0 → (pos 0 <ℤ factor line f) ⊎ ((factor line f ≡ pos 0) ⊎ (factor line f <ℤ pos 0))
-              → Meets_all (on_side is_lower) x → Meets_all (on_side is_upper) x → IsBoundedAt p f x line
-          at line there inside some (inl above) lows highs =
-              lows line (in-filter (λ l. is_lower f l && are_codes_in l.sets (codes_at shape p)) line lines (both _ _ (told_above (factor line f) above) ((is_inside-Decides line.sets (codes_at shape p)).1 inside)) there)
-          at line there inside some (inr (inl none)) lows highs = absurd (some none)
-          at line there inside some (inr (inr below)) lows highs =
-              highs line (in-filter (λ l. is_upper f l && are_codes_in l.sets (codes_at shape p)) line lines (both _ _ (told_below (factor line f) below) ((is_inside-Decides line.sets (codes_at shape p)).1 inside)) there)
+          by : (b : Bool) → int_eq (factor l f) (pos 0) ≡ b → not b ≡ true
+          by false e = refl
+          by true e = absurd (some ((Decides-int_eq (factor l f) (pos 0)).0 e))
+
+      exact : (x : Ratio) → pos 0 <ℤ x.denominator → (ends : FoundBounds) (is : AreBoundsOf bounding ends) → AllowsNumber survey row (f ∷ before) f x ↔ IsTrue (is_between (interval_of ends is.proper) x)
+      exact x above ends is =
+          let law = allowed-bounded survey edits row f before is_row over decide number numbers other p completes x above in (
+            λ allowed. between-within ends is.proper x ∙ (is.tells x above).1 (λ line there.
+                let (was, passes) = in-filter-out (λ l. not (int_eq (factor l f) (pos 0)) && are_codes_in l.sets (codes_at shape p)) line lines there in
+                let (some, inside) = both_true _ _ passes in
+                law.0 allowed line was ((is_inside-Decides line.sets (codes_at shape p)).0 inside) (stands line some)),
+            λ within. law.1 (λ line there inside some.
+                (is.tells x above).0 (sym (between-within ends is.proper x) ∙ within) line
+                (in-filter (λ l. not (int_eq (factor l f) (pos 0)) && are_codes_in l.sets (codes_at shape p)) line lines
+                (both _ _ (told line some) ((is_inside-Decides line.sets (codes_at shape p)).1 inside)) there)),
+          )

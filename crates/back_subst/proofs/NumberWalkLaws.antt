@@ -1,4 +1,4 @@
-use Rattle.std.proofs.Common.{◌≡◌, ◌≢◌, ◌↔◌, ◌⊎◌, inl, inr, ℕ, suc, ◌||◌, ◌&&◌, not, Bool, true, false, if◌then◌else◌, List, [], ◌∷◌, Option, Some, None, Result, Ok, Err, slice_set, int_lt, ℤ, pos, negsuc, ◌<ℤ◌, ◌+ℤ◌, ◌-ℤ◌, ◌*ℤ◌, refl, sym, ap, ◌∙◌, subst, arith}
+use Rattle.std.proofs.Common.{◌≡◌, ◌≢◌, ◌↔◌, ◌⊎◌, inl, inr, ℕ, suc, ◌||◌, ◌&&◌, not, Bool, true, false, if◌then◌else◌, List, [], ◌∷◌, Option, Some, None, Result, Ok, Err, slice_set, int_lt, ℤ, pos, negsuc, ◌<ℤ◌, ◌≤ℤ◌, ◌+ℤ◌, ◌-ℤ◌, ◌*ℤ◌, refl, sym, ap, ◌∙◌, subst, arith}
 use lib.IntN.{neg_ℤ}
 use Rattle.std.specs.Ordering.{int_eq}
 use Rattle.std.proofs.lemmas.Bool.Decides.{Decides-int_eq}
@@ -15,23 +15,27 @@ use Rattle.fraction128.proofs.Signs.{above-*}
 use Rattle.fraction128.proofs.Whole.{parts, ring, same_dif}
 use Rattle.edit_model.specs.declared.value.Value.{Value}
 use Rattle.edit_line.specs.CodeFields.{codes_in}
-use Rattle.edit_line.specs.Lines.{IsEnough, LineParts, factor}
+use Rattle.edit_line.specs.Lines.{IsEnough, LineParts, bound_relation, factor}
 use Rattle.edit_line.specs.Reductions.{IsIn}
 use Rattle.edit_line.specs.Sets.{are_codes_in}
 use Rattle.edit_line.specs.Subsumption.{is_enough}
 use Rattle.edit_line.specs.Shapes.{number_fields}
+use Rattle.edit_line.specs.declared.relation.Relation.{Relation}
+use Rattle.edit_line.specs.declared.relation.Relation.TheVariants.{Above, AtLeast, Equal}
 use Rattle.edit_line.specs.Sums.{next_sum, sum_from, whole}
 use Rattle.edit_model.specs.Rows.{value_of}
 use Rattle.edit_model.specs.Trials.{sum_with}
 use Rattle.edit_model.specs.declared.value.Value.TheVariants.{Bad, Code, Number}
 use Rattle.edit_line.proofs.Enough.{IsEnough-times, IsEnough-weaker, IsEnough_cancel, is_enough-Decides}
+use Rattle.edit_line.proofs.RelationLaws.{bound_implies}
 use Rattle.edit_line.proofs.SetLaws.{both_true, is_inside-Decides}
 use Rattle.linear_elim.proofs.BetweenLaws.{above_neg, by_sign}
 use Rattle.back_subst.specs.Given.{IsGivenNumber, IsSame}
-use Rattle.back_subst.specs.Intervals.{End, further_in, is_past_any, is_between, kept_past}
-use Rattle.back_subst.specs.NumberWalk.{Found, FoundBounds, bound_at, bounds_from, found_at, inside_by, is_bounding, no_bounds, number_result, rest_of, step_in, tighter, unless_out, with_found, nearest_found}
+use Rattle.back_subst.specs.Intervals.{End, Interval, further_in, is_past_any, is_between, kept_past}
+use Rattle.back_subst.specs.NumberWalk.{Found, FoundBounds, bound_at, bounded_by, bounds_from, found_at, inside_by, is_bounding, no_bounds, number_result, rest_of, step_in, tighter, unless_out, with_bound, with_found, nearest_found}
 use Rattle.back_subst.specs.inner.Bounds.{AreWithinBounds, BoundsField, IsWithinBound, RestsFit}
-use Rattle.back_subst.proofs.BoundLaws.{bound-depth, further, further-in, multiple}
+use Rattle.back_subst.specs.inner.Sides.{side_of}
+use Rattle.back_subst.proofs.BoundLaws.{bound-depth, further, further-in, minus, multiple, once}
 
 -- What the walk's number is.
 
@@ -46,27 +50,35 @@ abbrev pub IsProper : Option Found → Type 0
 IsProper None = Unit {0}
 IsProper (Some b) = pos 0 <ℤ b.at.denominator
 
-abbrev AreProper : FoundBounds → Type 0
+abbrev pub AreProper : FoundBounds → Type 0
 AreProper ends = IsProper ends.lower × IsProper ends.upper
 
-abbrev end_from : (b : Found) → pos 0 <ℤ b.at.denominator → End
+abbrev pub end_from : (b : Found) → pos 0 <ℤ b.at.denominator → End
 end_from b above = record { at = b.at; positive = above; strict = b.strict }
 
-abbrev any_from : (o : Option Found) → IsProper o → Option End
+abbrev pub any_from : (o : Option Found) → IsProper o → Option End
 any_from None h = None
 any_from (Some b) h = Some (end_from b h)
 
 -- whether a number is past a bound, if there is one
-abbrev past_found : ℤ → Option Found → Ratio → Bool
+abbrev pub past_found : ℤ → Option Found → Ratio → Bool
 past_found side None x = true
-past_found side (Some b) x = is_enough b.strict (inside_by side b x)
+past_found side (Some b) x = is_enough (bound_relation b.strict) (inside_by side b x)
 
-abbrev within_found : FoundBounds → Ratio → Bool
+abbrev pub within_found : FoundBounds → Ratio → Bool
 within_found ends x = past_found (pos 1) ends.lower x && past_found (negsuc 0) ends.upper x
 
 past-any : (side : ℤ) (o : Option Found) (h : IsProper o) (x : Ratio) → is_past_any side (any_from o h) x ≡ past_found side o x
 past-any side None h x = refl
 past-any side (Some b) h x = refl
+
+-- the numbers between the bounds
+abbrev pub interval_of : (ends : FoundBounds) → AreProper ends → Interval
+interval_of ends h = record { lower = any_from ends.lower h.0; upper = any_from ends.upper h.1 }
+
+pub between-within : (ends : FoundBounds) (h : AreProper ends) (x : Ratio) → is_between (interval_of ends h) x ≡ within_found ends x
+between-within ends h x =
+    ap (λ b. b && is_past_any (negsuc 0) (any_from ends.upper h.1) x) (past-any (pos 1) ends.lower h.0 x) ∙ ap (λ b. past_found (pos 1) ends.lower x && b) (past-any (negsuc 0) ends.upper h.1 x)
 
 -- ---- the tighter of two bounds
 
@@ -80,15 +92,15 @@ module _ (side : ℤ) (old new : Found) (old_above : pos 0 <ℤ old.at.denominat
       nothing z d = rw (parts z, parts d) (simp ring (same_dif _ _ _ _ (omega arith)))
 
   weaker : (first second : Found) → pos 0 <ℤ first.at.denominator → pos 0 <ℤ second.at.denominator → inside_by side second x *ℤ first.at.denominator ≡ inside_by side first x *ℤ second.at.denominator
-      → (first.strict || not second.strict) ≡ true → is_enough first.strict (inside_by side first x) ≡ true → is_enough second.strict (inside_by side second x) ≡ true
+      → (first.strict || not second.strict) ≡ true → is_enough (bound_relation first.strict) (inside_by side first x) ≡ true → is_enough (bound_relation second.strict) (inside_by side second x) ≡ true
   weaker first second first_above second_above same either past =
-      (is_enough-Decides second.strict _).1 (IsEnough_cancel second.strict (inside_by side second x) first.at.denominator first_above
-      (subst (λ (z : ℤ). IsEnough second.strict z) (sym same) (IsEnough-times second.strict (inside_by side first x) second.at.denominator second_above
-      (IsEnough-weaker first.strict second.strict (inside_by side first x) either ((is_enough-Decides first.strict _).0 past)))))
+      (is_enough-Decides (bound_relation second.strict) _).1 (IsEnough_cancel (bound_relation second.strict) (inside_by side second x) first.at.denominator first_above
+      (subst (λ (z : ℤ). IsEnough (bound_relation second.strict) z) (sym same) (IsEnough-times (bound_relation second.strict) (inside_by side first x) second.at.denominator second_above
+      (IsEnough-weaker (bound_relation first.strict) (bound_relation second.strict) (inside_by side first x) (bound_implies first.strict second.strict ∙ either) ((is_enough-Decides (bound_relation first.strict) _).0 past)))))
 
-  joined-new : (is_enough new.strict (inside_by side new x) ≡ true → is_enough old.strict (inside_by side old x) ≡ true)
-      → is_enough new.strict (inside_by side new x) ≡ (is_enough old.strict (inside_by side old x) && is_enough new.strict (inside_by side new x))
-  joined-new implies = by (is_enough new.strict (inside_by side new x)) (is_enough old.strict (inside_by side old x)) implies
+  joined-new : (is_enough (bound_relation new.strict) (inside_by side new x) ≡ true → is_enough (bound_relation old.strict) (inside_by side old x) ≡ true)
+      → is_enough (bound_relation new.strict) (inside_by side new x) ≡ (is_enough (bound_relation old.strict) (inside_by side old x) && is_enough (bound_relation new.strict) (inside_by side new x))
+  joined-new implies = by (is_enough (bound_relation new.strict) (inside_by side new x)) (is_enough (bound_relation old.strict) (inside_by side old x)) implies
     where
       by : (a b : Bool) → (a ≡ true → b ≡ true) → a ≡ (b && a)
       by true true h = refl
@@ -96,9 +108,9 @@ module _ (side : ℤ) (old new : Found) (old_above : pos 0 <ℤ old.at.denominat
       by false true h = refl
       by false false h = refl
 
-  joined-old : (is_enough old.strict (inside_by side old x) ≡ true → is_enough new.strict (inside_by side new x) ≡ true)
-      → is_enough old.strict (inside_by side old x) ≡ (is_enough old.strict (inside_by side old x) && is_enough new.strict (inside_by side new x))
-  joined-old implies = by (is_enough old.strict (inside_by side old x)) (is_enough new.strict (inside_by side new x)) implies
+  joined-old : (is_enough (bound_relation old.strict) (inside_by side old x) ≡ true → is_enough (bound_relation new.strict) (inside_by side new x) ≡ true)
+      → is_enough (bound_relation old.strict) (inside_by side old x) ≡ (is_enough (bound_relation old.strict) (inside_by side old x) && is_enough (bound_relation new.strict) (inside_by side new x))
+  joined-old implies = by (is_enough (bound_relation old.strict) (inside_by side old x)) (is_enough (bound_relation new.strict) (inside_by side new x)) implies
     where
       by : (a b : Bool) → (a ≡ true → b ≡ true) → a ≡ (a && b)
       by true true h = refl
@@ -108,7 +120,7 @@ module _ (side : ℤ) (old new : Found) (old_above : pos 0 <ℤ old.at.denominat
   reversed : (s n_n n_d o_n o_d : ℤ) → s *ℤ (o_n *ℤ n_d -ℤ n_n *ℤ o_d) ≡ neg_ℤ (s *ℤ (n_n *ℤ o_d -ℤ o_n *ℤ n_d))
   reversed s n_n n_d o_n o_d = rw (parts s, parts n_n, parts n_d, parts o_n, parts o_d) (simp ring (same_dif _ _ _ _ (omega arith)))
 
-  pub tighter-past : past_found side (Some (tighter side (Some old) new)) x ≡ (is_enough old.strict (inside_by side old x) && is_enough new.strict (inside_by side new x))
+  pub tighter-past : past_found side (Some (tighter side (Some old) new)) x ≡ (is_enough (bound_relation old.strict) (inside_by side old x) && is_enough (bound_relation new.strict) (inside_by side new x))
   tighter-past = by (int_lt (pos 0) (inside_by side old new.at)) refl (int_eq (inside_by side old new.at) (pos 0)) refl new.strict refl old.strict refl
     where
       rising : (z : ℤ) → int_lt (pos 0) z ≡ true → pos 0 <ℤ z
@@ -125,17 +137,17 @@ module _ (side : ℤ) (old new : Found) (old_above : pos 0 <ℤ old.at.denominat
           at (inr (inl none)) = absurd (cc (sym apart ∙ (Decides-int_eq z (pos 0)).1 none))
           at (inr (inr down)) = above_neg z down
 
-      new_first : pos 0 <ℤ inside_by side old new.at → is_enough new.strict (inside_by side new x) ≡ true → is_enough old.strict (inside_by side old x) ≡ true
+      new_first : pos 0 <ℤ inside_by side old new.at → is_enough (bound_relation new.strict) (inside_by side new x) ≡ true → is_enough (bound_relation old.strict) (inside_by side old x) ≡ true
       new_first gap past = further side (end_from new new_above) (end_from old old_above) x above gap past
 
-      old_first : pos 0 <ℤ neg_ℤ (inside_by side old new.at) → is_enough old.strict (inside_by side old x) ≡ true → is_enough new.strict (inside_by side new x) ≡ true
+      old_first : pos 0 <ℤ neg_ℤ (inside_by side old new.at) → is_enough (bound_relation old.strict) (inside_by side old x) ≡ true → is_enough (bound_relation new.strict) (inside_by side new x) ≡ true
       old_first gap past = further side (end_from old old_above) (end_from new new_above) x above (subst (λ (z : ℤ). pos 0 <ℤ z) (sym (reversed side new.at.numerator new.at.denominator old.at.numerator old.at.denominator)) gap) past
 
-      equal_old : int_eq (inside_by side old new.at) (pos 0) ≡ true → (old.strict || not new.strict) ≡ true → is_enough old.strict (inside_by side old x) ≡ true → is_enough new.strict (inside_by side new x) ≡ true
+      equal_old : int_eq (inside_by side old new.at) (pos 0) ≡ true → (old.strict || not new.strict) ≡ true → is_enough (bound_relation old.strict) (inside_by side old x) ≡ true → is_enough (bound_relation new.strict) (inside_by side new x) ≡ true
       equal_old none either past = weaker old new old_above new_above (sym (same-place ((Decides-int_eq _ _).0 none))) either past
 
       by : (a : Bool) → int_lt (pos 0) (inside_by side old new.at) ≡ a → (b : Bool) → int_eq (inside_by side old new.at) (pos 0) ≡ b → (c : Bool) → new.strict ≡ c → (d : Bool) → old.strict ≡ d
-          → past_found side (Some (if a || (b && (c && not d)) then new else old)) x ≡ (is_enough old.strict (inside_by side old x) && is_enough new.strict (inside_by side new x))
+          → past_found side (Some (if a || (b && (c && not d)) then new else old)) x ≡ (is_enough (bound_relation old.strict) (inside_by side old x) && is_enough (bound_relation new.strict) (inside_by side new x))
       by true e b f c g d h = joined-new (new_first (rising _ e))
       by false e true f true g false h = joined-new (weaker new old new_above old_above (same-place ((Decides-int_eq _ _).0 f)) (ap (λ s. s || not old.strict) g))
       by false e true f true g true h = joined-old (equal_old f (ap (λ s. s || not new.strict) h))
@@ -156,10 +168,6 @@ any-tighter : (side : ℤ) (old : Option Found) (new : Found) → IsProper old �
 any-tighter side None new h new_above x above = refl
 any-tighter side (Some old) new h new_above x above = tighter-past side old new h new_above x above
 
-side_of : Bool → ℤ
-side_of true = pos 1
-side_of false = negsuc 0
-
 -- one bound more
 with-proper : (ends : FoundBounds) (lower : Bool) (new : Found) → AreProper ends → pos 0 <ℤ new.at.denominator → AreProper (with_found ends lower new)
 with-proper ends true new h above = (tighter-proper (pos 1) ends.lower new h.0 above, h.1)
@@ -167,7 +175,6 @@ with-proper ends false new h above = (h.0, tighter-proper (negsuc 0) ends.upper 
 
 with-within : (ends : FoundBounds) (lower : Bool) (new : Found) → AreProper ends → pos 0 <ℤ new.at.denominator → (x : Ratio) → pos 0 <ℤ x.denominator
     → within_found (with_found ends lower new) x ≡ (within_found ends x && past_found (side_of lower) (Some new) x)
-unfolding side_of
 with-within ends true new h above x x_above = ap (λ b. b && past_found (negsuc 0) ends.upper x) (any-tighter (pos 1) ends.lower new h.0 above x x_above) ∙ turned (past_found (pos 1) ends.lower x) (past_found (pos 1) (Some new) x) (past_found (negsuc 0) ends.upper x)
   where
     turned : (a b c : Bool) → ((a && b) && c) ≡ ((a && c) && b)
@@ -182,7 +189,79 @@ with-within ends false new h above x x_above = ap (λ b. past_found (pos 1) ends
     turned true b c = refl
     turned false b c = refl
 
--- ---- the bound of a line
+-- ---- the bounds of a line
+
+-- how far a number is inside a bound, seen from its side
+abbrev pub inside_at : Bool → Ratio → Ratio → ℤ
+inside_at lower at x = side_of lower *ℤ (x.numerator *ℤ at.denominator -ℤ at.numerator *ℤ x.denominator)
+
+-- a number that is outside neither of two equal bounds is where they are
+closed-both : (lower : Bool) (gap : ℤ) → (is_enough AtLeast (pos 1 *ℤ gap) && is_enough AtLeast (negsuc 0 *ℤ gap)) ≡ is_enough Equal (side_of lower *ℤ gap)
+closed-both lower gap = as_one (is_enough AtLeast (pos 1 *ℤ gap) && is_enough AtLeast (negsuc 0 *ℤ gap)) (is_enough Equal (side_of lower *ℤ gap)) there back
+  where
+    as_one : (a b : Bool) → (a ≡ true → b ≡ true) → (b ≡ true → a ≡ true) → a ≡ b
+    as_one true b h g = sym (h refl)
+    as_one false true h g = absurd (cc (g refl))
+    as_one false false h g = refl
+
+    none : (z : ℤ) → pos 0 ≤ℤ z → pos 0 ≤ℤ neg_ℤ z → z ≡ pos 0
+    none z h g = omega (arith, ints)
+
+    least : (z : ℤ) → z ≡ pos 0 → pos 0 ≤ℤ z
+    least z h = omega (arith, ints)
+
+    no_neg : (z : ℤ) → z ≡ pos 0 → neg_ℤ z ≡ pos 0
+    no_neg z h = omega (arith, ints)
+
+    neg_none : (z : ℤ) → neg_ℤ z ≡ pos 0 → z ≡ pos 0
+    neg_none z h = omega (arith, ints)
+
+    seen : (lower : Bool) → gap ≡ pos 0 → side_of lower *ℤ gap ≡ pos 0
+    seen true h = once gap ∙ h
+    seen false h = minus gap ∙ no_neg gap h
+
+    unseen : (lower : Bool) → side_of lower *ℤ gap ≡ pos 0 → gap ≡ pos 0
+    unseen true h = sym (once gap) ∙ h
+    unseen false h = neg_none gap (sym (minus gap) ∙ h)
+
+    both : (a b : Bool) → a ≡ true → b ≡ true → (a && b) ≡ true
+    both true b e h = h
+    both false b e h = absurd (cc)
+
+    there : (is_enough AtLeast (pos 1 *ℤ gap) && is_enough AtLeast (negsuc 0 *ℤ gap)) ≡ true → is_enough Equal (side_of lower *ℤ gap) ≡ true
+    there h =
+        let (low, high) = both_true (is_enough AtLeast (pos 1 *ℤ gap)) (is_enough AtLeast (negsuc 0 *ℤ gap)) h in
+        (is_enough-Decides Equal (side_of lower *ℤ gap)).1 (seen lower (none gap
+        (subst (λ (z : ℤ). pos 0 ≤ℤ z) (once gap) ((is_enough-Decides AtLeast (pos 1 *ℤ gap)).0 low))
+        (subst (λ (z : ℤ). pos 0 ≤ℤ z) (minus gap) ((is_enough-Decides AtLeast (negsuc 0 *ℤ gap)).0 high))))
+
+    back : is_enough Equal (side_of lower *ℤ gap) ≡ true → (is_enough AtLeast (pos 1 *ℤ gap) && is_enough AtLeast (negsuc 0 *ℤ gap)) ≡ true
+    back h =
+        let at : gap ≡ pos 0 = unseen lower ((is_enough-Decides Equal (side_of lower *ℤ gap)).0 h) in
+        both (is_enough AtLeast (pos 1 *ℤ gap)) (is_enough AtLeast (negsuc 0 *ℤ gap))
+        ((is_enough-Decides AtLeast (pos 1 *ℤ gap)).1 (least _ (once gap ∙ at)))
+        ((is_enough-Decides AtLeast (negsuc 0 *ℤ gap)).1 (least _ (minus gap ∙ no_neg gap at)))
+
+pub bounds-proper : (relation : Relation) (ends : FoundBounds) (lower : Bool) (at : Ratio) (i : ℕ) → AreProper ends → pos 0 <ℤ at.denominator → AreProper (bounded_by relation ends lower at i)
+bounds-proper AtLeast ends lower at i h above = with-proper ends lower (found_at at false i) h above
+bounds-proper Above ends lower at i h above = with-proper ends lower (found_at at true i) h above
+bounds-proper Equal ends lower at i h above =
+    with-proper (with_found ends true (found_at at false i)) false (found_at at false i) (with-proper ends true (found_at at false i) h above) above
+
+-- a number is within the bounds of a line and those before it where it is within those and enough for the line's relation
+pub bounds-within : (relation : Relation) (ends : FoundBounds) (lower : Bool) (at : Ratio) (i : ℕ) → AreProper ends → pos 0 <ℤ at.denominator → (x : Ratio) → pos 0 <ℤ x.denominator
+    → within_found (bounded_by relation ends lower at i) x ≡ (within_found ends x && is_enough relation (inside_at lower at x))
+bounds-within AtLeast ends lower at i h above x x_above = with-within ends lower (found_at at false i) h above x x_above
+bounds-within Above ends lower at i h above x x_above = with-within ends lower (found_at at true i) h above x x_above
+bounds-within Equal ends lower at i h above x x_above =
+    with-within (with_found ends true (found_at at false i)) false (found_at at false i) (with-proper ends true (found_at at false i) h above) above x x_above
+    ∙ ap (λ b. b && is_enough AtLeast (inside_at false at x)) (with-within ends true (found_at at false i) h above x x_above)
+    ∙ together (within_found ends x) (is_enough AtLeast (inside_at true at x)) (is_enough AtLeast (inside_at false at x))
+    ∙ ap (λ b. within_found ends x && b) (closed-both lower (x.numerator *ℤ at.denominator -ℤ at.numerator *ℤ x.denominator))
+  where
+    together : (a b c : Bool) → ((a && b) && c) ≡ (a && (b && c))
+    together true b c = refl
+    together false b c = refl
 
 field_led : (g : ℕ) (o : Option Ratio) (next : Ratio → Result Ratio ℕ) (s : Ratio) → (ok_or o g >>= next) ≡ Ok s → (sum : Ratio) × (o ≡ Some sum) × (next sum ≡ Ok s)
 field_led g None next s e = absurd (cc)
@@ -211,10 +290,9 @@ rest-above : (line : LineParts) (row : List Value) (f : ℕ) (r : Ratio) → res
 rest-above line row f r e = sum-above (number_fields line.shape) line.factors (slice_set row f Bad) (whole line.constant) r (omega (arith, ints)) e
 
 -- the bound that is found says what the line says
-bound-found : (a : ℤ) (r at : Ratio) (strict : Bool) (i : ℕ) → a ≢ pos 0 → pos 0 <ℤ r.denominator → divided r (neg_ℤ a) ≡ Some at → (x : Ratio)
-    → (pos 0 <ℤ at.denominator) × ((past_found (side_of (int_lt (pos 0) a)) (Some (found_at at strict i)) x ≡ true) ↔ IsEnough strict (a *ℤ x.numerator *ℤ r.denominator +ℤ r.numerator *ℤ x.denominator))
-unfolding side_of
-bound-found a r at strict i some above e x = (quotient.1, by (int_lt (pos 0) a) refl)
+bound-found : (relation : Relation) (a : ℤ) (r at : Ratio) → a ≢ pos 0 → pos 0 <ℤ r.denominator → divided r (neg_ℤ a) ≡ Some at → (x : Ratio)
+    → (pos 0 <ℤ at.denominator) × ((is_enough relation (inside_at (int_lt (pos 0) a) at x) ≡ true) ↔ IsEnough relation (a *ℤ x.numerator *ℤ r.denominator +ℤ r.numerator *ℤ x.denominator))
+bound-found relation a r at some above e x = (quotient.1, by (int_lt (pos 0) a) refl)
   where
     no_neg : (z : ℤ) → neg_ℤ z ≡ pos 0 → z ≡ pos 0
     no_neg z h = omega (arith, ints)
@@ -245,9 +323,9 @@ bound-found a r at strict i some above e x = (quotient.1, by (int_lt (pos 0) a) 
         turned (inr (inl none)) = absurd (apart none)
         turned (inr (inr down)) = above_neg z down
 
-    by : (t : Bool) → int_lt (pos 0) a ≡ t → (past_found (side_of t) (Some (found_at at strict i)) x ≡ true) ↔ IsEnough strict (a *ℤ x.numerator *ℤ r.denominator +ℤ r.numerator *ℤ x.denominator)
-    by true h = multiple strict _ _ at.denominator (a *ℤ r.denominator) (above-* a r.denominator (rising a h) above) quotient.1 (depths ∙ at_lower a r.denominator _)
-    by false h = multiple strict _ _ at.denominator (neg_ℤ a *ℤ r.denominator) (above-* (neg_ℤ a) r.denominator (falling a h some) above) quotient.1 (depths ∙ at_upper a r.denominator _)
+    by : (t : Bool) → int_lt (pos 0) a ≡ t → (is_enough relation (inside_at t at x) ≡ true) ↔ IsEnough relation (a *ℤ x.numerator *ℤ r.denominator +ℤ r.numerator *ℤ x.denominator)
+    by true h = multiple relation _ _ at.denominator (a *ℤ r.denominator) (above-* a r.denominator (rising a h) above) quotient.1 (depths ∙ at_lower a r.denominator _)
+    by false h = multiple relation _ _ at.denominator (neg_ℤ a *ℤ r.denominator) (above-* (neg_ℤ a) r.denominator (falling a h some) above) quotient.1 (depths ∙ at_upper a r.denominator _)
 
 -- ---- the bounds of all lines
 
@@ -287,11 +365,8 @@ module _ (row : List Value) (f : ℕ) where
       subst (λ (s : FoundBounds). IsGathered [] ends s) same (record { proper = proper; rests = λ l none. absurd none; within = λ x above. (λ h. (h, λ l r none. absurd none), λ h. h.0) })
   gathered i (line ∷ lines) ends found proper e = by (is_bounding line row f) refl e (λ ends' proper' made. gathered (suc i) lines ends' found proper' made)
     where
-      lower : Bool
-      lower = int_lt (pos 0) (factor line f)
-
       by : (b : Bool) → is_bounding line row f ≡ b
-          → (if b then (ok_or (bound_at line row f) i >>= (λ at. bounds_from (suc i) lines row f (with_found ends (int_lt (pos 0) (factor line f)) (found_at at line.strict i)))) else bounds_from (suc i) lines row f ends) ≡ Ok found
+          → (if b then (ok_or (bound_at line row f) i >>= (λ at. bounds_from (suc i) lines row f (with_bound ends line f at i))) else bounds_from (suc i) lines row f ends) ≡ Ok found
           → ((ends' : FoundBounds) → AreProper ends' → bounds_from (suc i) lines row f ends' ≡ Ok found → IsGathered lines ends' found) → IsGathered (line ∷ lines) ends found
       by false out made rest =
           let later = rest ends proper made in
@@ -311,19 +386,19 @@ module _ (row : List Value) (f : ℕ) where
           at : (l : LineParts) → IsIn l (line ∷ lines) → BoundsField l row f → (IsIn l lines → (r : Ratio) × (rest_of l row f ≡ Ok r)) → (r : Ratio) × (rest_of l row f ≡ Ok r)
           at l there bounds next = none l there bounds next
       by true is made rest =
-          let (bound, found_is, more) = was-place i (bound_at line row f) (λ at. bounds_from (suc i) lines row f (with_found ends (int_lt (pos 0) (factor line f)) (found_at at line.strict i))) found made in
+          let (bound, found_is, more) = was-place i (bound_at line row f) (λ at. bounds_from (suc i) lines row f (with_bound ends line f at i)) found made in
           let (r, rest_value, quotient) = led_on (result_ok (rest_of line row f)) (λ rest. divided rest (neg_ℤ (factor line f))) bound found_is in
           let rest_is : rest_of line row f ≡ Ok r = was-ok (rest_of line row f) r rest_value in
           let some : factor line f ≢ pos 0 = (told-bounds line is).stands in
-          let says = bound-found (factor line f) r bound line.strict i some (rest-above line row f r rest_is) quotient in
+          let says = bound-found line.relation (factor line f) r bound some (rest-above line row f r rest_is) quotient in
           let new_above : pos 0 <ℤ bound.denominator = (says (record { numerator = pos 0; denominator = pos 1 })).0 in
-          let proper' = with-proper ends (int_lt (pos 0) (factor line f)) (found_at bound line.strict i) proper new_above in
-          let later = rest (with_found ends (int_lt (pos 0) (factor line f)) (found_at bound line.strict i)) proper' more in
+          let proper' = bounds-proper line.relation ends (int_lt (pos 0) (factor line f)) bound i proper new_above in
+          let later = rest (with_bound ends line f bound i) proper' more in
           record {
             proper = later.proper;
             rests = λ l there bounds. at l r rest_is there (λ h. later.rests l h bounds);
             within = λ x above.
-                let both = with-within ends (int_lt (pos 0) (factor line f)) (found_at bound line.strict i) proper new_above x above in (
+                let both = bounds-within line.relation ends (int_lt (pos 0) (factor line f)) bound i proper new_above x above in (
                   λ h.
                       let (early, all) = (later.within x above).0 h in
                       let (before, here) = both_true _ _ (sym both ∙ early) in
@@ -344,7 +419,7 @@ module _ (row : List Value) (f : ℕ) where
           at l r r_is (inr h) next = next h
 
           one : (x : Ratio) (l : LineParts) (s : Ratio) → IsIn l (line ∷ lines) → rest_of l row f ≡ Ok s → (r : Ratio) → rest_of line row f ≡ Ok r
-              → IsEnough line.strict (factor line f *ℤ x.numerator *ℤ r.denominator +ℤ r.numerator *ℤ x.denominator) → (IsIn l lines → IsWithinBound l f s x) → IsWithinBound l f s x
+              → IsEnough line.relation (factor line f *ℤ x.numerator *ℤ r.denominator +ℤ r.numerator *ℤ x.denominator) → (IsIn l lines → IsWithinBound l f s x) → IsWithinBound l f s x
           one x l s (inl same) s_is r r_is here next =
               let same_rest : r ≡ s = same_ok (rest_of line row f) r s r_is (ap (λ (k : LineParts). rest_of k row f) (sym same) ∙ s_is) in
               subst (λ (q : Ratio). IsWithinBound l f q x) same_rest (subst (λ (k : LineParts). IsWithinBound k f r x) (sym same) here)
@@ -380,7 +455,7 @@ module _ (side : ℤ) (target : Ratio) where
   out-same : (o other : Option Found) (h : IsProper o) (g : IsProper other) (r : Ratio) (next : Result Ratio ℕ) (near : Ratio) → unless_out side o other target next ≡ Ok r → (next ≡ Ok r → IsSame r near)
       → IsSame r (kept_past side (any_from o h) (any_from other g) target near)
   out-same None other h g r next near e later = later e
-  out-same (Some b) other h g r next near e later = by (is_enough b.strict (inside_by side b target)) b.strict e
+  out-same (Some b) other h g r next near e later = by (is_enough (bound_relation b.strict) (inside_by side b target)) b.strict e
     where
       by : (a s : Bool) → (if a then next else if s then (ok_or (step_in side b.at other) b.line) else Ok b.at) ≡ Ok r → IsSame r (if a then near else if s then further_in side b.at (any_from other g) else b.at)
       by true s h = later h
@@ -400,10 +475,9 @@ walked-number lines row f target r e = by (bounds_from 0 lines row f no_bounds) 
         let all = gathered row f 0 lines no_bounds ends (tt, tt) is in (
           all.rests,
           record {
-            interval = record { lower = any_from ends.lower all.proper.0; upper = any_from ends.upper all.proper.1 };
+            interval = interval_of ends all.proper;
             exact = λ y above.
-                let same : is_between (record { lower = any_from ends.lower all.proper.0; upper = any_from ends.upper all.proper.1 }) y ≡ within_found ends y =
-                ap (λ b. b && is_past_any (negsuc 0) (any_from ends.upper all.proper.1) y) (past-any (pos 1) ends.lower all.proper.0 y) ∙ ap (λ b. past_found (pos 1) ends.lower y && b) (past-any (negsuc 0) ends.upper all.proper.1 y) in
+                let same = between-within ends all.proper y in
                 (λ within. same ∙ (all.within y above).1 (refl, within), λ inside. ((all.within y above).0 (sym same ∙ inside)).1);
             is_nearest = out-same (pos 1) target ends.lower ends.upper all.proper.0 all.proper.1 r (unless_out (negsuc 0) ends.upper ends.lower target (Ok target)) _ h
                 (λ more. out-same (negsuc 0) target ends.upper ends.lower all.proper.1 all.proper.0 r (Ok target) target more (λ last. own target r (cc)));

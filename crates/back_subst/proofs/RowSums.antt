@@ -37,7 +37,7 @@ module _ (row new : List Value) where
 
   fails-same : (line : LineParts) → ((f : ℕ) → factor line f ≢ pos 0 → value_of new f ≡ value_of row f) → fails_at line new ≡ fails_at line row
   fails-same line same =
-      ap (fails_by line.strict) (sum-same (number_fields line.shape) line.factors (whole line.constant) (at-factors (λ f. value_of new f ≡ value_of row f) line same))
+      ap (fails_by line.relation) (sum-same (number_fields line.shape) line.factors (whole line.constant) (at-factors (λ f. value_of new f ≡ value_of row f) line same))
 
   pub boxes-same : (i : ℕ) (lines : List LineParts) (kept : List (List ℕ)) → ((line : LineParts) → IsIn line lines → (f : ℕ) → factor line f ≢ pos 0 → value_of new f ≡ value_of row f) → boxes_from i lines new kept ≡ boxes_from i lines row kept
   boxes-same i [] kept same = refl

@@ -1,4 +1,4 @@
-use Rattle.std.proofs.Common.{◌≡◌, ◌≢◌, inl, inr, ℕ, suc, ◌<◌, ◌==◌, ◌||◌, Bool, true, false, if◌then◌else◌, List, [], ◌∷◌, Option, Some, None, Result, length, reverse, slice_set, pos, int_lt, refl, sym, ap, ◌∙◌, subst, arith}
+use Rattle.std.proofs.Common.{◌≡◌, ◌≢◌, inl, inr, ℕ, suc, ◌<◌, ◌==◌, ◌||◌, Bool, true, false, if◌then◌else◌, List, [], ◌∷◌, Option, Some, None, Result, length, reverse, slice_set, pos, refl, sym, ap, ◌∙◌, subst, arith}
 use lib.IntN.{neg_ℤ}
 use Rattle.std.proofs.lemmas.Bool.Decides.{Decides-eqb}
 use Rattle.std.specs.Option.{ok_or}
@@ -23,7 +23,7 @@ use Rattle.linear_elim.specs.Systems.{system}
 use Rattle.linear_elim.proofs.FlatLaws.{system-flat}
 use Rattle.linear_elim.proofs.PointLaws.{map-agree, number-no_code}
 use Rattle.linear_elim.proofs.SystemLaws.{HaveShape-system}
-use Rattle.back_subst.specs.NumberWalk.{FoundBounds, bound_at, bounds_from, found_at, is_bounding, no_bounds, number_result, with_found, nearest_found}
+use Rattle.back_subst.specs.NumberWalk.{FoundBounds, bound_at, bounds_from, is_bounding, nearest_found, no_bounds, number_result, with_bound}
 use Rattle.back_subst.proofs.FieldPoints.{number-at}
 use Rattle.back_subst.proofs.Rests.{value-other, value-set}
 use Rattle.back_subst.proofs.RowSums.{sum-same}
@@ -46,7 +46,7 @@ module _ (row new : List Value) where
   bounding-same line f same = rw same.codes refl
 
   abbrev after : List Value → ℕ → ℕ → LineParts → List LineParts → FoundBounds → Bool → Option Ratio → Result FoundBounds ℕ
-  after values f i line lines ends b o = if b then (ok_or o i >>= (λ at. bounds_from (suc i) lines values f (with_found ends (int_lt (pos 0) (factor line f)) (found_at at line.strict i)))) else bounds_from (suc i) lines values f ends
+  after values f i line lines ends b o = if b then (ok_or o i >>= (λ at. bounds_from (suc i) lines values f (with_bound ends line f at i))) else bounds_from (suc i) lines values f ends
 
   ends-same : (f i : ℕ) (lines : List LineParts) (ends : FoundBounds) → ((line : LineParts) → IsIn line lines → ReadsSame line f) → bounds_from i lines new f ends ≡ bounds_from i lines row f ends
   ends-same f i [] ends same = refl
@@ -57,7 +57,7 @@ module _ (row new : List Value) where
     where
       by : (b : Bool) (o : Option Ratio) → ((e : FoundBounds) → bounds_from (suc i) lines new f e ≡ bounds_from (suc i) lines row f e) → after new f i line lines ends b o ≡ after row f i line lines ends b o
       by true None rest = refl
-      by true (Some at) rest = rest (with_found ends (int_lt (pos 0) (factor line f)) (found_at at line.strict i))
+      by true (Some at) rest = rest (with_bound ends line f at i)
       by false o rest = rest ends
 
 -- ---- the system without numerical fields reads none of them

@@ -1,5 +1,6 @@
 use Rattle.std.specs.Prelude.{ℤ, pos, negsuc, ◌<ℤ◌, ◌≤ℤ◌, ◌+ℤ◌, ◌-ℤ◌, ◌*ℤ◌, ◌&&◌, Bool, true, Option, Some, None, if◌then◌else◌}
 use Rattle.fraction128.specs.Formulas.{Ratio}
+use Rattle.edit_line.specs.Lines.{bound_relation}
 use Rattle.edit_line.specs.Subsumption.{is_enough}
 
 -- an end of an interval: the number there, and whether it is left out
@@ -17,7 +18,7 @@ pub record Interval : Type 0 where
 -- of an upper one
 abbrev pub is_past : ℤ → End → Ratio → Bool
 is_past side end x =
-    is_enough end.strict (side *ℤ (x.numerator *ℤ end.at.denominator -ℤ end.at.numerator *ℤ x.denominator))
+    is_enough (bound_relation end.strict) (side *ℤ (x.numerator *ℤ end.at.denominator -ℤ end.at.numerator *ℤ x.denominator))
 
 -- whether a number is on the inner side of an end, if there is one
 abbrev pub is_past_any : ℤ → Option End → Ratio → Bool

@@ -1,4 +1,4 @@
-use Rattle.std.specs.Prelude.{ℕ, suc, ℤ, pos, negsuc, ◌-ℤ◌, ◌*ℤ◌, ◌&&◌, ◌||◌, not, Bool, List, [], ◌∷◌, Option, Some, None, Result, Ok, int_lt, if◌then◌else◌, slice_set}
+use Rattle.std.specs.Prelude.{ℕ, suc, ℤ, pos, negsuc, ◌-ℤ◌, ◌*ℤ◌, ◌&&◌, ◌||◌, not, Bool, true, false, List, [], ◌∷◌, Option, Some, None, Result, Ok, int_lt, if◌then◌else◌, slice_set}
 use lib.IntN.{neg_ℤ}
 use Rattle.std.specs.Ordering.{int_eq}
 use Rattle.std.specs.Option.{ok_or}
@@ -8,10 +8,12 @@ use Rattle.foundation.specs.Options.{◌>>?◌}
 use Rattle.fraction128.specs.Formulas.{Ratio, added, divided, middle}
 use Rattle.edit_model.specs.declared.value.Value.{Value}
 use Rattle.edit_line.specs.CodeFields.{codes_in}
-use Rattle.edit_line.specs.Lines.{LineParts, factor}
+use Rattle.edit_line.specs.Lines.{LineParts, bound_relation, factor}
 use Rattle.edit_line.specs.Sets.{are_codes_in}
 use Rattle.edit_line.specs.Subsumption.{is_enough}
 use Rattle.edit_line.specs.Sums.{sum_at, whole}
+use Rattle.edit_line.specs.declared.relation.Relation.{Relation}
+use Rattle.edit_line.specs.declared.relation.Relation.TheVariants.{Above, AtLeast, Equal}
 use Rattle.edit_model.specs.declared.value.Value.TheVariants.{Bad}
 
 -- The number of a field as the walk finds it, in numbers of at most 127 bits; or the place of the line at which one leaves the range.
@@ -67,9 +69,15 @@ with_found ends lower new =
     then record { lower = Some (tighter (pos 1) ends.lower new); upper = ends.upper }
     else record { lower = ends.lower; upper = Some (tighter (negsuc 0) ends.upper new) }
 
--- the bounds, and the one that the line at place i gives the field
+-- the bounds, and those of a line: an equality bounds from both sides, and a strict line leaves its bound out
+abbrev pub bounded_by : Relation → FoundBounds → Bool → Ratio → ℕ → FoundBounds
+bounded_by AtLeast ends lower at i = with_found ends lower (found_at at false i)
+bounded_by Above ends lower at i = with_found ends lower (found_at at true i)
+bounded_by Equal ends lower at i = with_found (with_found ends true (found_at at false i)) false (found_at at false i)
+
+-- the bounds, and those that the line at place i gives the field
 abbrev pub with_bound : FoundBounds → LineParts → ℕ → Ratio → ℕ → FoundBounds
-with_bound ends line f at i = with_found ends (int_lt (pos 0) (factor line f)) (found_at at line.strict i)
+with_bound ends line f at i = bounded_by line.relation ends (int_lt (pos 0) (factor line f)) at i
 
 -- the bounds of the lines, from place i on
 abbrev pub bounds_from : ℕ → List LineParts → List Value → ℕ → FoundBounds → Result FoundBounds ℕ
@@ -92,7 +100,7 @@ number_at side b other = if b.strict then ok_or (step_in side b.at other) b.line
 abbrev pub unless_out : ℤ → Option Found → Option Found → Ratio → Result Ratio ℕ → Result Ratio ℕ
 unless_out side None other target next = next
 unless_out side (Some b) other target next =
-    if is_enough b.strict (inside_by side b target) then next else number_at side b other
+    if is_enough (bound_relation b.strict) (inside_by side b target) then next else number_at side b other
 
 -- the number nearest to the target between the bounds
 abbrev pub nearest_found : FoundBounds → Ratio → Result Ratio ℕ

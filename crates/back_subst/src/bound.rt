@@ -1,10 +1,12 @@
 ghost use Rattle.std.specs.Prelude.{◌≡◌};
 ghost use Rattle.fraction128.specs.Formulas.{answered, ratio_of};
+ghost use Rattle.edit_line.specs.Lines.{bound_relation};
 ghost use Rattle.edit_line.specs.Subsumption.{is_enough};
 ghost use Rattle.edit_line.specs.Sums.{whole};
-ghost use Rattle.back_subst.specs.NumberWalk.{inside_by, is_further_in, nearest_found, no_bounds, number_at, step_in, tighter, with_found};
+ghost use Rattle.back_subst.specs.NumberWalk.{bounded_by, inside_by, is_further_in, nearest_found, no_bounds, number_at, step_in, tighter, with_found};
 ghost use Rattle.back_subst.specs.inner.Sides.{ends_of, found_any, found_of, number_told, side_of};
 
+use edit_line::Relation;
 use fraction128::{Fraction, Overflow};
 use std::cmp::Ordering;
 
@@ -29,7 +31,7 @@ pub struct Bounds {
 impl Bound {
     /// Whether the number is on the inner side of the bound, which is a lower or an upper one.
     pub fn admits(self, lower: bool, x: Fraction) -> bool
-        ensures { result ≡ is_enough self.strict (inside_by (side_of lower) (found_of self) (ratio_of x)) }
+        ensures { result ≡ is_enough (bound_relation self.strict) (inside_by (side_of lower) (found_of self) (ratio_of x)) }
     {
         match x.compare(self.at) {
             Ordering::Less => !lower,
@@ -146,6 +148,29 @@ impl Bounds {
                 lower: self.lower,
                 upper: Some(new.narrow(false, self.upper)),
             }
+        }
+    }
+
+    /// The bounds, and those of a line with this relation: an equality bounds from both sides.
+    pub fn bounded_by(self, relation: Relation, lower: bool, at: Fraction, line: u64) -> Bounds
+        ensures { ends_of result ≡ bounded_by relation (ends_of self) lower (ratio_of at) line }
+    {
+        let closed = Bound {
+            at,
+            strict: false,
+            line,
+        };
+        match relation {
+            Relation::AtLeast => self.with(lower, closed),
+            Relation::Above => self.with(
+                lower,
+                Bound {
+                    at,
+                    strict: true,
+                    line,
+                },
+            ),
+            Relation::Equal => self.with(true, closed).with(false, closed),
         }
     }
 }

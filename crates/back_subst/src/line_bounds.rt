@@ -13,7 +13,7 @@ ghost use Rattle.edit_line.specs.Sums.{sum_at};
 ghost use Rattle.back_subst.specs.NumberWalk.{bounds_from, no_bounds};
 ghost use Rattle.back_subst.specs.inner.Sides.{bounds_told, ends_of, with_line};
 
-use crate::bound::{Bound, Bounds};
+use crate::bound::Bounds;
 use edit_line::{Derived, Line, has_code, place_among, value_at};
 use edit_model::{Row, Survey};
 use fraction128::{Fraction, Overflow};
@@ -35,7 +35,7 @@ pub fn bounds_of(survey: &Survey, lines: &[Derived], row: &Row, field: u32) -> R
     Ok(bounds)
 }
 
-// The bounds with that of the line at place `i`, if it gives one.
+// The bounds with those of the line at place `i`, if it gives any.
 fn with_line(
     survey: &Survey,
     line: &Line,
@@ -57,14 +57,7 @@ fn with_line(
         return Ok(bounds);
     }
     match bound_at(survey, line, row, factor) {
-        Ok(at) => Ok(bounds.with(
-            factor > 0,
-            Bound {
-                at,
-                strict: line.strict(),
-                line: i,
-            },
-        )),
+        Ok(at) => Ok(bounds.bounded_by(line.relation(), factor > 0, at, i)),
         Err(Overflow) => Err(i),
     }
 }

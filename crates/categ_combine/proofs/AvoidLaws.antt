@@ -41,17 +41,17 @@ module _ (shape : List Domain) (row : List Value) (p : Point) where
     λ out. record { enough = λ inside. absurd (cc (sym out ∙ (is_inside-Decides line.sets (codes_at shape p)).1 (subst (λ s. AreCodesIn line.sets (codes_at s p)) known.0 inside))) },
   )
     where
-      short : is_enough line.strict (amount line p) ≡ false
+      short : is_enough line.relation (amount line p) ≡ false
       short = opposite _ (sym (fails_at-truth line row p true known.1 known.2 e))
 
       by : (b : Bool) → are_codes_in line.sets (codes_at shape p) ≡ b → LineHolds line p → b ≡ false
       by false there holds = refl
       by true there holds =
-          absurd (cc (sym short ∙ (is_enough-Decides line.strict (amount line p)).1 (holds.enough (subst (λ s. AreCodesIn line.sets (codes_at s p)) (sym known.0) ((is_inside-Decides line.sets (codes_at shape p)).0 there)))))
+          absurd (cc (sym short ∙ (is_enough-Decides line.relation (amount line p)).1 (holds.enough (subst (λ s. AreCodesIn line.sets (codes_at s p)) (sym known.0) ((is_inside-Decides line.sets (codes_at shape p)).0 there)))))
 
   -- a line that does not fail holds
   kept-holds : (line : LineParts) → IsKnown line → fails_at line row ≡ Ok false → LineHolds line p
-  kept-holds line known e = record { enough = λ inside. (is_enough-Decides line.strict (amount line p)).0 (enough (is_enough line.strict (amount line p)) (sym (fails_at-truth line row p false known.1 known.2 e))) }
+  kept-holds line known e = record { enough = λ inside. (is_enough-Decides line.relation (amount line p)).0 (enough (is_enough line.relation (amount line p)) (sym (fails_at-truth line row p false known.1 known.2 e))) }
     where
       enough : (b : Bool) → not b ≡ false → b ≡ true
       enough true h = refl

@@ -1,22 +1,24 @@
 -- The loop over what a proof says of the lines of the rules.
-use Rattle.std.proofs.Common.{◌≡◌, ℕ, zero, suc, ◌+◌, ◌-◌, ◌<◌, ◌≤◌, Bool, true, is_none, List, [], ◌∷◌, ◌++◌, Option, Some, None, drop, get_or, length, map, option_map, take, length-append, slice_get, slice_set, refl, sym, ap, ◌∙◌, subst, arith}
+use Rattle.std.proofs.Common.{◌≡◌, ◌≢◌, ℕ, zero, suc, ◌+◌, ◌-◌, ◌<◌, ◌≤◌, Bool, true, false, if◌then◌else◌, is_none, List, [], ◌∷◌, ◌++◌, Option, Some, None, drop, get_or, length, map, option_map, take, length-append, slice_get, slice_set, refl, sym, ap, ◌∙◌, subst, arith}
 use Rattle.std.proofs.Math.ListN.{replicate}
 use Rattle.std.proofs.lemmas.List.{drop_all, length-map, take_all}
 use Rattle.std.proofs.lemmas.Simd.{splat_is_map}
 use Rattle.edit_model.specs.Parts.{SurveyParts}
 use Rattle.edit_model.specs.declared.field.Field.{Field}
 use Rattle.edit_model.specs.declared.value.Value.{Value}
-use Rattle.edit_line.specs.Lines.{AreOver, LineParts}
+use Rattle.edit_line.specs.Lines.{AreOver, LineParts, is_equal}
 use Rattle.edit_line.specs.Negations.{negation_of}
 use Rattle.edit_line.specs.Shapes.{Domain, shape_of}
+use Rattle.edit_line.specs.declared.relation.Relation.TheVariants.{Equal}
 use Rattle.edit_line.proofs.Members.{in-get}
+use Rattle.edit_line.proofs.RelationLaws.{is_equal-Decides}
 use Rattle.edit_normal.specs.RuleLines.{normal_lines_of}
-use Rattle.derivation.specs.Premises.{premises_of}
+use Rattle.derivation.specs.Premises.{Premises, premises_of}
 use Rattle.derivation.specs.Refutations.{given_lines, left_before, no_values, refutation_of, trues}
 use Rattle.derivation.specs.declared.step.Step.{Step}
 use Rattle.derivation.proofs.RefutationLaws.{given-over}
 use Rattle.proof_grammar.specs.ProofLines.{verdict_lines}
-use Rattle.cert_check.specs.Dropped.{or_later, refutation_at, refutation_fault, verdict_fault, verdicts_fault}
+use Rattle.cert_check.specs.Dropped.{dropped_fault, or_later, refutation_at, refutation_fault, verdict_fault, verdicts_fault}
 use Rattle.cert_check.specs.inner.Parts.{IsFaultAt}
 use Rattle.cert_check.proofs.PlaceLaws.{read-at, some-at}
 
@@ -63,31 +65,31 @@ module _ (survey : SurveyParts) (verdicts : List (Option (List Step))) where
 
   module _ (place offset : ℕ) (left : List Bool) (told : IsTold place offset left) (line : LineParts) (verdict : Option (List Step)) (line_at : slice_get lines place ≡ Some line) (verdict_at : slice_get verdicts place ≡ Some verdict) where
     apart : verdicts_fault survey kept place (drop place lines) (drop place verdicts)
-        ≡ or_later (verdict_fault (refutation_at survey kept place line) verdict) (length (verdict_lines verdict)) (verdicts_fault survey kept (suc place) (drop (suc place) lines) (drop (suc place) verdicts))
+        ≡ or_later (verdict_fault (refutation_at survey kept place line) line verdict) (length (verdict_lines verdict)) (verdicts_fault survey kept (suc place) (drop (suc place) lines) (drop (suc place) verdicts))
     apart =
         ap (λ (ls : List LineParts). verdicts_fault survey kept place ls (drop place verdicts)) (drop-at lines place line line_at)
         ∙ ap (λ (vs : List (Option (List Step))). verdicts_fault survey kept place (line ∷ drop (suc place) lines) vs) (drop-at verdicts place verdict verdict_at)
 
     -- the line is looked at over the lines that are left for it
-    pub told-here : (given : List LineParts) (row : List Value) → given ≡ lines → row ≡ no_values survey.fields → verdict_fault (refutation_of (shape_of survey.fields) given left line row) verdict ≡ verdict_fault (refutation_at survey kept place line) verdict
+    pub told-here : (given : List LineParts) (row : List Value) → given ≡ lines → row ≡ no_values survey.fields → verdict_fault (refutation_of (shape_of survey.fields) given left line row) line verdict ≡ verdict_fault (refutation_at survey kept place line) line verdict
     told-here given row given_is row_is = by verdict verdict_at
       where
-        by : (v : Option (List Step)) → slice_get verdicts place ≡ Some v → verdict_fault (refutation_of (shape_of survey.fields) given left line row) v ≡ verdict_fault (refutation_at survey kept place line) v
+        by : (v : Option (List Step)) → slice_get verdicts place ≡ Some v → verdict_fault (refutation_of (shape_of survey.fields) given left line row) line v ≡ verdict_fault (refutation_at survey kept place line) line v
         by None at = refl
         by (Some steps) at =
-            ap (λ (ls : List LineParts). refutation_fault (refutation_of (shape_of survey.fields) ls left line row) steps) given_is
-            ∙ ap (λ (bs : List Bool). refutation_fault (refutation_of (shape_of survey.fields) lines bs line row) steps) (told.left_are ∙ left-dropped place verdicts steps at)
-            ∙ ap (λ (vs : List Value). refutation_fault (refutation_of (shape_of survey.fields) lines (left_before place (drop (suc place) kept)) line vs) steps) row_is
+            ap (λ (ls : List LineParts). dropped_fault (refutation_of (shape_of survey.fields) ls left line row) line steps) given_is
+            ∙ ap (λ (bs : List Bool). dropped_fault (refutation_of (shape_of survey.fields) lines bs line row) line steps) (told.left_are ∙ left-dropped place verdicts steps at)
+            ∙ ap (λ (vs : List Value). dropped_fault (refutation_of (shape_of survey.fields) lines (left_before place (drop (suc place) kept)) line vs) line steps) row_is
 
     -- its fault is the first
-    pub told-fault : (behind : ℕ) → verdict_fault (refutation_at survey kept place line) verdict ≡ Some behind → verdicts_fault survey kept 0 lines verdicts ≡ Some (offset + behind)
+    pub told-fault : (behind : ℕ) → verdict_fault (refutation_at survey kept place line) line verdict ≡ Some behind → verdicts_fault survey kept 0 lines verdicts ≡ Some (offset + behind)
     told-fault behind found =
         told.rest
         ∙ ap (λ (o : Option ℕ). option_map (λ n. offset + n) o)
         (apart ∙ ap (λ (o : Option ℕ). or_later o (length (verdict_lines verdict)) (verdicts_fault survey kept (suc place) (drop (suc place) lines) (drop (suc place) verdicts))) found)
 
     -- one line more that is right
-    pub told-more : (later next : ℕ) (after : List Bool) → place < length kept → verdict_fault (refutation_at survey kept place line) verdict ≡ None → later ≡ suc place → next ≡ offset + length (verdict_lines verdict) → after ≡ slice_set left place true
+    pub told-more : (later next : ℕ) (after : List Bool) → place < length kept → verdict_fault (refutation_at survey kept place line) line verdict ≡ None → later ≡ suc place → next ≡ offset + length (verdict_lines verdict) → after ≡ slice_set left place true
         → IsTold later next after
     told-more later next after below none later_is next_is after_is =
         subst (λ (n : ℕ). IsTold n next after) (sym later_is) (subst (λ (n : ℕ). IsTold (suc place) n after) (sym next_is) (record {
@@ -113,7 +115,7 @@ module _ (survey : SurveyParts) (verdicts : List (Option (List Step))) where
     here : (line : LineParts) × (slice_get lines place ≡ Some line)
     here = some-at lines place (omega (arith, below, each))
 
-    is-fault : found ≡ verdict_fault (refutation_at survey kept place here.0) verdict
+    is-fault : found ≡ verdict_fault (refutation_at survey kept place here.0) here.0 verdict
     is-fault = says here.0 (ap (λ (ls : List LineParts). slice_get ls place) given_is ∙ here.1) ∙ told-here place offset left told here.0 verdict here.1 verdict_at given row given_is row_is
 
     pub found-some : (behind : ℕ) → found ≡ Some behind → Some (offset + behind) ≡ verdicts_fault survey kept 0 lines verdicts
@@ -133,6 +135,14 @@ module _ (survey : SurveyParts) (verdicts : List (Option (List Step))) where
       none-left : (ls : List LineParts) → verdicts_fault survey kept place ls [] ≡ None
       none-left [] = refl
       none-left (l ∷ ls) = refl
+
+-- of a line that is no equality the fault is that of its steps
+pub undropped-fault : (p : Premises) (line : LineParts) (steps : List Step) → line.relation ≢ Equal → refutation_fault p steps ≡ dropped_fault p line steps
+undropped-fault p line steps apart = by (is_equal line.relation) refl
+  where
+    by : (b : Bool) → is_equal line.relation ≡ b → refutation_fault p steps ≡ (if b then Some 0 else refutation_fault p steps)
+    by true e = absurd (apart ((is_equal-Decides line.relation).0 e))
+    by false e = refl
 
 -- ---- while the steps of a line are checked
 

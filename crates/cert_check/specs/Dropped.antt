@@ -1,7 +1,7 @@
 -- What a proof has to say of a line of the rules that it drops: steps that refute its negation.
 use Rattle.std.specs.Prelude.{ℕ, suc, ◌+◌, Bool, if◌then◌else◌, List, [], ◌∷◌, Option, Some, None, Result, Ok, Err, is_none, length, map, option_map}
 use Rattle.edit_model.specs.Parts.{SurveyParts}
-use Rattle.edit_line.specs.Lines.{LineParts}
+use Rattle.edit_line.specs.Lines.{LineParts, is_equal}
 use Rattle.edit_line.specs.Shapes.{Domain, shape_of}
 use Rattle.edit_normal.specs.RuleLines.{normal_lines_of}
 use Rattle.derivation.specs.Premises.{Premises}
@@ -33,10 +33,14 @@ abbrev pub refutation_fault : Premises → List Step → Option ℕ
 refutation_fault p [] = Some 0
 refutation_fault p (step ∷ steps) = fault_by p.shape (steps_result p (step ∷ steps))
 
+-- how many lines behind the line that says that it is dropped the first fault is; an equality may not be dropped
+abbrev pub dropped_fault : Premises → LineParts → List Step → Option ℕ
+dropped_fault p line steps = if is_equal line.relation then Some 0 else refutation_fault p steps
+
 -- how many lines behind its first line the first fault of what is said of a line is: where the line is kept there is none
-abbrev pub verdict_fault : Premises → Option (List Step) → Option ℕ
-verdict_fault p None = None
-verdict_fault p (Some steps) = refutation_fault p steps
+abbrev pub verdict_fault : Premises → LineParts → Option (List Step) → Option ℕ
+verdict_fault p line None = None
+verdict_fault p line (Some steps) = dropped_fault p line steps
 
 -- the first fault if there is one, and else the next, which stands `lines` lines later
 abbrev pub or_later : Option ℕ → ℕ → Option ℕ → Option ℕ
@@ -46,7 +50,7 @@ or_later None lines next = option_map (λ offset. lines + offset) next
 -- how many lines behind its first line the first fault of what is said of the lines from a place on is
 abbrev pub verdicts_fault : SurveyParts → List Bool → ℕ → List LineParts → List (Option (List Step)) → Option ℕ
 verdicts_fault survey kept place (line ∷ lines) (verdict ∷ verdicts) = or_later
-    (verdict_fault (refutation_at survey kept place line) verdict)
+    (verdict_fault (refutation_at survey kept place line) line verdict)
     (length (verdict_lines verdict))
     (verdicts_fault survey kept (suc place) lines verdicts)
 verdicts_fault survey kept place _ _ = None

@@ -8,7 +8,7 @@ ghost use Rattle.edit_normal.specs.RuleLines.{normal_lines_of};
 ghost use Rattle.proof_grammar.specs.ProofLines.{verdict_lines};
 ghost use Rattle.cert_check.specs.Dropped.{drop_fault, refutation_fault, rules_fault};
 ghost use Rattle.cert_check.specs.inner.Counts.{IsCounted};
-ghost use Rattle.cert_check.specs.inner.Parts.{IsFaultAt, premises_without};
+ghost use Rattle.cert_check.specs.inner.Parts.{IsApartAt, IsFaultAt, premises_without};
 ghost use Rattle.cert_check.specs.inner.RowFaults.{IsAmong};
 
 use crate::line_counts::verdict_line_count;
@@ -85,7 +85,8 @@ pub(crate) fn kept_flags(
     Ok(flags)
 }
 
-// How many lines behind its first line the fault of what is said of the line at the place is, if there is one.
+// How many lines behind its first line the fault of what is said of the line at the place is, if there is one. An
+// equality may not be dropped.
 fn verdict_fault(
     alloc: Global,
     survey: &Survey,
@@ -106,7 +107,12 @@ fn verdict_fault(
 {
     match verdict {
         None => Ok(None),
-        Some(steps) => refutation_fault(alloc, survey, row, lines, left, place, steps.as_slice()),
+        Some(steps) => {
+            if lines[place].relation().is_equal() {
+                return Ok(Some(0));
+            }
+            refutation_fault(alloc, survey, row, lines, left, place, steps.as_slice())
+        }
     }
 }
 
@@ -125,6 +131,7 @@ fn refutation_fault(
     requires over { AreOver (shape_of survey.now.fields) lines.old.items }
     requires each { length left.old.items ≡ length lines.old.items }
     requires place { place < length lines.old.items }
+    requires not_equal { IsApartAt lines.old.items place }
     ensures found { IfOk result (IsFaultAt survey.now lines.old.items left.old.items place row.now (Some steps.now)) }
     ensures within { IfOk result (IsAmong (1 + length steps.now)) }
     ensures lines { OnOk result (lines.new.items ≡ lines.old.items) }

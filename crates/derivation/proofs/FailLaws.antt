@@ -38,6 +38,6 @@ module _ (fields : List Field) (row : List Value) (kept : ℕ) (line : LineParts
   -- where the line fails at the record, and holds at a point that agrees, the point's codes are not all inside
   pub failed-outside : (result_unwrap_or (fails_at line row) false) ≡ true → (point : Point) → AgreesAt row kept point → LineHolds line point → ¬ AreCodesIn line.sets (codes_at line.shape point)
   failed-outside fails point agrees holds inside =
-      let enough = (is_enough-Decides line.strict (amount line point)).1 (holds.enough inside) in
+      let enough = (is_enough-Decides line.relation (amount line point)).1 (holds.enough inside) in
       let truth = fails_at-truth line row point true kept-numbers (at_kept (λ f. Agrees row point f) kept line agrees all) (answered (fails_at line row) fails) in
       absurd (cc (truth ∙ ap not enough))

@@ -1,4 +1,4 @@
-use Rattle.std.proofs.Common.{◌≡◌, ◌⊎◌, inl, inr, ℕ, zero, suc, ◌<◌, Bool, true, false, List, [], ◌∷◌, ◌++◌, All, IsTrue, Some, drop, length, map, slice_get, slice_index_or, refl, sym, ap, ◌∙◌, subst, arith}
+use Rattle.std.proofs.Common.{◌≡◌, ◌≢◌, ◌⊎◌, inl, inr, ℕ, zero, suc, ◌<◌, Bool, true, false, List, [], ◌∷◌, ◌++◌, All, IsTrue, Some, drop, length, map, slice_get, slice_index_or, refl, sym, ap, ◌∙◌, subst, arith}
 use Rattle.std.proofs.Math.ListN.{replicate}
 use Rattle.std.specs.Cmp.Lexicographic.{same_text}
 use Rattle.edit_model.specs.Points.{Point}
@@ -8,6 +8,7 @@ use Rattle.edit_model.specs.declared.value.Value.{Value}
 use Rattle.edit_model.specs.declared.value.Value.TheVariants.{Bad}
 use Rattle.edit_model.proofs.FieldSetLaws.{has-none}
 use Rattle.edit_line.specs.Boxes.{are_whole}
+use Rattle.edit_line.specs.declared.relation.Relation.TheVariants.{Equal}
 use Rattle.edit_line.specs.Lines.{AllHold, AreOver, Follows, IsLine, LineHolds, LineParts}
 use Rattle.edit_line.specs.Negations.{negation_of}
 use Rattle.edit_line.specs.Reductions.{IsIn}
@@ -79,13 +80,13 @@ module _ (fields : List Field) (lines : List LineParts) (left : List Bool) (line
       false-outside l p false_is (shown p hold) (subst (λ (s : List Domain). AreCodesIn l.sets (codes_at s p)) (sym is_over) (all-codes l.sets whole p held))
   absurd-nowhere (proved.Box b) shown is_over wrong p held hold = shown p held (λ f kept. absurd (cc (sym kept ∙ has-none f))) hold (all-codes b.sets wrong p held)
 
-  -- a line whose negation valid steps refute from the lines that are left follows from these
-  pub left-follows : (steps : List Step) → IsRow fields row → length lines ≡ length left → AreOver (shape_of fields) lines → IsIn line lines → IsLine line
+  -- a line that is no equality, and whose negation valid steps refute from the lines that are left, follows from these
+  pub left-follows : (steps : List Step) → IsRow fields row → length lines ≡ length left → AreOver (shape_of fields) lines → IsIn line lines → IsLine line → line.relation ≢ Equal
       → RefutedBy (refutation_of (shape_of fields) lines left line row) steps → Follows (usable_lines lines left) line
-  left-follows steps is_row same over there is (x, valid, wrong) =
+  left-follows steps is_row same over there is apart (x, valid, wrong) =
       let (shown, is_over) =
       steps-shown (refutation_of (shape_of fields) lines left line row) fields steps x refl is_row (λ f kept. absurd (cc (sym kept ∙ has-none f))) (given-over fields lines line over there) valid in
-      refuted-follows (usable_lines lines left) line is (λ p held hold meets.
+      refuted-follows (usable_lines lines left) line is apart (λ p held hold meets.
       absurd-nowhere x shown is_over wrong p (subst (λ s. HasCodes 0 s p) (in-all (λ (l : LineParts). l.shape ≡ shape_of fields) line lines over there) held)
       (all-in (λ l. LineHolds l p) _ (λ l at. elim (usable-both lines (negation_of line) left l same at) [
         | inl old ↦ in-all (λ l. LineHolds l p) l (usable_lines lines left) hold old
@@ -139,7 +140,7 @@ in-place (k ∷ lines) l (inr h) = let (place, at) = in-place lines l h in (suc 
 
 module _ (fields : List Field) (lines : List LineParts) (kept : List Bool) (row : List Value) (is_row : IsRow fields row) (same : length lines ≡ length kept) (over : AreOver (shape_of fields) lines) (are : All IsLine lines)
     (refuted : (j : ℕ) (line : LineParts) → slice_get lines j ≡ Some line → slice_index_or kept j false ≡ false
-    → (steps : List Step) × RefutedBy (refutation_of (shape_of fields) lines (left_before j (drop (suc j) kept)) line row) steps) where
+    → (line.relation ≢ Equal) × (steps : List Step) × RefutedBy (refutation_of (shape_of fields) lines (left_before j (drop (suc j) kept)) line row) steps) where
   module _ (p : Point) (hold : AllHold (usable_lines lines kept) p) where
     -- a kept line holds
     kept-holds : (j : ℕ) (line : LineParts) → slice_get lines j ≡ Some line → slice_index_or kept j false ≡ true → LineHolds line p
@@ -160,9 +161,9 @@ module _ (fields : List Field) (lines : List LineParts) (kept : List Bool) (row 
         by : (b : Bool) → slice_index_or kept j false ≡ b → ((place : ℕ) (l : LineParts) → place < j → slice_get lines place ≡ Some l → LineHolds l p) → LineHolds line p
         by true is earlier = kept-holds j line at is
         by false is earlier =
-            let (steps, refutes) = refuted j line at is in
+            let (apart, steps, refutes) = refuted j line at is in
             left-follows fields lines (left_before j (drop (suc j) kept)) line row steps is_row (same ∙ sym (length-left j kept there)) over (in-get line lines j at)
-            (in-all IsLine line lines are (in-get line lines j at)) refutes p
+            (in-all IsLine line lines are (in-get line lines j at)) apart refutes p
             (all-in (λ l. LineHolds l p) (usable_lines lines (left_before j (drop (suc j) kept))) (λ l inside.
             let (place, l_at, used) = usable-place lines (left_before j (drop (suc j) kept)) l inside in
             left-holds place l (λ before. earlier place l before l_at) l_at (left-either j place kept there used)))

@@ -48,7 +48,7 @@ only_if test value = if test then Some value else None
 abbrev pub given_line : Premises → ℕ → Option Proved
 given_line p place = if slice_index_or p.usable place false then slice_get p.given place >>? (λ line. Some (proved.Line line)) else None
 
--- ---- a positive combination of two lines
+-- ---- a combination of two lines
 
 -- the combination
 abbrev pub combined_line : ℤ → ℤ → ℤ → LineParts → LineParts → Option Proved

@@ -1,7 +1,7 @@
 ghost use Rattle.std.specs.Prelude.{◌≡◌, ◌&&◌, ◌<ℤ◌, IfOk, int_lt, int_rem, map, pos};
 ghost use Rattle.std.specs.List.{list_all};
 ghost use Rattle.std.specs.Ordering.{int_eq};
-ghost use Rattle.edit_line.specs.Combinations.{divides};
+ghost use Rattle.edit_line.specs.Combinations.{divides, may_multiply};
 ghost use Rattle.edit_line.specs.Divisors.{divided_by};
 ghost use Rattle.derivation.specs.inner.Bases.{premises, shape_in};
 ghost use Rattle.derivation.specs.inner.Meanings.{AllOver, meaning, meant};
@@ -23,8 +23,8 @@ pub(crate) struct Multipliers {
     pub(crate) divisor: i128,
 }
 
-/// The sum of the multiples of the lines that were proved at two places, divided: the numbers are above 0,
-/// the lines have codes of each field in common, no number on the way is out of range, and the division
+/// The sum of the multiples of the lines that were proved at two places, divided: each line may be multiplied
+/// so, the divisor is above 0, the lines have codes of each field in common, no number on the way is out of range, and the division
 /// leaves no remainder.
 pub(crate) fn combined<'a>(
     alloc: Global,
@@ -57,7 +57,7 @@ fn combined_lines<'a>(
     requires { t.now.shape ≡ s.now.shape }
     ensures { IfOk result (λ made. meant made ≡ combined_line by.first by.second by.divisor s.now t.now) }
 {
-    if !are_positive(by) || !all_meet(s.sets(), t.sets()) {
+    if !are_allowed(by, s, t) || !all_meet(s.sets(), t.sets()) {
         return Ok(None);
     }
     let mut sum = s.copy(alloc)?;
@@ -67,11 +67,11 @@ fn combined_lines<'a>(
     }
 }
 
-// Whether all three numbers are above 0.
-fn are_positive(by: Multipliers) -> bool
-    ensures { result ≡ (int_lt (pos 0) by.first && (int_lt (pos 0) by.second && int_lt (pos 0) by.divisor)) }
+// Whether both lines may be multiplied so, and the divisor is above 0.
+fn are_allowed(by: Multipliers, s: &Line, t: &Line) -> bool
+    ensures { result ≡ (may_multiply s.now.relation by.first && (may_multiply t.now.relation by.second && int_lt (pos 0) by.divisor)) }
 {
-    by.first > 0 && by.second > 0 && by.divisor > 0
+    s.relation().may_multiply(by.first) && t.relation().may_multiply(by.second) && by.divisor > 0
 }
 
 // The line, divided, if that leaves no remainder.

@@ -1,4 +1,4 @@
-use Rattle.std.proofs.Common.{◌≡◌, ◌==◌, ◌||◌, Bool, true, false, not, nat_eq, ◌≤◌, List, [], ◌∷◌, ℕ, ℤ, pos, ◌<ℤ◌, ◌≤ℤ◌, ◌+ℤ◌, ◌*ℤ◌, bit_and, length, map, if◌then◌else◌, refl, sym, ap, ◌∙◌, subst, arith}
+use Rattle.std.proofs.Common.{◌≡◌, ◌==◌, Bool, true, false, not, nat_eq, ◌≤◌, List, [], ◌∷◌, ℕ, ℤ, pos, ◌<ℤ◌, ◌≤ℤ◌, ◌+ℤ◌, ◌*ℤ◌, bit_and, length, map, if◌then◌else◌, refl, sym, ap, ◌∙◌, subst, arith}
 use Rattle.std.proofs.lemmas.Bool.Decides.{Decides-eqb}
 use Rattle.std.proofs.lemmas.Int.{ints}
 use Rattle.std.proofs.lemmas.Nat.Bits.{bit_at_and, bit_at-lt, bit_at-zero}
@@ -9,11 +9,13 @@ use Rattle.edit_model.specs.Points.{Point}
 use Rattle.edit_line.specs.Lines.{IsEnough, LineHolds, LineParts, amount, weighted}
 use Rattle.edit_line.specs.Sets.{AreCodesIn, HasCode}
 use Rattle.edit_line.specs.Shapes.{Domain, beside, codes_at, numerators_at}
+use Rattle.edit_line.specs.declared.relation.Relation.{Relation}
+use Rattle.edit_line.specs.declared.relation.Relation.TheVariants.{Above, AtLeast, Equal}
 use Rattle.edit_line.proofs.Enough.{IsEnough-at_least, IsEnough_cancel}
-use Rattle.edit_line.specs.Combinations.{all_meet, combined, in_both}
-use Rattle.edit_line.proofs.PositiveSums.{IsCombined}
+use Rattle.edit_line.specs.Combinations.{all_meet, combined, in_both, joined}
+use Rattle.edit_line.proofs.AllowedSums.{IsCombined, KeepsEnough}
 
--- A positive combination of two lines holds where both hold.
+-- A combination of two lines holds where both hold.
 
 -- ---- sums
 
@@ -167,19 +169,34 @@ sum_least y z h k = omega (arith, ints)
 weaker : (m : ℤ) → pos 0 <ℤ m → pos 0 ≤ℤ m
 weaker m h = omega (arith, ints)
 
--- m times what is enough and n times what is enough
-pub IsEnough-sum : (first second : Bool) (m n y z : ℤ) → pos 0 <ℤ m → pos 0 <ℤ n → IsEnough first y → IsEnough second z → IsEnough (first || second) (m *ℤ y +ℤ n *ℤ z)
-IsEnough-sum true second m n y z m_above n_above h k = sum_above _ _ (above-* m y m_above h) (at_least-* n z (weaker n n_above) (IsEnough-at_least second z k))
-IsEnough-sum false true m n y z m_above n_above h k = above_sum _ _ (at_least-* m y (weaker m m_above) h) (above-* n z n_above k)
-IsEnough-sum false false m n y z m_above n_above h k = sum_least _ _ (at_least-* m y (weaker m m_above) h) (at_least-* n z (weaker n n_above) k)
+-- a multiple of what is enough
+IsEnough-scaled : (relation : Relation) (m y : ℤ) → KeepsEnough relation m → IsEnough relation y → IsEnough relation (m *ℤ y)
+IsEnough-scaled AtLeast m y keeps h = at_least-* m y (weaker m keeps) h
+IsEnough-scaled Above m y keeps h = above-* m y keeps h
+IsEnough-scaled Equal m y keeps h = rw h (sym (times_none m))
 
--- the positive combination of two lines that hold at a point holds there
-pub LineHolds-combined : (m n g : ℤ) (s t line : LineParts) (p : Point) → pos 0 <ℤ m → pos 0 <ℤ n → pos 0 <ℤ g → IsCombined m n g s t line → LineHolds s p → LineHolds t p → LineHolds line p
-LineHolds-combined m n g s t line p m_above n_above g_above is s_holds t_holds = record {
+-- two numbers that are enough
+IsEnough-joined : (first second : Relation) (y z : ℤ) → IsEnough first y → IsEnough second z → IsEnough (joined first second) (y +ℤ z)
+IsEnough-joined AtLeast AtLeast y z h k = sum_least y z h k
+IsEnough-joined AtLeast Above y z h k = above_sum y z h k
+IsEnough-joined AtLeast Equal y z h k = sum_least y z h (IsEnough-at_least Equal z k)
+IsEnough-joined Above second y z h k = sum_above y z h (IsEnough-at_least second z k)
+IsEnough-joined Equal second y z h k = subst (λ (x : ℤ). IsEnough second x) (sym (only z y h)) k
+  where
+    only : (z y : ℤ) → y ≡ pos 0 → y +ℤ z ≡ z
+    only z y e = rw (e, parts z) (simp ring (same_dif _ _ _ _ (omega arith)))
+
+-- m times what is enough and n times what is enough
+pub IsEnough-sum : (first second : Relation) (m n y z : ℤ) → KeepsEnough first m → KeepsEnough second n → IsEnough first y → IsEnough second z → IsEnough (joined first second) (m *ℤ y +ℤ n *ℤ z)
+IsEnough-sum first second m n y z m_keeps n_keeps h k = IsEnough-joined first second (m *ℤ y) (n *ℤ z) (IsEnough-scaled first m y m_keeps h) (IsEnough-scaled second n z n_keeps k)
+
+-- the combination of two lines that hold at a point holds there
+pub LineHolds-combined : (m n g : ℤ) (s t line : LineParts) (p : Point) → KeepsEnough s.relation m → KeepsEnough t.relation n → pos 0 <ℤ g → IsCombined m n g s t line → LineHolds s p → LineHolds t p → LineHolds line p
+LineHolds-combined m n g s t line p m_keeps n_keeps g_above is s_holds t_holds = record {
   enough = λ inside.
       let both : AreCodesIn (in_both s.sets t.sets) (codes_at s.shape p) = subst (λ (shape : List Domain). AreCodesIn (in_both s.sets t.sets) (codes_at shape p)) is.shape (subst (λ (sets : List ℕ). AreCodesIn sets (codes_at line.shape p)) is.sets inside) in
       let (in_s, in_t) = meets-inside s.sets t.sets (codes_at s.shape p) both in
-      let sum = IsEnough-sum s.strict t.strict m n (amount s p) (amount t p) m_above n_above (s_holds.enough in_s) (t_holds.enough (subst (λ (shape : List Domain). AreCodesIn t.sets (codes_at shape p)) (sym is.same) in_t)) in
-      subst (λ (b : Bool). IsEnough b (amount line p)) (sym is.strict)
-      (IsEnough_cancel (s.strict || t.strict) (amount line p) g g_above (subst (λ (z : ℤ). IsEnough (s.strict || t.strict) z) (sym (amount-combined m n g s t line p is) ∙ comm g (amount line p)) sum));
+      let sum = IsEnough-sum s.relation t.relation m n (amount s p) (amount t p) m_keeps n_keeps (s_holds.enough in_s) (t_holds.enough (subst (λ (shape : List Domain). AreCodesIn t.sets (codes_at shape p)) (sym is.same) in_t)) in
+      subst (λ (r : Relation). IsEnough r (amount line p)) (sym is.relation)
+      (IsEnough_cancel (joined s.relation t.relation) (amount line p) g g_above (subst (λ (z : ℤ). IsEnough (joined s.relation t.relation) z) (sym (amount-combined m n g s t line p is) ∙ comm g (amount line p)) sum));
 }

@@ -104,17 +104,17 @@ reduced-amount line p =
     (weighted-quotients line.factors (numerators_at line.shape p) _ (divides-factors line.factors line.constant))
 
 -- where the divided line holds, the line's amount is enough at codes of its sets
-pub reduced-enough : (line : LineParts) (p : Point) → LineHolds (reduced line) p → AreCodesIn line.sets (codes_at line.shape p) → IsEnough line.strict (amount line p)
+pub reduced-enough : (line : LineParts) (p : Point) → LineHolds (reduced line) p → AreCodesIn line.sets (codes_at line.shape p) → IsEnough line.relation (amount line p)
 unfolding reduced
 reduced-enough line p holds inside =
-    subst (λ (z : ℤ). IsEnough line.strict z) (reduced-amount line p) (IsEnough-times line.strict (amount (reduced line) p) _ (divisor-above line.factors line.constant) (holds.enough inside))
+    subst (λ (z : ℤ). IsEnough line.relation z) (reduced-amount line p) (IsEnough-times line.relation (amount (reduced line) p) _ (divisor-above line.factors line.constant) (holds.enough inside))
 
 -- and the other way round
-pub enough-reduced : (line : LineParts) (p : Point) → (AreCodesIn line.sets (codes_at line.shape p) → IsEnough line.strict (amount line p)) → LineHolds (reduced line) p
+pub enough-reduced : (line : LineParts) (p : Point) → (AreCodesIn line.sets (codes_at line.shape p) → IsEnough line.relation (amount line p)) → LineHolds (reduced line) p
 unfolding reduced
 enough-reduced line p enough = record {
   enough = λ inside.
-      IsEnough_cancel line.strict (amount (reduced line) p) _ (divisor-above line.factors line.constant) (subst (λ (z : ℤ). IsEnough line.strict z) (sym (reduced-amount line p)) (enough inside));
+      IsEnough_cancel line.relation (amount (reduced line) p) _ (divisor-above line.factors line.constant) (subst (λ (z : ℤ). IsEnough line.relation z) (sym (reduced-amount line p)) (enough inside));
 }
 
 -- ---- a divided line is a line
@@ -124,16 +124,17 @@ IsLine-divided line (pos g) above is = record {
   sets = is.sets;
   factors = length-map line.factors _ ∙ is.factors;
   in_range = (quotients-in_range line.factors g is.in_range.0, quotient-in_range line.constant _ g refl is.in_range.1);
+  whole = is.whole;
 }
 IsLine-divided line (negsuc g) above is = absurd above.lt
 
 -- the line that is made of the quotients
 pub divided-is : (line : LineParts) (g dividing : ℤ) (factors : List ℤ) (given q last : ℤ) → dividing ≡ g → given ≡ line.constant → factors ≡ map (λ c. int_div c dividing) line.factors → q ≡ int_div given dividing → last ≡ q
-    → parts_of line.shape line.sets factors last line.strict ≡ divided_by g line
+    → parts_of line.shape line.sets factors last line.relation ≡ divided_by g line
 divided-is line g dividing factors given q last dividing_is given_is factors_are q_is last_is =
     let quotients : factors ≡ map (λ c. int_div c g) line.factors = factors_are ∙ ap (λ (d : ℤ). map (λ c. int_div c d) line.factors) dividing_is in
     let constant : last ≡ int_div line.constant g = last_is ∙ q_is ∙ (λ i. int_div (given_is i) (dividing_is i)) in
-    λ i. parts_of line.shape line.sets (quotients i) (constant i) line.strict
+    λ i. parts_of line.shape line.sets (quotients i) (constant i) line.relation
 
 -- a line that is divided by the greatest common divisor of its numbers
 pub reduced-is : (old new : LineParts) (factors : List ℤ) (constant g divisor : ℤ) → factors ≡ old.factors → constant ≡ old.constant → divisor ≡ divisor_of factors constant → g ≡ divisor → new ≡ divided_by g old → new ≡ reduced old

@@ -1,14 +1,15 @@
-use Rattle.std.proofs.Common.{◌≡◌, ℕ, zero, suc, ◌&&◌, nat_eq, Bool, true, false, List, [], ◌∷◌, map, refl, sym, ap, ◌∙◌, arith}
+use Rattle.std.proofs.Common.{◌≡◌, ℕ, zero, suc, ◌&&◌, nat_eq, true, List, [], ◌∷◌, map, refl, sym, ap, ◌∙◌, arith}
 use Rattle.std.specs.Bool.{Decides}
 use Rattle.std.specs.Cmp.Derive.Mapped.{pointwise-map}
 use Rattle.std.specs.Cmp.Lexicographic.{pointwise}
 use Rattle.std.proofs.lemmas.Bool.Decides.{Decides-eqb, Decides-int_eq}
 use Rattle.std.proofs.lemmas.Slice.Eq.{slice_eq-Decides}
 use Rattle.edit_line.specs.EditSets.{EditsParts, edits_of}
-use Rattle.edit_line.specs.Equality.{same_domain, same_edits, same_line, same_numbered, same_shape, same_strict}
+use Rattle.edit_line.specs.Equality.{same_domain, same_edits, same_line, same_numbered, same_shape}
 use Rattle.edit_line.specs.Lines.{LineParts, parts_of}
 use Rattle.edit_line.specs.Shapes.{Categorical, Domain, Numerical, domain_with}
 use Rattle.edit_line.proofs.BoolLaws.{true-both}
+use Rattle.edit_line.proofs.RelationLaws.{same_relation-Decides}
 use Rattle.edit_line.proofs.SetLaws.{both_true}
 use Rattle.edit_line.proofs.SubsumptionLaws.{same_all-Decides}
 
@@ -26,12 +27,6 @@ same_domain-Decides (Categorical m) (Categorical n) = (λ h. ap (λ k. Categoric
 pub same_shape-Decides : (a b : List Domain) → Decides (same_shape a b) (a ≡ b)
 same_shape-Decides a b = slice_eq-Decides {E = same_domain} same_domain-Decides a b (same_shape a b) refl
 
-same_strict-Decides : (a b : Bool) → Decides (same_strict a b) (a ≡ b)
-same_strict-Decides true true = (λ _. refl, λ _. refl)
-same_strict-Decides true false = (λ h. absurd (cc), λ same. absurd (cc))
-same_strict-Decides false true = (λ h. absurd (cc), λ same. absurd (cc))
-same_strict-Decides false false = (λ _. refl, λ _. refl)
-
 pub same_sets-Decides : (a b : List ℕ) → Decides (pointwise nat_eq a b) (a ≡ b)
 same_sets-Decides a b = slice_eq-Decides {E = nat_eq} Decides-eqb a b (pointwise nat_eq a b) refl
 
@@ -43,20 +38,20 @@ same_line-Decides a b = (there, back)
         let (shape, after) = both_true _ _ h in
         let (sets, later) = both_true _ _ after in
         let (factors, rest) = both_true _ _ later in
-        let (constant, strict) = both_true _ _ rest in
+        let (constant, relation) = both_true _ _ rest in
         let shape_is = (same_shape-Decides a.shape b.shape).0 shape in
         let sets_are = (same_sets-Decides a.sets b.sets).0 sets in
         let factors_are = (same_all-Decides a.factors b.factors).0 factors in
         let constant_is = (Decides-int_eq a.constant b.constant).0 constant in
-        let strict_is = (same_strict-Decides a.strict b.strict).0 strict in
-        λ i. parts_of (shape_is i) (sets_are i) (factors_are i) (constant_is i) (strict_is i)
+        let relation_is = (same_relation-Decides a.relation b.relation).0 relation in
+        λ i. parts_of (shape_is i) (sets_are i) (factors_are i) (constant_is i) (relation_is i)
 
     back : a ≡ b → same_line a b ≡ true
     back same =
         true-both _ _ ((same_shape-Decides a.shape b.shape).1 (ap (λ (l : LineParts). l.shape) same)) (
         true-both _ _ ((same_sets-Decides a.sets b.sets).1 (ap (λ (l : LineParts). l.sets) same)) (
         true-both _ _ ((same_all-Decides a.factors b.factors).1 (ap (λ (l : LineParts). l.factors) same)) (
-        true-both _ _ ((Decides-int_eq a.constant b.constant).1 (ap (λ (l : LineParts). l.constant) same)) ((same_strict-Decides a.strict b.strict).1 (ap (λ (l : LineParts). l.strict) same)))))
+        true-both _ _ ((Decides-int_eq a.constant b.constant).1 (ap (λ (l : LineParts). l.constant) same)) ((same_relation-Decides a.relation b.relation).1 (ap (λ (l : LineParts). l.relation) same)))))
 
 same_numbered-Decides : (a b : ℕ × LineParts) → Decides (same_numbered a b) (a ≡ b)
 same_numbered-Decides a b = (there, back)

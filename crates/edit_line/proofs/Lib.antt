@@ -1,3 +1,4 @@
+pub mod AllowedSums
 pub mod BoolLaws
 pub mod CodeCounts
 pub mod CombinationLaws
@@ -17,8 +18,8 @@ pub mod NegationLines
 pub mod OtherFields
 pub mod OwnLaws
 pub mod PointCodes
-pub mod PositiveSums
 pub mod ReductionLaws
+pub mod RelationLaws
 pub mod RowFields
 pub mod SetLaws
 pub mod ShapeLaws

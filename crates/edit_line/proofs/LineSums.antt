@@ -1,11 +1,14 @@
-use Rattle.std.proofs.Common.{◌≡◌, ℕ, zero, suc, ◌+◌, ◌<◌, ◌||◌, not, nat_eq, Bool, true, false, if◌then◌else◌, List, [], ◌∷◌, ◌++◌, All, length, bit_and, Option, Some, None, ℤ, ◌+ℤ◌, ◌*ℤ◌, refl, sym, ap, ◌∙◌, subst, arith}
+use Rattle.std.proofs.Common.{◌≡◌, ℕ, zero, suc, ◌+◌, ◌<◌, not, nat_eq, Bool, true, false, if◌then◌else◌, List, [], ◌∷◌, ◌++◌, All, length, bit_and, Option, Some, None, ℤ, ◌+ℤ◌, ◌*ℤ◌, refl, sym, ap, ◌∙◌, subst, arith}
 use Rattle.std.proofs.lemmas.Nat.{and_le_l}
 use Rattle.fraction128.specs.Range.{InRange}
 use Rattle.edit_line.specs.Lines.{IsLine, LineParts, parts_of}
 use Rattle.edit_line.specs.Sets.{AreSets}
 use Rattle.edit_line.specs.Shapes.{Domain, number_fields, whole_sets}
-use Rattle.edit_line.specs.Combinations.{all_meet, combined, first_overflow, in_both, numbers, sum_fits, sum_of}
+use Rattle.edit_line.specs.Combinations.{all_meet, combined, first_overflow, in_both, joined, numbers, sum_fits, sum_of}
+use Rattle.edit_line.specs.declared.relation.Relation.{Relation}
+use Rattle.edit_line.proofs.RelationLaws.{joined-equal}
 use Rattle.edit_line.proofs.SetLaws.{both_true}
+use Rattle.edit_line.proofs.WholeSets.{in_both-same}
 use Rattle.edit_line.proofs.ListPairs.{fits-sum}
 
 -- The sum of the multiples of two lines: its factors, and then its constant.
@@ -50,17 +53,20 @@ AreSets-meets (s ∷ first) (t ∷ second) (w ∷ wholes) p q meet =
     (above-not_zero (bit_and s t) both.0, omega (arith, and_le_l s t, p.1), AreSets-meets first second wholes p.2 q.2 both.1)
 
 -- the sum of multiples of two lines, made of its parts
-pub sum-is : (shape : List Domain) (m n constant : ℤ) (s t : LineParts) (sets : List ℕ) (factors : List ℤ) (strict : Bool) → s.shape ≡ shape → sets ≡ in_both s.sets t.sets → factors ≡ combined m n s.factors t.factors
-    → constant ≡ m *ℤ s.constant +ℤ n *ℤ t.constant → strict ≡ (s.strict || t.strict) → parts_of shape sets factors constant strict ≡ sum_of m n s t
-sum-is shape m n constant s t sets factors strict s_over sets_are factors_are constant_is strict_is = λ i. parts_of (sym s_over i) (sets_are i) (factors_are i) (constant_is i) (strict_is i)
+pub sum-is : (shape : List Domain) (m n constant : ℤ) (s t : LineParts) (sets : List ℕ) (factors : List ℤ) (relation : Relation) → s.shape ≡ shape → sets ≡ in_both s.sets t.sets → factors ≡ combined m n s.factors t.factors
+    → constant ≡ m *ℤ s.constant +ℤ n *ℤ t.constant → relation ≡ joined s.relation t.relation → parts_of shape sets factors constant relation ≡ sum_of m n s t
+sum-is shape m n constant s t sets factors relation s_over sets_are factors_are constant_is relation_is = λ i. parts_of (sym s_over i) (sets_are i) (factors_are i) (constant_is i) (relation_is i)
 
 -- and it is a line
-pub sum-line : (shape : List Domain) (constant : ℤ) (s t : LineParts) (sets : List ℕ) (factors : List ℤ) (strict : Bool) → s.shape ≡ shape → t.shape ≡ shape → sets ≡ in_both s.sets t.sets → AreSets s.sets (whole_sets s.shape)
-    → AreSets t.sets (whole_sets t.shape) → all_meet s.sets t.sets ≡ true → length factors ≡ length (number_fields shape) → All InRange factors → InRange constant → IsLine (parts_of shape sets factors constant strict)
-sum-line shape constant s t sets factors strict s_over t_over sets_are s_fit t_fit meet count all fits = record {
-  sets = subst (λ (xs : List ℕ). AreSets xs (whole_sets shape)) (sym sets_are) (AreSets-meets s.sets t.sets (whole_sets shape) (subst (λ (sh : List Domain). AreSets s.sets (whole_sets sh)) s_over s_fit) (subst (λ (sh : List Domain). AreSets t.sets (whole_sets sh)) t_over t_fit) meet);
+pub sum-line : (shape : List Domain) (constant : ℤ) (s t : LineParts) (sets : List ℕ) (factors : List ℤ) (relation : Relation) → s.shape ≡ shape → t.shape ≡ shape → sets ≡ in_both s.sets t.sets → relation ≡ joined s.relation t.relation → IsLine s
+    → IsLine t → all_meet s.sets t.sets ≡ true → length factors ≡ length (number_fields shape) → All InRange factors → InRange constant → IsLine (parts_of shape sets factors constant relation)
+sum-line shape constant s t sets factors relation s_over t_over sets_are relation_is s_line t_line meet count all fits = record {
+  sets = subst (λ (xs : List ℕ). AreSets xs (whole_sets shape)) (sym sets_are) (AreSets-meets s.sets t.sets (whole_sets shape) (subst (λ (sh : List Domain). AreSets s.sets (whole_sets sh)) s_over s_line.sets) (subst (λ (sh : List Domain). AreSets t.sets (whole_sets sh)) t_over t_line.sets) meet);
   factors = count;
   in_range = (all, fits);
+  whole = λ equal.
+      let (s_equal, t_equal) = joined-equal s.relation t.relation (sym relation_is ∙ equal) in
+      sets_are ∙ (λ i. in_both (s_line.whole s_equal i) (t_line.whole t_equal i)) ∙ (λ i. in_both (whole_sets (s_over i)) (whole_sets (t_over i))) ∙ in_both-same (whole_sets shape);
 }
 
 -- ---- the first place of all, by that among the factors

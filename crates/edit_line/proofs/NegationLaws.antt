@@ -1,4 +1,4 @@
-use Rattle.std.proofs.Common.{◌≡◌, ◌↔◌, ℕ, zero, suc, ◌+◌, ◌<◌, ◌≤◌, ◌^◌, ◌-◌, ◌%◌, ◌==◌, not, Bool, true, false, if◌then◌else◌, List, [], ◌∷◌, length, map, bit_xor, slice_index_or, slice_set, ℤ, pos, negsuc, ◌<ℤ◌, ◌≤ℤ◌, ◌+ℤ◌, ◌*ℤ◌, inl, inr, refl, sym, ap, ◌∙◌, subst, arith}
+use Rattle.std.proofs.Common.{◌≡◌, ◌≢◌, ◌↔◌, ℕ, zero, suc, ◌+◌, ◌<◌, ◌≤◌, ◌^◌, ◌-◌, ◌%◌, ◌==◌, not, Bool, true, false, if◌then◌else◌, List, [], ◌∷◌, length, map, bit_xor, slice_index_or, slice_set, ℤ, pos, negsuc, ◌<ℤ◌, ◌≤ℤ◌, ◌+ℤ◌, ◌*ℤ◌, inl, inr, refl, sym, ap, ◌∙◌, subst, arith}
 use lib.IntN.{neg_ℤ}
 use Rattle.std.specs.Bool.{Decides}
 use Rattle.std.specs.Int.{bit_at}
@@ -15,12 +15,14 @@ use Rattle.edit_line.specs.Reductions.{IsIn}
 use Rattle.edit_line.specs.Sets.{AreCodesIn, AreSets, HasCode, are_codes_in}
 use Rattle.edit_line.specs.Shapes.{Categorical, Domain, HasCodes, Numerical, codes_at, codes_from, number_fields, numerators_at, whole_sets}
 use Rattle.edit_line.specs.Subsumption.{is_enough}
+use Rattle.edit_line.specs.declared.relation.Relation.{Relation}
+use Rattle.edit_line.specs.declared.relation.Relation.TheVariants.{Above, AtLeast, Equal}
 use Rattle.edit_line.proofs.Enough.{is_enough-Decides}
 use Rattle.edit_line.proofs.Members.{all-in, in-all}
 use Rattle.edit_line.proofs.PointCodes.{wholes-inside}
 use Rattle.edit_line.proofs.SubsumptionLaws.{amount-constant}
 use Rattle.edit_line.proofs.SetLaws.{AreSets-length, is_inside-Decides}
-use Rattle.edit_line.specs.Negations.{contrary, negation_of, never, never_outside}
+use Rattle.edit_line.specs.Negations.{contrary, contrary_relation, negation_of, never, never_outside}
 
 -- The negation of a line holds where the line fails, and nowhere else.
 
@@ -80,9 +82,10 @@ amount-contrary line p = ap (λ (z : ℤ). z +ℤ neg_ℤ line.constant *ℤ p.d
     turned : (w c d : ℤ) → neg_ℤ w +ℤ neg_ℤ c *ℤ d ≡ neg_ℤ (w +ℤ c *ℤ d)
     turned w c d = rw (parts w, parts c, parts d) (simp ring (same_dif _ _ _ _ (omega arith)))
 
-not_enough : (strict : Bool) (z : ℤ) → is_enough strict z ≡ false → IsEnough (not strict) (neg_ℤ z)
-not_enough true z h = grind (arith, ints)
-not_enough false z h = grind (arith, ints)
+not_enough : (relation : Relation) (z : ℤ) → relation ≢ Equal → is_enough relation z ≡ false → IsEnough (contrary_relation relation) (neg_ℤ z)
+not_enough AtLeast z other h = grind (arith, ints)
+not_enough Above z other h = grind (arith, ints)
+not_enough Equal z other h = absurd (other refl)
 
 -- ---- the codes are in the sets
 no-other : (whole set code : ℕ) → bit_at whole code ≡ 1 → bit_at set code ≡ 1 → bit_at (bit_xor whole set) code ≡ 1 → ⊥
@@ -124,9 +127,9 @@ module _ (shape : List Domain) (p : Point) where
       by false (inr h) rest = rest h
 
 -- a point at which the line fails meets its negation, and has codes of their domains
-pub fails-negation : (line : LineParts) (p : Point) → IsLine line → AreCodesIn line.sets (codes_at line.shape p) → is_enough line.strict (amount line p) ≡ false
+pub fails-negation : (line : LineParts) (p : Point) → IsLine line → line.relation ≢ Equal → AreCodesIn line.sets (codes_at line.shape p) → is_enough line.relation (amount line p) ≡ false
     → HasCodes 0 line.shape p × AllHold (negation_of line) p
-fails-negation line p is inside short =
+fails-negation line p is other inside short =
     let held : HasCodes 0 line.shape p = inside-codes 0 line.shape line.sets p is.sets inside in
     let whole : AreCodesIn (whole_sets line.shape) (codes_at line.shape p) = (is_inside-Decides (whole_sets line.shape) (codes_at line.shape p)).0 (wholes-inside line.shape p held) in
     (held, all-in (λ l. LineHolds l p) (negation_of line) (λ l there. each l there (outside-holds line.shape p 0 line.sets (whole_sets line.shape) (codes_at line.shape p) (omega arith) (omega arith) (λ k below. ap (λ n. slice_index_or (codes_at line.shape p) n 0) (omega arith)) (sizes line.shape) inside whole l)))
@@ -141,16 +144,16 @@ fails-negation line p is inside short =
 
     each : (l : LineParts) → IsIn l (negation_of line) → (IsIn l (never_outside line.shape 0 line.sets (whole_sets line.shape)) → LineHolds l p) → LineHolds l p
     each l (inl first) rest =
-        subst (λ (m : LineParts). LineHolds m p) (sym first) (record { enough = λ _. subst (λ (z : ℤ). IsEnough (not line.strict) z) (sym (amount-contrary line p)) (not_enough line.strict (amount line p) short) })
+        subst (λ (m : LineParts). LineHolds m p) (sym first) (record { enough = λ _. subst (λ (z : ℤ). IsEnough (contrary_relation line.relation) z) (sym (amount-contrary line p)) (not_enough line.relation (amount line p) other short) })
     each l (inr later) rest = rest later
 
--- the law of the negation: where no point of codes of their domains meets the lines and the negation of a line, the line follows from the lines
-pub refuted-follows : (lines : List LineParts) (line : LineParts) → IsLine line → ((p : Point) → HasCodes 0 line.shape p → AllHold lines p → AllHold (negation_of line) p → ⊥) → Follows lines line
-refuted-follows lines line is none p hold = record { enough = λ inside. (is_enough-Decides line.strict (amount line p)).0 (by (is_enough line.strict (amount line p)) refl inside) }
+-- the law of the negation: where no point of codes of their domains meets the lines and the negation of a line, a line that is no equality follows from the lines
+pub refuted-follows : (lines : List LineParts) (line : LineParts) → IsLine line → line.relation ≢ Equal → ((p : Point) → HasCodes 0 line.shape p → AllHold lines p → AllHold (negation_of line) p → ⊥) → Follows lines line
+refuted-follows lines line is other none p hold = record { enough = λ inside. (is_enough-Decides line.relation (amount line p)).0 (by (is_enough line.relation (amount line p)) refl inside) }
   where
-    by : (b : Bool) → is_enough line.strict (amount line p) ≡ b → AreCodesIn line.sets (codes_at line.shape p) → b ≡ true
+    by : (b : Bool) → is_enough line.relation (amount line p) ≡ b → AreCodesIn line.sets (codes_at line.shape p) → b ≡ true
     by true e inside = refl
-    by false e inside = let (held, meets) = fails-negation line p is inside e in absurd (none p held hold meets)
+    by false e inside = let (held, meets) = fails-negation line p is other inside e in absurd (none p held hold meets)
 
 -- ---- a point that meets the negation fails the line
 
@@ -203,24 +206,25 @@ module _ (shape : List Domain) (p : Point) (all : AreCodesIn (whole_sets shape) 
       by false e h rest = (has (h _ (inl refl)), rest (λ line there. h line (inr there)))
 
 -- a point of codes of their domains that meets the negation of a line fails the line
-pub negation-fails : (line : LineParts) (p : Point) → IsLine line → HasCodes 0 line.shape p → AllHold (negation_of line) p → LineHolds line p → ⊥
-negation-fails line p is held meets holds =
+pub negation-fails : (line : LineParts) (p : Point) → IsLine line → line.relation ≢ Equal → HasCodes 0 line.shape p → AllHold (negation_of line) p → LineHolds line p → ⊥
+negation-fails line p is other held meets holds =
     let whole : AreCodesIn (whole_sets line.shape) (codes_at line.shape p) = (is_inside-Decides (whole_sets line.shape) (codes_at line.shape p)).0 (wholes-inside line.shape p held) in
-    let turned : IsEnough (not line.strict) (amount (contrary line) p) = (meets 0 (contrary line) (omega arith)).enough whole in
+    let turned : IsEnough (contrary_relation line.relation) (amount (contrary line) p) = (meets 0 (contrary line) (omega arith)).enough whole in
     let inside : AreCodesIn line.sets (codes_at line.shape p) =
     outside-inside line.shape p whole 0 line.sets (whole_sets line.shape) (codes_at line.shape p) (λ k below. ap (λ n. slice_index_or (codes_at line.shape p) n 0) (omega arith)) whole
     (AreSets-length line.sets (whole_sets line.shape) is.sets) (λ l there. in-all (λ k. LineHolds k p) l (never_outside line.shape 0 line.sets (whole_sets line.shape)) (λ k d below. meets (suc k) d (omega arith)) there) in
-    both_ways line.strict (amount line p) (holds.enough inside) (subst (λ (z : ℤ). IsEnough (not line.strict) z) (amount-contrary line p) turned)
+    both_ways line.relation (amount line p) other (holds.enough inside) (subst (λ (z : ℤ). IsEnough (contrary_relation line.relation) z) (amount-contrary line p) turned)
   where
-    both_ways : (strict : Bool) (z : ℤ) → IsEnough strict z → IsEnough (not strict) (neg_ℤ z) → ⊥
-    both_ways true z h g = absurd (omega (arith, ints))
-    both_ways false z h g = absurd (omega (arith, ints))
+    both_ways : (relation : Relation) (z : ℤ) → relation ≢ Equal → IsEnough relation z → IsEnough (contrary_relation relation) (neg_ℤ z) → ⊥
+    both_ways AtLeast z other h g = absurd (omega (arith, ints))
+    both_ways Above z other h g = absurd (omega (arith, ints))
+    both_ways Equal z other h g = other refl
 
 -- so it holds exactly where the line does not
-pub negation-meets : (line : LineParts) (p : Point) → IsLine line → HasCodes 0 line.shape p → AllHold (negation_of line) p ↔ (¬ LineHolds line p)
-negation-meets line p is held = (negation-fails line p is held, λ fails. by (are_codes_in line.sets (codes_at line.shape p)) (is_enough line.strict (amount line p)) (is_inside-Decides line.sets (codes_at line.shape p)) refl fails)
+pub negation-meets : (line : LineParts) (p : Point) → IsLine line → line.relation ≢ Equal → HasCodes 0 line.shape p → AllHold (negation_of line) p ↔ (¬ LineHolds line p)
+negation-meets line p is other held = (negation-fails line p is other held, λ fails. by (are_codes_in line.sets (codes_at line.shape p)) (is_enough line.relation (amount line p)) (is_inside-Decides line.sets (codes_at line.shape p)) refl fails)
   where
-    by : (inside enough : Bool) → Decides inside (AreCodesIn line.sets (codes_at line.shape p)) → is_enough line.strict (amount line p) ≡ enough → (¬ LineHolds line p) → AllHold (negation_of line) p
-    by true true i e fails = absurd (fails (record { enough = λ _. (is_enough-Decides line.strict (amount line p)).0 e }))
-    by true false i e fails = (fails-negation line p is (i.0 refl) e).1
+    by : (inside enough : Bool) → Decides inside (AreCodesIn line.sets (codes_at line.shape p)) → is_enough line.relation (amount line p) ≡ enough → (¬ LineHolds line p) → AllHold (negation_of line) p
+    by true true i e fails = absurd (fails (record { enough = λ _. (is_enough-Decides line.relation (amount line p)).0 e }))
+    by true false i e fails = (fails-negation line p is other (i.0 refl) e).1
     by false enough i e fails = absurd (fails (record { enough = λ inside. absurd (cc (i.1 inside)) }))

@@ -1,4 +1,4 @@
-use Rattle.std.proofs.Common.{◌≡◌, ◌==◌, inl, inr, ℕ, zero, suc, ◌+◌, ◌-◌, ◌<◌, ◌≤◌, ◌^◌, ◌++◌, Bool, true, false, not, if◌then◌else◌, List, [], ◌∷◌, All, append_assoc, append-nil, bit_xor, drop, get_or, length, map, slice_index_or, slice_set, ℤ, pos, negsuc, refl, sym, ap, ◌∙◌, subst, arith}
+use Rattle.std.proofs.Common.{◌≡◌, ◌==◌, inl, inr, ℕ, zero, suc, ◌+◌, ◌-◌, ◌<◌, ◌≤◌, ◌^◌, ◌++◌, Bool, true, false, if◌then◌else◌, List, [], ◌∷◌, All, append_assoc, append-nil, bit_xor, drop, get_or, length, map, slice_index_or, slice_set, ℤ, pos, negsuc, refl, sym, ap, ◌∙◌, subst, arith}
 use lib.IntN.{neg_ℤ}
 use Rattle.std.proofs.Math.Nat.{one-le-pow}
 use Rattle.std.proofs.lemmas.Bool.Decides.{Decides-eqb}
@@ -12,8 +12,10 @@ use Rattle.edit_line.specs.Reductions.{IsIn}
 use Rattle.edit_line.specs.Sets.{AreSets}
 use Rattle.edit_line.specs.Shapes.{Categorical, Domain, Numerical, number_fields, whole_sets}
 use Rattle.edit_line.proofs.Members.{all-in, in-all, in-map-out}
+use Rattle.edit_line.specs.declared.relation.Relation.{Relation}
+use Rattle.edit_line.proofs.RelationLaws.{least_apart}
 use Rattle.edit_line.proofs.SetLaws.{AreSets-length}
-use Rattle.edit_line.specs.Negations.{contrary, negation_of, never, never_outside}
+use Rattle.edit_line.specs.Negations.{contrary, contrary_relation, negation_of, never, never_outside}
 
 -- The lines of a negation are lines.
 
@@ -49,7 +51,7 @@ set-among (w ∷ wholes) zero set are above within = (above, within, are.2)
 set-among (w ∷ wholes) (suc place) set are above within = (are.0, are.1, set-among wholes place set are.2 above within)
 
 pub never-is : (shape : List Domain) (sets : List ℕ) → AreSets sets (whole_sets shape) → IsLine (never shape sets)
-never-is shape sets are = record { sets = are; factors = length-map (number_fields shape) (λ f. pos 0); in_range = (zeros (number_fields shape), one_in) }
+never-is shape sets are = record { sets = are; factors = length-map (number_fields shape) (λ f. pos 0); in_range = (zeros (number_fields shape), one_in); whole = λ equal. absurd (least_apart equal) }
   where
     zero_in : InRange (pos 0)
     zero_in = omega arith
@@ -61,7 +63,7 @@ never-is shape sets are = record { sets = are; factors = length-map (number_fiel
     zeros fields = all-in InRange (map (λ f. pos 0) fields) (λ z there. let (f, was, is) = in-map-out (λ (f : ℕ). pos 0) z fields there in subst (λ (x : ℤ). InRange x) (sym is) zero_in)
 
 pub contrary-is : (line : LineParts) → IsLine line → IsLine (contrary line)
-contrary-is line is = record { sets = wholes-sets line.sets (whole_sets line.shape) is.sets; factors = length-map line.factors neg_ℤ ∙ is.factors; in_range = (negatives-in line.factors is.in_range.0, negative-in line.constant is.in_range.1) }
+contrary-is line is = record { sets = wholes-sets line.sets (whole_sets line.shape) is.sets; factors = length-map line.factors neg_ℤ ∙ is.factors; in_range = (negatives-in line.factors is.in_range.0, negative-in line.constant is.in_range.1); whole = λ _. refl }
 
 module _ (shape : List Domain) (all : AreSets (whole_sets shape) (whole_sets shape)) where
   -- the whole set at a place is of all codes
@@ -113,12 +115,12 @@ negation-lines line m is (inr there) =
 -- ---- in Rust
 
 -- a line with the parts of the contrary one
-pub contrary-parts : (line : LineParts) (shape : List Domain) (sets : List ℕ) (factors : List ℤ) (constant : ℤ) (strict : Bool) → IsLine line → shape ≡ line.shape → sets ≡ whole_sets line.shape → factors ≡ map neg_ℤ line.factors → constant ≡ neg_ℤ line.constant → strict ≡ not line.strict
-    → IsLine (parts_of shape sets factors constant strict)
-contrary-parts line shape sets factors constant strict is shape_is sets_are factors_are constant_is strict_is =
-    subst (λ (l : LineParts). IsLine l) (sym (ap (λ (s : List Domain). parts_of s sets factors constant strict) shape_is ∙ ap (λ (ss : List ℕ). parts_of line.shape ss factors constant strict) sets_are
-    ∙ ap (λ (fs : List ℤ). parts_of line.shape (whole_sets line.shape) fs constant strict) factors_are ∙ ap (λ (z : ℤ). parts_of line.shape (whole_sets line.shape) (map neg_ℤ line.factors) z strict) constant_is
-    ∙ ap (λ b. parts_of line.shape (whole_sets line.shape) (map neg_ℤ line.factors) (neg_ℤ line.constant) b) strict_is)) (contrary-is line is)
+pub contrary-parts : (line : LineParts) (shape : List Domain) (sets : List ℕ) (factors : List ℤ) (constant : ℤ) (relation : Relation) → IsLine line → shape ≡ line.shape → sets ≡ whole_sets line.shape → factors ≡ map neg_ℤ line.factors → constant ≡ neg_ℤ line.constant → relation ≡ contrary_relation line.relation
+    → IsLine (parts_of shape sets factors constant relation)
+contrary-parts line shape sets factors constant relation is shape_is sets_are factors_are constant_is relation_is =
+    subst (λ (l : LineParts). IsLine l) (sym (ap (λ (s : List Domain). parts_of s sets factors constant relation) shape_is ∙ ap (λ (ss : List ℕ). parts_of line.shape ss factors constant relation) sets_are
+    ∙ ap (λ (fs : List ℤ). parts_of line.shape (whole_sets line.shape) fs constant relation) factors_are ∙ ap (λ (z : ℤ). parts_of line.shape (whole_sets line.shape) (map neg_ℤ line.factors) z relation) constant_is
+    ∙ ap (λ (r : Relation). parts_of line.shape (whole_sets line.shape) (map neg_ℤ line.factors) (neg_ℤ line.constant) r) relation_is)) (contrary-is line is)
 
 pub zeros-are : (fields : List ℕ) (n : ℕ) → n ≡ length fields → replicate n (pos 0) ≡ map (λ f. pos 0) fields
 zeros-are [] zero same = refl

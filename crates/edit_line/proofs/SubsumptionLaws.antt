@@ -8,10 +8,11 @@ use Rattle.std.proofs.lemmas.Slice.Eq.{slice_eq-Decides}
 use Rattle.fraction128.proofs.Signs.{above-*}
 use Rattle.fraction128.proofs.Whole.{parts, ring, same_dif}
 use Rattle.edit_model.specs.Points.{Point}
-use Rattle.edit_line.specs.Lines.{Follows, IsEnough, LineHolds, LineParts, amount, weighted}
+use Rattle.edit_line.specs.Lines.{Follows, IsEnough, LineHolds, LineParts, amount, is_equal, weighted}
 use Rattle.edit_line.specs.Sets.{AreCodesIn, are_subsets}
 use Rattle.edit_line.specs.Shapes.{Domain, codes_at, numerators_at}
-use Rattle.edit_line.specs.Subsumption.{has_no_factor, is_enough, is_false, is_tighter, is_trivial, same_all, subsumes}
+use Rattle.edit_line.specs.Subsumption.{has_no_factor, implies, is_enough, is_false, is_tighter, is_trivial, same_all, subsumes}
+use Rattle.edit_line.specs.declared.relation.Relation.{Relation}
 use Rattle.edit_line.proofs.Enough.{IsEnough-more, IsEnough-times, IsEnough-weaker, IsEnough_cancel, is_enough-Decides}
 use Rattle.edit_line.proofs.SetLaws.{both_true, inside-all_inside}
 
@@ -42,16 +43,16 @@ trivial-holds line p trivial =
     let (none, holds) = both_true _ _ trivial in
     record {
       enough = λ inside.
-          subst (λ (z : ℤ). IsEnough line.strict z) (sym (amount-constant line p none)) (IsEnough-times line.strict line.constant p.denominator p.positive ((is_enough-Decides line.strict line.constant).0 holds));
+          subst (λ (z : ℤ). IsEnough line.relation z) (sym (amount-constant line p none)) (IsEnough-times line.relation line.constant p.denominator p.positive ((is_enough-Decides line.relation line.constant).0 holds));
     }
 
 -- a false line holds only where some code is outside its set
 pub false-outside : (line : LineParts) (p : Point) → is_false line ≡ true → LineHolds line p → AreCodesIn line.sets (codes_at line.shape p) → ⊥
 false-outside line p never holds inside =
     let (none, fails) = both_true _ _ never in
-    let at_constant : IsEnough line.strict (line.constant *ℤ p.denominator) = subst (λ (z : ℤ). IsEnough line.strict z) (amount-constant line p none) (holds.enough inside) in
-    let enough : is_enough line.strict line.constant ≡ true = (is_enough-Decides line.strict line.constant).1 (IsEnough_cancel line.strict line.constant p.denominator p.positive at_constant) in
-    absurd (not_both (is_enough line.strict line.constant) enough fails)
+    let at_constant : IsEnough line.relation (line.constant *ℤ p.denominator) = subst (λ (z : ℤ). IsEnough line.relation z) (amount-constant line p none) (holds.enough inside) in
+    let enough : is_enough line.relation line.constant ≡ true = (is_enough-Decides line.relation line.constant).1 (IsEnough_cancel line.relation line.constant p.denominator p.positive at_constant) in
+    absurd (not_both (is_enough line.relation line.constant) enough fails)
   where
     not_both : (b : Bool) → b ≡ true → not b ≡ true → ⊥
     not_both true h e = cc
@@ -63,18 +64,22 @@ further : (w a b d : ℤ) → w +ℤ b *ℤ d ≡ (w +ℤ a *ℤ d) +ℤ (b -ℤ
 further w a b d = rw (parts w, parts a, parts b, parts d) (simp ring (same_dif _ _ _ _ (omega arith)))
 
 -- the constant's part in the test
-tight : (first second : Bool) (w a b d : ℤ) → pos 0 <ℤ d → (int_lt a b || (int_eq a b && (first || not second))) ≡ true → IsEnough first (w +ℤ a *ℤ d) → IsEnough second (w +ℤ b *ℤ d)
-tight first second w a b d above test h = by (int_lt a b) refl test
+tight : (first second : Relation) (w a b d : ℤ) → pos 0 <ℤ d → ((int_lt a b && not (is_equal second)) || (int_eq a b && implies first second)) ≡ true → IsEnough first (w +ℤ a *ℤ d) → IsEnough second (w +ℤ b *ℤ d)
+tight first second w a b d above test h = by (int_lt a b) (is_equal second) refl refl test
   where
     less : int_lt a b ≡ true → pos 0 <ℤ (b -ℤ a)
     less e = grind (arith, ints)
 
-    by : (l : Bool) → int_lt a b ≡ l → (l || (int_eq a b && (first || not second))) ≡ true → IsEnough second (w +ℤ b *ℤ d)
-    by true e t = subst (λ (z : ℤ). IsEnough second z) (sym (further w a b d)) (IsEnough-more first second (w +ℤ a *ℤ d) ((b -ℤ a) *ℤ d) h (above-* (b -ℤ a) d (less e) above))
-    by false e t =
-        let (equal, either) = both_true _ _ t in
+    level : (int_eq a b && implies first second) ≡ true → IsEnough second (w +ℤ b *ℤ d)
+    level t =
+        let (equal, stronger) = both_true _ _ t in
         let is : a ≡ b = (Decides-int_eq a b).0 equal in
-        subst (λ (c : ℤ). IsEnough second (w +ℤ c *ℤ d)) is (IsEnough-weaker first second _ either h)
+        subst (λ (c : ℤ). IsEnough second (w +ℤ c *ℤ d)) is (IsEnough-weaker first second _ stronger h)
+
+    by : (l e : Bool) → int_lt a b ≡ l → is_equal second ≡ e → ((l && not e) || (int_eq a b && implies first second)) ≡ true → IsEnough second (w +ℤ b *ℤ d)
+    by true false is apart t = subst (λ (z : ℤ). IsEnough second z) (sym (further w a b d)) (IsEnough-more first second (w +ℤ a *ℤ d) ((b -ℤ a) *ℤ d) apart h (above-* (b -ℤ a) d (less is) above))
+    by true true is apart t = level t
+    by false e is apart t = level t
 
 pub same_all-Decides : (first second : List ℤ) → Decides (same_all first second) (first ≡ second)
 same_all-Decides first second = slice_eq-Decides {E = int_eq} Decides-int_eq first second (same_all first second) refl
@@ -89,16 +94,16 @@ subsumes-holds a b p shape test holds =
           by (is_false a) refl either in_a;
     }
   where
-    by : (f : Bool) → is_false a ≡ f → (f || (same_all a.factors b.factors && is_tighter a b)) ≡ true → AreCodesIn a.sets (codes_at a.shape p) → IsEnough b.strict (amount b p)
+    by : (f : Bool) → is_false a ≡ f → (f || (same_all a.factors b.factors && is_tighter a b)) ≡ true → AreCodesIn a.sets (codes_at a.shape p) → IsEnough b.relation (amount b p)
     by true never either in_a = absurd (false-outside a p never holds in_a)
     by false _ either in_a =
         let (equal, tighter) = both_true _ _ either in
         let factors : a.factors ≡ b.factors = (same_all-Decides a.factors b.factors).0 equal in
-        let here : IsEnough b.strict (weighted a.factors (numerators_at a.shape p) +ℤ b.constant *ℤ p.denominator) =
-        tight a.strict b.strict _ a.constant b.constant p.denominator p.positive tighter (holds.enough in_a) in
-        let moved : IsEnough b.strict (weighted b.factors (numerators_at a.shape p) +ℤ b.constant *ℤ p.denominator) =
-        subst (λ (fs : List ℤ). IsEnough b.strict (weighted fs (numerators_at a.shape p) +ℤ b.constant *ℤ p.denominator)) factors here in
-        subst (λ (s : List Domain). IsEnough b.strict (weighted b.factors (numerators_at s p) +ℤ b.constant *ℤ p.denominator)) (sym shape) moved
+        let here : IsEnough b.relation (weighted a.factors (numerators_at a.shape p) +ℤ b.constant *ℤ p.denominator) =
+        tight a.relation b.relation _ a.constant b.constant p.denominator p.positive tighter (holds.enough in_a) in
+        let moved : IsEnough b.relation (weighted b.factors (numerators_at a.shape p) +ℤ b.constant *ℤ p.denominator) =
+        subst (λ (fs : List ℤ). IsEnough b.relation (weighted fs (numerators_at a.shape p) +ℤ b.constant *ℤ p.denominator)) factors here in
+        subst (λ (s : List Domain). IsEnough b.relation (weighted b.factors (numerators_at s p) +ℤ b.constant *ℤ p.denominator)) (sym shape) moved
 
 -- so b follows from a
 pub subsumes-follows : (a b : LineParts) → b.shape ≡ a.shape → subsumes a b ≡ true → Follows (a ∷ []) b

@@ -21,6 +21,7 @@ use Rattle.edit_line.specs.Subsumption.{is_enough}
 use Rattle.edit_line.specs.Sums.{AgreesOnLine, AtFactors, fails_at, fails_by, next_sum, sum_at, sum_from, whole}
 use Rattle.edit_line.specs.declared.overflow.LineOverflow.{LineOverflow}
 use Rattle.edit_model.proofs.TrialLaws.{IsOverPoint, nothing_more, over_one, some_same, sum_with-over}
+use Rattle.edit_line.specs.declared.relation.Relation.{Relation}
 use Rattle.edit_line.proofs.Enough.{IsEnough-times, IsEnough_cancel, is_enough-Decides}
 
 -- A line's sum at a record is its amount at each point that agrees with the record.
@@ -80,22 +81,22 @@ module _ (p : Point) where
       (over_one line.constant p.denominator, omega (arith, ints)) e
 
 -- two numbers of one sign are enough alike
-alike : (strict : Bool) (a b d e : ℤ) → pos 0 <ℤ d → pos 0 <ℤ e → a *ℤ d ≡ b *ℤ e → is_enough strict a ≡ is_enough strict b
-alike strict a b d e d_above e_above same =
-    one_answer (is_enough strict a) (is_enough strict b) (is_enough-Decides strict a) (
-      λ h. IsEnough_cancel strict a d d_above (subst (λ (z : ℤ). IsEnough strict z) (sym same) (IsEnough-times strict b e e_above ((is_enough-Decides strict b).0 h))),
-      λ h. (is_enough-Decides strict b).1 (IsEnough_cancel strict b e e_above (subst (λ (z : ℤ). IsEnough strict z) same (IsEnough-times strict a d d_above h))),
+alike : (relation : Relation) (a b d e : ℤ) → pos 0 <ℤ d → pos 0 <ℤ e → a *ℤ d ≡ b *ℤ e → is_enough relation a ≡ is_enough relation b
+alike relation a b d e d_above e_above same =
+    one_answer (is_enough relation a) (is_enough relation b) (is_enough-Decides relation a) (
+      λ h. IsEnough_cancel relation a d d_above (subst (λ (z : ℤ). IsEnough relation z) (sym same) (IsEnough-times relation b e e_above ((is_enough-Decides relation b).0 h))),
+      λ h. (is_enough-Decides relation b).1 (IsEnough_cancel relation b e e_above (subst (λ (z : ℤ). IsEnough relation z) same (IsEnough-times relation a d d_above h))),
     )
 
 -- whether a line fails at a record is whether its amount is not enough at a point that agrees with the record
 pub fails_at-truth : (line : LineParts) (row : List Value) (p : Point) (failed : Bool) → HasNumbers row line → AgreesOnLine row p line → fails_at line row ≡ Ok failed
-    → failed ≡ not (is_enough line.strict (amount line p))
+    → failed ≡ not (is_enough line.relation (amount line p))
 fails_at-truth line row p failed held agreed e = by (sum_at line row) refl e
   where
-    by : (r : Result Ratio ℕ) → sum_at line row ≡ r → fails_by line.strict r ≡ Ok failed → failed ≡ not (is_enough line.strict (amount line p))
+    by : (r : Result Ratio ℕ) → sum_at line row ≡ r → fails_by line.relation r ≡ Ok failed → failed ≡ not (is_enough line.relation (amount line p))
     by (Ok s) is h =
         let over = sum_at-over p line row s held agreed is in
-        sym (ok_same _ failed _ refl h) ∙ ap not (alike line.strict s.numerator (amount line p) p.denominator s.denominator p.positive over.1 over.0)
+        sym (ok_same _ failed _ refl h) ∙ ap not (alike line.relation s.numerator (amount line p) p.denominator s.denominator p.positive over.1 over.0)
     by (Err f) is h = absurd (cc)
 
 -- ---- what the calls answer
@@ -122,8 +123,8 @@ module _ (line : LineParts) (row : List Value) (sum : Result Ratio ℕ) (same : 
   amount-answered held (Err fault) e = tt
 
 -- whether a line fails, from its sum
-pub fails-answered : (line : LineParts) (row : List Value) (p : Point) (sum : Fraction) (strict enough : Bool) (n : ℤ) → HasNumbers row line → AgreesOnLine row p line → sum_at line row ≡ Ok (ratio_of sum)
-    → strict ≡ line.strict → n ≡ sum.numerator → enough ≡ is_enough strict n → not enough ≡ not (is_enough line.strict (amount line p))
-fails-answered line row p sum strict enough n held agrees e same number is =
-    let answer : fails_at line row ≡ Ok (not (is_enough line.strict sum.numerator)) = ap (fails_by line.strict) e in
-    ap not (is ∙ ap (λ b. is_enough b n) same ∙ ap (λ (k : ℤ). is_enough line.strict k) number) ∙ fails_at-truth line row p _ held agrees answer
+pub fails-answered : (line : LineParts) (row : List Value) (p : Point) (sum : Fraction) (relation : Relation) (enough : Bool) (n : ℤ) → HasNumbers row line → AgreesOnLine row p line → sum_at line row ≡ Ok (ratio_of sum)
+    → relation ≡ line.relation → n ≡ sum.numerator → enough ≡ is_enough relation n → not enough ≡ not (is_enough line.relation (amount line p))
+fails-answered line row p sum relation enough n held agrees e same number is =
+    let answer : fails_at line row ≡ Ok (not (is_enough line.relation sum.numerator)) = ap (fails_by line.relation) e in
+    ap not (is ∙ ap (λ b. is_enough b n) same ∙ ap (λ (k : ℤ). is_enough line.relation k) number) ∙ fails_at-truth line row p _ held agrees answer

@@ -8,14 +8,16 @@ use Rattle.std.proofs.lemmas.List.Folds.{list_all-append}
 use Rattle.fraction128.proofs.DivisorLaws.{quotient-exact}
 use Rattle.fraction128.proofs.Whole.{comm, parts, ring, same_dif}
 use Rattle.edit_model.specs.Points.{Point}
-use Rattle.edit_line.specs.Combinations.{all_meet, divides, first_overflow, may_combine, numbers, sum_of}
-use Rattle.edit_line.proofs.PositiveSums.{IsCombined, IsPositiveSum}
+use Rattle.edit_line.specs.Combinations.{all_meet, divides, first_overflow, may_combine, may_multiply, numbers, sum_of}
+use Rattle.edit_line.proofs.AllowedSums.{IsCombined, IsAllowedSum}
 use Rattle.edit_line.specs.Divisors.{divided_by, divisor_of, gcd_all, or_one}
 use Rattle.edit_line.specs.Lines.{LineHolds, LineParts}
+use Rattle.edit_line.specs.declared.relation.Relation.TheVariants.{Above}
 use Rattle.edit_line.proofs.BoolLaws.{true-both}
 use Rattle.edit_line.proofs.CombinationLaws.{LineHolds-combined}
 use Rattle.edit_line.proofs.DivisionLaws.{divides-constant, divides-factors}
 use Rattle.edit_line.proofs.Enough.{is_enough-Decides}
+use Rattle.edit_line.proofs.RelationLaws.{may-keeps}
 use Rattle.edit_line.proofs.SetLaws.{both_true}
 
 -- A combination that may be taken holds where both its lines do.
@@ -37,33 +39,33 @@ module _ (m n g : ℤ) (s t : LineParts) where
   pub divided-sum : t.shape ≡ s.shape → divides g (sum_of m n s t) ≡ true → IsCombined m n g s t (divided_by g (sum_of m n s t))
   divided-sum same h =
       let (factors, last) = both_true _ _ (sym (list_all-append (λ z. int_eq (int_rem z g) (pos 0)) (sum_of m n s t).factors ((sum_of m n s t).constant ∷ [])) ∙ h) in
-      record { shape = refl; same = same; sets = refl; factors = multiples g (sum_of m n s t).factors factors; constant = multiple g (sum_of m n s t).constant (both_true _ _ last).0; strict = refl }
+      record { shape = refl; same = same; sets = refl; factors = multiples g (sum_of m n s t).factors factors; constant = multiple g (sum_of m n s t).constant (both_true _ _ last).0; relation = refl }
 
-  -- what may be taken is a positive sum
-  pub may-positive : t.shape ≡ s.shape → may_combine m n g s t ≡ true → IsPositiveSum m n g s t (divided_by g (sum_of m n s t))
-  may-positive same may =
-      let (m_above, after_m) = both_true (int_lt (pos 0) m) _ may in
-      let (n_above, after_n) = both_true (int_lt (pos 0) n) _ after_m in
+  -- what may be taken is an allowed sum
+  pub may-allowed : t.shape ≡ s.shape → may_combine m n g s t ≡ true → IsAllowedSum m n g s t (divided_by g (sum_of m n s t))
+  may-allowed same may =
+      let (m_may, after_m) = both_true (may_multiply s.relation m) _ may in
+      let (n_may, after_n) = both_true (may_multiply t.relation n) _ after_m in
       let (g_above, after_g) = both_true (int_lt (pos 0) g) _ after_n in
       let (meet, after_meet) = both_true (all_meet s.sets t.sets) _ after_g in
       let (fits, multiples) = both_true (is_none (first_overflow 0 m n (numbers s) (numbers t))) _ after_meet in
-      record { m_above = above m m_above; n_above = above n n_above; g_above = above g g_above; combined = divided-sum same multiples }
+      record { m_keeps = may-keeps s.relation m m_may; n_keeps = may-keeps t.relation n n_may; g_above = above g g_above; combined = divided-sum same multiples }
     where
       above : (z : ℤ) → int_lt (pos 0) z ≡ true → pos 0 <ℤ z
-      above z h = (is_enough-Decides true z).0 h
+      above z h = (is_enough-Decides Above z).0 h
 
   -- so it holds where both lines do
   pub combined-holds : t.shape ≡ s.shape → may_combine m n g s t ≡ true → (point : Point) → LineHolds s point → LineHolds t point → LineHolds (divided_by g (sum_of m n s t)) point
   combined-holds same may point s_holds t_holds =
-      let is = may-positive same may in LineHolds-combined m n g s t (divided_by g (sum_of m n s t)) point is.m_above is.n_above is.g_above is.combined s_holds t_holds
+      let is = may-allowed same may in LineHolds-combined m n g s t (divided_by g (sum_of m n s t)) point is.m_keeps is.n_keeps is.g_above is.combined s_holds t_holds
 
   -- when it may be taken
-  pub positive-may : pos 0 <ℤ m → pos 0 <ℤ n → pos 0 <ℤ g → all_meet s.sets t.sets ≡ true → first_overflow 0 m n (numbers s) (numbers t) ≡ None → divides g (sum_of m n s t) ≡ true → may_combine m n g s t ≡ true
-  positive-may m_above n_above g_above meet fits multiples =
-      true-both _ _ (above m m_above) (true-both _ _ (above n n_above) (true-both _ _ (above g g_above) (true-both _ _ meet (true-both _ _ (ap is_none fits) multiples))))
+  pub allowed-may : may_multiply s.relation m ≡ true → may_multiply t.relation n ≡ true → pos 0 <ℤ g → all_meet s.sets t.sets ≡ true → first_overflow 0 m n (numbers s) (numbers t) ≡ None → divides g (sum_of m n s t) ≡ true → may_combine m n g s t ≡ true
+  allowed-may m_may n_may g_above meet fits multiples =
+      true-both _ _ m_may (true-both _ _ n_may (true-both _ _ (above g g_above) (true-both _ _ meet (true-both _ _ (ap is_none fits) multiples))))
     where
       above : (z : ℤ) → pos 0 <ℤ z → int_lt (pos 0) z ≡ true
-      above z h = (is_enough-Decides true z).1 h
+      above z h = (is_enough-Decides Above z).1 h
 
 -- ---- the greatest common divisor
 

@@ -1,7 +1,9 @@
-use Rattle.std.specs.Prelude.{ℕ, suc, ℤ, pos, ◌^◌, ◌&&◌, ◌||◌, not, Bool, true, List, [], ◌∷◌, ◌++◌, Option, Some, None, is_none, Result, Ok, Err, map, int_lt, int_rem, bit_and, nat_eq, nat_lt, unsigned_abs, ◌+ℤ◌, ◌*ℤ◌, if◌then◌else◌}
+use Rattle.std.specs.Prelude.{ℕ, suc, ℤ, pos, ◌^◌, ◌&&◌, not, Bool, true, List, [], ◌∷◌, ◌++◌, Option, Some, None, is_none, Result, Ok, Err, map, int_lt, int_rem, bit_and, nat_eq, nat_lt, unsigned_abs, ◌+ℤ◌, ◌*ℤ◌, if◌then◌else◌}
 use Rattle.std.specs.List.{list_all}
 use Rattle.std.specs.Ordering.{int_eq}
 use Rattle.edit_line.specs.Lines.{LineParts, parts_of}
+use Rattle.edit_line.specs.declared.relation.Relation.{Relation}
+use Rattle.edit_line.specs.declared.relation.Relation.TheVariants.{Above, AtLeast, Equal}
 
 -- some code of each field is in both sets
 abbrev pub all_meet : List ℕ → List ℕ → Bool
@@ -20,10 +22,18 @@ combined m n (a ∷ first) (b ∷ second) = (m *ℤ a +ℤ n *ℤ b) ∷ combine
 combined m n [] second = map (λ b. n *ℤ b) second
 combined m n first [] = map (λ a. m *ℤ a) first
 
--- m times s and n times t, where both sets meet, and strict where one is
+-- the relation of a sum of two lines: equal where both are, above where one is, else at least
+abbrev pub joined : Relation → Relation → Relation
+joined Equal other = other
+joined Above other = Above
+joined AtLeast Above = Above
+joined AtLeast AtLeast = AtLeast
+joined AtLeast Equal = AtLeast
+
+-- m times s and n times t, where both sets meet
 abbrev pub sum_of : ℤ → ℤ → LineParts → LineParts → LineParts
 sum_of m n s t = parts_of s.shape (in_both s.sets t.sets) (combined m n s.factors t.factors)
-    (m *ℤ s.constant +ℤ n *ℤ t.constant) (s.strict || t.strict)
+    (m *ℤ s.constant +ℤ n *ℤ t.constant) (joined s.relation t.relation)
 
 -- ---- the numbers formed on the way
 
@@ -60,7 +70,13 @@ abbrev pub may_sum : ℤ → ℤ → ℤ → LineParts → LineParts → Bool
 may_sum m n g s t =
     all_meet s.sets t.sets && (is_none (first_overflow 0 m n (numbers s) (numbers t)) && divides g (sum_of m n s t))
 
--- whether m times s and n times t, divided by g, may be taken: m, n and g are above 0, and the sum may be
+-- whether a line with this relation may be multiplied so: by a number above 0, and an equality by any in range but 0
+abbrev pub may_multiply : Relation → ℤ → Bool
+may_multiply Equal m = in_range m && not (int_eq m (pos 0))
+may_multiply AtLeast m = int_lt (pos 0) m
+may_multiply Above m = int_lt (pos 0) m
+
+-- whether m times s and n times t, divided by g, may be taken: both lines may be multiplied so, g is above 0, and the sum may be taken
 abbrev pub may_combine : ℤ → ℤ → ℤ → LineParts → LineParts → Bool
 may_combine m n g s t =
-    int_lt (pos 0) m && (int_lt (pos 0) n && (int_lt (pos 0) g && may_sum m n g s t))
+    may_multiply s.relation m && (may_multiply t.relation n && (int_lt (pos 0) g && may_sum m n g s t))

@@ -1,10 +1,12 @@
-use Rattle.std.specs.Prelude.{ℕ, ◌&&◌, not, Bool, true, false, List, if◌then◌else◌, nat_eq}
+use Rattle.std.specs.Prelude.{ℕ, ◌&&◌, Bool, true, false, List, nat_eq}
 use Rattle.std.specs.Cmp.Lexicographic.{pointwise}
 use Rattle.std.specs.Ordering.{int_eq}
 use Rattle.edit_line.specs.EditSets.{EditsParts}
 use Rattle.edit_line.specs.Lines.{LineParts}
 use Rattle.edit_line.specs.Shapes.{Categorical, Domain, Numerical}
 use Rattle.edit_line.specs.Subsumption.{same_all}
+use Rattle.edit_line.specs.declared.relation.Relation.{Relation}
+use Rattle.edit_line.specs.declared.relation.Relation.TheVariants.{Above, AtLeast, Equal}
 
 -- whether two fields take the same values
 abbrev pub same_domain : Domain → Domain → Bool
@@ -16,13 +18,16 @@ same_domain _ _ = false
 abbrev pub same_shape : List Domain → List Domain → Bool
 same_shape first second = pointwise same_domain first second
 
--- whether two lines are both strict, or both not
-abbrev pub same_strict : Bool → Bool → Bool
-same_strict first second = if first then second else not second
+-- whether two relations are the same
+abbrev pub same_relation : Relation → Relation → Bool
+same_relation AtLeast AtLeast = true
+same_relation Above Above = true
+same_relation Equal Equal = true
+same_relation _ _ = false
 
 -- whether two lines ask for the same linear part
 abbrev pub same_linear : LineParts → LineParts → Bool
-same_linear a b = same_all a.factors b.factors && (int_eq a.constant b.constant && same_strict a.strict b.strict)
+same_linear a b = same_all a.factors b.factors && (int_eq a.constant b.constant && same_relation a.relation b.relation)
 
 -- whether two lines are equal
 abbrev pub same_line : LineParts → LineParts → Bool

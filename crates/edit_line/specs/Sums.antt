@@ -11,6 +11,7 @@ use Rattle.edit_model.specs.declared.value.Value.{Value}
 use Rattle.edit_line.specs.Lines.{LineParts}
 use Rattle.edit_line.specs.Shapes.{number_fields}
 use Rattle.edit_line.specs.Subsumption.{is_enough}
+use Rattle.edit_line.specs.declared.relation.Relation.{Relation}
 
 -- the fact holds of each field beside a factor other than 0
 abbrev pub AtFactors : (ℕ → Type 0) → List ℕ → List ℤ → Type 0
@@ -46,9 +47,9 @@ abbrev pub sum_at : LineParts → List Value → Result Ratio ℕ
 sum_at line row = sum_from (number_fields line.shape) line.factors row (whole line.constant)
 
 -- whether a sum is not enough
-abbrev pub fails_by : Bool → Result Ratio ℕ → Result Bool ℕ
-fails_by strict answer = answer >>= (λ sum. Ok (not (is_enough strict sum.numerator)))
+abbrev pub fails_by : Relation → Result Ratio ℕ → Result Bool ℕ
+fails_by relation answer = answer >>= (λ sum. Ok (not (is_enough relation sum.numerator)))
 
 -- whether the line's linear part is false at a record; or the first field at which a number of its sum leaves the range
 abbrev pub fails_at : LineParts → List Value → Result Bool ℕ
-fails_at line row = fails_by line.strict (sum_at line row)
+fails_at line row = fails_by line.relation (sum_at line row)

@@ -1,7 +1,7 @@
 //! Whether lines, and whole edits, are equal.
 ghost use Rattle.std.specs.Prelude.{◌≡◌, ◌↔◌, ℕ, length, true};
 ghost use Rattle.std.specs.Cmp.Lexicographic.{pointwise};
-ghost use Rattle.edit_line.specs.Equality.{same_edits, same_line, same_numbered, same_shape, same_strict};
+ghost use Rattle.edit_line.specs.Equality.{same_edits, same_line, same_numbered, same_shape};
 ghost use Rattle.edit_line.specs.Domains.{domains};
 
 use crate::edits::Edits;
@@ -43,7 +43,7 @@ fn same_parts(a: &Line, b: &Line) -> bool
         && a.sets() == b.sets()
         && a.factors() == b.factors()
         && a.constant() == b.constant()
-        && same_strict(a.strict(), b.strict())
+        && a.relation().same(b.relation())
 }
 
 // Whether two lists have equal lines with equal numbers, place by place.
@@ -73,11 +73,4 @@ fn same_shape(first: Shape, second: Shape) -> bool
     ensures { result ≡ same_shape (domains first) (domains second) }
 {
     first.code_counts() == second.code_counts()
-}
-
-// Whether both or none are strict.
-fn same_strict(first: bool, second: bool) -> bool
-    ensures { result ≡ same_strict first second }
-{
-    if first { second } else { !second }
 }

@@ -1,5 +1,5 @@
 //! Linear edits, as elimination takes them: IF each code is in its set THEN a sum of factor * value and a
-//! constant is at least 0, or above it. Begin with [`Line`]; its meaning is in `specs/Lines.antt`. The
+//! constant is at least 0, above 0, or 0. Begin with [`Line`]; its meaning is in `specs/Lines.antt`. The
 //! contracts say what a line's sum is at a record ([`value_at`], [`fails`]), when one line makes another
 //! needless ([`subsumes`]), that a list without its needless lines ([`reduce`]) says the same, and that
 //! the negation of a line ([`Line::negation`]) holds exactly where the line does not.
@@ -20,6 +20,7 @@ mod negation;
 mod overflow;
 mod place;
 mod reduction;
+mod relation;
 mod shape;
 mod subsumption;
 mod sum;
@@ -34,6 +35,7 @@ pub use line::Line;
 pub use overflow::LineOverflow;
 pub use place::{Place, place_among};
 pub use reduction::reduce;
+pub use relation::Relation;
 pub use shape::{Shape, whole_set};
 pub use subsumption::{is_false, subsumes};
 pub use sum::{fails, value_at};

@@ -1,4 +1,4 @@
-ghost use Rattle.std.specs.Prelude.{◌≡◌, ◌<ℤ◌, ◌||◌, All, IfOk, None, length, pos, true};
+ghost use Rattle.std.specs.Prelude.{◌≡◌, ◌<ℤ◌, All, IfOk, None, length, pos, true};
 ghost use Rattle.fraction128.specs.Range.{InRange};
 ghost use Rattle.edit_line.specs.Combinations.{all_meet, first_overflow, numbers, sum_of};
 ghost use Rattle.edit_line.specs.Divisors.{divided_by, reduced};
@@ -11,6 +11,7 @@ ghost use Rattle.edit_line.specs.Shapes.{number_fields, shape_of, whole_sets};
 use crate::code_sets::narrow;
 use crate::division::{divide_all, divisor_of, quotient};
 use crate::line_sum::{sum_of_products, write_sums};
+use crate::relation::Relation;
 use crate::shape::Shape;
 use edit_model::Survey;
 use foundation::OutOfMemory;
@@ -18,15 +19,16 @@ use std::alloc::Global;
 use std::marker::Model;
 
 /// A linear edit: IF each code is in its set THEN the sum of factor * value, and the constant, is at
-/// least 0, or above 0 where the line is strict. It has a set, as bits, for each categorical field and a
+/// least 0, above 0, or 0, as its relation says. It has a set, as bits, for each categorical field and a
 /// factor for each numerical one, both in declared order. No set is empty or has a code that the field
-/// has not, and each number is of absolute value at most `2^127 - 1`.
+/// has not, and each number is of absolute value at most `2^127 - 1`. An equality, whose sum has to be 0,
+/// has whole sets: it is asked for all codes.
 #[derive(Debug, Drop)]
 pub struct Line {
     sets: Vec<u64>,
     factors: Vec<i128>,
     constant: i128,
-    strict: bool,
+    relation: Relation,
     shape: Shape,
 }
 
@@ -36,9 +38,9 @@ impl Model for Line {
 
     ghost Value = { LineParts };
 
-    ghost view = { λ l. parts_of (domains l.shape) l.sets.items l.factors.items l.constant l.strict };
+    ghost view = { λ l. parts_of (domains l.shape) l.sets.items l.factors.items l.constant l.relation };
 
-    ghost invariant = { λ l. IsLine (parts_of (domains l.shape) l.sets.items l.factors.items l.constant l.strict) };
+    ghost invariant = { λ l. IsLine (parts_of (domains l.shape) l.sets.items l.factors.items l.constant l.relation) };
 }
 
 impl Line {
@@ -48,12 +50,12 @@ impl Line {
         sets: Vec<u64>,
         factors: Vec<i128>,
         constant: i128,
-        strict: bool,
+        relation: Relation,
     ) -> Line
-        requires { IsLine (parts_of (shape_of survey.now.fields) sets.items factors.items constant strict) }
-        ensures { result ≡ parts_of (shape_of survey.now.fields) sets.items factors.items constant strict }
+        requires { IsLine (parts_of (shape_of survey.now.fields) sets.items factors.items constant relation) }
+        ensures { result ≡ parts_of (shape_of survey.now.fields) sets.items factors.items constant relation }
     {
-        Line::over(Shape::of(survey), sets, factors, constant, strict)
+        Line::over(Shape::of(survey), sets, factors, constant, relation)
     }
 
     /// The line of these parts, over fields of this shape. No memory.
@@ -62,16 +64,16 @@ impl Line {
         sets: Vec<u64>,
         factors: Vec<i128>,
         constant: i128,
-        strict: bool,
+        relation: Relation,
     ) -> Line
-        requires { IsLine (parts_of (domains shape) sets.items factors.items constant strict) }
-        ensures { result ≡ parts_of (domains shape) sets.items factors.items constant strict }
+        requires { IsLine (parts_of (domains shape) sets.items factors.items constant relation) }
+        ensures { result ≡ parts_of (domains shape) sets.items factors.items constant relation }
     {
         Line {
             sets,
             factors,
             constant,
-            strict,
+            relation,
             shape,
         }
     }
@@ -83,12 +85,12 @@ impl Line {
         sets: Vec<u64>,
         factors: Vec<i128>,
         constant: i128,
-        strict: bool,
+        relation: Relation,
     ) -> Line
-        requires { IsLine (parts_of (domains shape) sets.items factors.items constant strict) }
-        ensures { result ≡ reduced (parts_of (domains shape) sets.items factors.items constant strict) }
+        requires { IsLine (parts_of (domains shape) sets.items factors.items constant relation) }
+        ensures { result ≡ reduced (parts_of (domains shape) sets.items factors.items constant relation) }
     {
-        let mut line = Line::over(shape, sets, factors, constant, strict);
+        let mut line = Line::over(shape, sets, factors, constant, relation);
         line.reduce_numbers();
         line
     }
@@ -119,11 +121,11 @@ impl Line {
         self.constant
     }
 
-    /// Whether the sum has to be above 0. No memory.
-    pub fn strict(&self) -> bool
-        ensures { result ≡ self.now.strict }
+    /// What is asked of the sum. No memory.
+    pub fn relation(&self) -> Relation
+        ensures { result ≡ self.now.relation }
     {
-        self.strict
+        self.relation
     }
 
     /// The shape of the survey. No memory.
@@ -152,7 +154,7 @@ impl Line {
                     self.sets.copy_from_slice(s.sets());
                     narrow(&mut self.sets, t.sets());
                     self.constant = constant;
-                    self.strict = either(s.strict(), t.strict());
+                    self.relation = s.relation().joined(t.relation());
                     None
                 }
             },
@@ -190,15 +192,8 @@ impl Line {
             sets,
             factors,
             constant: self.constant,
-            strict: self.strict,
+            relation: self.relation,
             shape: self.shape,
         })
     }
-}
-
-// Whether one of the two is so.
-fn either(a: bool, b: bool) -> bool
-    ensures { result ≡ (a || b) }
-{
-    a || b
 }

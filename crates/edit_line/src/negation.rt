@@ -1,22 +1,25 @@
-//! The negation of a line, as lines.
-ghost use Rattle.std.specs.Prelude.{◌≡◌, ◌<◌, ◌↔◌, ◌++◌, All, IfOk, OnOk, length, map, neg_ℤ, slice_index_or};
+//! The negation of a line that is no equality, as lines.
+ghost use Rattle.std.specs.Prelude.{◌≡◌, ◌≢◌, ◌<◌, ◌↔◌, ◌++◌, All, IfOk, OnOk, length, map, neg_ℤ, slice_index_or};
 ghost use Rattle.edit_line.specs.inner.OutsideLines.{outside_line};
 ghost use Rattle.fraction128.specs.Range.{InRange};
 ghost use Rattle.edit_model.specs.Points.{Point};
 ghost use Rattle.edit_line.specs.Lines.{AllHold, IsLine, LineHolds};
 ghost use Rattle.edit_line.specs.Negations.{contrary, negation_of, never};
 ghost use Rattle.edit_line.specs.Sets.{AreSets};
+ghost use Rattle.edit_line.specs.declared.relation.Relation.TheVariants.{Equal};
 ghost use Rattle.edit_line.specs.Shapes.{HasCodes, whole_sets};
 
 use crate::line::Line;
+use crate::relation::Relation;
 use foundation::OutOfMemory;
 use std::alloc::Global;
 
 impl Line {
-    /// The negation, as lines: the negative of the sum is at least 0, or above it where the line is not
-    /// strict; and for each set that is not whole, the field has no code outside it. At a point with codes
-    /// of their fields these hold exactly where the line does not.
+    /// The negation of a line that is no equality, as lines: the negative of the sum is above 0, or at least
+    /// 0 where the line's is to be above it; and for each set that is not whole, the field has no code
+    /// outside it. At a point with codes of their fields these hold exactly where the line does not.
     pub fn negation(&self, alloc: Global) -> Result<Vec<Line>, OutOfMemory>
+        requires { self.now.relation ≢ Equal }
         ensures exact { IfOk result (λ negation. negation.items ≡ negation_of self.now) }
         ensures lines { IfOk result (λ negation. All IsLine negation.items) }
         ensures contrary { IfOk result (λ negation. (p : Point)
@@ -33,7 +36,7 @@ impl Line {
     }
 }
 
-// The negative of the line's sum is at least 0, or above it where the line is not strict, for all codes.
+// The negative of the line's sum is above 0, or at least 0 where the line's is to be above it, for all codes.
 fn contrary(alloc: Global, line: &Line, wholes: &[u64]) -> Result<Line, OutOfMemory>
     requires { wholes.now ≡ whole_sets line.now.shape }
     ensures { IfOk result (λ other. other ≡ contrary line.now) }
@@ -46,7 +49,7 @@ fn contrary(alloc: Global, line: &Line, wholes: &[u64]) -> Result<Line, OutOfMem
         sets,
         factors,
         negative(line.constant()),
-        !line.strict(),
+        line.relation().contrary_relation(),
     ))
 }
 
@@ -103,5 +106,5 @@ fn never(alloc: Global, line: &Line, sets: Vec<u64>) -> Result<Line, OutOfMemory
     ensures { IfOk result (λ other. other ≡ never line.now.shape sets.items) }
 {
     let factors = vec![in alloc; 0; line.factors().len()]?;
-    Ok(Line::over(line.shape(), sets, factors, -1, false))
+    Ok(Line::over(line.shape(), sets, factors, -1, Relation::AtLeast))
 }

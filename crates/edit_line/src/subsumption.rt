@@ -1,13 +1,13 @@
 ghost use Rattle.std.specs.Prelude.{◌≡◌, [], ◌∷◌, true};
 ghost use Rattle.edit_line.specs.Lines.{Follows};
-ghost use Rattle.edit_line.specs.Subsumption.{has_no_factor, is_enough, is_false, is_tighter, is_trivial, subsumes};
+ghost use Rattle.edit_line.specs.Subsumption.{has_no_factor, is_false, is_tighter, is_trivial, subsumes};
 
 use crate::code_sets::are_inside;
 use crate::line::Line;
 
 /// Whether a subsumes b: each set of b is inside a's, and a is false wherever its codes are, or both have
-/// the same factors and a's constant is less, or equal where a is strict or b is not. Then b says nothing
-/// that a does not say. No memory.
+/// the same factors and a is as tight: its constant is less and b is no equality, or it is equal and a's
+/// relation implies b's. Then b says nothing that a does not say. No memory.
 pub fn subsumes(a: &Line, b: &Line) -> bool
     ensures exact { result ≡ subsumes a.now b.now }
     ensures follows { b.now.shape ≡ a.now.shape → result ≡ true → Follows (a.now ∷ []) b.now }
@@ -20,21 +20,14 @@ pub fn subsumes(a: &Line, b: &Line) -> bool
 pub(crate) fn is_trivial(line: &Line) -> bool
     ensures { result ≡ is_trivial line.now }
 {
-    is_enough(line.strict(), line.constant()) && has_no_factor(line)
-}
-
-/// Whether a number is above 0, or, where it need not be strictly, at least 0.
-pub(crate) fn is_enough(strict: bool, number: i128) -> bool
-    ensures { result ≡ is_enough strict number }
-{
-    if strict { number > 0 } else { number >= 0 }
+    line.relation().is_enough(line.constant()) && has_no_factor(line)
 }
 
 /// Whether the line has no factor, and never holds where its codes are in its sets. No memory.
 pub fn is_false(line: &Line) -> bool
     ensures { result ≡ is_false line.now }
 {
-    !is_enough(line.strict(), line.constant()) && has_no_factor(line)
+    !line.relation().is_enough(line.constant()) && has_no_factor(line)
 }
 
 // Whether no numerical field stands in the line.
@@ -44,9 +37,10 @@ fn has_no_factor(line: &Line) -> bool
     line.factors().iter().all(|factor| *factor == 0)
 }
 
-// Whether a's constant is less, or is equal and a is strict or b is not.
+// Whether a's constant is less and b is no equality, or the constants are equal and a's relation implies b's.
 fn is_tighter(a: &Line, b: &Line) -> bool
     ensures { result ≡ is_tighter a.now b.now }
 {
-    a.constant() < b.constant() || (a.constant() == b.constant() && (a.strict() || !b.strict()))
+    (a.constant() < b.constant() && !b.relation().is_equal())
+        || (a.constant() == b.constant() && a.relation().implies(b.relation()))
 }

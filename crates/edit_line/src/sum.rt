@@ -12,7 +12,6 @@ ghost use Rattle.edit_line.specs.Sums.{AgreesOnLine, fails_at, next_sum, sum_at,
 
 use crate::line::Line;
 use crate::overflow::LineOverflow;
-use crate::subsumption::is_enough;
 use edit_model::{Row, Survey, Value};
 use fraction128::{Fraction, Overflow};
 
@@ -31,8 +30,8 @@ pub fn value_at(survey: &Survey, line: &Line, row: &Row) -> Result<Fraction, Lin
     sum_over(survey.numbers(), line.factors(), line.constant(), row)
 }
 
-/// Whether the linear part is false at the record: its sum, as [`value_at`] tells it, is below 0, or is 0
-/// where the line is strict. The refusal is that of [`value_at`]. No memory.
+/// Whether the linear part is false at the record: its sum, as [`value_at`] tells it, is not at least 0,
+/// above 0, or 0, as the relation says. The refusal is that of [`value_at`]. No memory.
 pub fn fails(survey: &Survey, line: &Line, row: &Row) -> Result<bool, LineOverflow>
     requires shape { line.now.shape ≡ shape_of survey.now.fields }
     requires row { IsRow survey.now.fields row.now }
@@ -40,10 +39,10 @@ pub fn fails(survey: &Survey, line: &Line, row: &Row) -> Result<bool, LineOverfl
     ensures overflow { IfErr result (λ fault. fails_at line.now row.now ≡ Err fault.field) }
     ensures truth { IfOk result (λ failed. (p : Point)
         → AgreesOnLine row.now p line.now
-        → failed ≡ not (is_enough line.now.strict (amount line.now p))) }
+        → failed ≡ not (is_enough line.now.relation (amount line.now p))) }
 {
     let sum = value_at(survey, line, row)?;
-    Ok(!is_enough(line.strict(), sum.numerator()))
+    Ok(!line.relation().is_enough(sum.numerator()))
 }
 
 // The constant, and then factor * value at each of the fields whose factor is not 0.

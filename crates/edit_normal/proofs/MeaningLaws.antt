@@ -14,7 +14,7 @@ use Rattle.edit_line.proofs.ShapeLaws.{HasCodes-shape}
 use Rattle.edit_normal.specs.NormalForm.{rule_lines_of}
 use Rattle.edit_normal.specs.RuleLines.{rule_lines_from, normal_lines_of, numbered}
 use Rattle.edit_normal.specs.declared.rule_line.RuleLine.{RuleLine}
-use Rattle.edit_normal.proofs.NormalLaws.{implied-own, normal-Decides}
+use Rattle.edit_normal.proofs.NormalLaws.{rule-own, normal-Decides}
 use Rattle.edit_normal.proofs.RuleForms.{fits-rule}
 
 -- All normal lines of a survey hold exactly where all its rules do.
@@ -44,7 +44,7 @@ lines-all survey lines is = ap (λ (ls : List RuleLine). map (λ (l : RuleLine).
 rules-over : (shape : List Domain) (rules : List Rule) → AreOver shape (flat_map (λ rule. rule_lines_of shape rule) rules)
 rules-over shape rules = all-in (λ (line : LineParts). line.shape ≡ shape) (flat_map (λ rule. rule_lines_of shape rule) rules) (λ line there.
     let (rule, was, made) = in-flat_map-out (λ (rule : Rule). rule_lines_of shape rule) line rules there in
-    in-all (λ (line : LineParts). line.shape ≡ shape) line _ (implied-own shape rule) (in-filter-out (λ (l : LineParts). none_is_empty l.sets) line _ made).0)
+    in-all (λ (line : LineParts). line.shape ≡ shape) line _ (rule-own shape rule) (in-filter-out (λ (l : LineParts). none_is_empty l.sets) line _ made).0)
 
 pub lines-over : (survey : SurveyParts) (lines : List RuleLine) → lines ≡ rule_lines_from (shape_of survey.fields) 0 survey.rules → AreOver (shape_of survey.fields) (map (λ (l : RuleLine). l.line) lines)
 lines-over survey lines is = subst (λ (ls : List LineParts). AreOver (shape_of survey.fields) ls) (sym (lines-all survey lines is)) (rules-over (shape_of survey.fields) survey.rules)

@@ -19,10 +19,10 @@ use Rattle.edit_line.specs.Sets.{none_is_empty, are_codes_in}
 use Rattle.edit_line.specs.Shapes.{Domain, HasCodes, code_fields, codes_at, has_field, whole_sets}
 use Rattle.edit_line.proofs.ShapeLaws.{length-wholes}
 use Rattle.edit_line.proofs.Members.{all-in, in-all, in-filter, in-filter-out}
-use Rattle.edit_normal.specs.NormalForm.{compare_lines, contrary_lines, implied_lines, narrowed, rule_lines_of}
+use Rattle.edit_normal.specs.NormalForm.{all_lines_of, always_lines, compare_always, compare_lines, contrary_lines, implied_lines, lines_under, narrowed, rule_lines_of}
 use Rattle.edit_normal.specs.RuleLines.{LinesHold, rule_lines_from, numbered}
 use Rattle.edit_normal.specs.declared.rule_line.RuleLine.{RuleLine}
-use Rattle.edit_normal.proofs.LineSteps.{compare-Decides, contrary-Decides, empty-holds, one-Decides}
+use Rattle.edit_normal.proofs.LineSteps.{always-Decides, compare-Decides, contrary-Decides, empty-holds, one-Decides}
 use Rattle.edit_line.proofs.NegationLaws.{never-Decides}
 use Rattle.edit_normal.proofs.SumLaws.{HasTerms}
 use Rattle.edit_normal.proofs.TestSets.{narrowed-inside, narrowed-length, whole-inside}
@@ -145,19 +145,54 @@ module _ (shape : List Domain) where
           let is = in-all (λ (l : LineParts). (l.shape ≡ shape) × (length l.sets ≡ length (code_fields shape))) line lines over there in
           empty-holds line p (is.1 ∙ ap (λ (s : List Domain). length (code_fields s)) (sym is.0) ∙ sym (length-map (code_fields line.shape) p.code)) e
 
+-- so have those of a rule without conditions
+always-over : (shape : List Domain) (conclusion : Test) → All (IsOver shape) (always_lines shape conclusion)
+unfolding reduced IsOver
+always-over shape (Codes field negated codes) = implied-over shape (whole_sets shape) [] (Codes field negated codes) (length-wholes 0 shape)
+always-over shape (Number e) = by e.compare
+  where
+    by : (c : Compare) → All (IsOver shape) (compare_always shape e c)
+    by Ge = compare-over shape (whole_sets shape) e Ge (length-wholes 0 shape)
+    by Gt = compare-over shape (whole_sets shape) e Gt (length-wholes 0 shape)
+    by Le = compare-over shape (whole_sets shape) e Le (length-wholes 0 shape)
+    by Lt = compare-over shape (whole_sets shape) e Lt (length-wholes 0 shape)
+    by Eq = one-over shape _ (refl, length-wholes 0 shape)
+
+under-over : (shape : List Domain) (conditions : List Test) (conclusion : Test) → All (IsOver shape) (lines_under shape conditions conclusion)
+under-over shape [] conclusion = always-over shape conclusion
+under-over shape (condition ∷ conditions) conclusion = implied-over shape (whole_sets shape) (condition ∷ conditions) conclusion (length-wholes 0 shape)
+
 -- the lines of a rule are over the fields of the shape
-pub implied-own : (shape : List Domain) (rule : Rule) → AreOver shape (implied_lines shape (whole_sets shape) rule.conditions rule.conclusion)
+pub rule-own : (shape : List Domain) (rule : Rule) → AreOver shape (all_lines_of shape rule)
 unfolding IsOver
-implied-own shape rule k d below = (implied-over shape (whole_sets shape) rule.conditions rule.conclusion (length-wholes 0 shape) k d below).0
+rule-own shape rule k d below = (under-over shape rule.conditions rule.conclusion k d below).0
+
+-- what the lines of a rule say: a condition is false, or the conclusion is true
+under-Decides : (shape : List Domain) (conditions : List Test) (conclusion : Test) (p : Point) → FitsRule shape conditions conclusion → HasCodes 0 shape p
+    → Decides (list_any (λ (t : Test). not (test_holds t p)) conditions || test_holds conclusion p) (AllHold (lines_under shape conditions conclusion) p)
+under-Decides shape conditions conclusion p fits held = by conditions conclusion fits
+  where
+    inside : are_codes_in (whole_sets shape) (codes_at shape p) ≡ true
+    inside = whole-inside 0 shape p held
+
+    implied : (conditions : List Test) (conclusion : Test) → FitsRule shape conditions conclusion
+        → Decides (list_any (λ (t : Test). not (test_holds t p)) conditions || test_holds conclusion p) (AllHold (implied_lines shape (whole_sets shape) conditions conclusion) p)
+    implied conditions conclusion fits =
+        subst (λ (i : Bool). Decides (not i || (list_any (λ (t : Test). not (test_holds t p)) conditions || test_holds conclusion p)) (AllHold (implied_lines shape (whole_sets shape) conditions conclusion) p)) inside
+        (implied-Decides shape p held (whole_sets shape) conditions conclusion (length-wholes 0 shape) fits)
+
+    by : (conditions : List Test) (conclusion : Test) → FitsRule shape conditions conclusion
+        → Decides (list_any (λ (t : Test). not (test_holds t p)) conditions || test_holds conclusion p) (AllHold (lines_under shape conditions conclusion) p)
+    by [] (Number e) fits = always-Decides shape (whole_sets shape) e p fits e.compare refl inside
+    by [] (Codes field negated codes) fits = implied [] (Codes field negated codes) fits
+    by (condition ∷ conditions) conclusion fits = implied (condition ∷ conditions) conclusion fits
 
 -- the lines of a rule all hold at a point exactly where the rule does
 pub normal-Decides : (shape : List Domain) (rule : Rule) (p : Point) → FitsRule shape rule.conditions rule.conclusion → HasCodes 0 shape p → Decides (rule_holds rule p) (AllHold (rule_lines_of shape rule) p)
 normal-Decides shape rule p fits held =
-    let same : length (whole_sets shape) ≡ length (code_fields shape) = length-wholes 0 shape in
-    let all = implied-Decides shape p held (whole_sets shape) rule.conditions rule.conclusion same fits in
-    let filtered = without-empty shape _ p (implied-over shape (whole_sets shape) rule.conditions rule.conclusion same) in
-    let inside : are_codes_in (whole_sets shape) (codes_at shape p) ≡ true = whole-inside 0 shape p held in
-    (λ h. filtered.0 (all.0 (rw inside h)), λ holds. rw inside at (all.1 (filtered.1 holds)))
+    let all = under-Decides shape rule.conditions rule.conclusion p fits held in
+    let filtered = without-empty shape _ p (under-over shape rule.conditions rule.conclusion) in
+    (λ h. filtered.0 (all.0 h), λ holds. all.1 (filtered.1 holds))
 
 -- ---- the lines of all rules
 
@@ -236,8 +271,23 @@ implied-few shape sets (Number e ∷ conditions) (Codes field negated codes) = b
     by Lt = omega arith
     by Eq = omega arith
 
+always-few : (shape : List Domain) (conclusion : Test) → length (always_lines shape conclusion) ≤ 2
+always-few shape (Codes field negated codes) = omega arith
+always-few shape (Number e) = by e.compare
+  where
+    by : (c : Compare) → length (compare_always shape e c) ≤ 2
+    by Ge = omega arith
+    by Gt = omega arith
+    by Le = omega arith
+    by Lt = omega arith
+    by Eq = omega arith
+
+under-few : (shape : List Domain) (conditions : List Test) (conclusion : Test) → length (lines_under shape conditions conclusion) ≤ 2
+under-few shape [] conclusion = always-few shape conclusion
+under-few shape (condition ∷ conditions) conclusion = implied-few shape (whole_sets shape) (condition ∷ conditions) conclusion
+
 own-few : (shape : List Domain) (rule : Rule) → length (rule_lines_of shape rule) ≤ 2
-own-few shape rule = filtered-few (implied_lines shape (whole_sets shape) rule.conditions rule.conclusion) (implied-few shape (whole_sets shape) rule.conditions rule.conclusion)
+own-few shape rule = filtered-few (all_lines_of shape rule) (under-few shape rule.conditions rule.conclusion)
 
 -- there are at most twice as many lines as rules
 pub lines-most : (shape : List Domain) (i : ℕ) (rules : List Rule) → length (rule_lines_from shape i rules) ≤ 2 * length rules

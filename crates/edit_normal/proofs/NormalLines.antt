@@ -24,8 +24,11 @@ use Rattle.edit_line.specs.Shapes.{number_fields, shape_of, whole_sets}
 use Rattle.edit_line.proofs.DivisionLaws.{IsLine-divided}
 use Rattle.edit_line.proofs.Members.{all-in, in-all, in-filter-out, in-flat_map-out, in-map-out}
 use Rattle.edit_line.proofs.NegationLines.{negative-in, never-is}
+use Rattle.edit_line.specs.declared.relation.Relation.{Relation}
+use Rattle.edit_line.specs.declared.relation.Relation.TheVariants.{Above, AtLeast, Equal}
+use Rattle.edit_line.proofs.RelationLaws.{above_apart, least_apart}
 use Rattle.edit_line.proofs.SetLaws.{AreSets-within, AreWithin-set, AreWithin-wholes}
-use Rattle.edit_normal.specs.NormalForm.{compare_lines, contrary_lines, implied_lines, positive_line_of, narrowed, negative_line_of, rule_lines_of, term_factor}
+use Rattle.edit_normal.specs.NormalForm.{always_lines, compare_always, compare_lines, contrary_lines, implied_lines, lines_under, positive_line_of, narrowed, negative_line_of, rule_lines_of, term_factor}
 use Rattle.edit_normal.specs.RuleLines.{rule_lines_from, normal_lines_of}
 use Rattle.edit_normal.specs.declared.rule_line.RuleLine.{RuleLine}
 use Rattle.edit_normal.proofs.MeaningLaws.{lines-all, lines-over}
@@ -65,46 +68,47 @@ module _ (fields : List Field) where
 
   module _ (sets : List ℕ) (within : AreWithin sets (whole_sets (shape_of fields))) where
     -- a line with these sets
-    parts-line : (number : ℕ → ℤ) (constant : ℤ) (strict : Bool) → ((f : ℕ) → InRange (number f)) → InRange constant
-        → none_is_empty sets ≡ true → IsLine (parts_of (shape_of fields) sets (map number (number_fields (shape_of fields))) constant strict)
-    parts-line number constant strict each last full = record {
+    parts-line : (number : ℕ → ℤ) (constant : ℤ) (relation : Relation) → (relation ≡ Equal → sets ≡ whole_sets (shape_of fields)) → ((f : ℕ) → InRange (number f)) → InRange constant
+        → none_is_empty sets ≡ true → IsLine (parts_of (shape_of fields) sets (map number (number_fields (shape_of fields))) constant relation)
+    parts-line number constant relation whole each last full = record {
       sets = AreSets-within sets (whole_sets (shape_of fields)) full within;
       factors = length-map (number_fields (shape_of fields)) number;
       in_range = (numbers-in number (number_fields (shape_of fields)) each, last);
+      whole = whole;
     }
 
     module _ (e : Linear) (terms : All (IsTerm fields) e.terms) (constant : unsigned_abs e.constant ≤ 10 ^ 15) where
-      sum-line : (strict : Bool) → none_is_empty (positive_line_of (shape_of fields) sets e strict).sets ≡ true → IsLine (positive_line_of (shape_of fields) sets e strict)
-      sum-line strict = reduced-line _ (parts-line (term_factor e.terms) e.constant strict (λ f. factor-in e.terms f terms) (small-in e.constant constant))
+      sum-line : (relation : Relation) → (relation ≡ Equal → sets ≡ whole_sets (shape_of fields)) → none_is_empty (positive_line_of (shape_of fields) sets e relation).sets ≡ true → IsLine (positive_line_of (shape_of fields) sets e relation)
+      sum-line relation whole = reduced-line _ (parts-line (term_factor e.terms) e.constant relation whole (λ f. factor-in e.terms f terms) (small-in e.constant constant))
 
-      negative-line : (strict : Bool) → none_is_empty (negative_line_of (shape_of fields) sets e strict).sets ≡ true → IsLine (negative_line_of (shape_of fields) sets e strict)
-      negative-line strict =
-          reduced-line _ (parts-line (λ f. neg_ℤ (term_factor e.terms f)) (neg_ℤ e.constant) strict (λ f. negative-in (term_factor e.terms f) (factor-in e.terms f terms)) (negative-in e.constant (small-in e.constant constant)))
+      negative-line : (relation : Relation) → (relation ≡ Equal → sets ≡ whole_sets (shape_of fields)) → none_is_empty (negative_line_of (shape_of fields) sets e relation).sets ≡ true → IsLine (negative_line_of (shape_of fields) sets e relation)
+      negative-line relation whole =
+          reduced-line _ (parts-line (λ f. neg_ℤ (term_factor e.terms f)) (neg_ℤ e.constant) relation whole (λ f. negative-in (term_factor e.terms f) (factor-in e.terms f terms)) (negative-in e.constant (small-in e.constant constant)))
 
       same-line : (line other : LineParts) → (none_is_empty other.sets ≡ true → IsLine other) → line ≡ other → none_is_empty line.sets ≡ true → IsLine line
       same-line line other is same = subst (λ (l : LineParts). none_is_empty l.sets ≡ true → IsLine l) (sym same) is
 
       compare-line : (c : Compare) (line : LineParts) → IsIn line (compare_lines (shape_of fields) sets e c) → none_is_empty line.sets ≡ true → IsLine line
-      compare-line Ge line (inl same) = same-line line _ (sum-line false) same
+      compare-line Ge line (inl same) = same-line line _ (sum-line AtLeast (λ e. absurd (least_apart e))) same
       compare-line Ge line (inr none) = absurd none
-      compare-line Gt line (inl same) = same-line line _ (sum-line true) same
+      compare-line Gt line (inl same) = same-line line _ (sum-line Above (λ e. absurd (above_apart e))) same
       compare-line Gt line (inr none) = absurd none
-      compare-line Le line (inl same) = same-line line _ (negative-line false) same
+      compare-line Le line (inl same) = same-line line _ (negative-line AtLeast (λ e. absurd (least_apart e))) same
       compare-line Le line (inr none) = absurd none
-      compare-line Lt line (inl same) = same-line line _ (negative-line true) same
+      compare-line Lt line (inl same) = same-line line _ (negative-line Above (λ e. absurd (above_apart e))) same
       compare-line Lt line (inr none) = absurd none
-      compare-line Eq line (inl same) = same-line line _ (sum-line false) same
-      compare-line Eq line (inr (inl same)) = same-line line _ (negative-line false) same
+      compare-line Eq line (inl same) = same-line line _ (sum-line AtLeast (λ e. absurd (least_apart e))) same
+      compare-line Eq line (inr (inl same)) = same-line line _ (negative-line AtLeast (λ e. absurd (least_apart e))) same
       compare-line Eq line (inr (inr none)) = absurd none
 
       contrary-line : (c : Compare) (line : LineParts) → IsIn line (contrary_lines (shape_of fields) sets e c) → none_is_empty line.sets ≡ true → IsLine line
-      contrary-line Ge line (inl same) = same-line line _ (negative-line true) same
+      contrary-line Ge line (inl same) = same-line line _ (negative-line Above (λ e. absurd (above_apart e))) same
       contrary-line Ge line (inr none) = absurd none
-      contrary-line Gt line (inl same) = same-line line _ (negative-line false) same
+      contrary-line Gt line (inl same) = same-line line _ (negative-line AtLeast (λ e. absurd (least_apart e))) same
       contrary-line Gt line (inr none) = absurd none
-      contrary-line Le line (inl same) = same-line line _ (sum-line true) same
+      contrary-line Le line (inl same) = same-line line _ (sum-line Above (λ e. absurd (above_apart e))) same
       contrary-line Le line (inr none) = absurd none
-      contrary-line Lt line (inl same) = same-line line _ (sum-line false) same
+      contrary-line Lt line (inl same) = same-line line _ (sum-line AtLeast (λ e. absurd (least_apart e))) same
       contrary-line Lt line (inr none) = absurd none
       contrary-line Eq line none = absurd none
 
@@ -122,10 +126,34 @@ module _ (fields : List Field) where
       let first = are 0 (Number e) (omega arith) in contrary-line _ (narrowed-within sets field (not negated) codes within) e first.1 first.2 e.compare
   implied-line sets (Number e ∷ conditions) (Number c) within are is = λ line none. absurd none
 
+  -- of a rule without conditions
+  always-line : (conclusion : Test) → IsTest fields conclusion → (line : LineParts) → IsIn line (always_lines (shape_of fields) conclusion) → none_is_empty line.sets ≡ true → IsLine line
+  always-line (Codes field negated codes) is = never-line _ (narrowed-within (whole_sets (shape_of fields)) field (not negated) codes (AreWithin-wholes (whole_sets (shape_of fields))))
+  always-line (Number e) is = by e.compare
+    where
+      within : AreWithin (whole_sets (shape_of fields)) (whole_sets (shape_of fields))
+      within = AreWithin-wholes (whole_sets (shape_of fields))
+
+      by : (c : Compare) (line : LineParts) → IsIn line (compare_always (shape_of fields) e c) → none_is_empty line.sets ≡ true → IsLine line
+      by Ge = compare-line (whole_sets (shape_of fields)) within e is.1 is.2 Ge
+      by Gt = compare-line (whole_sets (shape_of fields)) within e is.1 is.2 Gt
+      by Le = compare-line (whole_sets (shape_of fields)) within e is.1 is.2 Le
+      by Lt = compare-line (whole_sets (shape_of fields)) within e is.1 is.2 Lt
+      by Eq = equal
+        where
+          equal : (line : LineParts) → IsIn line (positive_line_of (shape_of fields) (whole_sets (shape_of fields)) e Equal ∷ []) → none_is_empty line.sets ≡ true → IsLine line
+          equal line (inl same) = same-line (whole_sets (shape_of fields)) within e is.1 is.2 line _ (sum-line (whole_sets (shape_of fields)) within e is.1 is.2 Equal (λ _. refl)) same
+          equal line (inr none) = absurd none
+
+  under-line : (conditions : List Test) (conclusion : Test) → All (IsTest fields) conditions → IsTest fields conclusion
+      → (line : LineParts) → IsIn line (lines_under (shape_of fields) conditions conclusion) → none_is_empty line.sets ≡ true → IsLine line
+  under-line [] conclusion are is = always-line conclusion is
+  under-line (condition ∷ conditions) conclusion are is = implied-line (whole_sets (shape_of fields)) (condition ∷ conditions) conclusion (AreWithin-wholes (whole_sets (shape_of fields))) are is
+
   rule-line : (rule : Rule) → IsRule fields rule → (line : LineParts) → IsIn line (rule_lines_of (shape_of fields) rule) → IsLine line
   rule-line rule is line there =
       let (made, full) = in-filter-out (λ (l : LineParts). none_is_empty l.sets) line _ there in
-      implied-line (whole_sets (shape_of fields)) rule.conditions rule.conclusion (AreWithin-wholes (whole_sets (shape_of fields))) is.conditions is.conclusion line made full
+      under-line rule.conditions rule.conclusion is.conditions is.conclusion line made full
 
 pub normal-lines : (survey : SurveyParts) → IsWellFormed survey → All IsLine (normal_lines_of survey)
 normal-lines survey formed = all-in IsLine (normal_lines_of survey) (λ line there.

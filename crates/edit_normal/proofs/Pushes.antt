@@ -14,12 +14,16 @@ use Rattle.edit_line.specs.Sets.{none_is_empty}
 use Rattle.edit_line.specs.Shapes.{Domain, number_fields, whole_sets}
 use Rattle.edit_line.specs.Negations.{never}
 use Rattle.edit_line.proofs.NegationLines.{zeros-are}
+use Rattle.edit_line.specs.declared.relation.Relation.{Relation}
+use Rattle.edit_line.specs.declared.relation.Relation.TheVariants.{AtLeast}
+use Rattle.edit_line.proofs.RelationLaws.{least_apart}
 use Rattle.edit_line.proofs.SetLaws.{AreSets-within}
 use Rattle.edit_normal.specs.NormalForm.{condition_lines, conclusion_lines, implied_lines, term_factor}
-use Rattle.edit_normal.specs.inner.Sides.{is_negative, is_strict, joined_by, side_line, signed}
+use Rattle.edit_normal.specs.inner.Sides.{is_negative, joined_by, relation_of, side_line, signed}
 use Rattle.edit_normal.specs.declared.rule_line.RuleLine.{RuleLine}
 use Rattle.edit_normal.specs.declared.side.Side.{Side}
-use Rattle.edit_normal.specs.declared.side.Side.TheVariants.{AtLeast, Above, AtMost, Below}
+use Rattle.edit_normal.specs.declared.side.Side.TheVariants.{Above, AtMost, Below, Zero}
+use Rattle.edit_normal.specs.declared.side.Side.TheVariants as side
 
 -- Steps of the calls that append lines.
 
@@ -34,41 +38,44 @@ skipped before rule line empty = rw empty (sym (append-nil before))
 -- the sets of a side's line
 pub side_line-sets : (shape : List Domain) (sets : List ℕ) (e : Linear) (side : Side) → (side_line shape sets e side).sets ≡ sets
 unfolding reduced
-side_line-sets shape sets e AtLeast = refl
+side_line-sets shape sets e side.AtLeast = refl
 side_line-sets shape sets e Above = refl
 side_line-sets shape sets e AtMost = refl
 side_line-sets shape sets e Below = refl
+side_line-sets shape sets e Zero = refl
 
 side_line-parts : (shape : List Domain) (sets : List ℕ) (e : Linear) (side : Side)
-    → reduced (parts_of shape sets (map (λ f. signed (is_negative side) (term_factor e.terms f)) (number_fields shape)) (signed (is_negative side) e.constant) (is_strict side)) ≡ side_line shape sets e side
-side_line-parts shape sets e AtLeast = refl
+    → reduced (parts_of shape sets (map (λ f. signed (is_negative side) (term_factor e.terms f)) (number_fields shape)) (signed (is_negative side) e.constant) (relation_of side)) ≡ side_line shape sets e side
+side_line-parts shape sets e side.AtLeast = refl
 side_line-parts shape sets e Above = refl
 side_line-parts shape sets e AtMost = refl
 side_line-parts shape sets e Below = refl
+side_line-parts shape sets e Zero = refl
 
 -- a side's line, from its parts
-pub side_line-is : (own shape : List Domain) (seen sets fields : List ℕ) (factors : List ℤ) (constant : ℤ) (strict negative : Bool) (e : Linear) (side : Side)
-    → own ≡ shape → seen ≡ sets → fields ≡ number_fields shape → negative ≡ is_negative side → factors ≡ map (λ f. signed negative (term_factor e.terms f)) fields → constant ≡ signed negative e.constant → strict ≡ is_strict side
-    → reduced (parts_of own seen factors constant strict) ≡ side_line shape sets e side
-side_line-is own shape seen sets fields factors constant strict negative e side own_is seen_is fields_are negative_is factors_are constant_is strict_is =
+pub side_line-is : (own shape : List Domain) (seen sets fields : List ℕ) (factors : List ℤ) (constant : ℤ) (relation : Relation) (negative : Bool) (e : Linear) (side : Side)
+    → own ≡ shape → seen ≡ sets → fields ≡ number_fields shape → negative ≡ is_negative side → factors ≡ map (λ f. signed negative (term_factor e.terms f)) fields → constant ≡ signed negative e.constant → relation ≡ relation_of side
+    → reduced (parts_of own seen factors constant relation) ≡ side_line shape sets e side
+side_line-is own shape seen sets fields factors constant relation negative e side own_is seen_is fields_are negative_is factors_are constant_is relation_is =
     let all : factors ≡ map (λ f. signed (is_negative side) (term_factor e.terms f)) (number_fields shape) =
     factors_are ∙ ap (λ b. map (λ f. signed b (term_factor e.terms f)) fields) negative_is ∙ ap (λ fs. map (λ f. signed (is_negative side) (term_factor e.terms f)) fs) fields_are in
     let last : constant ≡ signed (is_negative side) e.constant = constant_is ∙ ap (λ b. signed b e.constant) negative_is in
-    (λ i. reduced (parts_of (own_is i) (seen_is i) (all i) (last i) (strict_is i))) ∙ side_line-parts shape sets e side
+    (λ i. reduced (parts_of (own_is i) (seen_is i) (all i) (last i) (relation_is i))) ∙ side_line-parts shape sets e side
 
 -- ---- the line -1 >= 0
 
-pub never-is : (own shape : List Domain) (sets fields : List ℕ) (factors : List ℤ) → own ≡ shape → fields ≡ number_fields shape → factors ≡ replicate (length fields) (pos 0) → parts_of own sets factors (negsuc 0) false ≡ never shape sets
+pub never-is : (own shape : List Domain) (sets fields : List ℕ) (factors : List ℤ) → own ≡ shape → fields ≡ number_fields shape → factors ≡ replicate (length fields) (pos 0) → parts_of own sets factors (negsuc 0) AtLeast ≡ never shape sets
 never-is own shape sets fields factors own_is fields_are factors_are =
     let all : factors ≡ map (λ (f : ℕ). pos 0) (number_fields shape) = factors_are ∙ ap (λ (fs : List ℕ). replicate (length fs) (pos 0)) fields_are ∙ zeros-are (number_fields shape) (length (number_fields shape)) refl in
-    λ i. parts_of (own_is i) sets (all i) (negsuc 0) false
+    λ i. parts_of (own_is i) sets (all i) (negsuc 0) AtLeast
 
 pub never-line : (own shape : List Domain) (sets fields : List ℕ) (factors : List ℤ) → own ≡ shape → fields ≡ number_fields shape → factors ≡ replicate (length fields) (pos 0)
-    → none_is_empty sets ≡ true → AreWithin sets (whole_sets shape) → IsLine (parts_of own sets factors (negsuc 0) false)
+    → none_is_empty sets ≡ true → AreWithin sets (whole_sets shape) → IsLine (parts_of own sets factors (negsuc 0) AtLeast)
 never-line own shape sets fields factors own_is fields_are factors_are full within = record {
   sets = AreSets-within sets (whole_sets own) full (subst (λ (s : List Domain). AreWithin sets (whole_sets s)) (sym own_is) within);
   factors = ap length factors_are ∙ length-replicate (length fields) (pos 0) ∙ ap length fields_are ∙ ap (λ (s : List Domain). length (number_fields s)) (sym own_is);
   in_range = (subst (λ (ns : List ℤ). All InRange ns) (sym factors_are) (All-replicate InRange (length fields) (pos 0) (omega arith)), omega arith);
+  whole = λ equal. absurd (least_apart equal);
 }
 
 -- ---- the conditions of a rule, one after the other

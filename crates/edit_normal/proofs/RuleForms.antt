@@ -13,10 +13,10 @@ use Rattle.edit_model.specs.declared.rule.Term.{Term}
 use Rattle.edit_model.specs.declared.rule.Test.{Test}
 use Rattle.edit_model.specs.declared.rule.Test.TheVariants.{Number, Codes}
 use Rattle.edit_line.specs.Lines.{AllHold}
-use Rattle.edit_line.specs.Shapes.{Domain, code_fields, has_field, number_fields, shape_of, whole_sets}
+use Rattle.edit_line.specs.Shapes.{Domain, code_fields, has_field, number_fields, shape_of}
 use Rattle.edit_line.proofs.ShapeLaws.{HasCodes-shape, codes-there, number-there}
 use Rattle.edit_normal.specs.inner.Fits.{FitsCodes}
-use Rattle.edit_normal.specs.NormalForm.{implied_lines, rule_lines_of, term_factor}
+use Rattle.edit_normal.specs.NormalForm.{all_lines_of, rule_lines_of, term_factor}
 use Rattle.edit_normal.specs.inner.Sides.{joined_by}
 use Rattle.edit_normal.specs.declared.rule_line.RuleLine.{RuleLine}
 use Rattle.edit_normal.specs.RuleLines.{LinesHold, rule_lines_from, numbered}
@@ -124,7 +124,7 @@ rule-codes fields rules seen shape i rule shape_is same all below here =
 
 -- one rule more
 pub rule-more : (shape own : List Domain) (rules seen : List Rule) (i : ℕ) (rule : Rule) (before after whole : List RuleLine) → own ≡ shape → seen ≡ rules → i < length seen → rule ≡ get_or seen i rule
-    → after ≡ joined_by before i (implied_lines own (whole_sets own) rule.conditions rule.conclusion) → before ++ rule_lines_from shape i (drop i rules) ≡ whole → after ++ rule_lines_from shape (i + 1) (drop (i + 1) rules) ≡ whole
+    → after ≡ joined_by before i (all_lines_of own rule) → before ++ rule_lines_from shape i (drop i rules) ≡ whole → after ++ rule_lines_from shape (i + 1) (drop (i + 1) rules) ≡ whole
 rule-more shape own rules seen i rule before after whole own_is same below here pushed invariant =
     let own_lines : after ≡ before ++ numbered i (rule_lines_of shape rule) = pushed ∙ ap (λ (s : List Domain). before ++ numbered i (rule_lines_of s rule)) own_is in
     let within : i < length rules = omega (arith, ap length same) in

@@ -6,6 +6,7 @@ use Rattle.edit_model.specs.Points.{Point, linear_sum, sum_of_terms}
 use Rattle.edit_model.specs.declared.rule.Linear.{Linear}
 use Rattle.edit_model.specs.declared.rule.Term.{Term}
 use Rattle.edit_line.specs.Lines.{amount, parts_of, weighted}
+use Rattle.edit_line.specs.declared.relation.Relation.{Relation}
 use Rattle.edit_line.specs.Shapes.{Categorical, Domain, Numerical, has_field, number_fields, numbers_from, numerators_at}
 use Rattle.edit_normal.specs.NormalForm.{term_factor}
 
@@ -82,8 +83,8 @@ module _ (p : Point) where
   terms-sum shape (t ∷ ts) has = term-among t ts 0 shape has.0 has.1 ∙ ap (λ (w : ℤ). t.factor *ℤ p.numerator t.field +ℤ w) (terms-sum shape ts has.2)
 
   -- the amount of a test's line is the test's sum
-  pub amount-sum : (shape : List Domain) (sets : List ℕ) (e : Linear) (strict : Bool) → HasTerms shape e.terms → amount (parts_of shape sets (map (term_factor e.terms) (number_fields shape)) e.constant strict) p ≡ linear_sum e p
-  amount-sum shape sets e strict has = ap (λ (w : ℤ). w +ℤ e.constant *ℤ p.denominator) (terms-sum shape e.terms has)
+  pub amount-sum : (shape : List Domain) (sets : List ℕ) (e : Linear) (relation : Relation) → HasTerms shape e.terms → amount (parts_of shape sets (map (term_factor e.terms) (number_fields shape)) e.constant relation) p ≡ linear_sum e p
+  amount-sum shape sets e relation has = ap (λ (w : ℤ). w +ℤ e.constant *ℤ p.denominator) (terms-sum shape e.terms has)
 
   weighted-negative : (g : ℕ → ℤ) (fields : List ℕ) → weighted (map (λ f. neg_ℤ (g f)) fields) (map p.numerator fields) ≡ neg_ℤ (weighted (map g fields) (map p.numerator fields))
   weighted-negative g [] = refl
@@ -93,10 +94,10 @@ module _ (p : Point) where
       turned a x w = rw (parts a, parts x, parts w) (simp ring (same_dif _ _ _ _ (omega arith)))
 
   -- and that of the negative line is the negative of the sum
-  pub amount-negative : (shape : List Domain) (sets : List ℕ) (e : Linear) (strict : Bool) → HasTerms shape e.terms
-      → amount (parts_of shape sets (map (λ f. neg_ℤ (term_factor e.terms f)) (number_fields shape)) (neg_ℤ e.constant) strict) p ≡ neg_ℤ (linear_sum e p)
-  amount-negative shape sets e strict has =
-      ap (λ (w : ℤ). w +ℤ neg_ℤ e.constant *ℤ p.denominator) (weighted-negative (term_factor e.terms) (number_fields shape)) ∙ turned _ e.constant p.denominator ∙ ap neg_ℤ (amount-sum shape sets e strict has)
+  pub amount-negative : (shape : List Domain) (sets : List ℕ) (e : Linear) (relation : Relation) → HasTerms shape e.terms
+      → amount (parts_of shape sets (map (λ f. neg_ℤ (term_factor e.terms f)) (number_fields shape)) (neg_ℤ e.constant) relation) p ≡ neg_ℤ (linear_sum e p)
+  amount-negative shape sets e relation has =
+      ap (λ (w : ℤ). w +ℤ neg_ℤ e.constant *ℤ p.denominator) (weighted-negative (term_factor e.terms) (number_fields shape)) ∙ turned _ e.constant p.denominator ∙ ap neg_ℤ (amount-sum shape sets e relation has)
     where
       turned : (w c d : ℤ) → neg_ℤ w +ℤ neg_ℤ c *ℤ d ≡ neg_ℤ (w +ℤ c *ℤ d)
       turned w c d = rw (parts w, parts c, parts d) (simp ring (same_dif _ _ _ _ (omega arith)))

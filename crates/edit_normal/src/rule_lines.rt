@@ -4,15 +4,15 @@ ghost use Rattle.edit_line.specs.inner.SetBounds.{AreWithin};
 ghost use Rattle.edit_line.specs.Negations.{never};
 ghost use Rattle.edit_line.specs.Sets.{none_is_empty};
 ghost use Rattle.edit_line.specs.Shapes.{whole_sets};
-ghost use Rattle.edit_normal.specs.NormalForm.{all_lines_of, conclusion_lines, condition_lines, lines_against, lines_for};
-ghost use Rattle.edit_normal.specs.inner.Sides.{joined_by, side_line};
+ghost use Rattle.edit_normal.specs.NormalForm.{all_lines_of, always_lines, compare_always, conclusion_lines, condition_lines, implied_lines, lines_against, lines_for};
+ghost use Rattle.edit_normal.specs.inner.Sides.{MayAsk, joined_by, side_line};
 ghost use Rattle.edit_normal.specs.inner.Fits.{FitsCodes};
 
 use crate::narrow::{narrow, narrow_where_false};
 use crate::rule_line::RuleLine;
 use crate::side::{Side, side_line};
 use crate::survey_shape::SurveyShape;
-use edit_line::Line;
+use edit_line::{Line, Relation};
 use edit_model::{Compare, Linear, Rule, Test};
 use foundation::OutOfMemory;
 use std::alloc::Global;
@@ -28,6 +28,65 @@ pub(crate) fn push_rule(
     requires conditions { All (FitsCodes fields.now) rule.now.conditions }
     requires conclusion { FitsCodes fields.now rule.now.conclusion }
     ensures { OnOk result (lines.new.items ≡ joined_by lines.old.items number (all_lines_of fields.now rule.now)) }
+{
+    if rule.conditions.as_slice().is_empty() {
+        push_always(alloc, fields, &rule.conclusion, number, lines)
+    } else {
+        push_implied(alloc, fields, number, rule, lines)
+    }
+}
+
+// Appends the lines of a rule without conditions.
+fn push_always(
+    alloc: Global,
+    fields: &SurveyShape,
+    conclusion: &Test,
+    rule: u32,
+    lines: &mut Vec<RuleLine>,
+) -> Result<(), OutOfMemory>
+    requires { FitsCodes fields.now conclusion.now }
+    ensures { OnOk result (lines.new.items ≡ joined_by lines.old.items rule (always_lines fields.now conclusion.now)) }
+{
+    match conclusion {
+        Test::Number(linear) => push_compare_always(alloc, fields, linear, rule, lines),
+        Test::Codes { .. } => {
+            let sets = Vec::from_slice(alloc, fields.wholes())?;
+            push_conclusion(alloc, fields, sets, conclusion, rule, lines)
+        }
+    }
+}
+
+// Appends the lines that say that the sum compares so, whatever the codes are.
+fn push_compare_always(
+    alloc: Global,
+    fields: &SurveyShape,
+    linear: &Linear,
+    rule: u32,
+    lines: &mut Vec<RuleLine>,
+) -> Result<(), OutOfMemory>
+    ensures { OnOk result (lines.new.items ≡ joined_by lines.old.items rule (compare_always fields.now linear.now linear.now.compare)) }
+{
+    let wholes = fields.wholes();
+    match linear.compare {
+        Compare::Ge | Compare::Gt | Compare::Le | Compare::Lt => push_compare(
+            alloc, fields, wholes, linear, rule, lines,
+        ),
+        Compare::Eq => push_side(alloc, fields, wholes, linear, Side::Zero, rule, lines),
+    }
+}
+
+// Appends the lines of a rule with conditions.
+fn push_implied(
+    alloc: Global,
+    fields: &SurveyShape,
+    number: u32,
+    rule: &Rule,
+    lines: &mut Vec<RuleLine>,
+) -> Result<(), OutOfMemory>
+    requires conditions { All (FitsCodes fields.now) rule.now.conditions }
+    requires conclusion { FitsCodes fields.now rule.now.conclusion }
+    ensures { OnOk result (lines.new.items
+        ≡ joined_by lines.old.items number (implied_lines fields.now (whole_sets fields.now) rule.now.conditions rule.now.conclusion)) }
 {
     let mut sets = Vec::from_slice(alloc, fields.wholes())?;
     for condition in rule.conditions.as_slice() {
@@ -144,7 +203,8 @@ fn push_contrary(
     }
 }
 
-// Appends the line that says that the sum is on this side of 0, unless a set is empty.
+// Appends the line that says that the sum is on this side of 0, unless a set is empty. That it is 0 is said
+// of all codes.
 fn push_side(
     alloc: Global,
     fields: &SurveyShape,
@@ -154,7 +214,8 @@ fn push_side(
     rule: u32,
     lines: &mut Vec<RuleLine>,
 ) -> Result<(), OutOfMemory>
-    requires { AreWithin sets.now (whole_sets fields.now) }
+    requires within { AreWithin sets.now (whole_sets fields.now) }
+    requires whole { MayAsk fields.now sets.now side }
     ensures { OnOk result (lines.new.items ≡ joined_by lines.old.items rule (side_line fields.now sets.now linear.now side ∷ [])) }
 {
     if have_codes(sets) {
@@ -177,7 +238,7 @@ fn push_never(
 {
     if have_codes(&sets) {
         let factors = vec![in alloc; 0; fields.numbers().len()]?;
-        let line = Line::over(fields.shape(), sets, factors, -1, false);
+        let line = Line::over(fields.shape(), sets, factors, -1, Relation::AtLeast);
         lines.push(RuleLine { rule, line })?;
     }
     Ok(())

@@ -1,24 +1,25 @@
-//! A line that says on which side of 0 the sum of a linear test is.
+//! A line that says on which side of 0 the sum of a linear test is, or that it is 0.
 ghost use Rattle.std.specs.Prelude.{◌≡◌, All, IfOk, map};
 ghost use Rattle.fraction128.specs.Range.{InRange};
 ghost use Rattle.edit_line.specs.Sets.{AreSets};
 ghost use Rattle.edit_line.specs.Shapes.{whole_sets};
 ghost use Rattle.edit_normal.specs.NormalForm.{term_factor};
-ghost use Rattle.edit_normal.specs.inner.Sides.{is_negative, is_strict, side_line, signed};
+ghost use Rattle.edit_normal.specs.inner.Sides.{MayAsk, is_negative, relation_of, side_line, signed};
 
 use crate::survey_shape::SurveyShape;
-use edit_line::Line;
+use edit_line::{Line, Relation};
 use edit_model::Linear;
 use foundation::OutOfMemory;
 use std::alloc::Global;
 
-/// A side of 0.
+/// A side of 0, or 0 itself.
 #[derive(Clone, Copy)]
 pub(crate) enum Side {
     AtLeast,
     Above,
     AtMost,
     Below,
+    Zero,
 }
 
 impl Side {
@@ -29,15 +30,20 @@ impl Side {
         matches!(self, Side::AtMost | Side::Below)
     }
 
-    /// Whether the line is strict.
-    fn is_strict(self) -> bool
-        ensures { result ≡ is_strict self }
+    /// What the line asks of that sum.
+    fn relation(self) -> Relation
+        ensures { result ≡ relation_of self }
     {
-        matches!(self, Side::Above | Side::Below)
+        match self {
+            Side::AtLeast | Side::AtMost => Relation::AtLeast,
+            Side::Above | Side::Below => Relation::Above,
+            Side::Zero => Relation::Equal,
+        }
     }
 }
 
-/// The line that says that the test's sum is on this side of 0 where the codes are in the sets.
+/// The line that says that the test's sum is on this side of 0 where the codes are in the sets; that it is
+/// 0 is said of all codes.
 pub(crate) fn side_line(
     alloc: Global,
     fields: &SurveyShape,
@@ -45,14 +51,15 @@ pub(crate) fn side_line(
     linear: &Linear,
     side: Side,
 ) -> Result<Line, OutOfMemory>
-    requires { AreSets sets.now (whole_sets fields.now) }
+    requires fit { AreSets sets.now (whole_sets fields.now) }
+    requires whole { MayAsk fields.now sets.now side }
     ensures { IfOk result (λ line. line ≡ side_line fields.now sets.now linear.now side) }
 {
     let negative = side.is_negative();
     let sets = Vec::from_slice(alloc, sets)?;
     let factors = factors_of(alloc, fields.numbers(), linear, negative)?;
     let constant = signed(linear.constant, negative);
-    Ok(Line::divided(fields.shape(), sets, factors, constant, side.is_strict()))
+    Ok(Line::divided(fields.shape(), sets, factors, constant, side.relation()))
 }
 
 // The factor of each field in the test, or its negative.

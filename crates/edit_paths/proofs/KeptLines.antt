@@ -104,7 +104,7 @@ module _ (c : SearchCase) (is : IsCase c) (path : List Bool) where
   line-fails line over none asks fails q held agrees holds =
       let (sets, kept) = asks-whole line asks in
       let inside : AreCodesIn line.sets (codes_at shape q) = subst (λ (s : List ℕ). AreCodesIn s (codes_at shape q)) (sym sets) ((is_inside-Decides (whole_sets shape) (codes_at shape q)).0 (wholes-inside shape q held)) in
-      let enough = (is_enough-Decides line.strict (amount line q)).1 (holds.enough (subst (λ (s : List Domain). AreCodesIn line.sets (codes_at s q)) (sym over.same) inside)) in
+      let enough = (is_enough-Decides line.relation (amount line q)).1 (holds.enough (subst (λ (s : List Domain). AreCodesIn line.sets (codes_at s q)) (sym over.same) inside)) in
       let truth = fails_at-truth line c.row q true (line-numbers line over none kept) (line-agrees line over none kept q agrees) fails in
       cc (truth ∙ ap not enough)
 

@@ -7,6 +7,7 @@ use Rattle.edit_model.specs.declared.value.Value.{Value}
 use Rattle.edit_model.specs.declared.value.Value.TheVariants.{Bad, Code, Number}
 use Rattle.edit_line.specs.Divisors.{reduced}
 use Rattle.edit_model.specs.Parts as parts
+use Rattle.edit_line.specs.declared.relation.Relation.TheVariants.{AtLeast, Equal}
 use Rattle.edit_line.specs.Lines.{LineParts, parts_of}
 use Rattle.edit_line.specs.Shapes.{Categorical, Numerical}
 use Rattle.linear_elim.specs.Combinations.{first_multiplier, second_multiplier}
@@ -44,7 +45,7 @@ changed = true
 -- ---- A + B = 10 and the record 3, 4
 
 abbrev pair_line : ℤ → ℤ → ℤ → LineParts
-pair_line a b constant = parts_of (Numerical ∷ Numerical ∷ []) [] (a ∷ b ∷ []) constant false
+pair_line a b constant = parts_of (Numerical ∷ Numerical ∷ []) [] (a ∷ b ∷ []) constant AtLeast
 
 abbrev pair_case : SearchCase
 pair_case = case_with (number_field 1 ∷ number_field 1 ∷ []) ((0, pair_line (pos 1) (pos 1) (negsuc 9)) ∷ (1, pair_line (negsuc 0) (negsuc 0) (pos 10)) ∷ []) (number 3 (lit< tt) ∷ number 4 (lit< tt) ∷ [])
@@ -70,10 +71,47 @@ pair_past : outcome_of pair_case 4 ≡ outcome.Budget (kept ∷ changed ∷ []) 
 unfolding first_multiplier second_multiplier gcd reduced
 pair_past = refl
 
+-- ---- the same, as one equality
+
+abbrev balance_line : ℤ → ℤ → ℤ → LineParts
+balance_line a b constant = parts_of (Numerical ∷ Numerical ∷ []) [] (a ∷ b ∷ []) constant Equal
+
+abbrev balance_case : SearchCase
+balance_case = case_with (number_field 1 ∷ number_field 1 ∷ []) ((0, balance_line (pos 1) (pos 1) (negsuc 9)) ∷ []) (number 3 (lit< tt) ∷ number 4 (lit< tt) ∷ [])
+
+balance_total : total_work balance_case ≡ 4
+unfolding first_multiplier second_multiplier gcd reduced
+balance_total = refl
+
+balance_within : outcome_of balance_case 4 ≡ outcome.Change (kept ∷ changed ∷ []) 1 (record {
+  leaves =
+      leaf_of (kept ∷ kept ∷ []) (why.Line (Given 0 ∷ []))
+      ∷ leaf_of (kept ∷ changed ∷ []) why.Bound
+      ∷ leaf_of (changed ∷ []) why.Bound
+      ∷ [];
+})
+unfolding first_multiplier second_multiplier gcd reduced
+balance_within = refl
+
+balance_past : outcome_of balance_case 3 ≡ outcome.Budget (kept ∷ changed ∷ []) 3
+unfolding first_multiplier second_multiplier gcd reduced
+balance_past = refl
+
+-- ---- A + B = 10 and A - B = 4, and the record 1, 1
+
+abbrev two_case : SearchCase
+two_case =
+    case_with (number_field 1 ∷ number_field 1 ∷ []) ((0, balance_line (pos 1) (pos 1) (negsuc 9)) ∷ (1, balance_line (pos 1) (negsuc 0) (negsuc 3)) ∷ [])
+    (number 1 (lit< tt) ∷ number 1 (lit< tt) ∷ [])
+
+two_total : total_work two_case ≡ 9
+unfolding first_multiplier second_multiplier gcd reduced
+two_total = refl
+
 -- ---- the trade survey and the record 100, 60, 400
 
 abbrev trade_line : ℤ → ℤ → ℤ → LineParts
-trade_line turnover costs profit = parts_of (Numerical ∷ Numerical ∷ Numerical ∷ []) [] (turnover ∷ costs ∷ profit ∷ []) (pos 0) false
+trade_line turnover costs profit = parts_of (Numerical ∷ Numerical ∷ Numerical ∷ []) [] (turnover ∷ costs ∷ profit ∷ []) (pos 0) AtLeast
 
 abbrev trade_case : SearchCase
 trade_case = case_with (number_field 2 ∷ number_field 1 ∷ number_field 1 ∷ [])
@@ -102,7 +140,7 @@ trade_past = refl
 -- ---- the household survey and the record child, married, spouse
 
 abbrev household_line : List ℕ → LineParts
-household_line sets = parts_of (Categorical 2 ∷ Categorical 2 ∷ Categorical 2 ∷ []) sets [] (negsuc 0) false
+household_line sets = parts_of (Categorical 2 ∷ Categorical 2 ∷ Categorical 2 ∷ []) sets [] (negsuc 0) AtLeast
 
 abbrev household_case : SearchCase
 household_case = case_with (code_field ∷ code_field ∷ code_field ∷ []) ((0, household_line (1 ∷ 2 ∷ 3 ∷ [])) ∷ (1, household_line (3 ∷ 1 ∷ 1 ∷ [])) ∷ []) (Code 0 ∷ Code 1 ∷ Code 0 ∷ [])
@@ -131,7 +169,7 @@ household_past = refl
 -- ---- A >= 5, A <= 3 and the record 4
 
 abbrev one_line : ℤ → ℤ → LineParts
-one_line a constant = parts_of (Numerical ∷ []) [] (a ∷ []) constant false
+one_line a constant = parts_of (Numerical ∷ []) [] (a ∷ []) constant AtLeast
 
 abbrev contrary_case : SearchCase
 contrary_case = case_with (number_field 1 ∷ []) ((0, one_line (pos 1) (negsuc 4)) ∷ (1, one_line (negsuc 0) (pos 3)) ∷ []) (number 4 (lit< tt) ∷ [])
@@ -148,7 +186,7 @@ contrary = refl
 -- ---- a chain of six fields whose factors grow past the range
 
 abbrev chain_line : List ℤ → LineParts
-chain_line factors = parts_of (Numerical ∷ Numerical ∷ Numerical ∷ Numerical ∷ Numerical ∷ Numerical ∷ []) [] factors (pos 0) false
+chain_line factors = parts_of (Numerical ∷ Numerical ∷ Numerical ∷ Numerical ∷ Numerical ∷ Numerical ∷ []) [] factors (pos 0) AtLeast
 
 abbrev chain_case : SearchCase
 chain_case = case_with (number_field 1 ∷ number_field 1 ∷ number_field 1 ∷ number_field 1 ∷ number_field 1 ∷ number_field 1 ∷ [])

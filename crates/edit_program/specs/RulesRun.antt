@@ -4,7 +4,7 @@ use Rattle.edit_desk.specs.Desk.{Asked, Files, PutsOnRecord, Told, fetched}
 use Rattle.edit_model.specs.Parts.{SurveyParts}
 use Rattle.edit_normal.specs.RuleLines.{normal_lines_of}
 use Rattle.derivation.specs.Refutations.{AllFollow}
-use Rattle.redundancy.specs.Verdicts.{AreNeeded, AreRefuted}
+use Rattle.redundancy.specs.Verdicts.{AreEqualities, AreNeeded, AreRefuted}
 use Rattle.pruned_rules.specs.Pruned.{rule_verdicts, rule_flags}
 use Rattle.rule_report.specs.Reports.{reports_from}
 use Rattle.command_words.specs.Asked.{RulesAsked}
@@ -32,6 +32,7 @@ pub record IsReport (asked : RulesAsked) (files : Files) (texts : List (List ℕ
   pub dropped : AllFollow (normal_lines_of survey) (rule_flags survey)
   pub needed : AreNeeded survey.fields (normal_lines_of survey) (rule_verdicts survey)
   pub refuted : AreRefuted survey.fields (normal_lines_of survey) (rule_verdicts survey)
+  pub equalities : AreEqualities (normal_lines_of survey) (rule_verdicts survey)
 
 -- ---- runs
 

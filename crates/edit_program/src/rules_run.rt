@@ -8,7 +8,7 @@ ghost use Rattle.edit_program.specs.Run.{ran};
 ghost use Rattle.edit_program.specs.inner.Parts.{AreCallsOf, done_end, faults_after, texts_in};
 ghost use Rattle.derivation.specs.Refutations.{AllFollow};
 ghost use Rattle.edit_normal.specs.RuleLines.{normal_lines_of};
-ghost use Rattle.redundancy.specs.Verdicts.{AreNeeded, AreRefuted};
+ghost use Rattle.redundancy.specs.Verdicts.{AreEqualities, AreNeeded, AreRefuted};
 ghost use Rattle.pruned_rules.specs.Pruned.{rule_flags, rule_verdicts};
 
 use crate::reading::fetch_survey;
@@ -69,6 +69,7 @@ fn lines_of(alloc: Global, survey: &Survey) -> Result<Vec<Vec<u8>>, OutOfMemory>
     ensures dropped { IfOk result (λ lines. AllFollow (normal_lines_of survey.now) (rule_flags survey.now)) }
     ensures needed { IfOk result (λ lines. AreNeeded survey.now.fields (normal_lines_of survey.now) (rule_verdicts survey.now)) }
     ensures refuted { IfOk result (λ lines. AreRefuted survey.now.fields (normal_lines_of survey.now) (rule_verdicts survey.now)) }
+    ensures equalities { IfOk result (λ lines. AreEqualities (normal_lines_of survey.now) (rule_verdicts survey.now)) }
 {
     let pruned = prune_rules(alloc, survey)?;
     report(alloc, survey, &pruned.lines, &pruned.verdicts)

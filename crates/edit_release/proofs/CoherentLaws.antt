@@ -1,5 +1,6 @@
-use Rattle.std.proofs.Common.{◌≡◌, ◌++◌, ℕ, zero, suc, Bool, true, List, [], ◌∷◌, Option, Some, None, Result, Ok, Err, length, slice_get, ℤ, pos, ◌<ℤ◌, int_lt, refl, sym, option_map}
+use Rattle.std.proofs.Common.{◌≡◌, inl, inr, ◌++◌, ◌^◌, unsigned_abs, ℕ, zero, suc, Bool, true, List, [], ◌∷◌, Option, Some, None, Result, Ok, Err, length, slice_get, ℤ, pos, ◌<ℤ◌, int_lt, refl, sym, option_map}
 use Rattle.std.specs.List.{AllByRecursion}
+use Rattle.std.proofs.lemmas.Bool.Decides.{Decides-ltb}
 use Rattle.std.specs.Option.{ok_or}
 use Rattle.foundation.specs.Results.{◌>>=◌}
 use Rattle.foundation.specs.Options.{◌>>?◌}
@@ -7,8 +8,10 @@ use Rattle.edit_model.specs.Parts.{SurveyParts}
 use Rattle.edit_model.specs.Rows.{IsRow}
 use Rattle.edit_model.specs.Surveys.{IsWellFormed}
 use Rattle.edit_model.specs.declared.value.Value.{Value}
-use Rattle.edit_line.specs.Combinations.{may_combine, sum_of}
+use Rattle.edit_line.specs.Combinations.{in_range, may_combine, may_multiply, sum_of}
 use Rattle.edit_line.specs.Divisors.{divided_by}
+use Rattle.edit_line.specs.declared.relation.Relation.{Relation}
+use Rattle.edit_line.specs.declared.relation.Relation.TheVariants.{Above, AtLeast, Equal}
 use Rattle.edit_line.proofs.BoolLaws.{both_true}
 use Rattle.edit_line.proofs.Enough.{is_enough-Decides}
 use Rattle.derivation.specs.Premises.{Premises}
@@ -28,7 +31,7 @@ use Rattle.bound_cert.specs.declared.outcome.Outcome.TheVariants as outcome
 use Rattle.edit_paths.specs.Cases.{case_of}
 use Rattle.edit_paths.specs.Outcomes.{outcome_of}
 use Rattle.back_subst.specs.declared.gift.Gift.{Gift}
-use Rattle.proof_text.specs.Sizes.{ArePositiveLeaves, ArePositiveSteps, IsCoherentRow, IsPositiveReason, IsPositiveStep}
+use Rattle.proof_text.specs.Sizes.{AreCoherentLeaves, AreCoherentSteps, IsCoherentRow, IsCoherentReason, IsCoherentStep, IsMultiplier}
 use Rattle.edit_report.specs.declared.end.RowEnd.{RowEnd}
 use Rattle.record_workers.specs.Ends.{ComesOf, IsEndOf}
 use Rattle.pruned_rules.specs.Pruned.{kept_edits}
@@ -42,73 +45,78 @@ use Rattle.donor_search.specs.CleanRows.{row_at}
 -- ---- valid steps
 
 module _ (p : Premises) where
-  combined-positive : (earlier : List Proved) (a : ℕ) (m : ℤ) (b : ℕ) (n g : ℤ) (x : Proved) → proved_by p earlier (step.Combine a m b n g) ≡ Some x → (pos 0 <ℤ m) × (pos 0 <ℤ n) × (pos 0 <ℤ g)
-  combined-positive earlier a m b n g x e =
+  combined-coherent : (earlier : List Proved) (a : ℕ) (m : ℤ) (b : ℕ) (n g : ℤ) (x : Proved) → proved_by p earlier (step.Combine a m b n g) ≡ Some x → IsMultiplier m × IsMultiplier n × (pos 0 <ℤ g)
+  combined-coherent earlier a m b n g x e =
       let (s, first, after_first) = was-some (as_line (slice_get earlier a)) (λ s. (as_line (slice_get earlier b) >>? (λ t. combined_line m n g s t))) x e in
       let (t, second, made) = was-some (as_line (slice_get earlier b)) (λ t. combined_line m n g s t) x after_first in
       let (may, same) = was-true (may_combine m n g s t) (proved.Line (divided_by g (sum_of m n s t))) x made in
-      let (m_above, after_m) = both_true (int_lt (pos 0) m) _ may in
-      let (n_above, after_n) = both_true (int_lt (pos 0) n) _ after_m in
+      let (m_may, after_m) = both_true (may_multiply s.relation m) _ may in
+      let (n_may, after_n) = both_true (may_multiply t.relation n) _ after_m in
       let (g_above, after_g) = both_true (int_lt (pos 0) g) _ after_n in
-      (above m m_above, above n n_above, above g g_above)
+      (multiplier s.relation m m_may, multiplier t.relation n n_may, above g g_above)
     where
       above : (z : ℤ) → int_lt (pos 0) z ≡ true → pos 0 <ℤ z
-      above z h = (is_enough-Decides true z).0 h
+      above z h = (is_enough-Decides Above z).0 h
 
-  step-positive : (earlier : List Proved) (one : Step) (x : Proved) → proved_by p earlier one ≡ Some x → IsPositiveStep one
-  step-positive earlier (step.Given place) x e = tt
-  step-positive earlier (step.Combine a m b n g) x e = combined-positive earlier a m b n g x e
-  step-positive earlier (step.Fail a) x e = tt
-  step-positive earlier (step.Cover field parts) x e = tt
-  step-positive earlier (step.Fix field part) x e = tt
+      multiplier : (r : Relation) (z : ℤ) → may_multiply r z ≡ true → IsMultiplier z
+      multiplier AtLeast z may = inl (above z may)
+      multiplier Above z may = inl (above z may)
+      multiplier Equal z may = let (fits, apart) = both_true (in_range z) _ may in inr ((Decides-ltb (unsigned_abs z) (2 ^ 127)).0 fits)
 
-  positive-from : (earlier : List Proved) (steps : List Step) (all : List Proved) → proved_from p earlier steps ≡ Ok all → ArePositiveSteps steps
-  positive-from earlier [] all e = tt
-  positive-from earlier (one ∷ steps) all e = by (proved_by p earlier one) refl (λ x. positive-from (earlier ++ x ∷ []) steps all) e
+  step-coherent : (earlier : List Proved) (one : Step) (x : Proved) → proved_by p earlier one ≡ Some x → IsCoherentStep one
+  step-coherent earlier (step.Given place) x e = tt
+  step-coherent earlier (step.Combine a m b n g) x e = combined-coherent earlier a m b n g x e
+  step-coherent earlier (step.Fail a) x e = tt
+  step-coherent earlier (step.Cover field parts) x e = tt
+  step-coherent earlier (step.Fix field part) x e = tt
+
+  coherent-from : (earlier : List Proved) (steps : List Step) (all : List Proved) → proved_from p earlier steps ≡ Ok all → AreCoherentSteps steps
+  coherent-from earlier [] all e = tt
+  coherent-from earlier (one ∷ steps) all e = by (proved_by p earlier one) refl (λ x. coherent-from (earlier ++ x ∷ []) steps all) e
     where
-      by : (o : Option Proved) → proved_by p earlier one ≡ o → ((x : Proved) → proved_from p (earlier ++ x ∷ []) steps ≡ Ok all → ArePositiveSteps steps)
-          → (ok_or o (length earlier) >>= (λ x. proved_from p (earlier ++ x ∷ []) steps)) ≡ Ok all → ArePositiveSteps (one ∷ steps)
+      by : (o : Option Proved) → proved_by p earlier one ≡ o → ((x : Proved) → proved_from p (earlier ++ x ∷ []) steps ≡ Ok all → AreCoherentSteps steps)
+          → (ok_or o (length earlier) >>= (λ x. proved_from p (earlier ++ x ∷ []) steps)) ≡ Ok all → AreCoherentSteps (one ∷ steps)
       by None is rest h = absurd (cc)
-      by (Some x) is rest h = (step-positive earlier one x is, rest x h)
+      by (Some x) is rest h = (step-coherent earlier one x is, rest x h)
 
-  pub valid-positive : (steps : List Step) (x : Proved) → AreValidSteps p steps x → ArePositiveSteps steps
-  valid-positive steps x valid = by (proved_from p [] steps) refl valid
+  pub valid-coherent : (steps : List Step) (x : Proved) → AreValidSteps p steps x → AreCoherentSteps steps
+  valid-coherent steps x valid = by (proved_from p [] steps) refl valid
     where
-      by : (r : Result (List Proved) ℕ) → proved_from p [] steps ≡ r → last_proved r ≡ Ok x → ArePositiveSteps steps
-      by (Ok all) is h = positive-from [] steps all is
+      by : (r : Result (List Proved) ℕ) → proved_from p [] steps ≡ r → last_proved r ≡ Ok x → AreCoherentSteps steps
+      by (Ok all) is h = coherent-from [] steps all is
       by (Err place) is h = absurd (cc)
 
 -- ---- valid trees
 
 module _ (c : TreeCase) where
-  leaf-positive : (path : List Bool) (w : LeafWhy) → IsValidLeaf c path w → IsPositiveReason w
-  leaf-positive path why.Bound valid = tt
-  leaf-positive path why.BadKept valid = tt
-  leaf-positive path (why.Line steps) valid = let (line, are, refutes) = valid in valid-positive (premises_at c path) steps (proved.Line line) are
-  leaf-positive path (why.Box steps) valid = let (code_box, are, refutes) = valid in valid-positive (premises_at c path) steps (proved.Box code_box) are
+  leaf-coherent : (path : List Bool) (w : LeafWhy) → IsValidLeaf c path w → IsCoherentReason w
+  leaf-coherent path why.Bound valid = tt
+  leaf-coherent path why.BadKept valid = tt
+  leaf-coherent path (why.Line steps) valid = let (line, are, refutes) = valid in valid-coherent (premises_at c path) steps (proved.Line line) are
+  leaf-coherent path (why.Box steps) valid = let (code_box, are, refutes) = valid in valid-coherent (premises_at c path) steps (proved.Box code_box) are
 
-  leaves-positive : (leaves : List Leaf) → AllByRecursion (λ (leaf : Leaf). IsValidLeaf c leaf.path leaf.why) leaves → ArePositiveLeaves leaves
-  leaves-positive [] each = tt
-  leaves-positive (leaf ∷ leaves) each = (leaf-positive leaf.path leaf.why each.0, leaves-positive leaves each.1)
+  leaves-coherent : (leaves : List Leaf) → AllByRecursion (λ (leaf : Leaf). IsValidLeaf c leaf.path leaf.why) leaves → AreCoherentLeaves leaves
+  leaves-coherent [] each = tt
+  leaves-coherent (leaf ∷ leaves) each = (leaf-coherent leaf.path leaf.why each.0, leaves-coherent leaves each.1)
 
-  tree-positive : (leaves : List Leaf) → IsValidTree c leaves → ArePositiveLeaves leaves
-  tree-positive leaves valid = leaves-positive leaves valid.each
+  tree-coherent : (leaves : List Leaf) → IsValidTree c leaves → AreCoherentLeaves leaves
+  tree-coherent leaves valid = leaves-coherent leaves valid.each
 
 -- ---- what is said of a record
 
 module _ (survey : SurveyParts) (row : List Value) (budget : ℕ) (formed : IsWellFormed survey) (is : IsRow survey.fields row) where
   coherent-of : (donor : Option (List Value)) (o : Outcome) (stop : Option GiftFault) (gift : Option Gift) → outcome_of (case_of survey (kept_edits survey) row) budget ≡ o → ComesOf survey (kept_edits survey) row donor o stop gift → IsCoherentRow (said_of o stop)
   coherent-of donor (outcome.Change path zero cert) None gift e follows = (refl, change-clean (case_of survey (kept_edits survey) row) budget path zero cert e refl)
-  coherent-of donor (outcome.Change path (suc w) cert) None gift e follows = tree-positive _ cert.leaves (has-tree survey row budget formed is _ e)
-  coherent-of donor (outcome.Change path zero cert) (Some stop) gift e follows = tree-positive _ cert.leaves (has-tree survey row budget formed is _ e)
-  coherent-of donor (outcome.Change path (suc w) cert) (Some stop) gift e follows = tree-positive _ cert.leaves (has-tree survey row budget formed is _ e)
+  coherent-of donor (outcome.Change path (suc w) cert) None gift e follows = tree-coherent _ cert.leaves (has-tree survey row budget formed is _ e)
+  coherent-of donor (outcome.Change path zero cert) (Some stop) gift e follows = tree-coherent _ cert.leaves (has-tree survey row budget formed is _ e)
+  coherent-of donor (outcome.Change path (suc w) cert) (Some stop) gift e follows = tree-coherent _ cert.leaves (has-tree survey row budget formed is _ e)
   coherent-of donor (outcome.Budget path work) None gift e follows = tt
   coherent-of donor (outcome.Budget path work) (Some stop) None e follows = absurd follows
   coherent-of donor (outcome.Budget path work) (Some stop) (Some gift) e follows = absurd follows
   coherent-of donor (outcome.Overflow path event) None gift e follows = tt
   coherent-of donor (outcome.Overflow path event) (Some stop) None e follows = absurd follows
   coherent-of donor (outcome.Overflow path event) (Some stop) (Some gift) e follows = absurd follows
-  coherent-of donor (outcome.Contradictory cert) None gift e follows = tree-positive _ cert.leaves (has-tree survey row budget formed is _ e)
+  coherent-of donor (outcome.Contradictory cert) None gift e follows = tree-coherent _ cert.leaves (has-tree survey row budget formed is _ e)
   coherent-of donor (outcome.Contradictory cert) (Some stop) None e follows = absurd follows
   coherent-of donor (outcome.Contradictory cert) (Some stop) (Some gift) e follows = absurd follows
 

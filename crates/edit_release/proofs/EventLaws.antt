@@ -48,7 +48,7 @@ sum-names (g ∷ fields) (a ∷ factors) row sum f e = by (next_sum a (value_of 
 test-names : (line : LineParts) (row : List Value) (f : ℕ) → fails_at line row ≡ Err f → IsIn f (number_fields line.shape)
 test-names line row f e = sum-names (number_fields line.shape) line.factors row (whole line.constant) f (out (sum_at line row) e)
   where
-    out : (r : Result Ratio ℕ) → fails_by line.strict r ≡ Err f → r ≡ Err f
+    out : (r : Result Ratio ℕ) → fails_by line.relation r ≡ Err f → r ≡ Err f
     out (Ok sum) h = absurd (cc)
     out (Err g) h = cc
 

@@ -12,6 +12,8 @@ use Rattle.edit_model.specs.declared.field.Field.{Field}
 use Rattle.edit_line.specs.EditSets.{AreEdits}
 use Rattle.edit_line.specs.Lines.{IsLine, LineParts, parts_of}
 use Rattle.edit_line.specs.Sets.{AreSets}
+use Rattle.edit_line.specs.declared.relation.Relation.{Relation}
+use Rattle.edit_line.specs.declared.relation.Relation.TheVariants.{Equal}
 use Rattle.edit_line.specs.Shapes.{Domain, IsNumerical, has_field, shape_of, whole_sets}
 use Rattle.fraction128.specs.Range.{InRange}
 use Rattle.edit_line.proofs.ShapeLaws.{number_fields-same}
@@ -20,12 +22,14 @@ use Rattle.linear_elim.specs.Systems.{AreNumerical}
 -- What the tests owe: lines that were looked at, fields of a kind, and numbered lines.
 
 -- the line of sets and numbers that were looked at
-pub planned-line : (fields : List Field) (shape : List Domain) (wholes plan sets numbers : List ℕ) (given factors : List ℤ) (constant : ℤ) (strict : Bool) → shape ≡ shape_of fields → wholes ≡ whole_sets shape → AreSets plan wholes → sets ≡ plan
-    → numbers ≡ corrections.number_fields fields → length given ≡ length numbers → All InRange given → factors ≡ given → InRange constant → IsLine (parts_of (shape_of fields) sets factors constant strict)
-planned-line fields shape wholes plan sets numbers given factors constant strict shape_is wholes_are are sets_are numbers_are many fit factors_are fits = record {
+pub planned-line : (fields : List Field) (shape : List Domain) (wholes plan sets numbers : List ℕ) (given factors : List ℤ) (constant : ℤ) (relation : Relation) → shape ≡ shape_of fields → wholes ≡ whole_sets shape → AreSets plan wholes → sets ≡ plan
+    → numbers ≡ corrections.number_fields fields → length given ≡ length numbers → All InRange given → factors ≡ given → InRange constant → (relation ≡ Equal → plan ≡ wholes)
+    → IsLine (parts_of (shape_of fields) sets factors constant relation)
+planned-line fields shape wholes plan sets numbers given factors constant relation shape_is wholes_are are sets_are numbers_are many fit factors_are fits whole = record {
   sets = subst (λ (ss : List ℕ). AreSets ss (whole_sets (shape_of fields))) (sym sets_are) (subst (λ (ws : List ℕ). AreSets plan ws) (wholes_are ∙ ap whole_sets shape_is) are);
   factors = ap length factors_are ∙ many ∙ ap length numbers_are ∙ ap length (sym (number_fields-same fields));
   in_range = (subst (λ (zs : List ℤ). All InRange zs) (sym factors_are) fit, fits);
+  whole = λ equal. sets_are ∙ whole equal ∙ wholes_are ∙ ap whole_sets shape_is;
 }
 
 -- a set of numerical fields with one more

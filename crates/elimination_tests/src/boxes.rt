@@ -8,6 +8,7 @@ use super::reading::{
     EIGHT, HOUSEHOLD, LinePlan, derived_lines, planned_lines, row_of, rule_lines, survey_of,
 };
 use categ_combine::{BoxFault, BoxFrom, BoxOrigin, Covered, boxes_of, cat_step, fix};
+use edit_line::Relation::AtLeast;
 use edit_line::Shape;
 use edit_model::Value::{Bad, Code, Number};
 use edit_model::{Survey, Value};
@@ -138,10 +139,10 @@ fn a_code_is_kept(rt: HostRuntime) -> Result<(), Fail> {
 }
 
 /// H + 1 >= 0, which holds where H is 2.
-const NEAR: LinePlan = (&[7], &[0, 0, 0, 0, 0, 0, 0, 1], 1, false);
+const NEAR: LinePlan = (&[7], &[0, 0, 0, 0, 0, 0, 0, 1], 1, AtLeast);
 
 /// A sum that is out of range where H is 2.
-const FAR: LinePlan = (&[7], &[0, 0, 0, 0, 0, 0, 0, i128::MAX], 1, false);
+const FAR: LinePlan = (&[7], &[0, 0, 0, 0, 0, 0, 0, i128::MAX], 1, AtLeast);
 
 #[test]
 fn a_far_line_out_of_range_is_told(rt: HostRuntime) -> Result<(), Fail> {

@@ -3,6 +3,7 @@
 use super::reading::{
     HOUSEHOLD, LinePlan, TRADE, edits_of, is_line, line_of, rule_lines, survey_of,
 };
+use edit_line::Relation::{Above, AtLeast, Equal};
 use edit_line::{Derived, Origin};
 use edit_normal::{RuleLine, normal_form_law};
 use std::alloc::Global;
@@ -25,29 +26,28 @@ const NORMAL: [(&[u8], &[(u32, LinePlan)]); 3] = [
     (
         TRADE,
         &[
-            (0, (&[], &[1, 0, 0], 0, false)),
-            (1, (&[], &[0, 1, 0], 0, false)),
-            (2, (&[], &[1, -1, -1], 0, false)),
-            (2, (&[], &[-1, 1, 1], 0, false)),
-            (3, (&[], &[3, 0, -5], 0, false)),
+            (0, (&[], &[1, 0, 0], 0, AtLeast)),
+            (1, (&[], &[0, 1, 0], 0, AtLeast)),
+            (2, (&[], &[1, -1, -1], 0, Equal)),
+            (3, (&[], &[3, 0, -5], 0, AtLeast)),
         ],
     ),
     (
         HOUSEHOLD,
         &[
-            (0, (&[0b01, 0b10, 0b11], &[], -1, false)),
-            (1, (&[0b11, 0b01, 0b01], &[], -1, false)),
+            (0, (&[0b01, 0b10, 0b11], &[], -1, AtLeast)),
+            (1, (&[0b11, 0b01, 0b01], &[], -1, AtLeast)),
         ],
     ),
     (
         MIXED,
         &[
-            (0, (&[0b111], &[1, -2], 3, true)),
-            (1, (&[0b111], &[-1, 2], -3, false)),
-            (2, (&[0b110], &[-1, 0], 1, true)),
-            (3, (&[0b001], &[1, 0], -1, false)),
-            (4, (&[0b010], &[0, 1], 0, false)),
-            (4, (&[0b010], &[0, -1], 0, false)),
+            (0, (&[0b111], &[1, -2], 3, Above)),
+            (1, (&[0b111], &[-1, 2], -3, AtLeast)),
+            (2, (&[0b110], &[-1, 0], 1, Above)),
+            (3, (&[0b001], &[1, 0], -1, AtLeast)),
+            (4, (&[0b010], &[0, 1], 0, AtLeast)),
+            (4, (&[0b010], &[0, -1], 0, AtLeast)),
         ],
     ),
 ];

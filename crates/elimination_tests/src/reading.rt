@@ -5,12 +5,13 @@ ghost use Rattle.fraction128.specs.Range.{InRange};
 ghost use Rattle.edit_model.specs.Rows.{IsOfKind, IsRow};
 ghost use Rattle.edit_line.specs.Lines.{AreOver};
 ghost use Rattle.edit_line.specs.Sets.{AreSets};
+ghost use Rattle.edit_line.specs.declared.relation.Relation.TheVariants.{Equal};
 ghost use Rattle.edit_line.specs.Domains.{domains};
 ghost use Rattle.edit_line.specs.Shapes.{has_field, shape_of};
 ghost use Rattle.linear_elim.specs.Systems.{AreNumerical};
 
 use edit_language::read_rules;
-use edit_line::{Derived, Edits, Line, Origin, Shape};
+use edit_line::{Derived, Edits, Line, Origin, Relation, Shape};
 use edit_model::{Field, FieldSet, Kind, Row, Survey, Value};
 use edit_normal::{RuleLine, normal_lines};
 use std::alloc::Global;
@@ -47,8 +48,8 @@ number H
 code I in {x, y, z}
 ";
 
-/// A line: its sets, its factors, its constant, and whether it is strict.
-pub(crate) type LinePlan = (&'static [u64], &'static [i128], i128, bool);
+/// A line: its sets, its factors, its constant, and its relation.
+pub(crate) type LinePlan = (&'static [u64], &'static [i128], i128, Relation);
 
 /// The survey of the text.
 pub(crate) fn survey_of(alloc: Global, text: &[u8]) -> Result<Survey, Fail> {
@@ -65,18 +66,18 @@ pub(crate) fn rule_lines(alloc: Global, survey: &Survey) -> Result<Vec<RuleLine>
 
 /// Whether the line is the planned one.
 pub(crate) fn is_line(line: &Line, plan: &LinePlan) -> bool {
-    let (sets, factors, constant, strict) = plan;
+    let (sets, factors, constant, relation) = plan;
     line.sets() == *sets
         && line.factors() == *factors
         && line.constant() == *constant
-        && line.strict() == *strict
+        && line.relation() == *relation
 }
 
 /// The line of the plan.
 pub(crate) fn line_of(alloc: Global, survey: &Survey, plan: &LinePlan) -> Result<Line, Fail>
     ensures { IfOk result (λ line. line.shape ≡ shape_of survey.now.fields) }
 {
-    let (sets, factors, constant, strict) = plan;
+    let (sets, factors, constant, relation) = plan;
     let wholes = Shape::of(survey).whole_sets(alloc)?;
     if !are_sets(sets, &wholes) || factors.len() != survey.numbers().len() {
         return Err("sets and factors of the survey's fields")?;
@@ -84,9 +85,12 @@ pub(crate) fn line_of(alloc: Global, survey: &Survey, plan: &LinePlan) -> Result
     if !are_in_range(factors) || !is_in_range(*constant) {
         return Err("numbers in range")?;
     }
+    if !suits(*relation, sets, &wholes) {
+        return Err("an equality for all codes")?;
+    }
     let sets = Vec::from_slice(alloc, sets)?;
     let factors = Vec::from_slice(alloc, factors)?;
-    Ok(Line::new(survey, sets, factors, *constant, *strict))
+    Ok(Line::new(survey, sets, factors, *constant, *relation))
 }
 
 /// Whether there is a set for each whole one, not empty and with no other codes.
@@ -102,6 +106,13 @@ fn are_sets(sets: &[u64], wholes: &[u64]) -> bool
         }
     }
     true
+}
+
+/// Whether a line with these sets may have the relation: an equality has whole sets.
+fn suits(relation: Relation, sets: &[u64], wholes: &[u64]) -> bool
+    ensures { result ≡ true → relation ≡ Equal → sets.now ≡ wholes.now }
+{
+    !relation.is_equal() || sets == wholes
 }
 
 /// Whether each number is in range.

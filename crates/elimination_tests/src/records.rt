@@ -3,6 +3,7 @@ ghost use Rattle.std.specs.Prelude.{◌≡◌};
 ghost use Rattle.edit_line.specs.Shapes.{shape_of};
 
 use super::reading::{EIGHT, LinePlan, is_line, line_of, row_of, survey_of};
+use edit_line::Relation::{Above, AtLeast};
 use edit_line::{Line, LineOverflow, fails, value_at};
 use edit_model::Value::{Bad, Code, Number};
 use edit_model::{Survey, Value};
@@ -14,7 +15,7 @@ use std::test::Fail;
 const MOST: i128 = i128::MAX;
 
 /// 2 A + 3 G - 5 H > 4, at the first two codes.
-const LINE: LinePlan = (&[0b011], &[2, 0, 0, 0, 0, 0, 3, -5], -4, true);
+const LINE: LinePlan = (&[0b011], &[2, 0, 0, 0, 0, 0, 3, -5], -4, Above);
 
 /// What A, G and H are, the other numbers being Bad, and the sum, or the field at which it overflows.
 const SUMS: [([i128; 3], Result<i128, u32>); 4] = [
@@ -93,8 +94,8 @@ fn a_line_is_negated(rt: HostRuntime) -> Result<(), Fail> {
     let line = line_of(alloc, &survey_of(alloc, EIGHT)?, &LINE)?;
     match line.negation(alloc)?.as_slice() {
         [contrary, never] => {
-            assert!(rt; is_line(contrary, &(&[0b111], &[-2, 0, 0, 0, 0, 0, -3, 5], 4, false)));
-            assert!(rt; is_line(never, &(&[0b100], &[0; 8], -1, false)));
+            assert!(rt; is_line(contrary, &(&[0b111], &[-2, 0, 0, 0, 0, 0, -3, 5], 4, AtLeast)));
+            assert!(rt; is_line(never, &(&[0b100], &[0; 8], -1, AtLeast)));
         }
         _ => return Err(Fail::from("two lines")),
     }

@@ -1,4 +1,5 @@
 //! Which lines of rules follow from the others.
+use super::derivations::{NEGATIVE_COSTS, are_steps};
 use super::reading::{TRADE, survey_of};
 use edit_normal::lines_of_rules;
 use redundancy::{Verdict, Why, prune};
@@ -9,7 +10,7 @@ use std::test::Fail;
 const BUDGET: u64 = 2000;
 
 /// Rules, the most work on one of their lines, and what becomes of each: it is needed, the budget or a number ends its
-/// walk, or it is dropped.
+/// walk, it is an equality, or it is dropped.
 const VERDICTS: &[(&[u8], u64, &[u8])] = &[
     (b"number A\nA >= 0\n2 A - 1 >= 0\n", 0, b"bb"),
     // the walk of the second line has a work of 3: two paths and one pair
@@ -41,7 +42,7 @@ const VERDICTS: &[(&[u8], u64, &[u8])] = &[
         BUDGET,
         b"nnnnnno",
     ),
-    (TRADE, BUDGET, b"ndnnn"),
+    (TRADE, BUDGET, b"nden"),
 ];
 
 /// The verdicts on the lines of a survey's rules.
@@ -57,6 +58,7 @@ fn letter(verdict: &Verdict) -> u8 {
         Verdict::Kept(Why::Needed) => b'n',
         Verdict::Kept(Why::Budget) => b'b',
         Verdict::Kept(Why::Overflow) => b'o',
+        Verdict::Kept(Why::Equality) => b'e',
         Verdict::Dropped(_) => b'd',
     }
 }
@@ -71,6 +73,18 @@ fn are_verdicts(alloc: Global, text: &[u8], budget: u64, letters: &[u8]) -> Resu
 fn lines_that_follow_are_dropped(rt: HostRuntime) -> Result<(), Fail> {
     for (text, budget, letters) in VERDICTS {
         assert!(rt; are_verdicts(rt.alloc(), text, *budget, letters)?);
+    }
+    Ok(())
+}
+
+#[test]
+fn the_steps_of_a_dropped_line_are_told(rt: HostRuntime) -> Result<(), Fail> {
+    let verdicts = verdicts_of(rt.alloc(), TRADE, BUDGET)?;
+    match verdicts.as_slice() {
+        [_, Verdict::Dropped(steps), _, _] => {
+            assert!(rt; are_steps(steps.as_slice(), &NEGATIVE_COSTS));
+        }
+        _ => return Err(Fail::from("four lines")),
     }
     Ok(())
 }

@@ -4,6 +4,7 @@ ghost use Rattle.std.specs.Prelude.{◌≡◌, ◌<◌};
 use super::reading::{
     EIGHT, LinePlan, TRADE, edits_of, is_line, number_set, planned_lines, rule_lines, survey_of,
 };
+use edit_line::Relation::{AtLeast, Equal};
 use edit_line::{Derived, Origin, Place};
 use edit_model::Survey;
 use edit_normal::RuleLine;
@@ -28,22 +29,29 @@ A >= 2 B
 D >= 6
 ";
 
+/// `A + B = 10`, `A - B = 4`.
+const SUMS: &[u8] = b"number A
+number B
+A + B = 10
+A - B = 4
+";
+
 const CASES: &[Case] = &[
     (
         CHAIN,
         &[],
         &[
-            ((&[], &[1, -2, 0, 0], 0, false), Origin::Base(0)),
-            ((&[], &[0, 3, -1, 0], 0, false), Origin::Base(1)),
-            ((&[], &[0, 0, 2, -1], 0, false), Origin::Base(2)),
-            ((&[], &[0, 0, 0, 1], -6, false), Origin::Base(3)),
+            ((&[], &[1, -2, 0, 0], 0, AtLeast), Origin::Base(0)),
+            ((&[], &[0, 3, -1, 0], 0, AtLeast), Origin::Base(1)),
+            ((&[], &[0, 0, 2, -1], 0, AtLeast), Origin::Base(2)),
+            ((&[], &[0, 0, 0, 1], -6, AtLeast), Origin::Base(3)),
         ],
     ),
     (
         CHAIN,
         &[3, 1, 2],
         &[(
-            (&[], &[1, 0, 0, 0], -2, false),
+            (&[], &[1, 0, 0, 0], -2, AtLeast),
             Origin::Pair {
                 a: 0,
                 m: 1,
@@ -57,14 +65,14 @@ const CASES: &[Case] = &[
         TRADE,
         &[1],
         &[
-            ((&[], &[1, 0, 0], 0, false), Origin::Same(0)),
-            ((&[], &[3, 0, -5], 0, false), Origin::Same(4)),
+            ((&[], &[1, 0, 0], 0, AtLeast), Origin::Same(0)),
+            ((&[], &[3, 0, -5], 0, AtLeast), Origin::Same(3)),
             (
-                (&[], &[1, 0, -1], 0, false),
+                (&[], &[1, 0, -1], 0, AtLeast),
                 Origin::Pair {
-                    a: 1,
+                    a: 2,
                     m: 1,
-                    b: 2,
+                    b: 1,
                     n: 1,
                     g: 1,
                 },
@@ -72,9 +80,23 @@ const CASES: &[Case] = &[
         ],
     ),
     (
+        SUMS,
+        &[0],
+        &[(
+            (&[], &[0, -1], 3, Equal),
+            Origin::Pair {
+                a: 0,
+                m: -1,
+                b: 1,
+                n: 1,
+                g: 2,
+            },
+        )],
+    ),
+    (
         TRADE,
         &[1, 2],
-        &[((&[], &[1, 0, 0], 0, false), Origin::Same(0))],
+        &[((&[], &[1, 0, 0], 0, AtLeast), Origin::Same(0))],
     ),
 ];
 
@@ -139,26 +161,26 @@ const LARGE: i128 = 1_000_000_000_000_000_000_000_000_000_000;
 
 /// A line of factor 1 at one field alone, not below 0.
 const AT_LEAST_0: [LinePlan; 7] = [
-    (&[7], &[1, 0, 0, 0, 0, 0, 0, 0], 0, false),
-    (&[7], &[0, 1, 0, 0, 0, 0, 0, 0], 0, false),
-    (&[7], &[0, 0, 1, 0, 0, 0, 0, 0], 0, false),
-    (&[7], &[0, 0, 0, 1, 0, 0, 0, 0], 0, false),
-    (&[7], &[0, 0, 0, 0, 1, 0, 0, 0], 0, false),
-    (&[7], &[0, 0, 0, 0, 0, 1, 0, 0], 0, false),
-    (&[7], &[0, 0, 0, 0, 0, 0, 0, 1], 0, false),
+    (&[7], &[1, 0, 0, 0, 0, 0, 0, 0], 0, AtLeast),
+    (&[7], &[0, 1, 0, 0, 0, 0, 0, 0], 0, AtLeast),
+    (&[7], &[0, 0, 1, 0, 0, 0, 0, 0], 0, AtLeast),
+    (&[7], &[0, 0, 0, 1, 0, 0, 0, 0], 0, AtLeast),
+    (&[7], &[0, 0, 0, 0, 1, 0, 0, 0], 0, AtLeast),
+    (&[7], &[0, 0, 0, 0, 0, 1, 0, 0], 0, AtLeast),
+    (&[7], &[0, 0, 0, 0, 0, 0, 0, 1], 0, AtLeast),
 ];
 
 /// `H >= 10^9 G`, which makes a number too large of each `10^30`.
-const UPPER: LinePlan = (&[7], &[0, 0, 0, 0, 0, 0, -1_000_000_000, 1], 0, false);
+const UPPER: LinePlan = (&[7], &[0, 0, 0, 0, 0, 0, -1_000_000_000, 1], 0, AtLeast);
 
 /// Lines that bound G from below, and the place of the first number out of range behind the seven lines above.
 const FAR: [(LinePlan, Place); 2] = [
     (
-        (&[7], &[0, 0, 0, 0, 0, 0, 1, LARGE], 0, false),
+        (&[7], &[0, 0, 0, 0, 0, 0, 1, LARGE], 0, AtLeast),
         Place::Field(7),
     ),
     (
-        (&[7], &[0, 0, 0, 0, 0, 0, 1, 0], LARGE, false),
+        (&[7], &[0, 0, 0, 0, 0, 0, 1, 0], LARGE, AtLeast),
         Place::Constant,
     ),
 ];

@@ -3,9 +3,10 @@ use lib.IntN.{neg_ℤ}
 use Rattle.std.proofs.lemmas.Int.{ints}
 use Rattle.fraction128.proofs.Signs.{above-*}
 use Rattle.fraction128.proofs.Whole.{comm, parts, ring, same_dif}
-use Rattle.edit_line.specs.Lines.{IsEnough}
+use Rattle.edit_line.specs.Lines.{IsEnough, bound_relation}
 use Rattle.edit_line.specs.Reductions.{IsIn}
 use Rattle.edit_line.proofs.Enough.{IsEnough-above, IsEnough-more, IsEnough-times, IsEnough-weaker, IsEnough_cancel}
+use Rattle.edit_line.proofs.RelationLaws.{bound_apart, bound_implies}
 
 -- Finitely many lower bounds, each below finitely many upper ones, have a fraction between them.
 
@@ -22,7 +23,7 @@ above_neg z h = omega (arith, ints)
 -- a bound asks that slope * value + rest is enough, where the value is v / d: one with a positive slope bounds it from below, one with a negative slope from above
 module _ {X : Type 0} (slope rest : X → ℤ) (strict : X → Bool) where
   abbrev pub Meets : X → ℤ → ℤ → Type 0
-  Meets x v d = IsEnough (strict x) (slope x *ℤ v +ℤ rest x *ℤ d)
+  Meets x v d = IsEnough (bound_relation (strict x)) (slope x *ℤ v +ℤ rest x *ℤ d)
 
   -- each value within the first bound is within the second
   abbrev pub Implies : X → X → Type 0
@@ -45,14 +46,14 @@ module _ {X : Type 0} (slope rest : X → ℤ) (strict : X → Bool) where
   module _ (x y : X) (u w : ℤ) (u_above : pos 0 <ℤ u) (w_above : pos 0 <ℤ w) (level : u *ℤ slope y ≡ w *ℤ slope x) where
     further : pos 0 <ℤ (u *ℤ rest y -ℤ w *ℤ rest x) → Implies x y
     further more v d d_above meets =
-        IsEnough_cancel (strict y) _ u u_above (subst (λ (z : ℤ). IsEnough (strict y) z) (sym (scaled u w (slope x) (slope y) (rest x) (rest y) v d level))
-        (IsEnough-more (strict x) (strict y) _ _ (IsEnough-times (strict x) _ w w_above meets) (above-* _ d more d_above)))
+        IsEnough_cancel (bound_relation (strict y)) _ u u_above (subst (λ (z : ℤ). IsEnough (bound_relation (strict y)) z) (sym (scaled u w (slope x) (slope y) (rest x) (rest y) v d level))
+        (IsEnough-more (bound_relation (strict x)) (bound_relation (strict y)) _ _ (bound_apart (strict y)) (IsEnough-times (bound_relation (strict x)) _ w w_above meets) (above-* _ d more d_above)))
 
     level_with : u *ℤ rest y -ℤ w *ℤ rest x ≡ pos 0 → (strict x || not (strict y)) ≡ true → Implies x y
     level_with none either v d d_above meets =
-        IsEnough_cancel (strict y) _ u u_above (subst (λ (z : ℤ). IsEnough (strict y) z)
+        IsEnough_cancel (bound_relation (strict y)) _ u u_above (subst (λ (z : ℤ). IsEnough (bound_relation (strict y)) z)
         (sym (scaled u w (slope x) (slope y) (rest x) (rest y) v d level ∙ ap (λ (k : ℤ). (slope x *ℤ v +ℤ rest x *ℤ d) *ℤ w +ℤ k *ℤ d) none ∙ no_more _ d))
-        (IsEnough-weaker (strict x) (strict y) _ either (IsEnough-times (strict x) _ w w_above meets)))
+        (IsEnough-weaker (bound_relation (strict x)) (bound_relation (strict y)) _ (bound_implies (strict x) (strict y) ∙ either) (IsEnough-times (bound_relation (strict x)) _ w w_above meets)))
 
   turned_above : (a b : ℤ) → (a -ℤ b) <ℤ pos 0 → pos 0 <ℤ (b -ℤ a)
   turned_above a b h = omega (arith, ints)
@@ -155,7 +156,7 @@ module _ {X : Type 0} (slope rest : X → ℤ) (strict : X → Bool) where
 
   -- the two bounds leave a value between them, if only their common end
   abbrev pub LeavesValue : X → X → Type 0
-  LeavesValue x y = IsEnough (strict x || strict y) (slope x *ℤ rest y -ℤ slope y *ℤ rest x)
+  LeavesValue x y = IsEnough (bound_relation (strict x || strict y)) (slope x *ℤ rest y -ℤ slope y *ℤ rest x)
 
   -- from the tightest bound, all of that side
   all_within : (bounds : List X) (best : X) (v d : ℤ) → IsTightest bounds best → pos 0 <ℤ d → Meets best v d → (x : X) → IsIn x bounds → Meets x v d
@@ -169,12 +170,12 @@ module _ {X : Type 0} (slope rest : X → ℤ) (strict : X → Bool) where
   between (x ∷ lowers) [] rising falling leaves =
       let (best, is) = tightest x lowers (λ y z y_in z_in. lower_implies y z (rising y y_in) (rising z z_in)) in
       let above : pos 0 <ℤ slope best = rising best is.there in
-      let meets : Meets best (pos 1 -ℤ rest best) (slope best) = subst (λ (z : ℤ). IsEnough (strict best) z) (past_lower (slope best) (rest best)) (IsEnough-above (strict best) (slope best) above) in
+      let meets : Meets best (pos 1 -ℤ rest best) (slope best) = subst (λ (z : ℤ). IsEnough (bound_relation (strict best)) z) (past_lower (slope best) (rest best)) (IsEnough-above (bound_relation (strict best)) (slope best) (bound_apart (strict best)) above) in
       (pos 1 -ℤ rest best, slope best, record { above = above; within = all_within (x ∷ lowers) best _ _ is above meets }, record { above = above; within = λ x none. absurd none })
   between [] (y ∷ uppers) rising falling leaves =
       let (best, is) = tightest y uppers (λ w z w_in z_in. upper_implies w z (falling w w_in) (falling z z_in)) in
       let above : pos 0 <ℤ neg_ℤ (slope best) = above_neg (slope best) (falling best is.there) in
-      let meets : Meets best (rest best -ℤ pos 1) (neg_ℤ (slope best)) = subst (λ (z : ℤ). IsEnough (strict best) z) (past_upper (slope best) (rest best)) (IsEnough-above (strict best) (neg_ℤ (slope best)) above) in
+      let meets : Meets best (rest best -ℤ pos 1) (neg_ℤ (slope best)) = subst (λ (z : ℤ). IsEnough (bound_relation (strict best)) z) (past_upper (slope best) (rest best)) (IsEnough-above (bound_relation (strict best)) (neg_ℤ (slope best)) (bound_apart (strict best)) above) in
       (rest best -ℤ pos 1, neg_ℤ (slope best), record { above = above; within = λ x none. absurd none }, record { above = above; within = all_within (y ∷ uppers) best _ _ is above meets })
   between (x ∷ lowers) (y ∷ uppers) rising falling leaves =
       let (low, low_is) = tightest x lowers (λ w z w_in z_in. lower_implies w z (rising w w_in) (rising z z_in)) in
@@ -185,11 +186,11 @@ module _ {X : Type 0} (slope rest : X → ℤ) (strict : X → Bool) where
       let enough : LeavesValue low high = leaves low high low_is.there high_is.there in
       let v : ℤ = rest low *ℤ slope high +ℤ rest high *ℤ slope low in
       let low_meets : Meets low v (pos 2 *ℤ (slope low *ℤ neg_ℤ (slope high))) =
-      subst (λ (z : ℤ). IsEnough (strict low) z) (middle_lower (slope low) (rest low) (slope high) (rest high))
-      (IsEnough-times (strict low) _ (slope low) low_above (IsEnough-weaker (strict low || strict high) (strict low) _ (or_first (strict low) (strict high)) enough)) in
+      subst (λ (z : ℤ). IsEnough (bound_relation (strict low)) z) (middle_lower (slope low) (rest low) (slope high) (rest high))
+      (IsEnough-times (bound_relation (strict low)) _ (slope low) low_above (IsEnough-weaker (bound_relation (strict low || strict high)) (bound_relation (strict low)) _ (bound_implies (strict low || strict high) (strict low) ∙ or_first (strict low) (strict high)) enough)) in
       let high_meets : Meets high v (pos 2 *ℤ (slope low *ℤ neg_ℤ (slope high))) =
-      subst (λ (z : ℤ). IsEnough (strict high) z) (middle_upper (slope low) (rest low) (slope high) (rest high))
-      (IsEnough-times (strict high) _ (neg_ℤ (slope high)) high_above (IsEnough-weaker (strict low || strict high) (strict high) _ (or_second (strict low) (strict high)) enough)) in (
+      subst (λ (z : ℤ). IsEnough (bound_relation (strict high)) z) (middle_upper (slope low) (rest low) (slope high) (rest high))
+      (IsEnough-times (bound_relation (strict high)) _ (neg_ℤ (slope high)) high_above (IsEnough-weaker (bound_relation (strict low || strict high)) (bound_relation (strict high)) _ (bound_implies (strict low || strict high) (strict high) ∙ or_second (strict low) (strict high)) enough)) in (
         v,
         pos 2 *ℤ (slope low *ℤ neg_ℤ (slope high)),
         record { above = above; within = all_within (x ∷ lowers) low _ _ low_is above low_meets },

@@ -13,7 +13,7 @@ use Rattle.linear_elim.specs.Parts.{AreFlat}
 use Rattle.linear_elim.specs.Steps.{eliminated, step}
 use Rattle.linear_elim.specs.Systems.{system}
 use Rattle.linear_elim.proofs.PairLaws.{combination-is, factor-combined}
-use Rattle.linear_elim.proofs.StepLaws.{HaveShape-step, IsOppositePair, from-eliminated, step-flat}
+use Rattle.linear_elim.proofs.StepLaws.{HaveShape-step, IsMade, from-eliminated, step-flat}
 
 -- The fields that are eliminated stand in no line of a system.
 
@@ -27,14 +27,14 @@ module _ (shape : List Domain) where
   -- a step keeps other fields out
   step-keeps_flat : (lines : List LineParts) (f i : ℕ) → HaveShape shape lines → AreFlat i lines → AreFlat i (step lines f)
   step-keeps_flat lines f i over flat =
-      all-in (λ line. factor line i ≡ pos 0) (step lines f) (λ line there. at line (from-eliminated lines f line (reduce-from line (eliminated lines f) there)))
+      all-in (λ line. factor line i ≡ pos 0) (step lines f) (λ line there. at line (from-eliminated lines f shape over line (reduce-from line (eliminated lines f) there)))
     where
-      at : (line : LineParts) → (IsIn line lines × (factor line f ≡ pos 0)) ⊎ ((s : LineParts) × (t : LineParts) × IsOppositePair lines f s t × (line ≡ combination s t f)) → factor line i ≡ pos 0
+      at : (line : LineParts) → (IsIn line lines × (factor line f ≡ pos 0)) ⊎ IsMade lines f line → factor line i ≡ pos 0
       at line (inl kept) = in-all (λ l. factor l i ≡ pos 0) line lines flat kept.0
       at line (inr (s, t, pair, same)) =
           let s_over = in-all (λ l. l.shape ≡ shape) s lines (λ k d below. (over k d below).same) pair.first in
           let t_over = in-all (λ l. l.shape ≡ shape) t lines (λ k d below. (over k d below).same) pair.second in
-          let sum = combination-is s t f (t_over ∙ sym s_over) pair.above pair.below in
+          let sum = combination-is s t f (t_over ∙ sym s_over) pair.allowed in
           ap (λ (l : LineParts). factor l i) same
           ∙ none_of_both _ _ _ _ _ _ sum.g_above (factor-combined _ _ _ s t (combination s t f) i sum.combined)
           (in-all (λ l. factor l i ≡ pos 0) s lines flat pair.first) (in-all (λ l. factor l i ≡ pos 0) t lines flat pair.second)

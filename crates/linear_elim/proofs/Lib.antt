@@ -2,10 +2,13 @@ pub mod BetweenLaws
 pub mod ChosenFields
 pub mod ColumnLaws
 pub mod CountLaws
+pub mod EqualityPlaces
 pub mod ExtensionLaws
 pub mod FlatLaws
 pub mod FoldLaws
+pub mod FoundLines
 pub mod MadeLaws
+pub mod MultiplierRanges
 pub mod OriginLaws
 pub mod OverflowLaws
 pub mod OwnLoops

@@ -143,9 +143,9 @@ pub LineHolds-same : (line : LineParts) (p q : Point) → codes_at line.shape q 
     → ((i : ℕ) → factor line i ≢ pos 0 → q.numerator i *ℤ p.denominator ≡ p.numerator i *ℤ q.denominator) → LineHolds line q → LineHolds line p
 LineHolds-same line p q codes same holds = record {
   enough = λ inside.
-      let at_q : IsEnough line.strict (amount line q) = holds.enough (subst (λ (cs : List ℕ). AreCodesIn line.sets cs) (sym codes) inside) in
-      IsEnough_cancel line.strict (amount line p) q.denominator q.positive
-      (subst (λ (z : ℤ). IsEnough line.strict z) (amount-same line p q same) (IsEnough-times line.strict (amount line q) p.denominator p.positive at_q));
+      let at_q : IsEnough line.relation (amount line q) = holds.enough (subst (λ (cs : List ℕ). AreCodesIn line.sets cs) (sym codes) inside) in
+      IsEnough_cancel line.relation (amount line p) q.denominator q.positive
+      (subst (λ (z : ℤ). IsEnough line.relation z) (amount-same line p q same) (IsEnough-times line.relation (amount line q) p.denominator p.positive at_q));
 }
 
 -- a line without the numerical field holds at both of two points that differ only there
@@ -257,9 +257,9 @@ put-code p f v d above i = by (i == f) refl
 
 -- where the line holds with the new value
 pub holds-put : (line : LineParts) (p : Point) (f : ℕ) (v d : ℤ) (above : pos 0 <ℤ d)
-    → (AreCodesIn line.sets (codes_at line.shape p) → IsEnough line.strict (factor line f *ℤ v +ℤ rest_at line f p *ℤ d)) → LineHolds line (put p f (p.code f) v d above)
+    → (AreCodesIn line.sets (codes_at line.shape p) → IsEnough line.relation (factor line f *ℤ v +ℤ rest_at line f p *ℤ d)) → LineHolds line (put p f (p.code f) v d above)
 holds-put line p f v d above enough = record {
   enough = λ inside.
       let here : AreCodesIn line.sets (codes_at line.shape p) = subst (λ (cs : List ℕ). AreCodesIn line.sets cs) (map-agree _ p.code (code_fields line.shape) (λ i there. put-code p f v d above i)) inside in
-      subst (λ (z : ℤ). IsEnough line.strict z) (sym (amount-put p f (p.code f) v d above line)) (enough here);
+      subst (λ (z : ℤ). IsEnough line.relation z) (sym (amount-put p f (p.code f) v d above line)) (enough here);
 }

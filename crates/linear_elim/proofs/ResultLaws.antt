@@ -1,5 +1,7 @@
-use Rattle.std.proofs.Common.{pos, ◌≡◌, ◌↔◌, Bool, true, false, if◌then◌else◌, ℕ, suc, List, [], ◌∷◌, ◌++◌, All, Option, Some, None, Result, Ok, Err, map, refl, sym, ap, ◌∙◌, subst}
+use Rattle.std.proofs.Common.{pos, ◌≡◌, ◌≢◌, ◌↔◌, ◌==◌, ◌<◌, ◌&&◌, not, arith, Bool, true, false, if◌then◌else◌, ℕ, suc, List, [], ◌∷◌, ◌++◌, All, Option, Some, None, Result, Ok, Err, map, refl, sym, ap, ◌∙◌, subst}
 use Rattle.std.specs.List.{filter, flat_map, fold}
+use Rattle.std.proofs.lemmas.Bool.Decides.{Decides-eqb}
+use Rattle.std.proofs.lemmas.Option.{same_Some}
 use Rattle.foundation.specs.Results.{◌>>=◌, fault_as}
 use Rattle.edit_model.specs.Points.{Point}
 use Rattle.edit_line.specs.EditSets.{base_lines}
@@ -10,10 +12,11 @@ use Rattle.edit_line.specs.declared.derived.Derived.{Derived}
 use Rattle.edit_line.specs.declared.derived.Origin.TheVariants.{Same}
 use Rattle.edit_line.proofs.ReductionLaws.{reduce-lines}
 use Rattle.edit_line.specs.Combinations.{first_overflow, numbers, unless_overflow}
-use Rattle.linear_elim.specs.Combinations.{combination, combined_with, first_multiplier, is_flat, is_lower, second_multiplier}
+use Rattle.linear_elim.specs.Combinations.{combination, combine_result, combined_with, determines, first_multiplier, is_flat, is_lower, second_multiplier}
 use Rattle.linear_elim.specs.PointChanges.{CanHoldAt, CanHoldIn}
-use Rattle.linear_elim.specs.Steps.{StepOverflow, collect, eliminated, eliminated_result, flat_from, followed_by, is_opposite, pair_result, paired, reduced_result, row_result, step, step_result, with_more}
+use Rattle.linear_elim.specs.Steps.{StepOverflow, collect, combinations, eliminated, eliminated_result, equality_from, flat_from, followed_by, is_opposite, made, made_by, made_result, made_with, pair_result, paired, reduced_result, row_result, step, step_result, substituted_result, substitutions, with_more, without_first}
 use Rattle.linear_elim.specs.Systems.{fold_result, overflow_at, system, system_of}
+use Rattle.linear_elim.proofs.EqualityPlaces.{equality-past, equality-plain, no_equality-plain}
 use Rattle.linear_elim.proofs.StepLaws.{HaveShape-step, step-flat, step-follows, step-holds, step-lifts}
 use Rattle.linear_elim.proofs.SystemLaws.{HaveShape-system, system-follows, system-holds, system-lifts}
 
@@ -103,15 +106,87 @@ flat-plain f i (s ∷ lines) = by (is_flat f s.line) (flat-plain f (suc i) lines
     by true e = ap (λ (ls : List LineParts). s.line ∷ ls) e
     by false e = e
 
+-- the combinations of the opposite pairs
+combinations-plain : (f : ℕ) (lines ys : List Derived) → collect (row_result f lines) 0 lines ≡ Ok ys → lines_of ys ≡ combinations (lines_of lines) f
+combinations-plain f lines ys e =
+    collect-plain (row_result f lines) (λ s. if is_lower f s then map (λ t. combination s t f) (filter (is_opposite f s) (lines_of lines)) else []) 0 lines ys (λ j d zs is. row-plain f lines j d zs is) e
+    ∙ chosen-lists (is_lower f) (λ s. map (λ t. combination s t f) (filter (is_opposite f s) (lines_of lines))) (lines_of lines)
+
+-- ---- the substitutions of an equality
+
+module _ (f k : ℕ) (e : Derived) where
+  -- into another line
+  substituted-plain : (j : ℕ) (t : Derived) (zs : List Derived) → k ≢ j → substituted_result f k e j t ≡ Ok zs → lines_of zs ≡ (if not (is_flat f t.line) then combination e.line t.line f ∷ [] else [])
+  substituted-plain j t zs apart is = by (k == j) (not (is_flat f t.line)) refl (first_overflow 0 (first_multiplier e.line t.line f) (second_multiplier e.line t.line f) (numbers e.line) (numbers t.line)) is
+    where
+      by : (same b : Bool) → (k == j) ≡ same → (o : Option ℕ)
+          → (if not same && b then paired e.line.shape k j (unless_overflow o (combined_with (first_multiplier e.line t.line f) (second_multiplier e.line t.line f) e.line t.line)) else Ok []) ≡ Ok zs
+          → lines_of zs ≡ (if b then combination e.line t.line f ∷ [] else [])
+      by true b same o h = absurd (apart ((Decides-eqb k j).0 same))
+      by false true same None h = ap (λ (ds : List Derived). lines_of ds) (ok_same zs _ _ h refl)
+      by false true same (Some place) h = absurd (cc)
+      by false false same o h = ap (λ (ds : List Derived). lines_of ds) (ok_same zs _ _ h refl)
+
+  -- one more line
+  joined-plain : (t : LineParts) (lines : List LineParts) → (if not (is_flat f t) then combination e.line t f ∷ [] else []) ++ substitutions e.line lines f ≡ substitutions e.line (t ∷ lines) f
+  joined-plain t lines = by (not (is_flat f t))
+    where
+      by : (b : Bool) → (if b then combination e.line t f ∷ [] else []) ++ substitutions e.line lines f ≡ map (λ l. combination e.line l f) (if b then t ∷ filter (λ l. not (is_flat f l)) lines else filter (λ l. not (is_flat f l)) lines)
+      by true = refl
+      by false = refl
+
+  -- after the equality
+  later-plain : (i : ℕ) (lines ys : List Derived) → k < i → collect (substituted_result f k e) i lines ≡ Ok ys → lines_of ys ≡ substitutions e.line (lines_of lines) f
+  later-plain i [] ys past is = ap (λ (ds : List Derived). lines_of ds) (ok_same ys [] (Ok []) is refl)
+  later-plain i (t ∷ lines) ys past is =
+      let (first, rest, first_is, rest_is, joined_is) = followed (substituted_result f k e i t) (collect (substituted_result f k e) (suc i) lines) ys is in
+      ap (λ (ds : List Derived). lines_of ds) joined_is
+      ∙ lines_of-append first rest
+      ∙ ap (λ (ls : List LineParts). ls ++ lines_of rest) (substituted-plain i t first (λ same. absurd (omega (arith, same, past))) first_is)
+      ∙ ap (λ (ls : List LineParts). (if not (is_flat f t.line) then combination e.line t.line f ∷ [] else []) ++ ls) (later-plain (suc i) lines rest (omega (arith, past)) rest_is)
+      ∙ joined-plain t.line (lines_of lines)
+
+  -- from a place on, with the equality after it
+  substitutions-plain : (i : ℕ) (lines ys : List Derived) → equality_from f i lines ≡ Some (k, e) → collect (substituted_result f k e) i lines ≡ Ok ys → lines_of ys ≡ substitutions e.line (without_first (determines f) (lines_of lines)) f
+  substitutions-plain i [] ys found is = absurd (cc)
+  substitutions-plain i (t ∷ lines) ys found is =
+      let (first, rest, first_is, rest_is, joined_is) = followed (substituted_result f k e i t) (collect (substituted_result f k e) (suc i) lines) ys is in
+      ap (λ (ds : List Derived). lines_of ds) joined_is ∙ lines_of-append first rest ∙ by (determines f t.line) found first rest first_is rest_is (substitutions-plain (suc i) lines rest)
+    where
+      by : (b : Bool) → (if b then Some (i, t) else equality_from f (suc i) lines) ≡ Some (k, e) → (first rest : List Derived) → substituted_result f k e i t ≡ Ok first → collect (substituted_result f k e) (suc i) lines ≡ Ok rest
+          → (equality_from f (suc i) lines ≡ Some (k, e) → collect (substituted_result f k e) (suc i) lines ≡ Ok rest → lines_of rest ≡ substitutions e.line (without_first (determines f) (lines_of lines)) f)
+          → lines_of first ++ lines_of rest ≡ substitutions e.line (if b then lines_of lines else t.line ∷ without_first (determines f) (lines_of lines)) f
+      by true h first rest first_is rest_is later =
+          let same : i ≡ k = ap (λ (p : ℕ × Derived). p.0) (same_Some (i, t) (k, e) h) in
+          ap (λ (ls : List LineParts). ls ++ lines_of rest) (none first same first_is) ∙ later-plain (suc i) lines rest (omega (arith, same)) rest_is
+        where
+          none : (first : List Derived) → i ≡ k → substituted_result f k e i t ≡ Ok first → lines_of first ≡ []
+          none first same is = by_place (k == i) ((Decides-eqb k i).1 (sym same)) is
+            where
+              by_place : (b : Bool) → b ≡ true → (if not b && not (is_flat f t.line) then paired e.line.shape k i (combine_result e.line t.line f) else Ok []) ≡ Ok first → lines_of first ≡ []
+              by_place true at h = ap (λ (ds : List Derived). lines_of ds) (ok_same first _ _ h refl)
+              by_place false at h = absurd (cc)
+      by false h first rest first_is rest_is later =
+          let past = equality-past f (suc i) lines (k, e) h in
+          ap (λ (ls : List LineParts). ls ++ lines_of rest) (substituted-plain i t first (λ same. absurd (omega (arith, same, past))) first_is)
+          ∙ ap (λ (ls : List LineParts). (if not (is_flat f t.line) then combination e.line t.line f ∷ [] else []) ++ ls) (later h rest_is)
+          ∙ joined-plain t.line (without_first (determines f) (lines_of lines))
+
+-- the lines that are made
+made-plain : (lines : List Derived) (f : ℕ) (ys : List Derived) → made_result lines f ≡ Ok ys → lines_of ys ≡ made (lines_of lines) f
+made-plain lines f ys e = by (equality_from f 0 lines) refl e
+  where
+    by : (o : Option (ℕ × Derived)) → equality_from f 0 lines ≡ o → made_with o lines f ≡ Ok ys → lines_of ys ≡ made (lines_of lines) f
+    by (Some e) found is = substitutions-plain f e.0 e.1 0 lines ys found is ∙ ap (λ (o : Option LineParts). made_by o (lines_of lines) f) (sym (equality-plain f 0 lines e found))
+    by None none is = combinations-plain f lines ys is ∙ ap (λ (o : Option LineParts). made_by o (lines_of lines) f) (sym (no_equality-plain f 0 lines none))
+
 pub eliminated-plain : (lines : List Derived) (f : ℕ) (ys : List Derived) → eliminated_result lines f ≡ Ok ys → lines_of ys ≡ eliminated (lines_of lines) f
 eliminated-plain lines f ys e =
-    let (rest, rest_is, joined_is) = joined (flat_from f 0 lines) (collect (row_result f lines) 0 lines) ys e in
+    let (rest, rest_is, joined_is) = joined (flat_from f 0 lines) (made_result lines f) ys e in
     ap (λ (ds : List Derived). lines_of ds) joined_is
     ∙ lines_of-append (flat_from f 0 lines) rest
     ∙ ap (λ (ls : List LineParts). ls ++ lines_of rest) (flat-plain f 0 lines)
-    ∙ ap (λ (ls : List LineParts). filter (is_flat f) (lines_of lines) ++ ls)
-    (collect-plain (row_result f lines) (λ s. if is_lower f s then map (λ t. combination s t f) (filter (is_opposite f s) (lines_of lines)) else []) 0 lines rest (λ j d zs is. row-plain f lines j d zs is) rest_is
-    ∙ chosen-lists (is_lower f) (λ s. map (λ t. combination s t f) (filter (is_opposite f s) (lines_of lines))) (lines_of lines))
+    ∙ ap (λ (ls : List LineParts). filter (is_flat f) (lines_of lines) ++ ls) (made-plain lines f rest rest_is)
 
 -- where the step has lines, they are the plain step's
 pub step-plain : (lines : List Derived) (f : ℕ) (ys : List Derived) → step_result lines f ≡ Ok ys → lines_of ys ≡ step (lines_of lines) f

@@ -42,6 +42,8 @@ HasShape-line line is = record {
   same = refl;
   sets = AreSets-length line.sets (whole_sets line.shape) is.sets ∙ length-wholes 0 line.shape;
   factors = is.factors;
+  fit = is.sets;
+  whole = is.whole;
 }
 
 -- so are all lines

@@ -6,7 +6,7 @@ use Rattle.edit_line.specs.Reductions.{reduce_derived, with_derived}
 use Rattle.edit_line.specs.declared.derived.Derived.{Derived}
 use Rattle.edit_line.specs.declared.derived.Origin.TheVariants.{Same}
 use Rattle.linear_elim.specs.Combinations.{is_flat}
-use Rattle.linear_elim.specs.Steps.{StepOverflow, collect, flat_from, followed_by, reduced_result, row_count, row_result, rows_count, step_result, with_more}
+use Rattle.linear_elim.specs.Steps.{StepOverflow, collect, flat_from, followed_by, made_result, reduced_result, row_count, rows_count, step_result, substituted_count, substitutes, with_more}
 use Rattle.linear_elim.specs.inner.Taken.{taken_in}
 
 -- Loops over the lines of a step: what is done, and what is left, give the whole.
@@ -59,9 +59,9 @@ module _ {X F : Type 0} (each : ℕ → X → Result (List Derived) F) (xs : Lis
 pub fault-of-rest : {F : Type 0} (kept : List Derived) (rest : Result (List Derived) F) (f : F) → taken_in kept rest ≡ Err f → rest ≡ Err f
 fault-of-rest kept rest f is = taken-err kept rest f is
 
--- a step takes the combinations in among its reduced flat lines
-pub step-taken : (lines : List Derived) (f : ℕ) → taken_in (reduce_derived (flat_from f 0 lines)) (collect (row_result f lines) 0 lines) ≡ step_result lines f
-step-taken lines f = by (collect (row_result f lines) 0 lines)
+-- a step takes the lines that it makes in among its reduced flat lines
+pub step-taken : (lines : List Derived) (f : ℕ) → taken_in (reduce_derived (flat_from f 0 lines)) (made_result lines f) ≡ step_result lines f
+step-taken lines f = by (made_result lines f)
   where
     by : (rest : Result (List Derived) StepOverflow) → taken_in (reduce_derived (flat_from f 0 lines)) rest ≡ reduced_result (with_more (flat_from f 0 lines) rest)
     by (Ok more) = ap (λ xs. Ok xs) (sym (fold-append with_derived [] (flat_from f 0 lines) more))
@@ -87,6 +87,15 @@ module _ (f : ℕ) (lines rows : List Derived) where
 
   pub rows-end : (i : ℕ) → length rows ≤ i → rows_count f lines (drop i rows) ≡ 0
   rows-end i past = ap (λ ys. rows_count f lines ys) (drop_all i rows past)
+
+module _ (f k : ℕ) (lines : List Derived) where
+  -- the number of substitutions from one place on
+  pub substituted-at : (i : ℕ) (t : Derived) → i < length lines → t ≡ get_or lines i t
+      → substituted_count f k i (drop i lines) ≡ (if substitutes f k i t.line then 1 else 0) + substituted_count f k (i + 1) (drop (i + 1) lines)
+  substituted-at i t below at = rw (add-one) (ap (λ ys. substituted_count f k i ys) (drop-cons lines i t below ∙ ap (λ y. y ∷ drop (suc i) lines) (sym at)))
+
+  pub substituted-end : (i : ℕ) → length lines ≤ i → substituted_count f k i (drop i lines) ≡ 0
+  substituted-end i past = ap (λ ys. substituted_count f k i ys) (drop_all i lines past)
 
 -- ---- the lines without the field
 

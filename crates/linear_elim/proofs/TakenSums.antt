@@ -1,32 +1,36 @@
-use Rattle.std.proofs.Common.{◌≡◌, true, ℕ, None, ℤ, pos, ◌<ℤ◌, refl, sym, subst}
+use Rattle.std.proofs.Common.{List, None, length, pos, refl, subst, sym, ℕ, ℤ, ◌*ℤ◌, ◌≡◌}
 use Rattle.edit_line.specs.Combinations.{first_overflow, numbers, sum_of}
-use Rattle.edit_line.proofs.PositiveSums.{IsPositiveSum}
+use Rattle.edit_line.proofs.AllowedSums.{IsAllowedSum}
 use Rattle.edit_line.specs.Divisors.{reduced}
 use Rattle.edit_line.specs.Lines.{LineParts, factor}
-use Rattle.edit_line.proofs.BoolLaws.{both_true}
-use Rattle.edit_line.proofs.TakenCombinations.{divides-divisor, may-positive, positive-may}
+use Rattle.fraction128.specs.Range.{InRange}
+use Rattle.edit_line.specs.Shapes.{Domain, beside, number_fields}
+use Rattle.edit_line.proofs.RelationLaws.{keeps-may}
+use Rattle.edit_line.proofs.TakenCombinations.{divides-divisor, allowed-may, may-allowed}
 use Rattle.linear_elim.specs.Combinations.{combination, first_multiplier, second_multiplier}
 use Rattle.linear_elim.specs.Origins.{IsTakenSum}
-use Rattle.linear_elim.specs.Steps.{is_opposite}
-use Rattle.linear_elim.proofs.PairLaws.{combination-is, combination_divisor}
-use Rattle.linear_elim.proofs.StepLaws.{below_tells}
+use Rattle.linear_elim.proofs.MultiplierRanges.{factor-ranged, products-beside}
+use Rattle.linear_elim.proofs.PairLaws.{IsAllowedPair, above_stands, combination-is, combination_divisor, first-apart, second-above}
 
--- The combinations that a step makes may be taken, and those that may be taken are positive ones.
+-- The combinations that a step makes may be taken, and those that may be taken are allowed sums.
 
--- the combination of a line above 0 at the field and one that is opposite to it may be taken, where it does not leave the range
-pub combination-taken : (s t : LineParts) (f : ℕ) → t.shape ≡ s.shape → pos 0 <ℤ factor s f → is_opposite f s t ≡ true
+-- the combination of a pair may be taken, where it does not leave the range
+pub combination-taken : (s t : LineParts) (f : ℕ) → t.shape ≡ s.shape → length s.factors ≡ length t.factors → IsAllowedPair f s t
     → first_overflow 0 (first_multiplier s t f) (second_multiplier s t f) (numbers s) (numbers t) ≡ None
     → IsTakenSum (first_multiplier s t f) (second_multiplier s t f) (combination_divisor s t f) s t (combination s t f)
 unfolding reduced
-combination-taken s t f same above opposite fits =
-    let (upper, meet) = both_true _ _ opposite in
-    let sum = combination-is s t f same above (below_tells (factor t f) upper) in
+combination-taken s t f same count pair fits =
+    let sum = combination-is s t f same pair in
+    let (first, second) = products-beside 0 (first_multiplier s t f) (second_multiplier s t f) s.constant t.constant (number_fields s.shape) s.factors t.factors f count fits in
+    let own : InRange (second_multiplier s t f *ℤ factor t f) = subst (λ (d : List Domain). InRange (second_multiplier s t f *ℤ beside (pos 0) (number_fields d) t.factors f)) (sym same) second in
+    let m_may = keeps-may s.relation (first_multiplier s t f) pair.first_keeps (factor-ranged (first_multiplier s t f) (factor s f) pair.first_stands first) (first-apart s t f pair.second_stands) in
+    let n_may = keeps-may t.relation (second_multiplier s t f) pair.second_keeps (factor-ranged (second_multiplier s t f) (factor t f) pair.second_stands own) (above_stands (second_multiplier s t f) (second-above s t f pair.first_stands)) in
     record {
       same = same;
-      may = positive-may _ _ _ s t sum.m_above sum.n_above sum.g_above meet fits (divides-divisor (sum_of (first_multiplier s t f) (second_multiplier s t f) s t));
+      may = allowed-may _ _ _ s t m_may n_may sum.g_above pair.meet fits (divides-divisor (sum_of (first_multiplier s t f) (second_multiplier s t f) s t));
       line_is = refl;
     }
 
--- a combination that may be taken is a positive one
-pub taken-positive : (m n g : ℤ) (s t line : LineParts) → IsTakenSum m n g s t line → IsPositiveSum m n g s t line
-taken-positive m n g s t line is = subst (λ (l : LineParts). IsPositiveSum m n g s t l) (sym is.line_is) (may-positive m n g s t is.same is.may)
+-- a combination that may be taken is an allowed sum
+pub taken-allowed : (m n g : ℤ) (s t line : LineParts) → IsTakenSum m n g s t line → IsAllowedSum m n g s t line
+taken-allowed m n g s t line is = subst (λ (l : LineParts). IsAllowedSum m n g s t l) (sym is.line_is) (may-allowed m n g s t is.same is.may)

@@ -1,9 +1,9 @@
-use Rattle.std.specs.Prelude.{◌≡◌, ℕ, ℤ, pos, ◌&&◌, not, Bool, Result, length, int_div, int_lt}
+use Rattle.std.specs.Prelude.{◌≡◌, ℕ, ℤ, pos, ◌&&◌, not, Bool, Result, length, int_div, int_lt, if◌then◌else◌}
 use lib.IntN.{neg_ℤ}
 use Rattle.fraction128.specs.Divisor.{int_gcd}
 use Rattle.edit_line.specs.Combinations.{first_overflow, numbers, sum_of, unless_overflow}
 use Rattle.edit_line.specs.Divisors.{divisor_of, reduced}
-use Rattle.edit_line.specs.Lines.{LineParts, factor}
+use Rattle.edit_line.specs.Lines.{LineParts, factor, is_equal}
 
 -- ---- the combination of two lines
 
@@ -19,15 +19,24 @@ is_upper f line = int_lt (factor line f) (pos 0)
 abbrev pub is_flat : ℕ → LineParts → Bool
 is_flat f line = not (is_lower f line) && not (is_upper f line)
 
--- with what s, above 0 at the field, is multiplied so that the field goes from its sum with t, below 0 there
+-- an equality in which the field stands, so that it tells the field's value by the others
+abbrev pub determines : ℕ → LineParts → Bool
+determines f line = is_equal line.relation && not (is_flat f line)
+
+-- a number, and its negative where the other is below 0
+abbrev pub turned_by : ℤ → ℤ → ℤ
+turned_by a z = if int_lt a (pos 0) then neg_ℤ z else z
+
+-- with what s, in which the field stands, is multiplied so that the field goes from its sum with t
 unfoldable pub first_multiplier : LineParts → LineParts → ℕ → ℤ
-first_multiplier s t f = int_div (neg_ℤ (factor t f)) (int_gcd (factor s f) (factor t f))
+first_multiplier s t f = int_div (turned_by (factor s f) (neg_ℤ (factor t f))) (int_gcd (factor s f) (factor t f))
 
--- and with what t is multiplied
+-- and with what t is multiplied, a number above 0
 unfoldable pub second_multiplier : LineParts → LineParts → ℕ → ℤ
-second_multiplier s t f = int_div (factor s f) (int_gcd (factor s f) (factor t f))
+second_multiplier s t f = int_div (turned_by (factor s f) (factor s f)) (int_gcd (factor s f) (factor t f))
 
--- the positive combination of s and t in which the field is gone, its numbers divided by their greatest common divisor
+-- the combination of s and t in which the field is gone, its numbers divided by their greatest common divisor; an equality s is
+-- so substituted into t
 abbrev pub combination : LineParts → LineParts → ℕ → LineParts
 combination s t f = reduced (sum_of (first_multiplier s t f) (second_multiplier s t f) s t)
 

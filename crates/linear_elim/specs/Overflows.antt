@@ -1,4 +1,4 @@
-use Rattle.std.specs.Prelude.{◌≡◌, ℕ, ◌<◌, true, false, List, ◌∷◌, ◌++◌, Option, Some, None, IfSome, Ok, get_or, length, pos, slice_get, ℤ}
+use Rattle.std.specs.Prelude.{◌≡◌, ℕ, ◌<◌, ◌==◌, ◌&&◌, Bool, true, false, List, ◌∷◌, ◌++◌, Option, Some, None, IfSome, Ok, get_or, length, pos, slice_get, ℤ}
 use Rattle.edit_line.specs.Lines.{LineParts}
 use Rattle.edit_line.specs.EditSets.{EditsParts, base_lines}
 use Rattle.edit_line.specs.Reductions.{reduce_derived}
@@ -7,24 +7,29 @@ use Rattle.edit_line.specs.Shapes.{number_fields}
 use Rattle.edit_line.specs.declared.derived.Derived.{Derived}
 use Rattle.edit_line.specs.Combinations.{first_overflow, numbers, sum_fits}
 use Rattle.linear_elim.specs.Combinations.{first_multiplier, is_lower, second_multiplier}
-use Rattle.linear_elim.specs.Steps.{StepOverflow, is_opposite}
+use Rattle.linear_elim.specs.Steps.{StepOverflow, equality_from, is_opposite, substitutes}
 use Rattle.linear_elim.specs.Systems.{SystemOverflow, chosen_fields, fold_result}
 use Rattle.linear_elim.specs.Told.{told_system}
 use Rattle.linear_elim.specs.declared.fault.SystemFault.{SystemFault}
 
--- s and t are combined at the field
-pub record AreCombined (f : ℕ) (s t : LineParts) : Type 0 where
-  pub lower : is_lower f s ≡ true
-  pub opposite : is_opposite f s t ≡ true
+-- whether s, at place i, is combined with t, at place j: the first equality with the field is, with each other line that has it;
+-- where there is none, two opposite lines are
+abbrev pub combines : Option (ℕ × Derived) → ℕ → ℕ → LineParts → ℕ → LineParts → Bool
+combines (Some e) f i s j t = (e.0 == i) && substitutes f i j t
+combines None f i s j t = is_lower f s && is_opposite f s t
+
+-- of the lines, s, at place i, and t, at place j, are combined at the field
+abbrev pub AreCombined : List Derived → ℕ → ℕ → LineParts → ℕ → LineParts → Type 0
+AreCombined lines f i s j t = combines (equality_from f 0 lines) f i s j t ≡ true
 
 -- the first place at which a number of the combination of s and t leaves the range
 abbrev pub overflow_of : LineParts → LineParts → ℕ → Option ℕ
 overflow_of s t f = first_overflow 0 (first_multiplier s t f) (second_multiplier s t f) (numbers s) (numbers t)
 
--- no number leaves the range in the pairs of these two lines of the list
+-- no number leaves the range in the combination of these two lines of the list
 abbrev pub PairFits : List Derived → ℕ → ℕ → ℕ → Type 0
 PairFits lines f i j = (s t : Derived) → slice_get lines i ≡ Some s → slice_get lines j ≡ Some t
-    → AreCombined f s.line t.line → overflow_of s.line t.line f ≡ None
+    → AreCombined lines f i s.line j t.line → overflow_of s.line t.line f ≡ None
 
 -- no number of any combination leaves the range
 abbrev pub AllPairsFit : List Derived → ℕ → Type 0
@@ -42,7 +47,7 @@ pub record IsFirstOverflow (lines : List Derived) (f : ℕ) (o : StepOverflow) :
   pub t : Derived
   pub first : slice_get lines o.first ≡ Some s
   pub second : slice_get lines o.second ≡ Some t
-  pub combined : AreCombined f s.line t.line
+  pub combined : AreCombined lines f o.first s.line o.second t.line
   pub number : ℕ
   pub leaves : overflow_of s.line t.line f ≡ Some number
   pub first_place : IsFirstPlace

@@ -1,5 +1,5 @@
-use Rattle.std.specs.Prelude.{ℕ, suc, ◌+◌, ◌&&◌, Bool, List, [], ◌∷◌, ◌++◌, All, Result, Ok, Err, length, map, if◌then◌else◌}
-use Rattle.std.specs.List.{filter, flat_map}
+use Rattle.std.specs.Prelude.{ℕ, suc, ◌+◌, ◌==◌, ◌&&◌, not, Bool, List, [], ◌∷◌, ◌++◌, All, Option, Some, None, Result, Ok, Err, length, map, if◌then◌else◌}
+use Rattle.std.specs.List.{filter, find, flat_map}
 use Rattle.foundation.specs.Results.{◌>>=◌}
 use Rattle.edit_line.specs.Lines.{LineParts}
 use Rattle.edit_line.specs.Places.{place_named}
@@ -9,7 +9,7 @@ use Rattle.edit_line.specs.declared.derived.Derived.{Derived}
 use Rattle.edit_line.specs.declared.derived.Origin.TheVariants.{Pair, Same}
 use Rattle.edit_line.specs.declared.place.Place.{Place}
 use Rattle.edit_line.specs.Combinations.{all_meet}
-use Rattle.linear_elim.specs.Combinations.{CombinedParts, SameShape, combination, combine_result, is_flat, is_lower, is_upper}
+use Rattle.linear_elim.specs.Combinations.{CombinedParts, SameShape, combination, combine_result, determines, is_flat, is_lower, is_upper}
 
 -- ---- the step over lines alone
 
@@ -21,9 +21,27 @@ is_opposite f s t = is_upper f t && all_meet s.sets t.sets
 abbrev pub combinations : List LineParts → ℕ → List LineParts
 combinations lines f = flat_map (λ s. map (λ t. combination s t f) (filter (is_opposite f s) lines)) (filter (is_lower f) lines)
 
--- one step of Fourier and Motzkin: the lines without the field, and then the combinations
+-- the list without the first element that passes the test
+abbrev pub without_first : {X : Type 0} → (X → Bool) → List X → List X
+without_first test [] = []
+without_first test (x ∷ xs) = if test x then xs else x ∷ without_first test xs
+
+-- the equality e, substituted into each of the others in which the field stands, in order
+abbrev pub substitutions : LineParts → List LineParts → ℕ → List LineParts
+substitutions e others f = map (λ t. combination e t f) (filter (λ t. not (is_flat f t)) others)
+
+-- what is made of the lines with the field: where an equality has it, the substitutions of the first such; else the combinations
+abbrev pub made_by : Option LineParts → List LineParts → ℕ → List LineParts
+made_by (Some e) lines f = substitutions e (without_first (determines f) lines) f
+made_by None lines f = combinations lines f
+
+-- the lines that elimination of the field makes
+abbrev pub made : List LineParts → ℕ → List LineParts
+made lines f = made_by (find (determines f) lines) lines f
+
+-- one step of elimination, by an equality or of Fourier and Motzkin: the lines without the field, and then those that are made
 abbrev pub eliminated : List LineParts → ℕ → List LineParts
-eliminated lines f = filter (is_flat f) lines ++ combinations lines f
+eliminated lines f = filter (is_flat f) lines ++ made lines f
 
 -- the step, reduced
 abbrev pub step : List LineParts → ℕ → List LineParts
@@ -70,6 +88,31 @@ pair_result f i s j t =
 abbrev pub row_result : ℕ → List Derived → ℕ → Derived → Result (List Derived) StepOverflow
 row_result f lines i s = if is_lower f s.line then collect (pair_result f i s) 0 lines else Ok []
 
+-- the first equality in which the field stands, with its place, counted from i
+abbrev pub equality_from : ℕ → ℕ → List Derived → Option (ℕ × Derived)
+equality_from f i [] = None
+equality_from f i (s ∷ lines) = if determines f s.line then Some (i, s) else equality_from f (suc i) lines
+
+-- the equality at place i is substituted into t at place j: t is another line, and the field stands in it
+abbrev pub substitutes : ℕ → ℕ → ℕ → LineParts → Bool
+substitutes f i j t = not (i == j) && not (is_flat f t)
+
+-- the substitution of the equality e into t, where it is substituted
+abbrev pub substituted_result : ℕ → ℕ → Derived → ℕ → Derived → Result (List Derived) StepOverflow
+substituted_result f i e j t =
+    if substitutes f i j t.line
+    then paired e.line.shape i j (combine_result e.line t.line f)
+    else Ok []
+
+-- what is made of the lines with the field: where an equality has it, its substitutions; else the combinations
+abbrev pub made_with : Option (ℕ × Derived) → List Derived → ℕ → Result (List Derived) StepOverflow
+made_with (Some e) lines f = collect (substituted_result f e.0 e.1) 0 lines
+made_with None lines f = collect (row_result f lines) 0 lines
+
+-- the lines that elimination of the field makes, or the first pair and place that leave the range
+abbrev pub made_result : List Derived → ℕ → Result (List Derived) StepOverflow
+made_result lines f = made_with (equality_from f 0 lines) lines f
+
 -- the lines without the field, in order, each with its number, counted from i
 abbrev pub flat_from : ℕ → ℕ → List Derived → List Derived
 flat_from f i [] = []
@@ -78,9 +121,9 @@ flat_from f i (s ∷ lines) =
     then record { line = s.line; origin = Same i } ∷ flat_from f (suc i) lines
     else flat_from f (suc i) lines
 
--- the lines without the field and then the combinations, or the first pair and place that leave the range
+-- the lines without the field and then those that are made, or the first pair and place that leave the range
 abbrev pub eliminated_result : List Derived → ℕ → Result (List Derived) StepOverflow
-eliminated_result lines f = with_more (flat_from f 0 lines) (collect (row_result f lines) 0 lines)
+eliminated_result lines f = with_more (flat_from f 0 lines) (made_result lines f)
 
 -- the lines reduced, where there are any
 abbrev pub reduced_result : {F : Type 0} → Result (List Derived) F → Result (List Derived) F
@@ -105,6 +148,16 @@ abbrev pub rows_count : ℕ → List Derived → List Derived → ℕ
 rows_count f lines [] = 0
 rows_count f lines (s ∷ rows) = row_count f lines s + rows_count f lines rows
 
--- the number of pairs that the step combines
+-- the number of lines from place j on into which the equality at place i is substituted
+abbrev pub substituted_count : ℕ → ℕ → ℕ → List Derived → ℕ
+substituted_count f i j [] = 0
+substituted_count f i j (t ∷ lines) = (if substitutes f i j t.line then 1 else 0) + substituted_count f i (suc j) lines
+
+-- the number of lines that are made
+abbrev pub count_with : Option (ℕ × Derived) → List Derived → ℕ → ℕ
+count_with (Some e) lines f = substituted_count f e.0 0 lines
+count_with None lines f = rows_count f lines lines
+
+-- the number of pairs that the step combines: an equality and a line into which it is substituted, or two opposite lines
 abbrev pub pairs_count : List Derived → ℕ → ℕ
-pairs_count lines f = rows_count f lines lines
+pairs_count lines f = count_with (equality_from f 0 lines) lines f

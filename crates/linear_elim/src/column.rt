@@ -4,7 +4,7 @@ ghost use Rattle.edit_line.specs.Lines.{factor};
 ghost use Rattle.edit_line.specs.Places.{place_named};
 ghost use Rattle.edit_line.specs.Domains.{domains};
 ghost use Rattle.edit_line.specs.Shapes.{domain_with, number_fields, place_in};
-ghost use Rattle.linear_elim.specs.Combinations.{is_flat, is_lower, is_upper};
+ghost use Rattle.linear_elim.specs.Combinations.{determines, is_flat, is_lower, is_upper};
 
 use edit_line::{Line, Place, Shape};
 
@@ -64,6 +64,14 @@ impl Column {
         ensures { result ≡ is_flat self.now.field line.now }
     {
         self.factor(line) == 0
+    }
+
+    /// Whether the line is an equality in which the field stands. No memory.
+    pub(crate) fn determines(&self, line: &Line) -> bool
+        requires { line.now.shape ≡ domains self.now.shape }
+        ensures { result ≡ determines self.now.field line.now }
+    {
+        line.relation().is_equal() && !self.is_flat(line)
     }
 
     /// The name of a place among a line's factors and its constant. No memory.

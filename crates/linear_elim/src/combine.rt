@@ -1,10 +1,10 @@
-ghost use Rattle.std.specs.Prelude.{◌≡◌, ◌<ℤ◌, int_div, neg_ℤ, pos, true};
+ghost use Rattle.std.specs.Prelude.{◌≡◌, ◌≢◌, int_div, neg_ℤ, pos, true, false};
 ghost use Rattle.fraction128.specs.Divisor.{int_gcd};
 ghost use Rattle.fraction128.specs.Range.{InRange};
 ghost use Rattle.edit_line.specs.Combinations.{all_meet};
 ghost use Rattle.edit_line.specs.Domains.{domains};
 ghost use Rattle.edit_line.specs.declared.derived.Origin.TheVariants.{Pair};
-ghost use Rattle.linear_elim.specs.Combinations.{combine_result, is_lower, is_upper};
+ghost use Rattle.linear_elim.specs.Combinations.{combine_result, is_flat, turned_by};
 ghost use Rattle.linear_elim.specs.inner.ToldCombinations.{told_combination};
 
 use crate::column::Column;
@@ -19,24 +19,41 @@ struct Multipliers {
 }
 
 impl Multipliers {
-    // Those of a line with the factor `a`, above 0, and one with the factor `b`, below 0. No memory.
+    // Those of a line with the factor `a` and one with the factor `b`. The second is above 0. No memory.
     fn of(a: i128, b: i128) -> Multipliers
-        requires above { pos 0 <ℤ a }
-        requires below { b <ℤ pos 0 }
+        requires first { a ≢ pos 0 }
+        requires second { b ≢ pos 0 }
         requires a_in_range { InRange a }
         requires b_in_range { InRange b }
-        ensures first { result.first ≡ int_div (neg_ℤ b) (int_gcd a b) }
-        ensures second { result.second ≡ int_div a (int_gcd a b) }
+        ensures first { result.first ≡ int_div (turned_by a (neg_ℤ b)) (int_gcd a b) }
+        ensures second { result.second ≡ int_div (turned_by a a) (int_gcd a b) }
     {
         let divisor = common_divisor(a, b);
         Multipliers {
-            first: quotient(-b, divisor),
-            second: quotient(a, divisor),
+            first: quotient(turned_by(a, negative(b)), divisor),
+            second: quotient(turned_by(a, a), divisor),
         }
     }
 }
 
-// The greatest common divisor of a factor above 0 and one below 0. It is 1 where one of them is 1 or -1.
+// The number, and its negative where the factor is below 0.
+fn turned_by(factor: i128, number: i128) -> i128
+    requires { InRange number }
+    ensures { result ≡ turned_by factor number }
+{
+    if factor < 0 { negative(number) } else { number }
+}
+
+// The negative of a number.
+fn negative(number: i128) -> i128
+    requires { InRange number }
+    ensures value { result ≡ neg_ℤ number }
+    ensures in_range { InRange result }
+{
+    -number
+}
+
+// The greatest common divisor of two factors. It is 1 where the first is 1 or the second is -1.
 fn common_divisor(a: i128, b: i128) -> i128
     requires a_in_range { InRange a }
     requires b_in_range { InRange b }
@@ -71,14 +88,14 @@ impl Scales {
     }
 }
 
-/// Makes the line the combination of `s`, above 0 at the field, and `t`, below 0 there, in which the field
-/// is gone; or answers the first place at which a number of it is out of range. No memory.
+/// Makes the line the combination of `s` and `t`, in both of which the field stands, and which is without it;
+/// or answers the first place at which a number of it is out of range. No memory.
 pub(crate) fn combine(line: &mut Line, column: &Column, s: &Line, t: &Line) -> Result<Scales, usize>
     requires over { line.old.shape ≡ domains column.now.shape }
     requires s_over { s.now.shape ≡ domains column.now.shape }
     requires t_over { t.now.shape ≡ domains column.now.shape }
-    requires lower { is_lower column.now.field s.now ≡ true }
-    requires upper { is_upper column.now.field t.now ≡ true }
+    requires s_stands { is_flat column.now.field s.now ≡ false }
+    requires t_stands { is_flat column.now.field t.now ≡ false }
     requires meet { all_meet s.now.sets t.now.sets ≡ true }
     ensures exact { told_combination line.new result ≡ combine_result s.now t.now column.now.field }
     ensures over { line.new.shape ≡ line.old.shape }

@@ -1,15 +1,16 @@
-ghost use Rattle.std.specs.Prelude.{◌≡◌, ◌+◌, ◌++◌, ◌≤◌, ◌<◌, [], ◌∷◌, All, OnOk, IfOk, List, true, if◌then◌else◌, IfErr, IfSome};
+ghost use Rattle.std.specs.Prelude.{◌≡◌, ◌+◌, ◌++◌, ◌≤◌, ◌<◌, [], ◌∷◌, All, OnOk, IfOk, List, true, false, if◌then◌else◌, IfErr, IfSome};
 ghost use Rattle.std.specs.List.{fold, slice_get};
+ghost use Rattle.edit_line.specs.Combinations.{all_meet};
 ghost use Rattle.edit_line.specs.Lines.{HaveShape};
 ghost use Rattle.edit_line.specs.Reductions.{AreOwn, lines_of, reduce_derived, with_derived};
 ghost use Rattle.edit_line.specs.Domains.{domains};
 ghost use Rattle.edit_line.specs.Shapes.{Domain, IsNumerical};
 ghost use Rattle.linear_elim.specs.Answers.{Answers};
-ghost use Rattle.linear_elim.specs.Combinations.{is_lower, is_upper};
+ghost use Rattle.linear_elim.specs.Combinations.{combine_result, is_flat, is_lower, is_upper};
 ghost use Rattle.linear_elim.specs.Origins.{AllComeFrom};
 ghost use Rattle.linear_elim.specs.Overflows.{AllPairsFit, IsFirstOverflow};
 ghost use Rattle.linear_elim.specs.PointChanges.{LiftedAt};
-ghost use Rattle.linear_elim.specs.Steps.{OneShape, collect, flat_from, is_opposite, opposites, pairs_count, row_count, row_result, step_result};
+ghost use Rattle.linear_elim.specs.Steps.{OneShape, collect, flat_from, is_opposite, made_result, opposites, paired, pairs_count, row_count, row_result, rows_count, step_result};
 ghost use Rattle.linear_elim.specs.Told.{told_step};
 ghost use Rattle.linear_elim.specs.inner.Taken.{TakesIn};
 ghost use Rattle.linear_elim.specs.inner.Uppers.{found_count, found_result, pairs_with, places_from};
@@ -18,6 +19,7 @@ use crate::column::Column;
 use crate::combine::combine;
 use crate::fault::StepFault;
 use crate::pair_count::is_opposite;
+use crate::substitution::{first_equality, take_substitutions};
 use edit_line::{Derived, Kept, Line, Origin};
 use foundation::{OutOfMemory, Steps};
 use std::alloc::Global;
@@ -26,17 +28,18 @@ use std::sync::ledger::{Blank, Ledger};
 
 /// A line of the given list, and its place there.
 #[derive(Clone, Copy)]
-struct Placed<'a> {
-    place: usize,
-    derived: &'a Derived,
+pub(crate) struct Placed<'a> {
+    pub(crate) place: usize,
+    pub(crate) derived: &'a Derived,
 }
 
-/// One step of Fourier and Motzkin's elimination (Handbook of Statistical Data Editing and Imputation, on
-/// error localisation for mixed data): the lines without the field, in order, and then, for each line that
-/// bounds it from below and each that bounds it from above whose sets all meet, their positive combination
-/// without the field; all this reduced. Each line has its origin in the given list. The lines are over one
-/// survey's fields. It overflows exactly where a number of a combination is out of range, at the first
-/// such pair and its first such place.
+/// One step of elimination (Handbook of Statistical Data Editing and Imputation, on error localisation for
+/// mixed data): the lines without the field, in order, and then what is made of the others; all this
+/// reduced. Where an equality has the field, the first such is substituted into each other line that has it.
+/// Else each line that bounds it from below and each that bounds it from above whose sets all meet are
+/// combined, after Fourier and Motzkin. Each line has its origin in the given list. The lines are over one
+/// survey's fields. It overflows exactly where a number of a combination is out of range, at the first such
+/// pair and its first such place; an equality comes first in its pairs.
 pub fn step(alloc: Global, lines: &[Derived], field: u32) -> Result<Vec<Derived>, StepFault>
     requires { OneShape lines.now }
     ensures exact { Answers (λ v. v.items) told_step result (step_result lines.now field) }
@@ -109,8 +112,8 @@ pub fn reduced_step<L: Ledger>(
     combined_step(alloc, &column, lines, flat, steps)
 }
 
-// The flat lines with the combinations taken in among them. One is taken in as soon as it is made, so that
-// no memory is taken for one that says nothing of its own. One step is counted for each.
+// The flat lines with those that the step makes taken in among them. One is taken in as soon as it is made,
+// so that no memory is taken for one that says nothing of its own. One step is counted for each.
 fn combined_step<L: Ledger>(
     alloc: Global,
     column: &Column,
@@ -127,19 +130,63 @@ fn combined_step<L: Ledger>(
     let Some(head) = lines.first() else {
         return Ok(flat.into_lines());
     };
-    let uppers = upper_places(alloc, column, lines)?;
     let mut kept = flat;
     let mut line = head.line.copy(alloc)?;
+    match take_made(alloc, column, lines, &mut line, &mut kept, steps) {
+        Ok(()) => Ok(kept.into_lines()),
+        Err(fault) => Err(fault),
+    }
+}
+
+// Takes in the lines that the step makes: where an equality has the field, its substitutions; else the
+// combinations of opposite lines. Each is written into the one line.
+fn take_made<L: Ledger>(
+    alloc: Global,
+    column: &Column,
+    lines: &[Derived],
+    line: &mut Line,
+    kept: &mut Kept,
+    steps: &mut Steps<L>,
+) -> Result<(), StepFault>
+    requires over { All (λ t. t.line.shape ≡ domains column.now.shape) lines.now }
+    requires line_over { line.old.shape ≡ domains column.now.shape }
+    ensures exact { TakesIn told_step kept.old kept.new result (made_result lines.now column.now.field) }
+    ensures counted { OnOk result (steps.new ≡ steps.old + pairs_count lines.now column.now.field) }
+    ensures few { steps.new ≤ steps.old + pairs_count lines.now column.now.field }
+{
+    match first_equality(column, lines) {
+        Some(place) => take_substitutions(alloc, column, lines, place, line, kept, steps),
+        None => take_combinations(alloc, column, lines, line, kept, steps),
+    }
+}
+
+// Takes in the combinations of opposite lines, where no equality has the field.
+fn take_combinations<L: Ledger>(
+    alloc: Global,
+    column: &Column,
+    lines: &[Derived],
+    line: &mut Line,
+    kept: &mut Kept,
+    steps: &mut Steps<L>,
+) -> Result<(), StepFault>
+    requires over { All (λ t. t.line.shape ≡ domains column.now.shape) lines.now }
+    requires line_over { line.old.shape ≡ domains column.now.shape }
+    ensures exact { TakesIn told_step kept.old kept.new result (collect (row_result column.now.field lines.now) 0 lines.now) }
+    ensures counted { OnOk result (steps.new ≡ steps.old + rows_count column.now.field lines.now lines.now) }
+    ensures few { steps.new ≤ steps.old + rows_count column.now.field lines.now lines.now }
+{
+    let uppers = upper_places(alloc, column, lines)?;
     for (first, derived) in lines.iter().enumerate() {
         let s = Placed {
             place: first,
             derived,
         };
-        take_line(
-            alloc, column, lines, &uppers, s, &mut line, &mut kept, steps,
-        )?;
+        match take_line(alloc, column, lines, &uppers, s, line, kept, steps) {
+            Ok(()) => {}
+            Err(fault) => return Err(fault),
+        }
     }
-    Ok(kept.into_lines())
+    Ok(())
 }
 
 // The lines without the field, in order; they are reduced, as all the lines are.
@@ -352,6 +399,29 @@ fn take_pair<L: Ledger>(
         return Ok(());
     }
     steps.tick();
+    take_combination(alloc, column, s, t, line, kept)
+}
+
+/// Takes in the combination of two lines, in both of which the field stands. It is written into the one line.
+pub(crate) fn take_combination(
+    alloc: Global,
+    column: &Column,
+    s: Placed,
+    t: Placed,
+    line: &mut Line,
+    kept: &mut Kept,
+) -> Result<(), StepFault>
+    requires s_over { s.derived.now.line.shape ≡ domains column.now.shape }
+    requires t_over { t.derived.now.line.shape ≡ domains column.now.shape }
+    requires line_over { line.old.shape ≡ domains column.now.shape }
+    requires s_stands { is_flat column.now.field s.derived.now.line ≡ false }
+    requires t_stands { is_flat column.now.field t.derived.now.line ≡ false }
+    requires meet { all_meet s.derived.now.line.sets t.derived.now.line.sets ≡ true }
+    ensures exact { TakesIn told_step kept.old kept.new result
+        (paired s.entry.derived.now.line.shape s.entry.place t.entry.place
+        (combine_result s.entry.derived.now.line t.entry.derived.now.line column.now.field)) }
+    ensures over { line.new.shape ≡ line.old.shape }
+{
     let (first, second) = (s.place as u64, t.place as u64);
     match combine(line, column, &s.derived.line, &t.derived.line) {
         Ok(by) => {

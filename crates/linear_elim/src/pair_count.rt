@@ -1,25 +1,50 @@
 ghost use Rattle.std.specs.Prelude.{◌≡◌, ◌≤◌, All, length};
 ghost use Rattle.edit_line.specs.Reductions.{lines_of};
 ghost use Rattle.edit_line.specs.Domains.{domains};
-ghost use Rattle.linear_elim.specs.Steps.{OneShape, combinations, is_opposite, pairs_count, row_count};
+ghost use Rattle.linear_elim.specs.Steps.{OneShape, is_opposite, made, pairs_count, row_count, rows_count, substituted_count};
 
 use crate::column::Column;
+use crate::substitution::{first_equality, is_substituted};
 use edit_line::{Derived, Line, all_meet};
 
-/// The number of pairs of lines that the step at the field combines: the one bounds the field from below,
-/// the other from above, and all their sets meet. The lines are over one survey's fields. No memory.
+/// The number of pairs of lines that the step at the field combines. Where an equality has the field, they
+/// are the first such and each other line that has it; else the one bounds the field from below, the other
+/// from above, and all their sets meet. The lines are over one survey's fields. No memory.
 pub fn pairs(lines: &[Derived], field: u32) -> u128
     requires { OneShape lines.now }
     ensures exact { result ≡ pairs_count lines.now field }
-    ensures combinations { result ≡ length (combinations (lines_of lines.now) field) }
+    ensures made { result ≡ length (made (lines_of lines.now) field) }
 {
     let Some(head) = lines.first() else {
         return 0;
     };
     let column = Column::of(head.line.shape(), field);
+    match first_equality(&column, lines) {
+        Some(place) => substitutions(&column, lines, place) as u128,
+        None => opposite_pairs(&column, lines),
+    }
+}
+
+// The number of other lines than that at the place in which the field stands.
+fn substitutions(column: &Column, lines: &[Derived], equality: usize) -> usize
+    requires { All (λ t. t.line.shape ≡ domains column.now.shape) lines.now }
+    ensures { result ≡ substituted_count column.now.field equality 0 lines.now }
+{
+    let mut count = 0;
+    for (place, t) in lines.iter().enumerate() {
+        count += usize::from(is_substituted(column, equality, place, &t.line));
+    }
+    count
+}
+
+// The number of opposite pairs.
+fn opposite_pairs(column: &Column, lines: &[Derived]) -> u128
+    requires { All (λ t. t.line.shape ≡ domains column.now.shape) lines.now }
+    ensures { result ≡ rows_count column.now.field lines.now lines.now }
+{
     let mut pairs = 0;
     for s in lines {
-        pairs += row_pairs(&column, lines, s) as u128;
+        pairs += row_pairs(column, lines, s) as u128;
     }
     pairs
 }

@@ -141,8 +141,8 @@ module _ (c : SearchCase) (is : IsCase c) (holds : holds_throughout c ≡ true) 
     unfolding point_of
     line-holds = record { enough = λ inside. by (fails_at d.line c.row) refl (line-held d there) inside }
       where
-        enough-when : (failed : Bool) → fails_at d.line c.row ≡ Ok failed → not (failed && is_for c.row d.line) ≡ true → AreCodesIn d.line.sets (codes_at d.line.shape (point_of c.row)) → IsEnough d.line.strict (amount d.line (point_of c.row))
-        enough-when false e h inside = (is_enough-Decides d.line.strict (amount d.line (point_of c.row))).0 (passes (is_enough d.line.strict (amount d.line (point_of c.row))) (fails_at-truth d.line c.row (point_of c.row) false has-numbers agrees-there e))
+        enough-when : (failed : Bool) → fails_at d.line c.row ≡ Ok failed → not (failed && is_for c.row d.line) ≡ true → AreCodesIn d.line.sets (codes_at d.line.shape (point_of c.row)) → IsEnough d.line.relation (amount d.line (point_of c.row))
+        enough-when false e h inside = (is_enough-Decides d.line.relation (amount d.line (point_of c.row))).0 (passes (is_enough d.line.relation (amount d.line (point_of c.row))) (fails_at-truth d.line c.row (point_of c.row) false has-numbers agrees-there e))
           where
             passes : (b : Bool) → false ≡ not b → b ≡ true
             passes true h = refl
@@ -151,7 +151,7 @@ module _ (c : SearchCase) (is : IsCase c) (holds : holds_throughout c ≡ true) 
             let codes_in : is_for c.row d.line ≡ true = (is_inside-Decides d.line.sets (codes_at d.line.shape (point_of c.row))).1 inside in
             absurd (cc (sym h ∙ ap not codes_in))
 
-        by : (r : Result Bool ℕ) → fails_at d.line c.row ≡ r → holds_by r (is_for c.row d.line) ≡ true → AreCodesIn d.line.sets (codes_at d.line.shape (point_of c.row)) → IsEnough d.line.strict (amount d.line (point_of c.row))
+        by : (r : Result Bool ℕ) → fails_at d.line c.row ≡ r → holds_by r (is_for c.row d.line) ≡ true → AreCodesIn d.line.sets (codes_at d.line.shape (point_of c.row)) → IsEnough d.line.relation (amount d.line (point_of c.row))
         by (Ok failed) e h inside = enough-when failed e h inside
         by (Err f) e h inside = absurd (cc)
 

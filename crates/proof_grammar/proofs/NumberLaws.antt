@@ -6,6 +6,7 @@ use Rattle.std.proofs.lemmas.Bool.Decides.{Decides-eqb, Decides-ltb}
 use Rattle.std.proofs.lemmas.Fmt.{decimal_is_IsNumeral_wide}
 use Rattle.fraction128.specs.Range.{InRange}
 use Rattle.edit_line.specs.Combinations.{in_range}
+use Rattle.edit_line.specs.declared.relation.Relation.TheVariants.{AtLeast}
 use Rattle.edit_line.proofs.Enough.{is_enough-Decides}
 use Rattle.proof_grammar.specs.Limits.{IsLong, IsShort}
 use Rattle.proof_grammar.specs.Words.{whole_of}
@@ -47,4 +48,4 @@ pub ranged-Decides : (z : ℤ) → Decides (in_range z) (InRange z)
 ranged-Decides z = Decides-ltb (unsigned_abs z) (2 ^ 127)
 
 pub positive-Decides : (z : ℤ) → Decides (int_le (pos 0) z) (pos 0 ≤ℤ z)
-positive-Decides z = is_enough-Decides false z
+positive-Decides z = is_enough-Decides AtLeast z

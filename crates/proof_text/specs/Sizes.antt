@@ -1,6 +1,7 @@
 -- Which numbers and lists stand in the text of a proof.
-use Rattle.std.specs.Prelude.{◌≡◌, ℕ, zero, suc, ℤ, pos, negsuc, ◌<◌, ◌<ℤ◌, ◌^◌, Bool, List, [], Option, Some, None, IfSome}
+use Rattle.std.specs.Prelude.{◌≡◌, ◌⊎◌, ℕ, zero, suc, ℤ, pos, negsuc, ◌<◌, ◌<ℤ◌, ◌^◌, Bool, List, [], Option, Some, None, IfSome}
 use Rattle.std.specs.List.{AllByRecursion}
+use Rattle.fraction128.specs.Range.{InRange}
 use Rattle.derivation.specs.declared.step.Step.{Step}
 use Rattle.derivation.specs.declared.step.Step.TheVariants as step
 use Rattle.bound_cert.specs.declared.cert.Leaf.{Leaf}
@@ -66,38 +67,42 @@ pub record IsSized (p : Proof) : Type 0 where
 
 -- ---- what a plain proof says beyond sizes
 
--- both factors and the divisor of a combination are above 0
-abbrev pub IsPositiveStep : Step → Type 0
-IsPositiveStep (step.Given i) = Unit {0}
-IsPositiveStep (step.Combine a m b n g) = (pos 0 <ℤ m) × (pos 0 <ℤ n) × (pos 0 <ℤ g)
-IsPositiveStep (step.Fail a) = Unit {0}
-IsPositiveStep (step.Cover field parts) = Unit {0}
-IsPositiveStep (step.Fix field part) = Unit {0}
+-- with what a line may be multiplied: a number above 0, or one in range
+abbrev pub IsMultiplier : ℤ → Type 0
+IsMultiplier z = (pos 0 <ℤ z) ⊎ InRange z
 
-abbrev pub ArePositiveSteps : List Step → Type 0
-ArePositiveSteps steps = AllByRecursion IsPositiveStep steps
+-- a combination multiplies so, and its divisor is above 0
+abbrev pub IsCoherentStep : Step → Type 0
+IsCoherentStep (step.Given i) = Unit {0}
+IsCoherentStep (step.Combine a m b n g) = IsMultiplier m × IsMultiplier n × (pos 0 <ℤ g)
+IsCoherentStep (step.Fail a) = Unit {0}
+IsCoherentStep (step.Cover field parts) = Unit {0}
+IsCoherentStep (step.Fix field part) = Unit {0}
 
-abbrev pub IsPositiveReason : LeafWhy → Type 0
-IsPositiveReason reason = OfSteps ArePositiveSteps reason
+abbrev pub AreCoherentSteps : List Step → Type 0
+AreCoherentSteps steps = AllByRecursion IsCoherentStep steps
 
-abbrev pub IsPositiveLeaf : Leaf → Type 0
-IsPositiveLeaf leaf = IsPositiveReason leaf.why
+abbrev pub IsCoherentReason : LeafWhy → Type 0
+IsCoherentReason reason = OfSteps AreCoherentSteps reason
 
-abbrev pub ArePositiveLeaves : List Leaf → Type 0
-ArePositiveLeaves leaves = AllByRecursion IsPositiveLeaf leaves
+abbrev pub IsCoherentLeaf : Leaf → Type 0
+IsCoherentLeaf leaf = IsCoherentReason leaf.why
+
+abbrev pub AreCoherentLeaves : List Leaf → Type 0
+AreCoherentLeaves leaves = AllByRecursion IsCoherentLeaf leaves
 
 -- a change without a gift fault that weighs nothing has the empty path and the one leaf of a clean row
 abbrev pub IsCoherentChange : List Bool → ℕ → List Leaf → Type 0
 IsCoherentChange path zero leaves = (path ≡ []) × (leaves ≡ clean_leaves)
-IsCoherentChange path (suc w) leaves = ArePositiveLeaves leaves
+IsCoherentChange path (suc w) leaves = AreCoherentLeaves leaves
 
 -- a gift fault stands only with a change
 abbrev pub IsCoherentOutcome : Outcome → Option GiftFault → Type 0
 IsCoherentOutcome (outcome.Change path weight cert) None = IsCoherentChange path weight cert.leaves
-IsCoherentOutcome (outcome.Change path weight cert) (Some fault) = ArePositiveLeaves cert.leaves
+IsCoherentOutcome (outcome.Change path weight cert) (Some fault) = AreCoherentLeaves cert.leaves
 IsCoherentOutcome (outcome.Budget path work) None = Unit {0}
 IsCoherentOutcome (outcome.Overflow path event) None = Unit {0}
-IsCoherentOutcome (outcome.Contradictory cert) None = ArePositiveLeaves cert.leaves
+IsCoherentOutcome (outcome.Contradictory cert) None = AreCoherentLeaves cert.leaves
 IsCoherentOutcome _ (Some fault) = ⊥
 
 abbrev pub IsCoherentRow : RowProof → Type 0
@@ -105,7 +110,7 @@ IsCoherentRow row = IsCoherentOutcome row.outcome row.gift
 
 -- each combination's factors and divisor are above 0, and of each row no more stands in the proof than its lines say
 pub record IsCoherent (p : Proof) : Type 0 where
-  pub verdicts : AllByRecursion (λ v. IfSome v ArePositiveSteps) p.verdicts
+  pub verdicts : AllByRecursion (λ v. IfSome v AreCoherentSteps) p.verdicts
   pub rows : AllByRecursion IsCoherentRow p.rows
 
 -- a proof of such numbers and lists is plain where its rows and combinations are in order

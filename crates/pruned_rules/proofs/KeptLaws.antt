@@ -1,9 +1,10 @@
-use Rattle.std.proofs.Common.{◌≡◌, ◌↔◌, ℕ, ◌+◌, ◌<◌, ◌≤◌, Bool, true, false, if◌then◌else◌, List, [], ◌∷◌, ◌++◌, All, Some, get_or, length, map, slice_get, slice_index_or, take, sym, ap, ◌∙◌, subst, arith}
+use Rattle.std.proofs.Common.{◌≡◌, ◌≢◌, ◌↔◌, ℕ, ◌+◌, ◌<◌, ◌≤◌, Bool, true, false, if◌then◌else◌, List, [], ◌∷◌, ◌++◌, All, Some, get_or, length, map, slice_get, slice_index_or, take, sym, ap, ◌∙◌, subst, arith}
 use Rattle.std.proofs.lemmas.List.{get_or-map, length-map, take_all}
 use Rattle.edit_model.specs.Parts.{SurveyParts}
 use Rattle.edit_model.specs.Points.{HasCodesFrom, IsConsistent, Point}
 use Rattle.edit_model.specs.Surveys.{IsWellFormed}
 use Rattle.edit_line.specs.EditSets.{AreEdits}
+use Rattle.edit_line.specs.declared.relation.Relation.TheVariants.{Equal}
 use Rattle.edit_line.specs.Lines.{AllHold, AreOver, Follows, LineHolds, LineParts}
 use Rattle.edit_line.specs.Reductions.{IsIn}
 use Rattle.edit_line.specs.Shapes.{Domain, shape_of}
@@ -86,9 +87,9 @@ module _ (survey : SurveyParts) (formed : IsWellFormed survey) where
   pub rules-follow : (line : LineParts) → IsIn line (normal_lines_of survey) → Follows (usable_lines (normal_lines_of survey) (rule_flags survey)) line
   rules-follow = lines-follow survey formed.fields (normal_lines_of survey) (normal-over survey) (normal-lines survey formed) PRUNING_BUDGET
 
-  -- the steps of a dropped line refute its negation
+  -- a dropped line is no equality, and its steps refute its negation
   pub rule-refuted : (place : ℕ) (line : LineParts) (steps : List Step) → slice_get (normal_lines_of survey) place ≡ Some line → slice_get (rule_verdicts survey) place ≡ Some (Dropped steps)
-      → RefutedBy (refutation_of (shape_of survey.fields) (normal_lines_of survey) (left_at (rule_flags survey) place) line (no_values survey.fields)) steps
+      → (line.relation ≢ Equal) × RefutedBy (refutation_of (shape_of survey.fields) (normal_lines_of survey) (left_at (rule_flags survey) place) line (no_values survey.fields)) steps
   rule-refuted place line steps at told = dropped-valid survey formed.fields (normal_lines_of survey) (normal-over survey) (normal-lines survey formed) PRUNING_BUDGET place line at steps told
 
   -- a point with codes of the survey meets the kept edits exactly where it meets all rules

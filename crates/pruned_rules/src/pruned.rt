@@ -1,7 +1,7 @@
 ghost use Rattle.std.specs.Prelude.{◌≡◌, ◌≤◌, ◌++◌, ◌∷◌, [], IfOk, OnOk, if◌then◌else◌, length, map};
 ghost use Rattle.edit_line.specs.EditSets.{SayTheRules};
 ghost use Rattle.edit_normal.specs.RuleLines.{normal_lines_of};
-ghost use Rattle.redundancy.specs.Verdicts.{AreNeeded, AreRefuted, keeps_line, usable_from};
+ghost use Rattle.redundancy.specs.Verdicts.{AreEqualities, AreNeeded, AreRefuted, keeps_line, usable_from};
 ghost use Rattle.pruned_rules.specs.Pruned.{kept_edits, rule_verdicts, rule_flags};
 ghost use Rattle.derivation.specs.Refutations.{AllFollow};
 
@@ -28,6 +28,7 @@ pub struct PrunedRules {
 pub fn prune_rules(alloc: Global, survey: &Survey) -> Result<PrunedRules, OutOfMemory>
     ensures lines { IfOk result (λ pruned. pruned.lines.items ≡ normal_lines_of survey.now) }
     ensures verdicts { IfOk result (λ pruned. pruned.verdicts.items ≡ rule_verdicts survey.now) }
+    ensures equalities { IfOk result (λ pruned. AreEqualities pruned.lines.items pruned.verdicts.items) }
     ensures needed { IfOk result (λ pruned. AreNeeded survey.now.fields pruned.lines.items pruned.verdicts.items) }
     ensures steps { IfOk result (λ pruned. AreRefuted survey.now.fields pruned.lines.items pruned.verdicts.items) }
     ensures follow { IfOk result (λ pruned. AllFollow (normal_lines_of survey.now) (rule_flags survey.now)) }

@@ -19,7 +19,7 @@ use Rattle.linear_elim.proofs.ShapeLaws.{HaveShape-lines}
 use Rattle.derivation.specs.Refutations.{given_lines, no_values, trues, usable_flags, left_before}
 use Rattle.derivation.proofs.RefutationLaws.{given-over, row-no_values}
 use Rattle.edit_paths.specs.Cases.{IsCase}
-use Rattle.redundancy.specs.Verdicts.{keeps_line, negation_case, usable_from, verdict_of, verdicts_from}
+use Rattle.redundancy.specs.Verdicts.{keeps_line, negation_case, usable_from, verdict_of, verdict_on, verdicts_from}
 use Rattle.redundancy.specs.declared.verdict.Verdict.{Verdict}
 use Rattle.redundancy.specs.inner.Turns.{lines_verdict}
 use Rattle.redundancy.proofs.WalkLaws.{verdict-walk}
@@ -190,12 +190,12 @@ module _ (survey : SurveyParts) (lines : List LineParts) (budget : ℕ) where
     get-drop zero (k ∷ ls) l e = let same : k ≡ l = cc in ap (λ m. m ∷ ls) same
     get-drop (suc i) (k ∷ ls) l e = get-drop i ls l e
 
-    pub tried-turn : (v : Verdict) (after : List Bool) (more : List Verdict) → v ≡ verdict_of (negation_case survey lines (slice_set left place false) line) budget → after ≡ slice_set left place (keeps_line v) → more ≡ v ∷ verdicts → IsTried survey lines budget place after more
+    pub tried-turn : (v : Verdict) (after : List Bool) (more : List Verdict) → v ≡ verdict_on survey lines budget (slice_set left place false) line → after ≡ slice_set left place (keeps_line v) → more ≡ v ∷ verdicts → IsTried survey lines budget place after more
     tried-turn v after more v_is after_is more_is = record {
       within = omega (arith, before.within);
       verdicts_are =
-          more_is ∙ ap (λ w. w ∷ verdicts) (v_is ∙ ap (λ (bs : List Bool). verdict_of (negation_case survey lines bs line) budget) here)
-          ∙ ap (λ (vs : List Verdict). verdict_of (negation_case survey lines (left_by place vs) line) budget ∷ vs) before.verdicts_are
+          more_is ∙ ap (λ w. w ∷ verdicts) (v_is ∙ ap (λ (bs : List Bool). verdict_on survey lines budget bs line) here)
+          ∙ ap (λ (vs : List Verdict). verdict_on survey lines budget (left_by place vs) line ∷ vs) before.verdicts_are
           ∙ ap (λ (ls : List LineParts). verdicts_from survey lines budget place ls) (sym (get-drop place lines line at));
       left_are = after_is ∙ ap (λ (bs : List Bool). slice_set bs place (keeps_line v)) before.left_are ∙ set-left place (map keeps_line verdicts) (keeps_line v) ∙ ap (λ (vs : List Verdict). trues place ++ map keeps_line vs) (sym more_is);
     }

@@ -1,4 +1,5 @@
-use Rattle.std.proofs.Common.{◌≡◌, ◌&&◌, ◌⊎◌, inl, inr, ℕ, zero, suc, ◌+◌, ◌<◌, Bool, true, false, not, if◌then◌else◌, nat_lt, List, [], ◌∷◌, ◌++◌, All, IsTrue, Option, Some, None, Result, Ok, drop, length, map, slice_get, slice_index_or, refl, sym, ap, ◌∙◌, subst, arith}
+use Rattle.std.proofs.Common.{◌≡◌, ◌≢◌, ◌↔◌, ◌&&◌, ◌⊎◌, inl, inr, ℕ, zero, suc, ◌+◌, ◌<◌, Bool, true, false, not, if◌then◌else◌, nat_lt, List, [], ◌∷◌, ◌++◌, All, IsTrue, Option, Some, None, Result, Ok, drop, length, map, slice_get, slice_index_or, refl, sym, ap, ◌∙◌, subst, arith}
+use Rattle.std.specs.Bool.{Decides}
 use Rattle.std.proofs.lemmas.List.{drop-map, length-map}
 use Rattle.foundation.specs.Options.{◌>>?◌}
 use Rattle.edit_model.specs.FieldSets.{has_number}
@@ -8,7 +9,9 @@ use Rattle.edit_model.specs.Surveys.{IsField}
 use Rattle.edit_model.specs.declared.value.Value.{Value}
 use Rattle.edit_model.proofs.FieldSetLaws.{has-none}
 use Rattle.edit_line.specs.Boxes.{are_whole}
-use Rattle.edit_line.specs.Lines.{AllHold, AreOver, Follows, IsLine, LineHolds, LineParts}
+use Rattle.edit_line.specs.Lines.{AllHold, AreOver, Follows, IsLine, LineHolds, LineParts, is_equal}
+use Rattle.edit_line.specs.declared.relation.Relation.TheVariants.{Equal}
+use Rattle.edit_line.proofs.RelationLaws.{is_equal-Decides, not_equal}
 use Rattle.edit_line.specs.Negations.{negation_of}
 use Rattle.edit_line.specs.Reductions.{IsIn}
 use Rattle.edit_line.specs.Shapes.{Domain, HasCodes, number_fields, shape_of}
@@ -39,10 +42,10 @@ use Rattle.edit_paths.proofs.ClosingSteps.{closing-box, closing-line}
 use Rattle.edit_paths.proofs.LineHistories.{AreUsable}
 use Rattle.edit_paths.proofs.OpenPaths.{open-point}
 use Rattle.redundancy.specs.NeededLines.{CanFail}
-use Rattle.redundancy.specs.Verdicts.{changing, keeps_line, negation_case, usable_from, verdict_by, verdict_from, verdict_of, verdicts_from, within}
+use Rattle.redundancy.specs.Verdicts.{changing, keeps_line, negation_case, usable_from, verdict_by, verdict_from, verdict_of, verdict_on, verdicts_from, within}
 use Rattle.redundancy.specs.declared.verdict.Verdict.{Verdict}
 use Rattle.redundancy.specs.declared.verdict.Verdict.TheVariants.{Dropped, Kept}
-use Rattle.redundancy.specs.declared.verdict.Why.TheVariants.{Budget, Needed}
+use Rattle.redundancy.specs.declared.verdict.Why.TheVariants.{Budget, Equality, Needed}
 use Rattle.redundancy.proofs.BaseLaws.{IsTried, line-is_case, verdicts-count, left_by}
 use Rattle.redundancy.proofs.WalkPaths.{keeps-no_bad, keeps-none, length-changing, no-factor, stands-none}
 
@@ -108,11 +111,43 @@ module _ (c : SearchCase) (budget : ℕ) where
   needed-from (suc left) n spent e =
       ap (λ m. state_of c (changing m)) (shifted n left) ∙ needed-from left (suc n) (spent + work_of c (changing n)) (needed-step n (spent + work_of c (changing n)) (verdict_from c budget (spent + work_of c (changing n)) (suc n) left) e)
 
+  -- no verdict of the walk is that of an equality
+  never-by : (n spent : ℕ) (next : Verdict) → (next ≡ Kept Equality → ⊥) → within budget spent (verdict_by c (changing n) (state_of c (changing n)) next) ≡ Kept Equality → ⊥
+  never-by n spent next later e = by (nat_lt budget spent) (state_of c (changing n)) e
+    where
+      by : (b : Bool) (s : PathState) → (if b then Kept Budget else verdict_by c (changing n) s next) ≡ Kept Equality → ⊥
+      by true s h = cc
+      by false (ClosedLine k) h = cc
+      by false (ClosedBox k) h = cc
+      by false (Overflows event) h = cc
+      by false ClosedBad h = later h
+      by false Open h = later h
+
+  never-from : (left n spent : ℕ) → verdict_from c budget spent n left ≡ Kept Equality → ⊥
+  never-from zero n spent e = never-by n (spent + work_of c (changing n)) (Kept Needed) (λ h. cc) e
+  never-from (suc left) n spent e =
+      never-by n (spent + work_of c (changing n)) (verdict_from c budget (spent + work_of c (changing n)) (suc n) left) (λ h. never-from left (suc n) (spent + work_of c (changing n)) h) e
+
+-- what the walk tells, it tells of a line that is no equality
+walked : (survey : SurveyParts) (lines : List LineParts) (budget : ℕ) (left : List Bool) (line : LineParts) (v : Verdict) → (Kept Equality ≡ v → ⊥) → verdict_on survey lines budget left line ≡ v
+    → (line.relation ≢ Equal) × (verdict_of (negation_case survey lines left line) budget ≡ v)
+walked survey lines budget left line v other e = by (is_equal line.relation) refl e
+  where
+    by : (b : Bool) → is_equal line.relation ≡ b → (if b then Kept Equality else verdict_of (negation_case survey lines left line) budget) ≡ v → (line.relation ≢ Equal) × (verdict_of (negation_case survey lines left line) budget ≡ v)
+    by true is h = absurd (other h)
+    by false is h = (not_equal line.relation is, h)
+
+needed_apart : Kept Equality ≡ Kept Needed → ⊥
+needed_apart e = cc
+
+dropped_apart : (steps : List Step) → Kept Equality ≡ Dropped steps → ⊥
+dropped_apart steps e = cc
+
 -- ---- the premises
 
 -- a line without factors that fails is false
 false-line : (l : LineParts) (row : List Value) → has_no_factor l ≡ true → fails_at l row ≡ Ok true → IsTrue (is_false l)
-false-line l row none fails = ap (λ b. b && not (is_enough l.strict l.constant)) none ∙ inside (not (is_enough l.strict l.constant)) (sym (no-factor l row none) ∙ fails)
+false-line l row none fails = ap (λ b. b && not (is_enough l.relation l.constant)) none ∙ inside (not (is_enough l.relation l.constant)) (sym (no-factor l row none) ∙ fails)
   where
     inside : (b : Bool) → (let answer : Result Bool ℕ = Ok b in answer ≡ Ok true) → b ≡ true
     inside b e = cc
@@ -197,18 +232,18 @@ module _ (survey : SurveyParts) (are_fields : All IsField survey.fields) (lines 
   verdicts = verdicts_from survey lines budget 0 lines
 
   verdict-from : (place : ℕ) (later : List LineParts) (k : ℕ) (line : LineParts) → slice_get later k ≡ Some line
-      → slice_get (verdicts_from survey lines budget place later) k ≡ Some (verdict_of (negation_case survey lines (left_by (place + k) (drop (suc k) (verdicts_from survey lines budget place later))) line) budget)
+      → slice_get (verdicts_from survey lines budget place later) k ≡ Some (verdict_on survey lines budget (left_by (place + k) (drop (suc k) (verdicts_from survey lines budget place later))) line)
   verdict-from place [] k line at = absurd (cc)
   verdict-from place (l ∷ later) zero line at =
       let same : l ≡ line = cc in
-      ap (λ (m : LineParts). Some (verdict_of (negation_case survey lines (left_by place (verdicts_from survey lines budget (suc place) later)) m) budget)) same
-      ∙ ap (λ n. Some (verdict_of (negation_case survey lines (left_by n (verdicts_from survey lines budget (suc place) later)) line) budget)) (number place)
+      ap (λ (m : LineParts). Some (verdict_on survey lines budget (left_by place (verdicts_from survey lines budget (suc place) later)) m)) same
+      ∙ ap (λ n. Some (verdict_on survey lines budget (left_by n (verdicts_from survey lines budget (suc place) later)) line)) (number place)
     where
       number : (n : ℕ) → n ≡ n + 0
       number n = omega arith
   verdict-from place (l ∷ later) (suc k) line at =
       verdict-from (suc place) later k line at
-      ∙ ap (λ n. Some (verdict_of (negation_case survey lines (left_by n (drop (suc k) (verdicts_from survey lines budget (suc place) later))) line) budget)) (number place k)
+      ∙ ap (λ n. Some (verdict_on survey lines budget (left_by n (drop (suc k) (verdicts_from survey lines budget (suc place) later))) line)) (number place k)
     where
       number : (n k : ℕ) → suc n + k ≡ n + suc k
       number n k = omega arith
@@ -217,9 +252,9 @@ module _ (survey : SurveyParts) (are_fields : All IsField survey.fields) (lines 
     abbrev left : List Bool
     left = left_by j (drop (suc j) verdicts)
 
-    verdict-at : (v : Verdict) → slice_get verdicts j ≡ Some v → verdict_of (negation_case survey lines left line) budget ≡ v
+    verdict-at : (v : Verdict) → slice_get verdicts j ≡ Some v → verdict_on survey lines budget left line ≡ v
     verdict-at v told =
-        ap (λ n. verdict_of (negation_case survey lines (left_by n (drop (suc j) verdicts)) line) budget) (number j) ∙ inside (verdict_of (negation_case survey lines (left_by (0 + j) (drop (suc j) verdicts)) line) budget) v (sym (verdict-from 0 lines j line at) ∙ told)
+        ap (λ n. verdict_on survey lines budget (left_by n (drop (suc j) verdicts)) line) (number j) ∙ inside (verdict_on survey lines budget (left_by (0 + j) (drop (suc j) verdicts)) line) v (sym (verdict-from 0 lines j line at) ∙ told)
       where
         number : (n : ℕ) → n ≡ 0 + n
         number n = omega arith
@@ -245,21 +280,37 @@ module _ (survey : SurveyParts) (are_fields : All IsField survey.fields) (lines 
     -- some point meets the lines that are left when a needed line is tried, and not this one
     pub needed-fails : slice_get verdicts j ≡ Some (Kept Needed) → CanFail survey.fields (usable_lines lines (left_by j (drop (suc j) verdicts))) line
     needed-fails told =
-        let (q, codes, holds) = needed-point survey lines left line case_is budget own own_shape (verdict-at (Kept Needed) told) in
+        let (apart, walk) = walked survey lines budget left line (Kept Needed) needed_apart (verdict-at (Kept Needed) told) in
+        let (q, codes, holds) = needed-point survey lines left line case_is budget own own_shape walk in
         let both : AllHold (usable_lines lines left ++ negation_of line) q =
         subst (λ (ls : List LineParts). AllHold ls q) (usable-join lines (negation_of line) left (map (λ l. true) (negation_of line)) size ∙ ap (λ (ls : List LineParts). usable_lines lines left ++ ls) (usable-all (negation_of line))) holds in (
           q,
           codes,
           all-in (λ l. LineHolds l q) (usable_lines lines left) (λ l there. in-all (λ m. LineHolds m q) l (usable_lines lines left ++ negation_of line) both (in-left l (usable_lines lines left) (negation_of line) there)),
-          λ held. negation-fails line q own (subst (λ (s : List Domain). HasCodes 0 s q) (sym own_shape) (HasCodes-shape 0 survey.fields q codes))
+          λ held. negation-fails line q own apart (subst (λ (s : List Domain). HasCodes 0 s q) (sym own_shape) (HasCodes-shape 0 survey.fields q codes))
               (all-in (λ l. LineHolds l q) (negation_of line) (λ l there. in-all (λ m. LineHolds m q) l (usable_lines lines left ++ negation_of line) both (in-right l (usable_lines lines left) (negation_of line) there))) held,
         )
 
-    -- the steps of a dropped line are valid, and prove something absurd
-    pub dropped-valid : (steps : List Step) → slice_get verdicts j ≡ Some (Dropped steps) → RefutedBy (refutation_of (shape_of survey.fields) lines (left_at (map keeps_line verdicts) j) line (no_values survey.fields)) steps
+    -- a dropped line is no equality; its steps are valid, and prove something absurd
+    pub dropped-valid : (steps : List Step) → slice_get verdicts j ≡ Some (Dropped steps)
+        → (line.relation ≢ Equal) × RefutedBy (refutation_of (shape_of survey.fields) lines (left_at (map keeps_line verdicts) j) line (no_values survey.fields)) steps
     dropped-valid steps told =
-        let (x, valid, absurd_is) = dropped-steps survey lines left line case_is budget steps (verdict-at (Dropped steps) told) in
-        subst (λ (bs : List Bool). RefutedBy (refutation_of (shape_of survey.fields) lines (left_before j bs) line (no_values survey.fields)) steps) (sym (drop-map keeps_line (suc j) verdicts)) (x, valid, absurd_is)
+        let (apart, walk) = walked survey lines budget left line (Dropped steps) (dropped_apart steps) (verdict-at (Dropped steps) told) in
+        let (x, valid, absurd_is) = dropped-steps survey lines left line case_is budget steps walk in
+        (apart, subst (λ (bs : List Bool). RefutedBy (refutation_of (shape_of survey.fields) lines (left_before j bs) line (no_values survey.fields)) steps) (sym (drop-map keeps_line (suc j) verdicts)) (x, valid, absurd_is))
+
+    -- a line is kept as an equality exactly where it is one
+    pub equality-is : slice_get verdicts j ≡ Some (Kept Equality) ↔ line.relation ≡ Equal
+    equality-is = (
+      λ told. by (is_equal line.relation) (is_equal-Decides line.relation) (verdict-at (Kept Equality) told),
+      λ same.
+          verdict-from 0 lines j line at
+          ∙ ap (λ (b : Bool). Some (if b then Kept Equality else verdict_of (negation_case survey lines (left_by (0 + j) (drop (suc j) verdicts)) line) budget)) ((is_equal-Decides line.relation).1 same),
+    )
+      where
+        by : (b : Bool) → Decides b (line.relation ≡ Equal) → (if b then Kept Equality else verdict_of (negation_case survey lines left line) budget) ≡ Kept Equality → line.relation ≡ Equal
+        by true is e = is.0 refl
+        by false is e = absurd (never-from (negation_case survey lines left line) budget (field_count (negation_case survey lines left line)) 0 0 e)
 
   -- each line follows from the kept ones
   pub lines-follow : (line : LineParts) → IsIn line lines → Follows (usable_lines lines (map keeps_line verdicts)) line
@@ -267,10 +318,10 @@ module _ (survey : SurveyParts) (are_fields : All IsField survey.fields) (lines 
       kept-follow survey.fields lines (map keeps_line verdicts) (no_values survey.fields) (row-no_values survey.fields) (sym (verdicts-count survey lines budget 0 lines) ∙ sym (length-map verdicts keeps_line)) over are refuted line there
     where
       refuted : (j : ℕ) (l : LineParts) → slice_get lines j ≡ Some l → slice_index_or (map keeps_line verdicts) j false ≡ false
-          → (steps : List Step) × RefutedBy (refutation_of (shape_of survey.fields) lines (left_before j (drop (suc j) (map keeps_line verdicts))) l (no_values survey.fields)) steps
+          → (l.relation ≢ Equal) × (steps : List Step) × RefutedBy (refutation_of (shape_of survey.fields) lines (left_before j (drop (suc j) (map keeps_line verdicts))) l (no_values survey.fields)) steps
       refuted j l at flag = elim (kept-or verdicts j (omega (arith, get-below lines j l at, verdicts-count survey lines budget 0 lines))) [
         | inl kept ↦ absurd (cc (sym kept ∙ flag))
-        | inr gone ↦ (gone.0, dropped-valid j l at gone.0 gone.1)
+        | inr gone ↦ (let (apart, refuted) = dropped-valid j l at gone.0 gone.1 in (apart, gone.0, refuted))
       ]
 
 -- ---- what the call tells
@@ -286,10 +337,14 @@ module _ (survey : SurveyParts) (lines : List LineParts) (budget place : ℕ) (l
         (subst (λ (bs : List Bool). CanFail survey.fields (usable_lines lines (left_before j bs)) line) (sym (drop-map keeps_line (suc j) (verdicts_from survey lines budget 0 lines)))
         (needed-fails survey are_fields lines over are budget j line at (ap (λ (vs : List Verdict). slice_get vs j) (sym told-all) ∙ verdict)))
 
-    pub told-steps : (j : ℕ) (line : LineParts) (steps : List Step) → slice_get lines j ≡ Some line → slice_get told j ≡ Some (Dropped steps) → RefutedBy (refutation_of (shape_of survey.fields) lines (left_at (map keeps_line told) j) line (no_values survey.fields)) steps
+    pub told-steps : (j : ℕ) (line : LineParts) (steps : List Step) → slice_get lines j ≡ Some line → slice_get told j ≡ Some (Dropped steps) → (line.relation ≢ Equal) × RefutedBy (refutation_of (shape_of survey.fields) lines (left_at (map keeps_line told) j) line (no_values survey.fields)) steps
     told-steps j line steps at verdict =
-        subst (λ (vs : List Verdict). RefutedBy (refutation_of (shape_of survey.fields) lines (left_at (map keeps_line vs) j) line (no_values survey.fields)) steps) (sym told-all)
+        subst (λ (vs : List Verdict). (line.relation ≢ Equal) × RefutedBy (refutation_of (shape_of survey.fields) lines (left_at (map keeps_line vs) j) line (no_values survey.fields)) steps) (sym told-all)
         (dropped-valid survey are_fields lines over are budget j line at steps (ap (λ (vs : List Verdict). slice_get vs j) (sym told-all) ∙ verdict))
+
+    pub told-equalities : (j : ℕ) (line : LineParts) → slice_get lines j ≡ Some line → slice_get told j ≡ Some (Kept Equality) ↔ line.relation ≡ Equal
+    told-equalities j line at =
+        subst (λ (vs : List Verdict). slice_get vs j ≡ Some (Kept Equality) ↔ line.relation ≡ Equal) (sym told-all) (equality-is survey are_fields lines over are budget j line at)
 
     pub told-follow : (line : LineParts) → IsIn line lines → Follows (usable_lines lines (map keeps_line told)) line
     told-follow line there = subst (λ (vs : List Verdict). Follows (usable_lines lines (map keeps_line vs)) line) (sym told-all) (lines-follow survey are_fields lines over are budget line there)

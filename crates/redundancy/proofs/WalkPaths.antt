@@ -163,8 +163,8 @@ no-sum (f ∷ fields) (a ∷ factors) row sum none = by (int_eq a (pos 0)) refl 
     by false e rest h = absurd (cc)
 
 -- where a line has no factor, it fails exactly where it does not hold
-pub no-factor : (line : LineParts) (row : List Value) → has_no_factor line ≡ true → fails_at line row ≡ Ok (not (is_enough line.strict line.constant))
-no-factor line row none = ap (λ r. fails_by line.strict r) (no-sum (number_fields line.shape) line.factors row (whole line.constant) none)
+pub no-factor : (line : LineParts) (row : List Value) → has_no_factor line ≡ true → fails_at line row ≡ Ok (not (is_enough line.relation line.constant))
+no-factor line row none = ap (λ r. fails_by line.relation r) (no-sum (number_fields line.shape) line.factors row (whole line.constant) none)
 
 module _ (c : SearchCase) (n : ℕ) where
   pub stands-none : (fields : List ℕ) (factors : List ℤ) → length factors ≡ length fields → stands_only (keeps c.survey.fields (changing n)) fields factors ≡ list_all (λ a. int_eq a (pos 0)) factors
@@ -185,7 +185,7 @@ module _ (c : SearchCase) (n : ℕ) where
   failing-closing i (d ∷ lines) over =
       ap (λ z. if are_whole (shape_of c.survey.fields) d.line.sets && z then closed_by i (fails_at d.line c.row) (first_failing c (changing n) (suc i) lines) else first_failing c (changing n) (suc i) lines)
       (stands-none (number_fields d.line.shape) d.line.factors ((over 0 d.line (omega arith)).factors ∙ ap (λ (s : List Domain). length (number_fields s)) (sym (over 0 d.line (omega arith)).same)))
-      ∙ by (are_whole (shape_of c.survey.fields) d.line.sets) (has_no_factor d.line) (is_enough d.line.strict d.line.constant) (λ none. no-factor d.line c.row none) (failing-closing (suc i) lines (λ k l below. over (suc k) l (omega arith)))
+      ∙ by (are_whole (shape_of c.survey.fields) d.line.sets) (has_no_factor d.line) (is_enough d.line.relation d.line.constant) (λ none. no-factor d.line c.row none) (failing-closing (suc i) lines (λ k l below. over (suc k) l (omega arith)))
       ∙ sym (ap (λ o. state_at i o) (position-cons (λ (d : Derived). are_whole (shape_of c.survey.fields) d.line.sets && is_false d.line) d lines))
     where
       later : (o : Bool) (m : ℕ) → state_at (suc i) (cond o (Some m) None) ≡ state_at i (cond o (Some (1 + m)) None)

@@ -1,7 +1,8 @@
-use Rattle.std.specs.Prelude.{◌≡◌, ℕ, zero, suc, ◌+◌, ◌++◌, Bool, true, false, List, [], ◌∷◌, Some, if◌then◌else◌, map, nat_lt, slice_get}
+use Rattle.std.specs.Prelude.{◌≡◌, ◌≢◌, ◌↔◌, ℕ, zero, suc, ◌+◌, ◌++◌, Bool, true, false, List, [], ◌∷◌, Some, if◌then◌else◌, map, nat_lt, slice_get}
 use Rattle.edit_model.specs.Parts.{SurveyParts}
 use Rattle.edit_model.specs.declared.field.Field.{Field}
-use Rattle.edit_line.specs.Lines.{LineParts}
+use Rattle.edit_line.specs.Lines.{LineParts, is_equal}
+use Rattle.edit_line.specs.declared.relation.Relation.TheVariants.{Equal}
 use Rattle.edit_line.specs.Shapes.{shape_of}
 use Rattle.derivation.specs.Premises.{usable_lines}
 use Rattle.derivation.specs.Refutations.{RefutedBy, given_lines, left_at, left_before, no_values, refutation_of, usable_flags}
@@ -17,7 +18,7 @@ use Rattle.edit_paths.specs.declared.state.PathState.TheVariants.{ClosedBad, Clo
 use Rattle.redundancy.specs.NeededLines.{CanFail}
 use Rattle.redundancy.specs.declared.verdict.Verdict.{Verdict}
 use Rattle.redundancy.specs.declared.verdict.Verdict.TheVariants.{Dropped, Kept}
-use Rattle.redundancy.specs.declared.verdict.Why.TheVariants.{Budget, Needed, Overflow}
+use Rattle.redundancy.specs.declared.verdict.Why.TheVariants.{Budget, Equality, Needed, Overflow}
 
 -- Which lines are dropped: those whose negation, with the lines that are left, no point meets, as far as the walk along the
 -- path that changes every field finds it.
@@ -79,12 +80,17 @@ abbrev pub negation_case : SurveyParts → List LineParts → List Bool → Line
 negation_case survey lines left line =
     record { survey = survey; edits = negation_lines lines left line; row = no_values survey.fields }
 
+-- the verdict on a line, where these lines are left: an equality is kept, and of another line the walk tells
+abbrev pub verdict_on : SurveyParts → List LineParts → ℕ → List Bool → LineParts → Verdict
+verdict_on survey lines budget left line =
+    if is_equal line.relation then Kept Equality else verdict_of (negation_case survey lines left line) budget
+
 -- the verdicts on the lines from a place on: the last line is tried first
 abbrev pub verdicts_from : SurveyParts → List LineParts → ℕ → ℕ → List LineParts → List Verdict
 verdicts_from survey lines budget place [] = []
 verdicts_from survey lines budget place (line ∷ later) =
     let verdicts = verdicts_from survey lines budget (suc place) later in
-    verdict_of (negation_case survey lines (left_before place (map keeps_line verdicts)) line) budget ∷ verdicts
+    verdict_on survey lines budget (left_before place (map keeps_line verdicts)) line ∷ verdicts
 
 -- the verdicts on all lines
 abbrev pub verdicts_of : SurveyParts → List LineParts → ℕ → List Verdict
@@ -98,8 +104,13 @@ AreNeeded fields lines verdicts =
     (j : ℕ) (line : LineParts) → slice_get lines j ≡ Some line → slice_get verdicts j ≡ Some (Kept Needed)
     → CanFail fields (usable_lines lines (left_at (map keeps_line verdicts) j)) line
 
--- the steps of a dropped line refute its negation by the lines that are left when it is tried
+-- a line is kept as an equality exactly where it is one
+abbrev pub AreEqualities : List LineParts → List Verdict → Type 0
+AreEqualities lines verdicts =
+    (j : ℕ) (line : LineParts) → slice_get lines j ≡ Some line → slice_get verdicts j ≡ Some (Kept Equality) ↔ line.relation ≡ Equal
+
+-- a dropped line is no equality, and its steps refute its negation by the lines that are left when it is tried
 abbrev pub AreRefuted : List Field → List LineParts → List Verdict → Type 0
 AreRefuted fields lines verdicts =
     (j : ℕ) (line : LineParts) (steps : List Step) → slice_get lines j ≡ Some line → slice_get verdicts j ≡ Some (Dropped steps)
-    → RefutedBy (refutation_of (shape_of fields) lines (left_at (map keeps_line verdicts) j) line (no_values fields)) steps
+    → (line.relation ≢ Equal) × RefutedBy (refutation_of (shape_of fields) lines (left_at (map keeps_line verdicts) j) line (no_values fields)) steps

@@ -1,7 +1,8 @@
 //! The lines that the walk of a line's negation begins with.
-ghost use Rattle.std.specs.Prelude.{◌≡◌, ◌≤◌, ◌^◌, ◌++◌, ◌∷◌, [], All, IfOk, OnOk, if◌then◌else◌, length};
+ghost use Rattle.std.specs.Prelude.{◌≡◌, ◌≢◌, ◌≤◌, ◌^◌, ◌++◌, ◌∷◌, [], All, IfOk, OnOk, if◌then◌else◌, length};
 ghost use Rattle.edit_line.specs.EditSets.{base_lines};
 ghost use Rattle.edit_line.specs.Lines.{IsLine};
+ghost use Rattle.edit_line.specs.declared.relation.Relation.TheVariants.{Equal};
 ghost use Rattle.edit_line.specs.Reductions.{lines_of};
 ghost use Rattle.redundancy.specs.Verdicts.{negation_lines, usable_from};
 
@@ -9,15 +10,16 @@ use edit_line::{Derived, Line, Origin};
 use foundation::OutOfMemory;
 use std::alloc::Global;
 
-/// The lines that are left, each with its place as its origin, and then those of the line's negation,
-/// numbered after all lines.
+/// The lines that are left, each with its place as its origin, and then those of the negation of a line that
+/// is no equality, numbered after all lines.
 pub(crate) fn base_of(
     alloc: Global,
     lines: &[Line],
     left: &[bool],
     line: &Line,
 ) -> Result<Vec<Derived>, OutOfMemory>
-    requires { length left.now ≡ length lines.now }
+    requires count { length left.now ≡ length lines.now }
+    requires not_equal { line.now.relation ≢ Equal }
     ensures base { IfOk result (λ base. base.items ≡ base_lines (negation_lines lines.now left.now line.now)) }
     ensures lines { IfOk result (λ base. All IsLine (lines_of base.items)) }
 {

@@ -3,11 +3,11 @@ ghost use Rattle.edit_model.specs.Rows.{IsRow};
 ghost use Rattle.derivation.specs.Refutations.{AllFollow, no_values};
 ghost use Rattle.edit_line.specs.Lines.{AreOver, IsLine};
 ghost use Rattle.edit_line.specs.Shapes.{shape_of};
-ghost use Rattle.redundancy.specs.Verdicts.{AreNeeded, AreRefuted, keeps_line, verdicts_of};
+ghost use Rattle.redundancy.specs.Verdicts.{AreEqualities, AreNeeded, AreRefuted, keeps_line, verdicts_of};
 ghost use Rattle.redundancy.specs.inner.Turns.{IsVerdict};
 
 use crate::base::base_of;
-use crate::verdict::Verdict;
+use crate::verdict::{Verdict, Why};
 use crate::walk::verdict_of;
 use derivation::record_without_values;
 use edit_line::Line;
@@ -15,9 +15,9 @@ use edit_model::{Row, Survey};
 use foundation::OutOfMemory;
 use std::alloc::Global;
 
-/// The verdict on each line. They are tried from the last to the first: a line is dropped where the lines
-/// that are left then refute its negation, by elimination of all fields with this much work at most. The
-/// lines are over the survey's fields.
+/// The verdict on each line. They are tried from the last to the first: an equality is kept, and another
+/// line is dropped where the lines that are left then refute its negation, by elimination of all fields with
+/// this much work at most. The lines are over the survey's fields.
 pub fn prune(
     alloc: Global,
     survey: &Survey,
@@ -26,6 +26,7 @@ pub fn prune(
 ) -> Result<Vec<Verdict>, OutOfMemory>
     requires over { AreOver (shape_of survey.now.fields) lines.now }
     ensures exact { IfOk result (λ verdicts. verdicts.items ≡ verdicts_of survey.now lines.now budget) }
+    ensures equalities { IfOk result (λ verdicts. AreEqualities lines.now verdicts.items) }
     ensures needed { IfOk result (λ verdicts. AreNeeded survey.now.fields lines.now verdicts.items) }
     ensures steps { IfOk result (λ verdicts. AreRefuted survey.now.fields lines.now verdicts.items) }
     ensures follow { IfOk result (λ verdicts. AllFollow lines.now (map keeps_line verdicts.items)) }
@@ -73,11 +74,36 @@ fn try_line(
         (λ verdict. IsVerdict survey.now lines.now budget place (slice_set left.old.items place false) verdict) }
     ensures left { IfOk result (λ verdict. left.new.items ≡ slice_set left.old.items place (keeps_line verdict)) }
 {
-    let _well_formed = survey.fields(); // read for what it says
     left[place] = false;
-    let base = base_of(alloc, lines, left, &lines[place])?;
-    let verdict = verdict_of(alloc, survey, row, base, budget)?;
+    let verdict = verdict_on(alloc, survey, row, lines, left, place, budget)?;
     left[place] = is_kept(&verdict);
+    Ok(verdict)
+}
+
+// The verdict on the line at the place, from the lines that are left.
+fn verdict_on(
+    alloc: Global,
+    survey: &Survey,
+    row: &Row,
+    lines: &[Line],
+    left: &[bool],
+    place: usize,
+    budget: u64,
+) -> Result<Verdict, OutOfMemory>
+    requires over { AreOver (shape_of survey.now.fields) lines.now }
+    requires values { row.now ≡ no_values survey.now.fields }
+    requires row { IsRow survey.now.fields row.now }
+    requires count { length left.now ≡ length lines.now }
+    requires place { place < length lines.now }
+    ensures { IfOk result (λ verdict. IsVerdict survey.now lines.now budget place left.now verdict) }
+{
+    let _well_formed = survey.fields(); // read for what it says
+    let line = &lines[place];
+    if line.relation().is_equal() {
+        return Ok(Verdict::Kept(Why::Equality));
+    }
+    let base = base_of(alloc, lines, left, line)?;
+    let verdict = verdict_of(alloc, survey, row, base, budget)?;
     Ok(verdict)
 }
 

@@ -3,12 +3,11 @@ use Rattle.std.proofs.Common.{◌≡◌, ◌∙◌, refl, sym, ap, ℕ, suc, ◌
 use Rattle.std.proofs.Math.Seq.{drop-cons}
 use Rattle.std.specs.Ordering.{int_eq}
 use Rattle.edit_model.specs.declared.field.Field.{Field}
-use Rattle.edit_model.specs.declared.rule.Compare.TheVariants.{Ge, Gt}
 use Rattle.edit_model.specs.declared.rule.Term.{Term}
 use Rattle.edit_language.specs.Printing.{compare_text, later_constant_text, later_terms_text, linear_text, sum_text}
 use Rattle.edit_line.specs.Lines.{LineParts}
 use Rattle.edit_line.specs.Shapes.{number_fields}
-use Rattle.rule_report.specs.LineTexts.{linear_part, line_terms}
+use Rattle.rule_report.specs.LineTexts.{compare_of, linear_part, line_terms}
 use Rattle.rule_report.specs.inner.Written.{led_text}
 
 -- what is still to be printed of a sum: all of it, or what stands behind its first term
@@ -50,7 +49,7 @@ module _ (numbers : List ℕ) (factors : List ℤ) (i : ℕ) (many : length fact
 -- the sum of a line, and behind it the comparison
 pub linear-is : (line : LineParts) (fields all : List Field) (numbers : List ℕ) (factors : List ℤ) (constant : ℤ) (before between now comparison : List ℕ)
     → all ≡ fields → numbers ≡ number_fields line.shape → factors ≡ line.factors → constant ≡ line.constant
-    → between ≡ before ++ sum_text all (line_terms numbers factors) constant → now ≡ between ++ comparison → comparison ≡ compare_text (if line.strict then Gt else Ge)
+    → between ≡ before ++ sum_text all (line_terms numbers factors) constant → now ≡ between ++ comparison → comparison ≡ compare_text (compare_of line.relation)
     → now ≡ before ++ linear_text fields (linear_part line)
 linear-is line fields all numbers factors constant before between now comparison same are kept is sum end compare =
-    rw (end, sum, compare, same, are, kept, is) (append_assoc before (sum_text fields (line_terms (number_fields line.shape) line.factors) line.constant) (compare_text (if line.strict then Gt else Ge)))
+    rw (end, sum, compare, same, are, kept, is) (append_assoc before (sum_text fields (line_terms (number_fields line.shape) line.factors) line.constant) (compare_text (compare_of line.relation)))

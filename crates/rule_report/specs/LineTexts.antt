@@ -2,7 +2,8 @@
 use Rattle.std.specs.Prelude.{ℕ, ℤ, pos, false, ◌==◌, ◌++◌, List, [], ◌∷◌, codes, if◌then◌else◌}
 use Rattle.std.specs.Ordering.{int_eq}
 use Rattle.edit_model.specs.declared.field.Field.{Field}
-use Rattle.edit_model.specs.declared.rule.Compare.TheVariants.{Ge, Gt}
+use Rattle.edit_model.specs.declared.rule.Compare.{Compare}
+use Rattle.edit_model.specs.declared.rule.Compare.TheVariants.{Eq, Ge, Gt}
 use Rattle.edit_model.specs.declared.rule.Linear.{Linear}
 use Rattle.edit_model.specs.declared.rule.Term.{Term}
 use Rattle.edit_model.specs.declared.rule.Test.{Test}
@@ -11,6 +12,8 @@ use Rattle.edit_language.specs.Printing.{conditions_text, linear_text}
 use Rattle.edit_line.specs.Lines.{LineParts}
 use Rattle.edit_line.specs.Shapes.{code_fields, number_fields, whole_sets}
 use Rattle.edit_line.specs.Subsumption.{is_false}
+use Rattle.edit_line.specs.declared.relation.Relation.{Relation}
+use Rattle.edit_line.specs.declared.relation.Relation.TheVariants.{Above, AtLeast, Equal}
 
 -- the fields that stand in a line, each with its factor
 abbrev pub line_terms : List ℕ → List ℤ → List Term
@@ -28,12 +31,18 @@ conditions_of (f ∷ fields) (set ∷ sets) (whole ∷ wholes) =
     else test.Codes f false set ∷ conditions_of fields sets wholes
 conditions_of _ _ _ = []
 
+-- how a line's sum is compared with 0
+abbrev pub compare_of : Relation → Compare
+compare_of AtLeast = Ge
+compare_of Above = Gt
+compare_of Equal = Eq
+
 -- the linear part of a line
 abbrev pub linear_part : LineParts → Linear
 linear_part line = record {
   terms = line_terms (number_fields line.shape) line.factors;
   constant = line.constant;
-  compare = if line.strict then Gt else Ge;
+  compare = compare_of line.relation;
 }
 
 -- what a line says where its codes are in its sets: `never` where that is never true

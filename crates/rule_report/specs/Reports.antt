@@ -8,7 +8,7 @@ use Rattle.proof_grammar.specs.ProofLines.{step_line, words_text}
 use Rattle.redundancy.specs.declared.verdict.Verdict.{Verdict}
 use Rattle.redundancy.specs.declared.verdict.Verdict.TheVariants.{Dropped, Kept}
 use Rattle.redundancy.specs.declared.verdict.Why.{Why}
-use Rattle.redundancy.specs.declared.verdict.Why.TheVariants.{Budget, Needed, Overflow}
+use Rattle.redundancy.specs.declared.verdict.Why.TheVariants.{Budget, Equality, Needed, Overflow}
 use Rattle.rule_report.specs.LineTexts.{line_text}
 
 -- why a line is kept
@@ -16,6 +16,7 @@ abbrev pub why_text : Why → List ℕ
 why_text Needed = codes "needed"
 why_text Budget = codes "budget"
 why_text Overflow = codes "overflow"
+why_text Equality = codes "equality"
 
 -- what becomes of a line
 abbrev pub verdict_text : Verdict → List ℕ

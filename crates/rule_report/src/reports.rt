@@ -82,6 +82,7 @@ fn verdict_text(verdict: &Verdict) -> &'static [u8]
         Verdict::Kept(Why::Needed) => b"kept needed",
         Verdict::Kept(Why::Budget) => b"kept budget",
         Verdict::Kept(Why::Overflow) => b"kept overflow",
+        Verdict::Kept(Why::Equality) => b"kept equality",
         Verdict::Dropped(_) => b"dropped",
     }
 }

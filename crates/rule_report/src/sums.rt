@@ -1,14 +1,13 @@
 //! The linear part of a line.
-ghost use Rattle.std.specs.Prelude.{◌≡◌, ◌++◌, ◌&&◌, IfOk, OnOk, if◌then◌else◌, length, pos};
+ghost use Rattle.std.specs.Prelude.{◌≡◌, ◌++◌, ◌&&◌, IfOk, OnOk, length, pos};
 ghost use Rattle.std.specs.Ordering.{int_eq};
-ghost use Rattle.edit_model.specs.declared.rule.Compare.TheVariants.{Ge, Gt};
 ghost use Rattle.edit_language.specs.Printing.{linear_text, sum_text};
 ghost use Rattle.edit_line.specs.Shapes.{shape_of};
-ghost use Rattle.rule_report.specs.LineTexts.{linear_part, line_terms};
+ghost use Rattle.rule_report.specs.LineTexts.{compare_of, linear_part, line_terms};
 ghost use Rattle.rule_report.specs.inner.Written.{factor_text};
 
 use edit_language::{compare_text, write_constant, write_term};
-use edit_line::Line;
+use edit_line::{Line, Relation};
 use edit_model::{Compare, Field, Survey};
 use foundation::OutOfMemory;
 
@@ -28,15 +27,19 @@ pub(crate) fn write_linear(
         line.factors(),
         line.constant(),
     )?;
-    text.extend_from_slice(compare_text(comparison(line.strict())))?;
+    text.extend_from_slice(compare_text(comparison(line.relation())))?;
     Ok(())
 }
 
 // How the sum of a line is compared with 0.
-fn comparison(strict: bool) -> Compare
-    ensures { result ≡ (if strict then Gt else Ge) }
+fn comparison(relation: Relation) -> Compare
+    ensures { result ≡ compare_of relation }
 {
-    if strict { Compare::Gt } else { Compare::Ge }
+    match relation {
+        Relation::AtLeast => Compare::Ge,
+        Relation::Above => Compare::Gt,
+        Relation::Equal => Compare::Eq,
+    }
 }
 
 // Appends the terms of the fields with these numbers whose factors are not 0, and the constant.

@@ -25,7 +25,7 @@ pub record BoundsField (line : LineParts) (row : List Value) (f : ℕ) : Type 0 
 -- a number at the field is within the bound that the line gives with this rest
 abbrev pub IsWithinBound : LineParts → ℕ → Ratio → Ratio → Type 0
 IsWithinBound line f rest x =
-    IsEnough line.strict (factor line f *ℤ x.numerator *ℤ rest.denominator +ℤ rest.numerator *ℤ x.denominator)
+    IsEnough line.relation (factor line f *ℤ x.numerator *ℤ rest.denominator +ℤ rest.numerator *ℤ x.denominator)
 
 -- the number is within the bounds of all lines that bound the field
 abbrev pub AreWithinBounds : List LineParts → List Value → ℕ → Ratio → Type 0

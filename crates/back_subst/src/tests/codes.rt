@@ -5,6 +5,7 @@ ghost use Rattle.back_subst.specs.inner.TestSurveys.{three_fields};
 use super::plan::{LinePlan, lines_of, row_of, survey_of};
 use crate::code::{first_among, is_free};
 use categ_combine::{BoxFrom, boxes_of};
+use edit_line::Relation::AtLeast;
 use fraction128::Fraction;
 use std::alloc::Global;
 use std::test::Fail;
@@ -14,14 +15,14 @@ type CodePlan = (&'static [LinePlan], Option<u8>, [bool; 3]);
 
 const CODES: [CodePlan; 4] = [
     (&[], Some(0), [true, true, true]),
-    (&[(0b011, 0, 0, -1, false)], Some(2), [false, false, true]),
+    (&[(0b011, 0, 0, -1, AtLeast)], Some(2), [false, false, true]),
     (
-        &[(0b001, 0, 0, -1, false), (0b100, 0, 0, -1, false)],
+        &[(0b001, 0, 0, -1, AtLeast), (0b100, 0, 0, -1, AtLeast)],
         Some(1),
         [false, true, false],
     ),
     (
-        &[(0b101, 0, 0, -1, false), (0b010, 0, 0, -1, false)],
+        &[(0b101, 0, 0, -1, AtLeast), (0b010, 0, 0, -1, AtLeast)],
         None,
         [false, false, false],
     ),

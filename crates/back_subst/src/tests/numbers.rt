@@ -1,6 +1,7 @@
 //! The number of a field, by lines that are written down.
 use super::plan::{LAST, LinePlan, lines_of, row_of, survey_of};
 use crate::number::nearest_of;
+use edit_line::Relation::{Above, AtLeast, Equal};
 use fraction128::Fraction;
 use std::alloc::Global;
 use std::test::Fail;
@@ -11,53 +12,57 @@ const MOST: i128 = i128::MAX;
 /// Lines, a target, and the number that is given, as a text.
 type NumberPlan = (&'static [LinePlan], i128, &'static [u8]);
 
-const NUMBERS: [NumberPlan; 22] = [
+const NUMBERS: [NumberPlan; 25] = [
     // no bound, and a target that is within
     (&[], 8, b"8"),
-    (&[(7, 0, 1, -2, false), (7, 0, -1, 5, false)], 3, b"3"),
+    (&[(7, 0, 1, -2, AtLeast), (7, 0, -1, 5, AtLeast)], 3, b"3"),
     // a closed lower and a closed upper end, and a target on each
-    (&[(7, 0, 1, -2, false), (7, 0, -1, 5, false)], 0, b"2"),
-    (&[(7, 0, 1, -2, false), (7, 0, -1, 5, false)], 9, b"5"),
-    (&[(7, 0, 1, -2, false)], 2, b"2"),
-    (&[(7, 0, -1, 5, false)], 5, b"5"),
+    (&[(7, 0, 1, -2, AtLeast), (7, 0, -1, 5, AtLeast)], 0, b"2"),
+    (&[(7, 0, 1, -2, AtLeast), (7, 0, -1, 5, AtLeast)], 9, b"5"),
+    (&[(7, 0, 1, -2, AtLeast)], 2, b"2"),
+    (&[(7, 0, -1, 5, AtLeast)], 5, b"5"),
     // an open end without another: one further in
-    (&[(7, 0, 1, -2, true)], 0, b"3"),
-    (&[(7, 0, 1, -2, true)], 2, b"3"),
-    (&[(7, 0, -1, 5, true)], 9, b"4"),
-    (&[(7, 0, -1, 5, true)], 5, b"4"),
+    (&[(7, 0, 1, -2, Above)], 0, b"3"),
+    (&[(7, 0, 1, -2, Above)], 2, b"3"),
+    (&[(7, 0, -1, 5, Above)], 9, b"4"),
+    (&[(7, 0, -1, 5, Above)], 5, b"4"),
     // an open end with another: the middle
-    (&[(7, 0, 1, 0, true), (7, 0, -1, 1, true)], 0, b"1/2"),
-    (&[(7, 0, 1, 0, true), (7, 0, -1, 1, true)], 7, b"1/2"),
-    (&[(7, 0, 1, -2, true), (7, 0, -1, 5, false)], 0, b"7/2"),
-    (&[(7, 0, 1, -2, false), (7, 0, -1, 5, true)], 5, b"7/2"),
+    (&[(7, 0, 1, 0, Above), (7, 0, -1, 1, Above)], 0, b"1/2"),
+    (&[(7, 0, 1, 0, Above), (7, 0, -1, 1, Above)], 7, b"1/2"),
+    (&[(7, 0, 1, -2, Above), (7, 0, -1, 5, AtLeast)], 0, b"7/2"),
+    (&[(7, 0, 1, -2, AtLeast), (7, 0, -1, 5, Above)], 5, b"7/2"),
     // of equal bounds the open one holds
-    (&[(7, 0, 1, -2, false), (7, 0, 2, -4, true)], 0, b"3"),
-    (&[(7, 0, 2, -4, true), (7, 0, 1, -2, false)], 0, b"3"),
-    (&[(7, 0, -1, 5, false), (7, 0, -3, 15, true)], 9, b"4"),
+    (&[(7, 0, 1, -2, AtLeast), (7, 0, 2, -4, Above)], 0, b"3"),
+    (&[(7, 0, 2, -4, Above), (7, 0, 1, -2, AtLeast)], 0, b"3"),
+    (&[(7, 0, -1, 5, AtLeast), (7, 0, -3, 15, Above)], 9, b"4"),
     // the greatest lower and the least upper one
     (
         &[
-            (7, 0, 1, -2, false),
-            (7, 0, 1, -3, false),
-            (7, 0, 1, -1, false),
+            (7, 0, 1, -2, AtLeast),
+            (7, 0, 1, -3, AtLeast),
+            (7, 0, 1, -1, AtLeast),
         ],
         0,
         b"3",
     ),
     (
         &[
-            (7, 0, -1, 5, false),
-            (7, 0, -1, 3, false),
-            (7, 0, -1, 4, false),
+            (7, 0, -1, 5, AtLeast),
+            (7, 0, -1, 3, AtLeast),
+            (7, 0, -1, 4, AtLeast),
         ],
         9,
         b"3",
     ),
     // fractions are not rounded, and A, which is 7, is in the rest
-    (&[(7, 0, 3, -1, false)], 0, b"1/3"),
-    (&[(7, -1, 3, 0, false), (7, 1, -3, 0, false)], 0, b"7/3"),
+    (&[(7, 0, 3, -1, AtLeast)], 0, b"1/3"),
+    (&[(7, -1, 3, 0, AtLeast), (7, 1, -3, 0, AtLeast)], 0, b"7/3"),
+    // an equality gives its number for each target
+    (&[(7, 0, 1, -4, Equal)], 9, b"4"),
+    (&[(7, 0, -2, 8, Equal)], 0, b"4"),
+    (&[(7, 1, -1, 0, Equal), (7, 0, 1, 0, AtLeast)], 0, b"7"),
     // a line for other codes bounds nothing
-    (&[(6, 0, 1, -4, false), (1, 0, 1, -2, false)], 0, b"2"),
+    (&[(6, 0, 1, -4, AtLeast), (1, 0, 1, -2, AtLeast)], 0, b"2"),
 ];
 
 fn number_told(
@@ -91,30 +96,35 @@ const OVERFLOWS: [OverflowPlan; 6] = [
     // the rest, 2 A
     (
         b"170141183460469231731687303715884105727",
-        &[(7, 0, 1, 0, false), (7, 2, 1, 0, false)],
+        &[(7, 0, 1, 0, AtLeast), (7, 2, 1, 0, AtLeast)],
         0,
         1,
     ),
     // the bound, A / 2
     (
         b"1/170141183460469231731687303715884105727",
-        &[(7, 1, -2, 0, false)],
+        &[(7, 1, -2, 0, AtLeast)],
         0,
         0,
     ),
     // one more and one less than an open end
-    (b"0", &[(7, 0, 1, 0, false), (7, 0, 1, -MOST, true)], 0, 1),
-    (b"0", &[(7, 0, -1, -MOST, true)], 0, 0),
+    (
+        b"0",
+        &[(7, 0, 1, 0, AtLeast), (7, 0, 1, -MOST, Above)],
+        0,
+        1,
+    ),
+    (b"0", &[(7, 0, -1, -MOST, Above)], 0, 0),
     // the sum of which an open end's middle is the half, below it and above it
     (
         b"0",
-        &[(7, 0, -1, MOST, false), (7, 0, 1, 2 - MOST, true)],
+        &[(7, 0, -1, MOST, AtLeast), (7, 0, 1, 2 - MOST, Above)],
         0,
         1,
     ),
     (
         b"0",
-        &[(7, 0, -1, 2 - MOST, true), (7, 0, 1, MOST, false)],
+        &[(7, 0, -1, 2 - MOST, Above), (7, 0, 1, MOST, AtLeast)],
         0,
         0,
     ),

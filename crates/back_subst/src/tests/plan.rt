@@ -6,7 +6,7 @@ ghost use Rattle.edit_model.specs.declared.value.Value.TheVariants.{Bad};
 ghost use Rattle.edit_line.specs.Shapes.{Categorical, Numerical, domain_of, shape_of};
 ghost use Rattle.back_subst.specs.inner.TestSurveys.{three_fields};
 
-use edit_line::{Derived, Line, Origin};
+use edit_line::{Derived, Line, Origin, Relation};
 use edit_model::{Field, Kind, Name, Row, Survey, Value};
 use foundation::Sequence;
 use fraction128::Fraction;
@@ -16,8 +16,8 @@ use std::test::Fail;
 /// The numerical field that values are given to.
 pub(crate) const LAST: u32 = 2;
 
-/// A line: its set of codes, the factors of A and B, the constant, and whether it is strict.
-pub(crate) type LinePlan = (u64, i128, i128, i128, bool);
+/// A line: its set of codes, the factors of A and B, the constant, and its relation.
+pub(crate) type LinePlan = (u64, i128, i128, i128, Relation);
 
 /// A numerical field.
 fn number_field(name: &[u8]) -> Result<Field, Fail>
@@ -68,14 +68,17 @@ fn line_of(alloc: Global, survey: &Survey, plan: LinePlan) -> Result<Derived, Fa
     requires { shape_of survey.now.fields ≡ three_fields }
     ensures { IfOk result (λ derived. derived.line.shape ≡ shape_of survey.now.fields) }
 {
-    let (set, a, b, constant, strict) = plan;
+    let (set, a, b, constant, relation) = plan;
     if set == 0 || set > 7 || a == i128::MIN || b == i128::MIN || constant == i128::MIN {
         return Err("a line")?;
+    }
+    if relation.is_equal() && set != 7 {
+        return Err("an equality for all codes")?;
     }
     let sets = vec![in alloc; set]?;
     let factors = vec![in alloc; a, b]?;
     Ok(Derived {
-        line: Line::new(survey, sets, factors, constant, strict),
+        line: Line::new(survey, sets, factors, constant, relation),
         origin: Origin::Base(0),
     })
 }

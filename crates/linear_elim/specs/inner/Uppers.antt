@@ -2,7 +2,7 @@ use Rattle.std.specs.Prelude.{ℕ, suc, ◌+◌, Bool, List, [], ◌∷◌, Resu
 use Rattle.std.specs.List.{slice_get}
 use Rattle.edit_line.specs.Lines.{LineParts}
 use Rattle.edit_line.specs.declared.derived.Derived.{Derived}
-use Rattle.linear_elim.specs.Steps.{StepOverflow, followed_by, pair_result}
+use Rattle.linear_elim.specs.Steps.{StepOverflow, followed_by, pair_result, substituted_result}
 use Rattle.linear_elim.specs.declared.elimination.Placed.{Placed}
 
 -- ---- the step with the upper lines listed once
@@ -15,6 +15,10 @@ places_from test i (t ∷ lines) = if test t.line then i ∷ places_from test (s
 -- what a line, at its place, gives at the field with each other one
 abbrev pub pairs_with : ℕ → Placed → ℕ → Derived → Result (List Derived) StepOverflow
 pairs_with f s = pair_result f s.place s.derived.now
+
+-- what the equality, at its place, gives at the field with each other line
+abbrev pub substituted_with : ℕ → Placed → ℕ → Derived → Result (List Derived) StepOverflow
+substituted_with f e = substituted_result f e.place e.derived.now
 
 -- what the function gives for the line that is found at the place
 abbrev pub found_result : {F : Type 0}

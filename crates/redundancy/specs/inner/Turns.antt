@@ -14,7 +14,7 @@ use Rattle.categ_combine.specs.Covers.{cover_count, covered_from}
 use Rattle.categ_combine.specs.FailingBoxes.{LineFault, failing_from}
 use Rattle.categ_combine.specs.declared.box_from.BoxFrom.{BoxFrom}
 use Rattle.edit_paths.specs.Histories.{History, steps_to, with_boxes, with_lines}
-use Rattle.redundancy.specs.Verdicts.{negation_case, verdict_of, within}
+use Rattle.redundancy.specs.Verdicts.{verdict_on, within}
 use Rattle.redundancy.specs.declared.verdict.Verdict.{Verdict}
 use Rattle.redundancy.specs.declared.verdict.Verdict.TheVariants.{Dropped, Kept}
 use Rattle.redundancy.specs.declared.verdict.Why.TheVariants.{Budget, Needed, Overflow}
@@ -125,7 +125,7 @@ AddsWork boxes f spent later =
 -- the verdict on the line at a place, where these lines are left
 abbrev pub IsVerdict : SurveyParts → List LineParts → ℕ → ℕ → List Bool → Verdict → Type 0
 IsVerdict survey lines budget place left verdict =
-    (line : LineParts) → slice_get lines place ≡ Some line → verdict ≡ verdict_of (negation_case survey lines left line) budget
+    (line : LineParts) → slice_get lines place ≡ Some line → verdict ≡ verdict_on survey lines budget left line
 
 -- the verdict of the walk over these lines, which are reduced
 abbrev pub lines_verdict : List Domain → List Value → ℕ → List Derived → Verdict

@@ -9,7 +9,7 @@ use Rattle.edit_line.specs.Shapes.{number_fields, shape_of}
 use Rattle.edit_line.specs.Sums.{sum_at}
 use Rattle.edit_line.proofs.ShapeLaws.{place-within}
 use lib.IntN.{neg_ℤ}
-use Rattle.back_subst.specs.NumberWalk.{found_at, with_found}
+use Rattle.back_subst.specs.NumberWalk.{bounded_by}
 use Rattle.back_subst.specs.inner.Sides.{ends_of}
 use Rattle.back_subst.proofs.LineSteps.{factor-at, with-bound, without-bound, without-codes, without-factor}
 use Rattle.back_subst.proofs.line_bounds.with_line.Goals as goal
@@ -63,8 +63,8 @@ returns-in-Ok c =
     let at = (goal.at.returns-in-Ok c).After-factors in
     let fits : FitsSigned w128 (get_or c.factors.result.now c.args.place (pos 0)) = search rules in
     ap Ok (
-    c.with.ensures ∙ ap (λ (k : ℤ). with_found (ends_of c.args.bounds) (int_lt (pos 0) k) (found_at (ratio_of c.in-Ok.at) c.strict.result c.args.i)) (read at fits)
-    ∙ ap (λ s. with_found (ends_of c.args.bounds) (int_lt (pos 0) (factor c.args.line.now f)) (found_at (ratio_of c.in-Ok.at) s c.args.i)) c.strict.ensures
+    c.bounded_by.ensures ∙ ap (λ (k : ℤ). bounded_by c.relation.result (ends_of c.args.bounds) (int_lt (pos 0) k) (ratio_of c.in-Ok.at) c.args.i) (read at fits)
+    ∙ ap (λ r. bounded_by r (ends_of c.args.bounds) (int_lt (pos 0) (factor c.args.line.now f)) (ratio_of c.in-Ok.at) c.args.i) c.relation.ensures
     )
     ∙ with-bound c.args.i f c.args.line.now c.args.row.now (ends_of c.args.bounds) (sym c.if-not-admits_codes_of.ensures) (stands at fits c.if-factor-eq0.false) c.requires.blank (answered c.bound_at.result) (told at fits _ c.bound_at.ensures) (ratio_of c.in-Ok.at) (ap answered c.in-Ok.is)
 

@@ -5,7 +5,7 @@ use Rattle.derivation.specs.Premises.{Premises}
 use Rattle.derivation.specs.Refutations.{refutation_of}
 use Rattle.cert_check.specs.Dropped.{refutation_fault}
 use Rattle.cert_check.proofs.PlaceLaws.{read-at}
-use Rattle.cert_check.proofs.VerdictsLoop.{lent-over, lent-premises}
+use Rattle.cert_check.proofs.VerdictsLoop.{lent-over, lent-premises, undropped-fault}
 use Rattle.cert_check.proofs.dropped.refutation_fault.Goals as goal
 
 pub steps_fault-requires-clause-over : goal.steps_fault-requires-clause-over
@@ -24,3 +24,7 @@ returns-clause-found c = λ line at.
     let premises = lent-premises shape lines left own c.args.row.now c.deref.result.now c.in_ok-negation.negation.items c.deref-2.result.now c.len.result _ c.requires.each (c.deref.ensures.value ∙ c.in_ok-append.ensures.items) c.in_ok-negation.ensures.exact
     (c.len.ensures ∙ sym c.deref.ensures.len) (omega (arith, c.args.left.now.ok.0)) (c.deref-2.ensures.value ∙ c.in_ok-resize.ensures.items) in
     c.in_ok-found.ensures.found ∙ ap (λ (p : Premises). refutation_fault p c.args.steps.now) premises ∙ ap (λ (l : LineParts). refutation_fault (refutation_of shape lines left l c.args.row.now) c.args.steps.now) same
+    ∙ undropped-fault (refutation_of shape lines left line c.args.row.now) line c.args.steps.now (c.requires.not_equal line at)
+
+pub negation-requires : goal.negation-requires
+negation-requires c = c.requires.not_equal c.index.result.now (read-at c.args.lines.now.items c.args.place c.index.result.now c.requires.place c.index.ensures)

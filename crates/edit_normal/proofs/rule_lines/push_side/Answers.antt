@@ -8,7 +8,7 @@ use Rattle.edit_normal.proofs.Pushes.{pushed, side_line-sets, skipped}
 use Rattle.edit_normal.proofs.rule_lines.push_side.Goals as goal
 
 pub side_line-requires : goal.side_line-requires
-side_line-requires c = AreSets-within c.args.sets.now (whole_sets c.args.fields.now) (sym c.have_codes.ensures ∙ c.if-have_codes.true) c.requires
+side_line-requires c = record { fit = AreSets-within c.args.sets.now (whole_sets c.args.fields.now) (sym c.have_codes.ensures ∙ c.if-have_codes.true) c.requires.within; whole = c.requires.whole }
 
 pub returns-in_ok-push : goal.returns-in_ok-push
 returns-in_ok-push c =

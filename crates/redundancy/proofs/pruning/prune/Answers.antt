@@ -1,6 +1,6 @@
 use Rattle.std.proofs.Common.{◌≡◌, ◌-◌, suc, ℕ, length, refl, ◌∙◌, subst, arith}
 use Rattle.redundancy.proofs.BaseLaws.{IsTried, get-at, tried-count, tried-start, tried-turn, trues-are}
-use Rattle.redundancy.proofs.PruneLaws.{told-follow, told-needed, told-steps}
+use Rattle.redundancy.proofs.PruneLaws.{told-equalities, told-follow, told-needed, told-steps}
 use Rattle.redundancy.proofs.pruning.prune.Goals as goal
 
 pub loop-place-init : goal.loop-place-init
@@ -19,6 +19,11 @@ loop-place-preserved c =
     let (line, at) = get-at (c.loop-place.place - 1) lines (omega (arith, c.loop-place.invariant.within, c.loop-place-test.true)) in
     tried-turn survey lines c.args.budget place c.loop-place.left.items c.loop-place.verdicts.items (subst (λ (n : ℕ). IsTried survey lines c.args.budget n c.loop-place.left.items c.loop-place.verdicts.items) next c.loop-place.invariant) line at
     c.in_ok-verdict.verdict c.try_line.new.left.items c.insert.new.self.items (c.in_ok-verdict.ensures.verdict line at) c.in_ok-verdict.ensures.left c.in_ok-insert.ensures.items
+
+pub returns-clause-equalities : goal.returns-clause-equalities
+returns-clause-equalities c = λ j line.
+    told-equalities c.args.survey.now c.args.lines.now c.args.budget c.loop-place.place c.loop-place.left.items c.loop-place.verdicts.items c.loop-place.invariant (omega (arith, c.loop-place-test.false))
+    c.fields-well_formed.ensures.well_formed.fields c.requires.over c.read_lines.ensures j line
 
 pub returns-clause-needed : goal.returns-clause-needed
 returns-clause-needed c = λ j line.

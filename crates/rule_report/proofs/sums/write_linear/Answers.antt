@@ -15,4 +15,4 @@ returns c =
     let fits : FitsSigned w128 c.constant.result = search rules in
     let sum = simp (to_z-of_z w128 _ fits) at c.in_ok-write_sum.ensures in
     let numbers = same_fields c.numbers.result.now c.args.survey.now.fields line.shape c.numbers.ensures c.requires in
-    linear-is line c.args.survey.now.fields _ _ _ _ _ _ _ _ c.fields.ensures.fields numbers c.factors.ensures.factors c.constant.ensures.constant sum c.in_ok-extend_from_slice.ensures.items (rw (c.comparison.ensures, c.strict.ensures) at c.compare_text.ensures)
+    linear-is line c.args.survey.now.fields _ _ _ _ _ _ _ _ c.fields.ensures.fields numbers c.factors.ensures.factors c.constant.ensures.constant sum c.in_ok-extend_from_slice.ensures.items (rw (c.comparison.ensures, c.relation.ensures) at c.compare_text.ensures)

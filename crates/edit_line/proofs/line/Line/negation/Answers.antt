@@ -28,4 +28,4 @@ pub returns-clause-contrary : goal.returns-clause-contrary
 returns-clause-contrary c = λ p held.
     let line = c.args.self.now in
     let is = negation-end line c.loop-place.negation.items c.loop-place.place (ap length (sym c.sets-sets.ensures.sets)) (omega (arith, c.loop-place-test.false)) c.loop-place.invariant in
-    subst (λ (ls : List LineParts). AllHold ls p ↔ (¬ LineHolds line p)) (sym is) (negation-meets line p c.sets-sets.ensures.line held)
+    subst (λ (ls : List LineParts). AllHold ls p ↔ (¬ LineHolds line p)) (sym is) (negation-meets line p c.sets-sets.ensures.line c.requires held)

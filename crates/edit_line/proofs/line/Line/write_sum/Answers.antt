@@ -1,7 +1,7 @@
-use Rattle.std.proofs.Common.{◌≡◌, ◌∙◌, ◌||◌, FitsSigned, List, length, refl, rules, ap, sym, subst}
+use Rattle.std.proofs.Common.{◌≡◌, ◌∙◌, FitsSigned, List, length, refl, rules, ap, sym, subst}
 use Rattle.std.proofs.lemmas.Int.{to_z-of_z}
 use mir.Syntax.{w128}
-use Rattle.edit_line.specs.Combinations.{combined, in_both}
+use Rattle.edit_line.specs.Combinations.{combined, in_both, joined}
 use Rattle.edit_line.specs.Lines.{LineParts}
 use Rattle.edit_line.specs.Sets.{AreSets}
 use Rattle.edit_line.specs.Domains.{domains}
@@ -76,9 +76,9 @@ returns-in-Some-sum_of_products-clause-sum c = λ _.
     let shape = sym (ap (λ (l : LineParts). l.shape) c.self.view_is) in
     let sets_are = c.narrow.ensures ∙ (λ i. in_both ((c.copy_from_slice.ensures.items ∙ c.sets.ensures.sets) i) (c.sets-in-Some-sum_of_products.ensures.sets i)) in
     let factors_are = told.sums refl ∙ (λ i. combined c.args.m c.args.n (c.factors.ensures.factors i) (c.factors-2.ensures.factors i)) in
-    let strict_is = c.either-self-inside.ensures ∙ (λ i. c.strict.ensures i || c.strict-in-Some-sum_of_products.ensures i) in
-    sum-is (domains c.self.inside.shape) c.args.m c.args.n _ s t c.narrow.new.sets.items c.write_sums.new.sums.items c.either-self-inside.result (c.requires.s_over ∙ shape) sets_are factors_are
-    (to_z-of_z w128 c.in-Some-sum_of_products.constant z_fits ∙ is.1) strict_is
+    let relation_is = c.joined-self-inside.ensures ∙ (λ i. joined (c.relation.ensures i) (c.relation-in-Some-sum_of_products.ensures i)) in
+    sum-is (domains c.self.inside.shape) c.args.m c.args.n _ s t c.narrow.new.sets.items c.write_sums.new.sums.items c.joined-self-inside.result (c.requires.s_over ∙ shape) sets_are factors_are
+    (to_z-of_z w128 c.in-Some-sum_of_products.constant z_fits ∙ is.1) relation_is
 
 pub invariant_of-self-in-Some-sum_of_products : goal.invariant_of-self-in-Some-sum_of_products
 invariant_of-self-in-Some-sum_of_products c =
@@ -96,4 +96,5 @@ invariant_of-self-in-Some-sum_of_products c =
     c.constant.result c.constant-in-None.result _ c.constant.ensures.constant c.constant-in-None.ensures.constant sum_is c.in-Some-sum_of_products.constant c.in-Some-sum_of_products.is in
     let shape = sym (ap (λ (l : LineParts). l.shape) c.self.view_is) in
     let sets_are = c.narrow.ensures ∙ (λ i. in_both ((c.copy_from_slice.ensures.items ∙ c.sets.ensures.sets) i) (c.sets-in-Some-sum_of_products.ensures.sets i)) in
-    simp to_z-of_z (sum-line (domains c.self.inside.shape) c.in-Some-sum_of_products.constant s t c.narrow.new.sets.items c.write_sums.new.sums.items c.either-self-inside.result (c.requires.s_over ∙ shape) (c.requires.t_over ∙ shape) sets_are c.sets.ensures.fit c.sets-in-Some-sum_of_products.ensures.fit c.requires.meet (told.count ∙ c.self.invariant.factors) told.in_range is.2)
+    let relation_is = c.joined-self-inside.ensures ∙ (λ i. joined (c.relation.ensures i) (c.relation-in-Some-sum_of_products.ensures i)) in
+    simp to_z-of_z (sum-line (domains c.self.inside.shape) c.in-Some-sum_of_products.constant s t c.narrow.new.sets.items c.write_sums.new.sums.items c.joined-self-inside.result (c.requires.s_over ∙ shape) (c.requires.t_over ∙ shape) sets_are relation_is c.sets.ensures.line c.sets-in-Some-sum_of_products.ensures.line c.requires.meet (told.count ∙ c.self.invariant.factors) told.in_range is.2)

@@ -5,7 +5,7 @@ use Rattle.edit_line.specs.Shapes.{whole_sets}
 use Rattle.edit_line.proofs.SetLaws.{AreWithin-wholes}
 use Rattle.edit_normal.specs.NormalForm.{implied_lines}
 use Rattle.edit_normal.proofs.Pushes.{condition-ends, conditions-end, joined-from}
-use Rattle.edit_normal.proofs.rule_lines.push_rule.Goals as goal
+use Rattle.edit_normal.proofs.rule_lines.push_implied.Goals as goal
 
 pub loop-condition-init : goal.loop-condition-init
 loop-condition-init c =

@@ -2,7 +2,7 @@ use Rattle.std.proofs.Common.{◌≡◌, drop}
 use Rattle.edit_line.specs.inner.SetBounds.{AreWithin}
 use Rattle.edit_line.specs.Shapes.{whole_sets}
 use Rattle.edit_normal.specs.NormalForm.{implied_lines}
-use Rattle.edit_normal.proofs.rule_lines.push_rule.Given as goal
+use Rattle.edit_normal.proofs.rule_lines.push_implied.Given as goal
 
 abbrev pub invariant-loop-condition : goal.invariant-loop-condition
 invariant-loop-condition l = record {

@@ -1,0 +1,8 @@
+use Rattle.std.proofs.Common.{◌≡◌, ◌+◌, ◌≤◌, drop}
+use Rattle.linear_elim.specs.Steps.{substituted_count}
+use Rattle.linear_elim.proofs.pair_count.substitutions.Given as goal
+
+abbrev pub invariant-loop-place : goal.invariant-loop-place
+invariant-loop-place l =
+    (l.count + substituted_count l.column.field l.equality l.place (drop l.place l.lines) ≡ substituted_count l.column.field l.equality 0 l.lines)
+    × (l.count ≤ l.place)
