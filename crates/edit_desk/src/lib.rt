@@ -15,7 +15,7 @@ mod writing;
 
 pub use calls::{Desk, FetchError, StoreError};
 pub use file::FileDesk;
-pub use memory::{Failure, MemoryDesk};
+pub use memory::{Call, Failure, MemoryDesk};
 pub use page::MemoryPrinter;
 pub use printer::{PrintFailed, Printer};
 pub use standard_output::OutPrinter;

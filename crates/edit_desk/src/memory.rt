@@ -1,6 +1,6 @@
-ghost use Rattle.std.specs.Prelude.{◌≡◌, ◌⊎◌, ◌+◌, ◌==◌, ◌≤◌, ◌++◌, [], Some, None, IfErr, IfOk, IfSome, IfNone, IsSome, IsErr, IsErrOf, OnOk, OnErr, length, take, find, option_copied};
+ghost use Rattle.std.specs.Prelude.{◌≡◌, ◌⊎◌, ◌+◌, ◌==◌, ◌≤◌, ◌++◌, [], Some, None, IfErr, IfOk, IfSome, IfNone, IsSome, IsErr, IsErrOf, OnOk, OnErr, length, map, take, find, option_copied};
 ghost use Rattle.edit_desk.specs.Desk.{Fetches, Stores, SameElsewhere, TakesOneMore, after_fetch, after_store, fetch_record, store_record};
-ghost use Rattle.edit_desk.specs.Memory.{FailsAs, faults_of, named_files, next_failure, under};
+ghost use Rattle.edit_desk.specs.Memory.{FailsAs, asked, faults_of, named_files, next_failure, under};
 
 use crate::calls::{Desk, FetchError, StoreError};
 use foundation::OutOfMemory;
@@ -16,12 +16,12 @@ pub struct Failure {
     pub keep: u64,
 }
 
-/// One call on record.
+/// One call on record: whether it was a store or a fetch, under which name, and whether it failed.
 #[derive(Debug, Drop)]
-struct Call {
-    store: bool,
-    name: String,
-    failed: bool,
+pub struct Call {
+    pub store: bool,
+    pub name: String,
+    pub failed: bool,
 }
 
 /// Files in memory. Calls fail where they were told to, and where a fetch finds no file of its name.
@@ -62,6 +62,20 @@ impl MemoryDesk {
             None => None,
             Some(bytes) => Some(bytes.as_slice()),
         }
+    }
+
+    /// The calls on record, the oldest first. No memory.
+    pub fn calls(&self) -> &[Call]
+        ensures { map asked result.now ≡ self.now.calls }
+    {
+        self.calls.as_slice()
+    }
+
+    /// The files by name. No memory.
+    pub fn into_files(self) -> BTreeMap<String, Vec<u8>>
+        ensures { named_files result ≡ self.files }
+    {
+        self.files
     }
 
     // The failure that was asked for the next call.
