@@ -59,4 +59,11 @@ impl FieldSet {
     {
         (self.bits >> field) & 1 == 1
     }
+
+    /// The set as a number, which has the bit of each of its fields: sets can be ordered and looked up by it.
+    pub fn bits(self) -> u64
+        ensures { result ≡ self }
+    {
+        self.bits
+    }
 }

@@ -81,5 +81,5 @@ knows-later pool fields old new walks knows =
     (let as_many = length-append old walks.more in (k, w, omega (arith, within, as_many), get_or_append_left old walks.more w k within ∙ at, is))
 
 -- also among the entries that it has stored
-pub stored-knows : (pool : PoolParts) (fields : ℕ) (old new : List Walked) (es stored : List Entry) → WalksOn old new → map walked_of stored ≡ new → es ≡ stored → Knows pool fields old → Knows pool fields (map walked_of es)
-stored-knows pool fields old new es stored walks are same knows = subst (λ (ws : List Walked). Knows pool fields ws) (sym (ap (map walked_of) same ∙ are)) (knows-later pool fields old new walks knows)
+pub stored-knows : (pool : PoolParts) (fields : ℕ) (old new : List Walked) (es : List Entry) → WalksOn old new → map walked_of es ≡ new → Knows pool fields old → Knows pool fields (map walked_of es)
+stored-knows pool fields old new es walks are knows = subst (λ (ws : List Walked). Knows pool fields ws) (sym are) (knows-later pool fields old new walks knows)

@@ -10,6 +10,7 @@ mod pool;
 mod publication;
 mod reader;
 mod source;
+mod walked_entries;
 
 pub use pool::Pool;
 pub use publication::{PublishFault, Published};

@@ -8,8 +8,8 @@ ghost use Rattle.linear_elim.specs.Told.{told_system};
 ghost use Rattle.shared_edits.specs.Pools.{IsReaderOf, Knows};
 ghost use Rattle.shared_edits.specs.inner.Entries.{walked_of};
 
-use crate::entry::Entry;
 use crate::pool::Pool;
+use crate::walked_entries::WalkedEntries;
 use edit_model::FieldSet;
 use foundation::Steps;
 use linear_elim::{System, SystemFault, extend, fold_system, last_field};
@@ -21,7 +21,7 @@ impl Pool {
     pub(crate) fn make<L: Ledger>(
         &self,
         alloc: Global,
-        entries: &[Entry],
+        entries: &WalkedEntries,
         fields: FieldSet,
         steps: &mut Steps<L>,
     ) -> Result<System, SystemFault>

@@ -50,7 +50,7 @@ impl Pool {
         if let Some(system) = self.find(reader, fields) {
             return Ok(Held::Shared(share(system)?));
         }
-        match self.make(alloc, reader.walked.as_slice(), fields, steps) {
+        match self.make(alloc, &reader.walked, fields, steps) {
             Ok(system) => Ok(self.keep(rt, alloc, reader, system)?),
             Err(fault) => Err(fault),
         }

@@ -15,7 +15,8 @@ ghost use Rattle.shared_edits.specs.inner.Entries.{WalksAt, walked_of};
 
 use crate::entry::Entry;
 use crate::publication::{PublishFault, Published};
-use crate::reader::{MOST_WALKED, Reader, has_own, is_full, own_entry, place_of};
+use crate::reader::{Reader, own_entry};
+use crate::walked_entries::{MOST_WALKED, WalkedEntries};
 use boxcar::Pushed;
 use edit_line::Edits;
 use edit_model::FieldSet;
@@ -65,7 +66,7 @@ impl Pool {
         ensures { IfOk result (λ reader. reader ≡ []) }
     {
         Ok(Reader {
-            walked: Vec::with_capacity(alloc, MOST_WALKED)?,
+            walked: WalkedEntries::new(alloc)?,
             next: 0,
         })
     }
@@ -98,7 +99,7 @@ impl Pool {
     /// The system without these fields, if it is that of a walked entry.
     pub(crate) fn known<'a>(
         &'a self,
-        entries: &[Entry],
+        entries: &WalkedEntries,
         fields: FieldSet,
     ) -> Option<&'a Arc<System>>
         requires { IsReaderOf self.now (map walked_of entries.now) }
@@ -108,21 +109,20 @@ impl Pool {
         ensures known { IfSome result (λ _. Knows self.now fields (map walked_of entries.now)) }
         ensures none { IfNone result (¬ Knows self.now fields (map walked_of entries.now)) }
     {
-        let place = place_of(entries, fields)?;
-        Some(self.system_at(&entries[place]))
+        let place = entries.place_of(fields)?;
+        Some(self.system_at(&entries.as_slice()[place]))
     }
 
     // Walks the entry at this index, unless it is the reader's own. False where there is none yet.
-    fn walk_at(&self, walked: &mut Vec<Entry>, index: usize) -> bool
-        requires { length walked.old.items < walked.old.cap }
-        ensures room { walked.new.cap ≡ walked.old.cap }
-        ensures entry { MatchBool result (WalksAt self.now index walked.old.items walked.new.items) (walked.new.items ≡ walked.old.items) }
+    fn walk_at(&self, walked: &mut WalkedEntries, index: usize) -> bool
+        requires { length walked.old < 4160 }
+        ensures { MatchBool result (WalksAt self.now index walked.old walked.new) (walked.new ≡ walked.old) }
     {
         let Some(token) = self.entries.witness(index) else {
             return false;
         };
-        if !has_own(walked.as_slice(), index) {
-            walked.push_reserved(self.entry_of(token));
+        if !walked.has_own(index) {
+            walked.push(self.entry_of(token));
         }
         true
     }
@@ -156,7 +156,7 @@ impl Pool {
         ensures none { IfNone result (¬ Knows self.now fields reader.new) }
     {
         self.walk(reader);
-        self.known(reader.walked.as_slice(), fields)
+        self.known(&reader.walked, fields)
     }
 
     /// Stores a system of the pool's edits for all readers, unless this reader has walked 4,096 entries, or they have more
@@ -176,7 +176,7 @@ impl Pool {
         ensures back { IfErr result (λ fault. handed_back fault ≡ system) }
     {
         let count = system.lines().len() as u64;
-        if is_full(reader.walked.as_slice(), count) {
+        if reader.walked.is_full(count) {
             return Ok(Published::Full(system));
         }
         let fields = system.fields();
@@ -186,7 +186,7 @@ impl Pool {
         };
         match self.entries.push_shown(rt, shared) {
             Ok(token) => {
-                reader.walked.push_reserved(own_entry(token, fields, count));
+                reader.walked.push(own_entry(token, fields, count));
                 Ok(Published::Stored(kept))
             }
             Err(back) => Err(PublishFault::OutOfMemory(Held::Shared(back))),

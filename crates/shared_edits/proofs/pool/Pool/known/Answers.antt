@@ -1,4 +1,5 @@
-use Rattle.std.proofs.Common.{map, sym}
+use Rattle.std.proofs.Common.{List, map, subst, sym, ◌≡◌}
+use lib.ListN.{get_or}
 use Rattle.shared_edits.specs.Pools.{Carries, IsOf, Knows}
 use Rattle.shared_edits.specs.declared.entry.Entry.{Entry}
 use Rattle.shared_edits.specs.inner.Entries.{walked_of}
@@ -6,20 +7,24 @@ use Rattle.shared_edits.proofs.FindLaws.{carries-lines, found, unknown}
 use Rattle.shared_edits.proofs.pool.Pool.known.Goals as goal
 
 -- the entry at the place is found
-module _ (c : goal.After-index-entries-place) where
+module _ (c : goal.After-index-as_slice-place) where
   abbrev e : Entry
-  e = c.index-entries-place.result
+  e = c.index-as_slice-place.result
 
   is_found : IsOf c.args.self.now (walked_of e) × Carries c.args.self.now c.args.fields (walked_of e) × Knows c.args.self.now c.args.fields (map walked_of c.args.entries.now)
-  is_found = found c.args.self.now c.args.fields c.args.entries.now c.requires c.in_ok-place.place e (sym c.in_ok-place.ensures) c.index-entries-place.is
+  is_found =
+      let at = subst (λ (es : List Entry). e ≡ get_or es c.in_ok-place.place e) c.as_slice.ensures c.index-as_slice-place.is in
+      found c.args.self.now c.args.fields c.args.entries.now c.requires c.in_ok-place.place e (sym c.in_ok-place.ensures) at
 
 -- and is so when its system is lent
 module _ (c : goal.After-system_at) where
   abbrev d : Entry
-  d = c.index-entries-place.result
+  d = c.index-as_slice-place.result
 
   was_found : IsOf c.args.self.now (walked_of d) × Carries c.args.self.now c.args.fields (walked_of d) × Knows c.args.self.now c.args.fields (map walked_of c.args.entries.now)
-  was_found = found c.args.self.now c.args.fields c.args.entries.now c.requires c.in_ok-place.place d (sym c.in_ok-place.ensures) c.index-entries-place.is
+  was_found =
+      let at = subst (λ (es : List Entry). d ≡ get_or es c.in_ok-place.place d) c.as_slice.ensures c.index-as_slice-place.is in
+      found c.args.self.now c.args.fields c.args.entries.now c.requires c.in_ok-place.place d (sym c.in_ok-place.ensures) at
 
 pub system_at-requires : goal.system_at-requires
 system_at-requires c = (is_found c).0.shown
@@ -36,7 +41,7 @@ returns-clause-fields c = rw c.system_at.ensures (was_found c).1.1
 pub returns-clause-exact : goal.returns-clause-exact
 returns-clause-exact c =
     let f = was_found c in
-    rw c.system_at.ensures (carries-lines c.args.self.now c.args.fields (walked_of c.index-entries-place.result) f.0 f.1)
+    rw c.system_at.ensures (carries-lines c.args.self.now c.args.fields (walked_of c.index-as_slice-place.result) f.0 f.1)
 
 pub returns-clause-known : goal.returns-clause-known
 returns-clause-known c = (was_found c).2

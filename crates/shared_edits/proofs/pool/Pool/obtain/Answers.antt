@@ -11,15 +11,15 @@ returns-in-Some-clause-onwards g c = λ first firsts knows. let part = pairs-fir
 
 pub returns-in_err-keep-in-Ok-clause-onwards : goal.returns-in_err-keep-in-Ok-clause-onwards
 returns-in_err-keep-in-Ok-clause-onwards g c = λ first firsts knows.
-    let stored = stored-knows c.args.self.now first c.args.reader.now c.find.new.reader c.as_slice.result.now c.reader.inside.walked.items c.find.ensures.walked c.reader.view_is c.as_slice.ensures.value knows in
+    let stored = stored-knows c.args.self.now first c.args.reader.now c.find.new.reader c.reader.inside.walked c.find.ensures.walked c.reader.view_is knows in
     c.make.ensures.onwards first firsts stored
 
 pub returns-in_ok-keep-in-Ok-clause-onwards : goal.returns-in_ok-keep-in-Ok-clause-onwards
 returns-in_ok-keep-in-Ok-clause-onwards g c = λ first firsts knows.
-    let stored = stored-knows c.args.self.now first c.args.reader.now c.find.new.reader c.as_slice.result.now c.reader.inside.walked.items c.find.ensures.walked c.reader.view_is c.as_slice.ensures.value knows in
+    let stored = stored-knows c.args.self.now first c.args.reader.now c.find.new.reader c.reader.inside.walked c.find.ensures.walked c.reader.view_is knows in
     c.make.ensures.onwards first firsts stored
 
 pub returns-in-Err-clause-onwards : goal.returns-in-Err-clause-onwards
 returns-in-Err-clause-onwards g c = λ first firsts knows.
-    let stored = stored-knows c.args.self.now first c.args.reader.now c.find.new.reader c.as_slice.result.now c.reader.inside.walked.items c.find.ensures.walked c.reader.view_is c.as_slice.ensures.value knows in
+    let stored = stored-knows c.args.self.now first c.args.reader.now c.find.new.reader c.reader.inside.walked c.find.ensures.walked c.reader.view_is knows in
     c.make.ensures.onwards first firsts stored

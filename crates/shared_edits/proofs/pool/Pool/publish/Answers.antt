@@ -10,15 +10,15 @@ use Rattle.shared_edits.proofs.pool.Pool.publish.Goals as goal
 
 pub returns-then-is_full-clause-answer : goal.returns-then-is_full-clause-answer
 returns-then-is_full-clause-answer g c =
-    let es = c.reader.inside.walked.items in
+    let es = c.reader.inside.walked in
     let count = length c.args.system.lines in
-    let tested : is_full es count ≡ c.is_full.result = rw (sym c.as_slice.ensures.value, sym c.lines.ensures.lines) (sym c.is_full.ensures) in
+    let tested : is_full es count ≡ c.is_full.result = rw (sym c.lines.ensures.lines) (sym c.is_full.ensures) in
     (subst (IsFull count) c.reader.view_is (full-is es count (tested ∙ c.if-is_full.true)), refl, refl)
 
 -- the system is stored
-module _ (g : given.Over) (c : goal.After-push_reserved g) where
-  not_full : is_full c.reader.inside.walked.items (length c.args.system.lines) ≡ false
-  not_full = let tested : is_full c.reader.inside.walked.items (length c.args.system.lines) ≡ c.is_full.result = rw (sym c.as_slice.ensures.value, sym c.lines.ensures.lines) (sym c.is_full.ensures) in tested ∙ c.if-is_full.false
+module _ (g : given.Over) (c : goal.After-push g) where
+  not_full : is_full c.reader.inside.walked (length c.args.system.lines) ≡ false
+  not_full = let tested : is_full c.reader.inside.walked (length c.args.system.lines) ≡ c.is_full.result = rw (sym c.lines.ensures.lines) (sym c.is_full.ensures) in tested ∙ c.if-is_full.false
 
   stored : arc_value c.own_entry.result.token.value ≡ c.args.system
   stored = ap (λ t. arc_value t.value) c.own_entry.ensures.0 ∙ ap arc_value c.in-Ok-push_shown.ensures.0.1 ∙ c.in_ok-shared.ensures.shared
@@ -32,26 +32,25 @@ module _ (g : given.Over) (c : goal.After-push_reserved g) where
 
 pub invariant_of-reader : goal.invariant_of-reader
 invariant_of-reader g c =
-    let es = c.reader.inside.walked.items in
+    let es = c.reader.inside.walked in
     let e = c.own_entry.result in
     let few = not-full-few es (length c.args.system.lines) (not_full g c) in
-    let as_many = ap (λ xs. length xs) c.push_reserved.ensures.items ∙ length-append es (e ∷ []) in (
-      omega (arith, c.reader.invariant.0, c.push_reserved.ensures.capacity),
+    let as_many = ap (λ xs. length xs) c.push.ensures ∙ length-append es (e ∷ []) in (
       omega (arith, few, as_many),
-      pushed-behind es c.push_reserved.new.self.items e c.push_reserved.ensures.items c.reader.inside.next c.reader.invariant.2 c.own_entry.ensures.1,
+      pushed-behind es c.push.new.self e c.push.ensures c.reader.inside.next c.reader.invariant.1 c.own_entry.ensures.1,
     )
 
 pub returns-in-Ok-push_shown-clause-reader : goal.returns-in-Ok-push_shown-clause-reader
 returns-in-Ok-push_shown-clause-reader g c =
     let pool = c.args.self.now in
-    pushed-of c.reader.inside.walked.items c.push_reserved.new.self.items c.own_entry.result c.push_reserved.ensures.items pool (subst (IsReaderOf pool) (sym c.reader.view_is) c.requires.reader) (is_of g c)
+    pushed-of c.reader.inside.walked c.push.new.self c.own_entry.result c.push.ensures pool (subst (IsReaderOf pool) (sym c.reader.view_is) c.requires.reader) (is_of g c)
 
 pub returns-in-Ok-push_shown-clause-answer : goal.returns-in-Ok-push_shown-clause-answer
 returns-in-Ok-push_shown-clause-answer g c =
-    let es = c.reader.inside.walked.items in
+    let es = c.reader.inside.walked in
     let e = c.own_entry.result in
     let count = length c.args.system.lines in (
       subst (λ (l : List Walked). ¬ IsFull count l) c.reader.view_is (not-full-is es count (not_full g c)),
-      (walked_of e, pushed-is es c.push_reserved.new.self.items e c.push_reserved.ensures.items ∙ ap (λ (l : List Walked). l ++ walked_of e ∷ []) c.reader.view_is, c.own_entry.ensures.1, stored g c),
+      (walked_of e, pushed-is es c.push.new.self e c.push.ensures ∙ ap (λ (l : List Walked). l ++ walked_of e ∷ []) c.reader.view_is, c.own_entry.ensures.1, stored g c),
       c.in-Ok.ensures ∙ c.in_ok-shared.ensures.shared,
     )

@@ -9,18 +9,17 @@ pub loop-reader-init : goal.loop-reader-init
 loop-reader-init c =
     let is = c.reader.view_is in
     let inv = c.reader.invariant in (
-      subst (λ (l : List Walked). WalksOn l (map walked_of c.reader.inside.walked.items)) is (walks_nothing (map walked_of c.reader.inside.walked.items)),
+      subst (λ (l : List Walked). WalksOn l (map walked_of c.reader.inside.walked)) is (walks_nothing (map walked_of c.reader.inside.walked)),
       subst (IsReaderOf c.args.self.now) (sym is) c.requires,
       inv.0,
       inv.1,
-      inv.2,
     )
 
 pub loop-reader-preserved : goal.loop-reader-preserved
 loop-reader-preserved c =
     let before = c.loop-reader.reader-inside in
     let i = c.loop-reader.invariant in
-    let step = c.if-not-walk_at.ensures.entry in
-    let t = walk_turn c.args.self.now c.args.reader.now before.walked.items c.walk_at.new.walked.items before.next i.0 i.1 i.4 c.loop-reader-test.true step in
-    let few = turn_length c.args.self.now before.next before.walked.items c.walk_at.new.walked.items step in
-    (t.0, t.1, omega (arith, i.2, c.walk_at.ensures.room), omega (arith, few, c.len.ensures, c.if-len-lt-MOST_WALKED.true), t.2)
+    let step = c.if-not-walk_at.ensures in
+    let t = walk_turn c.args.self.now c.args.reader.now before.walked c.walk_at.new.walked before.next i.0 i.1 i.3 c.loop-reader-test.true step in
+    let few = turn_length c.args.self.now before.next before.walked c.walk_at.new.walked step in
+    (t.0, t.1, omega (arith, few, c.len.ensures, c.if-len-lt-MOST_WALKED.true), t.2)

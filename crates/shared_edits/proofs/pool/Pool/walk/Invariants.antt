@@ -6,11 +6,10 @@ use Rattle.shared_edits.proofs.pool.Pool.walk.Given as goal
 
 abbrev pub invariant-loop-reader : goal.invariant-loop-reader
 invariant-loop-reader l =
-    WalksOn l.fn.reader (map walked_of l.reader-inside.walked.items)
-    × IsReaderOf l.self (map walked_of l.reader-inside.walked.items)
-    × (4160 ≤ l.reader-inside.walked.cap)
-    × (length l.reader-inside.walked.items ≤ 4160)
-    × IsBehind l.reader-inside.next (map walked_of l.reader-inside.walked.items)
+    WalksOn l.fn.reader (map walked_of l.reader-inside.walked)
+    × IsReaderOf l.self (map walked_of l.reader-inside.walked)
+    × (length l.reader-inside.walked ≤ 4160)
+    × IsBehind l.reader-inside.next (map walked_of l.reader-inside.walked)
 
 abbrev pub decreases-loop-reader : goal.decreases-loop-reader
 decreases-loop-reader l = 4160 - l.reader-inside.next
