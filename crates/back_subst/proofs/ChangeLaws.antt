@@ -24,7 +24,7 @@ use Rattle.edit_paths.specs.declared.state.PathState.{PathState}
 use Rattle.edit_paths.specs.declared.state.PathState.TheVariants.{ClosedBad, ClosedBox, ClosedLine, Open, Overflows}
 use Rattle.edit_paths.proofs.ChoiceLaws.{EndsNot, FoundAt, change-choice, found-from, sorted-after}
 use Rattle.edit_paths.proofs.LeastLaws.{choice-least}
-use Rattle.edit_paths.proofs.PathOrder.{before-chain, before-equal, before-extends, before-total}
+use Rattle.edit_paths.proofs.PathOrder.{before-equal, before-extends}
 use Rattle.edit_paths.proofs.ReachedLaws.{reached-are, reached-sorted}
 use Rattle.back_subst.specs.Gifts.{CanGive, IsCheap, IsNeeded, path_of}
 

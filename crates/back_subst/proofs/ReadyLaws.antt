@@ -3,7 +3,7 @@ use Rattle.std.specs.List.{filter}
 use Rattle.std.proofs.lemmas.List.{length-map, reverse-reverse}
 use Rattle.edit_model.proofs.NameLemmas.{false_unless}
 use Rattle.edit_model.specs.Corrections as corrections
-use Rattle.edit_model.specs.Corrections.{IsCorrection, path_order}
+use Rattle.edit_model.specs.Corrections.{path_order}
 use Rattle.edit_model.specs.FieldSets.{has_number}
 use Rattle.edit_model.specs.Parts.{SurveyParts}
 use Rattle.edit_model.specs.Points.{Point}

@@ -69,7 +69,7 @@ with_found ends lower new =
     then record { lower = Some (tighter (pos 1) ends.lower new); upper = ends.upper }
     else record { lower = ends.lower; upper = Some (tighter (negsuc 0) ends.upper new) }
 
--- the bounds, and those of a line: an equality bounds from both sides, and a strict line leaves its bound out
+-- the bounds, and those of a line: an equality bounds from both sides, and a line that is to be above 0 leaves its bound out
 abbrev pub bounded_by : Relation → FoundBounds → Bool → Ratio → ℕ → FoundBounds
 bounded_by AtLeast ends lower at i = with_found ends lower (found_at at false i)
 bounded_by Above ends lower at i = with_found ends lower (found_at at true i)

@@ -1,4 +1,4 @@
-use Rattle.std.proofs.Common.{◌≡◌, ℕ, zero, suc, ◌+◌, ◌-◌, ◌<◌, ◌≤◌, ◌^◌, ◌%◌, ◌&&◌, ◌||◌, ◌++◌, ◌⊎◌, inl, inr, Bool, true, false, not, if◌then◌else◌, nat_eq, bit_and, List, [], ◌∷◌, All, drop, get_or, length, IfOk, OnOk, Result, Ok, Err, slice_index_or, slice_set, add-one, append-nil, append_assoc, refl, sym, ap, ◌∙◌, subst, arith}
+use Rattle.std.proofs.Common.{◌≡◌, ℕ, zero, suc, ◌+◌, ◌-◌, ◌<◌, ◌^◌, ◌%◌, ◌&&◌, ◌||◌, ◌++◌, inl, inr, Bool, true, false, not, if◌then◌else◌, nat_eq, bit_and, List, [], ◌∷◌, All, drop, get_or, length, IfOk, OnOk, Result, Ok, Err, slice_index_or, slice_set, add-one, append-nil, append_assoc, refl, sym, ap, ◌∙◌, subst, arith}
 use Rattle.std.specs.List.{filter, fold, list_any}
 use Rattle.std.proofs.Math.Seq.{drop-cons}
 use Rattle.std.proofs.lemmas.Bool.Decides.{Decides-eqb}
@@ -15,15 +15,17 @@ use Rattle.edit_line.specs.declared.derived.Derived.{Derived}
 use Rattle.edit_line.proofs.BoolLaws.{both_true, false-both}
 use Rattle.edit_line.proofs.Members.{all-in, in-all, in-taken}
 use Rattle.categ_combine.specs.Apart.{AllApart, AreApart, IsApart, LieApart}
-use Rattle.categ_combine.specs.BoxLists.{reduce_boxes, reduce_from, sets_of, with_box, with_from}
-use Rattle.categ_combine.specs.Covers.{covered_from, covers_from, from_of, is_whole_at, unchanged_one}
+use Rattle.categ_combine.specs.BoxLists.{reduce_from, sets_of, with_box, with_from}
+use Rattle.categ_combine.specs.Covers.{IsElimination, covered_from, covers_from, from_of, is_whole_at, unchanged_one}
 use Rattle.categ_combine.specs.Each.{each_from}
 use Rattle.categ_combine.specs.FailingBoxes.{failing_from, line_fault, taken}
 use Rattle.categ_combine.specs.Fixing.{fix_origin, fixed_from, fixed_one}
+use Rattle.categ_combine.specs.Steps.{IsDone}
 use Rattle.categ_combine.specs.declared.box_from.BoxFrom.{BoxFrom}
-use Rattle.categ_combine.specs.declared.box_from.BoxOrigin.{BoxOrigin}
 use Rattle.categ_combine.specs.declared.box_from.BoxOrigin.TheVariants.{Failing, Fixed, Unchanged}
-use Rattle.categ_combine.specs.inner.Clear.{AllClear, IsClear, is_within_at, was_fixed}
+use Rattle.categ_combine.specs.declared.covered.Covered.{Covered}
+use Rattle.categ_combine.specs.declared.covered.Covered.TheVariants.{Done, Passed}
+use Rattle.categ_combine.specs.inner.Clear.{AllClear, IsClear, is_compared, is_within_at, was_fixed}
 use Rattle.categ_combine.specs.inner.Spots.{IsSpot}
 use Rattle.categ_combine.proofs.ReducedBoxes.{sets-reduce, sets-with_from}
 
@@ -156,7 +158,7 @@ whole-same place whole sets is = ap (λ n. slice_set sets place n) (sym ((Decide
 
 module _ (place whole : ℕ) (sets : List ℕ) where
   -- the box can lie inside those alone that were made whole
-  pub any-fixed : (kept : List BoxFrom) → is_within_at place whole sets ≡ true → All (λ (k : BoxFrom). IsClear place whole k sets) kept
+  any-fixed : (kept : List BoxFrom) → is_within_at place whole sets ≡ true → All (λ (k : BoxFrom). IsClear place whole k sets) kept
       → list_any (λ (b : BoxFrom). was_fixed b.origin && are_subsets (slice_set sets place whole) b.code_box.sets) kept ≡ list_any (λ (b : BoxFrom). are_subsets (slice_set sets place whole) b.code_box.sets) kept
   any-fixed [] fits clear = refl
   any-fixed (k ∷ kept) fits clear =
@@ -167,25 +169,18 @@ module _ (place whole : ℕ) (sets : List ℕ) where
       by true e = refl
       by false e = sym ((clear 0 k (omega arith)).unchanged e fits)
 
+  -- so it lies inside one with which it is compared where it lies inside any
+  pub any-compared : (apart : Bool) (kept : List BoxFrom) → is_within_at place whole sets ≡ true → (apart ≡ true → All (λ (k : BoxFrom). IsClear place whole k sets) kept)
+      → list_any (λ (b : BoxFrom). is_compared apart b.origin && are_subsets (slice_set sets place whole) b.code_box.sets) kept ≡ list_any (λ (b : BoxFrom). are_subsets (slice_set sets place whole) b.code_box.sets) kept
+  any-compared true kept fits clear = any-fixed kept fits (clear refl)
+  any-compared false kept fits clear = refl
+
   -- and none lies inside it, where it is whole
   pub none-inside : (kept : List BoxFrom) → is_whole_at place whole sets ≡ true → All (λ (k : BoxFrom). IsClear place whole k sets) kept → filter (λ (b : BoxFrom). not (are_subsets b.code_box.sets sets)) kept ≡ kept
   none-inside [] is clear = refl
   none-inside (k ∷ kept) is clear =
       ap (λ b. if not b then k ∷ filter (λ (b : BoxFrom). not (are_subsets b.code_box.sets sets)) kept else filter (λ (b : BoxFrom). not (are_subsets b.code_box.sets sets)) kept) ((clear 0 k (omega arith)).outside is)
       ∙ ap (λ (ks : List BoxFrom). k ∷ ks) (none-inside kept is (λ j d below. clear (suc j) d (omega (arith, below))))
-
-  -- a box that is whole comes last, unless it lies inside one that was made whole
-  pub unchanged-with : (kept : List BoxFrom) (new : BoxFrom) → new.code_box.sets ≡ sets → is_whole_at place whole sets ≡ true → is_within_at place whole sets ≡ true → All (λ (k : BoxFrom). IsClear place whole k sets) kept
-      → with_from kept new ≡ (if list_any (λ (b : BoxFrom). was_fixed b.origin && are_subsets sets b.code_box.sets) kept then kept else kept ++ new ∷ [])
-  unchanged-with kept new own is fits clear =
-      ap (λ ss. if list_any (λ (b : BoxFrom). are_subsets ss b.code_box.sets) kept then kept else filter (λ (b : BoxFrom). not (are_subsets b.code_box.sets ss)) kept ++ new ∷ []) own
-      ∙ ap (λ (ks : List BoxFrom). if list_any (λ (b : BoxFrom). are_subsets sets b.code_box.sets) kept then kept else ks ++ new ∷ []) (none-inside kept is clear)
-      ∙ ap (λ t. if t then kept else kept ++ new ∷ []) (sym same)
-    where
-      same : list_any (λ (b : BoxFrom). was_fixed b.origin && are_subsets sets b.code_box.sets) kept ≡ list_any (λ (b : BoxFrom). are_subsets sets b.code_box.sets) kept
-      same =
-          ap (λ ss. list_any (λ (b : BoxFrom). was_fixed b.origin && are_subsets ss b.code_box.sets) kept) (sym (whole-same place whole sets is)) ∙ any-fixed kept fits clear
-          ∙ ap (λ ss. list_any (λ (b : BoxFrom). are_subsets ss b.code_box.sets) kept) (whole-same place whole sets is)
 
 -- ---- the boxes that are taken in, one after the other
 
@@ -246,26 +241,40 @@ clear-more place whole code boxes kept i d apart below some fits clear b there =
 
 -- ---- what the calls take in
 
-module _ (place whole : ℕ) (sets told : List ℕ) (kept seen : List BoxFrom) (new : BoxFrom) (found : Bool) (seen_are : seen ≡ kept)
-    (found_is : found ≡ list_any (λ (b : BoxFrom). was_fixed b.origin && are_subsets told b.code_box.sets) seen)
-    (fits : is_within_at place whole sets ≡ true) (clear : All (λ (k : BoxFrom). IsClear place whole k sets) kept) where
-  found-kept : found ≡ list_any (λ (b : BoxFrom). was_fixed b.origin && are_subsets told b.code_box.sets) kept
-  found-kept = found_is ∙ ap (λ (bs : List BoxFrom). list_any (λ (b : BoxFrom). was_fixed b.origin && are_subsets told b.code_box.sets) bs) seen_are
-
-  -- a box that is whole there
-  pub takes-unchanged : told ≡ sets → new.code_box.sets ≡ sets → is_whole_at place whole sets ≡ true → with_from kept new ≡ (if found then kept else kept ++ new ∷ [])
-  takes-unchanged same own is =
-      unchanged-with place whole sets kept new own is fits clear
-      ∙ ap (λ t. if t then kept else kept ++ new ∷ []) (sym (found-kept ∙ ap (λ ss. list_any (λ (b : BoxFrom). was_fixed b.origin && are_subsets ss b.code_box.sets) kept) same))
-
 -- a box that is made whole there
-pub takes-widened : (place whole : ℕ) (sets : List ℕ) (kept : List BoxFrom) (new : BoxFrom) → is_within_at place whole sets ≡ true → All (λ (k : BoxFrom). IsClear place whole k sets) kept → new.code_box.sets ≡ slice_set sets place whole
+pub takes-widened : (place whole : ℕ) (sets : List ℕ) (apart : Bool) (kept : List BoxFrom) (new : BoxFrom) → is_within_at place whole sets ≡ true → (apart ≡ true → All (λ (k : BoxFrom). IsClear place whole k sets) kept) → new.code_box.sets ≡ slice_set sets place whole
     → with_from kept new
-    ≡ (if list_any (λ (b : BoxFrom). was_fixed b.origin && are_subsets new.code_box.sets b.code_box.sets) kept then kept else filter (λ (b : BoxFrom). not (are_subsets b.code_box.sets new.code_box.sets)) kept ++ new ∷ [])
-takes-widened place whole sets kept new fits clear own =
+    ≡ (if list_any (λ (b : BoxFrom). is_compared apart b.origin && are_subsets new.code_box.sets b.code_box.sets) kept then kept else filter (λ (b : BoxFrom). not (are_subsets b.code_box.sets new.code_box.sets)) kept ++ new ∷ [])
+takes-widened place whole sets apart kept new fits clear own =
     ap (λ t. if t then kept else filter (λ (b : BoxFrom). not (are_subsets b.code_box.sets new.code_box.sets)) kept ++ new ∷ [])
-    (ap (λ ss. list_any (λ (b : BoxFrom). are_subsets ss b.code_box.sets) kept) own ∙ sym (any-fixed place whole sets kept fits clear)
-    ∙ ap (λ ss. list_any (λ (b : BoxFrom). was_fixed b.origin && are_subsets ss b.code_box.sets) kept) (sym own))
+    (ap (λ ss. list_any (λ (b : BoxFrom). are_subsets ss b.code_box.sets) kept) own ∙ sym (any-compared place whole sets apart kept fits clear)
+    ∙ ap (λ ss. list_any (λ (b : BoxFrom). is_compared apart b.origin && are_subsets ss b.code_box.sets) kept) (sym own))
+
+-- a box that is whole there, told by these sets among the boxes that are seen
+module _ (place whole : ℕ) (sets told : List ℕ) (apart : Bool) (kept seen : List BoxFrom) (new : BoxFrom) (found : Bool) (seen_are : seen ≡ kept) (told_are : told ≡ sets)
+    (found_is : found ≡ list_any (λ (b : BoxFrom). is_compared apart b.origin && are_subsets told b.code_box.sets) seen) (own : new.code_box.sets ≡ sets)
+    (is : is_whole_at place whole sets ≡ true) (fits : is_within_at place whole sets ≡ true) (clear : apart ≡ true → All (λ (k : BoxFrom). IsClear place whole k sets) kept) where
+  taken-so : with_from kept new ≡ (if found then kept else filter (λ (b : BoxFrom). not (are_subsets b.code_box.sets new.code_box.sets)) kept ++ new ∷ [])
+  taken-so =
+      takes-widened place whole sets apart kept new fits clear (own ∙ sym (whole-same place whole sets is))
+      ∙ ap (λ t. if t then kept else filter (λ (b : BoxFrom). not (are_subsets b.code_box.sets new.code_box.sets)) kept ++ new ∷ []) (
+      ap (λ ss. list_any (λ (b : BoxFrom). is_compared apart b.origin && are_subsets ss b.code_box.sets) kept) (own ∙ sym told_are)
+      ∙ ap (λ (bs : List BoxFrom). list_any (λ (b : BoxFrom). is_compared apart b.origin && are_subsets told b.code_box.sets) bs) (sym seen_are) ∙ sym found_is
+      )
+
+  -- it lies inside one of them
+  pub takes-none : found ≡ true → with_from kept new ≡ kept
+  takes-none e = taken-so ∙ ap (λ t. if t then kept else filter (λ (b : BoxFrom). not (are_subsets b.code_box.sets new.code_box.sets)) kept ++ new ∷ []) e
+
+  -- or those that lie inside it are left out
+  pub takes-unchanged : found ≡ false → with_from kept new ≡ filter (λ (b : BoxFrom). not (are_subsets b.code_box.sets new.code_box.sets)) kept ++ new ∷ []
+  takes-unchanged e = taken-so ∙ ap (λ t. if t then kept else filter (λ (b : BoxFrom). not (are_subsets b.code_box.sets new.code_box.sets)) kept ++ new ∷ []) e
+
+  -- and there is none, where the boxes lie apart
+  pub takes-last : found ≡ false → apart ≡ true → with_from kept new ≡ kept ++ new ∷ []
+  takes-last e known =
+      takes-unchanged e ∙ ap (λ ss. filter (λ (b : BoxFrom). not (are_subsets b.code_box.sets ss)) kept ++ new ∷ []) own
+      ∙ ap (λ (ks : List BoxFrom). ks ++ new ∷ []) (none-inside place whole sets kept is (clear known))
 
 -- ---- an answer that is Ok
 
@@ -276,6 +285,11 @@ ok-same (Err e) xs ys zs same is = tt
 pub ok-so : {X E : Type 0} (P Q : X → Type 0) (r : Result X E) → ((x : X) → P x → Q x) → IfOk r P → IfOk r Q
 ok-so P Q (Ok x) so is = so x is
 ok-so P Q (Err e) so is = tt
+
+-- what a field that is changed leaves
+pub done-apart : (shape : List Domain) (boxes : List BoxFrom) (f : ℕ) (told : Covered) → IsDone told (IsElimination shape boxes f) → IsDone told (λ left pairs. LieApart left)
+done-apart shape boxes f (Done left pairs) are = subst (λ (bs : List BoxFrom). LieApart bs) (sym are.0) (apart-covered shape boxes f)
+done-apart shape boxes f Passed are = tt
 
 -- ---- boxes that are whole at a field, unchanged
 

@@ -39,7 +39,8 @@ with_code place whole boxes covers code = reduce_boxes (flat_map (joined_with pl
 abbrev pub covers_of : List Domain → List (List ℕ) → ℕ → List ℕ → List (List ℕ)
 covers_of shape boxes f codes = fold (with_code (place_of shape f) (whole_of shape f) boxes) (whole_sets shape ∷ []) codes
 
--- elimination of a categorical field: the boxes that are whole there, and the covers of the others (the edits that they imply, Fellegi and Holt 1976)
+-- elimination of a categorical field: the boxes that are whole there, and the covers of the others (the edits that
+-- they imply, Fellegi and Holt 1976)
 abbrev pub covered : List Domain → List (List ℕ) → ℕ → List (List ℕ)
 covered shape boxes f =
     reduce_boxes (filter (is_whole_at (place_of shape f) (whole_of shape f)) boxes ++ covers_of shape boxes f (codes_of shape f))

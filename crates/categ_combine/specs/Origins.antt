@@ -54,7 +54,8 @@ HaveInCommon boxes place code (i ∷ parts) sets common =
     IsSomeAnd (slice_get boxes i) (λ (b : BoxFrom). (has_code_at place code b.code_box.sets ≡ true)
     × HaveInCommon boxes place (suc code) parts (in_both sets b.code_box.sets) common)
 
--- there is one part for each code of the field, which has it, and the box is what the parts have in common, made whole at the field; no set of it is empty
+-- there is one part for each code of the field, which has it, and the box is what the parts have in common, made
+-- whole at the field; no set of it is empty
 pub record IsCover (shape : List Domain) (boxes : List BoxFrom) (f : ℕ) (parts : List ℕ) (box : BoxParts) : Type 0 where
   pub one_each : length parts ≡ size_of shape f
   pub common : List ℕ

@@ -2,6 +2,7 @@ ghost use Rattle.std.specs.Prelude.{◌≡◌, [], All, Err, IfOk, Ok, OnOk, ℕ
 ghost use Rattle.edit_model.specs.Rows.{IsRow};
 ghost use Rattle.edit_line.specs.Reductions.{lines_of};
 ghost use Rattle.edit_line.specs.Shapes.{shape_of};
+ghost use Rattle.categ_combine.specs.Apart.{LieApart};
 ghost use Rattle.categ_combine.specs.BoxLists.{AreBoxesOver, sets_of};
 ghost use Rattle.categ_combine.specs.FailingBoxes.{SayTheLines, failing_boxes, failing_from, line_fault, taken};
 ghost use Rattle.categ_combine.specs.Origins.{AllCome, ComesFromLine};
@@ -37,6 +38,7 @@ pub fn boxes_of(
         → failing_boxes (lines_of lines.now) row.now ≡ Err (line_fault line field) }
     ensures origins { IfOk result (λ boxes. AllCome (ComesFromLine lines.now row.now) boxes.items) }
     ensures forbid { IfOk result (λ boxes. SayTheLines (shape_of survey.now.fields) lines.now row.now boxes.items) }
+    ensures apart { IfOk result (λ boxes. LieApart boxes.items) }
 {
     let mut kept = Vec::new(alloc);
     for (i, derived) in lines.iter().enumerate() {

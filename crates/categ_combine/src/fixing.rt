@@ -1,16 +1,22 @@
-ghost use Rattle.std.specs.Prelude.{◌≡◌, IfOk, OnOk, slice_set};
-ghost use Rattle.std.specs.List.{fold};
+//! A code that is kept at a categorical field.
+ghost use Rattle.std.specs.Prelude.{◌≡◌, ◌&&◌, ◌++◌, [], ◌∷◌, All, IfOk, OnOk, if◌then◌else◌, not, slice_set, true};
+ghost use Rattle.std.specs.List.{filter, fold, list_any};
 ghost use Rattle.edit_line.specs.Boxes.{IsBox, box_of};
 ghost use Rattle.edit_line.specs.Domains.{domains};
+ghost use Rattle.edit_line.specs.Sets.{are_subsets};
+ghost use Rattle.categ_combine.specs.Apart.{LieApart};
 ghost use Rattle.categ_combine.specs.BoxLists.{AreBoxesOver, ForShape, HaveCode, SayWithCode, reduce_from, sets_of, with_from};
-ghost use Rattle.categ_combine.specs.inner.FitBoxes.{AreBoxes};
+ghost use Rattle.categ_combine.specs.Covers.{from_of, is_whole_at};
 ghost use Rattle.categ_combine.specs.Each.{each_from};
 ghost use Rattle.categ_combine.specs.Fixing.{fixed, fixed_from, fixed_one};
 ghost use Rattle.categ_combine.specs.Origins.{AllCome, ComesFromFix};
+ghost use Rattle.categ_combine.specs.inner.Clear.{IsClear, is_compared};
+ghost use Rattle.categ_combine.specs.inner.FitBoxes.{AreBoxes};
+ghost use Rattle.categ_combine.specs.declared.box_from.BoxOrigin.TheVariants.{Fixed, Unchanged};
 
 use crate::box_from::{BoxFrom, BoxOrigin};
 use crate::code_field::{set_at, spot_of};
-use crate::reduction::take_in;
+use crate::reduction::put_in;
 use crate::spot::Spot;
 use edit_line::{CodeBox, has_code};
 use foundation::OutOfMemory;
@@ -35,31 +41,60 @@ pub fn fix(
         sets_of left.items ≡ fixed shape (sets_of boxes.now) field code)) }
     ensures same { IfOk result (λ left. ForShape boxes.now field code (λ shape.
         SayWithCode shape boxes.now field code left.items)) }
+    ensures apart { IfOk result (λ left. LieApart left.items) }
 {
     match boxes.first() {
         None => Ok(Vec::new(alloc)),
         Some(first) => {
             let spot = spot_of(first.shape(), field);
-            fix_at(alloc, boxes, &spot, code)
+            fix_at(alloc, boxes, &spot, code, false)
         }
     }
 }
 
-// The boxes that the code leaves at the field that stands there.
+/// The boxes that a code leaves at a categorical field that keeps it, as [`fix`] tells them, of boxes of which none lies inside
+/// another. Those that are whole at the field stay as they were, so they are not compared with one another; at most fields most
+/// boxes are.
+pub fn fix_apart(
+    alloc: Global,
+    boxes: &[BoxFrom],
+    field: u32,
+    code: u8,
+) -> Result<Vec<BoxFrom>, OutOfMemory>
+    requires code { HaveCode boxes.now field code }
+    requires apart { LieApart boxes.now }
+    ensures exact { IfOk result (λ left. ForShape boxes.now field code (λ shape.
+        left.items ≡ fixed_from shape boxes.now field code)) }
+    ensures over { IfOk result (λ left. ForShape boxes.now field code (λ shape.
+        AreBoxesOver shape left.items)) }
+    ensures apart { IfOk result (λ left. LieApart left.items) }
+{
+    match boxes.first() {
+        None => Ok(Vec::new(alloc)),
+        Some(first) => {
+            let spot = spot_of(first.shape(), field);
+            fix_at(alloc, boxes, &spot, code, true)
+        }
+    }
+}
+
+// The boxes that the code leaves at the field that stands there. They may be known to lie apart: none inside another.
 fn fix_at(
     alloc: Global,
     boxes: &[BoxFrom],
     spot: &Spot,
     code: u8,
+    apart: bool,
 ) -> Result<Vec<BoxFrom>, OutOfMemory>
-    requires { AreBoxesOver (domains spot.now.shape) boxes.now }
+    requires over { AreBoxesOver (domains spot.now.shape) boxes.now }
+    requires apart { apart ≡ true → LieApart boxes.now }
     ensures left { IfOk result (λ left. left.items
         ≡ reduce_from (each_from (fixed_one spot.now.place spot.now.whole code) 0 boxes.now)) }
     ensures fit { OnOk result (AreBoxes boxes.now) }
 {
-    let mut kept = Vec::new(alloc);
+    let mut kept = Vec::with_capacity(alloc, boxes.len())?;
     for (i, b) in boxes.iter().enumerate() {
-        take_fixed(alloc, &mut kept, spot, code, i as u64, b)?;
+        take_fixed(alloc, &mut kept, spot, code, i as u64, b, apart)?;
     }
     Ok(kept)
 }
@@ -72,8 +107,10 @@ fn take_fixed(
     code: u8,
     i: u64,
     b: &BoxFrom,
+    apart: bool,
 ) -> Result<(), OutOfMemory>
-    requires { b.now.code_box.shape ≡ domains spot.now.shape }
+    requires shape { b.now.code_box.shape ≡ domains spot.now.shape }
+    requires clear { apart ≡ true → All (λ k. IsClear spot.now.place spot.now.whole k b.now.code_box.sets) kept.old.items }
     ensures kept { OnOk result (kept.new.items ≡ fold with_from kept.old.items (fixed_one spot.now.place spot.now.whole code i b.now)) }
     ensures fit { IsBox b.now.code_box }
 {
@@ -81,17 +118,94 @@ fn take_fixed(
     if !has_code(set, code) {
         return Ok(());
     }
-    let origin = if set == spot.whole {
-        BoxOrigin::Unchanged(i)
+    if set == spot.whole {
+        take_unchanged(alloc, kept, spot, i, b, apart)
     } else {
-        BoxOrigin::Fixed(i)
-    };
-    let code_box = made_whole(alloc, spot, b)?;
-    take_in(kept, BoxFrom { code_box, origin })
+        take_widened(alloc, kept, spot, i, b, apart)
+    }
 }
 
-/// The box with all codes of the field.
-pub(crate) fn made_whole(alloc: Global, spot: &Spot, b: &BoxFrom) -> Result<CodeBox, OutOfMemory>
+// Takes a box that is whole at the field into the kept ones.
+fn take_unchanged(
+    alloc: Global,
+    kept: &mut Vec<BoxFrom>,
+    spot: &Spot,
+    i: u64,
+    b: &BoxFrom,
+    apart: bool,
+) -> Result<(), OutOfMemory>
+    requires shape { b.now.code_box.shape ≡ domains spot.now.shape }
+    requires whole { is_whole_at spot.now.place spot.now.whole b.now.code_box.sets ≡ true }
+    requires clear { apart ≡ true → All (λ k. IsClear spot.now.place spot.now.whole k b.now.code_box.sets) kept.old.items }
+    ensures { OnOk result (kept.new.items ≡ with_from kept.old.items (from_of b.now.code_box.shape b.now.code_box.sets (Unchanged i))) }
+{
+    let _ = spot;
+    if lie_in_compared(b.sets(), kept, apart) {
+        return Ok(());
+    }
+    let new = BoxFrom {
+        code_box: b.code_box.copy(alloc)?,
+        origin: BoxOrigin::Unchanged(i),
+    };
+    if apart {
+        kept.push(new)?;
+        Ok(())
+    } else {
+        put_in(kept, new)
+    }
+}
+
+// Takes a box that is not whole at the field into the kept ones, made whole.
+fn take_widened(
+    alloc: Global,
+    kept: &mut Vec<BoxFrom>,
+    spot: &Spot,
+    i: u64,
+    b: &BoxFrom,
+    apart: bool,
+) -> Result<(), OutOfMemory>
+    requires shape { b.now.code_box.shape ≡ domains spot.now.shape }
+    requires clear { apart ≡ true → All (λ k. IsClear spot.now.place spot.now.whole k b.now.code_box.sets) kept.old.items }
+    ensures { OnOk result (kept.new.items ≡ with_from kept.old.items
+        (from_of b.now.code_box.shape (slice_set b.now.code_box.sets spot.now.place spot.now.whole) (Fixed i))) }
+{
+    let _sets = b.sets(); // read for what it says: its sets have no codes but their fields'
+    let widened = BoxFrom {
+        code_box: made_whole(alloc, spot, b)?,
+        origin: BoxOrigin::Fixed(i),
+    };
+    put_beside(kept, widened, apart)
+}
+
+// Takes the box in, unless it lies inside a kept one with which it is compared.
+fn put_beside(kept: &mut Vec<BoxFrom>, new: BoxFrom, apart: bool) -> Result<(), OutOfMemory>
+    ensures { OnOk result (kept.new.items ≡
+        (if list_any (λ b. is_compared apart b.origin && are_subsets new.code_box.sets b.code_box.sets) kept.old.items
+        then kept.old.items
+        else filter (λ b. not (are_subsets b.code_box.sets new.code_box.sets)) kept.old.items ++ new ∷ [])) }
+{
+    if lie_in_compared(new.sets(), kept, apart) {
+        return Ok(());
+    }
+    put_in(kept, new)
+}
+
+// Whether the sets lie inside those of a kept box with which they are compared.
+fn lie_in_compared(sets: &[u64], kept: &[BoxFrom], apart: bool) -> bool
+    ensures { result ≡ list_any (λ b. is_compared apart b.origin && are_subsets sets.now b.code_box.sets) kept.now }
+{
+    kept.iter().any(|b| is_compared(&b.origin, apart) && b.code_box.has_inside(sets))
+}
+
+// Whether a later box is compared with the kept one of this origin: where the boxes lie apart, if that was made whole.
+fn is_compared(origin: &BoxOrigin, apart: bool) -> bool
+    ensures { result ≡ is_compared apart origin.now }
+{
+    !apart || matches!(origin, BoxOrigin::Fixed(_))
+}
+
+// The box with all codes of the field.
+fn made_whole(alloc: Global, spot: &Spot, b: &BoxFrom) -> Result<CodeBox, OutOfMemory>
     requires { b.now.code_box.shape ≡ domains spot.now.shape }
     ensures { IfOk result (λ whole. whole ≡ box_of b.now.code_box.shape (slice_set b.now.code_box.sets spot.now.place spot.now.whole)) }
 {

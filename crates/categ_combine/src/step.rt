@@ -1,7 +1,8 @@
-ghost use Rattle.std.specs.Prelude.{◌≡◌, ◌<◌, ◌≤◌, ◌*◌, ◌↔◌, IfNone, IfOk, IfSome, OnOk, length};
+ghost use Rattle.std.specs.Prelude.{◌≡◌, ◌<◌, ◌≤◌, ◌*◌, ◌↔◌, ◌++◌, IfNone, IfOk, IfSome, OnOk, length, true};
 ghost use Rattle.std.specs.List.{filter, fold};
 ghost use Rattle.edit_line.specs.Boxes.{IsBox};
 ghost use Rattle.edit_line.specs.Domains.{domains};
+ghost use Rattle.categ_combine.specs.Apart.{LieApart};
 ghost use Rattle.categ_combine.specs.BoxLists.{AreBoxesOver, ForShape, HaveCodeField, SayWithSomeCode, reduce_from, sets_of, with_from};
 ghost use Rattle.categ_combine.specs.inner.FitBoxes.{AreBoxes};
 ghost use Rattle.categ_combine.specs.inner.SpotCovers.{cover_pairs, covers_at};
@@ -21,11 +22,11 @@ use edit_line::{CodeBox, Shape};
 use foundation::{OutOfMemory, Sequence};
 use std::alloc::Global;
 
-/// The covers that are left, and the pairs that were looked at.
+// The covers that are left, and the pairs that were looked at.
 #[derive(Debug, Drop)]
-pub(crate) struct Covers {
-    pub(crate) boxes: Vec<BoxFrom>,
-    pub(crate) pairs: u64,
+struct Covers {
+    boxes: Vec<BoxFrom>,
+    pairs: u64,
 }
 
 /// The boxes without a categorical field (Fellegi and Holt 1976): those that are whole there, and for
@@ -51,25 +52,52 @@ pub fn cat_step(
         IsDone told (λ left _. sets_of left ≡ covered shape (sets_of boxes.now) field))) }
     ensures same { IfOk result (λ told. ForShape boxes.now field 0 (λ shape.
         IsDone told (λ left _. SayWithSomeCode shape boxes.now field left))) }
+    ensures apart { IfOk result (λ told. IsDone told (λ left _. LieApart left)) }
 {
     match boxes.first() {
         None => Ok(Covered::Done {
             boxes: Sequence::from_vec(Vec::new(alloc)),
             pairs: 0,
         }),
-        Some(first) => step_over(alloc, first.shape(), boxes, field, most),
+        Some(first) => step_over(alloc, first.shape(), boxes, field, most, false),
     }
 }
 
-// The boxes without the field of the shape that they are over.
+/// The boxes without a categorical field, as [`cat_step`] tells them, of boxes of which none lies inside another. Those that are
+/// whole at the field stay as they were, so they are not compared with one another.
+pub fn step_apart(
+    alloc: Global,
+    boxes: &[BoxFrom],
+    field: u32,
+    most: u64,
+) -> Result<Covered, OutOfMemory>
+    requires field { HaveCodeField boxes.now field }
+    requires apart { LieApart boxes.now }
+    ensures exact { IfOk result (λ told. ForShape boxes.now field 0 (λ shape.
+        IsDone told (IsElimination shape boxes.now field))) }
+    ensures passed { IfOk result (λ told. ForShape boxes.now field 0 (λ shape.
+        IsPassed told ↔ (most < cover_count shape (sets_of boxes.now) field))) }
+    ensures over { IfOk result (λ told. ForShape boxes.now field 0 (λ shape.
+        IsDone told (λ left _. AreBoxesOver shape left))) }
+    ensures apart { IfOk result (λ told. IsDone told (λ left _. LieApart left)) }
+{
+    match boxes.first() {
+        None => cat_step(alloc, boxes, field, most),
+        Some(first) => step_over(alloc, first.shape(), boxes, field, most, true),
+    }
+}
+
+// The boxes without the field of the shape that they are over. They may be known to lie apart: none inside another.
 fn step_over(
     alloc: Global,
     shape: Shape,
     boxes: &[BoxFrom],
     field: u32,
     most: u64,
+    apart: bool,
 ) -> Result<Covered, OutOfMemory>
     requires over { AreBoxesOver (domains shape) boxes.now }
+    requires apart { apart ≡ true → LieApart boxes.now }
     requires field { TakesCodes (domains shape) field }
     ensures exact { IfOk result (λ told. IsDone told (IsElimination (domains shape) boxes.now field)) }
     ensures passed { IfOk result (λ told. IsPassed told ↔ (most < cover_count (domains shape) (sets_of boxes.now) field)) }
@@ -80,7 +108,7 @@ fn step_over(
     match covers_of(alloc, boxes, &spot, size, most)? {
         None => Ok(Covered::Passed),
         Some(covers) => {
-            let kept = with_covers(unchanged(alloc, boxes, &spot)?, covers.boxes)?;
+            let kept = with_all(unchanged(alloc, boxes, &spot, apart)?, covers.boxes)?;
             Ok(Covered::Done {
                 boxes: Sequence::from_vec(kept),
                 pairs: covers.pairs,
@@ -89,8 +117,8 @@ fn step_over(
     }
 }
 
-/// The covers of the first codes, up to `size` of them, or none where more pairs than `most` would be looked at.
-pub(crate) fn covers_of(
+// The covers of the first codes, up to `size` of them, or none where more pairs than `most` would be looked at.
+fn covers_of(
     alloc: Global,
     boxes: &[BoxFrom],
     spot: &Spot,
@@ -148,53 +176,68 @@ fn parts_for(boxes: &[BoxFrom], spot: &Spot, code: u8) -> usize
     boxes.iter().filter(|b| takes_part(b, spot, code)).count()
 }
 
-// The boxes that are whole at the field, without those that lie inside another.
-fn unchanged(alloc: Global, boxes: &[BoxFrom], spot: &Spot) -> Result<Vec<BoxFrom>, OutOfMemory>
-    requires { AreBoxesOver (domains spot.now.shape) boxes.now }
+// The boxes that are whole at the field, without those that lie inside another. Where the boxes lie apart, none does.
+fn unchanged(
+    alloc: Global,
+    boxes: &[BoxFrom],
+    spot: &Spot,
+    apart: bool,
+) -> Result<Vec<BoxFrom>, OutOfMemory>
+    requires over { AreBoxesOver (domains spot.now.shape) boxes.now }
+    requires apart { apart ≡ true → LieApart boxes.now }
     ensures kept { IfOk result (λ kept. kept.items ≡ reduce_from (each_from (unchanged_one spot.now.place spot.now.whole) 0 boxes.now)) }
     ensures fit { OnOk result (AreBoxes boxes.now) }
 {
-    let mut kept = Vec::new(alloc);
-    for (i, b) in boxes.iter().enumerate() {
-        take_unchanged(alloc, &mut kept, spot, i as u64, b)?;
+    let whole = whole_ones(alloc, boxes, spot)?;
+    if apart {
+        Ok(whole)
+    } else {
+        with_all(Vec::new(alloc), whole)
     }
-    Ok(kept)
 }
 
-// Takes the box at a place into the kept ones, where it is whole at the field.
-fn take_unchanged(
+// The boxes that are whole at the field.
+fn whole_ones(alloc: Global, boxes: &[BoxFrom], spot: &Spot) -> Result<Vec<BoxFrom>, OutOfMemory>
+    requires { AreBoxesOver (domains spot.now.shape) boxes.now }
+    ensures whole { IfOk result (λ whole. whole.items ≡ each_from (unchanged_one spot.now.place spot.now.whole) 0 boxes.now) }
+    ensures fit { OnOk result (AreBoxes boxes.now) }
+{
+    let mut whole = Vec::with_capacity(alloc, boxes.len())?;
+    for (i, b) in boxes.iter().enumerate() {
+        push_whole(alloc, &mut whole, spot, i as u64, b)?;
+    }
+    Ok(whole)
+}
+
+// Appends the box at a place where it is whole at the field.
+fn push_whole(
     alloc: Global,
-    kept: &mut Vec<BoxFrom>,
+    whole: &mut Vec<BoxFrom>,
     spot: &Spot,
     i: u64,
     b: &BoxFrom,
 ) -> Result<(), OutOfMemory>
     requires { b.now.code_box.shape ≡ domains spot.now.shape }
-    ensures kept { OnOk result (kept.new.items ≡ fold with_from kept.old.items (unchanged_one spot.now.place spot.now.whole i b.now)) }
+    ensures whole { OnOk result (whole.new.items ≡ whole.old.items ++ unchanged_one spot.now.place spot.now.whole i b.now) }
     ensures fit { IsBox b.now.code_box }
 {
     if set_at(b, spot) != spot.whole {
         return Ok(());
     }
     let code_box = b.code_box.copy(alloc)?;
-    take_in(
-        kept,
-        BoxFrom {
-            code_box,
-            origin: BoxOrigin::Unchanged(i),
-        },
-    )
+    whole.push(BoxFrom {
+        code_box,
+        origin: BoxOrigin::Unchanged(i),
+    })?;
+    Ok(())
 }
 
-/// The kept boxes with the covers, without those that lie inside another.
-pub(crate) fn with_covers(
-    mut kept: Vec<BoxFrom>,
-    covers: Vec<BoxFrom>,
-) -> Result<Vec<BoxFrom>, OutOfMemory>
-    ensures { IfOk result (λ all. all.items ≡ fold with_from kept.items covers.items) }
+// The kept boxes with these, without those that lie inside another.
+fn with_all(mut kept: Vec<BoxFrom>, boxes: Vec<BoxFrom>) -> Result<Vec<BoxFrom>, OutOfMemory>
+    ensures { IfOk result (λ all. all.items ≡ fold with_from kept.items boxes.items) }
 {
-    for cover in covers {
-        take_in(&mut kept, cover)?;
+    for b in boxes {
+        take_in(&mut kept, b)?;
     }
     Ok(kept)
 }

@@ -38,7 +38,7 @@ use Rattle.edit_paths.proofs.ClosingSteps.{closing-box, closing-line, only-kept}
 use Rattle.edit_paths.proofs.KeptLines.{asks-whole, kept-number}
 use Rattle.edit_paths.proofs.LetterLaws.{longer}
 use Rattle.edit_paths.proofs.LineHistories.{AreUsable}
-use Rattle.edit_paths.proofs.PathOrder.{before-chain, before-equal, before-total, first-equal, first-self, tells}
+use Rattle.edit_paths.proofs.PathOrder.{first-equal, first-self, tells}
 use Rattle.edit_paths.proofs.ReachedLaws.{empty-reached, next-reached, reached-sorted}
 
 -- The certificate of an outcome is a valid tree.

@@ -30,7 +30,7 @@ use Rattle.edit_paths.proofs.LetterLaws.{all-treated, taken-kept}
 use Rattle.edit_paths.proofs.OpenPaths.{open-point}
 use Rattle.edit_model.proofs.OrderLaws.{order-length}
 use Rattle.edit_line.proofs.FieldLists.{there-has}
-use Rattle.edit_paths.proofs.PathOrder.{before-chain, before-equal, before-extends, before-total, sum-less, tells}
+use Rattle.edit_paths.proofs.PathOrder.{before-chain, before-extends, before-total, sum-less, tells}
 use Rattle.edit_paths.proofs.ReachedLaws.{empty-reached, next-reached, reached-sorted}
 use Rattle.edit_line.proofs.FieldLists.{there-has}
 use Rattle.bound_cert.specs.declared.outcome.Outcome.TheVariants as outcome

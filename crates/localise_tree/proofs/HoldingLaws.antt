@@ -1,9 +1,8 @@
-use Rattle.std.proofs.Common.{◌≡◌, ◌≢◌, ◌↔◌, ◌==◌, ◌⊎◌, inl, inr, ℕ, zero, suc, ◌<◌, ◌&&◌, ◌||◌, Bool, true, false, not, if◌then◌else◌, nat_lt, List, [], ◌∷◌, All, Option, Some, None, Result, Ok, Err, length, slice_index_or, ℤ, pos, refl, sym, ap, ◌∙◌, subst, arith}
+use Rattle.std.proofs.Common.{◌≡◌, ◌≢◌, ◌==◌, inl, inr, ℕ, zero, suc, ◌<◌, ◌&&◌, ◌||◌, Bool, true, false, not, if◌then◌else◌, nat_lt, List, [], ◌∷◌, All, Option, Some, None, Result, Ok, Err, length, slice_index_or, pos, refl, sym, ap, ◌∙◌, subst, arith}
 use Rattle.std.specs.List.{filter, fold, list_all, list_any, position}
 use Rattle.foundation.specs.Results.{◌>>=◌, fault_as}
 use Rattle.edit_model.specs.Corrections.{is_numerical, path_order}
 use Rattle.edit_model.specs.Corrections as corrections
-use Rattle.edit_model.specs.Points.{HasCodesFrom, Point}
 use Rattle.edit_model.specs.RowPoints.{Agrees}
 use Rattle.edit_model.specs.Rows.{is_bad, value_of}
 use Rattle.edit_model.specs.declared.value.Value.TheVariants.{Bad}
@@ -15,7 +14,7 @@ use Rattle.edit_model.proofs.RowPointLaws.{point_of, point_of-agrees, point_of-c
 use Rattle.edit_line.specs.inner.LineFields.{HasNumbers}
 use Rattle.edit_line.specs.Boxes.{are_whole}
 use Rattle.edit_line.specs.EditSets.{base_lines}
-use Rattle.edit_line.specs.Lines.{AllHold, HasShape, IsEnough, LineHolds, LineParts, amount, factor}
+use Rattle.edit_line.specs.Lines.{HasShape, IsEnough, LineHolds, LineParts, amount, factor}
 use Rattle.edit_line.specs.Reductions.{IsIn, lines_of, reduce_derived}
 use Rattle.edit_line.specs.Sets.{AreCodesIn}
 use Rattle.edit_line.specs.Shapes.{Domain, codes_at, code_fields, has_field, number_fields, shape_of}
@@ -29,7 +28,7 @@ use Rattle.edit_line.proofs.Members.{all-in, in-all, in-any, in-map, in-map-out}
 use Rattle.edit_line.proofs.SetLaws.{both_true, is_inside-Decides}
 use Rattle.edit_line.proofs.SumCallers.{numbers-held}
 use Rattle.edit_line.proofs.SumLaws.{fails_at-truth}
-use Rattle.linear_elim.specs.Systems.{SystemOverflow, system_of}
+use Rattle.linear_elim.specs.Systems.{system_of}
 use Rattle.linear_elim.proofs.FoldLaws.{start-same}
 use Rattle.categ_combine.specs.FailingBoxes.{LineFault, failing_from, line_fault, taken}
 use Rattle.categ_combine.specs.declared.box_from.BoxFrom.{BoxFrom}
@@ -38,8 +37,7 @@ use Rattle.bound_cert.specs.declared.outcome.Event.{Event}
 use Rattle.edit_paths.specs.Cases.{SearchCase, IsCase, Meets}
 use Rattle.edit_paths.specs.Paths.{AgreesAlong, changed_numbers, number_count, treated_codes}
 use Rattle.edit_paths.specs.States.{IsOpen, asks_kept, boxes_after, closed_by, first_failing, first_whole, state_of, state_with_boxes, state_with_system}
-use Rattle.edit_paths.specs.declared.state.PathState.{PathState}
-use Rattle.edit_paths.specs.declared.state.PathState.TheVariants.{ClosedBad, ClosedBox, ClosedLine, Open, Overflows}
+use Rattle.edit_paths.specs.declared.state.PathState.TheVariants.{ClosedBad, Overflows}
 use Rattle.edit_paths.proofs.CaseSystems.{start_over}
 use Rattle.edit_paths.proofs.ClosedPaths.{closed-path}
 use Rattle.edit_paths.proofs.LetterLaws.{number-field}

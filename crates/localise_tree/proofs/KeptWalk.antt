@@ -1,12 +1,11 @@
-use Rattle.std.proofs.Common.{◌≡◌, ◌==◌, inl, inr, ℕ, zero, suc, ◌+◌, ◌-◌, ◌<◌, ◌≤◌, ◌++◌, ◌&&◌, ◌||◌, Bool, true, false, not, if◌then◌else◌, nat_lt, List, [], ◌∷◌, Option, Some, None, length, refl, sym, ap, ◌∙◌, subst, arith}
-use Rattle.std.specs.List.{AllByRecursion, filter, fold, list_any, sum_by}
+use Rattle.std.proofs.Common.{◌≡◌, ◌==◌, inl, inr, ℕ, zero, suc, ◌+◌, ◌-◌, ◌<◌, ◌≤◌, ◌++◌, ◌&&◌, ◌||◌, Bool, true, false, not, if◌then◌else◌, nat_lt, List, [], ◌∷◌, Some, None, length, refl, sym, ap, ◌∙◌, subst, arith}
+use Rattle.std.specs.List.{AllByRecursion, fold, list_any, sum_by}
 use Rattle.std.proofs.lemmas.Bool.Decides.{Decides-eqb, Decides-ltb}
 use Rattle.std.proofs.lemmas.List.{length-replicate}
 use Rattle.edit_model.specs.Corrections.{is_first, path_order}
 use Rattle.edit_model.specs.Words.{weight_at}
 use Rattle.edit_model.specs.FieldSets.{set_of}
 use Rattle.edit_line.specs.Reductions.{IsIn}
-use Rattle.bound_cert.specs.declared.cert.Cert.{Cert}
 use Rattle.bound_cert.specs.Paths.{changes, path_weight}
 use Rattle.bound_cert.specs.declared.cert.Leaf.{Leaf}
 use Rattle.bound_cert.specs.declared.cert.LeafWhy.TheVariants as why
@@ -18,7 +17,7 @@ use Rattle.edit_paths.specs.Outcomes.{end_at, end_by, outcome_of}
 use Rattle.edit_paths.specs.PathStates.{is_open}
 use Rattle.edit_paths.specs.Paths.{before_last, field_count, is_complete, last_field}
 use Rattle.edit_paths.specs.ReachedPaths.{changed_next, is_before, kept_next, placed}
-use Rattle.edit_paths.specs.States.{IsOpen, state_of}
+use Rattle.edit_paths.specs.States.{IsOpen}
 use Rattle.edit_paths.specs.Walks.{next_paths}
 use Rattle.edit_paths.specs.Works.{pairs_next, work_of, work_of_all}
 use Rattle.edit_paths.specs.declared.state.PathState.{PathState}

@@ -1,4 +1,4 @@
-use Rattle.std.specs.Prelude.{◌≡◌, ℕ, Bool, true, false, List, All, bit_and, nat_eq, slice_index_or, slice_set}
+use Rattle.std.specs.Prelude.{◌≡◌, ◌||◌, ℕ, not, Bool, true, false, List, All, bit_and, nat_eq, slice_index_or, slice_set}
 use Rattle.edit_line.specs.Reductions.{IsIn}
 use Rattle.edit_line.specs.Sets.{are_subsets}
 use Rattle.categ_combine.specs.Covers.{is_whole_at}
@@ -10,6 +10,10 @@ use Rattle.categ_combine.specs.declared.box_from.BoxOrigin.TheVariants.{Fixed}
 abbrev pub was_fixed : BoxOrigin → Bool
 was_fixed (Fixed i) = true
 was_fixed _ = false
+
+-- whether a later box is compared with a kept one of this origin: where the boxes lie apart, if that was made whole
+abbrev pub is_compared : Bool → BoxOrigin → Bool
+is_compared apart origin = not apart || was_fixed origin
 
 -- whether the box has no code at the place but those of the whole set
 abbrev pub is_within_at : ℕ → ℕ → List ℕ → Bool

@@ -4,7 +4,7 @@ ghost use Rattle.edit_line.specs.Shapes.{Numerical, domain_of, shape_of};
 
 use crate::{Level, write_steps};
 use categ_combine::{BoxFrom, BoxOrigin};
-use edit_line::{CodeBox, Edits, Line, Shape};
+use edit_line::{CodeBox, Edits, Line, Relation, Shape};
 use edit_model::{Field, FieldSet, Kind, Name, Survey};
 use foundation::{Sequence, Steps};
 use linear_elim::{Held, Recompute, Systems};
@@ -37,7 +37,13 @@ fn edit(alloc: Global, survey: &Survey, number: u32) -> Result<Arc<Edits>, Fail>
     requires { shape_of survey.now.fields ≡ Numerical ∷ [] }
     ensures { IfOk result (λ edits. (arc_value edits).shape ≡ Numerical ∷ []) }
 {
-    let line = Line::new(survey, Vec::new(alloc), vec![in alloc; 1]?, 0, false);
+    let line = Line::new(
+        survey,
+        Vec::new(alloc),
+        vec![in alloc; 1]?,
+        0,
+        Relation::AtLeast,
+    );
     let edits = Edits::new(alloc, survey, vec![in alloc; (number, line)]?)
         .ok()
         .ok_or("edits")?;

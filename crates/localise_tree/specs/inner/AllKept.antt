@@ -1,5 +1,5 @@
 -- The outcome of a record at which all lines hold.
-use Rattle.std.specs.Prelude.{ℕ, ◌&&◌, not, Bool, true, false, List, [], ◌∷◌, Result, Ok, Err, map, replicate}
+use Rattle.std.specs.Prelude.{ℕ, ◌&&◌, not, Bool, false, List, [], Result, Ok, Err, map, replicate}
 use Rattle.std.specs.List.{list_all, list_any}
 use Rattle.edit_model.specs.RowPoints.{code_in}
 use Rattle.edit_model.specs.Rows.{is_bad, value_of}

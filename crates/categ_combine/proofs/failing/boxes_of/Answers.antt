@@ -4,6 +4,7 @@ use Rattle.edit_line.specs.Shapes.{shape_of}
 use Rattle.categ_combine.specs.BoxLists.{sets_of}
 use Rattle.categ_combine.specs.FailingBoxes.{failing_from}
 use Rattle.categ_combine.specs.declared.box_from.BoxFrom.{BoxFrom}
+use Rattle.categ_combine.proofs.ApartLaws.{apart-failing}
 use Rattle.categ_combine.proofs.AvoidLaws.{failing-avoids}
 use Rattle.categ_combine.proofs.BoxOrigins.{failing-comes}
 use Rattle.categ_combine.proofs.FailingLaws.{failing-end, failing-fault, failing-faults, failing-next, failing-sets}
@@ -43,3 +44,8 @@ pub returns-clause-forbid : goal.returns-clause-forbid
 returns-clause-forbid c = λ p agree.
     let made = failing-sets c.args.lines.now c.args.row.now c.loop-i.kept.items (sym c.loop-i.invariant ∙ failing-end c.args.lines.now c.args.row.now c.loop-i.kept.items c.loop-i.i (omega arith)) in
     failing-avoids (shape_of c.args.survey.now.fields) c.args.row.now p c.args.lines.now (sets_of c.loop-i.kept.items) c.requires.shape (λ k d below. numbers-agreed c.args.survey.now.fields c.args.row.now (get_or c.args.lines.now k d).line p (c.requires.shape k d below) c.requires.row (agree k d below)) agree made
+
+pub returns-clause-apart : goal.returns-clause-apart
+returns-clause-apart c =
+    apart-failing 0 c.args.lines.now c.args.row.now [] c.loop-i.kept.items tt
+    (sym c.loop-i.invariant ∙ failing-end c.args.lines.now c.args.row.now c.loop-i.kept.items c.loop-i.i (omega arith))

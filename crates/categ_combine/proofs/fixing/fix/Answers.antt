@@ -1,10 +1,12 @@
 use Rattle.std.proofs.Common.{◌≡◌, sym, subst, ◌∙◌}
 use Rattle.edit_line.specs.Domains.{domains}
+use Rattle.categ_combine.specs.Apart.{LieApart}
 use Rattle.categ_combine.specs.BoxLists.{AreBoxesOver, ForShape, SayWithCode, reduce_from, sets_of}
 use Rattle.categ_combine.specs.inner.FitBoxes.{AreBoxes}
 use Rattle.categ_combine.specs.Each.{each_from}
 use Rattle.categ_combine.specs.Fixing.{fixed, fixed_one}
 use Rattle.categ_combine.specs.Origins.{AllCome, ComesFromFix}
+use Rattle.categ_combine.proofs.ApartLaws.{apart-reduced, ok-so}
 use Rattle.categ_combine.proofs.BoxOrigins.{fixed-comes}
 use Rattle.categ_combine.proofs.OverLaws.{over-fixed}
 use Rattle.categ_combine.proofs.StepLaws.{first-shape, fixed-exact, fixed-same, fixed-sets, if_ok}
@@ -60,3 +62,11 @@ returns-in-Some-clause-same c =
     λ left is fit. λ shape over below p held.
     fixed-same own shape boxes left.items c.args.field c.args.code spot.place spot.whole (c.shape.ensures ∙ first-shape boxes c.in-Some.first.now shape c.in-Some.ensures.value over) c.spot_of-spot.ensures.place c.spot_of-spot.ensures.whole is p over fit below held
     ) c.fix_at.ensures.left c.fix_at.ensures.fit
+
+pub returns-in-Some-clause-apart : goal.returns-in-Some-clause-apart
+returns-in-Some-clause-apart c =
+    let spot = c.spot_of-spot.result in
+    ok-so (λ left. left.items ≡ reduce_from (each_from (fixed_one spot.place spot.whole c.args.code) 0 c.args.boxes.now)) (λ left. LieApart left.items)
+    c.fix_at.result (
+    λ left is. subst (λ bs. LieApart bs) (sym is) (apart-reduced (each_from (fixed_one spot.place spot.whole c.args.code) 0 c.args.boxes.now))
+    ) c.fix_at.ensures.left

@@ -1,11 +1,13 @@
 use Rattle.std.proofs.Common.{◌≡◌, List, ap, arith, sym, subst, ◌∙◌}
 use Rattle.edit_line.specs.Domains.{domains}
+use Rattle.categ_combine.specs.Apart.{LieApart}
 use Rattle.categ_combine.specs.BoxLists.{AreBoxesOver, ForShape, SayWithSomeCode, sets_of}
 use Rattle.categ_combine.specs.inner.FitBoxes.{AreBoxes}
 use Rattle.categ_combine.specs.Covers.{IsElimination, cover_count, covered, covered_from}
 use Rattle.categ_combine.specs.Origins.{AllCome, ComesFromCover}
 use Rattle.categ_combine.specs.Steps.{IsDone}
 use Rattle.categ_combine.specs.declared.box_from.BoxFrom.{BoxFrom}
+use Rattle.categ_combine.proofs.ApartLaws.{done-apart, ok-so}
 use Rattle.categ_combine.proofs.BoxOrigins.{covered-comes, done-comes}
 use Rattle.categ_combine.proofs.OriginLaws.{sets-covered}
 use Rattle.categ_combine.proofs.OverLaws.{done-over, over-covered}
@@ -86,3 +88,9 @@ returns-in-Some-clause-same c =
     λ told are fit. λ shape over takes.
     done-same own shape boxes c.args.field (c.shape.ensures ∙ first-shape boxes c.in-Some.first.now shape c.in-Some.ensures.value over) over takes told are fit
     ) c.step_over.ensures.exact c.step_over.ensures.fit
+
+pub returns-in-Some-clause-apart : goal.returns-in-Some-clause-apart
+returns-in-Some-clause-apart c =
+    let own = domains c.shape.result in
+    ok-so (λ told. IsDone told (IsElimination own c.args.boxes.now c.args.field)) (λ told. IsDone told (λ left pairs. LieApart left))
+    c.step_over.result (λ told are. done-apart own c.args.boxes.now c.args.field told are) c.step_over.ensures.exact

@@ -1,4 +1,4 @@
-use Rattle.std.proofs.Common.{Bool, Result, Ok, ℕ, true, length, not, sym, ap, ◌∙◌, arith}
+use Rattle.std.proofs.Common.{Bool, Result, Ok, ℕ, length, not, sym, ap, ◌∙◌, arith}
 use Rattle.edit_model.specs.Corrections.{is_numerical}
 use Rattle.edit_model.proofs.OrderLaws.{numbers-below}
 use Rattle.edit_model.proofs.RowLaws.{row-length}

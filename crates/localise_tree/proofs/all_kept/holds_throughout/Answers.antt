@@ -1,4 +1,4 @@
-use Rattle.std.proofs.Common.{List, All, length, sym, subst, ap, ◌∙◌}
+use Rattle.std.proofs.Common.{List, All, sym, subst, ap, ◌∙◌}
 use Rattle.std.specs.Arc.{arc_value}
 use Rattle.edit_line.specs.EditSets.{EditsParts, base_lines}
 use Rattle.edit_line.specs.Lines.{HasShape}

@@ -1,4 +1,4 @@
-use Rattle.std.proofs.Common.{◌≡◌, ◌<◌, rules, List, true, length, sym, ap, ◌∙◌, arith}
+use Rattle.std.proofs.Common.{◌≡◌, ◌<◌, rules, List, true, length, ap, ◌∙◌}
 use Rattle.std.specs.Arc.{arc_value}
 use Rattle.edit_model.specs.declared.field.Field.{Field}
 use Rattle.edit_paths.specs.Cases.{case_of}

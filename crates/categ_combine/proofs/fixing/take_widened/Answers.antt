@@ -1,16 +1,15 @@
-use Rattle.std.proofs.Common.{List, [], ◌∷◌, slice_set, sym, ap, ◌∙◌}
+use Rattle.std.proofs.Common.{sym, ap, ◌∙◌}
 use Rattle.edit_line.specs.Boxes.{BoxParts}
 use Rattle.categ_combine.specs.BoxLists.{with_from}
-use Rattle.categ_combine.specs.declared.box_from.BoxFrom.{BoxFrom}
 use Rattle.categ_combine.specs.declared.box_from.BoxOrigin.TheVariants.{Fixed}
 use Rattle.categ_combine.proofs.ApartLaws.{ok-same, takes-widened, within-spot}
-use Rattle.categ_combine.proofs.fixing_apart.take_widened.Goals as goal
+use Rattle.categ_combine.proofs.fixing.take_widened.Goals as goal
 
 pub returns : goal.returns
 returns c =
     let fits = within-spot _ _ c.args.b.now.code_box.sets c.args.spot.now.place c.args.spot.now.whole c.args.spot.now.stands c.requires.shape c.sets-sets.ensures.fit in
     let own = ap (λ (x : BoxParts). x.sets) c.in_ok-made_whole.ensures in
-    ok-same c.put_beside_fixed.result c.put_beside_fixed.new.kept.items _ _
-    (sym (takes-widened c.args.spot.now.place c.args.spot.now.whole c.args.b.now.code_box.sets c.args.kept.now.items (record { code_box = c.in_ok-made_whole.field-0; origin = Fixed c.args.i }) fits c.requires.clear own)
+    ok-same c.put_beside.result c.put_beside.new.kept.items _ _
+    (sym (takes-widened c.args.spot.now.place c.args.spot.now.whole c.args.b.now.code_box.sets c.args.apart c.args.kept.now.items (record { code_box = c.in_ok-made_whole.field-0; origin = Fixed c.args.i }) fits c.requires.clear own)
     ∙ ap (λ (x : BoxParts). with_from c.args.kept.now.items (record { code_box = x; origin = Fixed c.args.i })) c.in_ok-made_whole.ensures)
-    c.put_beside_fixed.ensures
+    c.put_beside.ensures

@@ -1,7 +1,0 @@
-use Rattle.std.proofs.Common.{◌≡◌}
-use Rattle.std.specs.List.{fold}
-use Rattle.categ_combine.specs.BoxLists.{with_from}
-use Rattle.categ_combine.proofs.step.with_covers.Given as goal
-
-abbrev pub invariant-loop-cover : goal.invariant-loop-cover
-invariant-loop-cover l = l.kept.items ≡ fold with_from l.initial.kept.items l.yielded
