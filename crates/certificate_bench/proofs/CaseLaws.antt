@@ -1,4 +1,4 @@
-use Rattle.std.proofs.Common.{◌≡◌, ◌≢◌, ℕ, ℤ, zero, suc, ◌+◌, ◌<◌, ◌≤◌, All, AllPairs, List, [], ◌∷◌, ◌++◌, get_or, length, map, negsuc, pos, false, replicate, ap, refl, sym, ◌∙◌, subst, arith}
+use Rattle.std.proofs.Common.{◌≡◌, ◌≢◌, ℕ, ℤ, zero, suc, ◌+◌, ◌<◌, ◌≤◌, All, AllPairs, List, [], ◌∷◌, ◌++◌, get_or, length, map, negsuc, pos, replicate, ap, refl, sym, ◌∙◌, subst, arith}
 use Rattle.std.specs.List.{range_with_len}
 use Rattle.std.proofs.lemmas.List.{length-replicate}
 use Rattle.std.proofs.lemmas.List.Elements.{All-nil, All-push, All-replicate}
@@ -14,6 +14,7 @@ use Rattle.edit_model.specs.declared.value.Value.TheVariants.{Bad}
 use Rattle.edit_line.specs.Lines as lines
 use Rattle.edit_line.specs.Sets.{AreSets}
 use Rattle.edit_line.specs.Shapes.{numbers_from, shape_of, whole_sets}
+use Rattle.edit_line.specs.declared.relation.Relation.TheVariants.{AtLeast}
 use Rattle.certificate_bench.specs.inner.Cases.{false_line, field_named, fields_of}
 
 -- What the survey, the line and the record owe.
@@ -67,12 +68,13 @@ all-numbers at i zero = refl
 all-numbers at i (suc n) = ap suc (all-numbers (suc at) (i + 1) n)
 
 -- the false line is one over these fields
-pub false-line : (n : ℕ) (fields : List Field) (sets : List ℕ) (factors : List ℤ) → fields ≡ fields_of n → sets ≡ [] → factors ≡ replicate n (pos 0) → lines.IsLine (lines.parts_of (shape_of fields) sets factors (negsuc 0) false)
+pub false-line : (n : ℕ) (fields : List Field) (sets : List ℕ) (factors : List ℤ) → fields ≡ fields_of n → sets ≡ [] → factors ≡ replicate n (pos 0) → lines.IsLine (lines.parts_of (shape_of fields) sets factors (negsuc 0) AtLeast)
 false-line n fields sets factors same none zeros =
-    subst (λ (fs : List Field). lines.IsLine (lines.parts_of (shape_of fs) sets factors (negsuc 0) false)) (sym same) (record {
+    subst (λ (fs : List Field). lines.IsLine (lines.parts_of (shape_of fs) sets factors (negsuc 0) AtLeast)) (sym same) (record {
       sets = subst (λ (ss : List ℕ). AreSets ss (whole_sets (shape_of (fields_of n)))) (sym none) (subst (λ (ws : List ℕ). AreSets [] ws) (sym (no-sets 0 n)) tt);
       factors = ap (λ (fs : List ℤ). length fs) zeros ∙ length-replicate n (pos 0) ∙ sym (all-numbers 0 0 n);
       in_range = (subst (λ (fs : List ℤ). All InRange fs) (sym zeros) (All-replicate InRange n (pos 0) (omega arith)), omega arith);
+      whole = λ _. none ∙ sym (no-sets 0 n);
     })
 
 -- it alone is given, over these fields

@@ -12,7 +12,7 @@ ghost use Rattle.certificate_bench.specs.inner.Told.{IsVerdict};
 
 use crate::certificate::Plan;
 use bound_cert::{Cert, CertFault, check_cert};
-use edit_line::Line;
+use edit_line::{Line, Relation};
 use edit_model::{Field, Kind, Name, Row, Survey, Value};
 use foundation::OutOfMemory;
 use std::alloc::Global;
@@ -114,7 +114,7 @@ fn false_line(alloc: Global, survey: &Survey, count: usize) -> Result<Line, OutO
     ensures { IfOk result (λ line. line ≡ false_line count) }
 {
     let factors = vec![in alloc; 0; count]?;
-    Ok(Line::new(survey, Vec::new(alloc), factors, -1, false))
+    Ok(Line::new(survey, Vec::new(alloc), factors, -1, Relation::AtLeast))
 }
 
 // A record of which nothing is known.

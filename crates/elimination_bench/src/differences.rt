@@ -5,7 +5,7 @@ ghost use Rattle.edit_line.specs.Shapes.{Categorical, Numerical, domain_of, shap
 ghost use Rattle.edit_model.specs.Surveys.{IsField, is_letter};
 ghost use Rattle.elimination_bench.specs.inner.Differences.{count_of, difference, difference_line, differences, lower_field, next_draw, numbers_of, set_of, shape_with, upper_field};
 
-use edit_line::{Edits, Line, Shape};
+use edit_line::{Edits, Line, Relation, Shape};
 use edit_model::{Field, Kind, Name, Survey};
 use foundation::{OutOfMemory, Sequence};
 use std::alloc::Global;
@@ -69,7 +69,7 @@ impl Differences {
         let mut sets = Vec::new(alloc);
         sets.push(self.set(draw))?;
         let constant = i128::from(draw % 1000);
-        Ok(Line::over(shape, sets, factors, constant, false))
+        Ok(Line::over(shape, sets, factors, constant, Relation::AtLeast))
     }
 
     // The set of codes, as bits, of a line for which this number is drawn.

@@ -1,13 +1,16 @@
 //! Boxes of records, and what is left of them without a field.
-ghost use Rattle.std.specs.Prelude.{◌≡◌, ◌<◌, true};
+ghost use Rattle.std.specs.Prelude.{◌≡◌, ◌<◌, IfOk, true};
 ghost use Rattle.edit_line.specs.CodeFields.{size_of};
 ghost use Rattle.edit_line.specs.Domains.{domains};
+ghost use Rattle.categ_combine.specs.Apart.{LieApart};
 ghost use Rattle.categ_combine.specs.BoxLists.{AreBoxesOver};
 
 use super::reading::{
     EIGHT, HOUSEHOLD, LinePlan, derived_lines, planned_lines, row_of, rule_lines, survey_of,
 };
-use categ_combine::{BoxFault, BoxFrom, BoxOrigin, Covered, boxes_of, cat_step, fix};
+use categ_combine::{
+    BoxFault, BoxFrom, BoxOrigin, Covered, boxes_of, cat_step, fix, fix_apart, step_apart,
+};
 use edit_line::Relation::AtLeast;
 use edit_line::Shape;
 use edit_model::Value::{Bad, Code, Number};
@@ -42,7 +45,9 @@ fn boxes_at(
     survey: &Survey,
     lines: &[RuleLine],
     values: &[Value],
-) -> Result<Result<Vec<BoxFrom>, BoxFault>, Fail> {
+) -> Result<Result<Vec<BoxFrom>, BoxFault>, Fail>
+    ensures { IfOk result (λ told. IfOk told (λ boxes. LieApart boxes.items)) }
+{
     let lines = derived_lines(alloc, survey, lines)?;
     let row = row_of(alloc, survey, values)?;
     Ok(boxes_of(alloc, survey, &lines, &row))
@@ -63,6 +68,23 @@ fn without(
     Ok(cat_step(alloc, boxes, field, most).ok().ok_or("memory")?)
 }
 
+/// The boxes without the field, of boxes of which none lies inside another.
+fn without_apart(
+    alloc: Global,
+    survey: &Survey,
+    boxes: &[BoxFrom],
+    field: u32,
+    most: u64,
+) -> Result<Covered, Fail>
+    requires { LieApart boxes.now }
+{
+    let shape = Shape::of(survey);
+    if !has_code(&shape, field, 0) || !are_over(shape, boxes) {
+        return Err("boxes over a field of codes")?;
+    }
+    Ok(step_apart(alloc, boxes, field, most).ok().ok_or("memory")?)
+}
+
 /// What the code leaves of the boxes.
 fn left(
     alloc: Global,
@@ -76,6 +98,23 @@ fn left(
         return Err("boxes over a field that has the code")?;
     }
     Ok(fix(alloc, boxes, field, code)?)
+}
+
+/// What the code leaves of boxes of which none lies inside another.
+fn left_apart(
+    alloc: Global,
+    survey: &Survey,
+    boxes: &[BoxFrom],
+    field: u32,
+    code: u8,
+) -> Result<Vec<BoxFrom>, Fail>
+    requires { LieApart boxes.now }
+{
+    let shape = Shape::of(survey);
+    if !has_code(&shape, field, code) || !are_over(shape, boxes) {
+        return Err("boxes over a field that has the code")?;
+    }
+    Ok(fix_apart(alloc, boxes, field, code)?)
 }
 
 fn has_code(shape: &Shape, field: u32, code: u8) -> bool
@@ -96,13 +135,14 @@ fn are_over(shape: Shape, boxes: &[BoxFrom]) -> bool
 }
 
 /// The boxes of the household survey at a child that is a married spouse.
-fn boxes_of_a_child(alloc: Global, survey: &Survey) -> Result<Vec<BoxFrom>, Fail> {
+fn boxes_of_a_child(alloc: Global, survey: &Survey) -> Result<Vec<BoxFrom>, Fail>
+    ensures { IfOk result (λ boxes. LieApart boxes.items) }
+{
     let lines = rule_lines(alloc, survey)?;
-    Ok(
-        boxes_at(alloc, survey, &lines, &[Code(0), Code(1), Code(0)])?
-            .ok()
-            .ok_or("boxes")?,
-    )
+    match boxes_at(alloc, survey, &lines, &[Code(0), Code(1), Code(0)])? {
+        Ok(boxes) => Ok(boxes),
+        Err(_) => Err(Fail::from("boxes")),
+    }
 }
 
 #[test]
@@ -135,6 +175,40 @@ fn a_code_is_kept(rt: HostRuntime) -> Result<(), Fail> {
     let boxes = boxes_of_a_child(alloc, &survey)?;
     let left = left(alloc, &survey, &boxes, 0, 0)?;
     assert!(rt; are_boxes(&left, &[(&[3, 2, 3], b'X', &[0]), (&[3, 1, 1], b'U', &[1])]));
+    Ok(())
+}
+
+#[test]
+fn boxes_that_lie_apart_are_told_alike(rt: HostRuntime) -> Result<(), Fail> {
+    let alloc = rt.alloc();
+    let survey = survey_of(alloc, HOUSEHOLD)?;
+    let boxes = boxes_of_a_child(alloc, &survey)?;
+    let left = left_apart(alloc, &survey, &boxes, 0, 0)?;
+    assert!(rt; are_boxes(&left, &[(&[3, 2, 3], b'X', &[0]), (&[3, 1, 1], b'U', &[1])]));
+    match without_apart(alloc, &survey, &boxes, 1, 2)? {
+        Covered::Done { boxes, pairs } => {
+            assert!(rt; pairs == 2 && are_boxes(boxes.as_slice(), &[(&[1, 3, 1], b'C', &[1, 0])]));
+        }
+        Covered::Passed => return Err(Fail::from("one box")),
+    }
+    Ok(())
+}
+
+#[test]
+fn a_box_inside_another_is_left_out(rt: HostRuntime) -> Result<(), Fail> {
+    let alloc = rt.alloc();
+    let survey = survey_of(alloc, HOUSEHOLD)?;
+    let boxes = boxes_of_a_child(alloc, &survey)?;
+    let last = boxes.last().ok_or("a box")?;
+    let twice = vec![in alloc; last.copy(alloc)?, last.copy(alloc)?]?;
+    let left = left(alloc, &survey, &twice, 0, 0)?;
+    assert!(rt; are_boxes(&left, &[(&[3, 1, 1], b'U', &[0])]));
+    match without(alloc, &survey, &twice, 0, 0)? {
+        Covered::Done { boxes, pairs } => {
+            assert!(rt; pairs == 0 && are_boxes(boxes.as_slice(), &[(&[3, 1, 1], b'U', &[0])]));
+        }
+        Covered::Passed => return Err(Fail::from("one box")),
+    }
     Ok(())
 }
 

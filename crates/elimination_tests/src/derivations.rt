@@ -124,7 +124,11 @@ fn is_step(step: &Step, plan: &Plan) -> bool {
 
 /// Whether the steps are those of the plans.
 pub(crate) fn are_steps(steps: &[Step], plans: &[Plan]) -> bool {
-    steps.len() == plans.len() && steps.iter().zip(plans).all(|(step, plan)| is_step(step, plan))
+    steps.len() == plans.len()
+        && steps
+            .iter()
+            .zip(plans)
+            .all(|(step, plan)| is_step(step, plan))
 }
 
 #[test]

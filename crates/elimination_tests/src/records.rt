@@ -92,9 +92,17 @@ fn a_line_has_its_sum_at_a_record(rt: HostRuntime) -> Result<(), Fail> {
 fn a_line_is_negated(rt: HostRuntime) -> Result<(), Fail> {
     let alloc = rt.alloc();
     let line = line_of(alloc, &survey_of(alloc, EIGHT)?, &LINE)?;
+    let Above = line.relation() else {
+        return Err(Fail::from("a line that is to be above 0"));
+    };
     match line.negation(alloc)?.as_slice() {
         [contrary, never] => {
-            assert!(rt; is_line(contrary, &(&[0b111], &[-2, 0, 0, 0, 0, 0, -3, 5], 4, AtLeast)));
+            assert!(rt;
+                is_line(
+                    contrary,
+                    &(&[0b111], &[-2, 0, 0, 0, 0, 0, -3, 5], 4, AtLeast)
+                )
+            );
             assert!(rt; is_line(never, &(&[0b100], &[0; 8], -1, AtLeast)));
         }
         _ => return Err(Fail::from("two lines")),

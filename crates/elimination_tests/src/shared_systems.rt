@@ -6,6 +6,7 @@ ghost use Rattle.shared_edits.specs.Pools.{IsReaderOf};
 
 use super::reading::{LinePlan, TRADE, edits_of, is_line, number_set, rule_lines, survey_of};
 use edit_line::Edits;
+use edit_line::Relation::AtLeast;
 use edit_model::FieldSet;
 use foundation::Steps;
 use linear_elim::{Held, System, fold_system};
@@ -20,13 +21,13 @@ use std::thread::Threads;
 
 /// The lines without Costs.
 const WITHOUT_COSTS: &[LinePlan] = &[
-    (&[], &[1, 0, 0], 0, false),
-    (&[], &[3, 0, -5], 0, false),
-    (&[], &[1, 0, -1], 0, false),
+    (&[], &[1, 0, 0], 0, AtLeast),
+    (&[], &[3, 0, -5], 0, AtLeast),
+    (&[], &[1, 0, -1], 0, AtLeast),
 ];
 
 /// The line without Costs and Profit.
-const WITHOUT_BOTH: &[LinePlan] = &[(&[], &[1, 0, 0], 0, false)];
+const WITHOUT_BOTH: &[LinePlan] = &[(&[], &[1, 0, 0], 0, AtLeast)];
 
 /// The edits of the trade survey, and the sets of Costs and of Costs and Profit.
 #[derive(Drop)]
@@ -210,13 +211,7 @@ fn works<R: Wait, L: Ledger>(
 }
 
 /// The same, where nothing is counted.
-fn works_alone<R: Wait>(
-    rt: &R,
-    alloc: Global,
-    pool: &Pool,
-    reader: Reader,
-    trade: &Trade,
-) -> bool
+fn works_alone<R: Wait>(rt: &R, alloc: Global, pool: &Pool, reader: Reader, trade: &Trade) -> bool
     requires edits { pool.now.edits ≡ arc_value trade.now.edits }
     requires reader { IsReaderOf pool.now reader }
 {

@@ -1,4 +1,4 @@
-use Rattle.std.specs.Prelude.{ℕ, zero, suc, ◌+◌, true, false, List, [], ◌∷◌, None, map, negsuc, pos, replicate}
+use Rattle.std.specs.Prelude.{ℕ, zero, suc, ◌+◌, true, List, [], ◌∷◌, None, map, negsuc, pos, replicate}
 use Rattle.std.specs.List.{range_with_len}
 use Rattle.edit_model.specs.Parts.{survey_of}
 use Rattle.edit_model.specs.declared.field.Field.{Field}
@@ -7,6 +7,7 @@ use Rattle.edit_model.specs.declared.value.Value.{Value}
 use Rattle.edit_model.specs.declared.value.Value.TheVariants.{Bad}
 use Rattle.edit_line.specs.Lines as lines
 use Rattle.edit_line.specs.Shapes.{shape_of}
+use Rattle.edit_line.specs.declared.relation.Relation.TheVariants.{AtLeast}
 use Rattle.bound_cert.specs.ValidTrees.{TreeCase, tree_case}
 
 -- how many fields there are for a tree of this depth: one for each place of its paths, and one at least
@@ -24,13 +25,14 @@ fields_of count = map (λ i. field_named (97 + i)) (range_with_len 0 count)
 
 -- the line -1 >= 0 over these fields, which is false at every point
 abbrev pub false_line : ℕ → lines.LineParts
-false_line count = lines.parts_of (shape_of (fields_of count)) [] (replicate count (pos 0)) (negsuc 0) false
+false_line count = lines.parts_of (shape_of (fields_of count)) [] (replicate count (pos 0)) (negsuc 0) AtLeast
 
 -- a record of which nothing is known
 abbrev pub unknown_row : ℕ → List Value
 unknown_row count = replicate count Bad
 
--- what the certificate of this depth is about: such fields, that line, which is usable, and such a record, to which there is said to be no correction
+-- what the certificate of this depth is about: such fields, that line, which is usable, and such a record, to which
+-- there is said to be no correction
 abbrev pub case_of : ℕ → TreeCase
 case_of depth =
     let count = field_count depth in

@@ -1,6 +1,7 @@
-use Rattle.std.specs.Prelude.{ℕ, zero, suc, ◌+◌, ◌-◌, ◌*◌, ◌/◌, ◌%◌, false, List, [], ◌∷◌, ℤ, map, pos, negsuc, if◌then◌else◌, nat_lt, replicate, slice_set}
+use Rattle.std.specs.Prelude.{ℕ, zero, suc, ◌+◌, ◌-◌, ◌*◌, ◌/◌, ◌%◌, List, [], ◌∷◌, ℤ, map, pos, negsuc, if◌then◌else◌, nat_lt, replicate, slice_set}
 use Rattle.std.specs.List.{range_with_len}
 use Rattle.edit_line.specs.Lines.{LineParts, parts_of}
+use Rattle.edit_line.specs.declared.relation.Relation.TheVariants.{AtLeast}
 use Rattle.edit_line.specs.Shapes.{Categorical, Domain, Numerical}
 use Rattle.elimination_bench.specs.declared.differences.Differences.{Differences}
 use Rattle.elimination_bench.specs.declared.differences.Differences.TheVariants.{Coded, Plain}
@@ -49,7 +50,7 @@ difference n i j = slice_set (slice_set (replicate n (pos 0)) i (pos 1)) j (negs
 abbrev pub difference_line : Differences → ℕ → ℕ → LineParts
 difference_line system place draw =
     let n = numbers_of system in
-    parts_of (shape_with n) (set_of system draw ∷ []) (difference n (lower_field n place) (upper_field n place)) (pos (draw % 1000)) false
+    parts_of (shape_with n) (set_of system draw ∷ []) (difference n (lower_field n place) (upper_field n place)) (pos (draw % 1000)) AtLeast
 
 -- the line at a place, with the place as its number
 abbrev pub numbered_line : Differences → ℕ → ℕ × LineParts

@@ -27,6 +27,9 @@ Turnover - Costs - Profit = 0
 
 pub(crate) const SUM_OF_TEN: &str = "number A\nnumber B\nA + B = 10\n";
 
+/// Two equalities: their only point is `7,3`.
+const TWO_SUMS: &str = "number A\nnumber B\nA + B = 10\nA - B = 4\n";
+
 pub(crate) const HOUSEHOLD: &str = "code Age in {child, adult}
 code Status in {single, married}
 code Rel in {spouse, other}
@@ -102,21 +105,21 @@ const TRADE_ROWS: &[Worked] = &[
     (
         TRADE,
         "Turnover,Costs,Profit\n100,60,400\n",
-        7,
+        6,
         "change 1 KKC 4\nline KKK 1\ngiven 3\nbound KKC\nbound KC\nbound C\n",
     ),
     (
         TRADE,
         "Turnover,Costs,Profit\n100,60,400\n",
-        6,
+        5,
         "budget KKC 4\n",
     ),
     (
         TRADE,
         "Turnover,Costs,Profit\n100,30,70\n",
         1000,
-        "change 2 KCC 5\nline KKK 1\ngiven 5\nline KKC 3\ngiven 4\ngiven 5\ncombine 1 5 2 1 1\n\
-         line KCK 1\ngiven 5\nbound KCC\nbound C\n",
+        "change 2 KCC 5\nline KKK 1\ngiven 4\nline KKC 3\ngiven 3\ngiven 4\ncombine 1 -5 2 1 1\n\
+         line KCK 1\ngiven 4\nbound KCC\nbound C\n",
     ),
     (
         TRADE,
@@ -137,15 +140,23 @@ const SMALL_ROWS: &[Worked] = &[
         "number A\nnumber B weight 2\n3 A - B = 0\n",
         "A,B\n5,7\n",
         1000,
-        "change 1 CK 4\nline KK 1\ngiven 2\nbound KC\nbound CK\nbound CC\n",
+        "change 1 CK 4\nline KK 1\ngiven 1\nbound KC\nbound CK\nbound CC\n",
     ),
     (
         SUM_OF_TEN,
         "A,B\n3,4\n",
-        5,
+        4,
         "change 1 KC 3\nline KK 1\ngiven 1\nbound KC\nbound C\n",
     ),
-    (SUM_OF_TEN, "A,B\n3,4\n", 4, "budget KC 3\n"),
+    (SUM_OF_TEN, "A,B\n3,4\n", 3, "budget KC 3\n"),
+    (
+        TWO_SUMS,
+        "A,B\n1,1\n",
+        9,
+        "change 2 CC 4\nline KK 1\ngiven 1\nline KC 3\ngiven 1\ngiven 2\ncombine 1 1 2 1 2\n\
+         line CK 3\ngiven 1\ngiven 2\ncombine 1 -1 2 1 2\nbound CC\n",
+    ),
+    (TWO_SUMS, "A,B\n1,1\n", 8, "budget CC 8\n"),
     (
         "number A\nA >= 5\nA <= 3\n",
         "A\n4\n",
