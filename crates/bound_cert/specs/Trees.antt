@@ -26,7 +26,8 @@ all_kept path = list_all not path
 abbrev pub all_changed : List Bool → Bool
 all_changed path = list_all (λ changed. changed) path
 
--- whether the second path comes right after the first: they are alike up to a field that the first keeps and the second changes; behind it the first changes all its fields, and the second keeps all its own
+-- whether the second path comes right after the first: they are alike up to a field that the first keeps and the
+-- second changes; behind it the first changes all its fields, and the second keeps all its own
 abbrev pub comes_next : List Bool → List Bool → Bool
 comes_next (false ∷ first) (false ∷ second) = comes_next first second
 comes_next (true ∷ first) (true ∷ second) = comes_next first second

@@ -21,7 +21,8 @@ use Rattle.bound_cert.specs.declared.cert.LeafWhy.TheVariants as why
 use Rattle.bound_cert.specs.declared.fault.CertFault.{CertFault}
 use Rattle.bound_cert.specs.declared.fault.CertFault.TheVariants.{Bad}
 
--- what a tree is about: lines over a survey's fields, of which the usable ones are taken to hold, a record, and the weight that each change of it is said to have at least; without a weight there is said to be none
+-- what a tree is about: lines over a survey's fields, of which the usable ones are taken to hold, a record, and the
+-- weight that each change of it is said to have at least; without a weight there is said to be none
 pub record TreeCase : Type 0 where
   pub survey : SurveyParts
   pub given : List LineParts
@@ -33,7 +34,8 @@ pub record TreeCase : Type 0 where
 abbrev pub tree_case : SurveyParts → List LineParts → List Bool → List Value → Option ℕ → TreeCase
 tree_case survey given usable row weight = record { survey = survey; given = given; usable = usable; row = row; weight = weight }
 
--- no correction is lighter: each point at which the usable lines hold changes the record by the weight at least; without a weight, there is no such point
+-- no correction is lighter: each point at which the usable lines hold changes the record by the weight at least;
+-- without a weight, there is no such point
 abbrev pub NoneIsLighter : TreeCase → Type 0
 NoneIsLighter c = (p : Point)
     → HasCodesFrom 0 c.survey.fields p → AllHold (usable_lines c.given c.usable) p
@@ -45,7 +47,8 @@ NoneIsLighter c = (p : Point)
 abbrev pub premises_at : TreeCase → List Bool → Premises
 premises_at c path = premises_of (shape_of c.survey.fields) c.given c.usable c.row (kept_set c.survey.fields c.row path)
 
--- what was proved leaves no point that keeps what the path keeps: a line for all codes that fails at the kept fields, or a box with all codes
+-- what was proved leaves no point that keeps what the path keeps: a line for all codes that fails at the kept
+-- fields, or a box with all codes
 abbrev pub Refutes : Premises → Proved → Type 0
 Refutes p (proved.Line line) = (line.sets ≡ whole_sets p.shape) × (fails_at_kept p.row p.kept line ≡ true)
 Refutes p (proved.Box code_box) = code_box.sets ≡ whole_sets p.shape
@@ -83,7 +86,8 @@ invalid_step c path why.BadKept = None
 invalid_step c path (why.Line steps) = first_invalid (premises_at c path) steps
 invalid_step c path (why.Box steps) = first_invalid (premises_at c path) steps
 
--- of the leaves behind the one before, that at the place is the first whose path is not right, or which is not valid; then the step is its first invalid one, if there is one
+-- of the leaves behind the one before, that at the place is the first whose path is not right, or which is not
+-- valid; then the step is its first invalid one, if there is one
 abbrev pub IsFaultBehind : TreeCase → Option (List Bool) → List Leaf → ℕ → Option ℕ → Type 0
 IsFaultBehind c before [] place step = ⊥
 IsFaultBehind c before (leaf ∷ later) zero step =

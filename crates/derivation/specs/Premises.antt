@@ -9,7 +9,8 @@ use Rattle.edit_model.specs.declared.value.Value.TheVariants.{Bad}
 use Rattle.edit_line.specs.Lines.{LineParts}
 use Rattle.edit_line.specs.Shapes.{Domain, shape_of}
 
--- what steps may build on: lines over the fields of this shape, of which the usable ones are taken to hold, and a record with the set of fields, as bits, that keep its values
+-- what steps may build on: lines over the fields of this shape, of which the usable ones are taken to hold, and a
+-- record with the set of fields, as bits, that keep its values
 pub record Premises : Type 0 where
   pub shape : List Domain
   pub given : List LineParts

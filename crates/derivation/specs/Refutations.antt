@@ -38,7 +38,8 @@ abbrev pub trues : ℕ → List Bool
 trues zero = []
 trues (suc n) = true ∷ trues n
 
--- which lines are left for the one at a place: all before it, and of the later ones those that are kept. So no two lines are left for each other
+-- which lines are left for the one at a place: all before it, and of the later ones those that are kept. So no two
+-- lines are left for each other
 abbrev pub left_before : ℕ → List Bool → List Bool
 left_before place later = trues place ++ false ∷ later
 

@@ -7,7 +7,8 @@ use Rattle.derivation.specs.Premises.{AgreesAt, Premises, usable_lines}
 use Rattle.derivation.specs.declared.proved.Proved.{Proved}
 use Rattle.derivation.specs.declared.proved.Proved.TheVariants.{Box, Line}
 
--- what a proof of the line, or of the box, shows: the line follows from the usable lines; and no point at which these hold, and which has the record's values at the kept fields, has its codes in the box
+-- what a proof of the line, or of the box, shows: the line follows from the usable lines; and no point at which
+-- these hold, and which has the record's values at the kept fields, has its codes in the box
 abbrev pub IsShown : Premises → Proved → Type 0
 IsShown p (Line line) = Follows (usable_lines p.given p.usable) line
 IsShown p (Box code_box) = (point : Point)

@@ -56,7 +56,9 @@ combined_line m n g s t = only_if (may_combine m n g s t) (proved.Line (divided_
 
 -- ---- a line that fails at the kept fields
 
--- whether only fields of the set stand in the line, and its linear part is false at the record, where a value that is Bad counts as 0: so it is false at each point that has the record's values at these fields, where the record has them
+-- whether only fields of the set stand in the line, and its linear part is false at the record, where a value that
+-- is Bad counts as 0: so it is false at each point that has the record's values at these fields, where the record
+-- has them
 abbrev pub fails_at_kept : List Value → ℕ → LineParts → Bool
 fails_at_kept row kept line =
     stands_only (has_number kept) (number_fields line.shape) line.factors && result_unwrap_or (fails_at line row) false
@@ -85,7 +87,8 @@ common_from earlier at code (part ∷ parts) common =
 abbrev pub covered_sets : List Domain → ℕ → List ℕ → Option Proved
 covered_sets shape field common = only_if (none_is_empty (whole_at shape field common)) (whole_box shape field common)
 
--- the box of what the parts have in common on the other fields, whole at the field: with each code there, the codes are in a part. There is one part for each code of the field, in declared order
+-- the box of what the parts have in common on the other fields, whole at the field: with each code there, the codes
+-- are in a part. There is one part for each code of the field, in declared order
 abbrev pub covered_box : Premises → List Proved → ℕ → List ℕ → Option Proved
 covered_box p earlier field parts =
     if has_field (code_fields p.shape) field && (length parts == size_of p.shape field)

@@ -31,7 +31,8 @@ AgreesOnLine row p line = AtFactors (λ f. Agrees row p f) (number_fields line.s
 abbrev pub next_sum : ℤ → Value → Ratio → Option Ratio
 next_sum a v sum = if int_eq a (pos 0) then Some sum else sum_with sum a v
 
--- the sum so far, and the factors times the record's numbers at their fields, in declared order; or the first field at which a number leaves the range
+-- the sum so far, and the factors times the record's numbers at their fields, in declared order; or the first field
+-- at which a number leaves the range
 abbrev pub sum_from : List ℕ → List ℤ → List Value → Ratio → Result Ratio ℕ
 sum_from (f ∷ fields) (a ∷ factors) row sum = do
   next ← ok_or (next_sum a (value_of row f) sum) f

@@ -14,7 +14,8 @@ use Rattle.edit_model.specs.declared.rule.Term.{Term}
 use Rattle.edit_model.specs.declared.rule.Test.{Test}
 use Rattle.edit_model.specs.declared.rule.Test.TheVariants.{Number, Codes}
 
--- an assignment to all fields, by their numbers: a code where a field is categorical and a numerator where it is numerical, over one positive denominator for all
+-- an assignment to all fields, by their numbers: a code where a field is categorical and a numerator where it is
+-- numerical, over one positive denominator for all
 pub record Point : Type 0 where
   pub code : ℕ → ℕ
   pub numerator : ℕ → ℤ

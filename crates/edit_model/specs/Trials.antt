@@ -72,7 +72,8 @@ abbrev pub test_at : Test → List Value → Option Bool
 test_at (test.Number linear) row = trial_sum linear row >>? (λ sum. Some (compares linear.compare sum.numerator))
 test_at (test.Codes field negated set) row = Some (code_test negated set (code_in (value_of row field)))
 
--- the conditions are tried in order up to the first false one, and where none is false the conclusion is; None at a test whose sum leaves the range
+-- the conditions are tried in order up to the first false one, and where none is false the conclusion is; None at a
+-- test whose sum leaves the range
 abbrev pub tests_at : List Test → Test → List Value → Option Bool
 tests_at [] conclusion row = test_at conclusion row
 tests_at (condition ∷ conditions) conclusion row =

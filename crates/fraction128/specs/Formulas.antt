@@ -44,7 +44,8 @@ scaled x k =
     let q = int_div x.denominator common in
     if are_in_range (p ∷ q ∷ []) then Some (record { numerator = p; denominator = q }) else None
 
--- a fraction divided by a whole number other than 0, where what both share is divided out first; None where a number of the formula leaves the range
+-- a fraction divided by a whole number other than 0, where what both share is divided out first; None where a number
+-- of the formula leaves the range
 abbrev pub divided : Ratio → ℤ → Option Ratio
 divided x k =
     let common = int_gcd x.numerator k in

@@ -108,7 +108,8 @@ IsCoherentOutcome _ (Some fault) = ⊥
 abbrev pub IsCoherentRow : RowProof → Type 0
 IsCoherentRow row = IsCoherentOutcome row.outcome row.gift
 
--- each combination's factors and divisor are above 0, and of each row no more stands in the proof than its lines say
+-- each combination's factors are above 0 or in range, and its divisor is above 0; and of each row no more stands in the
+-- proof than its lines say
 pub record IsCoherent (p : Proof) : Type 0 where
   pub verdicts : AllByRecursion (λ v. IfSome v AreCoherentSteps) p.verdicts
   pub rows : AllByRecursion IsCoherentRow p.rows

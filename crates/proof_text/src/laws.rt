@@ -1,8 +1,8 @@
 ghost use Rattle.proof_text.specs.Sizes.{PlainLaw};
 
 /// Which proofs are plain: those whose numbers and lists have the sizes that `write_proof`
-/// promises, whose combinations have factors and divisors above 0, and whose rows hold no more than their lines
-/// say. Nothing is computed.
+/// promises, whose combinations have factors above 0 or in range and divisors above 0, and whose rows hold no more than their
+/// lines say. Nothing is computed.
 pub fn proof_laws()
     ensures plain { PlainLaw }
 {}

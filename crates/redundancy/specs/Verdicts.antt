@@ -113,4 +113,5 @@ AreEqualities lines verdicts =
 abbrev pub AreRefuted : List Field → List LineParts → List Verdict → Type 0
 AreRefuted fields lines verdicts =
     (j : ℕ) (line : LineParts) (steps : List Step) → slice_get lines j ≡ Some line → slice_get verdicts j ≡ Some (Dropped steps)
-    → (line.relation ≢ Equal) × RefutedBy (refutation_of (shape_of fields) lines (left_at (map keeps_line verdicts) j) line (no_values fields)) steps
+    → (line.relation ≢ Equal)
+    × RefutedBy (refutation_of (shape_of fields) lines (left_at (map keeps_line verdicts) j) line (no_values fields)) steps

@@ -9,7 +9,8 @@ use Rattle.cert_check.specs.Releases.{AreValidRows, IsFaultAmong, files_of}
 use Rattle.cert_check.specs.RowChecks.{RowFiles, RowRules}
 use Rattle.cert_check.specs.declared.row_check.RowFault.{RowFault}
 
--- what is said of all records is valid, or this is its first fault, with the number of lines that it stands behind the head of the first record
+-- what is said of all records is valid, or this is its first fault, with the number of lines that it stands behind
+-- the head of the first record
 abbrev pub FindsAmong : RowRules → List RowProof → List (List (List ℕ)) → List (List Value) → List (List (List ℕ))
     → Option RowFault → Type 0
 FindsAmong r saids row_texts rows released None = AreValidRows r saids row_texts rows released

@@ -39,7 +39,8 @@ AreRanked s nearest = nearest ≡ map (candidate_of (far_in s)) (ranking_in s)
 -- how many donors may be measured for it
 abbrev pub most_in : {F : Type 0} → Search F → ℕ
 most_in s =
-    most_asked (yardsticks_in s) s.sheet.now.rows s.deck.now.donors s.row.now s.kept s.near (index_field (yardsticks_in s) s.kept) (ranking_in s)
+    most_asked (yardsticks_in s) s.sheet.now.rows s.deck.now.donors s.row.now s.kept s.near
+    (index_field (yardsticks_in s) s.kept) (ranking_in s)
 
 -- the closure measures, the record and the donors can be measured, and the deck is one of these rows
 pub record IsSearch {F : Type 0} (calls : Shared F (ℕ × (Bor Value × (Bor Value × Unit {0}))) ℕ) (s : Search F) : Type 0 where

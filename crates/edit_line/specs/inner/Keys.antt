@@ -5,7 +5,8 @@ use Rattle.edit_line.specs.Lines.{LineParts}
 use Rattle.edit_line.specs.Subsumption.{subsumes}
 use Rattle.edit_line.specs.declared.derived.Derived.{Derived}
 
--- A key of a line's factors: lines with equal factors have equal keys, and a line without a factor has the key 0. So most lines need not be compared.
+-- A key of a line's factors: lines with equal factors have equal keys, and a line without a factor has the key 0. So
+-- most lines need not be compared.
 
 -- the key of some factors and one more
 abbrev pub key_with : ℕ → ℤ → ℕ
