@@ -1,24 +1,11 @@
-//! The program: it reads the words of the command line, fetches the files that they name, and edits the records,
-//! checks what was released of them, or says which rules follow from the others. Begin with [`run::fh_main`].
+//! The program: it takes the words of the command line, and has them served over the files of the system and standard
+//! output. What it serves is the call `fh_main` of the crate `edit_commands`.
 #![tactic(auto)]
 
-mod check_run;
-mod edit_run;
-mod fault;
-pub mod laws;
-mod reading;
-mod refusal;
-mod rules_run;
-pub mod run;
-pub mod status;
-mod storing;
-pub mod telling;
-#[cfg(test)]
-mod tests;
 mod words;
 
+use edit_commands::{Status, fh_main, refuse_words};
 use edit_desk::{FileDesk, OutPrinter};
-use status::Status;
 use std::process::ExitCode;
 
 fn main(rt: HostRuntime) -> ExitCode {
@@ -31,8 +18,8 @@ fn main(rt: HostRuntime) -> ExitCode {
     };
     let mut printer = OutPrinter::new(out);
     let status = match words::after_program_name(&rt) {
-        Ok(words) => run::fh_main(&rt, alloc, &words, &mut FileDesk::new(files), &mut printer),
-        Err(status) => telling::refuse_words(&mut printer, status),
+        Ok(words) => fh_main(&rt, alloc, &words, &mut FileDesk::new(files), &mut printer),
+        Err(status) => refuse_words(&mut printer, status),
     };
     ExitCode::from(status.number())
 }

@@ -1,0 +1,24 @@
+use Rattle.std.proofs.Common.{IfSome, subst}
+use Rattle.edit_desk.specs.Desk.{PutsOnRecord}
+use Rattle.command_words.specs.Asked.{RulesAsked}
+use Rattle.edit_commands.specs.Readings.{AnswersDue, IsRulesDue}
+use Rattle.edit_commands.specs.Run.{AreCallsTo}
+use Rattle.edit_commands.specs.RulesRun.{rules_calls}
+use Rattle.edit_commands.specs.declared.fault.Fault.TheVariants as fault
+use Rattle.edit_commands.specs.declared.status.Status.TheVariants as status
+use Rattle.command_words.proofs.AskedLaws.{rules_of}
+use Rattle.edit_commands.proofs.CallLaws.{less-calls}
+use Rattle.edit_commands.proofs.RulesLaws.{read-rules-due}
+use Rattle.edit_commands.proofs.ToldLaws.{each-told}
+use Rattle.edit_commands.proofs.rules_run.rules.Goals as goal
+
+pub returns-in_default-clause-asked : goal.returns-in_default-clause-asked
+returns-in_default-clause-asked g c =
+    rw c.out_of_memory.ensures
+    (subst (λ (a : RulesAsked). PutsOnRecord (g.D.Desk.calls c.args.desk.now) (g.D.Desk.calls c.fetch_survey.new.desk) (AreCallsTo (rules_calls a) fault.OutOfMemory)) c.asked.view_is
+    (less-calls (g.D.Desk.calls c.args.desk.now) _ (AreCallsTo (rules_calls (rules_of c.asked.inside.rules.now)) fault.OutOfMemory) (λ x e. (1, e)) c.in_ok-survey.ensures.asked))
+
+pub returns-clause-due : goal.returns-clause-due
+returns-clause-due g c =
+    subst (λ (a : RulesAsked). IfSome (g.D.Desk.files c.args.desk.now) (λ o. AnswersDue (IsRulesDue a o) status.Done)) c.asked.view_is
+    (each-told (g.D.Desk.files c.args.desk.now) (λ o held. read-rules-due (rules_of c.asked.inside.rules.now) o c.in_ok-survey.survey held status.Done) c.in_ok-survey.ensures.read)

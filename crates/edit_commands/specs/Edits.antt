@@ -1,0 +1,31 @@
+-- How an edit ends.
+use Rattle.std.specs.Prelude.{◌≡◌, ◌⊎◌, List}
+use Rattle.edit_model.specs.Parts.{SurveyParts}
+use Rattle.command_words.specs.Asked.{EditAsked}
+use Rattle.donor_book.specs.declared.claim.Entry.{Entry}
+use Rattle.record_text.specs.Sheets.{SheetParts}
+use Rattle.record_workers.specs.declared.terms.Terms.{Terms}
+use Rattle.edit_report.specs.declared.end.RowEnd.{RowEnd}
+use Rattle.edit_release.specs.Edits.{IsEditOf, Written}
+use Rattle.edit_release.specs.Releases.{AllGiven}
+use Rattle.edit_commands.specs.declared.status.Status.{Status}
+use Rattle.edit_commands.specs.declared.status.Status.TheVariants.{Done, SomeUnresolved}
+
+-- how an edit ends whose records end so: all are released, or some is left out
+abbrev pub IsStatusOf : List RowEnd → Status → Type 0
+IsStatusOf ends answer = ((answer ≡ Done) × AllGiven ends) ⊎ ((answer ≡ SomeUnresolved) × ¬ AllGiven ends)
+
+-- the edit of a sheet on these terms, which ends so, and what it writes and prints
+pub record IsEditWith (survey : SurveyParts) (sheet : SheetParts) (terms : Terms) (answer : Status) (written : Written) : Type 0 where
+  pub ends : List RowEnd
+  pub history : List Entry
+  pub edit : IsEditOf survey sheet terms ends history written
+  pub ended : IsStatusOf ends answer
+
+-- the terms that an edit is asked for
+abbrev pub terms_asked : EditAsked → Terms
+terms_asked asked = record { budget = asked.budget; limit = asked.limit; near = asked.near }
+
+-- the statuses of an edit that did all of this
+abbrev pub HasReleased : Status → Type 0
+HasReleased answer = (answer ≡ Done) ⊎ (answer ≡ SomeUnresolved)

@@ -1,0 +1,74 @@
+//! A run of `check`.
+ghost use Rattle.std.specs.Prelude.{◌≡◌, ◌≢◌, IfErr, IfOk, IfSome};
+ghost use Rattle.edit_desk.specs.Desk.{PutsOnRecord};
+ghost use Rattle.edit_commands.specs.CheckRun.{IsCheckComplete, IsCheckStopped, IsChecked, check_calls, valid_text};
+ghost use Rattle.edit_commands.specs.Faults.{IsOfCheck};
+ghost use Rattle.edit_commands.specs.Readings.{AnswersDue, IsCheckDue, RefusesCheck};
+ghost use Rattle.edit_commands.specs.Run.{ran};
+ghost use Rattle.edit_commands.specs.declared.fault.Fault.TheVariants as faults;
+ghost use Rattle.edit_commands.specs.inner.CheckParts.{Accepts};
+ghost use Rattle.edit_commands.specs.inner.Parts.{AreCallsOf, done_end, faults_after};
+
+use crate::fault::Fault;
+use crate::reading::{MOST_BYTES, MOST_PROOF_BYTES, fetch_file, fetch_sheet, fetch_survey};
+use crate::refusal::Refusal;
+use crate::status::Status;
+use crate::telling::{refuse, tell};
+use cert_check::check_all;
+use command_words::CheckWords;
+use edit_desk::{Desk, Printer};
+use std::alloc::Global;
+
+/// Checks what the words ask for, and prints that it is a valid release, or why the run is refused.
+pub(crate) fn run_check<D: Desk, P: Printer>(
+    alloc: Global,
+    asked: &CheckWords,
+    desk: &mut D,
+    printer: &mut P,
+) -> Status
+    ensures command { result ≢ Status.Usage }
+    ensures checked { result ≡ Status.Done → IsChecked asked.now (ran D.Desk P.Printer desk printer) }
+    ensures stopped { result ≢ Status.Done → IsCheckStopped asked.now result (ran D.Desk P.Printer desk printer) }
+    ensures complete { IsCheckComplete asked.now result (ran D.Desk P.Printer desk printer) }
+    ensures due { IfSome (D.files desk.old) (λ files. AnswersDue (IsCheckDue asked.now files) result) }
+{
+    match check(alloc, asked, desk) {
+        Ok(line) => tell(printer, &line, Status::Done),
+        Err(refusal) => refuse(printer, refusal.line(), refusal.status()),
+    }
+}
+
+// Does on the desk all that a check does there, up to the first fault, and gives the line that is printed.
+fn check<'a, D: Desk>(
+    alloc: Global,
+    asked: &CheckWords<'a>,
+    desk: &mut D,
+) -> Result<Vec<u8>, Refusal<'a>>
+    ensures kind { IfErr result IsOfCheck }
+    ensures accepted { IfOk result (λ line. Accepts asked.now (D.files desk.old) line.items) }
+    ensures cause { IfErr result (λ fault. IfSome (D.files desk.old) (λ files. RefusesCheck asked.now files fault)) }
+    ensures due { IfSome (D.files desk.old) (λ files. AnswersDue (IsCheckDue asked.now files) (done_end result)) }
+    ensures asked { PutsOnRecord (D.calls desk.old) (D.calls desk.new) (AreCallsOf (check_calls asked.now) result) }
+    ensures faults { D.faults desk.new ≡ faults_after result (D.faults desk.old) }
+    ensures unchanged { D.files desk.new ≡ D.files desk.old }
+{
+    let survey = fetch_survey(alloc, asked.rules, desk)?;
+    let sheet = fetch_sheet(alloc, asked.records, &survey, desk)?;
+    let released = fetch_file(alloc, asked.released, MOST_BYTES, desk)?;
+    let proof = fetch_file(alloc, asked.proof, MOST_PROOF_BYTES, desk)?;
+    match check_all(alloc, &survey, &sheet, &released, &proof) {
+        Ok(count) => valid_line(alloc, sheet.len(), count),
+        Err(fault) => Err(Refusal::of(alloc, Fault::from(fault))),
+    }
+}
+
+// The line that is printed of a valid release.
+fn valid_line<'a>(alloc: Global, records: u32, released: u32) -> Result<Vec<u8>, Refusal<'a>>
+    ensures line { IfOk result (λ line. line.items ≡ valid_text records released) }
+    ensures memory { IfErr result (λ fault. fault ≡ faults.OutOfMemory) }
+{
+    let Ok(line) = format!(in alloc; "valid records {records} released {released}") else {
+        return Err(Refusal::out_of_memory());
+    };
+    Ok(line.into_bytes())
+}

@@ -1,0 +1,116 @@
+//! A run of `edit`.
+ghost use Rattle.std.specs.Prelude.{◌≡◌, ◌≢◌, ℕ, List, IfErr, IfOk, IfSome};
+ghost use Rattle.std.specs.List.{AllByRecursion};
+ghost use Rattle.edit_desk.specs.Desk.{PutsOnRecord, Told};
+ghost use Rattle.edit_model.specs.PlainNumbers.{HasPlain};
+ghost use Rattle.edit_commands.specs.EditRun.{IsEditComplete, IsEditStopped, IsEdited, edit_calls};
+ghost use Rattle.edit_commands.specs.Edits.{HasReleased, terms_asked};
+ghost use Rattle.edit_commands.specs.Faults.{IsOfEdit};
+ghost use Rattle.edit_commands.specs.Readings.{AnswersDue, IsDue, Refuses};
+ghost use Rattle.edit_commands.specs.Run.{ran};
+ghost use Rattle.edit_commands.specs.inner.EditParts.{EditEnds, edit_end, edit_status};
+ghost use Rattle.edit_commands.specs.inner.Parts.{AreCallsOf, faults_after};
+ghost use Rattle.edit_release.specs.Releases.{IsReleaseOf};
+ghost use Rattle.record_text.specs.Sheets.{IsSheet};
+ghost use Rattle.record_workers.specs.Donations.{AreTerms};
+
+use crate::reading::{fetch_sheet, fetch_survey};
+use crate::refusal::Refusal;
+use crate::status::Status;
+use crate::storing::store_release;
+use crate::telling::{refuse, tell_all};
+use command_words::EditWords;
+use donor_measure::{Measure, field_distance};
+use edit_desk::{Desk, Printer};
+use edit_model::{Survey, Value};
+use edit_release::{Release, edit_sheet};
+use foundation::OutOfMemory;
+use record_text::Sheet;
+use record_workers::Terms;
+use std::alloc::Global;
+use std::sync::Wait;
+
+/// Edits what the words ask for, and prints the summary, or why the run is refused.
+pub(crate) fn run_edit<D: Desk, P: Printer, R: Wait>(
+    rt: &R,
+    alloc: Global,
+    asked: &EditWords,
+    desk: &mut D,
+    printer: &mut P,
+) -> Status
+    ensures command { result ≢ Status.Usage }
+    ensures edited { HasReleased result → IsEdited asked.now result (ran D.Desk P.Printer desk printer) }
+    ensures stopped { ¬ HasReleased result → IsEditStopped asked.now result (ran D.Desk P.Printer desk printer) }
+    ensures complete { IsEditComplete asked.now result (ran D.Desk P.Printer desk printer) }
+    ensures due { IfSome (D.files desk.old) (λ files. AnswersDue (IsDue asked.now files) result) }
+{
+    match edit(rt, alloc, asked, desk) {
+        Ok(release) => tell_all(printer, &release.summary, status_of(&release)),
+        Err(refusal) => refuse(printer, refusal.line(), refusal.status()),
+    }
+}
+
+// How an edit ends that did all on the desk.
+fn status_of(release: &Release) -> Status
+    ensures { result ≡ edit_status release.now }
+{
+    if release.whole {
+        Status::Done
+    } else {
+        Status::SomeUnresolved
+    }
+}
+
+// Does on the desk all that an edit does there, up to the first fault.
+fn edit<'a, D: Desk, R: Wait>(
+    rt: &R,
+    alloc: Global,
+    asked: &EditWords<'a>,
+    desk: &mut D,
+) -> Result<Release, Refusal<'a>>
+    ensures kind { IfErr result IsOfEdit }
+    ensures cause { IfErr result (λ fault. IfSome (D.files desk.old) (λ files. Refuses asked.now files fault)) }
+    ensures due { IfSome (D.files desk.old) (λ files. AnswersDue (IsDue asked.now files) (edit_end result)) }
+    ensures files { Told (D.files desk.old) (D.files desk.new) (EditEnds asked.now result) }
+    ensures asked { PutsOnRecord (D.calls desk.old) (D.calls desk.new) (AreCallsOf (edit_calls asked.now) result) }
+    ensures faults { D.faults desk.new ≡ faults_after result (D.faults desk.old) }
+{
+    let survey = fetch_survey(alloc, asked.rules, desk)?;
+    let sheet = fetch_sheet(alloc, asked.records, &survey, desk)?;
+    let Ok(release) = release_of(rt, alloc, &survey, &sheet, terms_asked(asked)) else {
+        return Err(Refusal::out_of_memory());
+    };
+    store_release(alloc, asked, &release, desk)?;
+    Ok(release)
+}
+
+// On what terms the records are edited.
+fn terms_asked(asked: &EditWords) -> Terms
+    ensures terms { result ≡ terms_asked asked.now }
+    ensures are { AreTerms result }
+{
+    Terms {
+        budget: asked.budget,
+        limit: asked.limit,
+        near: asked.near,
+    }
+}
+
+// What the edit of the sheet releases. How far records are apart is told by the distances of their fields' values.
+fn release_of<R: Wait>(
+    rt: &R,
+    alloc: Global,
+    survey: &Survey,
+    sheet: &Sheet,
+    terms: Terms,
+) -> Result<Release, OutOfMemory>
+    requires read { (bytes : List ℕ) × IsSheet survey.now.fields bytes sheet.now }
+    requires plain { AllByRecursion HasPlain sheet.now.rows }
+    requires terms { AreTerms terms }
+    ensures edit { IfOk result (IsReleaseOf survey.now sheet.now terms) }
+{
+    let measure = Measure::new(survey, |field: u32, first: &Value, second: &Value| {
+        field_distance(survey, field, first, second)
+    });
+    edit_sheet(rt, alloc, survey, sheet, &measure, terms)
+}

@@ -1,0 +1,20 @@
+//! The commands of the program, over any desk and any printer: an edit of the records, a check of what was released of
+//! them, and which rules follow from the others. Begin with [`fh_main`].
+#![tactic(auto)]
+
+mod check_run;
+mod edit_run;
+mod fault;
+mod laws;
+mod reading;
+mod refusal;
+mod rules_run;
+mod run;
+mod status;
+mod storing;
+mod telling;
+
+pub use laws::edit_laws;
+pub use run::fh_main;
+pub use status::Status;
+pub use telling::refuse_words;

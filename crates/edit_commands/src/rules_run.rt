@@ -1,0 +1,76 @@
+//! A run of `rules`.
+ghost use Rattle.std.specs.Prelude.{◌≡◌, ◌≢◌, IfErr, IfOk, IfSome};
+ghost use Rattle.edit_desk.specs.Desk.{PutsOnRecord};
+ghost use Rattle.edit_commands.specs.Faults.{IsOfRulesCommand};
+ghost use Rattle.edit_commands.specs.Readings.{AnswersDue, IsRulesDue, RefusesRulesCommand};
+ghost use Rattle.edit_commands.specs.RulesRun.{IsReport, IsRuled, IsRulesComplete, IsRulesStopped, report_of, rules_calls};
+ghost use Rattle.edit_commands.specs.Run.{ran};
+ghost use Rattle.edit_commands.specs.inner.Parts.{AreCallsOf, done_end, faults_after, texts_in};
+ghost use Rattle.derivation.specs.Refutations.{AllFollow};
+ghost use Rattle.edit_normal.specs.RuleLines.{normal_lines_of};
+ghost use Rattle.redundancy.specs.Verdicts.{AreEqualities, AreNeeded, AreRefuted};
+ghost use Rattle.pruned_rules.specs.Pruned.{rule_flags, rule_verdicts};
+
+use crate::reading::fetch_survey;
+use crate::refusal::Refusal;
+use crate::status::Status;
+use crate::telling::{refuse, tell_all};
+use command_words::RulesWords;
+use edit_desk::{Desk, Printer};
+use edit_model::Survey;
+use foundation::OutOfMemory;
+use pruned_rules::prune_rules;
+use rule_report::report;
+use std::alloc::Global;
+
+/// Prints what becomes of each line of the rules that the words name, or why the run is refused.
+pub(crate) fn run_rules<D: Desk, P: Printer>(
+    alloc: Global,
+    asked: &RulesWords,
+    desk: &mut D,
+    printer: &mut P,
+) -> Status
+    ensures command { result ≢ Status.Usage }
+    ensures ruled { result ≡ Status.Done → IsRuled asked.now (ran D.Desk P.Printer desk printer) }
+    ensures stopped { result ≢ Status.Done → IsRulesStopped asked.now result (ran D.Desk P.Printer desk printer) }
+    ensures complete { IsRulesComplete asked.now result (ran D.Desk P.Printer desk printer) }
+    ensures due { IfSome (D.files desk.old) (λ files. AnswersDue (IsRulesDue asked.now files) result) }
+{
+    match rules(alloc, asked, desk) {
+        Ok(lines) => tell_all(printer, &lines, Status::Done),
+        Err(refusal) => refuse(printer, refusal.line(), refusal.status()),
+    }
+}
+
+// Does on the desk all that the command does there, up to the first fault, and gives the lines that are printed.
+fn rules<'a, D: Desk>(
+    alloc: Global,
+    asked: &RulesWords<'a>,
+    desk: &mut D,
+) -> Result<Vec<Vec<u8>>, Refusal<'a>>
+    ensures kind { IfErr result IsOfRulesCommand }
+    ensures reported { IfOk result (λ lines. IfSome (D.files desk.old) (λ files. IsReport asked.now files (texts_in lines.items))) }
+    ensures cause { IfErr result (λ fault. IfSome (D.files desk.old) (λ files. RefusesRulesCommand asked.now files fault)) }
+    ensures due { IfSome (D.files desk.old) (λ files. AnswersDue (IsRulesDue asked.now files) (done_end result)) }
+    ensures asked { PutsOnRecord (D.calls desk.old) (D.calls desk.new) (AreCallsOf (rules_calls asked.now) result) }
+    ensures faults { D.faults desk.new ≡ faults_after result (D.faults desk.old) }
+    ensures unchanged { D.files desk.new ≡ D.files desk.old }
+{
+    let survey = fetch_survey(alloc, asked.rules, desk)?;
+    let Ok(lines) = lines_of(alloc, &survey) else {
+        return Err(Refusal::out_of_memory());
+    };
+    Ok(lines)
+}
+
+// The lines that are printed of the survey's rules.
+fn lines_of(alloc: Global, survey: &Survey) -> Result<Vec<Vec<u8>>, OutOfMemory>
+    ensures texts { IfOk result (λ lines. texts_in lines.items ≡ report_of survey.now) }
+    ensures dropped { IfOk result (λ lines. AllFollow (normal_lines_of survey.now) (rule_flags survey.now)) }
+    ensures needed { IfOk result (λ lines. AreNeeded survey.now.fields (normal_lines_of survey.now) (rule_verdicts survey.now)) }
+    ensures refuted { IfOk result (λ lines. AreRefuted survey.now.fields (normal_lines_of survey.now) (rule_verdicts survey.now)) }
+    ensures equalities { IfOk result (λ lines. AreEqualities (normal_lines_of survey.now) (rule_verdicts survey.now)) }
+{
+    let pruned = prune_rules(alloc, survey)?;
+    report(alloc, survey, &pruned.lines, &pruned.verdicts)
+}

@@ -1,0 +1,87 @@
+ghost use Rattle.std.specs.Prelude.{◌≡◌, ◌≢◌, ◌↔◌, IfSome};
+ghost use Rattle.command_words.specs.Asked.{ForCheck, ForEdit, ForRules, IsNoCommand};
+ghost use Rattle.edit_commands.specs.CheckRun.{IsCheckComplete, IsCheckStopped, IsChecked};
+ghost use Rattle.edit_commands.specs.EditRun.{IsEditComplete, IsEditStopped, IsEdited};
+ghost use Rattle.edit_commands.specs.Edits.{HasReleased};
+ghost use Rattle.edit_commands.specs.Readings.{AnswersDue, IsCheckDue, IsDue, IsRulesDue};
+ghost use Rattle.edit_commands.specs.RulesRun.{IsRuled, IsRulesComplete, IsRulesStopped};
+ghost use Rattle.edit_commands.specs.Run.{IsUsage, ran};
+
+use crate::check_run::run_check;
+use crate::edit_run::run_edit;
+use crate::fault::USAGE;
+use crate::rules_run::run_rules;
+use crate::status::Status;
+use crate::telling::refuse;
+use command_words::{check_asked, edit_asked, rules_asked};
+use edit_desk::{Desk, Printer};
+use std::alloc::Global;
+use std::sync::Wait;
+
+/// Serves the words after the program's name, over a desk and a printer. `edit` fetches and reads the rules, then
+/// the records, corrects each record at the least weight, stores the proof, the reasons and the released file, and
+/// prints a summary. `check` fetches and reads the rules, then the records, fetches the released file, then the proof,
+/// and prints whether they are a valid release. `rules` fetches and reads the rules, and prints what becomes of each of
+/// their lines. The first refusal in this order ends the call, and is printed.
+pub fn fh_main<D: Desk, P: Printer, R: Wait>(
+    rt: &R,
+    alloc: Global,
+    words: &[String],
+    desk: &mut D,
+    printer: &mut P,
+) -> Status
+    // `ran` is what the desk and the printer tell when the call begins, and when it returns.
+
+    // The words are no command.
+    ensures usage { (result ≡ Status.Usage) ↔ IsNoCommand words.now }
+    ensures unasked { result ≡ Status.Usage → IsUsage (ran D.Desk P.Printer desk printer) }
+
+    // The release guarantee: what stands in the three files, and what was printed, where an edit ends with 0 or 1.
+    ensures edited { HasReleased result → ForEdit words.now (λ ask. IsEdited ask result (ran D.Desk P.Printer desk printer)) }
+
+    // Where it ends otherwise: the fault that ended it, where it ended, what is left and what was printed.
+    ensures edit_stopped { ¬ HasReleased result → ForEdit words.now (λ ask. IsEditStopped ask result (ran D.Desk P.Printer desk printer)) }
+
+    // Where both files have readings and no fault is met, the edit is done, but for want of memory.
+    ensures edit_complete { ForEdit words.now (λ ask. IsEditComplete ask result (ran D.Desk P.Printer desk printer)) }
+
+    // A file that is too long or has no reading is told exactly where it is so.
+    ensures edit_due { ForEdit words.now (λ ask. IfSome (D.files desk.old) (λ files. AnswersDue (IsDue ask files) result)) }
+
+    // The audit: what the files are, and what they show, where a check ends with 0.
+    ensures checked { result ≡ Status.Done → ForCheck words.now (λ ask. IsChecked ask (ran D.Desk P.Printer desk printer)) }
+
+    // Where it ends otherwise: the fault that ended it, where it ended, and what was printed; no file is changed.
+    ensures check_stopped { result ≢ Status.Done → ForCheck words.now
+        (λ ask. IsCheckStopped ask result (ran D.Desk P.Printer desk printer)) }
+
+    // Where the files are a valid release and no fault is met, the check is done, but for want of memory.
+    ensures check_complete { ForCheck words.now (λ ask. IsCheckComplete ask result (ran D.Desk P.Printer desk printer)) }
+
+    // Files that are too long, have no reading or are no valid release are told exactly where they are so.
+    ensures check_due { ForCheck words.now (λ ask. IfSome (D.files desk.old) (λ files. AnswersDue (IsCheckDue ask files) result)) }
+
+    // Redundant rules: what is printed of the lines, and what it means, where `rules` ends with 0.
+    ensures ruled { result ≡ Status.Done → ForRules words.now (λ ask. IsRuled ask (ran D.Desk P.Printer desk printer)) }
+
+    // Where it ends otherwise: the fault that ended it, where it ended, and what was printed; no file is changed.
+    ensures rules_stopped { result ≢ Status.Done → ForRules words.now
+        (λ ask. IsRulesStopped ask result (ran D.Desk P.Printer desk printer)) }
+
+    // Where the rules have a reading and no fault is met, `rules` is done, but for want of memory.
+    ensures rules_complete { ForRules words.now (λ ask. IsRulesComplete ask result (ran D.Desk P.Printer desk printer)) }
+
+    // Rules that are too long or have no reading are told exactly where they are so.
+    ensures rules_due { ForRules words.now (λ ask. IfSome (D.files desk.old) (λ files. AnswersDue (IsRulesDue ask files) result)) }
+{
+    if let Some(asked) = edit_asked(words) {
+        return run_edit(rt, alloc, &asked, desk, printer);
+    }
+    if let Some(asked) = check_asked(words) {
+        return run_check(alloc, &asked, desk, printer);
+    }
+    if let Some(asked) = rules_asked(words) {
+        return run_rules(alloc, &asked, desk, printer);
+    }
+    refuse(printer, USAGE, Status::Usage)
+}
