@@ -11,8 +11,7 @@ use std::test::Fail;
 /// `A + B = 10`, and the record `3,4`, of which B is changed.
 const SUM_OF_TEN: &[u8] = b"fh-proof 1
 limit 1 near 5 budget 1000000
-lines 2
-keep
+lines 1
 keep
 records 1
 change 1 KC 3
@@ -40,8 +39,8 @@ const ROWS: &[&[u8]] = &[
 ];
 
 /// The steps that drop the second of two lines of a trade survey.
-const DROPPED: &[u8] = b"drop 9\ngiven 1\ngiven 4\ncombine 1 1 2 1 1\ngiven 6\ncombine 3 1 4 1 1\n\
-    given 5\ncombine 6 1 2 3 1\ncombine 7 1 4 3 2\ncombine 5 1 8 1 1\n";
+const DROPPED: &[u8] = b"drop 9\ngiven 3\ngiven 1\ncombine 1 -1 2 1 1\ngiven 5\ncombine 3 1 4 1 1\n\
+    given 4\ncombine 1 -3 6 1 1\ncombine 7 1 4 3 2\ncombine 5 1 8 1 1\n";
 
 /// Whether the text is read, and what is read is written as the text.
 fn is_read_and_written(alloc: Global, text: &[u8]) -> Result<bool, OutOfMemory> {
@@ -116,7 +115,6 @@ fn row(alloc: Global) -> Result<RowProof, OutOfMemory> {
 /// The proof of the record `3,4`.
 fn sum_of_ten(alloc: Global) -> Result<Proof, OutOfMemory> {
     let mut verdicts = Vec::new(alloc);
-    verdicts.push(None)?;
     verdicts.push(None)?;
     let claim = Entry {
         row_no: 0,

@@ -1,0 +1,178 @@
+Printed lines that fail, each in its turn. The files are stored then, and the status is 6, whatever it had been; but a
+refusal keeps its own.
+
+  $ cat >rules <<EOF
+  > number Turnover weight 2
+  > number Costs
+  > number Profit
+  > Turnover >= 0
+  > Costs >= 0
+  > Turnover - Costs - Profit = 0
+  > 10 Profit <= 6 Turnover
+  > EOF
+  $ cat >records <<EOF
+  > Turnover,Costs,Profit
+  > 100,60,400
+  > EOF
+
+A summary that can't be printed: all three files are whole.
+
+  $ fail line 1
+  $ forxainde edit --rules rules --records records --released released --reasons reasons --proof proof
+  [6]
+  $ cat released
+  Turnover,Costs,Profit
+  100,60,40
+  $ cat reasons
+  record,cause,field,before,after,donor,detail
+  1,changed,Profit,400,40,,nearest
+  $ cat proof
+  fh-proof 1
+  limit 1 near 5 budget 1000000
+  lines 4
+  keep
+  drop 9
+  given 3
+  given 1
+  combine 1 -1 2 1 1
+  given 5
+  combine 3 1 4 1 1
+  given 4
+  combine 1 -3 6 1 1
+  combine 7 1 4 3 2
+  combine 5 1 8 1 1
+  keep
+  keep
+  records 1
+  change 1 KKC 4
+  line KKK 1
+  given 3
+  bound KKC
+  bound KC
+  bound C
+  claims 1
+  claim 1 0
+  end
+  $ forxainde check --rules rules --records records --released released --proof proof
+  valid records 1 released 1
+  $ rm proof reasons released
+  $ fail line 2
+  $ forxainde edit --rules rules --records records --released released --reasons reasons --proof proof
+  records 1 clean 0 changed 1 unresolved 0 weight 1
+  [6]
+  $ cat released
+  Turnover,Costs,Profit
+  100,60,40
+  $ cat reasons
+  record,cause,field,before,after,donor,detail
+  1,changed,Profit,400,40,,nearest
+  $ forxainde check --rules rules --records records --released released --proof proof
+  valid records 1 released 1
+  $ fail line 3
+  $ forxainde edit --rules rules --records records --released released --reasons reasons --proof proof
+  records 1 clean 0 changed 1 unresolved 0 weight 1
+  claims 1 given 0
+
+Nor is a record left out without it: the status is 6 then too, and not 1.
+
+  $ fail line 1
+  $ forxainde edit --rules rules --records records --released released --reasons reasons --proof proof --budget 5
+  [6]
+  $ cat released
+  Turnover,Costs,Profit
+  $ fail line 2
+  $ forxainde edit --rules rules --records records --released released --reasons reasons --proof proof --budget 5
+  records 1 clean 0 changed 0 unresolved 1 weight 0
+  [6]
+  $ forxainde edit --rules rules --records records --released released --reasons reasons --proof proof --budget 5
+  records 1 clean 0 changed 0 unresolved 1 weight 0
+  claims 0 given 0
+  [1]
+  $ forxainde edit --rules rules --records records --released released --reasons reasons --proof proof
+  records 1 clean 0 changed 1 unresolved 0 weight 1
+  claims 1 given 0
+
+The one line of a check.
+
+  $ fail line 1
+  $ forxainde check --rules rules --records records --released released --proof proof
+  [6]
+  $ fail line 2
+  $ forxainde check --rules rules --records records --released released --proof proof
+  valid records 1 released 1
+
+The lines that are printed of rules, and the steps of those that are dropped.
+
+  $ cat >some.rules <<EOF
+  > number A
+  > A >= 1
+  > A >= 0
+  > EOF
+  $ fail line 1
+  $ forxainde rules --rules some.rules
+  [6]
+  $ fail line 2
+  $ forxainde rules --rules some.rules
+  1 kept needed A - 1 >= 0
+  [6]
+  $ fail line 3
+  $ forxainde rules --rules some.rules
+  1 kept needed A - 1 >= 0
+  2 dropped A >= 0
+  [6]
+  $ fail line 4
+  $ forxainde rules --rules some.rules
+  1 kept needed A - 1 >= 0
+  2 dropped A >= 0
+    given 1
+  [6]
+  $ fail line 5
+  $ forxainde rules --rules some.rules
+  1 kept needed A - 1 >= 0
+  2 dropped A >= 0
+    given 1
+    given 3
+  [6]
+  $ fail line 6
+  $ forxainde rules --rules some.rules
+  1 kept needed A - 1 >= 0
+  2 dropped A >= 0
+    given 1
+    given 3
+    combine 1 1 2 1 1
+
+A refusal that can't be printed keeps its status.
+
+  $ fail line 1
+  $ forxainde
+  [2]
+  $ fail line 1
+  $ forxainde rules --rules none.rules
+  [5]
+  $ fail call 3 keep 3
+  $ fail line 1
+  $ forxainde edit --rules rules --records records --released released --reasons reasons --proof proof
+  [6]
+  $ cat proof
+  fh- (no-eol)
+  $ fail line 1
+  $ forxainde check --rules rules --records records --released released --proof proof
+  [9]
+  $ cat >records <<EOF
+  > Turnover,Costs
+  > EOF
+  $ fail line 1
+  $ forxainde edit --rules rules --records records --released released --reasons reasons --proof proof
+  [4]
+  $ cat >rules <<EOF
+  > A >= 0
+  > EOF
+  $ fail line 1
+  $ forxainde edit --rules rules --records records --released released --reasons reasons --proof proof
+  [3]
+  $ fail line 1
+  $ forxainde check --rules rules --records records --released released --proof proof
+  [3]
+  $ fail line 1
+  $ forxainde rules --rules rules
+  [3]

@@ -1,0 +1,202 @@
+Words that are a command, and words that are none: then nothing is fetched, nothing is stored, and the status is 2.
+
+  $ cat >rules <<EOF
+  > number A
+  > A >= 3
+  > EOF
+  $ cat >records <<EOF
+  > A
+  > 1
+  > EOF
+
+The options stand in any order, with numbers at their limits and with zeros in front.
+
+  $ forxainde edit --proof proof --near 64 --reasons reasons --released released --records records --limit 1000 --rules rules --budget 1000000000
+  records 1 clean 0 changed 1 unresolved 0 weight 1
+  claims 1 given 0
+  $ forxainde edit --rules rules --records records --released released --reasons reasons --proof proof --near 0000000001 --limit 007 --budget 0000000002
+  records 1 clean 0 changed 0 unresolved 1 weight 0
+  claims 0 given 0
+  [1]
+  $ cat proof
+  fh-proof 1
+  limit 7 near 1 budget 2
+  lines 1
+  keep
+  records 1
+  budget C 2
+  claims 0
+  end
+  $ forxainde check --proof proof --released released --records records --rules rules
+  valid records 1 released 0
+  $ rm released reasons proof
+
+No command, or another one.
+
+  $ forxainde
+  fault: usage
+  [2]
+  $ calls
+  $ forxainde ''
+  fault: usage
+  [2]
+  $ forxainde Edit --rules rules --records records --released released --reasons reasons --proof proof
+  fault: usage
+  [2]
+  $ forxainde --rules rules rules
+  fault: usage
+  [2]
+  $ forxainde edit edit --rules rules --records records --released released --reasons reasons --proof proof
+  fault: usage
+  [2]
+
+An option that is missing, each in turn.
+
+  $ forxainde edit --records records --released released --reasons reasons --proof proof
+  fault: usage
+  [2]
+  $ forxainde edit --rules rules --released released --reasons reasons --proof proof
+  fault: usage
+  [2]
+  $ forxainde edit --rules rules --records records --reasons reasons --proof proof
+  fault: usage
+  [2]
+  $ forxainde edit --rules rules --records records --released released --proof proof
+  fault: usage
+  [2]
+  $ forxainde edit --rules rules --records records --released released --reasons reasons
+  fault: usage
+  [2]
+  $ calls
+  $ forxainde check --rules rules --records records --released released
+  fault: usage
+  [2]
+  $ forxainde rules
+  fault: usage
+  [2]
+
+An option without a value, with an empty one, with one that begins as an option does, or one that is given again.
+
+  $ forxainde edit --rules rules --records records --released released --reasons reasons --proof proof --near
+  fault: usage
+  [2]
+  $ forxainde rules --rules
+  fault: usage
+  [2]
+  $ forxainde edit --rules rules --records records --released released --reasons reasons --proof
+  fault: usage
+  [2]
+  $ forxainde edit --rules rules --records records --released released --reasons reasons --proof proof --limit ''
+  fault: usage
+  [2]
+  $ forxainde edit --rules rules --records records --released released --reasons reasons --proof proof --limit -1
+  fault: usage
+  [2]
+  $ forxainde edit --rules rules --records records --released released --reasons reasons --proof proof --rules others
+  fault: usage
+  [2]
+  $ forxainde edit --rules rules --records records --released released --reasons reasons --proof proof --near 5 --near 5
+  fault: usage
+  [2]
+  $ forxainde check --rules rules --records records --released released --proof proof --proof others
+  fault: usage
+  [2]
+  $ forxainde rules --rules rules --rules others
+  fault: usage
+  [2]
+  $ calls
+
+Options of other commands, and of none.
+
+  $ forxainde edit --rules rules --records records --released released --reasons reasons --proof proof --far 5
+  fault: usage
+  [2]
+  $ forxainde edit --rules rules --records records --released released --reasons reasons --proof proof --Near 5
+  fault: usage
+  [2]
+  $ forxainde edit --rules rules --records records --released released --reasons reasons --proof proof near 5
+  fault: usage
+  [2]
+  $ forxainde check --rules rules --records records --released released --proof proof --budget 5
+  fault: usage
+  [2]
+  $ forxainde check --rules rules --records records --released released --proof proof --near 5
+  fault: usage
+  [2]
+  $ forxainde check --rules rules --records records --released released --proof proof --reasons reasons
+  fault: usage
+  [2]
+  $ forxainde rules --rules rules --records records
+  fault: usage
+  [2]
+  $ forxainde rules --rules rules --limit 1
+  fault: usage
+  [2]
+  $ forxainde rules --rules rules others
+  fault: usage
+  [2]
+
+Two files of one name.
+
+  $ forxainde edit --rules rules --records rules --released released --reasons reasons --proof proof
+  fault: usage
+  [2]
+  $ forxainde edit --rules rules --records records --released records --reasons reasons --proof proof
+  fault: usage
+  [2]
+  $ forxainde edit --rules rules --records records --released released --reasons others --proof others
+  fault: usage
+  [2]
+  $ forxainde edit --rules rules --records records --released released --reasons reasons --proof rules
+  fault: usage
+  [2]
+  $ forxainde check --rules rules --records records --released rules --proof proof
+  fault: usage
+  [2]
+  $ calls
+
+Numbers past their limits, and texts that are no numbers: 1 to 10 digits.
+
+  $ forxainde edit --rules rules --records records --released released --reasons reasons --proof proof --limit 0
+  fault: usage
+  [2]
+  $ forxainde edit --rules rules --records records --released released --reasons reasons --proof proof --limit 1001
+  fault: usage
+  [2]
+  $ forxainde edit --rules rules --records records --released released --reasons reasons --proof proof --near 0
+  fault: usage
+  [2]
+  $ forxainde edit --rules rules --records records --released released --reasons reasons --proof proof --near 65
+  fault: usage
+  [2]
+  $ forxainde edit --rules rules --records records --released released --reasons reasons --proof proof --budget 0
+  fault: usage
+  [2]
+  $ forxainde edit --rules rules --records records --released released --reasons reasons --proof proof --budget 1000000001
+  fault: usage
+  [2]
+  $ forxainde edit --rules rules --records records --released released --reasons reasons --proof proof --near 00000000064
+  fault: usage
+  [2]
+  $ forxainde edit --rules rules --records records --released released --reasons reasons --proof proof --budget 01000000000
+  fault: usage
+  [2]
+  $ forxainde edit --rules rules --records records --released released --reasons reasons --proof proof --limit 4294967297
+  fault: usage
+  [2]
+  $ forxainde edit --rules rules --records records --released released --reasons reasons --proof proof --budget +5
+  fault: usage
+  [2]
+  $ forxainde edit --rules rules --records records --released released --reasons reasons --proof proof --near 5.
+  fault: usage
+  [2]
+  $ forxainde edit --rules rules --records records --released released --reasons reasons --proof proof --near 0x5
+  fault: usage
+  [2]
+  $ forxainde edit --rules rules --records records --released released --reasons reasons --proof proof --near ' 5'
+  fault: usage
+  [2]
+  $ calls
+  $ ls
+  records
+  rules

@@ -1,0 +1,137 @@
+//! The commands of a file of cases.
+
+use crate::fault::{Kind, PartFault};
+use crate::line_edits::{LineEdit, number_of};
+use edit_desk::Failure;
+use std::alloc::{AllocError, Global};
+
+/// A command of a file of cases.
+#[derive(Drop)]
+pub enum Command<'a> {
+    /// `cat >NAME <<EOF`: the file has the bytes that the lines behind the command spell.
+    Write {
+        name: &'a str,
+        bytes: Vec<u8>,
+    },
+    /// `yes TEXT | head -n N >NAME`: the file has this line so often.
+    Repeat {
+        text: &'a str,
+        count: u64,
+        name: &'a str,
+    },
+    /// `cat NAME`: shows the file.
+    Show {
+        name: &'a str,
+    },
+    /// `cp OLD NEW`: the second file has the bytes of the first.
+    Copy {
+        old: &'a str,
+        new: &'a str,
+    },
+    /// `rm NAME ..`: the files are gone.
+    Remove {
+        names: Vec<&'a str>,
+    },
+    /// `ls`: shows the names of all files.
+    List,
+    /// `sed -i -e SCRIPT .. NAME`: lines of the file are changed.
+    Change {
+        edits: Vec<LineEdit>,
+        name: &'a str,
+    },
+    /// `fail call N keep K`: a call of the desk of the next run fails.
+    FailCall {
+        failure: Failure,
+    },
+    /// `fail line N`: a printed line of the next run fails.
+    FailLine {
+        number: u64,
+    },
+    /// `forxainde WORD ..`: the program is run.
+    Run {
+        words: Vec<String>,
+    },
+    /// `calls`: shows the calls of the desk in the last run.
+    Calls,
+}
+
+impl<'a> Command<'a> {
+    /// The command of these words. A file that is to be written has no bytes yet.
+    pub fn of(alloc: Global, words: &[&'a str]) -> Result<Command<'a>, PartFault> {
+        match words {
+            ["cat", name, "<<EOF"] => match name.strip_prefix('>') {
+                Some(name) => Ok(Command::Write {
+                    name,
+                    bytes: Vec::new(alloc),
+                }),
+                None => Err(PartFault::from(Kind::Command)),
+            },
+            ["yes", text, "|", "head", "-n", count, name] => repeated(text, count, name),
+            ["cat", name] => Ok(Command::Show { name: *name }),
+            ["cp", old, new] => Ok(Command::Copy {
+                old: *old,
+                new: *new,
+            }),
+            ["rm", names @ ..] => Ok(Command::Remove {
+                names: names.to_vec(alloc)?,
+            }),
+            ["ls"] => Ok(Command::List),
+            ["sed", "-i", scripts @ .., name] => Ok(Command::Change {
+                edits: edits_of(alloc, scripts)?,
+                name: *name,
+            }),
+            ["fail", numbers @ ..] => failure_of(numbers),
+            ["forxainde", words @ ..] => Ok(Command::Run {
+                words: owned(alloc, words)?,
+            }),
+            ["calls"] => Ok(Command::Calls),
+            _ => Err(PartFault::from(Kind::Command)),
+        }
+    }
+}
+
+// The file of this many equal lines whose name stands behind `>`.
+fn repeated<'a>(text: &'a str, count: &str, name: &'a str) -> Result<Command<'a>, PartFault> {
+    match (number_of(count), name.strip_prefix('>')) {
+        (Some(count), Some(name)) => Ok(Command::Repeat { text, count, name }),
+        _ => Err(PartFault::from(Kind::Command)),
+    }
+}
+
+// The failure that these words ask for, behind the first.
+fn failure_of<'a>(words: &[&str]) -> Result<Command<'a>, PartFault> {
+    match words {
+        ["call", call, "keep", keep] => match (number_of(call), number_of(keep)) {
+            (Some(call), Some(keep)) => Ok(Command::FailCall {
+                failure: Failure { call, keep },
+            }),
+            _ => Err(PartFault::from(Kind::Command)),
+        },
+        ["line", number] => match number_of(number) {
+            Some(number) => Ok(Command::FailLine { number }),
+            None => Err(PartFault::from(Kind::Command)),
+        },
+        _ => Err(PartFault::from(Kind::Command)),
+    }
+}
+
+// The changes that these words ask for: each second of them is a script, behind `-e`.
+fn edits_of(alloc: Global, words: &[&str]) -> Result<Vec<LineEdit>, PartFault> {
+    let mut edits = Vec::new(alloc);
+    for pair in words.chunks(2) {
+        match pair {
+            ["-e", script] => edits.push(LineEdit::read(alloc, script)?)?,
+            _ => return Err(PartFault::from(Kind::Command)),
+        }
+    }
+    Ok(edits)
+}
+
+// The words, each in memory of its own.
+fn owned(alloc: Global, words: &[&str]) -> Result<Vec<String>, AllocError> {
+    let mut all = Vec::new(alloc);
+    for word in words {
+        all.push(String::from_str(alloc, word)?)?;
+    }
+    Ok(all)
+}

@@ -1,0 +1,59 @@
+//! How what came differs from what was to come.
+ghost use Rattle.std.specs.Prelude.{◌≡◌, map};
+ghost use Rattle.worked_cases.specs.Comparison.{are_same};
+
+use foundation::OutOfMemory;
+use std::alloc::Global;
+
+/// Whether what came is what was to come, line by line.
+pub fn is_same(expected: &[&[u8]], came: &[Vec<u8>]) -> bool
+    ensures { result ≡ are_same (map (λ line. line.now) expected.now) (map (λ line. line.items) came.now) }
+{
+    if expected.len() != came.len() {
+        return false;
+    }
+    for i in 0..expected.len() {
+        if expected[i] != came[i].as_slice() {
+            return false;
+        }
+    }
+    true
+}
+
+/// The lines in which what came differs from what was to come, all from the first of them to the last: those that were
+/// to come with `-` in front, and then those that came, with `+`.
+pub fn difference(
+    alloc: Global,
+    expected: &[&[u8]],
+    came: &[Vec<u8>],
+) -> Result<Vec<Vec<u8>>, OutOfMemory> {
+    let head = expected
+        .iter()
+        .zip(came)
+        .take_while(|(expected, came)| **expected == came.as_slice())
+        .count();
+    let expected = &expected[head.min(expected.len())..];
+    let came = &came[head.min(came.len())..];
+    let tail = expected
+        .iter()
+        .rev()
+        .zip(came.iter().rev())
+        .take_while(|(expected, came)| **expected == came.as_slice())
+        .count();
+    let mut lines = Vec::new(alloc);
+    for line in &expected[..expected.len().saturating_sub(tail)] {
+        lines.push(marked(alloc, b'-', line)?)?;
+    }
+    for line in &came[..came.len().saturating_sub(tail)] {
+        lines.push(marked(alloc, b'+', line)?)?;
+    }
+    Ok(lines)
+}
+
+// A line with this mark in front.
+fn marked(alloc: Global, mark: u8, line: &[u8]) -> Result<Vec<u8>, OutOfMemory> {
+    let mut text = Vec::new(alloc);
+    text.push(mark)?;
+    text.extend_from_slice(line)?;
+    Ok(text)
+}

@@ -1,0 +1,114 @@
+//! Why a run of cases ends before all are run, and why a file of cases has no reading.
+use edit_desk::PrintFailed;
+use foundation::OutOfMemory;
+use std::alloc::{AllocError, AllocFailed};
+
+/// Why a run of cases ends before all are run.
+#[derive(Clone, Copy, Debug, PartialEq, Eq)]
+pub enum Fault {
+    /// Memory was refused.
+    OutOfMemory,
+    /// A line was not printed.
+    Unprinted,
+}
+
+impl From<OutOfMemory> for Fault {
+    fn from(_refused: OutOfMemory) -> Self {
+        Fault::OutOfMemory
+    }
+}
+
+impl From<AllocError> for Fault {
+    fn from(_refused: AllocError) -> Self {
+        Fault::OutOfMemory
+    }
+}
+
+impl<T: Drop> From<AllocFailed<T>> for Fault {
+    fn from(_refused: AllocFailed<T>) -> Self {
+        Fault::OutOfMemory
+    }
+}
+
+impl From<PrintFailed> for Fault {
+    fn from(_failed: PrintFailed) -> Self {
+        Fault::Unprinted
+    }
+}
+
+/// What is not in form in a line of a file of cases.
+#[derive(Clone, Copy, Debug, PartialEq, Eq)]
+pub enum Kind {
+    /// The line is no text.
+    NoText,
+    /// The words are not parted by single spaces, or a quote is open.
+    Words,
+    /// There is no such command, or it takes other words.
+    Command,
+    /// Output stands behind no command.
+    Output,
+    /// The bytes of a file are not spelled in form.
+    Spelling,
+    /// The bytes of a file do not end in a line `  > EOF`.
+    NoEnd,
+}
+
+impl Kind {
+    /// What is printed of it.
+    pub fn text(self) -> &'static str {
+        match self {
+            Kind::NoText => "no text",
+            Kind::Words => "words out of form",
+            Kind::Command => "no such command",
+            Kind::Output => "output of no command",
+            Kind::Spelling => "bytes out of form",
+            Kind::NoEnd => "a file with no end",
+        }
+    }
+}
+
+/// Why a file of cases has no reading.
+#[derive(Clone, Copy, Debug, PartialEq, Eq)]
+pub enum FormFault {
+    /// A line, by its number from 1, is not in form.
+    Line { number: u64, kind: Kind },
+    /// Memory was refused.
+    OutOfMemory,
+}
+
+/// Why a part of a line is not read.
+#[derive(Clone, Copy, Debug, PartialEq, Eq)]
+pub enum PartFault {
+    /// It is not in form.
+    Form { kind: Kind },
+    /// Memory was refused.
+    OutOfMemory,
+}
+
+impl PartFault {
+    /// The fault of the line of this number.
+    pub fn at(self, number: u64) -> FormFault {
+        match self {
+            PartFault::Form { kind } => FormFault::Line { number, kind },
+            PartFault::OutOfMemory => FormFault::OutOfMemory,
+        }
+    }
+}
+
+impl From<Kind> for PartFault {
+    fn from(kind: Kind) -> Self {
+        PartFault::Form { kind }
+    }
+}
+
+impl From<AllocError> for PartFault {
+    fn from(_refused: AllocError) -> Self {
+        PartFault::OutOfMemory
+    }
+}
+
+impl<T: Drop> From<AllocFailed<T>> for PartFault {
+    fn from(_refused: AllocFailed<T>) -> Self {
+        PartFault::OutOfMemory
+    }
+}

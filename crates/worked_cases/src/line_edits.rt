@@ -1,0 +1,143 @@
+//! Changes of a file by its lines, as `sed` makes them.
+
+use crate::fault::{Kind, PartFault};
+use crate::spelling::read_escaped;
+use foundation::OutOfMemory;
+use std::alloc::Global;
+
+/// What becomes of a line.
+#[derive(Debug, Drop)]
+pub enum Change {
+    /// The text stands in its place.
+    Replace { text: Vec<u8> },
+    /// It is left out.
+    Delete,
+    /// The text stands behind it.
+    Append { text: Vec<u8> },
+}
+
+/// A change of the line of this number, from 1. A text may stand behind line 0, before the first.
+#[derive(Debug, Drop)]
+pub struct LineEdit {
+    line: u64,
+    change: Change,
+}
+
+impl LineEdit {
+    /// The change that a script of `sed` asks for: `Nc\TEXT`, `Nd` or `Na\TEXT`, with a text as [`read_escaped`] reads it.
+    pub fn read(alloc: Global, script: &str) -> Result<LineEdit, PartFault> {
+        let Some((head, text)) = script.split_once('\\') else {
+            let Some(line) = script.strip_suffix('d') else {
+                return Err(PartFault::from(Kind::Command));
+            };
+            return Ok(LineEdit {
+                line: line_number(line, 1)?,
+                change: Change::Delete,
+            });
+        };
+        let text = text_of(alloc, text)?;
+        if let Some(line) = head.strip_suffix('c') {
+            return Ok(LineEdit {
+                line: line_number(line, 1)?,
+                change: Change::Replace { text },
+            });
+        }
+        let Some(line) = head.strip_suffix('a') else {
+            return Err(PartFault::from(Kind::Command));
+        };
+        Ok(LineEdit {
+            line: line_number(line, 0)?,
+            change: Change::Append { text },
+        })
+    }
+
+    /// The number of the line, from 1, or 0 for the beginning of the file.
+    pub fn line(&self) -> u64 {
+        self.line
+    }
+}
+
+// The number of a line, which is at least this.
+fn line_number(text: &str, least: u64) -> Result<u64, Kind> {
+    match number_of(text) {
+        Some(number) if number >= least => Ok(number),
+        _ => Err(Kind::Command),
+    }
+}
+
+/// The number that decimal digits write.
+pub fn number_of(text: &str) -> Option<u64> {
+    if !text.as_bytes().iter().all(u8::is_ascii_digit) {
+        return None;
+    }
+    text.parse::<u64>().ok()
+}
+
+// The bytes of a text, and a line feed behind them.
+fn text_of(alloc: Global, text: &str) -> Result<Vec<u8>, PartFault> {
+    let mut bytes = Vec::new(alloc);
+    read_escaped(&mut bytes, text.as_bytes())?;
+    bytes.push(b'\n')?;
+    Ok(bytes)
+}
+
+/// How many lines these bytes have.
+pub fn line_count(bytes: &[u8]) -> u64 {
+    bytes.split_inclusive(|byte| *byte == b'\n').count() as u64
+}
+
+/// The bytes with these changes of their lines. The numbers are those of the lines as they are before any change; of two
+/// changes that leave out or take the place of one line, the first holds.
+pub fn edited(alloc: Global, bytes: &[u8], edits: &[LineEdit]) -> Result<Vec<u8>, OutOfMemory> {
+    let mut new = Vec::new(alloc);
+    append(&mut new, edits, 0)?;
+    for (index, line) in bytes.split_inclusive(|byte| *byte == b'\n').enumerate() {
+        let number = (index as u64).saturating_add(1);
+        match edits
+            .iter()
+            .find(|edit| edit.line == number && edit.is_of_line())
+        {
+            None => new.extend_from_slice(line)?,
+            Some(edit) => new.extend_from_slice(edit.text())?,
+        }
+        append(&mut new, edits, number)?;
+    }
+    Ok(new)
+}
+
+// Appends the texts that are to stand behind the line of this number.
+fn append(new: &mut Vec<u8>, edits: &[LineEdit], number: u64) -> Result<(), OutOfMemory> {
+    for edit in edits {
+        if let Change::Append { text } = &edit.change
+            && edit.line == number
+        {
+            end_line(new)?;
+            new.extend_from_slice(text)?;
+        }
+    }
+    Ok(())
+}
+
+// Appends a line feed where the last line has none.
+fn end_line(new: &mut Vec<u8>) -> Result<(), OutOfMemory> {
+    match new.last() {
+        None | Some(b'\n') => {}
+        Some(_) => new.push(b'\n')?,
+    }
+    Ok(())
+}
+
+impl LineEdit {
+    // Whether the line itself is left out, or another stands in its place.
+    fn is_of_line(&self) -> bool {
+        !matches!(self.change, Change::Append { .. })
+    }
+
+    // The text that it gives.
+    fn text(&self) -> &[u8] {
+        match &self.change {
+            Change::Replace { text } | Change::Append { text } => text.as_slice(),
+            Change::Delete => b"",
+        }
+    }
+}

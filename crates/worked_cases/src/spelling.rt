@@ -1,0 +1,151 @@
+//! Bytes as a file of cases spells them, line by line. A line of printable ASCII stands as it is; in any other each byte
+//! that is not printable is `\xNN` and a backslash is doubled, and ` (esc)` stands behind it. A last line without a line
+//! feed has ` (no-eol)` behind all that.
+
+ghost use Rattle.std.specs.Prelude.{◌≡◌, ◌<◌, ◌++◌, IfOk, OnOk};
+ghost use Rattle.std.specs.List.{list_all};
+ghost use Rattle.worked_cases.specs.Spelling.{byte_spelling, is_plain, is_printable, line_spelling};
+
+use crate::fault::{Kind, PartFault};
+use foundation::OutOfMemory;
+use std::alloc::Global;
+
+const ESCAPED: &[u8] = b" (esc)";
+
+const UNENDED: &[u8] = b" (no-eol)";
+
+const DIGITS: &[u8; 16] = b"0123456789abcdef";
+
+/// The lines of these bytes, as they are spelled.
+pub fn spelled_lines(alloc: Global, bytes: &[u8]) -> Result<Vec<Vec<u8>>, OutOfMemory> {
+    let mut lines = Vec::new(alloc);
+    for line in bytes.split_inclusive(|byte| *byte == b'\n') {
+        let spelled = match line.strip_suffix(b"\n") {
+            Some(text) => spelled_line(alloc, text, true)?,
+            None => spelled_line(alloc, line, false)?,
+        };
+        lines.push(spelled)?;
+    }
+    Ok(lines)
+}
+
+// A line as it is spelled, with a line feed behind it or not.
+fn spelled_line(alloc: Global, line: &[u8], ended: bool) -> Result<Vec<u8>, OutOfMemory>
+    ensures { IfOk result (λ text. text.items ≡ line_spelling line.now ended) }
+{
+    let mut text = Vec::new(alloc);
+    if is_plain(line) {
+        text.extend_from_slice(line)?;
+    } else {
+        for byte in line {
+            spell(&mut text, *byte)?;
+        }
+        text.extend_from_slice(ESCAPED)?;
+    }
+    if !ended {
+        text.extend_from_slice(UNENDED)?;
+    }
+    Ok(text)
+}
+
+// Whether a line stands as it is: all of it is printable, and its end is not that of another spelling.
+fn is_plain(line: &[u8]) -> bool
+    ensures { result ≡ is_plain line.now }
+{
+    if line.ends_with(ESCAPED) || line.ends_with(UNENDED) {
+        return false;
+    }
+    are_printable(line)
+}
+
+// Whether all of a line is printable.
+fn are_printable(line: &[u8]) -> bool
+    ensures { result ≡ list_all is_printable line.now }
+{
+    line.iter().all(|byte| is_printable(*byte))
+}
+
+// Whether the byte is a letter, digit or sign of ASCII, or a space.
+fn is_printable(byte: u8) -> bool
+    ensures { result ≡ is_printable byte }
+{
+    byte == b' ' || byte.is_ascii_graphic()
+}
+
+// Appends a byte of a line that is escaped.
+fn spell(text: &mut Vec<u8>, byte: u8) -> Result<(), OutOfMemory>
+    ensures { OnOk result (text.new.items ≡ text.old.items ++ byte_spelling byte) }
+{
+    if byte == b'\\' {
+        text.extend_from_slice(b"\\\\")?;
+    } else if is_printable(byte) {
+        text.push(byte)?;
+    } else {
+        text.extend_from_slice(b"\\x")?;
+        text.push(DIGITS[byte as usize / 16])?;
+        text.push(DIGITS[byte as usize % 16])?;
+    }
+    Ok(())
+}
+
+/// Appends the bytes of a line that is spelled so, and its line feed, and says whether it has one.
+pub fn read_line(bytes: &mut Vec<u8>, line: &[u8]) -> Result<bool, PartFault> {
+    let (line, ended) = match line.strip_suffix(UNENDED) {
+        Some(line) => (line, false),
+        None => (line, true),
+    };
+    match line.strip_suffix(ESCAPED) {
+        Some(line) => read_escaped(bytes, line)?,
+        None if are_printable(line) => bytes.extend_from_slice(line)?,
+        None => return Err(PartFault::from(Kind::Spelling)),
+    }
+    if ended {
+        bytes.push(b'\n')?;
+    }
+    Ok(ended)
+}
+
+/// Appends the bytes of an escaped text: `\n` in it is a line feed, `\\` a backslash, and `\xNN` any byte.
+pub fn read_escaped(bytes: &mut Vec<u8>, text: &[u8]) -> Result<(), PartFault> {
+    let mut rest = text;
+    for _ in 0..text.len() {
+        let behind = match rest {
+            [] => return Ok(()),
+            [b'\\', b'\\', behind @ ..] => {
+                bytes.push(b'\\')?;
+                behind
+            }
+            [b'\\', b'n', behind @ ..] => {
+                bytes.push(b'\n')?;
+                behind
+            }
+            [b'\\', b'x', high, low, behind @ ..] => {
+                bytes.push(byte_of(*high, *low)?)?;
+                behind
+            }
+            [byte, behind @ ..] if is_printable(*byte) && *byte != b'\\' => {
+                bytes.push(*byte)?;
+                behind
+            }
+            _ => return Err(PartFault::from(Kind::Spelling)),
+        };
+        rest = behind;
+    }
+    Ok(())
+}
+
+// The byte of two digits of base 16.
+fn byte_of(high: u8, low: u8) -> Result<u8, Kind> {
+    Ok(digit_of(high)? * 16 + digit_of(low)?)
+}
+
+// The number of a digit of base 16.
+fn digit_of(digit: u8) -> Result<u8, Kind>
+    ensures { IfOk result (λ number. number < 16) }
+{
+    match digit {
+        b'0'..=b'9' => Ok(digit - b'0'),
+        b'a'..=b'f' => Ok(digit - b'a' + 10),
+        _ => Err(Kind::Spelling),
+    }
+}

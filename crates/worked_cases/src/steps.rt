@@ -1,0 +1,138 @@
+//! A file of cases, read line by line.
+
+use crate::command::Command;
+use crate::fault::{FormFault, Kind, PartFault};
+use crate::spelling::read_line;
+use crate::words::words_of;
+use std::alloc::Global;
+
+/// A command of a file of cases, with the output that is to come of it.
+#[derive(Drop)]
+pub struct Step<'a> {
+    /// The number of the line that it stands in, from 1.
+    pub number: u64,
+    /// The command as it stands there.
+    pub text: &'a str,
+    /// The command.
+    pub command: Command<'a>,
+    /// The lines of its output, in the spelling of the form.
+    pub expected: Vec<&'a [u8]>,
+}
+
+/// What the next line of a file of cases may be.
+#[derive(Clone, Copy, Debug, PartialEq, Eq)]
+enum Place {
+    /// Commentary or a command.
+    Apart,
+    /// These, or output of the last command.
+    Behind,
+    /// A line of the file that the last command writes, or the end of it.
+    Within,
+    /// The end of the file that the last command writes.
+    AtEnd,
+}
+
+/// The commands of a file of cases, in order.
+pub fn steps_of<'a>(alloc: Global, bytes: &'a [u8]) -> Result<Vec<Step<'a>>, FormFault> {
+    let mut steps = Vec::new(alloc);
+    let mut place = Place::Apart;
+    let mut last = 0;
+    for (index, line) in bytes.split(|byte| *byte == b'\n').enumerate() {
+        last = (index as u64).saturating_add(1);
+        place = take_line(alloc, &mut steps, place, last, line).map_err(|fault| fault.at(last))?;
+    }
+    match place {
+        Place::Apart | Place::Behind => Ok(steps),
+        Place::Within | Place::AtEnd => Err(PartFault::from(Kind::NoEnd).at(last)),
+    }
+}
+
+// Reads one line more, and says what the next may be.
+fn take_line<'a>(
+    alloc: Global,
+    steps: &mut Vec<Step<'a>>,
+    place: Place,
+    number: u64,
+    line: &'a [u8],
+) -> Result<Place, PartFault> {
+    if matches!(place, Place::Within | Place::AtEnd) {
+        return take_text(steps, place, line);
+    }
+    if let Some(command) = line.strip_prefix(b"  $ ") {
+        return take_command(alloc, steps, number, command);
+    }
+    match line.strip_prefix(b"  ") {
+        None => Ok(Place::Apart),
+        Some(output) => take_output(steps, place, output),
+    }
+}
+
+// Reads a command.
+fn take_command<'a>(
+    alloc: Global,
+    steps: &mut Vec<Step<'a>>,
+    number: u64,
+    command: &'a [u8],
+) -> Result<Place, PartFault> {
+    let Ok(text) = str::from_utf8(command) else {
+        return Err(PartFault::from(Kind::NoText));
+    };
+    let words = words_of(alloc, text)?;
+    let command = Command::of(alloc, &words)?;
+    let place = match &command {
+        Command::Write { .. } => Place::Within,
+        _ => Place::Behind,
+    };
+    steps.push(Step {
+        number,
+        text,
+        command,
+        expected: Vec::new(alloc),
+    })?;
+    Ok(place)
+}
+
+// Reads a line of the file that the last command writes, or the end of it.
+fn take_text(steps: &mut Vec<Step>, place: Place, line: &[u8]) -> Result<Place, PartFault> {
+    let Some(behind) = line.strip_prefix(b"  >") else {
+        return Err(PartFault::from(Kind::NoEnd));
+    };
+    let text = match behind.strip_prefix(b" ") {
+        Some(text) => text,
+        None if behind.is_empty() => behind,
+        None => return Err(PartFault::from(Kind::NoEnd)),
+    };
+    if text == b"EOF".as_slice() {
+        return Ok(Place::Behind);
+    }
+    if place == Place::AtEnd {
+        return Err(PartFault::from(Kind::NoEnd));
+    }
+    let Some(step) = steps.last_mut() else {
+        return Err(PartFault::from(Kind::Output));
+    };
+    let Command::Write { bytes, .. } = &mut step.command else {
+        return Err(PartFault::from(Kind::Output));
+    };
+    if read_line(bytes, text)? {
+        Ok(Place::Within)
+    } else {
+        Ok(Place::AtEnd)
+    }
+}
+
+// Reads a line of the output of the last command.
+fn take_output<'a>(
+    steps: &mut Vec<Step<'a>>,
+    place: Place,
+    output: &'a [u8],
+) -> Result<Place, PartFault> {
+    if place == Place::Apart {
+        return Err(PartFault::from(Kind::Output));
+    }
+    let Some(step) = steps.last_mut() else {
+        return Err(PartFault::from(Kind::Output));
+    };
+    step.expected.push(output)?;
+    Ok(Place::Behind)
+}

@@ -1,0 +1,43 @@
+//! The words of a command.
+
+use crate::fault::{Kind, PartFault};
+use std::alloc::Global;
+
+/// The words of a command: they are parted by single spaces, and one in single quotes keeps its spaces, or is empty.
+pub fn words_of(alloc: Global, text: &str) -> Result<Vec<&str>, PartFault> {
+    let mut words = Vec::new(alloc);
+    let mut rest = text;
+    for _ in 0..u64::MAX {
+        let (word, behind) = first_word(rest)?;
+        words.push(word)?;
+        match behind {
+            Some(behind) => rest = behind,
+            None => return Ok(words),
+        }
+    }
+    Err(PartFault::from(Kind::Words))
+}
+
+// The first word, and what stands behind the space that follows it, where one does.
+fn first_word(text: &str) -> Result<(&str, Option<&str>), Kind> {
+    if let Some(quoted) = text.strip_prefix('\'') {
+        let Some((word, behind)) = quoted.split_once('\'') else {
+            return Err(Kind::Words);
+        };
+        if behind.is_empty() {
+            return Ok((word, None));
+        }
+        return match behind.strip_prefix(' ') {
+            Some(behind) => Ok((word, Some(behind))),
+            None => Err(Kind::Words),
+        };
+    }
+    let (word, behind) = match text.split_once(' ') {
+        Some((word, behind)) => (word, Some(behind)),
+        None => (text, None),
+    };
+    if word.is_empty() {
+        return Err(Kind::Words);
+    }
+    Ok((word, behind))
+}
