@@ -14,7 +14,8 @@ pub record IsTakenSum (m n g : ℤ) (s t line : LineParts) : Type 0 where
   pub may : may_combine m n g s t ≡ true
   pub line_is : line ≡ divided_by g (sum_of m n s t)
 
--- the line comes from the list that a step took as its origin says: it is the line at that place, or the combination of the lines at both places
+-- the line comes from the list that a step took as its origin says: it is the line at that place, or the combination
+-- of the lines at both places
 abbrev pub ComesFrom : List Derived → LineParts → Origin → Type 0
 ComesFrom lines line (Base number) = ⊥
 ComesFrom lines line (Same i) = IsSomeAnd (slice_get lines i) (λ (s : Derived). line ≡ s.line)
