@@ -22,5 +22,5 @@
 # the byte is in a comment, or changes a rule, a weight or a number of which the release says nothing.
 set -eu
 top=$(cd "$(dirname "$0")/.." && pwd)
-"$top/forxainde" >/dev/null 2>&1 || true    # builds the program
-exec python3 "$top/bench/audit/change_tokens.py" "$top/crates/edit_program/out/edit_program" "$top/examples" "${1:-1}"
+program=${PROGRAM:-$("$top/forxainde" --where)}      # another build, or the checkout's, which is built first where it is not
+exec python3 "$top/bench/audit/change_tokens.py" "$program" "$top/examples" "${1:-1}"

@@ -10,7 +10,7 @@
 # the rows double.
 set -eu
 top=$(cd "$(dirname "$0")/.." && pwd)
-program="$top/crates/edit_program/out/edit_program"
+program=${PROGRAM:-$("$top/forxainde" --where)}      # another build, or the checkout's, which is built first where it is not
 yardstick="$top/bench/yardstick"
 work=$(mktemp -d)
 trap 'rm -rf "$work"' EXIT
@@ -23,7 +23,6 @@ seconds_of() {
     done | awk '{ print $1 + $2 }' | sort -n | head -n 1
 }
 
-"$top/forxainde" >/dev/null 2>&1 || true    # builds the program, so that the build is not timed
 for rows in "${@:-5000 10000 20000}"; do
     for count in $rows; do
         python3 "$yardstick/business_survey.py" --rules "$work/rules" --records "$work/records" --rows "$count"

@@ -1,10 +1,10 @@
 #!/bin/bash
-# Times `edit` and the `check` of what it wrote, over a business survey of 16 fields and 30 rules, and over a labour force
-# survey beside a branch and bound.
+# Times `edit` and the `check` of what it wrote, over a business survey of 16 fields and 30 rules, and, beside a branch and
+# bound, over a labour force survey and over records of the business survey with several wrong values.
 #
-# usage: bench/edit.sh [ROWS..]      (default: 10000 50000 100000)
+# usage: [ONE_IN=K] bench/edit.sh [ROWS..]      (default: 10000 50000 100000, and one in 20; ONE_IN=1000000000: none is wrong)
 #
-# The business survey (bench/yardstick/business_survey.py): about one row in 20 has a wrong number. Each line has the
+# The business survey (bench/yardstick/business_survey.py): about one row in K has a wrong number. Each line has the
 # rows, how many of them were changed, the MiB of the record file, the seconds, the rows a second, and the peak bytes of
 # memory for each byte of input. Memory should grow in proportion to the rows, and so should the time of `check`; that of `edit`
 # grows with the changed rows times the clean ones, since each changed row looks at all donors. Then come the seconds of `check`
@@ -16,10 +16,11 @@
 # break a rule. The line has the processor's seconds of `edit`, which finds the least sets of fields with their
 # certificates, gives values and writes three files; those of the branch and bound in doubles
 # (bench/yardstick/branch_and_bound.cpp), which finds the weights alone; and those of `check` on the files that the edit
-# wrote, with its share of the edit's: small, since most of the edit is search; the best of five runs each.
+# wrote, with its share of the edit's: small, since most of the edit is search; the best of five runs each. The line
+# `several` has the same of 1,000 records of the business survey, of which about one in 3 has two or three wrong numbers.
 set -eu
 top=$(cd "$(dirname "$0")/.." && pwd)
-program="$top/crates/edit_program/out/edit_program"
+program=${PROGRAM:-$("$top/forxainde" --where)}      # another build, or the checkout's, which is built first where it is not
 yardstick="$top/bench/yardstick"
 work=$(mktemp -d)
 trap 'rm -rf "$work"' EXIT
@@ -42,10 +43,21 @@ best() {
     done | awk '{ print $1 + $2 }' | sort -n | head -n 1
 }
 
-"$top/forxainde" >/dev/null 2>&1 || true    # builds the program, so that the build is not timed
+# Times the program beside the branch and bound, over the survey of this name.
+beside() {
+    local ours theirs check
+    ours=$(best "$program" "${edit_words[@]}")
+    theirs=$(best "$work/yardstick" --rules "$work/rules" --records "$work/records" --out "$work/weights")
+    check=$(best "$program" "${check_words[@]}")
+    awk -v name="$1" -v ours="$ours" -v theirs="$theirs" -v check="$check" 'BEGIN {
+        printf "%s: program %.3f s | branch and bound %.3f s | %.1f times as long | check %.3f s, %.2f of edit\n", \
+            name, ours, theirs, ours / theirs, check, check / ours
+    }'
+}
+
 for rows in "${@:-10000 50000 100000}"; do
     for count in $rows; do
-        python3 "$yardstick/business_survey.py" --rules "$work/rules" --records "$work/records" --rows "$count" --one-in 20
+        python3 "$yardstick/business_survey.py" --rules "$work/rules" --records "$work/records" --rows "$count" --one-in "${ONE_IN:-20}"
         size=$(stat -c %s "$work/records")
         measure "${edit_words[@]}"
         changed=$(awk 'NR == 1 { print $6 }' "$work/measured")
@@ -60,9 +72,6 @@ done
 
 g++ -O3 -march=native -std=c++17 -o "$work/yardstick" "$yardstick/branch_and_bound.cpp"
 python3 "$yardstick/labour_survey.py" --rules "$work/rules" --records "$work/records" --rows 1000
-ours=$(best "$program" "${edit_words[@]}")
-theirs=$(best "$work/yardstick" --rules "$work/rules" --records "$work/records" --out "$work/weights")
-check=$(best "$program" "${check_words[@]}")
-awk -v ours="$ours" -v theirs="$theirs" -v check="$check" 'BEGIN {
-    printf "labour: program %.3f s | branch and bound %.3f s | %.1f times as long | check %.3f s, %.2f of edit\n", ours, theirs, ours / theirs, check, check / ours
-}'
+beside labour
+python3 "$yardstick/business_survey.py" --rules "$work/rules" --records "$work/records" --rows 1000 --one-in 3 --wrong 2 3
+beside several

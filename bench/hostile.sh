@@ -13,5 +13,5 @@
 # and names the slowest; the first failure is printed with its files, and ends the script with status 1.
 set -eu
 top=$(cd "$(dirname "$0")/.." && pwd)
-"$top/forxainde" >/dev/null 2>&1 || true    # builds the program
-exec python3 "$top/bench/hostile/attack.py" "$top/crates/edit_program/out/edit_program" "$top/examples" "${@:-1}"
+program=${PROGRAM:-$("$top/forxainde" --where)}      # another build, or the checkout's, which is built first where it is not
+exec python3 "$top/bench/hostile/attack.py" "$program" "$top/examples" "${@:-1}"

@@ -3,20 +3,20 @@
 #
 # usage: bench/rules.sh
 #
-# The rule files are written by bench/yardstick/rule_sets.py, one in each of five shapes. Each line has the shape, how many lines
-# the rules have, how many of them are kept as needed, kept since the work would pass 2,000 or a number 128 bits, and dropped, and
-# the seconds of the processor. An edit prunes its rules in the same way, once, before it looks at any record.
+# The rule files are written by bench/yardstick/rule_sets.py, one in each of six shapes. Each line has the shape, how many lines
+# the rules have, how many of them are kept as equalities, kept as needed, kept since the work would pass 2,000 or a number 128
+# bits, and dropped, and the seconds of the processor. An edit prunes its rules in the same way, once, before it looks at any record.
 set -eu
 top=$(cd "$(dirname "$0")/.." && pwd)
-program="$top/crates/edit_program/out/edit_program"
+program=${PROGRAM:-$("$top/forxainde" --where)}      # another build, or the checkout's, which is built first where it is not
 work=$(mktemp -d)
 trap 'rm -rf "$work"' EXIT
-"$top/forxainde" >/dev/null 2>&1 || true    # builds the program, so that the build is not timed
-for shape in balances ratios late codes bounds; do
+for shape in balances sums ratios late codes bounds; do
     python3 "$top/bench/yardstick/rule_sets.py" "$shape" "$work/rules"
     TIMEFORMAT='%U %S'
     { time "$program" rules --rules "$work/rules" >"$work/printed"; } 2>"$work/seconds"
     awk -v shape="$shape" -v seconds="$(awk '{ print $1 + $2 }' "$work/seconds")" '
-        / kept needed / { needed++ } / kept budget / || / kept overflow / { open++ } / dropped / { dropped++ }
-        END { printf "%s: %d lines, %d needed, %d kept unknown, %d dropped: %.2f s\n", shape, needed + open + dropped, needed, open, dropped, seconds }' "$work/printed"
+        / kept equality / { equal++ } / kept needed / { needed++ } / kept budget / || / kept overflow / { open++ } / dropped / { dropped++ }
+        END { printf "%s: %d lines, %d equalities, %d needed, %d kept unknown, %d dropped: %.2f s\n", \
+            shape, equal + needed + open + dropped, equal, needed, open, dropped, seconds }' "$work/printed"
 done

@@ -296,8 +296,7 @@ def hard_files(attack, examples, dice):
 # A proof of the change of B in the record 3,4,x to the rule A + B = 10.
 SUM_PROOF = b"""fh-proof 1
 limit 1 near 5 budget 1000000
-lines 2
-keep
+lines 1
 keep
 records 1
 change 1 KCK 3
@@ -386,8 +385,8 @@ def large_proofs(size):
     yield with_text(b"bound C\n", b"bound " + many(b"C") + b"\n"), {9}
     yield with_text(given, b"given " + many(b"1") + b"\n"), {9}
     yield with_text(given, b"given" + many(b" ") + b"1\n"), {9}
-    yield with_text(b"lines 2\nkeep\nkeep\n", counted(b"lines", many(b"keep\n"))), {9}
-    yield with_text(b"lines 2\n", b"lines 4000000000\n"), {9}
+    yield with_text(b"lines 1\nkeep\n", counted(b"lines", many(b"keep\n"))), {9}
+    yield with_text(b"lines 1\n", b"lines 4000000000\n"), {9}
     yield with_text(b"claims 1\nclaim 1 0\n", counted(b"claims", many(b"claim 1 0\n"))), {9}
     yield SUM_PROOF + many(b"\n"), {9}
 

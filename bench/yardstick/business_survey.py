@@ -1,9 +1,9 @@
 #!/usr/bin/env python3
-"""business_survey.py --rules FILE --records FILE [--start N] [--rows N] [--one-in K]
+"""business_survey.py --rules FILE --records FILE [--start N] [--rows N] [--one-in K] [--wrong LEAST MOST]
 
 A business survey of 12 numerical and 4 categorical fields and 30 rules: balances, ratios, bounds by size
-class, and rules on codes alone. All rows satisfy the rules; then about one row in K (default 4) gets one
-wrong number, blank or ten times itself plus 1.
+class, and rules on codes alone. All rows satisfy the rules; then about one row in K (default 4) gets LEAST to
+MOST (default 1) wrong numbers, each blank or ten times itself plus 1.
 """
 import argparse
 
@@ -93,11 +93,15 @@ def right_row(lcg):
     return numbers, codes
 
 
-def texts_of(numbers, codes, lcg, one_in):
+def texts_of(numbers, codes, lcg, one_in, least, most):
     texts = [str(x) for x in numbers]
     if lcg.draw(one_in) == 0:
-        field = lcg.draw(12)
-        texts[field] = "" if lcg.draw(2) == 0 else str(10 * numbers[field] + 1)
+        wrong = set()
+        count = least if least == most else least + lcg.draw(most - least + 1)
+        while len(wrong) < count:
+            field = lcg.draw(12)
+            texts[field] = "" if lcg.draw(2) == 0 else str(10 * numbers[field] + 1)
+            wrong.add(field)
     return texts + codes
 
 
@@ -108,6 +112,7 @@ def main():
     parser.add_argument("--start", type=int, default=1)
     parser.add_argument("--rows", type=int, default=100)
     parser.add_argument("--one-in", type=int, default=4)
+    parser.add_argument("--wrong", type=int, nargs=2, default=[1, 1], metavar=("LEAST", "MOST"))
     args = parser.parse_args()
     with open(args.rules, "w") as file:
         file.write(rule_file())
@@ -116,7 +121,7 @@ def main():
         file.write(",".join(["id", *NUMBERS, *CODES]) + "\n")
         for number in range(1, args.rows + 1):
             numbers, codes = right_row(lcg)
-            file.write(",".join([str(number), *texts_of(numbers, codes, lcg, args.one_in)]) + "\n")
+            file.write(",".join([str(number), *texts_of(numbers, codes, lcg, args.one_in, *args.wrong)]) + "\n")
 
 
 if __name__ == "__main__":

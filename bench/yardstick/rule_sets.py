@@ -1,10 +1,11 @@
 #!/usr/bin/env python3
-"""Writes a rule file of 500 rules over 64 fields in one of some shapes; but for bounds, each rule gives two lines.
+"""Writes a rule file of 500 rules over 64 fields in one of some shapes, of one line each, or two where it has conditions.
 
 usage: rule_sets.py SHAPE RULES
 
-    balances   numbers alone: each rule sets a sum of three fields to a constant
-    ratios     numbers alone: each rule sets a multiple of one field to a multiple of another
+    balances   numbers alone: each rule sets a sum of three fields to a constant; an equality is always kept
+    sums       as balances, and the sum is at most the constant
+    ratios     numbers alone: a multiple of one field is at most a multiple of another
     late       as ratios, and one of the two fields is always among the last 24
     codes      48 numbers and 16 codes: each rule sets a sum of two fields to a constant where two fields have some codes
     bounds     numbers alone: a lower bound on one field, so that most of the 500 lines follow from others
@@ -36,19 +37,27 @@ def distinct(draws, count, below, first=0):
     return found
 
 
-def balances(draws):
+def compared(draws, sign):
     lines = numbers(64)
     for _ in range(500):
         a, b, c = distinct(draws, 3, 64)
-        lines.append(f"{1 + draws.below(9)} N{a} + {1 + draws.below(9)} N{b} - {1 + draws.below(9)} N{c} = {draws.below(1000)}")
+        lines.append(f"{1 + draws.below(9)} N{a} + {1 + draws.below(9)} N{b} - {1 + draws.below(9)} N{c} {sign} {draws.below(1000)}")
     return lines
+
+
+def balances(draws):
+    return compared(draws, "=")
+
+
+def sums(draws):
+    return compared(draws, "<=")
 
 
 def ratios(draws):
     lines = numbers(64)
     for _ in range(500):
         a, b = distinct(draws, 2, 64)
-        lines.append(f"{1 + draws.below(9)} N{a} = {1 + draws.below(9)} N{b}")
+        lines.append(f"{1 + draws.below(9)} N{a} <= {1 + draws.below(9)} N{b}")
     return lines
 
 
@@ -56,7 +65,7 @@ def late(draws):
     lines = numbers(64)
     for _ in range(500):
         a, b = draws.below(40), 40 + draws.below(24)
-        lines.append(f"{1 + draws.below(9)} N{a} = {1 + draws.below(9)} N{b}")
+        lines.append(f"{1 + draws.below(9)} N{a} <= {1 + draws.below(9)} N{b}")
     return lines
 
 
@@ -80,7 +89,7 @@ def bounds(draws):
 
 def main():
     shape, file = sys.argv[1:]
-    shapes = {it.__name__: it for it in (balances, ratios, late, codes, bounds)}
+    shapes = {it.__name__: it for it in (balances, sums, ratios, late, codes, bounds)}
     with open(file, "w", encoding="ascii") as out:
         out.write("\n".join(shapes[shape](Draws(1))) + "\n")
 
