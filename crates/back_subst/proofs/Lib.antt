@@ -38,5 +38,4 @@ pub mod PathSetLaws
 pub mod GivenAlike
 pub mod HowLaws
 pub mod ValueLaws
-mod TestRecords
 mod WorkedValues

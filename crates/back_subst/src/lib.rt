@@ -15,8 +15,6 @@ mod line_bounds;
 mod number;
 mod order;
 mod path_set;
-#[cfg(test)]
-mod tests;
 mod value;
 
 pub use gift::{Gift, GiveFault, How};

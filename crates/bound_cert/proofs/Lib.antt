@@ -5,4 +5,5 @@ pub mod Letters
 pub mod OrderLoop
 pub mod PathLaws
 pub mod PathLoops
+pub mod SharedTreeLaws
 pub mod TreeLaws

@@ -13,6 +13,7 @@ mod order;
 mod outcome;
 mod path;
 mod path_fields;
+mod sharing;
 mod task;
 mod verdict;
 
@@ -21,3 +22,4 @@ pub use check::check_cert;
 pub use fault::CertFault;
 pub use outcome::{Event, GiftFault, Outcome, RowProof};
 pub use path::Path;
+pub use sharing::sharing_laws;

@@ -21,6 +21,7 @@ use Rattle.cert_check.specs.Dropped.{drop_fault}
 use Rattle.cert_check.specs.Places.{records_line}
 use Rattle.cert_check.specs.Releases.{Audit, AreReleased, AreValidRows, Fits, IsFaultAmong, IsFirstFailure, IsValidRelease, Spells, behind, files_of, head_fault, is_released, limits_fit, rules_of}
 use Rattle.cert_check.specs.RowChecks.{IsChangeFault, IsGiftFault, IsSaidFault, RowFiles, RowRules}
+use Rattle.cert_check.specs.Tables.{table_fault}
 use Rattle.cert_check.specs.declared.fault.CheckFault.TheVariants as fault
 use Rattle.cert_check.specs.declared.fault.Why.{Why}
 use Rattle.cert_check.specs.declared.fault.Why.TheVariants as why
@@ -71,12 +72,14 @@ change-why r f path zero leaves offset why.Cert is = tt
 change-why r f path zero leaves offset why.Grammar is = absurd is
 change-why r f path zero leaves offset why.Head is = absurd is
 change-why r f path zero leaves offset why.Drop is = absurd is
+change-why r f path zero leaves offset why.Table is = absurd is
 change-why r f path zero leaves offset why.Claims is = absurd is
 change-why r f path (suc n) leaves offset why.RowText is = tt
 change-why r f path (suc n) leaves offset why.Cert is = tt
 change-why r f path (suc n) leaves offset why.Grammar is = absurd is
 change-why r f path (suc n) leaves offset why.Head is = absurd is
 change-why r f path (suc n) leaves offset why.Drop is = absurd is
+change-why r f path (suc n) leaves offset why.Table is = absurd is
 change-why r f path (suc n) leaves offset why.Claims is = absurd is
 
 gift-why : (r : RowRules) (f : RowFiles) (path : List Bool) (weight : ℕ) (leaves : List Leaf) (g : GiftFault) (offset : ℕ) (w : Why) → IsGiftFault r f path weight leaves g offset w → OfRecord w
@@ -85,6 +88,7 @@ gift-why r f path weight leaves g offset why.Cert is = tt
 gift-why r f path weight leaves g offset why.Grammar is = absurd is
 gift-why r f path weight leaves g offset why.Head is = absurd is
 gift-why r f path weight leaves g offset why.Drop is = absurd is
+gift-why r f path weight leaves g offset why.Table is = absurd is
 gift-why r f path weight leaves g offset why.Claims is = absurd is
 
 said-why : (r : RowRules) (f : RowFiles) (outcome : Outcome) (gift : Option GiftFault) (offset : ℕ) (w : Why) → IsSaidFault r f outcome gift offset w → OfRecord w
@@ -95,14 +99,17 @@ said-why r f outcome gift offset why.Cert is = tt
 said-why r f (Budget path work) gift offset why.Grammar is = absurd is
 said-why r f (Budget path work) gift offset why.Head is = absurd is
 said-why r f (Budget path work) gift offset why.Drop is = absurd is
+said-why r f (Budget path work) gift offset why.Table is = absurd is
 said-why r f (Budget path work) gift offset why.Claims is = absurd is
 said-why r f (Overflow path event) gift offset why.Grammar is = absurd is
 said-why r f (Overflow path event) gift offset why.Head is = absurd is
 said-why r f (Overflow path event) gift offset why.Drop is = absurd is
+said-why r f (Overflow path event) gift offset why.Table is = absurd is
 said-why r f (Overflow path event) gift offset why.Claims is = absurd is
 said-why r f (Contradictory cert) gift offset why.Grammar is = absurd is
 said-why r f (Contradictory cert) gift offset why.Head is = absurd is
 said-why r f (Contradictory cert) gift offset why.Drop is = absurd is
+said-why r f (Contradictory cert) gift offset why.Table is = absurd is
 said-why r f (Contradictory cert) gift offset why.Claims is = absurd is
 
 among-why : (r : RowRules) (saids : List RowProof) (row_texts : List (List (List ℕ))) (rows : List (List Value)) (released : List (List (List ℕ))) (offset : ℕ) (w : Why) → IsFaultAmong r saids row_texts rows released offset w → OfRecord w
@@ -136,9 +143,16 @@ module _ (a : Audit) (p : Proof) (spelled : Spells a.proof p) where
       some-none : (o : Option ℕ) (n : ℕ) → o ≡ Some n → o ≡ None → ⊥
       some-none o n some none = cc
 
-  module _ (head : head_fault a p ≡ None) (dropped : drop_fault a.survey p ≡ None) (bytes : List ℕ) (sheet : IsSheet a.survey.fields bytes a.sheet) where
+  -- a step of the table that gives no line
+  pub table-answers : (line : ℕ) → head_fault a p ≡ None → drop_fault a.survey p ≡ None → table_fault a.survey p ≡ Some line → Answers a (Err (fault.Rejected line why.Table))
+  table-answers line head dropped found = ((p, spelled, (head, dropped, found)), λ valid. absurd (some-none (table_fault a.survey p) line found (valid-fits valid).table))
+    where
+      some-none : (o : Option ℕ) (n : ℕ) → o ≡ Some n → o ≡ None → ⊥
+      some-none o n some none = cc
+
+  module _ (head : head_fault a p ≡ None) (dropped : drop_fault a.survey p ≡ None) (table : table_fault a.survey p ≡ None) (bytes : List ℕ) (sheet : IsSheet a.survey.fields bytes a.sheet) where
     fits : Fits a p
-    fits = record { spelled = spelled; head = head; dropped = dropped }
+    fits = record { spelled = spelled; head = head; dropped = dropped; table = table }
 
     pub as-released : (rows : List (List (List ℕ))) → AreRowsOf a.sheet.header a.released (length (filter is_released p.rows)) rows → AreReleased a p rows
     as-released rows are = record { first = are.first; given = are.given; header = are.same; long = are.long; one_each = are.counted }
@@ -173,6 +187,7 @@ module _ (a : Audit) (p : Proof) (spelled : Spells a.proof p) where
           failure why.Grammar of is = absurd of
           failure why.Head of is = absurd of
           failure why.Drop of is = absurd of
+          failure why.Table of is = absurd of
           failure why.Claims of is = absurd of
 
       module _ (valid : AreValidRows (rules_of a p) p.rows a.sheet.row_texts a.sheet.rows rows) where

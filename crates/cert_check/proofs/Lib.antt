@@ -12,7 +12,10 @@ pub mod PlaceLaws
 pub mod ReleasedFileLaws
 pub mod ReleasedLaws
 pub mod RowsLoop
+pub mod SharedReleaseLaws
+pub mod SharedRowLaws
 pub mod ShownLaws
+pub mod TableLaws
 pub mod ValueLaws
 pub mod ValueLoop
 pub mod VerdictsLoop

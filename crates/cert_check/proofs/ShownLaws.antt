@@ -1,4 +1,5 @@
-use Rattle.std.proofs.Common.{◌≡◌, ℕ, zero, suc, ◌≤◌, Bool, true, List, [], ◌∷◌, Option, Some, None, IsSomeAnd, ap, ◌∙◌, arith}
+use Rattle.std.proofs.Common.{◌≡◌, ℕ, zero, suc, ◌≤◌, Bool, true, List, [], ◌∷◌, ◌++◌, ◌⊎◌, inl, inr, Option, Some, None, IsSomeAnd, is_none, length, map, ap, ◌∙◌, arith}
+use Rattle.std.proofs.lemmas.List.{length-map}
 use Rattle.std.specs.List.{AllByRecursion}
 use Rattle.std.proofs.lemmas.Bool.Decides.{Decides-eqb}
 use Rattle.edit_model.specs.Corrections.{IsCorrection, change_weight}
@@ -14,7 +15,11 @@ use Rattle.edit_line.proofs.Members.{all-in, in-all}
 use Rattle.edit_normal.specs.RuleLines.{normal_lines_of}
 use Rattle.edit_normal.proofs.MeaningLaws.{lines-mean}
 use Rattle.edit_normal.proofs.NormalLines.{normal-over}
+use Rattle.edit_line.specs.Reductions.{IsIn}
+use Rattle.edit_line.specs.Shapes.{shape_of}
+use Rattle.derivation.specs.LineLists.{AllFollowFrom, no_record}
 use Rattle.derivation.specs.Premises.{usable_lines}
+use Rattle.derivation.proofs.LineListLaws.{table-follows}
 use Rattle.derivation.proofs.RefutationLaws.{usable-among}
 use Rattle.donor_book.proofs.LegalLaws.{uses_within}
 use Rattle.record_text.specs.Sheets.{IsSheet, text_at}
@@ -34,6 +39,9 @@ use Rattle.cert_check.specs.Released.{IsReleasedAs}
 use Rattle.cert_check.specs.Releases.{AreValidRows, Audit, Fits, IsValidRelease, behind, files_of, rules_of}
 use Rattle.cert_check.specs.RowChecks.{AreReleasedTexts, IsValidChange, IsValidSaid, RowFiles, fits_change, tree_of}
 use Rattle.cert_check.specs.Shown.{IsLeastRelease, ShowAll, Shows, ShowsSaid}
+use Rattle.cert_check.specs.Tables.{shared_lines}
+use Rattle.cert_check.proofs.AuditLaws.{counts-fit}
+use Rattle.cert_check.proofs.TableLaws.{over-both, table-lines, usable-with}
 use Rattle.cert_check.proofs.DroppedLaws.{rules-follow}
 use Rattle.cert_check.proofs.NewRowLaws.{differing-weighs, empty-weighs, row-differs, values-row, clean-agrees, clean-corrects}
 
@@ -48,9 +56,29 @@ module _ (a : Audit) (p : Proof) (well : IsWellFormed a.survey) (fits : Fits a p
   -- no correction is lighter than a valid tree says
   none-lighter : (weight : Option ℕ) (leaves : List Leaf) → IsValidTree (tree_of (rules_of a p) f weight) leaves → (q : Point) → IsCorrection a.survey q → IsSomeAnd weight (λ w. w ≤ change_weight a.survey f.row q)
   none-lighter weight leaves valid q correction =
-      tree-shows (tree_of (rules_of a p) f weight) are (normal-over a.survey) leaves valid q correction.codes
-      (all-in (λ l. lines.LineHolds l q) (usable_lines (normal_lines_of a.survey) (kept_flags p)) (λ l there.
-      in-all (λ l. lines.LineHolds l q) l (normal_lines_of a.survey) ((lines-mean a.survey q well correction.codes).1 correction.rules) (usable-among (normal_lines_of a.survey) (kept_flags p) l there)))
+      tree-shows (tree_of (rules_of a p) f weight) are (over-both (shape_of a.survey.fields) rules shared (normal-over a.survey) known.1) leaves valid q correction.codes
+      (all-in (λ l. lines.LineHolds l q) (usable_lines (rules ++ shared) (kept_flags p ++ map (λ l. true) shared)) (λ l there. either l (usable-with rules (kept_flags p) shared l even there)))
+    where
+      rules : List LineParts
+      rules = normal_lines_of a.survey
+
+      shared : List LineParts
+      shared = shared_lines a.survey p
+
+      even : length rules ≡ length (kept_flags p)
+      even = omega (arith, (counts-fit a p fits.head).0, length-map p.verdicts is_none)
+
+      known : AllFollowFrom (no_record a.survey rules (kept_flags p)) shared × AreOver (shape_of a.survey.fields) shared
+      known = table-follows (no_record a.survey rules (kept_flags p)) p.table shared (normal-over a.survey) (table-lines a.survey p fits.table)
+
+      -- the lines of the rules that are kept hold
+      kept-holds : (l : LineParts) → IsIn l (usable_lines rules (kept_flags p)) → lines.LineHolds l q
+      kept-holds l there = in-all (λ l. lines.LineHolds l q) l rules ((lines-mean a.survey q well correction.codes).1 correction.rules) (usable-among rules (kept_flags p) l there)
+
+      -- and so do those that follow from them
+      either : (l : LineParts) → IsIn l (usable_lines rules (kept_flags p)) ⊎ IsIn l shared → lines.LineHolds l q
+      either l (inl there) = kept-holds l there
+      either l (inr there) = known.0 l there q (all-in (λ l. lines.LineHolds l q) (usable_lines rules (kept_flags p)) kept-holds)
 
   -- the weight of a path that is right
   right-weight : (path : List Bool) (weight : ℕ) → fits_change a.survey.fields f.row path weight ≡ true → path_weight a.survey.fields path ≡ weight
@@ -117,6 +145,7 @@ release-shows a well bytes sheet valid = record {
   proof = valid.proof;
   spelled = valid.fits.spelled;
   follow = rules-follow a valid.proof well valid.fits;
+  shared = (table-follows (no_record a.survey (normal_lines_of a.survey) (kept_flags valid.proof)) valid.proof.table (shared_lines a.survey valid.proof) (normal-over a.survey) (table-lines a.survey valid.proof valid.fits.table)).0;
   rows = valid.rows;
   released = valid.released;
   each = rows-show a valid.proof well valid.fits valid.proof.rows a.sheet.row_texts a.sheet.rows valid.rows valid.fits.spelled.plain.rows.1 (rows_are_records a.survey.fields bytes a.sheet sheet) valid.each;

@@ -4,6 +4,8 @@ pub mod Places
 pub mod Released
 pub mod Releases
 pub mod RowChecks
+pub mod SharedRows
 pub mod Shown
+pub mod Tables
 pub mod Texts
 pub mod inner

@@ -2,14 +2,18 @@
 use Rattle.std.specs.Prelude.{ℕ, suc, ◌+◌, List, [], ◌∷◌, Option, Some, None, length, take}
 use Rattle.std.specs.List.{flat_map}
 use Rattle.bound_cert.specs.declared.cert.Leaf.{Leaf}
-use Rattle.proof_grammar.specs.ProofLines.{leaf_lines, row_lines, verdict_lines}
+use Rattle.proof_grammar.specs.ProofLines.{has_table, leaf_lines, row_lines, table_lines, verdict_lines}
 use Rattle.proof_grammar.specs.declared.proof.Proof.{Proof}
 
 -- ---- in the file, from 1; the first three lines are the version, the limits and the count of the verdicts
 
+-- the line that counts the steps of the table, where there is one
+abbrev pub table_line : Proof → ℕ
+table_line p = 4 + length (flat_map verdict_lines p.verdicts)
+
 -- the line that counts the records
 abbrev pub records_line : Proof → ℕ
-records_line p = 4 + length (flat_map verdict_lines p.verdicts)
+records_line p = table_line p + length (table_lines (has_table p.version) p.table)
 
 -- the line that counts the claims
 abbrev pub claims_line : Proof → ℕ

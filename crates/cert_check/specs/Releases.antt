@@ -17,7 +17,8 @@ use Rattle.proof_grammar.specs.declared.proof.Proof.{Proof}
 use Rattle.cert_check.specs.Claims.{AreValidClaims, IsClaimsFault}
 use Rattle.cert_check.specs.Dropped.{drop_fault, kept_flags}
 use Rattle.cert_check.specs.Places.{records_line}
-use Rattle.cert_check.specs.RowChecks.{IsRowFault, IsValidRow, RowFiles, RowRules}
+use Rattle.cert_check.specs.RowChecks.{IsRowFault, IsValidRow, RowFiles, RowRules, rules_with}
+use Rattle.cert_check.specs.Tables.{shared_lines, table_fault}
 use Rattle.cert_check.specs.declared.fault.CheckFault.{CheckFault}
 use Rattle.cert_check.specs.declared.fault.CheckFault.TheVariants as fault
 use Rattle.cert_check.specs.declared.fault.Why.{Why}
@@ -84,10 +85,11 @@ pub record AreReleased (a : Audit) (p : Proof) (rows : List (List (List ℕ))) :
 
 -- ---- the records
 
--- by what the records are checked
+-- by what the records are checked: the lines of the rules, of which those that are kept may be used, and the lines that all records share
 abbrev pub rules_of : Audit → Proof → RowRules
-rules_of a p =
-    record { survey = a.survey; given = normal_lines_of a.survey; usable = kept_flags p; columns = a.sheet.columns; budget = p.budget }
+rules_of a p = rules_with
+    (record { survey = a.survey; given = normal_lines_of a.survey; usable = kept_flags p; columns = a.sheet.columns; budget = p.budget })
+    (shared_lines a.survey p)
 
 -- the next of the released rows, if the record is released
 abbrev pub next_texts : RowProof → List (List (List ℕ)) → Option (List (List ℕ))
@@ -120,11 +122,13 @@ IsFaultAmong r _ _ _ released offset why = ⊥
 
 -- ---- a valid release
 
--- the proof fits the rules and the records: its limits and counts do, and each line of the rules that it drops is refuted
+-- the proof fits the rules and the records: its limits and counts do, each line of the rules that it drops is refuted, and each step
+-- of its table gives a line
 pub record Fits (a : Audit) (p : Proof) : Type 0 where
   pub spelled : Spells a.proof p
   pub head : head_fault a p ≡ None
   pub dropped : drop_fault a.survey p ≡ None
+  pub table : table_fault a.survey p ≡ None
 
 -- the files are a valid release: the proof fits, the released rows are those that it tells of, what it says of each record is
 -- right, and so are its claims of donors
@@ -165,6 +169,8 @@ abbrev pub IsFirstFailure : Audit → ℕ → Why → Type 0
 IsFirstFailure a line why.Grammar = IsFirstFaultyLine a.proof line
 IsFirstFailure a line why.Head = OfProof a (λ p. head_fault a p ≡ Some line)
 IsFirstFailure a line why.Drop = OfProof a (λ p. (head_fault a p ≡ None) × (drop_fault a.survey p ≡ Some line))
+IsFirstFailure a line why.Table = OfProof a (λ p.
+    (head_fault a p ≡ None) × (drop_fault a.survey p ≡ None) × (table_fault a.survey p ≡ Some line))
 IsFirstFailure a line why.Cert = IsRecordFault a line why.Cert
 IsFirstFailure a line why.RowText = IsNotReleased a line ⊎ IsRecordFault a line why.RowText
 IsFirstFailure a line why.Claims =

@@ -1,5 +1,5 @@
 -- What a proof has to say of one record.
-use Rattle.std.specs.Prelude.{◌≡◌, ◌⊎◌, ℕ, zero, suc, ◌≤◌, ◌==◌, ◌&&◌, not, nat_le, nat_lt, Bool, true, false, List, Option, Some, None, IsSomeAnd, length}
+use Rattle.std.specs.Prelude.{◌≡◌, ◌⊎◌, ℕ, zero, suc, ◌≤◌, ◌==◌, ◌&&◌, not, nat_le, nat_lt, ◌++◌, map, Bool, true, false, List, Option, Some, None, IsSomeAnd, length}
 use Rattle.edit_model.specs.Parts.{SurveyParts}
 use Rattle.edit_model.specs.declared.field.Field.{Field}
 use Rattle.edit_model.specs.declared.value.Value.{Value}
@@ -28,6 +28,16 @@ pub record RowRules : Type 0 where
   pub usable : List Bool
   pub columns : List ℕ
   pub budget : ℕ
+
+-- the same, where the lines of a table stand behind the others, and may all be used
+abbrev pub rules_with : RowRules → List LineParts → RowRules
+rules_with r lines = record {
+  survey = r.survey;
+  given = r.given ++ lines;
+  usable = r.usable ++ map (λ line. true) lines;
+  columns = r.columns;
+  budget = r.budget;
+}
 
 -- a record: the texts and the values that were read, and the texts that are released of it, if some are
 pub record RowFiles : Type 0 where

@@ -6,6 +6,7 @@ use Rattle.edit_model.specs.Points.{Point}
 use Rattle.edit_model.specs.RowPoints.{Agrees}
 use Rattle.edit_model.specs.declared.value.Value.{Value}
 use Rattle.edit_normal.specs.RuleLines.{normal_lines_of}
+use Rattle.derivation.specs.LineLists.{AllFollowFrom, no_record}
 use Rattle.derivation.specs.Refutations.{AllFollow}
 use Rattle.bound_cert.specs.Paths.{changes}
 use Rattle.bound_cert.specs.declared.outcome.GiftFault.{GiftFault}
@@ -19,6 +20,7 @@ use Rattle.record_text.specs.Sheets.{text_at}
 use Rattle.cert_check.specs.Released.{AreValuesFrom}
 use Rattle.cert_check.specs.Releases.{Audit, AreReleased, Spells, behind, files_of}
 use Rattle.cert_check.specs.RowChecks.{RowFiles}
+use Rattle.cert_check.specs.Tables.{shared_lines}
 use Rattle.proof_grammar.specs.declared.proof.Proof.{Proof}
 
 -- the point has the record's value at each field
@@ -56,13 +58,14 @@ ShowAll survey columns (said ∷ saids) (reads ∷ row_texts) (row ∷ rows) rel
     × ShowAll survey columns saids row_texts rows (behind said released)
 ShowAll survey columns _ _ _ released = ⊥
 
--- what the files show: each line of the rules follows from those that are kept, the released rows are corrections of least
--- weight, for what is told to be contradictory there is no correction, and the claims are a legal history, in which no donor is
--- given more often than the limit
+-- what the files show: each line of the rules follows from those that are kept, and so does each line that all records share; the
+-- released rows are corrections of least weight, for what is told to be contradictory there is no correction, and the claims are a
+-- legal history, in which no donor is given more often than the limit
 pub record Shows (a : Audit) : Type 0 where
   pub proof : Proof
   pub spelled : Spells a.proof proof
   pub follow : AllFollow (normal_lines_of a.survey) (kept_flags proof)
+  pub shared : AllFollowFrom (no_record a.survey (normal_lines_of a.survey) (kept_flags proof)) (shared_lines a.survey proof)
   pub rows : List (List (List ℕ))
   pub released : AreReleased a proof rows
   pub each : ShowAll a.survey a.sheet.columns proof.rows a.sheet.row_texts a.sheet.rows rows

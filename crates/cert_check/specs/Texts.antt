@@ -11,6 +11,7 @@ abbrev pub why_text : Why → List ℕ
 why_text why.Grammar = codes "Grammar"
 why_text why.Head = codes "Head"
 why_text why.Drop = codes "Drop"
+why_text why.Table = codes "Table"
 why_text why.Cert = codes "Cert"
 why_text why.RowText = codes "RowText"
 why_text why.Claims = codes "Claims"

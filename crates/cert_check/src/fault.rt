@@ -11,6 +11,8 @@ pub enum Why {
     /// A line of the rules is dropped, and the steps do not refute its negation: the line is the first step that is
     /// not valid, or the one that drops the line.
     Drop,
+    /// A step of the table gives no line: the line is the first such step.
+    Table,
     /// What is said of a record is not right: its path, its weight, or its tree.
     Cert,
     /// The released file is not what the proof tells of. Line 0 is the file as a whole.
@@ -31,6 +33,7 @@ impl fmt::Display for Why {
             Why::Grammar => "Grammar",
             Why::Head => "Head",
             Why::Drop => "Drop",
+            Why::Table => "Table",
             Why::Cert => "Cert",
             Why::RowText => "RowText",
             Why::Claims => "Claims",

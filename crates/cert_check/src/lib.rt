@@ -21,7 +21,10 @@ mod rows_check;
 mod said;
 mod said_check;
 mod same_texts;
+mod sharing;
+mod table;
 mod tree_check;
 
 pub use check::check_all;
 pub use fault::{CheckFault, Why};
+pub use sharing::sharing_laws;

@@ -1,9 +1,9 @@
 //! How many lines the parts of a proof take, and the numbers of some of its lines.
 ghost use Rattle.std.specs.Prelude.{◌≡◌, ◌<◌, ◌^◌, length};
 ghost use Rattle.std.specs.List.{flat_map};
-ghost use Rattle.cert_check.specs.Places.{claims_line, records_line};
+ghost use Rattle.cert_check.specs.Places.{claims_line, records_line, table_line};
 ghost use Rattle.cert_check.specs.inner.Counts.{AreCounted, IsCounted};
-ghost use Rattle.proof_grammar.specs.ProofLines.{leaf_lines, row_lines, verdict_lines};
+ghost use Rattle.proof_grammar.specs.ProofLines.{has_table, leaf_lines, row_lines, table_lines, verdict_lines};
 
 use bound_cert::{Leaf, LeafWhy, Outcome, RowProof};
 use derivation::Step;
@@ -82,12 +82,32 @@ fn verdicts_line_count(verdicts: &[Option<Sequence<Step>>]) -> u64
     count
 }
 
+// How many lines the table takes.
+fn table_line_count(proof: &Proof) -> u64
+    requires { length (table_lines (has_table proof.now.version) proof.now.table) < 2 ^ 64 }
+    ensures { result ≡ length (table_lines (has_table proof.now.version) proof.now.table) }
+{
+    if proof.version == 2 {
+        1 + proof.table.as_slice().len() as u64
+    } else {
+        0
+    }
+}
+
+/// The number of the line that counts the steps of the table, from 1, where there is one. No memory.
+pub(crate) fn table_line(proof: &Proof) -> u64
+    requires { IsCounted proof.now }
+    ensures { result ≡ table_line proof.now }
+{
+    4 + verdicts_line_count(proof.verdicts.as_slice())
+}
+
 /// The number of the line that counts the records, from 1. No memory.
 pub(crate) fn records_line(proof: &Proof) -> u64
     requires { IsCounted proof.now }
     ensures { result ≡ records_line proof.now }
 {
-    4 + verdicts_line_count(proof.verdicts.as_slice())
+    table_line(proof) + table_line_count(proof)
 }
 
 /// The number of the line that counts the claims, from 1. No memory.

@@ -1,10 +1,12 @@
 //! Whether a proof, as it was read, is right for rules, records and released bytes.
-ghost use Rattle.std.specs.Prelude.{◌≡◌, ◌≤◌, ℕ, List, None, length};
+ghost use Rattle.std.specs.Prelude.{◌≡◌, ◌≤◌, ◌++◌, ℕ, List, None, length, map, true};
 ghost use Rattle.std.specs.List.{filter};
 ghost use Rattle.edit_line.specs.Lines.{AreOver};
 ghost use Rattle.edit_line.specs.Shapes.{shape_of};
 ghost use Rattle.edit_normal.specs.RuleLines.{normal_lines_of};
-ghost use Rattle.cert_check.specs.Dropped.{drop_fault};
+ghost use Rattle.proof_grammar.specs.Limits.{IsPlain};
+ghost use Rattle.cert_check.specs.Dropped.{drop_fault, kept_flags};
+ghost use Rattle.cert_check.specs.Tables.{shared_lines, table_fault};
 ghost use Rattle.cert_check.specs.Releases.{Spells, head_fault, is_released};
 ghost use Rattle.cert_check.specs.inner.Answers.{Answers, IsOfSheet, audit_in};
 ghost use Rattle.cert_check.specs.inner.Counts.{IsCounted};
@@ -19,6 +21,7 @@ use crate::head::head_fault;
 use crate::line_counts::records_line;
 use crate::released_file::released_rows;
 use crate::rows_check::{is_released, rows_fault};
+use crate::table::table_fault;
 use bound_cert::RowProof;
 use edit_line::Line;
 use edit_model::Survey;
@@ -44,6 +47,7 @@ pub(crate) fn check_said(
     bytes: usize,
 ) -> Result<u32, CheckFault>
     requires sheet { IsOfSheet audit.now }
+    requires plain { IsPlain said.now }
     requires counted { length (proof_lines said.now) ≤ bytes }
     ensures { (text : List ℕ) → Spells text said.now → Answers (audit_in audit.now text) result }
 {
@@ -55,23 +59,30 @@ pub(crate) fn check_said(
     if let Some(line) = drop_fault(alloc, audit.rules, &mut lines, said)? {
         return Err(rejected(line, Why::Drop));
     }
-    check_records(alloc, audit, &lines, said)
+    let mut usable = kept_flags(alloc, said.verdicts.as_slice())?;
+    if let Some(line) = table_fault(alloc, audit.rules, &mut lines, &mut usable, said)? {
+        return Err(rejected(line, Why::Table));
+    }
+    check_records(alloc, audit, &lines, &usable, said)
 }
 
-// How many records are released, or the first condition that fails, of a proof whose limits and counts fit, and which
-// refutes each line of the rules that it drops.
+// How many records are released, or the first condition that fails, of a proof whose limits and counts fit, which
+// refutes each line of the rules that it drops, and whose table gives lines.
 fn check_records(
     alloc: Global,
     audit: &Audit,
     lines: &[Line],
+    usable: &[bool],
     said: &Proof,
 ) -> Result<u32, CheckFault>
     requires sheet { IsOfSheet audit.now }
     requires counted { IsCounted said.now }
-    requires lines { lines.now ≡ normal_lines_of audit.now.rules.now }
+    requires lines { lines.now ≡ normal_lines_of audit.now.rules.now ++ shared_lines audit.now.rules.now said.now }
+    requires usable { usable.now ≡ kept_flags said.now ++ map (λ line. true) (shared_lines audit.now.rules.now said.now) }
     requires over { AreOver (shape_of audit.now.rules.now.fields) lines.now }
     requires head { (bytes : List ℕ) → head_fault (audit_in audit.now bytes) said.now ≡ None }
     requires dropped { drop_fault audit.now.rules.now said.now ≡ None }
+    requires table { table_fault audit.now.rules.now said.now ≡ None }
     ensures { (bytes : List ℕ) → Spells bytes said.now → Answers (audit_in audit.now bytes) result }
 {
     let saids = said.rows.as_slice();
@@ -79,11 +90,10 @@ fn check_records(
     let Some(released) = released_rows(alloc, audit.records.header(), audit.released, count)? else {
         return Err(rejected(0, Why::RowText));
     };
-    let usable = kept_flags(alloc, said.verdicts.as_slice())?;
     let checking = Checking {
         survey: audit.rules,
         given: lines,
-        usable: &usable,
+        usable,
         columns: audit.records.columns(),
         budget: said.budget,
     };

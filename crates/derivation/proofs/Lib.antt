@@ -4,9 +4,13 @@ pub mod CoverLaws
 pub mod FailLaws
 pub mod FieldNumbers
 pub mod FourFields
+pub mod LineListLaws
 pub mod NegationShapes
 pub mod Places
 pub mod RefutationLaws
+pub mod SharedBoxLaws
+pub mod SharedLineLaws
 pub mod Soundness
 pub mod StepLoop
+pub mod TableLaws
 pub mod WholeBoxes

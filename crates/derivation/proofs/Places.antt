@@ -9,7 +9,7 @@ use Rattle.derivation.specs.declared.step.Step.{Step}
 -- The place that is named of a list of steps is that of one of them.
 
 -- valid steps prove as many things as they are
-length-proved_from : (p : Premises) (earlier : List Proved) (steps : List Step) (all : List Proved) → proved_from p earlier steps ≡ Ok all → length all ≡ length earlier + length steps
+pub length-proved_from : (p : Premises) (earlier : List Proved) (steps : List Step) (all : List Proved) → proved_from p earlier steps ≡ Ok all → length all ≡ length earlier + length steps
 length-proved_from p earlier [] all e = let same : earlier ≡ all = cc in omega (arith, ap length same)
 length-proved_from p earlier (step ∷ steps) all e = by (proved_by p earlier step) (λ proved h. length-proved_from p (earlier ++ proved ∷ []) steps all h) e
   where

@@ -59,12 +59,12 @@ last-in before (y ∷ all) last e = by (last-in (Some y) all last e)
 
 -- ---- what was proved
 
-was-line : (o : Option Proved) (line : LineParts) → as_line o ≡ Some line → o ≡ Some (proved.Line line)
+pub was-line : (o : Option Proved) (line : LineParts) → as_line o ≡ Some line → o ≡ Some (proved.Line line)
 was-line None line e = absurd (cc)
 was-line (Some (proved.Box code_box)) line e = absurd (cc)
 was-line (Some (proved.Line s)) line e = let same : s ≡ line = cc in ap (λ (l : LineParts). Some (proved.Line l)) same
 
-was-box : (o : Option Proved) (sets : List ℕ) → as_box o ≡ Some sets → (code_box : BoxParts) × (o ≡ Some (proved.Box code_box)) × (code_box.sets ≡ sets)
+pub was-box : (o : Option Proved) (sets : List ℕ) → as_box o ≡ Some sets → (code_box : BoxParts) × (o ≡ Some (proved.Box code_box)) × (code_box.sets ≡ sets)
 was-box None sets e = absurd (cc)
 was-box (Some (proved.Line line)) sets e = absurd (cc)
 was-box (Some (proved.Box code_box)) sets e = (code_box, refl, cc)
@@ -108,7 +108,7 @@ module _ (p : Premises) where
 
   -- ---- the kinds of steps
 
-  given-known : AreOver p.shape p.given → (place : ℕ) (x : Proved) → given_line p place ≡ Some x → IsKnown p x
+  pub given-known : AreOver p.shape p.given → (place : ℕ) (x : Proved) → given_line p place ≡ Some x → IsKnown p x
   given-known over place x e = by (slice_index_or p.usable place false) refl e
     where
       by : (b : Bool) → slice_index_or p.usable place false ≡ b → (if b then (slice_get p.given place >>? (λ line. Some (proved.Line line))) else None) ≡ Some x → IsKnown p x
@@ -121,7 +121,7 @@ module _ (p : Premises) where
             in-all (λ (l : LineParts). l.shape ≡ p.shape) line p.given over (in-get line p.given place found),
           )
 
-  combine-known : (m n g : ℤ) (s t : LineParts) (x : Proved) → IsKnown p (proved.Line s) → IsKnown p (proved.Line t) → combined_line m n g s t ≡ Some x → IsKnown p x
+  pub combine-known : (m n g : ℤ) (s t : LineParts) (x : Proved) → IsKnown p (proved.Line s) → IsKnown p (proved.Line t) → combined_line m n g s t ≡ Some x → IsKnown p x
   combine-known m n g s t x (s_shown, s_over) (t_shown, t_over) e =
       let (may, same) = was-true (may_combine m n g s t) (proved.Line (divided_by g (sum_of m n s t))) x e in
       subst (λ (y : Proved). IsKnown p y) same (λ point hold. combined-holds m n g s t (t_over ∙ sym s_over) may point (s_shown point hold) (t_shown point hold), s_over)

@@ -4,7 +4,7 @@ ghost use Rattle.std.specs.Ordering.{int_eq};
 ghost use Rattle.edit_line.specs.Combinations.{divides, may_multiply};
 ghost use Rattle.edit_line.specs.Divisors.{divided_by};
 ghost use Rattle.derivation.specs.inner.Bases.{premises, shape_in};
-ghost use Rattle.derivation.specs.inner.Meanings.{AllOver, meaning, meant};
+ghost use Rattle.derivation.specs.inner.Meanings.{AllOver, lined, meaning, meant};
 ghost use Rattle.derivation.specs.ValidSteps.{combined_line, only_if, proved_by};
 ghost use Rattle.derivation.specs.declared.proved.Proved.{Proved};
 ghost use Rattle.derivation.specs.declared.step.Step.{Step};
@@ -43,19 +43,29 @@ pub(crate) fn combined<'a>(
     };
     match line_at(known, b) {
         None => Ok(None),
-        Some(t) => combined_lines(alloc, by, s, t),
+        Some(t) => known_line(alloc, combined_lines(alloc, by, s, t)?),
     }
 }
 
-// The sum of the multiples of both lines, divided, if it may be taken.
-fn combined_lines<'a>(
+// What a step proved that made this line, if it did.
+fn known_line<'a>(alloc: Global, line: Option<Line>) -> Result<Option<Known<'a>>, OutOfMemory>
+    ensures { IfOk result (λ made. meant made ≡ lined line) }
+{
+    match line {
+        None => Ok(None),
+        Some(line) => Ok(Some(Known::of_line(alloc, line)?)),
+    }
+}
+
+/// The sum of the multiples of both lines, divided, if it may be taken.
+pub(crate) fn combined_lines(
     alloc: Global,
     by: Multipliers,
     s: &Line,
     t: &Line,
-) -> Result<Option<Known<'a>>, OutOfMemory>
+) -> Result<Option<Line>, OutOfMemory>
     requires { t.now.shape ≡ s.now.shape }
-    ensures { IfOk result (λ made. meant made ≡ combined_line by.first by.second by.divisor s.now t.now) }
+    ensures { IfOk result (λ line. lined line ≡ combined_line by.first by.second by.divisor s.now t.now) }
 {
     if !are_allowed(by, s, t) || !all_meet(s.sets(), t.sets()) {
         return Ok(None);
@@ -63,7 +73,7 @@ fn combined_lines<'a>(
     let mut sum = s.copy(alloc)?;
     match sum.write_sum(by.first, s, by.second, t) {
         Some(_) => Ok(None),
-        None => divided(alloc, sum, by.divisor),
+        None => Ok(divided(sum, by.divisor)),
     }
 }
 
@@ -75,19 +85,15 @@ fn are_allowed(by: Multipliers, s: &Line, t: &Line) -> bool
 }
 
 // The line, divided, if that leaves no remainder.
-fn divided<'a>(
-    alloc: Global,
-    mut line: Line,
-    divisor: i128,
-) -> Result<Option<Known<'a>>, OutOfMemory>
+fn divided(mut line: Line, divisor: i128) -> Option<Line>
     requires { pos 0 <ℤ divisor }
-    ensures { IfOk result (λ made. meant made ≡ only_if (divides divisor line) (Proved.Line (divided_by divisor line))) }
+    ensures { lined result ≡ only_if (divides divisor line) (Proved.Line (divided_by divisor line)) }
 {
     if !divides(divisor, &line) {
-        return Ok(None);
+        return None;
     }
     line.divide_by(divisor);
-    Ok(Some(Known::of_line(alloc, line)?))
+    Some(line)
 }
 
 // Whether all numbers of the line are multiples of the divisor.

@@ -1,23 +1,33 @@
-ghost use Rattle.std.specs.Prelude.{◌≡◌};
+ghost use Rattle.std.specs.Prelude.{◌≡◌, length, option_map};
 ghost use Rattle.derivation.specs.inner.Bases.{IsBasis, premises};
-ghost use Rattle.derivation.specs.inner.Meanings.{meant};
+ghost use Rattle.derivation.specs.inner.Meanings.{lined, meant};
+ghost use Rattle.derivation.specs.Premises.{Premises};
 ghost use Rattle.derivation.specs.ValidSteps.{given_line};
 
 use crate::basis::Basis;
 use crate::known::Known;
+use edit_line::Line;
 
 /// The given line at the place, if it is usable. No memory.
 pub(crate) fn given<'a>(basis: &Basis<'a>, place: u64) -> Option<Known<'a>>
     requires { IsBasis basis.now }
     ensures { meant result ≡ given_line (premises basis.now) place }
 {
-    if place >= basis.usable.len() as u64 {
+    match usable_line(basis.given, basis.usable, place) {
+        None => None,
+        Some(line) => Some(Known::Given(line)),
+    }
+}
+
+/// The given line at the place, if it is usable. No memory.
+pub(crate) fn usable_line<'l>(given: &'l [Line], usable: &[bool], place: u64) -> Option<&'l Line>
+    requires { length given.now ≡ length usable.now }
+    ensures { (p : Premises) → p.given ≡ given.now → p.usable ≡ usable.now
+        → lined (option_map (λ line. line.now) result) ≡ given_line p place }
+{
+    if place >= usable.len() as u64 {
         return None;
     }
     let at = place as usize;
-    if basis.usable[at] {
-        Some(Known::Given(&basis.given[at]))
-    } else {
-        None
-    }
+    if usable[at] { Some(&given[at]) } else { None }
 }

@@ -15,13 +15,17 @@ mod fault;
 mod fixing;
 mod given;
 mod known;
+mod listing;
 mod proved;
 mod refuting;
+mod sharing;
 mod step;
 
 pub use check::check_steps;
 pub use failing::fails_at_kept;
 pub use fault::StepsFault;
+pub use listing::line_list;
 pub use proved::Proved;
 pub use refuting::record_without_values;
+pub use sharing::sharing_laws;
 pub use step::Step;

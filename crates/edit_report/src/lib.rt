@@ -11,8 +11,6 @@ mod layout;
 mod reasons;
 mod released;
 mod summary;
-#[cfg(test)]
-mod tests;
 mod value_text;
 
 pub use end::RowEnd;

@@ -1,9 +1,11 @@
-use Rattle.std.proofs.Common.{◌≡◌, ℕ, List, [], ◌∷◌, Option, Some, None, codes, option_map, refl, ap, ◌∙◌, subst, arith}
+use Rattle.std.proofs.Common.{◌≡◌, ◌⊎◌, inl, inr, ℕ, if◌then◌else◌, List, [], ◌∷◌, Option, Some, None, codes, option_map, refl, sym, ap, ◌∙◌, subst, arith}
 use Rattle.std.specs.Fmt.{decimal}
+use Rattle.std.specs.Str.{bytes_eq}
+use Rattle.std.proofs.lemmas.Fmt.{decimal_digit}
 use Rattle.donor_book.specs.declared.claim.Entry.{Entry}
 use Rattle.bound_cert.specs.Paths.{named}
 use Rattle.proof_grammar.specs.declared.heads.RunLimits.{RunLimits}
-use Rattle.proof_grammar.specs.inner.FileReading.{claim_behind, claim_in, count_in, drop_in, end_in, entry_of, keep_in, limits_in, verdict_in, version_in}
+use Rattle.proof_grammar.specs.inner.FileReading.{claim_behind, claim_in, count_in, drop_in, end_in, entry_of, keep_in, limits_in, verdict_in, version_in, version_said}
 use Rattle.proof_grammar.proofs.HeadLines.{AreLimits, IsVerdictHead, limits_line, verdict_head}
 use Rattle.proof_grammar.specs.Limits.{IsEntry, IsLong, IsShort}
 use Rattle.proof_grammar.specs.ProofLines.{Line, claim_line, end_line, named_or_0, version_line}
@@ -11,7 +13,7 @@ use Rattle.proof_grammar.specs.Words.{named_short}
 use Rattle.proof_grammar.specs.inner.WordLists.{all_in}
 use Rattle.proof_grammar.proofs.MoreWordForms.{Always, IsOption, fixed_form, option_form}
 use Rattle.proof_grammar.proofs.Productions.{LineForm}
-use Rattle.proof_grammar.proofs.StepForms.{first-found}
+use Rattle.proof_grammar.proofs.StepForms.{chosen, first-found}
 use Rattle.proof_grammar.proofs.WordForms.{all-again, all-found, end-found, long_form, named_short_form, next-again, next-found, short_form}
 
 -- The forms of the lines of verdicts and claims, and of those that stand once in a file.
@@ -105,17 +107,44 @@ limits_form = record { read = limits_in; sample = record { limit = 0; near = 0; 
 
 -- ---- the first line and the last
 
-pub version-found : (l : Line) (u : Unit {0}) → version_in l ≡ Some u → Always u × (l ≡ version_line)
-version-found l u e =
-    let (v, w1, v_fits, e1, h1) = next-found Always (λ (u : Unit {0}). codes "fh-proof") (fixed_form (codes "fh-proof")) l _ u e in
-    let (x, w2, x_fits, e2, h2) = next-found Always (λ (u : Unit {0}). codes "1") (fixed_form (codes "1")) w1 _ u h1 in
-    let (own, none) = end-found tt u w2 h2 in (tt, e1 ∙ ap (λ (v : Line). codes "fh-proof" ∷ v) (e2 ∙ ap (λ (v : Line). codes "1" ∷ v) none))
+-- one of the versions
+abbrev pub IsVersion : ℕ → Type 0
+IsVersion version = (version ≡ 1) ⊎ (version ≡ 2)
 
-pub version-again : (u : Unit {0}) → Always u → version_in version_line ≡ Some u
-version-again u fits = refl
+one-word : codes "1" ≡ decimal 1
+one-word = sym (decimal_digit 1 (omega arith))
 
-abbrev pub version_form : LineForm Always (λ u. version_line)
-version_form = record { read = version_in; sample = tt; sound_sample = tt; again = version-again; found = version-found }
+two-word : codes "2" ≡ decimal 2
+two-word = sym (decimal_digit 2 (omega arith))
+
+number-again : (version : ℕ) → IsVersion version → version_said (decimal version) ≡ Some version
+number-again version (inl one) = ap (λ n. version_said (decimal n)) one ∙ ap version_said (sym one-word) ∙ ap (λ n. Some n) (sym one)
+number-again version (inr two) = ap (λ n. version_said (decimal n)) two ∙ ap version_said (sym two-word) ∙ ap (λ n. Some n) (sym two)
+
+number-found : (w : List ℕ) (version : ℕ) → version_said w ≡ Some version → IsVersion version × (w ≡ decimal version)
+number-found w version e = elim (chosen w (codes "1") (Some 1) (if bytes_eq w (codes "2") then Some 2 else None) version e) [
+  | inl (is, h) ↦ let own : 1 ≡ version = cc (h) in (inl (sym own), is ∙ one-word ∙ ap decimal own)
+  | inr later ↦ elim (chosen w (codes "2") (Some 2) None version later) [
+    | inl (is, h) ↦ let own : 2 ≡ version = cc (h) in (inr (sym own), is ∙ two-word ∙ ap decimal own)
+    | inr none ↦ absurd (cc (none))
+  ]
+]
+
+abbrev version_number : LineForm {L = List ℕ} IsVersion decimal
+version_number = record { read = version_said; sample = 1; sound_sample = inl refl; again = number-again; found = number-found }
+
+pub version-found : (l : Line) (version : ℕ) → version_in l ≡ Some version → IsVersion version × (l ≡ version_line version)
+version-found l version e =
+    let (v, w1, v_fits, e1, h1) = next-found Always (λ (u : Unit {0}). codes "fh-proof") (fixed_form (codes "fh-proof")) l _ version e in
+    let (x, w2, x_fits, e2, h2) = next-found IsVersion decimal version_number w1 _ version h1 in
+    let (own, none) = end-found x version w2 h2 in
+    (subst IsVersion own x_fits, e1 ∙ ap (λ (v : Line). codes "fh-proof" ∷ v) (e2 ∙ ap (λ (v : Line). decimal x ∷ v) none) ∙ ap version_line own)
+
+pub version-again : (version : ℕ) → IsVersion version → version_in (version_line version) ≡ Some version
+version-again version fits = next-again IsVersion decimal version_number version [] _ fits
+
+abbrev pub version_form : LineForm IsVersion version_line
+version_form = record { read = version_in; sample = 1; sound_sample = inl refl; again = version-again; found = version-found }
 
 pub ending-found : (l : Line) (u : Unit {0}) → end_in l ≡ Some u → Always u × (l ≡ end_line)
 ending-found l u e =

@@ -1,15 +1,16 @@
-use Rattle.std.proofs.Common.{◌≡◌, ◌⊎◌, inl, inr, ℕ, Bool, true, false, if◌then◌else◌, List, [], ◌∷◌, Option, Some, None, codes, option_map, refl, ap, ◌∙◌, subst, arith}
+use Rattle.std.proofs.Common.{◌≡◌, ◌⊎◌, inl, inr, ℕ, zero, suc, ◌+◌, ◌-◌, ◌^◌, ◌<◌, ◌≤◌, nat_lt, Bool, true, false, if◌then◌else◌, List, [], ◌∷◌, Option, Some, None, codes, option_map, refl, sym, ap, ◌∙◌, subst, arith}
 use Rattle.std.specs.Fmt.{signed_decimal}
 use Rattle.std.specs.List.{AllByRecursion}
 use Rattle.std.specs.Str.{bytes_eq}
+use Rattle.std.proofs.lemmas.Bool.Decides.{Decides-ltb}
 use Rattle.std.proofs.lemmas.Slice.Eq.{bytes_eq-Decides}
 use Rattle.fraction128.specs.Range.{InRange}
 use Rattle.derivation.specs.declared.step.Step.{Step}
 use Rattle.derivation.specs.declared.step.Step.TheVariants as step
 use Rattle.bound_cert.specs.Paths.{named}
-use Rattle.proof_grammar.specs.Limits.{IsLong, IsShort, IsStep}
-use Rattle.proof_grammar.specs.ProofLines.{Line, step_line}
-use Rattle.proof_grammar.specs.inner.StepReading.{combine_in, cover_in, fail_in, fix_in, given_in, step_in}
+use Rattle.proof_grammar.specs.Limits.{IsLong, IsShort, IsStep, IsTableStep}
+use Rattle.proof_grammar.specs.ProofLines.{Line, step_line_in, step_line}
+use Rattle.proof_grammar.specs.inner.StepReading.{combine_in, cover_in, ended_if, fail_in, few_given_in, fix_in, given_in, shared_in, shared_step_in, step_in, table_step_in}
 use Rattle.proof_grammar.specs.Words.{named_long}
 use Rattle.proof_grammar.specs.inner.WordLists.{all_in}
 use Rattle.proof_grammar.proofs.Productions.{LineForm}
@@ -44,6 +45,26 @@ first-found Good print (kind ∷ kinds) all w ws y e = elim (chosen w kind.0 (ki
 ]
 
 -- ---- found
+
+-- two words that differ
+other-word : (one other : List ℕ) → bytes_eq one other ≡ false → one ≡ other → ⊥
+other-word one other differs same = let is : bytes_eq one other ≡ true = (bytes_eq-Decides one other).1 same in cc
+
+not-below : (n m : ℕ) → m ≤ n → nat_lt n m ≡ false
+not-below n m least = by (nat_lt n m) refl
+  where
+    by : (b : Bool) → nat_lt n m ≡ b → nat_lt n m ≡ false
+    by false is = is
+    by true is = let less : n < m = (Decides-ltb n m).0 is in absurd (omega arith)
+
+at-least : (n m : ℕ) → nat_lt n m ≡ false → m ≤ n
+at-least n m is = elim (order n m) [ inl less ↦ let yes_less : nat_lt n m ≡ true = (Decides-ltb n m).1 less in absurd (cc) | inr least ↦ least ]
+  where
+    order : (n m : ℕ) → (n < m) ⊎ (m ≤ n)
+    order zero zero = inr (omega arith)
+    order zero (suc m) = inl (omega arith)
+    order (suc n) zero = inr (omega arith)
+    order (suc n) (suc m) = elim (order n m) [ inl less ↦ inl (omega arith) | inr least ↦ inr (omega arith) ]
 
 -- a step whose line has this word, and these behind it
 abbrev Found : Step → List ℕ → Line → Type 0
@@ -109,3 +130,119 @@ step-again (step.Fix field part) fits = next-again IsShort named named_short_for
 
 abbrev pub step_form : LineForm IsStep step_line
 step_form = record { read = step_in; sample = step.Given 0; sound_sample = omega arith; again = step-again; found = step-found }
+
+-- ---- steps of a table
+
+table-given-found : (ws : Line) (s : Step) → given_in ws ≡ Some s → IsTableStep s × (codes "given" ∷ ws ≡ step_line s)
+table-given-found ws s e =
+    let (i, w1, fits, e1, h1) = next-found IsLong named named_long_form ws _ s e in
+    let (own, none) = end-found (step.Given i) s w1 h1 in
+    (subst IsTableStep own fits, ap (λ (v : Line). codes "given" ∷ v) (e1 ∙ ap (λ (v : Line). named i ∷ v) none) ∙ ap step_line own)
+
+table-combine-found : (ws : Line) (s : Step) → combine_in ws ≡ Some s → IsTableStep s × (codes "combine" ∷ ws ≡ step_line s)
+table-combine-found ws s e = let (fits, same) = combine-found ws s e in (by s fits same, same)
+  where
+    by : (t : Step) → IsStep t → codes "combine" ∷ ws ≡ step_line t → IsTableStep t
+    by (step.Given i) fits same = fits
+    by (step.Combine a m b n g) fits same = fits
+    by (step.Fail a) fits same = let other : codes "combine" ≡ codes "fail" = cc in absurd (other-word (codes "combine") (codes "fail") refl other)
+    by (step.Cover field parts) fits same = let other : codes "combine" ≡ codes "cover" = cc in absurd (other-word (codes "combine") (codes "cover") refl other)
+    by (step.Fix field part) fits same = let other : codes "combine" ≡ codes "fix" = cc in absurd (other-word (codes "combine") (codes "fix") refl other)
+
+pub table-step-found : (l : Line) (s : Step) → table_step_in l ≡ Some s → IsTableStep s × (l ≡ step_line s)
+table-step-found [] s e = absurd (cc (e))
+table-step-found (w ∷ ws) s e = first-found IsTableStep step_line ((codes "given", given_in) ∷ (codes "combine", combine_in) ∷ []) (table-given-found, (table-combine-found, tt)) w ws s e
+
+pub table-step-again : (s : Step) → IsTableStep s → table_step_in (step_line s) ≡ Some s
+table-step-again (step.Given i) fits = step-again (step.Given i) fits
+table-step-again (step.Combine a m b n g) fits = step-again (step.Combine a m b n g) fits
+table-step-again (step.Fail a) fits = absurd fits
+table-step-again (step.Cover field parts) fits = absurd fits
+table-step-again (step.Fix field part) fits = absurd fits
+
+abbrev pub table_step_form : LineForm IsTableStep step_line
+table_step_form = record { read = table_step_in; sample = step.Given 0; sound_sample = omega arith; again = table-step-again; found = table-step-found }
+
+-- ---- steps of leaves
+
+-- where no table is, given lines are named as in the rules
+pub same-line : (s : Step) → step_line_in None s ≡ step_line s
+same-line (step.Given i) = refl
+same-line (step.Combine a m b n g) = refl
+same-line (step.Fail a) = refl
+same-line (step.Cover field parts) = refl
+same-line (step.Fix field part) = refl
+
+module _ (count : ℕ) where
+  -- only given lines are named in another way
+  other-line : (word : List ℕ) (ws : Line) (s : Step) → bytes_eq word (codes "given") ≡ false → word ∷ ws ≡ step_line s → step_line s ≡ step_line_in (Some count) s
+  other-line word ws (step.Given i) differs same = let is : word ≡ codes "given" = cc in absurd (other-word word (codes "given") differs is)
+  other-line word ws (step.Combine a m b n g) differs same = refl
+  other-line word ws (step.Fail a) differs same = refl
+  other-line word ws (step.Cover field parts) differs same = refl
+  other-line word ws (step.Fix field part) differs same = refl
+
+  others : (word : List ℕ) → bytes_eq word (codes "given") ≡ false → (read : Line → Option Step) → ((ws : Line) (s : Step) → read ws ≡ Some s → Found s word ws)
+      → (ws : Line) (s : Step) → read ws ≡ Some s → IsStep s × (word ∷ ws ≡ step_line_in (Some count) s)
+  others word differs read found ws s e = let (fits, same) = found ws s e in (fits, same ∙ other-line word ws s differs same)
+
+  few-found : (ws : Line) (s : Step) → few_given_in count ws ≡ Some s → IsStep s × (codes "given" ∷ ws ≡ step_line_in (Some count) s)
+  few-found ws s e = let (i, w1, fits, e1, h1) = next-found IsLong named named_long_form ws _ s e in by i w1 fits e1 (nat_lt i count) refl h1
+    where
+      by : (i : ℕ) (w1 : Line) → IsLong i → ws ≡ named i ∷ w1 → (b : Bool) → nat_lt i count ≡ b → ended_if b (step.Given i) w1 ≡ Some s → IsStep s × (codes "given" ∷ ws ≡ step_line_in (Some count) s)
+      by i w1 fits e1 false is h = absurd (cc (h))
+      by i w1 fits e1 true is h =
+          let (own, none) = end-found (step.Given i) s w1 h in (
+            subst IsStep own fits,
+            ap (λ (v : Line). codes "given" ∷ v) (e1 ∙ ap (λ (v : Line). named i ∷ v) none)
+                ∙ ap (λ b. if b then codes "given" ∷ named i ∷ [] else codes "shared" ∷ named (i - count) ∷ []) (sym is) ∙ ap (step_line_in (Some count)) own,
+          )
+
+  shared-found : (ws : Line) (s : Step) → shared_in count ws ≡ Some s → IsStep s × (codes "shared" ∷ ws ≡ step_line_in (Some count) s)
+  shared-found ws s e = let (k, w1, fits, e1, h1) = next-found IsLong named named_long_form ws _ s e in by k w1 fits e1 (nat_lt (count + k) (2 ^ 64)) refl h1
+    where
+      by : (k : ℕ) (w1 : Line) → IsLong k → ws ≡ named k ∷ w1 → (b : Bool) → nat_lt (count + k) (2 ^ 64) ≡ b → ended_if b (step.Given (count + k)) w1 ≡ Some s → IsStep s × (codes "shared" ∷ ws ≡ step_line_in (Some count) s)
+      by k w1 fits e1 false is h = absurd (cc (h))
+      by k w1 fits e1 true is h =
+          let (own, none) = end-found (step.Given (count + k)) s w1 h in
+          let long : count + k < 2 ^ 64 = (Decides-ltb (count + k) (2 ^ 64)).0 is in
+          let past : nat_lt (count + k) count ≡ false = not-below (count + k) count (omega arith) in
+          let number : count + k - count ≡ k = omega arith in (
+            subst IsStep own long,
+            ap (λ (v : Line). codes "shared" ∷ v) (e1 ∙ ap (λ (v : Line). named k ∷ v) none)
+                ∙ ap (λ (n : ℕ). codes "shared" ∷ named n ∷ []) (sym number)
+                ∙ ap (λ b. if b then codes "given" ∷ named (count + k) ∷ [] else codes "shared" ∷ named (count + k - count) ∷ []) (sym past) ∙ ap (step_line_in (Some count)) own,
+          )
+
+  pub shared-step-found : (l : Line) (s : Step) → shared_step_in count l ≡ Some s → IsStep s × (l ≡ step_line_in (Some count) s)
+  shared-step-found [] s e = absurd (cc (e))
+  shared-step-found (w ∷ ws) s e =
+      first-found IsStep (step_line_in (Some count))
+      ((codes "given", few_given_in count) ∷ (codes "shared", shared_in count) ∷ (codes "combine", combine_in) ∷ (codes "fail", fail_in) ∷ (codes "cover", cover_in) ∷ (codes "fix", fix_in) ∷ [])
+      (few-found, (shared-found, (others (codes "combine") refl combine_in combine-found, (others (codes "fail") refl fail_in fail-found, (others (codes "cover") refl cover_in cover-found, (others (codes "fix") refl fix_in fix-found, tt)))))) w ws s e
+
+  pub shared-step-again : (s : Step) → IsStep s → shared_step_in count (step_line_in (Some count) s) ≡ Some s
+  shared-step-again (step.Given i) fits = by (nat_lt i count) refl
+    where
+      by : (b : Bool) → nat_lt i count ≡ b → shared_step_in count (if b then codes "given" ∷ named i ∷ [] else codes "shared" ∷ named (i - count) ∷ []) ≡ Some (step.Given i)
+      by true is = next-again IsLong named named_long_form i [] _ fits ∙ ap (λ b. ended_if b (step.Given i) []) is
+      by false is =
+          let past : count ≤ i = at-least i count is in
+          let long : IsLong (i - count) = omega (arith, fits) in
+          let whole : count + (i - count) ≡ i = omega arith in
+          let below : nat_lt (count + (i - count)) (2 ^ 64) ≡ true = (Decides-ltb (count + (i - count)) (2 ^ 64)).1 (omega (arith, fits)) in
+          next-again IsLong named named_long_form (i - count) [] _ long ∙ ap (λ b. ended_if b (step.Given (count + (i - count))) []) below ∙ ap (λ (n : ℕ). Some (step.Given n)) whole
+  shared-step-again (step.Combine a m b n g) fits = step-again (step.Combine a m b n g) fits
+  shared-step-again (step.Fail a) fits = step-again (step.Fail a) fits
+  shared-step-again (step.Cover field parts) fits = step-again (step.Cover field parts) fits
+  shared-step-again (step.Fix field part) fits = step-again (step.Fix field part) fits
+
+abbrev pub leaf_step_form : (shared : Option ℕ) → LineForm IsStep (step_line_in shared)
+leaf_step_form None = record {
+  read = step_in;
+  sample = step.Given 0;
+  sound_sample = omega arith;
+  again = λ s fits. ap step_in (same-line s) ∙ step-again s fits;
+  found = λ l s e. let (fits, same) = step-found l s e in (fits, same ∙ sym (same-line s));
+}
+leaf_step_form (Some count) = record { read = shared_step_in count; sample = step.Given 0; sound_sample = omega arith; again = shared-step-again count; found = shared-step-found count }

@@ -1,5 +1,5 @@
 -- Which proofs have a text.
-use Rattle.std.specs.Prelude.{◌≡◌, ℕ, zero, suc, Bool, ◌<◌, ◌^◌, ◌≤ℤ◌, List, [], ◌∷◌, Option, Some, None, IfSome, length, pos}
+use Rattle.std.specs.Prelude.{◌≡◌, ◌⊎◌, true, false, ℕ, zero, suc, Bool, ◌<◌, ◌^◌, ◌≤ℤ◌, List, [], ◌∷◌, Option, Some, None, IfSome, length, pos}
 use Rattle.std.specs.List.{AllByRecursion}
 use Rattle.fraction128.specs.Range.{InRange}
 use Rattle.edit_line.specs.declared.place.Place.{Place}
@@ -16,6 +16,7 @@ use Rattle.bound_cert.specs.declared.outcome.GiftFault.{GiftFault}
 use Rattle.bound_cert.specs.declared.outcome.GiftFault.TheVariants as gift
 use Rattle.bound_cert.specs.declared.outcome.Outcome.{Outcome}
 use Rattle.bound_cert.specs.declared.outcome.Outcome.TheVariants as outcome
+use Rattle.proof_grammar.specs.ProofLines.{has_table}
 use Rattle.proof_grammar.specs.declared.proof.Proof.{Proof}
 use Rattle.bound_cert.specs.declared.outcome.RowProof.{RowProof}
 
@@ -37,6 +38,17 @@ IsStep (step.Combine a m b n g) = IsLong a × InRange m × IsLong b × InRange n
 IsStep (step.Fail a) = IsLong a
 IsStep (step.Cover field parts) = IsShort field × AllByRecursion IsLong parts
 IsStep (step.Fix field part) = IsShort field × IsLong part
+
+-- the same of a step that gives a line, as those of a table do
+abbrev pub IsTableStep : Step → Type 0
+IsTableStep (step.Given i) = IsStep (step.Given i)
+IsTableStep (step.Combine a m b n g) = IsStep (step.Combine a m b n g)
+IsTableStep other = ⊥
+
+-- such steps stand in the table, where there is one
+abbrev pub IsTable : Bool → List Step → Type 0
+IsTable true table = AreFit IsTableStep table
+IsTable false table = table ≡ []
 
 -- what is asked of the steps of a leaf's reason, where it has some
 abbrev pub OfSteps : (List Step → Type 0) → LeafWhy → Type 0
@@ -86,9 +98,11 @@ IsEntry entry = IsShort entry.row_no × IfSome entry.reply IsShort × AllByRecur
 
 -- each number is in its limits, and nothing stands in the proof that its text does not say
 pub record IsPlain (p : Proof) : Type 0 where
+  pub version : (p.version ≡ 1) ⊎ (p.version ≡ 2)
   pub limit : IsShort p.limit
   pub near : IsShort p.near
   pub budget : IsLong p.budget
   pub verdicts : AreFit (λ v. IfSome v (AreFit IsStep)) p.verdicts
+  pub table : IsTable (has_table p.version) p.table
   pub rows : AreFit IsRowProof p.rows
   pub claims : AreFit IsEntry p.claims

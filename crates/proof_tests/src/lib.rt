@@ -3,4 +3,6 @@
 #![tactic(auto)]
 
 #[cfg(test)]
+mod sharing;
+#[cfg(test)]
 mod texts;

@@ -124,10 +124,12 @@ fn sum_of_ten(alloc: Global) -> Result<Proof, OutOfMemory> {
     let rows = vec![in alloc; row(alloc)?]?;
     let claims = vec![in alloc; claim]?;
     Ok(Proof {
+        version: 1,
         limit: 1,
         near: 5,
         budget: 1_000_000,
         verdicts: Sequence::from_vec(verdicts),
+        table: Sequence::from_vec(Vec::new(alloc)),
         rows: Sequence::from_vec(rows),
         claims: Sequence::from_vec(claims),
     })

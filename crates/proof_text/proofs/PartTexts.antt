@@ -1,12 +1,12 @@
-use Rattle.std.proofs.Common.{◌≡◌, ℕ, List, [], ◌∷◌, ◌++◌, codes, map, refl, sym, ap, ◌∙◌, append_assoc}
+use Rattle.std.proofs.Common.{◌≡◌, ℕ, List, [], ◌∷◌, ◌++◌, Option, codes, length, map, refl, sym, ap, ◌∙◌, append_assoc}
 use Rattle.std.specs.List.{flat_map}
 use Rattle.bound_cert.specs.Paths.{named}
-use Rattle.proof_grammar.specs.ProofLines.{Line, claim_line, count_line, line_text, lines_text, proof_text, row_lines, verdict_lines, words_text}
+use Rattle.proof_grammar.specs.ProofLines.{Line, claim_line, count_line, has_table, line_text, lines_text, proof_text, row_lines_in, shared_from, table_lines, verdict_lines, words_text}
 use Rattle.donor_book.specs.declared.claim.Entry.{Entry}
 use Rattle.proof_grammar.specs.declared.proof.Proof.{Proof}
 use Rattle.bound_cert.specs.declared.outcome.RowProof.{RowProof}
 use Rattle.proof_grammar.proofs.TextFaults.{lines-append}
-use Rattle.proof_text.specs.inner.Texts.{limits_text, parts_text, verdict_text}
+use Rattle.proof_text.specs.inner.Texts.{limits_text, parts_text, table_text, verdict_text, version_text}
 
 -- The text of a proof, part by part.
 
@@ -36,15 +36,20 @@ behind-count count ls ks part rest first later =
 -- the text of a proof is the texts of its parts
 pub proof-parts : (p : Proof) → proof_text p ≡ parts_text p
 proof-parts p =
-    ap (λ (bs : List ℕ). codes "fh-proof 1\n" ++ (limits_text p ++ bs)) (behind-count (count_line (codes "lines") p.verdicts) (flat_map verdict_lines p.verdicts) _ (flat_map verdict_text p.verdicts) _ (flat-text verdict_lines p.verdicts)
-    (behind-count (count_line (codes "records") p.rows) (flat_map row_lines p.rows) _ (flat_map (λ (row : RowProof). lines_text (row_lines row)) p.rows) _ (flat-text row_lines p.rows)
-    (behind-count (count_line (codes "claims") p.claims) (map claim_line p.claims) ((codes "end" ∷ []) ∷ []) (flat_map (λ (claim : Entry). line_text (claim_line claim)) p.claims) (codes "end\n") (map-text claim_line p.claims) refl)))
+    ap (λ (bs : List ℕ). version_text p.version ++ (limits_text p ++ bs)) (behind-count (count_line (codes "lines") p.verdicts) (flat_map verdict_lines p.verdicts) _ (flat_map verdict_text p.verdicts) _ (flat-text verdict_lines p.verdicts)
+    (lines-append (table_lines (has_table p.version) p.table) _ ∙ ap (λ (bs : List ℕ). table_text (has_table p.version) p.table ++ bs)
+    (behind-count (count_line (codes "records") p.rows) (flat_map (row_lines_in shared) p.rows) _ (flat_map (λ (row : RowProof). lines_text (row_lines_in shared row)) p.rows) _ (flat-text (row_lines_in shared) p.rows)
+    (behind-count (count_line (codes "claims") p.claims) (map claim_line p.claims) ((codes "end" ∷ []) ∷ []) (flat_map (λ (claim : Entry). line_text (claim_line claim)) p.claims) (codes "end\n") (map-text claim_line p.claims) refl))))
+  where
+    shared : Option ℕ
+    shared = shared_from (has_table p.version) (length p.verdicts)
 
--- six texts, one behind another
-pub six-appended : (t0 t1 t2 t3 t4 t5 t6 a b c d e f : List ℕ) → t1 ≡ t0 ++ a → t2 ≡ t1 ++ b → t3 ≡ t2 ++ c → t4 ≡ t3 ++ d → t5 ≡ t4 ++ e → t6 ≡ t5 ++ f → t6 ≡ t0 ++ (a ++ (b ++ (c ++ (d ++ (e ++ f)))))
-six-appended t0 t1 t2 t3 t4 t5 t6 a b c d e f first second third fourth fifth sixth =
-    sixth ∙ ap (λ (t : List ℕ). t ++ f) fifth ∙ append_assoc t4 e f ∙ ap (λ (t : List ℕ). t ++ (e ++ f)) fourth ∙ append_assoc t3 d (e ++ f) ∙ ap (λ (t : List ℕ). t ++ (d ++ (e ++ f))) third ∙ append_assoc t2 c (d ++ (e ++ f))
-    ∙ ap (λ (t : List ℕ). t ++ (c ++ (d ++ (e ++ f)))) second ∙ append_assoc t1 b (c ++ (d ++ (e ++ f))) ∙ ap (λ (t : List ℕ). t ++ (b ++ (c ++ (d ++ (e ++ f))))) first ∙ append_assoc t0 a (b ++ (c ++ (d ++ (e ++ f))))
+-- seven texts, one behind another
+pub seven-appended : (t0 t1 t2 t3 t4 t5 t6 t7 a b c d e f g : List ℕ) → t1 ≡ t0 ++ a → t2 ≡ t1 ++ b → t3 ≡ t2 ++ c → t4 ≡ t3 ++ d → t5 ≡ t4 ++ e → t6 ≡ t5 ++ f → t7 ≡ t6 ++ g → t7 ≡ t0 ++ (a ++ (b ++ (c ++ (d ++ (e ++ (f ++ g))))))
+seven-appended t0 t1 t2 t3 t4 t5 t6 t7 a b c d e f g first second third fourth fifth sixth seventh =
+    seventh ∙ ap (λ (t : List ℕ). t ++ g) sixth ∙ append_assoc t5 f g ∙ ap (λ (t : List ℕ). t ++ (f ++ g)) fifth ∙ append_assoc t4 e (f ++ g)
+    ∙ ap (λ (t : List ℕ). t ++ (e ++ (f ++ g))) fourth ∙ append_assoc t3 d (e ++ (f ++ g)) ∙ ap (λ (t : List ℕ). t ++ (d ++ (e ++ (f ++ g)))) third ∙ append_assoc t2 c (d ++ (e ++ (f ++ g)))
+    ∙ ap (λ (t : List ℕ). t ++ (c ++ (d ++ (e ++ (f ++ g))))) second ∙ append_assoc t1 b (c ++ (d ++ (e ++ (f ++ g)))) ∙ ap (λ (t : List ℕ). t ++ (b ++ (c ++ (d ++ (e ++ (f ++ g)))))) first ∙ append_assoc t0 a (b ++ (c ++ (d ++ (e ++ (f ++ g)))))
 
 -- the words of a combination, piece by piece
 pub combine-words : (t0 t1 t2 t3 t4 a m b n g : List ℕ) → t1 ≡ t0 ++ codes "combine" → t2 ≡ (t1 ++ (32 ∷ a)) ++ (32 ∷ m) → t3 ≡ (t2 ++ (32 ∷ b)) ++ (32 ∷ n) → t4 ≡ t3 ++ (32 ∷ g)

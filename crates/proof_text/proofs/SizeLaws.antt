@@ -1,4 +1,4 @@
-use Rattle.std.proofs.Common.{inl, inr, ℕ, zero, suc, ℤ, pos, negsuc, ◌<ℤ◌, List, [], ◌∷◌, Bool, Option, Some, None, IfSome, arith}
+use Rattle.std.proofs.Common.{inl, inr, ℕ, zero, suc, ℤ, pos, negsuc, ◌<ℤ◌, List, [], ◌∷◌, Bool, true, false, Option, Some, None, IfSome, arith}
 use Rattle.std.proofs.lemmas.Int.{ints}
 use Rattle.std.specs.List.{AllByRecursion}
 use Rattle.fraction128.specs.Range.{InRange}
@@ -11,9 +11,10 @@ use Rattle.bound_cert.specs.declared.outcome.GiftFault.{GiftFault}
 use Rattle.bound_cert.specs.declared.outcome.Outcome.{Outcome}
 use Rattle.bound_cert.specs.declared.outcome.Outcome.TheVariants as outcome
 use Rattle.bound_cert.specs.declared.outcome.RowProof.{RowProof}
-use Rattle.proof_grammar.specs.Limits.{AreFit, IsChange, IsLeaf, IsOutcome, IsPlain, IsRowProof, IsStep, OfSteps}
+use Rattle.proof_grammar.specs.Limits.{AreFit, IsChange, IsLeaf, IsOutcome, IsPlain, IsRowProof, IsStep, IsTable, IsTableStep, OfSteps}
+use Rattle.proof_grammar.specs.ProofLines.{has_table}
 use Rattle.proof_grammar.specs.declared.proof.Proof.{Proof}
-use Rattle.proof_text.specs.Sizes.{AreCoherentSteps, AreSizedSteps, IsCoherent, IsCoherentChange, IsCoherentOutcome, IsCoherentRow, IsCoherentLeaf, IsCoherentStep, IsMultiplier, IsSized, IsSizedChange, IsSizedLeaf, IsSizedOutcome, IsSizedRow, IsSizedStep, IsSizedVerdict, IsWide}
+use Rattle.proof_text.specs.Sizes.{AreCoherentSteps, AreSizedSteps, IsCoherent, IsCoherentChange, IsCoherentLeaf, IsCoherentOutcome, IsCoherentRow, IsCoherentStep, IsCoherentTable, IsCoherentTableStep, IsMultiplier, IsSized, IsSizedChange, IsSizedLeaf, IsSizedOutcome, IsSizedRow, IsSizedStep, IsSizedTable, IsSizedVerdict, IsWide}
 
 -- A proof whose numbers are of their types is plain where its combinations and rows are coherent.
 
@@ -75,12 +76,25 @@ plain-verdict : (verdict : Option (List Step)) → IsSizedVerdict verdict → If
 plain-verdict None sized positive = tt
 plain-verdict (Some steps) sized positive = plain-steps steps sized positive
 
+plain-table-step : (s : Step) → IsSizedStep s → IsCoherentTableStep s → IsTableStep s
+plain-table-step (step.Given i) sized coherent = sized
+plain-table-step (step.Combine a m b n g) sized positive = plain-step (step.Combine a m b n g) sized positive
+plain-table-step (step.Fail a) sized coherent = absurd coherent
+plain-table-step (step.Cover field parts) sized coherent = absurd coherent
+plain-table-step (step.Fix field part) sized coherent = absurd coherent
+
+plain-table : (b : Bool) (table : List Step) → IsSizedTable b table → IsCoherentTable b table → IsTable b table
+plain-table true table (count, sized) coherent = (count, all-both IsSizedStep IsCoherentTableStep IsTableStep plain-table-step table sized coherent)
+plain-table false table sized coherent = coherent
+
 pub plain-if : (p : Proof) → IsSized p → IsCoherent p → IsPlain p
 plain-if p sized coherent = record {
+  version = coherent.version;
   limit = sized.limit;
   near = sized.near;
   budget = sized.budget;
   verdicts = (sized.verdicts.0, all-both IsSizedVerdict (λ v. IfSome v AreCoherentSteps) (λ v. IfSome v (AreFit IsStep)) plain-verdict p.verdicts sized.verdicts.1 coherent.verdicts);
+  table = plain-table (has_table p.version) p.table sized.table coherent.table;
   rows = (sized.rows.0, all-both IsSizedRow IsCoherentRow IsRowProof plain-row p.rows sized.rows.1 coherent.rows);
   claims = sized.claims;
 }

@@ -1,2 +1,3 @@
+pub mod SharedProofs
 pub mod Sizes
 pub mod inner

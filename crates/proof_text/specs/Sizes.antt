@@ -1,5 +1,5 @@
 -- Which numbers and lists stand in the text of a proof.
-use Rattle.std.specs.Prelude.{◌≡◌, ◌⊎◌, ℕ, zero, suc, ℤ, pos, negsuc, ◌<◌, ◌<ℤ◌, ◌^◌, Bool, List, [], Option, Some, None, IfSome}
+use Rattle.std.specs.Prelude.{◌≡◌, ◌⊎◌, ℕ, zero, suc, ℤ, pos, negsuc, ◌<◌, ◌<ℤ◌, ◌^◌, Bool, true, false, List, [], Option, Some, None, IfSome}
 use Rattle.std.specs.List.{AllByRecursion}
 use Rattle.fraction128.specs.Range.{InRange}
 use Rattle.derivation.specs.declared.step.Step.{Step}
@@ -11,6 +11,7 @@ use Rattle.bound_cert.specs.declared.outcome.Outcome.{Outcome}
 use Rattle.bound_cert.specs.declared.outcome.Outcome.TheVariants as outcome
 use Rattle.bound_cert.specs.declared.outcome.RowProof.{RowProof}
 use Rattle.proof_grammar.specs.Limits.{AreFit, IsEntry, IsEvent, IsGift, IsLong, IsPlain, IsShort, OfSteps, clean_leaves}
+use Rattle.proof_grammar.specs.ProofLines.{has_table}
 use Rattle.proof_grammar.specs.declared.proof.Proof.{Proof}
 
 -- ---- sizes
@@ -56,12 +57,18 @@ IsSizedRow row = IsSizedOutcome row.outcome row.gift
 abbrev pub IsSizedVerdict : Option (List Step) → Type 0
 IsSizedVerdict verdict = IfSome verdict AreSizedSteps
 
+-- the text says a table only where there is one
+abbrev pub IsSizedTable : Bool → List Step → Type 0
+IsSizedTable true table = AreSizedSteps table
+IsSizedTable false table = Unit {0}
+
 -- each number that the text says is one of its type, and each list is counted by 64 bits
 pub record IsSized (p : Proof) : Type 0 where
   pub limit : IsShort p.limit
   pub near : IsShort p.near
   pub budget : IsLong p.budget
   pub verdicts : AreFit IsSizedVerdict p.verdicts
+  pub table : IsSizedTable (has_table p.version) p.table
   pub rows : AreFit IsSizedRow p.rows
   pub claims : AreFit IsEntry p.claims
 
@@ -108,9 +115,22 @@ IsCoherentOutcome _ (Some fault) = ⊥
 abbrev pub IsCoherentRow : RowProof → Type 0
 IsCoherentRow row = IsCoherentOutcome row.outcome row.gift
 
+-- a step of a table gives a line
+abbrev pub IsCoherentTableStep : Step → Type 0
+IsCoherentTableStep (step.Given i) = Unit {0}
+IsCoherentTableStep (step.Combine a m b n g) = IsCoherentStep (step.Combine a m b n g)
+IsCoherentTableStep other = ⊥
+
+-- there are no steps of a table where there is none
+abbrev pub IsCoherentTable : Bool → List Step → Type 0
+IsCoherentTable true table = AllByRecursion IsCoherentTableStep table
+IsCoherentTable false table = table ≡ []
+
 -- each combination's factors are above 0 or in range, and its divisor is above 0; and of each row no more stands in the
 -- proof than its lines say
 pub record IsCoherent (p : Proof) : Type 0 where
+  pub version : (p.version ≡ 1) ⊎ (p.version ≡ 2)
+  pub table : IsCoherentTable (has_table p.version) p.table
   pub verdicts : AllByRecursion (λ v. IfSome v AreCoherentSteps) p.verdicts
   pub rows : AllByRecursion IsCoherentRow p.rows
 

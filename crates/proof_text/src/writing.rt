@@ -3,8 +3,8 @@ ghost use Rattle.std.specs.Prelude.{◌≡◌, ◌++◌, IfOk, OnOk};
 ghost use Rattle.proof_grammar.specs.FirstFaults.{IsOnlyOf};
 ghost use Rattle.proof_grammar.specs.Limits.{AreFit, IsEntry, IsLong, IsPlain, IsShort};
 ghost use Rattle.proof_grammar.specs.ProofLines.{proof_text};
-ghost use Rattle.proof_text.specs.Sizes.{IsSized, IsSizedRow, IsSizedVerdict};
-ghost use Rattle.proof_text.specs.inner.Texts.{claims_text, limits_text, parts_text, rows_text, verdict_text, verdicts_text};
+ghost use Rattle.proof_text.specs.Sizes.{IsSized, IsSizedRow, IsSizedTable, IsSizedVerdict};
+ghost use Rattle.proof_text.specs.inner.Texts.{claims_text, limits_text, parts_text, rows_text, table_text, verdict_text, verdicts_text, version_text};
 
 mod claims;
 mod leaves;
@@ -12,6 +12,7 @@ mod rows;
 mod steps;
 mod words;
 
+use crate::versions::{has_table, shared_from};
 use bound_cert::RowProof;
 use claims::write_claim;
 use derivation::Step;
@@ -41,13 +42,38 @@ fn write_parts(text: &mut Vec<u8>, proof: &Proof) -> Result<(), OutOfMemory>
     ensures text { OnOk result (text.new.items ≡ text.old.items ++ parts_text proof.now) }
     ensures sized { OnOk result (IsSized proof.now) }
 {
-    text.extend_from_slice(b"fh-proof 1\n")?;
+    let there = has_table(proof.version);
+    let shared = shared_from(there, proof.verdicts.as_slice().len());
+    write_version(text, proof.version)?;
     write_limits(text, proof)?;
     write_verdicts(text, proof.verdicts.as_slice())?;
-    write_rows(text, proof.rows.as_slice())?;
+    write_table(text, there, proof.table.as_slice())?;
+    write_rows(text, shared, proof.rows.as_slice())?;
     write_claims(text, proof.claims.as_slice())?;
     text.extend_from_slice(b"end\n")?;
     Ok(())
+}
+
+// Appends the first line.
+fn write_version(text: &mut Vec<u8>, version: u32) -> Result<(), OutOfMemory>
+    ensures { OnOk result (text.new.items ≡ text.old.items ++ version_text version) }
+{
+    text.extend_from_slice(b"fh-proof")?;
+    write_number(text, version as u64)?;
+    text.push(b'\n')?;
+    Ok(())
+}
+
+// Appends the count of the steps of the table and their lines, where it is there.
+fn write_table(text: &mut Vec<u8>, there: bool, table: &[Step]) -> Result<(), OutOfMemory>
+    ensures text { OnOk result (text.new.items ≡ text.old.items ++ table_text there table.now) }
+    ensures sized { OnOk result (IsSizedTable there table.now) }
+{
+    if !there {
+        return Ok(());
+    }
+    text.extend_from_slice(b"table")?;
+    write_steps(text, None, table)
 }
 
 // Appends the line of the limits.
@@ -93,20 +119,20 @@ fn write_verdict(text: &mut Vec<u8>, verdict: &Option<Sequence<Step>>) -> Result
         }
         Some(steps) => {
             text.extend_from_slice(b"drop")?;
-            write_steps(text, steps.as_slice())
+            write_steps(text, None, steps.as_slice())
         }
     }
 }
 
 // Appends the count of the rows and their lines.
-fn write_rows(text: &mut Vec<u8>, rows: &[RowProof]) -> Result<(), OutOfMemory>
-    ensures text { OnOk result (text.new.items ≡ text.old.items ++ rows_text rows.now) }
+fn write_rows(text: &mut Vec<u8>, shared: Option<u64>, rows: &[RowProof]) -> Result<(), OutOfMemory>
+    ensures text { OnOk result (text.new.items ≡ text.old.items ++ rows_text shared rows.now) }
     ensures sized { OnOk result (AreFit IsSizedRow rows.now) }
 {
     text.extend_from_slice(b"records")?;
     write_count(text, rows.len())?;
     for row in rows {
-        write_row(text, row)?;
+        write_row(text, shared, row)?;
     }
     Ok(())
 }

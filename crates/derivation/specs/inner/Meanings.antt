@@ -1,4 +1,5 @@
 use Rattle.std.specs.Prelude.{ℕ, List, All, Option, Some, None, if◌then◌else◌}
+use Rattle.edit_line.specs.Lines.{LineParts}
 use Rattle.edit_line.specs.Shapes.{Domain, has_field, place_in}
 use Rattle.derivation.specs.Shown.{IsOver}
 use Rattle.derivation.specs.declared.known.Known.{Known}
@@ -16,6 +17,11 @@ meaning (known.Box code_box) = Box code_box.value
 abbrev pub meant : Option Known → Option Proved
 meant (Some k) = Some (meaning k)
 meant None = None
+
+-- the line as what a step proved, if there is one
+abbrev pub lined : Option LineParts → Option Proved
+lined (Some line) = Some (Line line)
+lined None = None
 
 -- all that was proved is over the fields of this shape
 abbrev pub AllOver : List Domain → List Known → Type 0

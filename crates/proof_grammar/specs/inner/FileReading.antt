@@ -1,16 +1,17 @@
-use Rattle.std.specs.Prelude.{ℕ, if◌then◌else◌, List, [], ◌∷◌, Option, Some, None, Ok, codes, option_map}
+use Rattle.std.specs.Prelude.{ℕ, Bool, true, false, if◌then◌else◌, length, List, [], ◌∷◌, Option, Some, None, Ok, codes, option_map}
 use Rattle.bound_cert.specs.declared.outcome.RowProof.{RowProof}
 use Rattle.proof_grammar.specs.declared.heads.RunLimits.{RunLimits}
 use Rattle.proof_grammar.specs.declared.proof.Proof.{Proof}
 use Rattle.std.specs.Str.{bytes_eq}
 use Rattle.derivation.specs.declared.step.Step.{Step}
 use Rattle.donor_book.specs.declared.claim.Entry.{Entry}
-use Rattle.proof_grammar.specs.ProofLines.{Line}
+use Rattle.proof_grammar.specs.ProofLines.{Line, has_table, shared_from}
 use Rattle.proof_grammar.specs.inner.LeafReading.{steps_reading}
 use Rattle.proof_grammar.specs.inner.Readings.{Reading, read_line, read_many, seen, then_read}
 use Rattle.proof_grammar.specs.Words.{ended, fixed_said, long_said, named_short, named_short_or_0, short_said, word_in}
 use Rattle.proof_grammar.specs.inner.WordLists.{all_in, then_in}
 use Rattle.proof_grammar.specs.inner.RowReading.{row_reading}
+use Rattle.proof_grammar.specs.inner.StepReading.{table_step_in}
 
 -- How verdicts and claims are read.
 
@@ -45,10 +46,14 @@ claim_in ws = then_in (word_in (fixed_said (codes "claim")) ws) (λ u ws. claim_
 
 -- ---- the file
 
-abbrev pub version_in : Line → Option (Unit {0})
+-- one of the versions
+abbrev pub version_said : List ℕ → Option ℕ
+version_said w = if bytes_eq w (codes "1") then Some 1 else if bytes_eq w (codes "2") then Some 2 else None
+
+abbrev pub version_in : Line → Option ℕ
 version_in ws =
     then_in (word_in (fixed_said (codes "fh-proof")) ws) (λ u ws.
-    then_in (word_in (fixed_said (codes "1")) ws) (λ v ws. ended tt ws))
+    then_in (word_in version_said ws) (λ version ws. ended version ws))
 
 abbrev pub end_in : Line → Option (Unit {0})
 end_in ws = then_in (word_in (fixed_said (codes "end")) ws) (λ u ws. ended tt ws)
@@ -78,26 +83,45 @@ limits_in ws =
 abbrev pub counted_reading : {X : Type 0} → (Line → Option ℕ) → (List Line → Reading Line X) → List Line → Reading Line (List X)
 counted_reading said read ls = then_read (read_line said ls) (λ n ls. read_many read n ls)
 
-abbrev pub proof_from : RunLimits → List (Option (List Step)) → List RowProof → List Entry → Proof
-proof_from l verdicts rows claims =
-    record { limit = l.limit; near = l.near; budget = l.budget; verdicts = verdicts; rows = rows; claims = claims }
+abbrev pub proof_from : ℕ → RunLimits → List (Option (List Step)) → List Step → List RowProof → List Entry → Proof
+proof_from version l verdicts table rows claims = record {
+  version = version;
+  limit = l.limit;
+  near = l.near;
+  budget = l.budget;
+  verdicts = verdicts;
+  table = table;
+  rows = rows;
+  claims = claims;
+}
 
--- behind the limits and the verdicts and the rows
-abbrev pub claims_reading : RunLimits → List (Option (List Step)) → List RowProof → List Line → Reading Line Proof
-claims_reading l verdicts rows ls =
+-- behind the limits and the verdicts and the table and the rows
+abbrev pub claims_reading : ℕ → RunLimits → List (Option (List Step)) → List Step → List RowProof → List Line → Reading Line Proof
+claims_reading version l verdicts table rows ls =
     then_read (counted_reading (count_in (codes "claims")) (read_line claim_in) ls) (λ claims ls.
-    seen (λ u. proof_from l verdicts rows claims) (read_line end_in ls))
+    seen (λ u. proof_from version l verdicts table rows claims) (read_line end_in ls))
+
+-- behind the limits and the verdicts and the table
+abbrev pub rows_reading : ℕ → RunLimits → List (Option (List Step)) → List Step → List Line → Reading Line Proof
+rows_reading version l verdicts table ls = then_read
+    (counted_reading (count_in (codes "records")) (row_reading (shared_from (has_table version) (length verdicts))) ls)
+    (claims_reading version l verdicts table)
+
+-- the table, where there is one
+abbrev pub table_reading : Bool → List Line → Reading Line (List Step)
+table_reading true ls = counted_reading (count_in (codes "table")) (read_line table_step_in) ls
+table_reading false ls = Ok ([], ls)
 
 -- behind the limits and the verdicts
-abbrev pub rows_reading : RunLimits → List (Option (List Step)) → List Line → Reading Line Proof
-rows_reading l verdicts ls = then_read (counted_reading (count_in (codes "records")) row_reading ls) (claims_reading l verdicts)
+abbrev pub behind_verdicts : ℕ → RunLimits → List (Option (List Step)) → List Line → Reading Line Proof
+behind_verdicts version l verdicts ls = then_read (table_reading (has_table version) ls) (rows_reading version l verdicts)
 
 -- behind the limits
-abbrev pub lists_reading : RunLimits → List Line → Reading Line Proof
-lists_reading l ls = then_read (counted_reading (count_in (codes "lines")) verdict_reading ls) (rows_reading l)
+abbrev pub lists_reading : ℕ → RunLimits → List Line → Reading Line Proof
+lists_reading version l ls = then_read (counted_reading (count_in (codes "lines")) verdict_reading ls) (behind_verdicts version l)
 
-abbrev pub behind_version : Unit {0} → List Line → Reading Line Proof
-behind_version u ls = then_read (read_line limits_in ls) lists_reading
+abbrev pub behind_version : ℕ → List Line → Reading Line Proof
+behind_version version ls = then_read (read_line limits_in ls) (lists_reading version)
 
 abbrev pub file_reading : List Line → Reading Line Proof
 file_reading ls = then_read (read_line version_in ls) behind_version

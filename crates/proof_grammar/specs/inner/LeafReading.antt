@@ -6,7 +6,7 @@ use Rattle.bound_cert.specs.declared.cert.LeafWhy.TheVariants as why
 use Rattle.proof_grammar.specs.declared.heads.LeafHead.{LeafHead}
 use Rattle.proof_grammar.specs.declared.heads.LeafHead.TheVariants.{BadAt, BoundAt, BoxAt, LineAt}
 use Rattle.proof_grammar.specs.ProofLines.{Line}
-use Rattle.proof_grammar.specs.inner.StepReading.{step_in}
+use Rattle.proof_grammar.specs.inner.StepReading.{leaf_step_in, step_in}
 use Rattle.proof_grammar.specs.inner.Readings.{Reading, read_line, read_many, seen, then_read}
 use Rattle.proof_grammar.specs.Words.{ended, long_said, path_said, word_in}
 use Rattle.proof_grammar.specs.inner.WordLists.{then_in}
@@ -47,12 +47,16 @@ leaf_in (w ∷ ws) =
 abbrev pub steps_reading : ℕ → List Line → Reading Line (List Step)
 steps_reading n ls = read_many (read_line step_in) n ls
 
--- what is read behind the head of a leaf
-abbrev pub behind_leaf : LeafHead → List Line → Reading Line Leaf
-behind_leaf (BoundAt path) ls = Ok (record { path = path; why = why.Bound }, ls)
-behind_leaf (BadAt path) ls = Ok (record { path = path; why = why.BadKept }, ls)
-behind_leaf (LineAt path n) ls = seen (λ steps. record { path = path; why = why.Line steps }) (steps_reading n ls)
-behind_leaf (BoxAt path n) ls = seen (λ steps. record { path = path; why = why.Box steps }) (steps_reading n ls)
+-- the same, of a leaf
+abbrev pub leaf_steps_reading : Option ℕ → ℕ → List Line → Reading Line (List Step)
+leaf_steps_reading shared n ls = read_many (read_line (leaf_step_in shared)) n ls
 
-abbrev pub leaf_reading : List Line → Reading Line Leaf
-leaf_reading ls = then_read (read_line leaf_in ls) behind_leaf
+-- what is read behind the head of a leaf
+abbrev pub behind_leaf : Option ℕ → LeafHead → List Line → Reading Line Leaf
+behind_leaf shared (BoundAt path) ls = Ok (record { path = path; why = why.Bound }, ls)
+behind_leaf shared (BadAt path) ls = Ok (record { path = path; why = why.BadKept }, ls)
+behind_leaf shared (LineAt path n) ls = seen (λ steps. record { path = path; why = why.Line steps }) (leaf_steps_reading shared n ls)
+behind_leaf shared (BoxAt path n) ls = seen (λ steps. record { path = path; why = why.Box steps }) (leaf_steps_reading shared n ls)
+
+abbrev pub leaf_reading : Option ℕ → List Line → Reading Line Leaf
+leaf_reading shared ls = then_read (read_line leaf_in ls) (behind_leaf shared)

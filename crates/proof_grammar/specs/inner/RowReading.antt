@@ -91,14 +91,14 @@ abbrev pub change_proof : List Bool → ℕ → Option GiftFault → List Leaf �
 change_proof path weight fault leaves = record { outcome = outcome.Change path weight (record { leaves = leaves }); gift = fault }
 
 -- what is read behind the head of a row
-abbrev pub behind_row : RowHead → List Line → Reading Line RowProof
-behind_row CleanAt ls = Ok (clean_proof, ls)
-behind_row (ChangeAt w path n) ls = seen (λ leaves. change_proof path (suc w) None leaves) (read_many leaf_reading n ls)
-behind_row (GiftAt weight path fault n) ls = seen (λ leaves. change_proof path weight (Some fault) leaves) (read_many leaf_reading n ls)
-behind_row (BudgetAt path work) ls = Ok (record { outcome = outcome.Budget path work; gift = None }, ls)
-behind_row (EventAt path event) ls = Ok (record { outcome = outcome.Overflow path event; gift = None }, ls)
-behind_row (ContradictoryAt n) ls =
-    seen (λ leaves. record { outcome = outcome.Contradictory (record { leaves = leaves }); gift = None }) (read_many leaf_reading n ls)
+abbrev pub behind_row : Option ℕ → RowHead → List Line → Reading Line RowProof
+behind_row shared CleanAt ls = Ok (clean_proof, ls)
+behind_row shared (ChangeAt w path n) ls = seen (λ leaves. change_proof path (suc w) None leaves) (read_many (leaf_reading shared) n ls)
+behind_row shared (GiftAt weight path fault n) ls = seen (λ leaves. change_proof path weight (Some fault) leaves) (read_many (leaf_reading shared) n ls)
+behind_row shared (BudgetAt path work) ls = Ok (record { outcome = outcome.Budget path work; gift = None }, ls)
+behind_row shared (EventAt path event) ls = Ok (record { outcome = outcome.Overflow path event; gift = None }, ls)
+behind_row shared (ContradictoryAt n) ls =
+    seen (λ leaves. record { outcome = outcome.Contradictory (record { leaves = leaves }); gift = None }) (read_many (leaf_reading shared) n ls)
 
-abbrev pub row_reading : List Line → Reading Line RowProof
-row_reading ls = then_read (read_line row_in ls) behind_row
+abbrev pub row_reading : Option ℕ → List Line → Reading Line RowProof
+row_reading shared ls = then_read (read_line row_in ls) (behind_row shared)

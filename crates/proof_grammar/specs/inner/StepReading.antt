@@ -1,4 +1,4 @@
-use Rattle.std.specs.Prelude.{ℕ, if◌then◌else◌, List, [], ◌∷◌, Option, None, codes, option_map}
+use Rattle.std.specs.Prelude.{ℕ, Bool, true, false, ◌+◌, ◌^◌, nat_lt, if◌then◌else◌, List, [], ◌∷◌, Option, Some, None, codes, option_map}
 use Rattle.std.specs.Str.{bytes_eq}
 use Rattle.derivation.specs.declared.step.Step.{Step}
 use Rattle.derivation.specs.declared.step.Step.TheVariants as step
@@ -39,3 +39,42 @@ step_in (w ∷ ws) =
     else if bytes_eq w (codes "cover") then cover_in ws
     else if bytes_eq w (codes "fix") then fix_in ws
     else None
+
+-- ---- steps of a table
+
+abbrev pub table_step_in : Line → Option Step
+table_step_in [] = None
+table_step_in (w ∷ ws) =
+    if bytes_eq w (codes "given") then given_in ws
+    else if bytes_eq w (codes "combine") then combine_in ws
+    else None
+
+-- ---- steps of leaves, where lines of a table stand behind this many given ones
+
+-- nothing is left, and the test is true
+abbrev pub ended_if : Bool → Step → Line → Option Step
+ended_if true step ws = ended step ws
+ended_if false step ws = None
+
+-- a line of the rules
+abbrev pub few_given_in : ℕ → Line → Option Step
+few_given_in count ws = then_in (word_in named_long ws) (λ i ws. ended_if (nat_lt i count) (step.Given i) ws)
+
+-- a line of the table
+abbrev pub shared_in : ℕ → Line → Option Step
+shared_in count ws = then_in (word_in named_long ws) (λ k ws. ended_if (nat_lt (count + k) (2 ^ 64)) (step.Given (count + k)) ws)
+
+abbrev pub shared_step_in : ℕ → Line → Option Step
+shared_step_in count [] = None
+shared_step_in count (w ∷ ws) =
+    if bytes_eq w (codes "given") then few_given_in count ws
+    else if bytes_eq w (codes "shared") then shared_in count ws
+    else if bytes_eq w (codes "combine") then combine_in ws
+    else if bytes_eq w (codes "fail") then fail_in ws
+    else if bytes_eq w (codes "cover") then cover_in ws
+    else if bytes_eq w (codes "fix") then fix_in ws
+    else None
+
+abbrev pub leaf_step_in : Option ℕ → Line → Option Step
+leaf_step_in None ws = step_in ws
+leaf_step_in (Some count) ws = shared_step_in count ws

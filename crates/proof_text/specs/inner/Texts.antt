@@ -1,4 +1,4 @@
-use Rattle.std.specs.Prelude.{ℕ, ℤ, List, [], ◌∷◌, ◌++◌, Bool, Option, codes}
+use Rattle.std.specs.Prelude.{ℕ, ℤ, List, [], ◌∷◌, ◌++◌, Bool, Option, codes, length}
 use Rattle.std.specs.Fmt.{decimal, signed_decimal}
 use Rattle.std.specs.List.{flat_map}
 use Rattle.derivation.specs.declared.step.Step.{Step}
@@ -8,7 +8,7 @@ use Rattle.bound_cert.specs.declared.outcome.GiftFault.{GiftFault}
 use Rattle.proof_grammar.specs.declared.proof.Proof.{Proof}
 use Rattle.bound_cert.specs.declared.outcome.RowProof.{RowProof}
 use Rattle.bound_cert.specs.Paths.{named, path_text}
-use Rattle.proof_grammar.specs.ProofLines.{Line, claim_line, count_line, gift_words, limits_words, line_text, lines_text, row_lines, verdict_lines, with_leaves}
+use Rattle.proof_grammar.specs.ProofLines.{Line, claim_line, count_line, gift_words, has_table, limits_words, line_text, lines_text, row_lines_in, shared_from, table_lines, verdict_lines, version_line, with_leaves_in}
 
 -- The texts of the parts of a proof. Private contracts alone cite this page.
 
@@ -21,20 +21,32 @@ verdict_text verdict = lines_text (verdict_lines verdict)
 abbrev pub verdicts_text : List (Option (List Step)) → List ℕ
 verdicts_text verdicts = line_text (count_line (codes "lines") verdicts) ++ flat_map verdict_text verdicts
 
-abbrev pub rows_text : List RowProof → List ℕ
-rows_text rows = line_text (count_line (codes "records") rows) ++ flat_map (λ (row : RowProof). lines_text (row_lines row)) rows
+abbrev pub version_text : ℕ → List ℕ
+version_text version = line_text (version_line version)
+
+abbrev pub table_text : Bool → List Step → List ℕ
+table_text there table = lines_text (table_lines there table)
+
+abbrev pub rows_text : Option ℕ → List RowProof → List ℕ
+rows_text shared rows =
+    line_text (count_line (codes "records") rows) ++ flat_map (λ (row : RowProof). lines_text (row_lines_in shared row)) rows
+
+-- the rows of a proof
+abbrev pub rows_of : Proof → List ℕ
+rows_of p = rows_text (shared_from (has_table p.version) (length p.verdicts)) p.rows
 
 abbrev pub claims_text : List Entry → List ℕ
 claims_text claims = line_text (count_line (codes "claims") claims) ++ flat_map (λ (claim : Entry). line_text (claim_line claim)) claims
 
 -- a change with a number that left the range while values were given
-abbrev pub gift_text : List Bool → ℕ → GiftFault → List Leaf → List ℕ
-gift_text path weight fault leaves =
-    lines_text (with_leaves (codes "gift" ∷ decimal weight ∷ path_text path ∷ gift_words fault) leaves)
+abbrev pub gift_text : Option ℕ → List Bool → ℕ → GiftFault → List Leaf → List ℕ
+gift_text shared path weight fault leaves =
+    lines_text (with_leaves_in shared (codes "gift" ∷ decimal weight ∷ path_text path ∷ gift_words fault) leaves)
 
 abbrev pub parts_text : Proof → List ℕ
 parts_text p =
-    codes "fh-proof 1\n" ++ (limits_text p ++ (verdicts_text p.verdicts ++ (rows_text p.rows ++ (claims_text p.claims ++ codes "end\n"))))
+    version_text p.version ++ (limits_text p ++ (verdicts_text p.verdicts
+    ++ (table_text (has_table p.version) p.table ++ (rows_of p ++ (claims_text p.claims ++ codes "end\n")))))
 
 -- words that end with a count, and the lines behind them
 abbrev pub counted_text : ℕ → List Line → List ℕ

@@ -11,9 +11,9 @@ use proof_grammar::{Lines, ProofFault, Stop, Words, settle};
 use std::alloc::Global;
 
 impl Part for Entry {
-    ghost reading = { read_line claim_in };
+    ghost reading = { λ shared. read_line claim_in };
 
-    fn read(alloc: Global, lines: &mut Lines) -> Result<Entry, ProofFault> {
+    fn read(alloc: Global, lines: &mut Lines, _shared: Option<u64>) -> Result<Entry, ProofFault> {
         let line = lines.next()?;
         settle(lines, claim(alloc, line))
     }

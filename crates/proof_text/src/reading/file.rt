@@ -1,10 +1,12 @@
 //! The lines of a whole file.
 ghost use Rattle.proof_grammar.specs.Cuts.{split};
-ghost use Rattle.proof_grammar.specs.inner.FileReading.{behind_version, budget_behind, claims_reading, count_in, counted_reading, end_in, file_reading, limits_in, lists_reading, near_behind, rows_reading, version_in};
+ghost use Rattle.proof_grammar.specs.inner.FileReading.{behind_verdicts, behind_version, budget_behind, claims_reading, count_in, counted_reading, end_in, file_reading, limits_in, lists_reading, near_behind, rows_reading, table_reading, version_in, version_said};
 ghost use Rattle.proof_grammar.specs.inner.Readings.{Reads, read_line};
-ghost use Rattle.proof_grammar.specs.Words.{ReadsAs};
+ghost use Rattle.proof_grammar.specs.Words.{ReadsAs, Takes, word_in};
 
 use super::parts::{Part, parts};
+use super::steps::table_steps;
+use crate::versions::{has_table, shared_from};
 use bound_cert::RowProof;
 use derivation::Step;
 use donor_book::Entry;
@@ -17,69 +19,110 @@ pub(super) fn file(alloc: Global, lines: &mut Lines) -> Result<Proof, ProofFault
     ensures { Reads result lines.old lines.new (file_reading lines.old.left) }
 {
     match next_version(lines) {
-        Ok(()) => behind_version(alloc, lines),
+        Ok(version) => behind_version(alloc, lines, version),
         Err(fault) => Err(fault),
     }
 }
 
 // The proof behind its first line.
-fn behind_version(alloc: Global, lines: &mut Lines) -> Result<Proof, ProofFault>
-    ensures { Reads result lines.old lines.new (behind_version tt lines.old.left) }
+fn behind_version(alloc: Global, lines: &mut Lines, version: u32) -> Result<Proof, ProofFault>
+    ensures { Reads result lines.old lines.new (behind_version version lines.old.left) }
 {
     match next_limits(lines) {
-        Ok(limits) => behind_limits(alloc, lines, limits),
+        Ok(limits) => behind_limits(alloc, lines, version, limits),
         Err(fault) => Err(fault),
     }
 }
 
 // The proof of these limits, whose verdicts are at the front.
-fn behind_limits(alloc: Global, lines: &mut Lines, limits: RunLimits) -> Result<Proof, ProofFault>
-    ensures { Reads result lines.old lines.new (lists_reading limits lines.old.left) }
+fn behind_limits(
+    alloc: Global,
+    lines: &mut Lines,
+    version: u32,
+    limits: RunLimits,
+) -> Result<Proof, ProofFault>
+    ensures { Reads result lines.old lines.new (lists_reading version limits lines.old.left) }
 {
-    match counted(alloc, lines, b"lines") {
-        Ok(verdicts) => behind_verdicts(alloc, lines, limits, verdicts),
+    match counted(alloc, lines, None, b"lines") {
+        Ok(verdicts) => behind_verdicts(alloc, lines, version, limits, verdicts),
         Err(fault) => Err(fault),
     }
 }
 
-// The proof of these limits and verdicts, whose rows are at the front.
+// The proof of these limits and verdicts, whose table is at the front, if there is one.
 fn behind_verdicts(
     alloc: Global,
     lines: &mut Lines,
+    version: u32,
     limits: RunLimits,
     verdicts: Sequence<Option<Sequence<Step>>>,
 ) -> Result<Proof, ProofFault>
-    ensures { Reads result lines.old lines.new (rows_reading limits verdicts lines.old.left) }
+    ensures { Reads result lines.old lines.new (behind_verdicts version limits verdicts lines.old.left) }
 {
-    match counted(alloc, lines, b"records") {
-        Ok(rows) => behind_rows(alloc, lines, limits, verdicts, rows),
+    match table(alloc, lines, has_table(version)) {
+        Ok(table) => behind_table(alloc, lines, version, limits, verdicts, table),
         Err(fault) => Err(fault),
     }
 }
 
-// The proof of these limits, verdicts and rows, whose claims are at the front.
+// The proof of these limits, verdicts and table, whose rows are at the front.
+fn behind_table(
+    alloc: Global,
+    lines: &mut Lines,
+    version: u32,
+    limits: RunLimits,
+    verdicts: Sequence<Option<Sequence<Step>>>,
+    table: Sequence<Step>,
+) -> Result<Proof, ProofFault>
+    ensures { Reads result lines.old lines.new (rows_reading version limits verdicts table lines.old.left) }
+{
+    let shared = shared_from(has_table(version), verdicts.as_slice().len());
+    match counted(alloc, lines, shared, b"records") {
+        Ok(rows) => behind_rows(alloc, lines, version, limits, verdicts, table, rows),
+        Err(fault) => Err(fault),
+    }
+}
+
+// The proof of these parts, whose claims are at the front.
 fn behind_rows(
     alloc: Global,
     lines: &mut Lines,
+    version: u32,
     limits: RunLimits,
     verdicts: Sequence<Option<Sequence<Step>>>,
+    table: Sequence<Step>,
     rows: Sequence<RowProof>,
 ) -> Result<Proof, ProofFault>
-    ensures { Reads result lines.old lines.new (claims_reading limits verdicts rows lines.old.left) }
+    ensures { Reads result lines.old lines.new (claims_reading version limits verdicts table rows lines.old.left) }
 {
-    let claims = match counted(alloc, lines, b"claims") {
+    let claims = match counted(alloc, lines, None, b"claims") {
         Ok(claims) => claims,
         Err(fault) => return Err(fault),
     };
     match next_end(lines) {
         Ok(()) => Ok(Proof {
+            version,
             limit: limits.limit,
             near: limits.near,
             budget: limits.budget,
             verdicts,
+            table,
             rows,
             claims,
         }),
+        Err(fault) => Err(fault),
+    }
+}
+
+// The table, where there is one.
+fn table(alloc: Global, lines: &mut Lines, there: bool) -> Result<Sequence<Step>, ProofFault>
+    ensures { Reads result lines.old lines.new (table_reading there lines.old.left) }
+{
+    if !there {
+        return Ok(Sequence::from_vec(Vec::new(alloc)));
+    }
+    match next_count(lines, b"table") {
+        Ok(count) => table_steps(alloc, lines, count),
         Err(fault) => Err(fault),
     }
 }
@@ -88,31 +131,49 @@ fn behind_rows(
 fn counted<P: Part>(
     alloc: Global,
     lines: &mut Lines,
+    shared: Option<u64>,
     word: &[u8],
 ) -> Result<Sequence<P>, ProofFault>
-    ensures { Reads result lines.old lines.new (counted_reading (count_in word.now) P.reading lines.old.left) }
+    ensures { Reads result lines.old lines.new (counted_reading (count_in word.now) (P.reading shared) lines.old.left) }
 {
     match next_count(lines, word) {
-        Ok(count) => parts(alloc, lines, count),
+        Ok(count) => parts(alloc, lines, shared, count),
         Err(fault) => Err(fault),
     }
 }
 
 // The first line.
-fn next_version(lines: &mut Lines) -> Result<(), ProofFault>
+fn next_version(lines: &mut Lines) -> Result<u32, ProofFault>
     ensures { Reads result lines.old lines.new (read_line version_in lines.old.left) }
 {
     let line = lines.next()?;
     settle(lines, version(line))
 }
 
-fn version(line: &[u8]) -> Result<(), Stop>
+fn version(line: &[u8]) -> Result<u32, Stop>
     ensures { ReadsAs result (version_in (split 32 line.now)) }
 {
     let mut words = Words::new(line);
     words.fixed(b"fh-proof")?;
-    words.fixed(b"1")?;
-    words.end()
+    let version = version_number(&mut words)?;
+    words.end()?;
+    Ok(version)
+}
+
+// One of the versions.
+fn version_number(words: &mut Words) -> Result<u32, Stop>
+    ensures { Takes result words.new (word_in version_said words.old) }
+{
+    let Some(word) = words.next() else {
+        return Err(Stop::Form);
+    };
+    if word == b"1".as_slice() {
+        Ok(1)
+    } else if word == b"2".as_slice() {
+        Ok(2)
+    } else {
+        Err(Stop::Form)
+    }
 }
 
 // The line of the limits.

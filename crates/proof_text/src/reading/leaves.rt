@@ -12,18 +12,23 @@ use std::alloc::Global;
 impl Part for Leaf {
     ghost reading = { leaf_reading };
 
-    fn read(alloc: Global, lines: &mut Lines) -> Result<Leaf, ProofFault> {
+    fn read(alloc: Global, lines: &mut Lines, shared: Option<u64>) -> Result<Leaf, ProofFault> {
         let head = match next_head(alloc, lines) {
             Ok(head) => head,
             Err(fault) => return Err(fault),
         };
-        behind_head(alloc, lines, head)
+        behind_head(alloc, lines, shared, head)
     }
 }
 
 // The leaf of a head, whose steps are at the front.
-fn behind_head(alloc: Global, lines: &mut Lines, head: LeafHead) -> Result<Leaf, ProofFault>
-    ensures { Reads result lines.old lines.new (behind_leaf head lines.old.left) }
+fn behind_head(
+    alloc: Global,
+    lines: &mut Lines,
+    shared: Option<u64>,
+    head: LeafHead,
+) -> Result<Leaf, ProofFault>
+    ensures { Reads result lines.old lines.new (behind_leaf shared head lines.old.left) }
 {
     match head {
         LeafHead::BoundAt(path) => Ok(Leaf {
@@ -34,14 +39,14 @@ fn behind_head(alloc: Global, lines: &mut Lines, head: LeafHead) -> Result<Leaf,
             path,
             why: LeafWhy::BadKept,
         }),
-        LeafHead::LineAt(path, count) => match parts(alloc, lines, count) {
+        LeafHead::LineAt(path, count) => match parts(alloc, lines, shared, count) {
             Ok(steps) => Ok(Leaf {
                 path,
                 why: LeafWhy::Line(steps),
             }),
             Err(fault) => Err(fault),
         },
-        LeafHead::BoxAt(path, count) => match parts(alloc, lines, count) {
+        LeafHead::BoxAt(path, count) => match parts(alloc, lines, shared, count) {
             Ok(steps) => Ok(Leaf {
                 path,
                 why: LeafWhy::Box(steps),

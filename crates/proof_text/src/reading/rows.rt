@@ -14,23 +14,28 @@ use std::alloc::Global;
 impl Part for RowProof {
     ghost reading = { row_reading };
 
-    fn read(alloc: Global, lines: &mut Lines) -> Result<RowProof, ProofFault> {
+    fn read(alloc: Global, lines: &mut Lines, shared: Option<u64>) -> Result<RowProof, ProofFault> {
         let head = match next_head(alloc, lines) {
             Ok(head) => head,
             Err(fault) => return Err(fault),
         };
-        behind_head(alloc, lines, head)
+        behind_head(alloc, lines, shared, head)
     }
 }
 
 // The row of a head, whose leaves are at the front.
-fn behind_head(alloc: Global, lines: &mut Lines, head: RowHead) -> Result<RowProof, ProofFault>
+fn behind_head(
+    alloc: Global,
+    lines: &mut Lines,
+    shared: Option<u64>,
+    head: RowHead,
+) -> Result<RowProof, ProofFault>
     requires { WeighsLong head }
-    ensures { Reads result lines.old lines.new (behind_row head lines.old.left) }
+    ensures { Reads result lines.old lines.new (behind_row shared head lines.old.left) }
 {
     match head {
         RowHead::CleanAt => clean_row(alloc),
-        RowHead::ChangeAt(less, path, count) => match parts(alloc, lines, count) {
+        RowHead::ChangeAt(less, path, count) => match parts(alloc, lines, shared, count) {
             Ok(leaves) => Ok(RowProof {
                 outcome: Outcome::Change {
                     path,
@@ -41,7 +46,7 @@ fn behind_head(alloc: Global, lines: &mut Lines, head: RowHead) -> Result<RowPro
             }),
             Err(fault) => Err(fault),
         },
-        RowHead::GiftAt(weight, path, gift, count) => match parts(alloc, lines, count) {
+        RowHead::GiftAt(weight, path, gift, count) => match parts(alloc, lines, shared, count) {
             Ok(leaves) => Ok(RowProof {
                 outcome: Outcome::Change {
                     path,
@@ -60,7 +65,7 @@ fn behind_head(alloc: Global, lines: &mut Lines, head: RowHead) -> Result<RowPro
             outcome: Outcome::Overflow { path, event },
             gift: None,
         }),
-        RowHead::ContradictoryAt(count) => match parts(alloc, lines, count) {
+        RowHead::ContradictoryAt(count) => match parts(alloc, lines, shared, count) {
             Ok(leaves) => Ok(RowProof {
                 outcome: Outcome::Contradictory {
                     cert: Cert { leaves },

@@ -11,9 +11,13 @@ use proof_grammar::{Lines, ProofFault, Stop, Words, settle};
 use std::alloc::Global;
 
 impl Part for Option<Sequence<Step>> {
-    ghost reading = { verdict_reading };
+    ghost reading = { λ shared. verdict_reading };
 
-    fn read(alloc: Global, lines: &mut Lines) -> Result<Option<Sequence<Step>>, ProofFault> {
+    fn read(
+        alloc: Global,
+        lines: &mut Lines,
+        _shared: Option<u64>,
+    ) -> Result<Option<Sequence<Step>>, ProofFault> {
         let head = match next_head(lines) {
             Ok(head) => head,
             Err(fault) => return Err(fault),
@@ -32,7 +36,7 @@ fn behind_head(
 {
     match head {
         None => Ok(None),
-        Some(count) => match parts(alloc, lines, count) {
+        Some(count) => match parts(alloc, lines, None, count) {
             Ok(steps) => Ok(Some(steps)),
             Err(fault) => Err(fault),
         },

@@ -2,7 +2,7 @@
 ghost use Rattle.std.specs.Prelude.{◌≡◌, ◌∷◌, ◌++◌, length, OnOk};
 ghost use Rattle.std.specs.Fmt.{decimal};
 ghost use Rattle.std.specs.List.{flat_map};
-ghost use Rattle.proof_grammar.specs.ProofLines.{leaf_lines, lines_text};
+ghost use Rattle.proof_grammar.specs.ProofLines.{leaf_lines_in, lines_text};
 ghost use Rattle.proof_text.specs.Sizes.{AreSizedLeaves, IsSizedLeaf};
 ghost use Rattle.proof_text.specs.inner.Texts.{counted_text};
 
@@ -12,20 +12,25 @@ use bound_cert::{Leaf, LeafWhy};
 use foundation::OutOfMemory;
 
 /// Appends the count of the leaves, the last word of its line, and their lines.
-pub(super) fn write_leaves(text: &mut Vec<u8>, leaves: &[Leaf]) -> Result<(), OutOfMemory>
-    ensures text { OnOk result (text.new.items ≡ text.old.items ++ counted_text (length leaves.now) (flat_map leaf_lines leaves.now)) }
+pub(super) fn write_leaves(
+    text: &mut Vec<u8>,
+    shared: Option<u64>,
+    leaves: &[Leaf],
+) -> Result<(), OutOfMemory>
+    ensures text { OnOk result (text.new.items
+        ≡ text.old.items ++ counted_text (length leaves.now) (flat_map (leaf_lines_in shared) leaves.now)) }
     ensures sized { OnOk result (AreSizedLeaves leaves.now) }
 {
     write_count(text, leaves.len())?;
     for leaf in leaves {
-        write_leaf(text, leaf)?;
+        write_leaf(text, shared, leaf)?;
     }
     Ok(())
 }
 
 // Appends the lines of a leaf.
-fn write_leaf(text: &mut Vec<u8>, leaf: &Leaf) -> Result<(), OutOfMemory>
-    ensures text { OnOk result (text.new.items ≡ text.old.items ++ lines_text (leaf_lines leaf.now)) }
+fn write_leaf(text: &mut Vec<u8>, shared: Option<u64>, leaf: &Leaf) -> Result<(), OutOfMemory>
+    ensures text { OnOk result (text.new.items ≡ text.old.items ++ lines_text (leaf_lines_in shared leaf.now)) }
     ensures sized { OnOk result (IsSizedLeaf leaf.now) }
 {
     match &leaf.why {
@@ -44,12 +49,12 @@ fn write_leaf(text: &mut Vec<u8>, leaf: &Leaf) -> Result<(), OutOfMemory>
         LeafWhy::Line(steps) => {
             text.extend_from_slice(b"line")?;
             write_path(text, &leaf.path)?;
-            write_steps(text, steps.as_slice())
+            write_steps(text, shared, steps.as_slice())
         }
         LeafWhy::Box(steps) => {
             text.extend_from_slice(b"box")?;
             write_path(text, &leaf.path)?;
-            write_steps(text, steps.as_slice())
+            write_steps(text, shared, steps.as_slice())
         }
     }
 }

@@ -1,7 +1,7 @@
 //! The lines of rows.
 ghost use Rattle.std.specs.Prelude.{◌≡◌, ◌++◌, OnOk};
 ghost use Rattle.proof_grammar.specs.Limits.{IsEvent, IsGift, IsLong};
-ghost use Rattle.proof_grammar.specs.ProofLines.{change_lines, event_line, line_text, lines_text, row_lines};
+ghost use Rattle.proof_grammar.specs.ProofLines.{change_lines_in, event_line, line_text, lines_text, row_lines_in};
 ghost use Rattle.proof_text.specs.Sizes.{AreSizedLeaves, IsSizedChange, IsSizedRow};
 ghost use Rattle.proof_text.specs.inner.Texts.{gift_text};
 
@@ -11,14 +11,18 @@ use bound_cert::{Cert, Event, GiftFault, Outcome, Path, RowProof};
 use foundation::OutOfMemory;
 
 /// Appends the lines of a row.
-pub(super) fn write_row(text: &mut Vec<u8>, row: &RowProof) -> Result<(), OutOfMemory>
-    ensures text { OnOk result (text.new.items ≡ text.old.items ++ lines_text (row_lines row.now)) }
+pub(super) fn write_row(
+    text: &mut Vec<u8>,
+    shared: Option<u64>,
+    row: &RowProof,
+) -> Result<(), OutOfMemory>
+    ensures text { OnOk result (text.new.items ≡ text.old.items ++ lines_text (row_lines_in shared row.now)) }
     ensures sized { OnOk result (IsSizedRow row.now) }
 {
     match &row.outcome {
         Outcome::Change { path, weight, cert } => match &row.gift {
-            None => write_change(text, path, *weight, cert),
-            Some(fault) => write_gift(text, path, *weight, fault, cert),
+            None => write_change(text, shared, path, *weight, cert),
+            Some(fault) => write_gift(text, shared, path, *weight, fault, cert),
         },
         Outcome::Budget { path, work } => {
             text.extend_from_slice(b"budget")?;
@@ -30,7 +34,7 @@ pub(super) fn write_row(text: &mut Vec<u8>, row: &RowProof) -> Result<(), OutOfM
         Outcome::Overflow { path, event } => write_event(text, path, event),
         Outcome::Contradictory { cert } => {
             text.extend_from_slice(b"contradictory")?;
-            write_leaves(text, cert.leaves.as_slice())
+            write_leaves(text, shared, cert.leaves.as_slice())
         }
     }
 }
@@ -38,11 +42,12 @@ pub(super) fn write_row(text: &mut Vec<u8>, row: &RowProof) -> Result<(), OutOfM
 // Appends the lines of a change whose values were all given.
 fn write_change(
     text: &mut Vec<u8>,
+    shared: Option<u64>,
     path: &Path,
     weight: u64,
     cert: &Cert,
 ) -> Result<(), OutOfMemory>
-    ensures text { OnOk result (text.new.items ≡ text.old.items ++ lines_text (change_lines path.now weight cert.now.leaves)) }
+    ensures text { OnOk result (text.new.items ≡ text.old.items ++ lines_text (change_lines_in shared path.now weight cert.now.leaves)) }
     ensures sized { OnOk result (IsSizedChange weight cert.now.leaves) }
 {
     if weight == 0 {
@@ -52,18 +57,19 @@ fn write_change(
     text.extend_from_slice(b"change")?;
     write_number(text, weight)?;
     write_path(text, path)?;
-    write_leaves(text, cert.leaves.as_slice())
+    write_leaves(text, shared, cert.leaves.as_slice())
 }
 
 // Appends the lines of a change of which a number left the range while values were given.
 fn write_gift(
     text: &mut Vec<u8>,
+    shared: Option<u64>,
     path: &Path,
     weight: u64,
     fault: &GiftFault,
     cert: &Cert,
 ) -> Result<(), OutOfMemory>
-    ensures text { OnOk result (text.new.items ≡ text.old.items ++ gift_text path.now weight fault.now cert.now.leaves) }
+    ensures text { OnOk result (text.new.items ≡ text.old.items ++ gift_text shared path.now weight fault.now cert.now.leaves) }
     ensures sized { OnOk result (IsLong weight × IsGift fault.now × AreSizedLeaves cert.now.leaves) }
 {
     text.extend_from_slice(b"gift")?;
@@ -79,7 +85,7 @@ fn write_gift(
             write_named(text, *rule as u64)?;
         }
     }
-    write_leaves(text, cert.leaves.as_slice())
+    write_leaves(text, shared, cert.leaves.as_slice())
 }
 
 // Appends the line of a number that left the range.

@@ -1,10 +1,10 @@
 //! The lines of steps.
-ghost use Rattle.std.specs.Prelude.{◌≡◌, ◌∷◌, ◌++◌, [], codes, length, map, OnOk};
+ghost use Rattle.std.specs.Prelude.{◌≡◌, ◌∷◌, ◌++◌, [], Some, codes, length, map, OnOk};
 ghost use Rattle.std.specs.Fmt.{decimal, signed_decimal};
 ghost use Rattle.derivation.specs.declared.step.Step.TheVariants as step;
 ghost use Rattle.bound_cert.specs.Paths.{named};
 ghost use Rattle.proof_grammar.specs.Limits.{IsLong};
-ghost use Rattle.proof_grammar.specs.ProofLines.{lines_text, step_line, words_text};
+ghost use Rattle.proof_grammar.specs.ProofLines.{given_words, lines_text, step_line, step_line_in, words_text};
 ghost use Rattle.proof_text.specs.Sizes.{AreSizedSteps, IsSizedStep, IsWide};
 ghost use Rattle.proof_text.specs.inner.Texts.{combine_line, counted_text};
 
@@ -13,19 +13,62 @@ use derivation::Step;
 use foundation::OutOfMemory;
 
 /// Appends the count of the steps, the last word of its line, and their lines.
-pub(super) fn write_steps(text: &mut Vec<u8>, steps: &[Step]) -> Result<(), OutOfMemory>
-    ensures text { OnOk result (text.new.items ≡ text.old.items ++ counted_text (length steps.now) (map step_line steps.now)) }
+pub(super) fn write_steps(
+    text: &mut Vec<u8>,
+    shared: Option<u64>,
+    steps: &[Step],
+) -> Result<(), OutOfMemory>
+    ensures text { OnOk result (text.new.items ≡ text.old.items ++ counted_text (length steps.now) (map (step_line_in shared) steps.now)) }
     ensures sized { OnOk result (AreSizedSteps steps.now) }
 {
     write_count(text, steps.len())?;
     for step in steps {
-        write_step(text, step)?;
+        write_step_in(text, shared, step)?;
         text.push(b'\n')?;
     }
     Ok(())
 }
 
-/// Appends the words of a step, as in a proof file.
+// Appends the words of a step, where lines of a table stand behind this many given ones, if there is a table.
+fn write_step_in(text: &mut Vec<u8>, shared: Option<u64>, step: &Step) -> Result<(), OutOfMemory>
+    ensures text { OnOk result (text.new.items ≡ text.old.items ++ words_text (step_line_in shared step.now)) }
+    ensures sized { OnOk result (IsSizedStep step.now) }
+{
+    match shared {
+        None => write_step(text, step),
+        Some(count) => write_beside(text, count, step),
+    }
+}
+
+// Appends the words of a step, where lines of a table stand behind this many given ones.
+fn write_beside(text: &mut Vec<u8>, count: u64, step: &Step) -> Result<(), OutOfMemory>
+    ensures text { OnOk result (text.new.items ≡ text.old.items ++ words_text (step_line_in (Some count) step.now)) }
+    ensures sized { OnOk result (IsSizedStep step.now) }
+{
+    match step {
+        Step::Given(place) => write_given(text, count, *place),
+        Step::Combine { .. } | Step::Fail(_) | Step::Cover { .. } | Step::Fix { .. } => {
+            write_step(text, step)
+        }
+    }
+}
+
+// Appends the words of a given line, where lines of a table stand behind this many others.
+fn write_given(text: &mut Vec<u8>, count: u64, place: u64) -> Result<(), OutOfMemory>
+    ensures text { OnOk result (text.new.items ≡ text.old.items ++ words_text (given_words (Some count) place)) }
+    ensures sized { OnOk result (IsLong place) }
+{
+    if place < count {
+        text.extend_from_slice(b"given")?;
+        write_named(text, place)?;
+    } else {
+        text.extend_from_slice(b"shared")?;
+        write_named(text, place - count)?;
+    }
+    Ok(())
+}
+
+/// Appends the words of a step, as in a proof file without a table.
 pub fn write_step(text: &mut Vec<u8>, step: &Step) -> Result<(), OutOfMemory>
     ensures text { OnOk result (text.new.items ≡ text.old.items ++ words_text (step_line step.now)) }
     ensures sized { OnOk result (IsSizedStep step.now) }

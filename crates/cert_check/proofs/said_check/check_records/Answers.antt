@@ -1,7 +1,12 @@
-use Rattle.std.proofs.Common.{◌∙◌, ap, arith, length, map, sym, [], is_none}
-use Rattle.std.proofs.lemmas.List.{length-map}
+use Rattle.std.proofs.Common.{◌∙◌, ap, arith, length, map, [], is_none, true}
+use Rattle.std.proofs.lemmas.List.{length-append, length-map}
+use Rattle.edit_line.specs.Lines.{LineParts}
+use Rattle.edit_normal.specs.RuleLines.{normal_lines_of}
+use Rattle.cert_check.specs.Dropped.{kept_flags}
+use Rattle.cert_check.specs.Tables.{shared_lines}
 use Rattle.record_text.proofs.SheetLaws.{columns_in_header, few_sheet_rows, one_column_a_field, row_texts_as_long_as_header, rows_are_records}
 use Rattle.cert_check.specs.inner.Answers.{audit_in}
+use Rattle.cert_check.proofs.LineNumbers.{all-lines}
 use Rattle.cert_check.proofs.AuditLaws.{claims-answers, counts-fit, file-answers, in-limits, record-answers, valid-answers}
 use Rattle.cert_check.proofs.said_check.check_records.Goals as goal
 
@@ -20,14 +25,16 @@ pub returns-in_default : goal.returns-in_default
 returns-in_default c = λ bytes spelled.
     let a = audit_in c.args.audit.now bytes in
     let none = rw (c.in_default.is, c.header.ensures, c.released_count-count.ensures, c.as_slice-saids.ensures) at c.in_ok-released.ensures.none in
-    rw c.rejected.ensures (file-answers a c.args.said.now spelled (c.requires.head bytes) c.requires.dropped c.requires.sheet.0 c.requires.sheet.1 none)
+    rw c.rejected.ensures (file-answers a c.args.said.now spelled (c.requires.head bytes) c.requires.dropped c.requires.table c.requires.sheet.0 c.requires.sheet.1 none)
 
 pub rows_fault-requires-clause-checking : goal.rows_fault-requires-clause-checking
 rows_fault-requires-clause-checking c =
     let counts = counts-fit (audit_in c.args.audit.now []) c.args.said.now (c.requires.head []) in
-    let usable = ap length (c.deref.ensures.value ∙ c.in_ok-usable.ensures ∙ ap (map is_none) c.as_slice.ensures) ∙ length-map c.args.said.now.verdicts is_none in
+    let shared = shared_lines c.args.audit.now.rules.now c.args.said.now in
+    let flags = length-map c.args.said.now.verdicts is_none in
+    let trues = length-map shared (λ (line : LineParts). true) in
     record {
-      lists = ap length c.requires.lines ∙ sym counts.0 ∙ sym usable;
+      lists = omega (arith, ap length c.requires.lines, ap length c.requires.usable, length-append (normal_lines_of c.args.audit.now.rules.now) shared, length-append (kept_flags c.args.said.now) (map (λ (line : LineParts). true) shared), counts.0, flags, trues);
       over = c.requires.over;
       columns = ap length c.columns.ensures ∙ one_column_a_field c.args.audit.now.rules.now.fields c.requires.sheet.0 c.args.audit.now.records.now c.requires.sheet.1;
     }
@@ -53,10 +60,9 @@ pub returns-in-Some-2 : goal.returns-in-Some-2
 returns-in-Some-2 c = λ bytes spelled.
     let a = audit_in c.args.audit.now bytes in
     let are = rw (c.in-Some.is, c.header.ensures, c.released_count-count.ensures, c.as_slice-saids.ensures) at c.in_ok-released.ensures.some in
-    let usable = c.deref.ensures.value ∙ c.in_ok-usable.ensures ∙ ap (map is_none) c.as_slice.ensures in
-    let found = rw (c.in-Some-2.is, c.as_slice-saids.ensures, c.requires.lines, usable, c.columns.ensures) at c.in_ok-fault.ensures in
+    let found = rw (c.in-Some-2.is, c.as_slice-saids.ensures, c.requires.lines, c.requires.usable, c.columns.ensures) at c.in_ok-fault.ensures in
     rw (c.rejected-in-Some-2.ensures, c.records_line.ensures)
-    (record-answers a c.args.said.now spelled (c.requires.head bytes) c.requires.dropped c.requires.sheet.0 c.requires.sheet.1 c.in-Some.released.row_texts are c.in-Some-2.fault.offset c.in-Some-2.fault.why found.0 found.1)
+    (record-answers a c.args.said.now spelled (c.requires.head bytes) c.requires.dropped c.requires.table c.requires.sheet.0 c.requires.sheet.1 c.in-Some.released.row_texts are c.in-Some-2.fault.offset c.in-Some-2.fault.why found.0 found.1)
 
 pub claims_fault-requires-clause-rows : goal.claims_fault-requires-clause-rows
 claims_fault-requires-clause-rows c = rows_are_records c.args.audit.now.rules.now.fields c.requires.sheet.0 c.args.audit.now.records.now c.requires.sheet.1
@@ -68,18 +74,24 @@ pub returns-in-Some-3 : goal.returns-in-Some-3
 returns-in-Some-3 c = λ bytes spelled.
     let a = audit_in c.args.audit.now bytes in
     let are = rw (c.in-Some.is, c.header.ensures, c.released_count-count.ensures, c.as_slice-saids.ensures) at c.in_ok-released.ensures.some in
-    let usable = c.deref.ensures.value ∙ c.in_ok-usable.ensures ∙ ap (map is_none) c.as_slice.ensures in
-    let valid = rw (c.in_default-2.is, c.as_slice-saids.ensures, c.requires.lines, usable, c.columns.ensures) at c.in_ok-fault.ensures in
+    let valid = rw (c.in_default-2.is, c.as_slice-saids.ensures, c.requires.lines, c.requires.usable, c.columns.ensures) at c.in_ok-fault.ensures in
     let found = rw c.in-Some-3.is at c.in_ok-line.ensures in
     rw c.rejected-in-Some-3.ensures
-    (claims-answers a c.args.said.now spelled (c.requires.head bytes) c.requires.dropped c.requires.sheet.0 c.requires.sheet.1 c.in-Some.released.row_texts are valid c.in-Some-3.line found)
+    (claims-answers a c.args.said.now spelled (c.requires.head bytes) c.requires.dropped c.requires.table c.requires.sheet.0 c.requires.sheet.1 c.in-Some.released.row_texts are valid c.in-Some-3.line found)
 
 pub returns : goal.returns
 returns c = λ bytes spelled.
     let a = audit_in c.args.audit.now bytes in
     let are = rw (c.in-Some.is, c.header.ensures, c.released_count-count.ensures, c.as_slice-saids.ensures) at c.in_ok-released.ensures.some in
-    let usable = c.deref.ensures.value ∙ c.in_ok-usable.ensures ∙ ap (map is_none) c.as_slice.ensures in
-    let valid = rw (c.in_default-2.is, c.as_slice-saids.ensures, c.requires.lines, usable, c.columns.ensures) at c.in_ok-fault.ensures in
+    let valid = rw (c.in_default-2.is, c.as_slice-saids.ensures, c.requires.lines, c.requires.usable, c.columns.ensures) at c.in_ok-fault.ensures in
     let claims = rw c.in_default-3.is at c.in_ok-line.ensures in
     rw (c.released_count-count.ensures, c.as_slice-saids.ensures)
-    (valid-answers a c.args.said.now spelled (c.requires.head bytes) c.requires.dropped c.requires.sheet.0 c.requires.sheet.1 c.in-Some.released.row_texts are valid claims)
+    (valid-answers a c.args.said.now spelled (c.requires.head bytes) c.requires.dropped c.requires.table c.requires.sheet.0 c.requires.sheet.1 c.in-Some.released.row_texts are valid claims)
+
+pub rows_fault-requires-clause-few : goal.rows_fault-requires-clause-few
+rows_fault-requires-clause-few c = rw c.as_slice-saids.ensures (omega (arith, all-lines c.args.said.now, c.requires.counted))
+
+pub overflow_add-records_line-in-Some-2 : goal.overflow_add-records_line-in-Some-2
+overflow_add-records_line-in-Some-2 c =
+    let found = rw (c.in-Some-2.is, c.as_slice-saids.ensures) at c.in_ok-fault.ensures in
+    omega (arith, all-lines c.args.said.now, c.requires.counted, c.records_line.ensures, found.2)

@@ -1,6 +1,5 @@
 use Rattle.std.proofs.Common.{◌≡◌, ◌<ℤ◌, FitsSigned, List, true, length, pos, rules, ap, sym, subst, ◌∙◌, ℤ}
 use Rattle.std.proofs.lemmas.Int.{to_z-of_z}
-use Rattle.std.proofs.lemmas.Result.{IfOk-weaker}
 use mir.Syntax.{w128}
 use Rattle.edit_line.specs.Combinations.{all_meet, divides}
 use Rattle.edit_line.specs.Divisors.{divided_by}
@@ -35,17 +34,16 @@ divided-requires c =
     let allowed = sym c.are_allowed.ensures ∙ c.if-not-are_allowed.false in
     subst (λ (z : ℤ). pos 0 <ℤ z) (sym (to_z-of_z w128 by.divisor g_fits)) (above-divisor by.first by.second by.divisor c.args.s.now c.args.t.now allowed)
 
-pub returns : goal.returns
-returns c =
+pub returns-in-None : goal.returns-in-None
+returns-in-None c =
     let by = c.args.by in
     let m_fits : FitsSigned w128 by.first = search rules in
     let n_fits : FitsSigned w128 by.second = search rules in
     let g_fits : FitsSigned w128 by.divisor = search rules in
     let place_is = simp to_z-of_z at c.write_sum.ensures.place in
     let sum_is = simp to_z-of_z at (c.write_sum.ensures.sum c.in-None.is) in
+    let told = simp to_z-of_z at c.divided.ensures in
     let allowed = sym c.are_allowed.ensures ∙ c.if-not-are_allowed.false in
     let meet : all_meet c.args.s.now.sets c.args.t.now.sets ≡ true = sym (c.all_meet.ensures ∙ (λ i. all_meet (c.sets.ensures.sets i) (c.sets-else-not-are_allowed.ensures.sets i))) ∙ c.if-not-all_meet.false in
-    IfOk-weaker c.divided.result _ _ (λ made told.
     told ∙ ap (λ (line : LineParts). only_if (divides by.divisor line) (proved.Line (divided_by by.divisor line))) sum_is
     ∙ in-range by.first by.second by.divisor c.args.s.now c.args.t.now allowed meet (sym place_is ∙ c.in-None.is)
-    ) (simp to_z-of_z at c.divided.ensures)

@@ -1,4 +1,0 @@
-use Rattle.donor_search.proofs.tests.measured_in.Given as goal
-
-abbrev pub ghosts-nearest : goal.ghosts-nearest
-ghosts-nearest a = record { name = a.blank.name; parts = a.blank.parts }

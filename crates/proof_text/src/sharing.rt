@@ -1,0 +1,42 @@
+//! Proofs whose derived lines are written once, for all records.
+ghost use Rattle.std.specs.Prelude.{◌≡◌, ◌+◌, ◌<◌, ◌^◌, IfOk, length};
+ghost use Rattle.proof_text.specs.SharedProofs.{shared_proof};
+
+mod kept_steps;
+mod leaves;
+mod line_step;
+mod line_table;
+mod put_steps;
+mod rows;
+
+use foundation::{OutOfMemory, Sequence};
+use line_table::LineTable;
+use proof_grammar::Proof;
+use rows::share_rows;
+use std::alloc::Global;
+
+/// The proof of version 2: each line that the steps of its leaves derive is written once, in the table, and the leaves
+/// name it there. What made a valid release with the proof makes one with the answer. The time is in proportion to the
+/// steps.
+pub fn share_lines(alloc: Global, proof: Proof) -> Result<Proof, OutOfMemory>
+    ensures shared { IfOk result (λ shared. shared ≡ shared_proof proof) }
+    ensures counted { IfOk result (λ shared. length shared.verdicts + length shared.table < 2 ^ 64) }
+{
+    let given = proof.verdicts.as_slice().len() as u64;
+    let mut table = LineTable::new(alloc);
+    let rows = share_rows(alloc, &mut table, given, proof.rows.as_slice())?;
+    let table = table.steps(alloc)?;
+    let Some(_) = given.checked_add(table.as_slice().len() as u64) else {
+        return Err(OutOfMemory); // no memory holds so many lines
+    };
+    Ok(Proof {
+        version: 2,
+        limit: proof.limit,
+        near: proof.near,
+        budget: proof.budget,
+        verdicts: proof.verdicts,
+        table,
+        rows: Sequence::from_vec(rows),
+        claims: proof.claims,
+    })
+}
