@@ -15,7 +15,8 @@ use Rattle.derivation.specs.declared.step.Step.TheVariants as step
 abbrev pub no_record : SurveyParts → List LineParts → List Bool → Premises
 no_record survey given usable = premises_over survey given usable [] 0
 
--- the line of a step, from those of the steps before it: a usable given line, or a combination of two; nothing where the step is no valid one of these two kinds
+-- the line of a step, from those of the steps before it: a usable given line, or a combination of two; nothing where the step is
+-- no valid one of these two kinds
 abbrev pub line_by : Premises → List LineParts → Step → Option LineParts
 line_by p lines (step.Given place) = as_line (given_line p place)
 line_by p lines (step.Combine a m b n g) =

@@ -1,4 +1,5 @@
--- Steps whose lines are written once, in a table: a list of steps each of which gives a line. What a list of steps keeps of its own names them there.
+-- Steps whose lines are written once, in a table: a list of steps each of which gives a line. What a list of steps keeps of its own
+-- names them there.
 use Rattle.std.specs.Prelude.{◌≡◌, ℕ, ◌+◌, ◌==◌, ◌&&◌, Bool, true, false, if◌then◌else◌, List, [], ◌∷◌, ◌++◌, Option, Some, None, length, map, slice_index_or}
 use Rattle.std.specs.List.{list_any, position_or_len}
 use Rattle.std.specs.Ordering.{int_eq}
@@ -33,7 +34,8 @@ with_step table one = if list_any (is_same one) table then table else table ++ o
 abbrev pub place_in : List Step → Step → ℕ
 place_in table one = position_or_len (is_same one) table
 
--- a step that gives a line, as it stands in the table: its parts are named by their places there, of which `places` has one for each step before it
+-- a step that gives a line, as it stands in the table: its parts are named by their places there, of which `places` has one for
+-- each step before it
 abbrev pub as_tabled : List ℕ → Step → Option Step
 as_tabled places (step.Given place) = Some (step.Given place)
 as_tabled places (step.Combine a m b n g) = Some (step.Combine (slice_index_or places a 0) m (slice_index_or places b 0) n g)
@@ -86,7 +88,8 @@ fails_at place other = false
 abbrev pub is_failed : List Step → ℕ → Bool
 is_failed steps place = list_any (fails_at place) steps
 
--- what is kept of a step, if it is: the name of a line that becomes a box, or the step, with the new places of its parts; `new` has that of each step before it
+-- what is kept of a step, if it is: the name of a line that becomes a box, or the step, with the new places of its parts; `new` has
+-- that of each step before it
 abbrev pub kept_step : ℕ → Bool → ℕ → List ℕ → Step → Option Step
 kept_step given failed place new (step.Fail a) = Some (step.Fail (slice_index_or new a 0))
 kept_step given failed place new (step.Cover field parts) = Some (step.Cover field (map (λ part. slice_index_or new part 0) parts))
@@ -117,7 +120,8 @@ shared_steps given places steps (proved.Box code_box) = shared_box given places 
 
 -- ---- what is shown of them
 
--- the steps prove the last line, or the last box, and so does what is kept of them, where the lines of the table may be named: these stand behind those that the table had
+-- the steps prove the last line, or the last box, and so does what is kept of them, where the lines of the table may be named:
+-- these stand behind those that the table had
 abbrev pub SharingLaw : Type 0
 SharingLaw = (p : Premises) (table : List Step) (lines : List LineParts) (steps : List Step) (last : Proved)
     → length p.given ≡ length p.usable → AreLinesOf p table lines → AreValidSteps p steps last

@@ -5,7 +5,8 @@ use Rattle.proof_grammar.specs.Limits.{IsPlain}
 use Rattle.proof_grammar.specs.declared.proof.Proof.{Proof}
 use Rattle.proof_text.specs.Sizes.{IsCoherent}
 
--- the proof of version 2: the lines that the steps of its leaves give stand once, in the table, and the leaves name them there, behind the lines of the rules
+-- the proof of version 2: the lines that the steps of its leaves give stand once, in the table, and the leaves name them there,
+-- behind the lines of the rules
 abbrev pub shared_proof : Proof → Proof
 shared_proof p = record {
   version = 2;

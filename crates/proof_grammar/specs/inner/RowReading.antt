@@ -94,7 +94,8 @@ change_proof path weight fault leaves = record { outcome = outcome.Change path w
 abbrev pub behind_row : Option ℕ → RowHead → List Line → Reading Line RowProof
 behind_row shared CleanAt ls = Ok (clean_proof, ls)
 behind_row shared (ChangeAt w path n) ls = seen (λ leaves. change_proof path (suc w) None leaves) (read_many (leaf_reading shared) n ls)
-behind_row shared (GiftAt weight path fault n) ls = seen (λ leaves. change_proof path weight (Some fault) leaves) (read_many (leaf_reading shared) n ls)
+behind_row shared (GiftAt weight path fault n) ls =
+    seen (λ leaves. change_proof path weight (Some fault) leaves) (read_many (leaf_reading shared) n ls)
 behind_row shared (BudgetAt path work) ls = Ok (record { outcome = outcome.Budget path work; gift = None }, ls)
 behind_row shared (EventAt path event) ls = Ok (record { outcome = outcome.Overflow path event; gift = None }, ls)
 behind_row shared (ContradictoryAt n) ls =
