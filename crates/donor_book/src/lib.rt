@@ -10,8 +10,6 @@ mod indexes;
 mod replay;
 mod rule;
 mod shared;
-#[cfg(test)]
-mod tests;
 mod words;
 
 pub use book::Book;

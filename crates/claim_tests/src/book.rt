@@ -1,7 +1,7 @@
 //! Claims in a book of one thread.
 ghost use Rattle.std.specs.Prelude.{◌≡◌, IfOk};
 
-use crate::{Book, Claim};
+use donor_book::{Book, Claim};
 use std::alloc::Global;
 use std::test::Fail;
 

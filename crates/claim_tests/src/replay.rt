@@ -2,7 +2,7 @@
 ghost use Rattle.std.specs.Prelude.{◌<◌, All, IfOk};
 ghost use Rattle.donor_book.specs.Entries.{IsEntryWithin};
 
-use crate::{Entry, first_illegal};
+use donor_book::{Entry, first_illegal};
 use foundation::Sequence;
 use std::alloc::Global;
 use std::test::Fail;

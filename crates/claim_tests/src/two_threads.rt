@@ -2,7 +2,7 @@
 ghost use Rattle.std.specs.Prelude.{◌≡◌, ◌<◌, ◌≤◌, [], ◌∷◌, length, IfOk};
 ghost use Rattle.std.specs.List.{All};
 
-use crate::{Claim, Pass, SharedBook, Won};
+use donor_book::{Claim, Pass, SharedBook, Won};
 use foundation::OutOfMemory;
 use std::alloc::Global;
 use std::test::Fail;
