@@ -10,8 +10,6 @@ mod levels;
 mod making;
 mod state;
 mod step_list;
-#[cfg(test)]
-mod tests;
 mod writing;
 
 pub use case::case_known;

@@ -11,6 +11,8 @@ mod derivations;
 #[cfg(test)]
 mod lines;
 #[cfg(test)]
+mod path_states;
+#[cfg(test)]
 mod reading;
 #[cfg(test)]
 mod records;
@@ -20,3 +22,5 @@ mod redundant_lines;
 mod shared_systems;
 #[cfg(test)]
 mod systems;
+#[cfg(test)]
+mod written_steps;

@@ -1,11 +1,12 @@
+//! The steps that are written of the boxes and lines of a path.
 ghost use Rattle.std.specs.Prelude.{◌≡◌, ◌<◌, ◌∷◌, [], IfOk};
 ghost use Rattle.std.specs.Arc.{arc_value};
 ghost use Rattle.edit_line.specs.Shapes.{Numerical, domain_of, shape_of};
 
-use crate::{Level, write_steps};
 use categ_combine::{BoxFrom, BoxOrigin};
 use edit_line::{CodeBox, Edits, Line, Relation, Shape};
 use edit_model::{Field, FieldSet, Kind, Name, Survey};
+use edit_paths::{Level, write_steps};
 use foundation::{Sequence, Steps};
 use linear_elim::{Held, Recompute, Systems};
 use std::alloc::Global;

@@ -1,8 +1,7 @@
-mod steps;
-
-use crate::{PathState, outcome_laws, path_laws};
+//! When a path is open, and when it is closed.
 use bound_cert::Event;
 use edit_line::Place;
+use edit_paths::{PathState, outcome_laws, path_laws};
 use std::test::Fail;
 
 // The first of the states that is not open, or not closed, as told.
