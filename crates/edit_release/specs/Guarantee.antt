@@ -4,6 +4,7 @@ use Rattle.std.specs.List.{AllByRecursion, AllZip}
 use Rattle.edit_model.specs.Parts.{SurveyParts}
 use Rattle.edit_model.specs.declared.value.Value.{Value}
 use Rattle.edit_line.specs.EditSets.{EditsParts}
+use Rattle.edit_line.specs.Lines.{LineParts}
 use Rattle.edit_line.specs.Shapes.{shape_of}
 use Rattle.edit_normal.specs.RuleLines.{normal_lines_of}
 use Rattle.redundancy.specs.Verdicts.{usable_from}
@@ -24,12 +25,12 @@ use Rattle.derivation.specs.Refutations.{AllFollow}
 abbrev pub usable_edits : SurveyParts → List Bool → EditsParts
 usable_edits survey kept = record { shape = shape_of survey.fields; lines = usable_from 0 (normal_lines_of survey) kept }
 
--- over the lines of the rules that are kept, a change is shown by a valid tree of its weight, and a contradiction by one
--- without a weight
-abbrev pub HasTree : SurveyParts → List Bool → List Value → Outcome → Type 0
-HasTree survey kept row (Change path w cert) = IsValidTree (tree_case survey (normal_lines_of survey) kept row (Some w)) cert.leaves
-HasTree survey kept row (Contradictory cert) = IsValidTree (tree_case survey (normal_lines_of survey) kept row None) cert.leaves
-HasTree survey kept row outcome = ⊤
+-- over lines of which some may be used, a change is shown by a valid tree of its weight, and a contradiction by one without a
+-- weight
+abbrev pub HasTree : SurveyParts → List LineParts → List Bool → List Value → Outcome → Type 0
+HasTree survey lines usable row (Change path w cert) = IsValidTree (tree_case survey lines usable row (Some w)) cert.leaves
+HasTree survey lines usable row (Contradictory cert) = IsValidTree (tree_case survey lines usable row None) cert.leaves
+HasTree survey lines usable row outcome = ⊤
 
 -- where no values were given to the fields of a change, it is named at which number that stopped
 abbrev pub NamesStop : Outcome → Option Gift → Option GiftFault → Type 0
@@ -44,6 +45,6 @@ pub record IsGuaranteed (survey : SurveyParts) (sheet : SheetParts) (terms : Ter
   pub kept : List Bool
   pub follow : AllFollow (normal_lines_of survey) kept
   pub say : AllZip (Says survey (usable_edits survey kept) terms.budget) sheet.rows ends
-  pub shown : AllZip (λ row (end : RowEnd). HasTree survey kept row end.proof.outcome) sheet.rows ends
+  pub shown : AllZip (λ row (end : RowEnd). HasTree survey (normal_lines_of survey) kept row end.proof.outcome) sheet.rows ends
   pub stops : AllByRecursion (λ (end : RowEnd). NamesStop end.proof.outcome end.gift end.proof.gift) ends
   pub legal : IsLegalHistory terms.limit history

@@ -1,3 +1,4 @@
 pub mod Edits
 pub mod Guarantee
+pub mod ProofTrees
 pub mod Releases
