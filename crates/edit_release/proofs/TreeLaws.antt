@@ -26,8 +26,7 @@ use Rattle.pruned_rules.specs.declared.pruned.TheConstants.{PRUNING_BUDGET}
 use Rattle.record_workers.specs.declared.terms.Terms.{Terms}
 use Rattle.donor_book.specs.declared.claim.Entry.{Entry}
 use Rattle.edit_release.specs.Edits.{proof_of, refutation_by, said, said_of, written_proof}
-use Rattle.edit_release.specs.Guarantee.{HasTree}
-use Rattle.edit_release.specs.ProofTrees.{HasTrees, table_premises}
+use Rattle.edit_release.specs.Guarantee.{HasTree, HasTrees, table_premises}
 use Rattle.edit_release.proofs.SaidLaws.{flags-said}
 
 -- ---- what the proof says of a record has the tree of its end

@@ -23,8 +23,7 @@ use Rattle.record_workers.specs.declared.terms.Terms.{Terms}
 use Rattle.redundancy.specs.declared.verdict.Verdict.{Verdict}
 use Rattle.redundancy.specs.declared.verdict.Verdict.TheVariants.{Dropped, Kept}
 use Rattle.pruned_rules.specs.Pruned.{kept_edits, rule_flags, rule_verdicts}
-use Rattle.edit_release.specs.Guarantee.{IsGuaranteed}
-use Rattle.edit_release.specs.ProofTrees.{HasTrees}
+use Rattle.edit_release.specs.Guarantee.{HasTrees, IsGuaranteed}
 
 -- ---- the proof
 

@@ -1,5 +1,5 @@
 -- The release guarantee: what is so of the records of a sheet that ended so, and of the claims of donors.
-use Rattle.std.specs.Prelude.{⊤, Bool, List, Option, Some, None, IsSome}
+use Rattle.std.specs.Prelude.{⊤, ◌++◌, Bool, true, List, Option, Some, None, IsSome, map}
 use Rattle.std.specs.List.{AllByRecursion, AllZip}
 use Rattle.edit_model.specs.Parts.{SurveyParts}
 use Rattle.edit_model.specs.declared.value.Value.{Value}
@@ -19,7 +19,12 @@ use Rattle.record_text.specs.Sheets.{SheetParts}
 use Rattle.edit_report.specs.declared.end.RowEnd.{RowEnd}
 use Rattle.record_workers.specs.Said.{Says}
 use Rattle.record_workers.specs.declared.terms.Terms.{Terms}
+use Rattle.derivation.specs.LineLists.{AllFollowFrom, AreLinesOf, no_record}
+use Rattle.derivation.specs.Premises.{Premises}
 use Rattle.derivation.specs.Refutations.{AllFollow}
+use Rattle.bound_cert.specs.declared.outcome.RowProof.{RowProof}
+use Rattle.proof_grammar.specs.declared.proof.Proof.{Proof}
+use Rattle.cert_check.specs.Dropped.{kept_flags}
 
 -- the lines of the rules that are kept, each numbered by its place among all, as the edits that records are searched by
 abbrev pub usable_edits : SurveyParts → List Bool → EditsParts
@@ -48,3 +53,19 @@ pub record IsGuaranteed (survey : SurveyParts) (sheet : SheetParts) (terms : Ter
   pub shown : AllZip (λ row (end : RowEnd). HasTree survey (normal_lines_of survey) kept row end.proof.outcome) sheet.rows ends
   pub stops : AllByRecursion (λ (end : RowEnd). NamesStop end.proof.outcome end.gift end.proof.gift) ends
   pub legal : IsLegalHistory terms.limit history
+
+-- ---- what the proof file shows
+
+-- what the steps of a proof's table build on: the lines of the rules, of which those that the proof keeps may be used, and no record
+abbrev pub table_premises : SurveyParts → Proof → Premises
+table_premises survey told = no_record survey (normal_lines_of survey) (kept_flags told)
+
+-- each step of the table is valid and gives a line, which follows from the lines of the rules that are kept; and over these and the
+-- lines of the table, what the proof says of each record has its tree
+pub record HasTrees (survey : SurveyParts) (rows : List (List Value)) (told : Proof) : Type 0 where
+  pub shared : List LineParts
+  pub table : AreLinesOf (table_premises survey told) told.table shared
+  pub follow : AllFollowFrom (table_premises survey told) shared
+  pub each : AllZip
+      (λ row (said : RowProof). HasTree survey (normal_lines_of survey ++ shared) (kept_flags told ++ map (λ line. true) shared) row said.outcome)
+      rows told.rows

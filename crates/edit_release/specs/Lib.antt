@@ -1,4 +1,3 @@
 pub mod Edits
 pub mod Guarantee
-pub mod ProofTrees
 pub mod Releases

@@ -12,8 +12,7 @@ use Rattle.donor_book.specs.declared.claim.Entry.{Entry}
 use Rattle.record_text.specs.Sheets.{SheetParts}
 use Rattle.record_workers.specs.declared.terms.Terms.{Terms}
 use Rattle.edit_release.specs.Edits.{IsEditOf, Written, said}
-use Rattle.edit_release.specs.Guarantee.{IsGuaranteed}
-use Rattle.edit_release.specs.ProofTrees.{HasTrees}
+use Rattle.edit_release.specs.Guarantee.{HasTrees, IsGuaranteed}
 use Rattle.edit_release.specs.declared.release.Release.{Release}
 
 -- each record was given values: all are released
