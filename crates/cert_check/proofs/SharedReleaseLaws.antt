@@ -1,5 +1,5 @@
 -- A valid release stays one with the proof of version 2.
-use Rattle.std.proofs.Common.{◌≡◌, ◌∙◌, ℕ, zero, suc, ◌==◌, not, Bool, true, false, if◌then◌else◌, List, [], ◌∷◌, ◌++◌, Some, None, IsSomeAnd, append-nil, length, map, slice_get, refl, sym, ap, subst, is_none, arith}
+use Rattle.std.proofs.Common.{◌≡◌, ◌∙◌, ◌+◌, ◌<◌, ◌^◌, ℕ, zero, suc, ◌==◌, not, Bool, true, false, if◌then◌else◌, List, [], ◌∷◌, ◌++◌, Some, None, IsSomeAnd, append-nil, length, map, slice_get, refl, sym, ap, subst, is_none, arith}
 use Rattle.std.specs.List.{AllByRecursion, filter}
 use Rattle.std.specs.Result.{result_unwrap_or}
 use Rattle.std.proofs.lemmas.List.{length-map}
@@ -19,14 +19,14 @@ use Rattle.proof_grammar.proofs.ProofWords.{text-once}
 use Rattle.proof_text.specs.SharedProofs.{shared_proof}
 use Rattle.proof_text.proofs.SharedPlain.{plain-shared}
 use Rattle.cert_check.specs.Claims.{AreValidClaims, IsClaim}
-use Rattle.cert_check.specs.Dropped.{kept_flags}
+use Rattle.cert_check.specs.Dropped.{drop_fault, kept_flags}
 use Rattle.cert_check.specs.Places.{records_line}
 use Rattle.cert_check.specs.Releases.{AreReleased, AreValidRows, Audit, Fits, IsValidRelease, Spells, head_fault, is_released, limits_fit, rules_of}
 use Rattle.cert_check.specs.RowChecks.{RowRules, rules_with}
 use Rattle.cert_check.specs.SharedRows.{SharedReleaseLaw, with_shared}
 use Rattle.cert_check.specs.Tables.{shared_lines}
 use Rattle.cert_check.proofs.AuditLaws.{counts-fit}
-use Rattle.cert_check.proofs.SharedRowLaws.{released-same, rows-shared}
+use Rattle.cert_check.proofs.SharedRowLaws.{AreCleanLeaves, all-shared, plain-leaves, released-same}
 use Rattle.cert_check.proofs.TableLaws.{given-lines}
 
 module _ (given : ℕ) where
@@ -76,50 +76,28 @@ head-none true true false line other none = absurd (cc)
 head-none true false rows line other none = absurd (cc)
 head-none false verdicts rows line other none = absurd (cc)
 
-module _ (a : Audit) (p : Proof) (spelled : Spells a.proof p) (empty : p.table ≡ []) (plain : IsPlain (shared_proof p)) (valid : IsValidRelease a) where
+-- by what the records are checked where they share no lines
+abbrev pub own_rules : Audit → Proof → RowRules
+own_rules a p = record { survey = a.survey; given = normal_lines_of a.survey; usable = kept_flags p; columns = a.sheet.columns; budget = p.budget }
+
+-- ---- what a proof says of the rules, the records and the claims stays right where its lines are shared
+
+module _ (a : Audit) (p : Proof) (plain : IsPlain (shared_proof p)) (clean : AreCleanLeaves p.rows) (head : head_fault a p ≡ None) (dropped : drop_fault a.survey p ≡ None) (rows : List (List (List ℕ)))
+    (released : AreReleased a p rows) (each : AreValidRows (own_rules a p) p.rows a.sheet.row_texts a.sheet.rows rows) (claims : AreValidClaims a.survey a.sheet.rows p) where
   abbrev given : ℕ
   given = length p.verdicts
 
-  own : valid.proof ≡ p
-  own = text-once valid.proof p valid.fits.spelled.plain spelled.plain (sym valid.fits.spelled.text ∙ spelled.text)
-
-  fits : Fits a p
-  fits = subst (λ (q : Proof). Fits a q) own valid.fits
-
-  released : AreReleased a p valid.rows
-  released = subst (λ (q : Proof). AreReleased a q valid.rows) own valid.released
-
-  claims : AreValidClaims a.survey a.sheet.rows p
-  claims = subst (λ (q : Proof). AreValidClaims a.survey a.sheet.rows q) own valid.claims
-
-  abbrev base : RowRules
-  base = record { survey = a.survey; given = normal_lines_of a.survey; usable = kept_flags p; columns = a.sheet.columns; budget = p.budget }
-
-  none-shared : shared_lines a.survey p ≡ []
-  none-shared = ap (λ (table : List Step). result_unwrap_or (lines_from (no_record a.survey (normal_lines_of a.survey) (kept_flags p)) [] table) []) empty
-
-  same-rules : rules_of a p ≡ base
-  same-rules =
-      let lines : normal_lines_of a.survey ++ shared_lines a.survey p ≡ normal_lines_of a.survey = ap (λ (ls : List LineParts). normal_lines_of a.survey ++ ls) none-shared ∙ append-nil (normal_lines_of a.survey) in
-      let flags : kept_flags p ++ map (λ (line : LineParts). true) (shared_lines a.survey p) ≡ kept_flags p = ap (λ (ls : List LineParts). kept_flags p ++ map (λ (line : LineParts). true) ls) none-shared ∙ append-nil (kept_flags p) in
-      λ i. record { survey = a.survey; given = lines i; usable = flags i; columns = a.sheet.columns; budget = p.budget }
-
-  rows-before : AreValidRows base p.rows a.sheet.row_texts a.sheet.rows valid.rows
-  rows-before =
-      subst (λ (r : RowRules). AreValidRows r p.rows a.sheet.row_texts a.sheet.rows valid.rows) same-rules
-      (subst (λ (q : Proof). AreValidRows (rules_of a q) q.rows a.sheet.row_texts a.sheet.rows valid.rows) own valid.each)
-
   even : length (normal_lines_of a.survey) ≡ length (kept_flags p)
-  even = omega (arith, (counts-fit a p fits.head).0, length-map p.verdicts is_none)
+  even = omega (arith, (counts-fit a p head).0, length-map p.verdicts is_none)
 
   head-fits : head_fault (with_shared a p) (shared_proof p) ≡ None
   head-fits =
       ap (λ (n : ℕ). if not (limits_fit p) then Some 2 else if not (length p.verdicts == length (normal_lines_of a.survey)) then Some 3 else if not (n == length a.sheet.rows) then Some (records_line (shared_proof p)) else None) (length-rows given [] p.rows)
-      ∙ head-none (limits_fit p) (length p.verdicts == length (normal_lines_of a.survey)) (length p.rows == length a.sheet.rows) (records_line p) (records_line (shared_proof p)) fits.head
+      ∙ head-none (limits_fit p) (length p.verdicts == length (normal_lines_of a.survey)) (length p.rows == length a.sheet.rows) (records_line p) (records_line (shared_proof p)) head
 
   claims-formed : (entries : List Entry) → AllByRecursion (IsClaim a.survey a.sheet.rows p) entries → AllByRecursion (IsClaim a.survey a.sheet.rows (shared_proof p)) entries
-  claims-formed [] each = tt
-  claims-formed (entry ∷ entries) (first, each) = (record { row = donor-there given [] p.rows entry.row_no first.row; few = first.few; once = first.once; donors = first.donors }, claims-formed entries each)
+  claims-formed [] formed = tt
+  claims-formed (entry ∷ entries) (first, formed) = (record { row = donor-there given [] p.rows entry.row_no first.row; few = first.few; once = first.once; donors = first.donors }, claims-formed entries formed)
 
   shared-claims : AreValidClaims a.survey a.sheet.rows (shared_proof p)
   shared-claims = record {
@@ -127,23 +105,53 @@ module _ (a : Audit) (p : Proof) (spelled : Spells a.proof p) (empty : p.table �
     complete = λ i said e donor. let (before, there, donor_before) = said-before given [] p.rows i said e donor in claims.complete i before there donor_before;
   }
 
-  shared-released : AreReleased (with_shared a p) (shared_proof p) valid.rows
+  shared-released : AreReleased (with_shared a p) (shared_proof p) rows
   shared-released = record { first = released.first; given = released.given; header = released.header; long = released.long; one_each = released.one_each ∙ sym (released-rows given [] p.rows) }
 
-  stays-valid : IsValidRelease (with_shared a p)
+  pub stays-valid : IsValidRelease (with_shared a p)
   stays-valid =
-      let (more, table_are, each) = rows-shared base [] [] p.rows a.sheet.row_texts a.sheet.rows valid.rows even refl spelled.plain.rows.1 rows-before in
+      let (more, table_are, valid) = all-shared (own_rules a p) [] [] p.rows a.sheet.row_texts a.sheet.rows rows even refl clean each in
       let (no_fault, same_lines) = given-lines a.survey (shared_proof p) more table_are in
-      let named : AreValidRows (rules_with base more) (shared_rows given [] p.rows) a.sheet.row_texts a.sheet.rows valid.rows =
-      subst (λ (n : ℕ). AreValidRows (rules_with base more) (shared_rows n [] p.rows) a.sheet.row_texts a.sheet.rows valid.rows) (sym (counts-fit a p fits.head).0) each in
+      let named : AreValidRows (rules_with (own_rules a p) more) (shared_rows given [] p.rows) a.sheet.row_texts a.sheet.rows rows =
+      subst (λ (n : ℕ). AreValidRows (rules_with (own_rules a p) more) (shared_rows n [] p.rows) a.sheet.row_texts a.sheet.rows rows) (sym (counts-fit a p head).0) valid in
       record {
         proof = shared_proof p;
-        fits = record { spelled = record { plain = plain; text = refl }; head = head-fits; dropped = fits.dropped; table = no_fault };
-        rows = valid.rows;
+        fits = record { spelled = record { plain = plain; text = refl }; head = head-fits; dropped = dropped; table = no_fault };
+        rows = rows;
         released = shared-released;
-        each = subst (λ (ls : List LineParts). AreValidRows (rules_with base ls) (shared_rows given [] p.rows) a.sheet.row_texts a.sheet.rows valid.rows) (sym same_lines) named;
+        each = subst (λ (ls : List LineParts). AreValidRows (rules_with (own_rules a p) ls) (shared_rows given [] p.rows) a.sheet.row_texts a.sheet.rows rows) (sym same_lines) named;
         claims = shared-claims;
       }
 
+-- ---- a valid release
+
+module _ (a : Audit) (p : Proof) (spelled : Spells a.proof p) (empty : p.table ≡ []) (valid : IsValidRelease a) where
+  own : valid.proof ≡ p
+  own = text-once valid.proof p valid.fits.spelled.plain spelled.plain (sym valid.fits.spelled.text ∙ spelled.text)
+
+  fits : Fits a p
+  fits = subst (λ (q : Proof). Fits a q) own valid.fits
+
+  none-shared : shared_lines a.survey p ≡ []
+  none-shared = ap (λ (table : List Step). result_unwrap_or (lines_from (no_record a.survey (normal_lines_of a.survey) (kept_flags p)) [] table) []) empty
+
+  same-rules : rules_of a p ≡ own_rules a p
+  same-rules =
+      let lines : normal_lines_of a.survey ++ shared_lines a.survey p ≡ normal_lines_of a.survey = ap (λ (ls : List LineParts). normal_lines_of a.survey ++ ls) none-shared ∙ append-nil (normal_lines_of a.survey) in
+      let flags : kept_flags p ++ map (λ (line : LineParts). true) (shared_lines a.survey p) ≡ kept_flags p = ap (λ (ls : List LineParts). kept_flags p ++ map (λ (line : LineParts). true) ls) none-shared ∙ append-nil (kept_flags p) in
+      λ i. record { survey = a.survey; given = lines i; usable = flags i; columns = a.sheet.columns; budget = p.budget }
+
+  rows-before : AreValidRows (own_rules a p) p.rows a.sheet.row_texts a.sheet.rows valid.rows
+  rows-before =
+      subst (λ (r : RowRules). AreValidRows r p.rows a.sheet.row_texts a.sheet.rows valid.rows) same-rules
+      (subst (λ (q : Proof). AreValidRows (rules_of a q) q.rows a.sheet.row_texts a.sheet.rows valid.rows) own valid.each)
+
+  shared-valid : length p.verdicts + length (shared_proof p).table < 2 ^ 64 → IsValidRelease (with_shared a p)
+  shared-valid long =
+      stays-valid a p (plain-shared p spelled.plain long) (plain-leaves p.rows spelled.plain.rows.1) fits.head fits.dropped valid.rows
+      (subst (λ (q : Proof). AreReleased a q valid.rows) own valid.released)
+      rows-before
+      (subst (λ (q : Proof). AreValidClaims a.survey a.sheet.rows q) own valid.claims)
+
 pub release-shared : SharedReleaseLaw
-release-shared a p spelled empty long valid = stays-valid a p spelled empty (plain-shared p spelled.plain long) valid
+release-shared a p spelled empty long valid = shared-valid a p spelled empty valid long

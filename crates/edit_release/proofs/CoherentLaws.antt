@@ -28,10 +28,12 @@ use Rattle.bound_cert.specs.declared.cert.LeafWhy.TheVariants as why
 use Rattle.bound_cert.specs.declared.outcome.GiftFault.{GiftFault}
 use Rattle.bound_cert.specs.declared.outcome.Outcome.{Outcome}
 use Rattle.bound_cert.specs.declared.outcome.Outcome.TheVariants as outcome
+use Rattle.bound_cert.specs.declared.outcome.RowProof.{RowProof}
 use Rattle.edit_paths.specs.Cases.{case_of}
 use Rattle.edit_paths.specs.Outcomes.{outcome_of}
 use Rattle.back_subst.specs.declared.gift.Gift.{Gift}
-use Rattle.proof_text.specs.Sizes.{AreCoherentLeaves, AreCoherentSteps, IsCoherentRow, IsCoherentReason, IsCoherentStep, IsMultiplier}
+use Rattle.cert_check.proofs.SharedRowLaws.{AreCleanLeaves, HasCleanLeaf}
+use Rattle.proof_text.specs.Sizes.{AreCoherentLeaves, AreCoherentSteps, IsCoherentOutcome, IsCoherentRow, IsCoherentReason, IsCoherentStep, IsMultiplier}
 use Rattle.edit_report.specs.declared.end.RowEnd.{RowEnd}
 use Rattle.record_workers.specs.Ends.{ComesOf, IsEndOf}
 use Rattle.pruned_rules.specs.Pruned.{kept_edits}
@@ -122,3 +124,19 @@ module _ (survey : SurveyParts) (row : List Value) (budget : ℕ) (formed : IsWe
 
   pub said-coherent : (all : List (List Value)) (end : RowEnd) → IsEndOf survey (kept_edits survey) budget all row end → IsCoherentRow (said end)
   said-coherent all end ends = coherent-of (option_map (row_at all) end.donor) end.proof.outcome end.proof.gift end.gift (sym ends.outcome) ends.follows
+
+-- ---- a clean record
+
+-- of a clean record it says the one leaf
+clean-leaf : (o : Outcome) (stop : Option GiftFault) → IsCoherentOutcome o stop → HasCleanLeaf o stop
+clean-leaf (outcome.Change path zero cert) None (none, clean) = clean
+clean-leaf (outcome.Change path zero cert) (Some stop) coherent = tt
+clean-leaf (outcome.Change path (suc w) cert) None coherent = tt
+clean-leaf (outcome.Change path (suc w) cert) (Some stop) coherent = tt
+clean-leaf (outcome.Budget path work) stop coherent = tt
+clean-leaf (outcome.Overflow path event) stop coherent = tt
+clean-leaf (outcome.Contradictory cert) stop coherent = tt
+
+pub clean-leaves : (saids : List RowProof) → AllByRecursion IsCoherentRow saids → AreCleanLeaves saids
+clean-leaves [] coherent = tt
+clean-leaves (s ∷ saids) (first, coherent) = (clean-leaf s.outcome s.gift first, clean-leaves saids coherent)

@@ -14,3 +14,4 @@ pub mod ReleasedLaws
 pub mod RowsLaws
 pub mod SaidLaws
 pub mod TextLaws
+pub mod TreeLaws

@@ -1,5 +1,5 @@
 -- The files of an edit are a valid release.
-use Rattle.std.proofs.Common.{◌≡◌, ◌<◌, ◌∙◌, sym, ap, refl, ℕ, ◌==◌, true, List, [], ◌∷◌, length, map, All, IsSome, IsTrue, ◌↔◌, Option, Some, None, subst, option_map}
+use Rattle.std.proofs.Common.{◌≡◌, ◌<◌, ◌∙◌, sym, ap, refl, ℕ, ◌==◌, true, List, [], ◌∷◌, length, map, All, IsSome, IsTrue, ◌↔◌, Option, Some, None, inl, subst, option_map}
 use Rattle.std.specs.Prelude.{is_some}
 use Rattle.std.specs.List.{AllByRecursion, AllZip}
 use Rattle.std.proofs.lemmas.Bool.{le-leb}
@@ -23,6 +23,7 @@ use Rattle.proof_grammar.specs.Limits.{IsPlain}
 use Rattle.proof_grammar.specs.ProofLines.{proof_text}
 use Rattle.proof_grammar.specs.declared.proof.Proof.{Proof}
 use Rattle.proof_text.specs.Sizes.{IsCoherent, IsCoherentRow, IsSized}
+use Rattle.proof_text.proofs.SharedCoherence.{coherent-shared}
 use Rattle.proof_text.proofs.SizeLaws.{plain-if}
 use Rattle.edit_report.specs.Ends.{path_found}
 use Rattle.edit_report.specs.Reasons.{reasons_text_of}
@@ -31,21 +32,21 @@ use Rattle.edit_report.specs.Summaries.{summary_lines}
 use Rattle.edit_report.specs.declared.end.RowEnd.{RowEnd}
 use Rattle.record_workers.specs.Ends.{ComesOf, IsEndOf}
 use Rattle.record_workers.specs.Said.{Says}
-use Rattle.cert_check.specs.Releases.{Audit, IsValidRelease, audit_of, head_fault, is_released, limits_fit, rules_of}
+use Rattle.cert_check.specs.Releases.{Audit, IsValidRelease, audit_of, head_fault, is_released, limits_fit}
 use Rattle.cert_check.specs.RowChecks.{AreReleasedTexts, RowFiles, RowRules}
-use Rattle.redundancy.proofs.BaseLaws.{verdicts-count}
+use Rattle.cert_check.proofs.SharedReleaseLaws.{own_rules, stays-valid}
 use Rattle.pruned_rules.specs.Pruned.{kept_edits, rule_flags, rule_verdicts}
 use Rattle.pruned_rules.proofs.KeptLaws.{rules-follow}
-use Rattle.pruned_rules.specs.declared.pruned.TheConstants.{PRUNING_BUDGET}
-use Rattle.edit_release.specs.Edits.{proof_of, refutation_by, said}
+use Rattle.edit_release.specs.Edits.{proof_of, said, written_proof}
 use Rattle.edit_release.specs.Guarantee.{HasTree, IsGuaranteed, NamesStop}
 use Rattle.edit_release.specs.Releases.{AllGiven, HasGuarantee, IsReleaseOf, written_in}
 use Rattle.edit_release.specs.declared.release.Release.{Release}
-use Rattle.edit_release.proofs.CoherentLaws.{said-coherent}
+use Rattle.edit_release.proofs.CoherentLaws.{clean-leaves, said-coherent}
 use Rattle.edit_release.proofs.DroppedLaws.{none-faulty, verdicts-coherent}
 use Rattle.edit_release.proofs.ReleasedLaws.{IsSaidReleased, are-released, end-said, ends-said}
 use Rattle.edit_release.proofs.RowsLaws.{IsValidEnd, each-follows, end-released, own_files, rows-valid}
 use Rattle.edit_release.proofs.SaidLaws.{IsReleasedSaid, flags-said, rules-are, said-valid, tree-shown}
+use Rattle.edit_release.proofs.TreeLaws.{has-trees, lines-many}
 use Rattle.donor_search.specs.CleanRows.{row_at}
 use Rattle.record_workers.specs.declared.terms.Terms.{Terms}
 use Rattle.donor_book.specs.declared.claim.Entry.{Entry}
@@ -67,20 +68,20 @@ module _ (survey : SurveyParts) (sheet : SheetParts) (released proof : List ℕ)
   limits-fit : limits_fit p ≡ true
   limits-fit = rw (le-leb 1 terms.limit fit.limit.0, le-leb terms.limit 1000 fit.limit.1, le-leb 1 terms.near fit.near.0, le-leb terms.near 64 fit.near.1, le-leb 1 terms.budget fit.budget.0, le-leb terms.budget 1000000000 fit.budget.1) refl
 
-  lines-many : (length p.verdicts == length (normal_lines_of survey)) ≡ true
-  lines-many = counts-agree _ _ (length-map (rule_verdicts survey) refutation_by ∙ verdicts-count survey (normal_lines_of survey) PRUNING_BUDGET 0 (normal_lines_of survey))
+  verdicts-many : (length p.verdicts == length (normal_lines_of survey)) ≡ true
+  verdicts-many = counts-agree _ _ (lines-many survey terms ends history)
 
   rows-many : (length p.rows == length sheet.rows) ≡ true
   rows-many = counts-agree _ _ (length-map ends said ∙ many)
 
   head-fits : head_fault a p ≡ None
-  head-fits = rw (limits-fit, lines-many, rows-many) refl
+  head-fits = rw (limits-fit, verdicts-many, rows-many) refl
 
 -- ---- what is said of each record
 
 module _ (survey : SurveyParts) (formed : IsWellFormed survey) (budget : ℕ) (all : List (List Value)) where
   -- the trees of all records are valid
-  pub all-shown : (rows : List (List Value)) (ends : List RowEnd) → AllByRecursion (IsRow survey.fields) rows → AllZip (IsEndOf survey (kept_edits survey) budget all) rows ends → AllZip (λ row (end : RowEnd). HasTree survey (rule_flags survey) row end.proof.outcome) rows ends
+  pub all-shown : (rows : List (List Value)) (ends : List RowEnd) → AllByRecursion (IsRow survey.fields) rows → AllZip (IsEndOf survey (kept_edits survey) budget all) rows ends → AllZip (λ row (end : RowEnd). HasTree survey (normal_lines_of survey) (rule_flags survey) row end.proof.outcome) rows ends
   all-shown [] [] are each = tt
   all-shown [] (end ∷ ends) are each = absurd each
   all-shown (row ∷ rows) [] are each = absurd each
@@ -95,7 +96,7 @@ module _ (survey : SurveyParts) (formed : IsWellFormed survey) (budget : ℕ) (a
 
   -- the proof is coherent
   pub proof-coherent : (terms : Terms) (history : List Entry) (rows : List (List Value)) (ends : List RowEnd) → AllByRecursion (IsRow survey.fields) rows → AllZip (IsEndOf survey (kept_edits survey) budget all) rows ends → IsCoherent (proof_of survey terms ends history)
-  proof-coherent terms history rows ends are each = record { verdicts = verdicts-coherent survey formed; rows = all-coherent rows ends are each }
+  proof-coherent terms history rows ends are each = record { version = inl refl; table = refl; verdicts = verdicts-coherent survey formed; rows = all-coherent rows ends are each }
 
 -- a change without values names where the giving of values stopped
 stop-named : (survey : SurveyParts) (row : List Value) (donor : Option (List Value)) (o : Outcome) (stop : Option GiftFault) (gift : Option Gift) → ComesOf survey (kept_edits survey) row donor o stop gift → NamesStop o gift stop
@@ -130,14 +131,14 @@ module _ (survey : SurveyParts) (sheet : SheetParts) (bytes : List ℕ) (terms :
     (each : AllZip (IsEndOf survey (kept_edits survey) terms.budget sheet.rows) sheet.rows ends) (say : AllZip (Says survey (kept_edits survey) terms.budget) sheet.rows ends)
     (donations : AreDonations survey sheet.rows terms ends history) where
   abbrev audit : Audit
-  audit = audit_of survey sheet (released_text_of survey sheet ends) (proof_text (proof_of survey terms ends history))
+  audit = audit_of survey sheet (released_text_of survey sheet ends) (proof_text (written_proof survey terms ends history))
 
   -- each row is a record of the survey
   abbrev are : AllByRecursion (IsRow survey.fields) sheet.rows
   are = rows_are_records survey.fields bytes sheet read
 
   abbrev r : RowRules
-  r = rules_of audit (proof_of survey terms ends history)
+  r = own_rules audit (proof_of survey terms ends history)
 
   row-valid : (reads : List (List ℕ)) (row : List Value) (end : RowEnd) → AreValues survey.fields sheet.columns reads row → length reads ≡ length sheet.header → IsEndOf survey (kept_edits survey) terms.budget sheet.rows row end
       → Says survey (kept_edits survey) terms.budget row end → IsValidEnd r survey.fields sheet.columns reads row end
@@ -157,20 +158,24 @@ module _ (survey : SurveyParts) (sheet : SheetParts) (bytes : List ℕ) (terms :
       within : All (λ (c : ℕ). c < length reads) sheet.columns
       within = subst (λ (n : ℕ). All (λ (c : ℕ). c < n) sheet.columns) (sym long) (columns_in_header survey.fields bytes sheet read)
 
-  pub release-valid : IsPlain (proof_of survey terms ends history) → IsValidRelease audit
-  release-valid plain = record {
-    proof = proof_of survey terms ends history;
-    fits = record {
-      spelled = record { plain = plain; text = refl };
-      head = head-fits survey sheet audit.released audit.proof terms ends history fit (AllZip-long (IsEndOf survey (kept_edits survey) terms.budget sheet.rows) sheet.rows ends each);
-      dropped = none-faulty survey formed terms ends history;
-    };
-    rows = released_rows survey.fields sheet.columns sheet.row_texts ends;
-    released = are-released survey bytes sheet terms ends history audit.proof read each (ends-said survey (kept_edits survey) terms.budget sheet.rows sheet.rows ends each);
-    each = rows-valid r survey.fields sheet.columns sheet.row_texts sheet.rows ends
-        (each-follows (IsValidEnd r survey.fields sheet.columns) survey (kept_edits survey) sheet.columns (length sheet.header) terms.budget sheet.rows sheet.row_texts sheet.rows ends read.values (row_texts_as_long_as_header survey.fields bytes sheet read) each say row-valid);
-    claims = claims-valid survey terms sheet.rows ends history donations;
-  }
+  abbrev coherent : IsCoherent (proof_of survey terms ends history)
+  coherent = proof-coherent survey formed terms.budget sheet.rows terms history sheet.rows ends are each
+
+  -- the trees of all ends, each of which derives its own lines
+  abbrev shown : AllZip (λ row (end : RowEnd). HasTree survey (normal_lines_of survey) (rule_flags survey) row end.proof.outcome) sheet.rows ends
+  shown = all-shown survey formed terms.budget sheet.rows sheet.rows ends are each
+
+  pub release-valid : IsPlain (written_proof survey terms ends history) → IsValidRelease audit
+  release-valid plain =
+      stays-valid audit (proof_of survey terms ends history) plain
+      (clean-leaves (map said ends) coherent.rows)
+      (head-fits survey sheet audit.released audit.proof terms ends history fit (AllZip-long (IsEndOf survey (kept_edits survey) terms.budget sheet.rows) sheet.rows ends each))
+      (none-faulty survey formed terms ends history)
+      (released_rows survey.fields sheet.columns sheet.row_texts ends)
+      (are-released survey bytes sheet terms ends history audit.proof read each (ends-said survey (kept_edits survey) terms.budget sheet.rows sheet.rows ends each))
+      (rows-valid r survey.fields sheet.columns sheet.row_texts sheet.rows ends
+      (each-follows (IsValidEnd r survey.fields sheet.columns) survey (kept_edits survey) sheet.columns (length sheet.header) terms.budget sheet.rows sheet.row_texts sheet.rows ends read.values (row_texts_as_long_as_header survey.fields bytes sheet read) each say row-valid))
+      (claims-valid survey terms sheet.rows ends history donations)
 
   -- what is guaranteed of them
   abbrev guaranteed-of : IsGuaranteed survey sheet terms ends history
@@ -178,27 +183,28 @@ module _ (survey : SurveyParts) (sheet : SheetParts) (bytes : List ℕ) (terms :
     kept = rule_flags survey;
     follow = rules-follow survey formed;
     say = say;
-    shown = all-shown survey formed terms.budget sheet.rows sheet.rows ends are each;
+    shown = shown;
     stops = all-named survey terms.budget sheet.rows sheet.rows ends each;
     legal = donations.legal;
   }
 
   -- what was written tells of it
-  pub guarantee-of : (release : Release) (p : Proof) → p ≡ proof_of survey terms ends history → release.proof.items ≡ proof_text p → release.released.items ≡ released_text_of survey sheet ends → HasGuarantee survey sheet terms release
+  pub guarantee-of : (release : Release) (p : Proof) → p ≡ written_proof survey terms ends history → release.proof.items ≡ proof_text p → release.released.items ≡ released_text_of survey sheet ends → HasGuarantee survey sheet terms release
   guarantee-of release p same proof released = record {
     ends = ends;
     history = history;
     guaranteed = guaranteed-of;
     released = released;
-    told = proof_of survey terms ends history;
+    told = written_proof survey terms ends history;
     proof = proof ∙ ap proof_text same;
     kept = flags-said (rule_verdicts survey);
     rows = refl;
+    trees = has-trees survey terms ends history sheet.rows shown;
     claims = refl;
   }
 
   -- and is the edit of the sheet
-  pub release-of : (release : Release) (p : Proof) → p ≡ proof_of survey terms ends history → IsSized p → release.proof.items ≡ proof_text p → release.reasons.items ≡ reasons_text_of survey sheet ends → release.released.items ≡ released_text_of survey sheet ends
+  pub release-of : (release : Release) (p : Proof) → p ≡ written_proof survey terms ends history → IsSized p → release.proof.items ≡ proof_text p → release.reasons.items ≡ reasons_text_of survey sheet ends → release.released.items ≡ released_text_of survey sheet ends
       → (written_in release).summary ≡ summary_lines survey ends history → (IsTrue release.whole ↔ AllGiven ends) → IsReleaseOf survey sheet terms release
   release-of release p same sized proof reasons released summary whole = record {
     ends = ends;
@@ -212,13 +218,14 @@ module _ (survey : SurveyParts) (sheet : SheetParts) (bytes : List ℕ) (terms :
       reasons = reasons;
       released = released;
       summary = summary;
+      trees = has-trees survey terms ends history sheet.rows shown;
       valid = subst (λ (given : List ℕ). IsValidRelease (audit_of survey sheet given release.proof.items)) (sym released) (subst (λ (told : List ℕ). IsValidRelease (audit_of survey sheet (released_text_of survey sheet ends) told)) (sym text) (release-valid plain));
     };
     whole = whole;
   }
     where
-      text : release.proof.items ≡ proof_text (proof_of survey terms ends history)
+      text : release.proof.items ≡ proof_text (written_proof survey terms ends history)
       text = proof ∙ ap proof_text same
 
-      plain : IsPlain (proof_of survey terms ends history)
-      plain = plain-if (proof_of survey terms ends history) (subst IsSized same sized) (proof-coherent survey formed terms.budget sheet.rows terms history sheet.rows ends are each)
+      plain : IsPlain (written_proof survey terms ends history)
+      plain = plain-if (written_proof survey terms ends history) (subst IsSized same sized) (coherent-shared (proof_of survey terms ends history) coherent)

@@ -16,8 +16,9 @@ use Rattle.back_subst.specs.declared.gift.Gift.{Gift}
 use Rattle.record_text.specs.Sheets.{SheetParts}
 use Rattle.edit_report.specs.declared.end.RowEnd.{RowEnd}
 use Rattle.record_workers.specs.Ends.{ComesOf, IsEndOf}
-use Rattle.cert_check.specs.Releases.{audit_of, rules_of}
+use Rattle.cert_check.specs.Releases.{audit_of}
 use Rattle.cert_check.specs.RowChecks.{AreReleasedTexts, IsValidGift, IsValidRow, RowFiles, RowRules}
+use Rattle.cert_check.proofs.SharedReleaseLaws.{own_rules}
 use Rattle.redundancy.specs.Verdicts.{keeps_line}
 use Rattle.redundancy.specs.declared.verdict.Verdict.{Verdict}
 use Rattle.redundancy.specs.declared.verdict.Verdict.TheVariants.{Dropped, Kept}
@@ -44,9 +45,9 @@ flags-said [] = refl
 flags-said (Kept why ∷ verdicts) = ap (λ (kept : List Bool). true ∷ kept) (flags-said verdicts)
 flags-said (Dropped steps ∷ verdicts) = ap (λ (kept : List Bool). false ∷ kept) (flags-said verdicts)
 
--- the checks of its proof are made by them
+-- the checks of its proof are made by them, where the records share no lines
 pub rules-are : (survey : SurveyParts) (sheet : SheetParts) (released proof : List ℕ) (terms : Terms) (ends : List RowEnd) (history : List Entry)
-    → rules_of (audit_of survey sheet released proof) (proof_of survey terms ends history) ≡ edit_rules survey sheet.columns terms.budget
+    → own_rules (audit_of survey sheet released proof) (proof_of survey terms ends history) ≡ edit_rules survey sheet.columns terms.budget
 rules-are survey sheet released proof terms ends history =
     ap (λ (usable : List Bool). record { survey = survey; given = normal_lines_of survey; usable = usable; columns = sheet.columns; budget = terms.budget }) (flags-said (rule_verdicts survey))
 
@@ -57,13 +58,13 @@ IsReleasedSaid r f o stop = Unit {0}
 
 module _ (survey : SurveyParts) (row : List Value) (budget : ℕ) (formed : IsWellFormed survey) (is : IsRow survey.fields row) where
   -- the tree of an outcome is valid
-  pub has-tree : (o : Outcome) → outcome_of (case_of survey (kept_edits survey) row) budget ≡ o → HasTree survey (rule_flags survey) row o
+  pub has-tree : (o : Outcome) → outcome_of (case_of survey (kept_edits survey) row) budget ≡ o → HasTree survey (normal_lines_of survey) (rule_flags survey) row o
   has-tree (outcome.Change path weight cert) e = change-tree (case_of survey (kept_edits survey) row) (rule-case survey row formed is) (normal_lines_of survey) (rule_flags survey) (rules-given survey) budget path weight cert e
   has-tree (outcome.Budget path work) e = tt
   has-tree (outcome.Overflow path event) e = tt
   has-tree (outcome.Contradictory cert) e = contradiction-tree (case_of survey (kept_edits survey) row) (rule-case survey row formed is) (normal_lines_of survey) (rule_flags survey) (rules-given survey) budget cert e
 
-  pub tree-shown : (all : List (List Value)) (end : RowEnd) → IsEndOf survey (kept_edits survey) budget all row end → HasTree survey (rule_flags survey) row end.proof.outcome
+  pub tree-shown : (all : List (List Value)) (end : RowEnd) → IsEndOf survey (kept_edits survey) budget all row end → HasTree survey (normal_lines_of survey) (rule_flags survey) row end.proof.outcome
   tree-shown all end ends = has-tree end.proof.outcome (sym ends.outcome)
 
   module _ (columns : List ℕ) (reads : List (List ℕ)) (texts : Option (List (List ℕ))) where

@@ -1,7 +1,8 @@
 -- What an edit gives.
-use Rattle.std.specs.Prelude.{◌≡◌, ◌↔◌, IsSome, IsTrue, List, map}
+use Rattle.std.specs.Prelude.{◌≡◌, ◌↔◌, IsSome, IsTrue, List, [], length, map}
 use Rattle.std.specs.List.{AllByRecursion}
 use Rattle.edit_model.specs.Parts.{SurveyParts}
+use Rattle.bound_cert.specs.SharedTrees.{shared_rows}
 use Rattle.edit_report.specs.Released.{released_text_of}
 use Rattle.edit_report.specs.declared.end.RowEnd.{RowEnd}
 use Rattle.proof_grammar.specs.ProofLines.{proof_text}
@@ -11,7 +12,7 @@ use Rattle.donor_book.specs.declared.claim.Entry.{Entry}
 use Rattle.record_text.specs.Sheets.{SheetParts}
 use Rattle.record_workers.specs.declared.terms.Terms.{Terms}
 use Rattle.edit_release.specs.Edits.{IsEditOf, Written, said}
-use Rattle.edit_release.specs.Guarantee.{IsGuaranteed}
+use Rattle.edit_release.specs.Guarantee.{HasTrees, IsGuaranteed}
 use Rattle.edit_release.specs.declared.release.Release.{Release}
 
 -- each record was given values: all are released
@@ -28,7 +29,8 @@ written_in r = record {
 }
 
 -- the release guarantee of a sheet on these terms: it holds of ends of the records and of claims of donors of which the released
--- file has the values, and the proof tells the lines of the rules that are kept, what was found with its trees, and the claims
+-- file has the values; and the proof tells the lines of the rules that are kept, what was found, with a tree for each record, in
+-- which lines of its table are named, and the claims
 pub record HasGuarantee (survey : SurveyParts) (sheet : SheetParts) (terms : Terms) (release : Release) : Type 0 where
   pub ends : List RowEnd
   pub history : List Entry
@@ -37,7 +39,8 @@ pub record HasGuarantee (survey : SurveyParts) (sheet : SheetParts) (terms : Ter
   pub told : Proof
   pub proof : release.proof.items ≡ proof_text told
   pub kept : kept_flags told ≡ guaranteed.kept
-  pub rows : told.rows ≡ map said ends
+  pub rows : told.rows ≡ shared_rows (length told.verdicts) [] (map said ends)
+  pub trees : HasTrees survey sheet.rows told
   pub claims : told.claims ≡ history
 
 -- it is the edit of a sheet on these terms, and tells whether all records are released

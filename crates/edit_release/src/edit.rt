@@ -13,7 +13,7 @@ use donor_measure::Measure;
 use edit_model::{Survey, Value};
 use edit_report::{RowEnd, reasons_text, released_text, summary_text};
 use foundation::OutOfMemory;
-use proof_text::write_proof;
+use proof_text::{share_lines, write_proof};
 use pruned_rules::prune_rules;
 use record_text::Sheet;
 use record_workers::{Terms, edit_records};
@@ -49,7 +49,8 @@ pub fn edit_sheet<F: Fn(u32, &Value, &Value) -> u64, R: Wait>(
     let released = released_text(alloc, sheet, survey, ends)?;
     let summary = summary_text(alloc, survey, ends, &edited.history)?;
     let whole = are_given(ends);
-    let proof = write_proof(alloc, &proof_of(alloc, pruned.verdicts, terms, edited)?)?;
+    let told = share_lines(alloc, proof_of(alloc, pruned.verdicts, terms, edited)?)?;
+    let proof = write_proof(alloc, &told)?;
     Ok(Release {
         proof,
         reasons,

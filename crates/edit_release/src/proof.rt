@@ -13,7 +13,7 @@ use redundancy::Verdict;
 use std::alloc::Global;
 
 /// The proof of an edit on these terms, in which the lines of the rules were dropped so, the records ended so, and
-/// donors were claimed so.
+/// donors were claimed so. It is of version 1: each tree derives its own lines.
 pub(crate) fn proof_of(
     alloc: Global,
     verdicts: Vec<Verdict>,
@@ -23,10 +23,12 @@ pub(crate) fn proof_of(
     ensures { IfOk result (λ proof. proof ≡ proof_telling verdicts.items terms edited.ends.items edited.history.items) }
 {
     Ok(Proof {
+        version: 1,
         limit: terms.limit,
         near: terms.near,
         budget: terms.budget,
         verdicts: Sequence::from_vec(all_refuted(alloc, verdicts)?),
+        table: Sequence::from_vec(Vec::new(alloc)),
         rows: Sequence::from_vec(all_said(alloc, edited.ends)?),
         claims: Sequence::from_vec(edited.history),
     })

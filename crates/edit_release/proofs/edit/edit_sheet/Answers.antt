@@ -10,6 +10,7 @@ use Rattle.edit_report.specs.declared.end.RowEnd.{RowEnd}
 use Rattle.record_workers.specs.Ends.{IsEndOf}
 use Rattle.record_workers.specs.Said.{Says}
 use Rattle.redundancy.specs.declared.verdict.Verdict.{Verdict}
+use Rattle.proof_text.specs.SharedProofs.{shared_proof}
 use Rattle.edit_release.specs.Edits.{proof_telling}
 use Rattle.edit_release.specs.Releases.{AllGiven}
 use Rattle.edit_release.specs.declared.release.Release.{Release}
@@ -39,13 +40,14 @@ returns g c =
     let release : Release = record { proof = c.in_ok-proof.proof; reasons = c.in_ok-reasons.reasons; released = c.in_ok-released.released; summary = c.in_ok-summary.summary; whole = c.are_given-whole.result } in
     let each = subst (λ (edits : EditsParts). AllZip (IsEndOf survey edits terms.budget sheet.rows) sheet.rows ends) c.in_ok-edits.ensures.edits c.in_ok-edited.ensures.ends in
     let say = subst (λ (edits : EditsParts). AllZip (Says survey edits terms.budget) sheet.rows ends) c.in_ok-edits.ensures.edits c.in_ok-edited.ensures.say in
-    let same = c.in_ok-proof_of.ensures ∙ ap (λ (verdicts : List Verdict). proof_telling verdicts terms ends history) c.in_ok-pruned.ensures.verdicts in
+    let telling = c.in_ok-proof_of.ensures ∙ ap (λ (verdicts : List Verdict). proof_telling verdicts terms ends history) c.in_ok-pruned.ensures.verdicts in
+    let same = c.in_ok-told.ensures.shared ∙ ap shared_proof telling in
     let released = c.in_ok-released.ensures ∙ ap (λ (es : List RowEnd). released_text_of survey sheet es) c.as_slice-ends.ensures.value in
     record {
       guaranteed = guarantee-of survey sheet c.requires.read.0 terms ends history c.fields-fields.ensures.well_formed c.requires.read.1 c.requires.terms each say c.in_ok-edited.ensures.donations
-          release c.in_ok-proof_of.field-0 same c.in_ok-proof.ensures.text released;
+          release c.in_ok-told.told same c.in_ok-proof.ensures.text released;
       edit = release-of survey sheet c.requires.read.0 terms ends history c.fields-fields.ensures.well_formed c.requires.read.1 c.requires.terms each say c.in_ok-edited.ensures.donations
-          release c.in_ok-proof_of.field-0 same c.in_ok-proof.ensures.sized c.in_ok-proof.ensures.text
+          release c.in_ok-told.told same c.in_ok-proof.ensures.sized c.in_ok-proof.ensures.text
           (c.in_ok-reasons.ensures ∙ ap (λ (es : List RowEnd). reasons_text_of survey sheet es) c.as_slice-ends.ensures.value)
           released
           (c.in_ok-summary.ensures ∙ ap (λ (es : List RowEnd). summary_lines survey es c.deref.result.now) c.as_slice-ends.ensures.value ∙ ap (λ (h : List Entry). summary_lines survey ends h) c.deref.ensures.value)
