@@ -1,6 +1,6 @@
 use Rattle.std.proofs.Common.{◌≡◌, drop, map}
-use Rattle.worked_cases.specs.Comparison.{are_same}
-use Rattle.worked_cases.proofs.difference.is_same.Given as goal
+use Rattle.case_files.specs.Comparison.{are_same}
+use Rattle.case_files.proofs.difference.is_same.Given as goal
 
 abbrev pub invariant-loop-i : goal.invariant-loop-i
 invariant-loop-i l =

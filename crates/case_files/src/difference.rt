@@ -1,6 +1,6 @@
 //! How what came differs from what was to come.
 ghost use Rattle.std.specs.Prelude.{◌≡◌, map};
-ghost use Rattle.worked_cases.specs.Comparison.{are_same};
+ghost use Rattle.case_files.specs.Comparison.{are_same};
 
 use foundation::OutOfMemory;
 use std::alloc::Global;

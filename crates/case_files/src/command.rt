@@ -1,9 +1,10 @@
 //! The commands of a file of cases.
 
+use crate::commands::{Commands, Role};
 use crate::fault::{Kind, PartFault};
-use crate::line_edits::{LineEdit, number_of};
-use edit_desk::Failure;
-use std::alloc::{AllocError, Global};
+use crate::line_edits::LineEdit;
+use crate::numbers::number_of;
+use std::alloc::Global;
 
 /// A command of a file of cases.
 #[derive(Drop)]
@@ -39,25 +40,17 @@ pub enum Command<'a> {
         edits: Vec<LineEdit>,
         name: &'a str,
     },
-    /// `fail call N keep K`: a call of the desk of the next run fails.
-    FailCall {
-        failure: Failure,
+    /// A command of the program's own.
+    Own {
+        words: Vec<&'a str>,
+        role: Role,
     },
-    /// `fail line N`: a printed line of the next run fails.
-    FailLine {
-        number: u64,
-    },
-    /// `forxainde WORD ..`: the program is run.
-    Run {
-        words: Vec<String>,
-    },
-    /// `calls`: shows the calls of the desk in the last run.
-    Calls,
 }
 
 impl<'a> Command<'a> {
-    /// The command of these words. A file that is to be written has no bytes yet.
-    pub fn of(alloc: Global, words: &[&'a str]) -> Result<Command<'a>, PartFault> {
+    /// The command of these words, where those beside the commands of files are `C`'s. A file that is to be written has no
+    /// bytes yet.
+    pub fn of<C: Commands>(alloc: Global, words: &[&'a str]) -> Result<Command<'a>, PartFault> {
         match words {
             ["cat", name, "<<EOF"] => match name.strip_prefix('>') {
                 Some(name) => Ok(Command::Write {
@@ -80,13 +73,30 @@ impl<'a> Command<'a> {
                 edits: edits_of(alloc, scripts)?,
                 name: *name,
             }),
-            ["fail", numbers @ ..] => failure_of(numbers),
-            ["forxainde", words @ ..] => Ok(Command::Run {
-                words: owned(alloc, words)?,
-            }),
-            ["calls"] => Ok(Command::Calls),
-            _ => Err(PartFault::from(Kind::Command)),
+            _ => own::<C>(alloc, words),
         }
+    }
+
+    /// Whether a case begins with the command.
+    pub fn begins_case(&self) -> bool {
+        matches!(
+            self,
+            Command::Own {
+                role: Role::Begins,
+                ..
+            }
+        )
+    }
+}
+
+// The command of the program's own that has these words.
+fn own<'a, C: Commands>(alloc: Global, words: &[&'a str]) -> Result<Command<'a>, PartFault> {
+    match C::role_of(words) {
+        Some(role) => Ok(Command::Own {
+            words: words.to_vec(alloc)?,
+            role,
+        }),
+        None => Err(PartFault::from(Kind::Command)),
     }
 }
 
@@ -94,23 +104,6 @@ impl<'a> Command<'a> {
 fn repeated<'a>(text: &'a str, count: &str, name: &'a str) -> Result<Command<'a>, PartFault> {
     match (number_of(count), name.strip_prefix('>')) {
         (Some(count), Some(name)) => Ok(Command::Repeat { text, count, name }),
-        _ => Err(PartFault::from(Kind::Command)),
-    }
-}
-
-// The failure that these words ask for, behind the first.
-fn failure_of<'a>(words: &[&str]) -> Result<Command<'a>, PartFault> {
-    match words {
-        ["call", call, "keep", keep] => match (number_of(call), number_of(keep)) {
-            (Some(call), Some(keep)) => Ok(Command::FailCall {
-                failure: Failure { call, keep },
-            }),
-            _ => Err(PartFault::from(Kind::Command)),
-        },
-        ["line", number] => match number_of(number) {
-            Some(number) => Ok(Command::FailLine { number }),
-            None => Err(PartFault::from(Kind::Command)),
-        },
         _ => Err(PartFault::from(Kind::Command)),
     }
 }
@@ -125,13 +118,4 @@ fn edits_of(alloc: Global, words: &[&str]) -> Result<Vec<LineEdit>, PartFault> {
         }
     }
     Ok(edits)
-}
-
-// The words, each in memory of its own.
-fn owned(alloc: Global, words: &[&str]) -> Result<Vec<String>, AllocError> {
-    let mut all = Vec::new(alloc);
-    for word in words {
-        all.push(String::from_str(alloc, word)?)?;
-    }
-    Ok(all)
 }

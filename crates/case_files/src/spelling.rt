@@ -4,7 +4,7 @@
 
 ghost use Rattle.std.specs.Prelude.{◌≡◌, ◌<◌, ◌++◌, IfOk, OnOk};
 ghost use Rattle.std.specs.List.{list_all};
-ghost use Rattle.worked_cases.specs.Spelling.{byte_spelling, is_plain, is_printable, line_spelling};
+ghost use Rattle.case_files.specs.Spelling.{byte_spelling, is_plain, is_printable, line_spelling};
 
 use crate::fault::{Kind, PartFault};
 use foundation::OutOfMemory;

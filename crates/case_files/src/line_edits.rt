@@ -1,6 +1,7 @@
 //! Changes of a file by its lines, as `sed` makes them.
 
 use crate::fault::{Kind, PartFault};
+use crate::numbers::number_of;
 use crate::spelling::read_escaped;
 use foundation::OutOfMemory;
 use std::alloc::Global;
@@ -63,14 +64,6 @@ fn line_number(text: &str, least: u64) -> Result<u64, Kind> {
         Some(number) if number >= least => Ok(number),
         _ => Err(Kind::Command),
     }
-}
-
-/// The number that decimal digits write.
-pub fn number_of(text: &str) -> Option<u64> {
-    if !text.as_bytes().iter().all(u8::is_ascii_digit) {
-        return None;
-    }
-    text.parse::<u64>().ok()
 }
 
 // The bytes of a text, and a line feed behind them.

@@ -1,6 +1,6 @@
 //! Files of cases, run in order, and what is printed of them.
 
-use crate::command::Command;
+use crate::commands::Commands;
 use crate::difference::{difference, is_same};
 use crate::fault::{Fault, FormFault, Kind};
 use crate::progress::{Count, Progress};
@@ -8,14 +8,13 @@ use crate::steps::{Step, steps_of};
 use crate::workplace::Workplace;
 use edit_desk::{Desk, FetchError, Printer};
 use std::alloc::Global;
-use std::process::ExitCode;
 use std::sync::Wait;
 
 /// The most bytes of a file of cases: 16 MiB.
 const MOST_BYTES: u64 = 16_777_216;
 
 /// Runs files of cases, prints what came of each, and says how many cases passed and failed.
-pub fn run_files<R: Wait, D: Desk, P: Printer>(
+pub fn run_files<C: Commands, R: Wait, D: Desk, P: Printer>(
     rt: &R,
     alloc: Global,
     names: &[String],
@@ -25,7 +24,7 @@ pub fn run_files<R: Wait, D: Desk, P: Printer>(
     let mut count = Count::none();
     for name in names {
         let more = match desk.fetch(alloc, name, MOST_BYTES) {
-            Ok(bytes) => run_file(rt, alloc, name, &bytes, printer)?,
+            Ok(bytes) => run_file::<C, R, P>(rt, alloc, name, &bytes, printer)?,
             Err(FetchError::OutOfMemory) => return Err(Fault::OutOfMemory),
             Err(_) => refuse_file(alloc, name, printer)?,
         };
@@ -38,14 +37,6 @@ pub fn run_files<R: Wait, D: Desk, P: Printer>(
         &format!(in alloc; "{passed} passed, {failed} failed")?,
     )?;
     Ok(count)
-}
-
-/// Ends a run that not all cases were run of, where that can still be said.
-pub fn leave<P: Printer>(printer: &mut P, fault: Fault) -> ExitCode {
-    if fault == Fault::OutOfMemory {
-        let _told = printer.line(b"out of memory");
-    }
-    ExitCode::from(1)
 }
 
 // Prints a line.
@@ -73,29 +64,29 @@ fn refuse_form<P: Printer>(
 }
 
 // Runs the commands of a file of cases with these bytes.
-fn run_file<R: Wait, P: Printer>(
+fn run_file<C: Commands, R: Wait, P: Printer>(
     rt: &R,
     alloc: Global,
     name: &str,
     bytes: &[u8],
     printer: &mut P,
 ) -> Result<Count, Fault> {
-    match steps_of(alloc, bytes) {
-        Ok(steps) => run_steps(rt, alloc, name, &steps, printer),
+    match steps_of::<C>(alloc, bytes) {
+        Ok(steps) => run_steps::<C, R, P>(rt, alloc, name, &steps, printer),
         Err(FormFault::Line { number, kind }) => refuse_form(alloc, name, number, kind, printer),
         Err(FormFault::OutOfMemory) => Err(Fault::OutOfMemory),
     }
 }
 
 // Does the commands in order, and prints how many cases there are, or each difference.
-fn run_steps<R: Wait, P: Printer>(
+fn run_steps<C: Commands, R: Wait, P: Printer>(
     rt: &R,
     alloc: Global,
     name: &str,
     steps: &[Step],
     printer: &mut P,
 ) -> Result<Count, Fault> {
-    let mut workplace = Workplace::new(alloc);
+    let mut workplace = Workplace::<C>::new(alloc);
     let mut progress = Progress::new();
     for step in steps {
         let came = workplace.perform(rt, alloc, &step.command)?;
@@ -103,7 +94,7 @@ fn run_steps<R: Wait, P: Printer>(
         if !is_right {
             show_difference(alloc, name, step, &came, printer)?;
         }
-        progress.note(matches!(step.command, Command::Run { .. }), is_right);
+        progress.note(step.command.begins_case(), is_right);
     }
     if let Some(cases) = progress.whole() {
         tell(printer, &format!(in alloc; "{name}: {cases} cases")?)?;

@@ -1,6 +1,7 @@
 //! A file of cases, read line by line.
 
 use crate::command::Command;
+use crate::commands::Commands;
 use crate::fault::{FormFault, Kind, PartFault};
 use crate::spelling::read_line;
 use crate::words::words_of;
@@ -32,14 +33,19 @@ enum Place {
     AtEnd,
 }
 
-/// The commands of a file of cases, in order.
-pub fn steps_of<'a>(alloc: Global, bytes: &'a [u8]) -> Result<Vec<Step<'a>>, FormFault> {
+/// The commands of a file of cases, in order; those beside the commands of files are `C`'s.
+pub fn steps_of<'a, C: Commands>(
+    alloc: Global,
+    bytes: &'a [u8],
+) -> Result<Vec<Step<'a>>, FormFault> {
     let mut steps = Vec::new(alloc);
     let mut place = Place::Apart;
     let mut last = 0;
     for (index, line) in bytes.split(|byte| *byte == b'\n').enumerate() {
         last = (index as u64).saturating_add(1);
-        place = take_line(alloc, &mut steps, place, last, line).map_err(|fault| fault.at(last))?;
+        place = take_line::<C>(alloc, &mut steps, place, last, line).map_err(|fault| fault.at(
+            last,
+        ))?;
     }
     match place {
         Place::Apart | Place::Behind => Ok(steps),
@@ -48,7 +54,7 @@ pub fn steps_of<'a>(alloc: Global, bytes: &'a [u8]) -> Result<Vec<Step<'a>>, For
 }
 
 // Reads one line more, and says what the next may be.
-fn take_line<'a>(
+fn take_line<'a, C: Commands>(
     alloc: Global,
     steps: &mut Vec<Step<'a>>,
     place: Place,
@@ -59,7 +65,7 @@ fn take_line<'a>(
         return take_text(steps, place, line);
     }
     if let Some(command) = line.strip_prefix(b"  $ ") {
-        return take_command(alloc, steps, number, command);
+        return take_command::<C>(alloc, steps, number, command);
     }
     match line.strip_prefix(b"  ") {
         None => Ok(Place::Apart),
@@ -68,7 +74,7 @@ fn take_line<'a>(
 }
 
 // Reads a command.
-fn take_command<'a>(
+fn take_command<'a, C: Commands>(
     alloc: Global,
     steps: &mut Vec<Step<'a>>,
     number: u64,
@@ -78,7 +84,7 @@ fn take_command<'a>(
         return Err(PartFault::from(Kind::NoText));
     };
     let words = words_of(alloc, text)?;
-    let command = Command::of(alloc, &words)?;
+    let command = Command::of::<C>(alloc, &words)?;
     let place = match &command {
         Command::Write { .. } => Place::Within,
         _ => Place::Behind,

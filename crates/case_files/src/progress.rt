@@ -1,9 +1,9 @@
 //! How many cases passed and failed.
 ghost use Rattle.std.specs.Prelude.{◌≡◌, ◌↔◌, ◌<◌, ◌≤◌, IsFalse, IsSome, IsTrue};
 
-/// How many cases passed, and how many failed. A case is a run of the program, with the commands behind it up to the
-/// next run, and those before it where it is the first of its file; it fails where an output of these is another than
-/// was to come. A file that is not run counts as a case that failed.
+/// How many cases passed, and how many failed. A case is a command that begins one, with the commands behind it up to the
+/// next such command, and those before it where it is the first of its file; it fails where an output of these is another
+/// than was to come. A file that is not run counts as a case that failed.
 #[derive(Clone, Copy, Debug, PartialEq, Eq)]
 pub struct Count {
     pub passed: u64,
@@ -69,13 +69,13 @@ impl Progress {
         }
     }
 
-    /// Notes a command that is a run or not, with the output that was to come, or another.
-    pub fn note(&mut self, is_run: bool, is_right: bool)
+    /// Notes a command that begins a case or not, with the output that was to come, or another.
+    pub fn note(&mut self, begins_case: bool, is_right: bool)
         ensures right { IsTrue is_right → self.new.failed ≡ self.old.failed }
         ensures wrong { IsFalse is_right → 0 < self.new.failed }
         ensures later { self.old.failed ≤ self.new.failed }
     {
-        if is_run {
+        if begins_case {
             self.failing = self.failing && self.cases == 0;
             self.cases = self.cases.saturating_add(1);
         }

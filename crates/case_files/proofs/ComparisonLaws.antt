@@ -1,7 +1,7 @@
 -- Lists of lines that have not the same number of lines are not the same.
 use Rattle.std.proofs.Common.{◌≡◌, ◌≢◌, refl, ap, ℕ, suc, true, false, ◌&&◌, List, [], ◌∷◌, length, map}
 use Rattle.std.specs.Str.{bytes_eq}
-use Rattle.worked_cases.specs.Comparison.{are_same}
+use Rattle.case_files.specs.Comparison.{are_same}
 
 pub other_lengths : {A B : Type 0} (f : A → List ℕ) (g : B → List ℕ) (xs : List A) (ys : List B) → length xs ≢ length ys → false ≡ are_same (map f xs) (map g ys)
 other_lengths f g [] [] other = absurd (other refl)

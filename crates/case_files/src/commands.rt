@@ -1,0 +1,33 @@
+//! The commands that a program has beside those of files.
+
+use crate::files::Files;
+use foundation::OutOfMemory;
+use std::alloc::Global;
+use std::sync::Wait;
+
+/// What a command of a program's own is among the commands of a file.
+#[derive(Clone, Copy, Debug, PartialEq, Eq)]
+pub enum Role {
+    /// A case begins with it.
+    Begins,
+    /// It stands in the case that was begun.
+    Follows,
+}
+
+/// The commands that a program has beside those of files, and what it keeps from one to the next.
+pub trait Commands: Drop {
+    /// What is kept before the first command of a file of cases.
+    fn start(alloc: Global) -> Self;
+
+    /// What a command of these words is, or None where the program has none.
+    fn role_of(words: &[&str]) -> Option<Role>;
+
+    /// Does the command of these words, and gives the lines of its output, as they are spelled.
+    fn perform<R: Wait>(
+        &mut self,
+        rt: &R,
+        alloc: Global,
+        files: &mut Files,
+        words: &[&str],
+    ) -> Result<Vec<Vec<u8>>, OutOfMemory>;
+}

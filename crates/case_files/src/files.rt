@@ -1,0 +1,141 @@
+//! Files in memory, and the commands that make, show and change them.
+
+use crate::line_edits::{LineEdit, edited, line_count};
+use crate::spelling::spelled_lines;
+use foundation::OutOfMemory;
+use std::alloc::Global;
+use std::collections::BTreeMap;
+use std::mem;
+
+/// Files in memory, by their names.
+#[derive(Drop)]
+pub struct Files {
+    named: BTreeMap<String, Vec<u8>>,
+}
+
+impl Files {
+    /// No files.
+    pub fn new(alloc: Global) -> Files {
+        Files {
+            named: BTreeMap::new(alloc),
+        }
+    }
+
+    /// The bytes of a file, where there is one of this name.
+    pub fn bytes(&self, name: &str) -> Option<&[u8]> {
+        match self.named.get(name) {
+            Some(bytes) => Some(bytes.as_slice()),
+            None => None,
+        }
+    }
+
+    /// Takes all files out.
+    pub fn take(&mut self, alloc: Global) -> BTreeMap<String, Vec<u8>> {
+        mem::replace(&mut self.named, BTreeMap::new(alloc))
+    }
+
+    /// Has these files, and no others, from now on.
+    pub fn restore(&mut self, named: BTreeMap<String, Vec<u8>>) {
+        self.named = named;
+    }
+
+    /// Puts the bytes under the name.
+    pub(crate) fn put(
+        &mut self,
+        alloc: Global,
+        name: &str,
+        bytes: Vec<u8>,
+    ) -> Result<Vec<Vec<u8>>, OutOfMemory> {
+        self.named.insert(String::from_str(alloc, name)?, bytes)?;
+        Ok(Vec::new(alloc))
+    }
+
+    /// The lines of a file.
+    pub(crate) fn show(&self, alloc: Global, name: &str) -> Result<Vec<Vec<u8>>, OutOfMemory> {
+        match self.bytes(name) {
+            Some(bytes) => spelled_lines(alloc, bytes),
+            None => missing(alloc, "cat", name),
+        }
+    }
+
+    /// Puts the bytes of a file under another name.
+    pub(crate) fn copy(
+        &mut self,
+        alloc: Global,
+        old: &str,
+        new: &str,
+    ) -> Result<Vec<Vec<u8>>, OutOfMemory> {
+        let bytes = match self.bytes(old) {
+            Some(bytes) => bytes.to_vec(alloc)?,
+            None => return missing(alloc, "cp", old),
+        };
+        self.put(alloc, new, bytes)
+    }
+
+    /// Takes these files away, as far as the first that is not there.
+    pub(crate) fn remove(
+        &mut self,
+        alloc: Global,
+        names: &[&str],
+    ) -> Result<Vec<Vec<u8>>, OutOfMemory> {
+        for name in names {
+            if self.named.remove(*name).is_none() {
+                return missing(alloc, "rm", name);
+            }
+        }
+        Ok(Vec::new(alloc))
+    }
+
+    /// The names of all files, in order.
+    pub(crate) fn list(&self, alloc: Global) -> Result<Vec<Vec<u8>>, OutOfMemory> {
+        let mut names = Vec::new(alloc);
+        for name in self.named.keys() {
+            names.push(name.as_bytes().to_vec(alloc)?)?;
+        }
+        Ok(names)
+    }
+
+    /// Changes lines of a file, each of which it has.
+    pub(crate) fn change(
+        &mut self,
+        alloc: Global,
+        edits: &[LineEdit],
+        name: &str,
+    ) -> Result<Vec<Vec<u8>>, OutOfMemory> {
+        let Some(bytes) = self.bytes(name) else {
+            return missing(alloc, "sed", name);
+        };
+        let count = line_count(bytes);
+        if let Some(edit) = edits.iter().find(|edit| edit.line() > count) {
+            let line = edit.line();
+            let text = format!(in alloc; "sed: {name}: no line {line}")?;
+            return failing(alloc, text, 1);
+        }
+        let bytes = edited(alloc, bytes, edits)?;
+        self.put(alloc, name, bytes)
+    }
+}
+
+/// This line so often.
+pub(crate) fn repeated(alloc: Global, text: &str, count: u64) -> Result<Vec<u8>, OutOfMemory> {
+    let mut bytes = Vec::new(alloc);
+    for _ in 0..count {
+        bytes.extend_from_slice(text.as_bytes())?;
+        bytes.push(b'\n')?;
+    }
+    Ok(bytes)
+}
+
+/// The output of a command that finds no file of this name.
+pub fn missing(alloc: Global, command: &str, name: &str) -> Result<Vec<Vec<u8>>, OutOfMemory> {
+    let text = format!(in alloc; "{command}: {name}: no such file")?;
+    failing(alloc, text, 1)
+}
+
+/// The output of a command that fails.
+pub fn failing(alloc: Global, text: String, status: u8) -> Result<Vec<Vec<u8>>, OutOfMemory> {
+    let mut lines = Vec::new(alloc);
+    lines.push(text.into_bytes())?;
+    lines.push(format!(in alloc; "[{status}]")?.into_bytes())?;
+    Ok(lines)
+}

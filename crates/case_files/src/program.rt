@@ -1,0 +1,42 @@
+//! A program that runs files of cases.
+
+use crate::commands::Commands;
+use crate::fault::Fault;
+use crate::report::run_files;
+use bench_frame::after_program_name;
+use edit_desk::{FileDesk, OutPrinter, Printer};
+use std::process::ExitCode;
+use std::rt::{Env, Files};
+use std::sync::Wait;
+
+/// Runs the files of cases that the program's words name, prints what came of each and how many cases passed and failed,
+/// and answers the exit status: 0 where there were cases and all passed, else 1.
+pub fn run_program<C: Commands, R: Wait + Env + Files + Print + AllocGlobal + Clone + Drop>(
+    rt: R,
+) -> ExitCode {
+    let alloc = rt.alloc();
+    let Ok(out) = rt.clone() else {
+        return ExitCode::from(1);
+    };
+    let Ok(files) = rt.clone() else {
+        return ExitCode::from(1);
+    };
+    let Ok(words) = after_program_name(&rt) else {
+        return ExitCode::from(1);
+    };
+    let mut desk = FileDesk::new(files);
+    let mut printer = OutPrinter::new(out);
+    match run_files::<C, _, _, _>(&rt, alloc, &words, &mut desk, &mut printer) {
+        Ok(count) if count.has_passed() => ExitCode::SUCCESS,
+        Ok(_) => ExitCode::from(1),
+        Err(fault) => leave(&mut printer, fault),
+    }
+}
+
+// Ends a run that not all cases were run of, where that can still be said.
+fn leave<P: Printer>(printer: &mut P, fault: Fault) -> ExitCode {
+    if fault == Fault::OutOfMemory {
+        let _told = printer.line(b"out of memory");
+    }
+    ExitCode::from(1)
+}

@@ -1,0 +1,47 @@
+//! Where the commands of a file of cases are done: files in memory, which stay from command to command.
+
+use crate::command::Command;
+use crate::commands::Commands;
+use crate::files::{Files, repeated};
+use foundation::OutOfMemory;
+use std::alloc::Global;
+use std::sync::Wait;
+
+/// Files in memory, and what the program's own commands keep.
+#[derive(Drop)]
+pub struct Workplace<C: Commands> {
+    files: Files,
+    own: C,
+}
+
+impl<C: Commands> Workplace<C> {
+    /// A workplace with no files.
+    pub fn new(alloc: Global) -> Workplace<C> {
+        Workplace {
+            files: Files::new(alloc),
+            own: C::start(alloc),
+        }
+    }
+
+    /// Does a command, and gives the lines of its output, as they are spelled.
+    pub fn perform<R: Wait>(
+        &mut self,
+        rt: &R,
+        alloc: Global,
+        command: &Command,
+    ) -> Result<Vec<Vec<u8>>, OutOfMemory> {
+        match command {
+            Command::Write { name, bytes } => self.files.put(alloc, name, bytes.to_vec(alloc)?),
+            Command::Repeat { text, count, name } => {
+                let bytes = repeated(alloc, text, *count)?;
+                self.files.put(alloc, name, bytes)
+            }
+            Command::Show { name } => self.files.show(alloc, name),
+            Command::Copy { old, new } => self.files.copy(alloc, old, new),
+            Command::Remove { names } => self.files.remove(alloc, names),
+            Command::List => self.files.list(alloc),
+            Command::Change { edits, name } => self.files.change(alloc, edits, name),
+            Command::Own { words, .. } => self.own.perform(rt, alloc, &mut self.files, words),
+        }
+    }
+}

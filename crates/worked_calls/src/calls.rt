@@ -1,0 +1,129 @@
+//! The calls, by the words of their commands.
+
+use crate::boxes::boxes_told;
+use crate::derivations::{steps_told, tree_told};
+use crate::fault::CallFault;
+use crate::lines::{lines_told, negations_told, sums_told};
+use crate::numbers::number_in;
+use crate::outcomes::search_told;
+use crate::pruning::{dropped_told, prune_told};
+use crate::records::row_of;
+use crate::rules::{bytes_in, survey_in};
+use crate::systems::{pairs_told, system_told};
+use crate::texts::Texts;
+use crate::values::values_told;
+use case_files::{Commands, Files, Role, failing};
+use foundation::OutOfMemory;
+use std::alloc::Global;
+use std::sync::Wait;
+
+/// The calls of the crates below the program. Nothing is kept from one to the next.
+#[derive(Drop)]
+pub struct Calls;
+
+impl Commands for Calls {
+    fn start(_alloc: Global) -> Self {
+        Calls
+    }
+
+    fn role_of(words: &[&str]) -> Option<Role> {
+        match words.first() {
+            Some(word) if is_call(word) => Some(Role::Begins),
+            _ => None,
+        }
+    }
+
+    fn perform<R: Wait>(
+        &mut self,
+        _rt: &R,
+        alloc: Global,
+        files: &mut Files,
+        words: &[&str],
+    ) -> Result<Vec<Vec<u8>>, OutOfMemory> {
+        match told(alloc, files, words) {
+            Ok(texts) => Ok(texts),
+            Err(CallFault::OutOfMemory) => Err(OutOfMemory),
+            Err(fault) => failing(alloc, format!(in alloc; "{fault}")?, 1),
+        }
+    }
+}
+
+// Whether a call has this name.
+fn is_call(word: &str) -> bool {
+    matches!(
+        word,
+        "lines"
+            | "negations"
+            | "sums"
+            | "system"
+            | "pairs"
+            | "prune"
+            | "dropped"
+            | "boxes"
+            | "steps"
+            | "tree"
+            | "search"
+            | "values"
+    )
+}
+
+// What the call of these words answers.
+fn told(alloc: Global, files: &Files, words: &[&str]) -> Result<Texts, CallFault> {
+    match words {
+        [name @ ("lines" | "negations" | "system" | "pairs" | "prune" | "dropped"), rules, others @ ..] => {
+            rules_told(alloc, files, name, rules, others)
+        }
+        [name, rules, record, others @ ..] => {
+            record_told(alloc, files, name, rules, record, others)
+        }
+        _ => Err(CallFault::Words),
+    }
+}
+
+// What a call on rules alone answers.
+fn rules_told(
+    alloc: Global,
+    files: &Files,
+    name: &str,
+    rules: &str,
+    others: &[&str],
+) -> Result<Texts, CallFault> {
+    let survey = survey_in(alloc, files, rules)?;
+    match (name, others) {
+        ("lines", []) => lines_told(alloc, &survey),
+        ("negations", []) => negations_told(alloc, &survey),
+        ("system", fields) => system_told(alloc, &survey, fields),
+        ("pairs", [fields @ .., last]) => pairs_told(alloc, &survey, fields, last),
+        ("prune", [budget]) => prune_told(alloc, &survey, number_in(budget)?),
+        ("dropped", [budget]) => dropped_told(alloc, &survey, number_in(budget)?),
+        _ => Err(CallFault::Words),
+    }
+}
+
+// What a call on rules and a record answers.
+fn record_told(
+    alloc: Global,
+    files: &Files,
+    name: &str,
+    rules: &str,
+    record: &str,
+    others: &[&str],
+) -> Result<Texts, CallFault> {
+    let survey = survey_in(alloc, files, rules)?;
+    let row = row_of(alloc, &survey, record)?;
+    match (name, others) {
+        ("sums", []) => sums_told(alloc, &survey, &row),
+        ("boxes", words) => boxes_told(alloc, &survey, &row, words),
+        ("steps", [path, steps, without @ ..]) => {
+            steps_told(alloc, &survey, &row, path, bytes_in(files, steps)?, without)
+        }
+        ("tree", [tree]) => tree_told(alloc, &survey, &row, bytes_in(files, tree)?),
+        ("search", [budget]) => search_told(alloc, &survey, &row, number_in(budget)?),
+        ("values", []) => values_told(alloc, &survey, &row, None),
+        ("values", [donor]) => {
+            let donor = row_of(alloc, &survey, donor)?;
+            values_told(alloc, &survey, &row, Some(&donor))
+        }
+        _ => Err(CallFault::Words),
+    }
+}

@@ -1,0 +1,144 @@
+//! Derivations and proof trees over the lines of rules, checked.
+ghost use Rattle.std.specs.Prelude.{◌≡◌, IfOk, All, length};
+ghost use Rattle.edit_model.specs.Rows.{IsRow};
+ghost use Rattle.edit_line.specs.Domains.{domains};
+ghost use Rattle.edit_line.specs.Shapes.{shape_of};
+
+use crate::boxes::push_box;
+use crate::fault::CallFault;
+use crate::numbers::{from_one, place_in};
+use crate::proofs_read::{steps_of, tree_of};
+use crate::texts::{Texts, alone, told_line};
+use bound_cert::{CertFault, Path, check_cert};
+use derivation::{Proved, StepsFault, check_steps};
+use edit_line::{Derived, Line, Origin, Shape};
+use edit_model::{Row, Survey};
+use edit_normal::{lines_of_rules, normal_lines};
+use std::alloc::Global;
+
+/// What the steps of a file prove of a record from the lines of the rules but those of these numbers, where the path's fields
+/// are kept; or the first of them that is not valid.
+pub fn steps_told(
+    alloc: Global,
+    survey: &Survey,
+    row: &Row,
+    path: &str,
+    steps: &[u8],
+    without: &[&str],
+) -> Result<Texts, CallFault>
+    requires { IsRow survey.now.fields row.now }
+{
+    let steps = steps_of(alloc, steps)?;
+    let given = lines_of_rules(alloc, survey)?;
+    let usable = all_but(alloc, given.len(), without)?;
+    let path = path_of(alloc, path)?;
+    if path.letters().len() > survey.fields().len() {
+        return Err(CallFault::Path);
+    }
+    let kept = path.kept_set(survey, row);
+    match check_steps(alloc, survey, &given, &usable, row, kept, steps.as_slice()) {
+        Ok(proved) => alone(alloc, proved_text(alloc, survey, &proved)?),
+        Err(StepsFault::Bad { place }) => {
+            let number = from_one(place);
+            alone(alloc, format!(in alloc; "no step {number}")?.into_bytes())
+        }
+        Err(StepsFault::OutOfMemory) => Err(CallFault::OutOfMemory),
+    }
+}
+
+// What steps prove: that a line holds, or that no codes may all stand in a box.
+fn proved_text(alloc: Global, survey: &Survey, proved: &Proved) -> Result<Vec<u8>, CallFault> {
+    match proved {
+        Proved::Line(line) => told_line(alloc, survey, String::from_str(alloc, "line ")?, line),
+        Proved::Box(code_box) => {
+            let mut text = String::from_str(alloc, "box ")?.into_bytes();
+            push_box(alloc, survey, code_box.sets(), &mut text)?;
+            Ok(text)
+        }
+    }
+}
+
+// The path of these letters: K for kept, C for changed, `-` for none.
+fn path_of(alloc: Global, text: &str) -> Result<Path, CallFault> {
+    let mut letters = Vec::new(alloc);
+    for byte in text.as_bytes() {
+        match *byte {
+            b'K' => letters.push(false)?,
+            b'C' => letters.push(true)?,
+            b'-' => {}
+            _ => return Err(CallFault::Path),
+        }
+    }
+    Ok(Path::new(letters))
+}
+
+// For each of this number of lines whether it is usable: all but those of these numbers.
+fn all_but(alloc: Global, count: usize, without: &[&str]) -> Result<Vec<bool>, CallFault>
+    ensures { IfOk result (λ usable. length usable.items ≡ count) }
+{
+    let mut places = Vec::new(alloc);
+    for number in without {
+        places.push(place_in(number)?)?;
+    }
+    let mut usable = Vec::new(alloc);
+    for i in 0..count {
+        usable.push(!places.contains(&i))?;
+    }
+    Ok(usable)
+}
+
+/// What the checker says of the tree of a file, as what it is told to show of a record.
+pub fn tree_told(
+    alloc: Global,
+    survey: &Survey,
+    row: &Row,
+    tree: &[u8],
+) -> Result<Texts, CallFault>
+    requires { IsRow survey.now.fields row.now }
+{
+    let (cert, weight) = tree_of(alloc, tree)?;
+    let given = lines_of_rules(alloc, survey)?;
+    let usable = all_but(alloc, given.len(), &[])?;
+    let text = match check_cert(alloc, survey, &given, &usable, row, &cert, weight) {
+        Ok(()) => String::from_str(alloc, "valid")?,
+        Err(CertFault::Bad { leaf, step: None }) => {
+            let leaf = from_one(leaf);
+            format!(in alloc; "no leaf {leaf}")?
+        }
+        Err(CertFault::Bad {
+            leaf,
+            step: Some(step),
+        }) => {
+            let leaf = from_one(leaf);
+            let step = from_one(step);
+            format!(in alloc; "no leaf {leaf} step {step}")?
+        }
+        Err(CertFault::OutOfMemory) => return Err(CallFault::OutOfMemory),
+    };
+    alone(alloc, text.into_bytes())
+}
+
+/// The lines of the rules, each with the number of its rule as its origin.
+pub fn derived_lines(alloc: Global, survey: &Survey) -> Result<Vec<Derived>, CallFault>
+    ensures { IfOk result (λ lines. All (λ d. d.line.shape ≡ shape_of survey.now.fields) lines.items) }
+{
+    let shape = Shape::of(survey);
+    let mut lines = Vec::new(alloc);
+    for made in &normal_lines(alloc, survey)? {
+        lines.push(Derived {
+            line: line_over(alloc, shape, &made.line)?,
+            origin: Origin::Base(u64::from(made.rule)),
+        })?;
+    }
+    Ok(lines)
+}
+
+// An equal line, over the survey's fields.
+fn line_over(alloc: Global, shape: Shape, line: &Line) -> Result<Line, CallFault>
+    ensures { IfOk result (λ copy. copy.shape ≡ domains shape) }
+{
+    if line.shape() != shape {
+        return Err(CallFault::Shape);
+    }
+    Ok(line.copy(alloc)?)
+}

@@ -1,0 +1,26 @@
+//! A program that runs files of worked cases of single calls: what a call answers on a rule file and on records, as text.
+//! The calls are told by [`calls`]; the form of the files is that of [`case_files`].
+#![tactic(auto)]
+
+mod boxes;
+mod calls;
+mod derivations;
+mod fault;
+mod lines;
+mod numbers;
+mod outcomes;
+mod proofs_read;
+mod pruning;
+mod records;
+mod rules;
+mod systems;
+mod texts;
+mod values;
+
+use calls::Calls;
+use case_files::run_program;
+use std::process::ExitCode;
+
+fn main(rt: HostRuntime) -> ExitCode {
+    run_program::<Calls, _>(rt)
+}

@@ -1,0 +1,61 @@
+//! Steps and trees from files: their lines are those of a proof file of version 1, without what stands around them there.
+
+use crate::fault::CallFault;
+use bound_cert::{Cert, Outcome};
+use derivation::Step;
+use foundation::Sequence;
+use proof_text::{Proof, ProofFault, read_proof};
+use std::alloc::Global;
+
+/// The lines of a proof file before its verdicts.
+const LIMITS: &str = "fh-proof 1\nlimit 1 near 1 budget 1\n";
+
+/// How many lines stand before the steps, and before the tree.
+const BEFORE_STEPS: u64 = 4;
+
+const BEFORE_TREE: u64 = 4;
+
+/// The steps that the bytes spell.
+pub fn steps_of(alloc: Global, bytes: &[u8]) -> Result<Sequence<Step>, CallFault> {
+    let count = bytes.iter().filter(|byte| **byte == b'\n').count();
+    let head = format!(in alloc; "{LIMITS}lines 1\ndrop {count}\n")?;
+    let proof = framed(alloc, head, bytes, "records 0\nclaims 0\nend\n", BEFORE_STEPS)?;
+    match proof.verdicts.into_vec().pop() {
+        Some(Some(steps)) => Ok(steps),
+        _ => Err(CallFault::Steps { line: 0 }),
+    }
+}
+
+/// The tree that the bytes spell, with what it is to show: a weight, or, without one, that there is no correction.
+pub fn tree_of(alloc: Global, bytes: &[u8]) -> Result<(Cert, Option<u64>), CallFault> {
+    let head = format!(in alloc; "{LIMITS}lines 0\nrecords 1\n")?;
+    let proof = framed(alloc, head, bytes, "claims 0\nend\n", BEFORE_TREE)?;
+    let Some(row) = proof.rows.into_vec().pop() else {
+        return Err(CallFault::Steps { line: 0 });
+    };
+    match row.outcome {
+        Outcome::Change { weight, cert, .. } => Ok((cert, Some(weight))),
+        Outcome::Contradictory { cert } => Ok((cert, None)),
+        _ => Err(CallFault::Steps { line: 1 }),
+    }
+}
+
+// The proof whose lines are the head, the bytes, and the tail. A fault is told by its line in the bytes.
+fn framed(
+    alloc: Global,
+    head: String,
+    bytes: &[u8],
+    tail: &str,
+    before: u64,
+) -> Result<Proof, CallFault> {
+    let mut text = head.into_bytes();
+    text.extend_from_slice(bytes)?;
+    text.extend_from_slice(tail.as_bytes())?;
+    match read_proof(alloc, &text) {
+        Ok(proof) => Ok(proof),
+        Err(ProofFault::At { line }) => Err(CallFault::Steps {
+            line: line.saturating_sub(before),
+        }),
+        Err(ProofFault::OutOfMemory) => Err(CallFault::OutOfMemory),
+    }
+}

@@ -1,0 +1,27 @@
+//! Which lines of rules follow from the others.
+
+use crate::fault::CallFault;
+use crate::texts::Texts;
+use edit_model::Survey;
+use edit_normal::lines_of_rules;
+use redundancy::prune;
+use rule_report::report;
+use std::alloc::Global;
+
+/// What becomes of each line within a budget of work, and the steps of those that are dropped.
+pub fn dropped_told(alloc: Global, survey: &Survey, budget: u64) -> Result<Texts, CallFault> {
+    let lines = lines_of_rules(alloc, survey)?;
+    let verdicts = prune(alloc, survey, &lines, budget)?;
+    Ok(report(alloc, survey, &lines, &verdicts)?)
+}
+
+/// What becomes of each line within a budget of work.
+pub fn prune_told(alloc: Global, survey: &Survey, budget: u64) -> Result<Texts, CallFault> {
+    let mut texts = Vec::new(alloc);
+    for text in dropped_told(alloc, survey, budget)? {
+        if !text.starts_with(b"  ") {
+            texts.push(text)?;
+        }
+    }
+    Ok(texts)
+}

@@ -1,0 +1,146 @@
+//! Systems without some of their fields.
+ghost use Rattle.std.specs.Prelude.{◌≡◌, ◌<◌, IfOk, true};
+ghost use Rattle.std.specs.Arc.{arc_value};
+ghost use Rattle.edit_line.specs.Shapes.{has_field, shape_of};
+ghost use Rattle.linear_elim.specs.Systems.{AreNumerical};
+
+use crate::fault::CallFault;
+use crate::numbers::from_one;
+use crate::rules::{edits_of, field_of};
+use crate::texts::{Texts, alone, push_name, push_place, told_line};
+use edit_line::{Derived, Origin, Place};
+use edit_model::{FieldSet, Survey};
+use foundation::Steps;
+use linear_elim::{Held, Recompute, SystemFault, Systems, pairs};
+use std::alloc::Global;
+use std::marker::Brand;
+use std::sync::ledger::{Blank, Ledger};
+
+/// The lines of the system without these fields, each behind where it comes from, or where a number leaves the range.
+pub fn system_told(alloc: Global, survey: &Survey, fields: &[&str]) -> Result<Texts, CallFault> {
+    match system_of::<Brand>(alloc, survey, fields, Blank::new(1))? {
+        Ok(held) => derived_told(alloc, survey, held.system().lines()),
+        Err(SystemFault::Overflow {
+            field,
+            first,
+            second,
+            place,
+        }) => overflow_told(alloc, survey, field, first, second, place),
+        Err(SystemFault::OutOfMemory) => Err(CallFault::OutOfMemory),
+    }
+}
+
+/// How many pairs of lines are combined when the last field is eliminated behind the others.
+pub fn pairs_told(
+    alloc: Global,
+    survey: &Survey,
+    fields: &[&str],
+    last: &str,
+) -> Result<Texts, CallFault> {
+    let field = field_of(survey, last)?;
+    match system_of::<Brand>(alloc, survey, fields, Blank::new(1))? {
+        Ok(held) => {
+            let count = pairs(held.system().lines(), field);
+            alone(alloc, format!(in alloc; "{count} pairs")?.into_bytes())
+        }
+        Err(_) => Err(CallFault::Number),
+    }
+}
+
+// What the plain source answers for these fields.
+fn system_of<L: Ledger>(
+    alloc: Global,
+    survey: &Survey,
+    fields: &[&str],
+    blank: Blank,
+) -> Result<Result<Held, SystemFault>, CallFault>
+    requires name { blank.name ≡ L.name }
+    requires parts { blank.parts ≡ L.parts }
+    requires counts { 0 < blank.parts }
+{
+    let edits = edits_of(alloc, survey)?;
+    let set = number_set(survey, fields)?;
+    let mut steps = Steps::<L>::start(blank);
+    Ok(Recompute.system(alloc, &edits, set, &mut steps))
+}
+
+// The set of these numerical fields.
+fn number_set(survey: &Survey, fields: &[&str]) -> Result<FieldSet, CallFault>
+    ensures { IfOk result (λ set. AreNumerical (shape_of survey.now.fields) set) }
+{
+    let mut set = FieldSet::empty();
+    for field in fields {
+        set = with_number(survey, set, field_of(survey, field)?)?;
+    }
+    Ok(set)
+}
+
+// The set with the field more.
+fn with_number(survey: &Survey, set: FieldSet, field: u32) -> Result<FieldSet, CallFault>
+    requires { AreNumerical (shape_of survey.now.fields) set }
+    ensures { IfOk result (λ more. AreNumerical (shape_of survey.now.fields) more) }
+{
+    if field >= 64 || !has_field(survey.numbers(), field) {
+        return Err(CallFault::Field);
+    }
+    Ok(set.with(field))
+}
+
+fn has_field(fields: &[u32], field: u32) -> bool
+    ensures { result ≡ true → has_field fields.now field ≡ true }
+{
+    for i in 0..fields.len() {
+        if fields[i] == field {
+            return true;
+        }
+    }
+    false
+}
+
+// The lines, each behind where it comes from.
+fn derived_told(alloc: Global, survey: &Survey, lines: &[Derived]) -> Result<Texts, CallFault> {
+    let mut texts = Vec::new(alloc);
+    for derived in lines {
+        let head = origin_text(alloc, derived.origin)?;
+        texts.push(told_line(alloc, survey, head, &derived.line)?)?;
+    }
+    Ok(texts)
+}
+
+// Where a line comes from: a line of the rules, a line before the last step, or two of them.
+fn origin_text(alloc: Global, origin: Origin) -> Result<String, CallFault> {
+    Ok(match origin {
+        Origin::Base(number) => {
+            let number = from_one(number);
+            format!(in alloc; "given {number}: ")?
+        }
+        Origin::Same(place) => {
+            let number = from_one(place);
+            format!(in alloc; "same {number}: ")?
+        }
+        Origin::Pair { a, m, b, n, g } => {
+            let first = from_one(a);
+            let second = from_one(b);
+            format!(in alloc; "combine {first} {m} {second} {n} {g}: ")?
+        }
+    })
+}
+
+// Where a number leaves the range: the field that is eliminated, the two lines, and the place in their combination.
+fn overflow_told(
+    alloc: Global,
+    survey: &Survey,
+    field: u32,
+    first: u64,
+    second: u64,
+    place: Place,
+) -> Result<Texts, CallFault> {
+    let mut text = Vec::new(alloc);
+    text.extend_from_slice(b"overflow at ")?;
+    push_name(&mut text, survey, field)?;
+    let first = from_one(first);
+    let second = from_one(second);
+    text.extend_from_slice(format!(in alloc; " lines {first} {second}")?.as_bytes())?;
+    push_place(&mut text, survey, place)?;
+    alone(alloc, text)
+}

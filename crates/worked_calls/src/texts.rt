@@ -1,0 +1,54 @@
+//! Parts of what is told.
+ghost use Rattle.std.specs.Prelude.{◌≡◌, IfOk};
+ghost use Rattle.edit_line.specs.Shapes.{shape_of};
+
+use crate::fault::CallFault;
+use edit_line::{Line, Place, Shape};
+use edit_model::Survey;
+use rule_report::line_text;
+use std::alloc::Global;
+
+/// The lines that are told.
+pub type Texts = Vec<Vec<u8>>;
+
+/// The text of a line, behind a head.
+pub fn told_line(
+    alloc: Global,
+    survey: &Survey,
+    head: String,
+    line: &Line,
+) -> Result<Vec<u8>, CallFault> {
+    let shape = Shape::of(survey);
+    if line.shape() != shape {
+        return Err(CallFault::Shape);
+    }
+    let mut text = head.into_bytes();
+    text.extend_from_slice(&line_text(alloc, survey, line)?)?;
+    Ok(text)
+}
+
+/// Appends the name of the field of this number, from 0.
+pub fn push_name(text: &mut Vec<u8>, survey: &Survey, field: u32) -> Result<(), CallFault> {
+    match survey.fields().get(field as usize) {
+        Some(field) => text.extend_from_slice(field.name.as_bytes())?,
+        None => return Err(CallFault::Field),
+    }
+    Ok(())
+}
+
+/// Appends where a number stands in a line.
+pub fn push_place(text: &mut Vec<u8>, survey: &Survey, place: Place) -> Result<(), CallFault> {
+    text.extend_from_slice(b" at ")?;
+    match place {
+        Place::Constant => text.extend_from_slice(b"constant")?,
+        Place::Field(field) => push_name(text, survey, field)?,
+    }
+    Ok(())
+}
+
+/// The one text.
+pub fn alone(alloc: Global, text: Vec<u8>) -> Result<Texts, CallFault> {
+    let mut texts = Vec::new(alloc);
+    texts.push(text)?;
+    Ok(texts)
+}

@@ -1,0 +1,76 @@
+//! The values that the changed fields of a record are given, and how each was found.
+ghost use Rattle.std.specs.Prelude.{◌≡◌, ◌<◌, IfOk, option_copied};
+ghost use Rattle.std.specs.Arc.{arc_value};
+ghost use Rattle.std.specs.List.{list_any};
+ghost use Rattle.edit_line.specs.EditSets.{SayTheRules};
+ghost use Rattle.edit_line.specs.Shapes.{shape_of};
+ghost use Rattle.edit_model.specs.Rows.{IsRow, is_bad};
+ghost use Rattle.back_subst.specs.Gifts.{CanGive, IsDonorRecord};
+
+use crate::fault::CallFault;
+use crate::numbers::from_one;
+use crate::outcomes::outcome_of;
+use crate::records::push_row;
+use crate::rules::edits_of;
+use crate::texts::{Texts, alone, push_name};
+use back_subst::{Gift, GiveFault, How, changed_set, give};
+use bound_cert::Outcome;
+use edit_line::Edits;
+use edit_model::{FieldSet, Row, Survey};
+use edit_paths::case_known;
+use foundation::Steps;
+use linear_elim::Recompute;
+use std::alloc::Global;
+use std::marker::Brand;
+use std::sync::Arc;
+use std::sync::ledger::{Blank, Ledger};
+
+/// What a record is given in the place of its changed fields, from a donor that has a value at each field, or without one;
+/// or where a number leaves the range.
+pub fn values_told(
+    alloc: Global,
+    survey: &Survey,
+    row: &Row,
+    donor: Option<&Row>,
+) -> Result<Texts, CallFault>
+    requires row { IsRow survey.now.fields row.now }
+    requires donor { IfDonor survey.now (option_copied donor) }
+{
+    match gift_of(alloc, survey, row, donor)? {
+        Ok(gift) => gift_told(alloc, survey, &gift),
+        Err(fault) => alone(alloc, fault_text(alloc, survey, fault)?),
+    }
+}
+
+// The values of the record in the end, and how each changed one was found, in path order.
+fn gift_told(alloc: Global, survey: &Survey, gift: &Gift) -> Result<Texts, CallFault> {
+    let mut text = Vec::new(alloc);
+    push_row(alloc, survey, &gift.row, &mut text)?;
+    text.push(b':')?;
+    for how in gift.how.as_slice() {
+        text.extend_from_slice(match how {
+            How::Donor => b" donor",
+            How::Default => b" default",
+            How::Nearest => b" nearest",
+        })?;
+    }
+    alone(alloc, text)
+}
+
+// Where a number leaves the range.
+fn fault_text(alloc: Global, survey: &Survey, fault: GiveFault) -> Result<Vec<u8>, CallFault> {
+    match fault {
+        GiveFault::Bound { field, line } => {
+            let mut text = String::from_str(alloc, "overflow at ")?.into_bytes();
+            push_name(&mut text, survey, field)?;
+            let number = from_one(line);
+            text.extend_from_slice(format!(in alloc; " line {number}")?.as_bytes())?;
+            Ok(text)
+        }
+        GiveFault::Test { rule } => {
+            let number = from_one(u64::from(rule));
+            Ok(format!(in alloc; "overflow in rule {number}")?.into_bytes())
+        }
+        GiveFault::OutOfMemory => Err(CallFault::OutOfMemory),
+    }
+}

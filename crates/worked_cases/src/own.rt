@@ -1,0 +1,45 @@
+//! The commands beside those of files.
+
+use case_files::{Role, number_of};
+use edit_desk::Failure;
+
+/// A command beside those of files.
+#[derive(Clone, Copy)]
+pub enum Own<'a> {
+    /// `forxainde WORD ..`: the program is run.
+    Run { words: &'a [&'a str] },
+    /// `fail call N keep K`: a call of the desk of the next run fails.
+    FailCall { failure: Failure },
+    /// `fail line N`: a printed line of the next run fails.
+    FailLine { number: u64 },
+    /// `calls`: shows the calls of the desk in the last run.
+    Calls,
+}
+
+impl<'a> Own<'a> {
+    /// The command of these words, if there is one.
+    pub fn of(words: &'a [&'a str]) -> Option<Own<'a>> {
+        match words {
+            ["forxainde", words @ ..] => Some(Own::Run { words }),
+            ["fail", "call", call, "keep", keep] => Some(Own::FailCall {
+                failure: Failure {
+                    call: number_of(call)?,
+                    keep: number_of(keep)?,
+                },
+            }),
+            ["fail", "line", number] => Some(Own::FailLine {
+                number: number_of(number)?,
+            }),
+            ["calls"] => Some(Own::Calls),
+            _ => None,
+        }
+    }
+
+    /// What it is among the commands of a file: a case begins with a run.
+    pub fn role(self) -> Role {
+        match self {
+            Own::Run { .. } => Role::Begins,
+            _ => Role::Follows,
+        }
+    }
+}
