@@ -87,7 +87,13 @@ fn changed(
     match words {
         ["fix", field, code] => fixed(alloc, survey, boxes, field_of(survey, field)?, code),
         ["cover", field, most] => {
-            covered(alloc, survey, boxes, field_of(survey, field)?, number_in(most)?)
+            covered(
+                alloc,
+                survey,
+                boxes,
+                field_of(survey, field)?,
+                number_in(most)?,
+            )
         }
         ["pick", first, second] => picked(alloc, boxes, place_in(first)?, place_in(second)?),
         _ => Err(CallFault::Words),
@@ -138,12 +144,7 @@ fn fixed(
 }
 
 // What a code leaves of boxes over fields that have it.
-fn left(
-    alloc: Global,
-    boxes: &Boxes,
-    field: u32,
-    code: u8,
-) -> Result<Vec<BoxFrom>, OutOfMemory>
+fn left(alloc: Global, boxes: &Boxes, field: u32, code: u8) -> Result<Vec<BoxFrom>, OutOfMemory>
     requires { HaveCode boxes.now.list.items field code }
     ensures { IfOk result (λ left. LieApart left.items) }
 {

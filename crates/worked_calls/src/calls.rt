@@ -11,7 +11,7 @@ use crate::records::row_of;
 use crate::rules::{bytes_in, survey_in};
 use crate::systems::{pairs_told, system_told};
 use crate::texts::Texts;
-use crate::values::values_told;
+use crate::values::{values_from, values_told};
 use case_files::{Commands, Files, Role, failing};
 use foundation::OutOfMemory;
 use std::alloc::Global;
@@ -70,9 +70,11 @@ fn is_call(word: &str) -> bool {
 // What the call of these words answers.
 fn told(alloc: Global, files: &Files, words: &[&str]) -> Result<Texts, CallFault> {
     match words {
-        [name @ ("lines" | "negations" | "system" | "pairs" | "prune" | "dropped"), rules, others @ ..] => {
-            rules_told(alloc, files, name, rules, others)
-        }
+        [
+            name @ ("lines" | "negations" | "system" | "pairs" | "prune" | "dropped"),
+            rules,
+            others @ ..,
+        ] => { rules_told(alloc, files, name, rules, others) }
         [name, rules, record, others @ ..] => {
             record_told(alloc, files, name, rules, record, others)
         }
@@ -120,10 +122,7 @@ fn record_told(
         ("tree", [tree]) => tree_told(alloc, &survey, &row, bytes_in(files, tree)?),
         ("search", [budget]) => search_told(alloc, &survey, &row, number_in(budget)?),
         ("values", []) => values_told(alloc, &survey, &row, None),
-        ("values", [donor]) => {
-            let donor = row_of(alloc, &survey, donor)?;
-            values_told(alloc, &survey, &row, Some(&donor))
-        }
+        ("values", [donor]) => values_from(alloc, &survey, &row, donor),
         _ => Err(CallFault::Words),
     }
 }

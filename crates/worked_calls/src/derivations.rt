@@ -88,12 +88,7 @@ fn all_but(alloc: Global, count: usize, without: &[&str]) -> Result<Vec<bool>, C
 }
 
 /// What the checker says of the tree of a file, as what it is told to show of a record.
-pub fn tree_told(
-    alloc: Global,
-    survey: &Survey,
-    row: &Row,
-    tree: &[u8],
-) -> Result<Texts, CallFault>
+pub fn tree_told(alloc: Global, survey: &Survey, row: &Row, tree: &[u8]) -> Result<Texts, CallFault>
     requires { IsRow survey.now.fields row.now }
 {
     let (cert, weight) = tree_of(alloc, tree)?;
@@ -105,10 +100,12 @@ pub fn tree_told(
             let leaf = from_one(leaf);
             format!(in alloc; "no leaf {leaf}")?
         }
-        Err(CertFault::Bad {
-            leaf,
-            step: Some(step),
-        }) => {
+        Err(
+            CertFault::Bad {
+                leaf,
+                step: Some(step),
+            },
+        ) => {
             let leaf = from_one(leaf);
             let step = from_one(step);
             format!(in alloc; "no leaf {leaf} step {step}")?

@@ -19,7 +19,13 @@ const BEFORE_TREE: u64 = 4;
 pub fn steps_of(alloc: Global, bytes: &[u8]) -> Result<Sequence<Step>, CallFault> {
     let count = bytes.iter().filter(|byte| **byte == b'\n').count();
     let head = format!(in alloc; "{LIMITS}lines 1\ndrop {count}\n")?;
-    let proof = framed(alloc, head, bytes, "records 0\nclaims 0\nend\n", BEFORE_STEPS)?;
+    let proof = framed(
+        alloc,
+        head,
+        bytes,
+        "records 0\nclaims 0\nend\n",
+        BEFORE_STEPS,
+    )?;
     match proof.verdicts.into_vec().pop() {
         Some(Some(steps)) => Ok(steps),
         _ => Err(CallFault::Steps { line: 0 }),

@@ -20,12 +20,14 @@ use std::sync::ledger::{Blank, Ledger};
 pub fn system_told(alloc: Global, survey: &Survey, fields: &[&str]) -> Result<Texts, CallFault> {
     match system_of::<Brand>(alloc, survey, fields, Blank::new(1))? {
         Ok(held) => derived_told(alloc, survey, held.system().lines()),
-        Err(SystemFault::Overflow {
-            field,
-            first,
-            second,
-            place,
-        }) => overflow_told(alloc, survey, field, first, second, place),
+        Err(
+            SystemFault::Overflow {
+                field,
+                first,
+                second,
+                place,
+            },
+        ) => overflow_told(alloc, survey, field, first, second, place),
         Err(SystemFault::OutOfMemory) => Err(CallFault::OutOfMemory),
     }
 }

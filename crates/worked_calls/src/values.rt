@@ -10,7 +10,7 @@ ghost use Rattle.back_subst.specs.Gifts.{CanGive, IsDonorRecord};
 use crate::fault::CallFault;
 use crate::numbers::from_one;
 use crate::outcomes::outcome_of;
-use crate::records::push_row;
+use crate::records::{push_row, row_of};
 use crate::rules::edits_of;
 use crate::texts::{Texts, alone, push_name};
 use back_subst::{Gift, GiveFault, How, changed_set, give};
@@ -25,6 +25,9 @@ use std::marker::Brand;
 use std::sync::Arc;
 use std::sync::ledger::{Blank, Ledger};
 
+/// The most work of the search.
+const BUDGET: u64 = 1000;
+
 /// What a record is given in the place of its changed fields, from a donor that has a value at each field, or without one;
 /// or where a number leaves the range.
 pub fn values_told(
@@ -34,7 +37,7 @@ pub fn values_told(
     donor: Option<&Row>,
 ) -> Result<Texts, CallFault>
     requires row { IsRow survey.now.fields row.now }
-    requires donor { IfDonor survey.now (option_copied donor) }
+    requires donor { IsDonorRecord survey.now (option_copied donor) }
 {
     match gift_of(alloc, survey, row, donor)? {
         Ok(gift) => gift_told(alloc, survey, &gift),
@@ -73,4 +76,90 @@ fn fault_text(alloc: Global, survey: &Survey, fault: GiveFault) -> Result<Vec<u8
         }
         GiveFault::OutOfMemory => Err(CallFault::OutOfMemory),
     }
+}
+
+/// The same, from the donor that is spelled so.
+pub fn values_from(
+    alloc: Global,
+    survey: &Survey,
+    row: &Row,
+    donor: &str,
+) -> Result<Texts, CallFault>
+    requires { IsRow survey.now.fields row.now }
+{
+    let donor = row_of(alloc, survey, donor)?;
+    if has_bad(&donor) {
+        return Err(CallFault::Record);
+    }
+    values_told(alloc, survey, row, Some(&donor))
+}
+
+// Whether the record has no value at some field.
+fn has_bad(row: &Row) -> bool
+    ensures { result ≡ list_any is_bad row.now }
+{
+    row.values().iter().any(|value| value.is_bad())
+}
+
+// What the record is given, from the donor, if there is one.
+fn gift_of(
+    alloc: Global,
+    survey: &Survey,
+    row: &Row,
+    donor: Option<&Row>,
+) -> Result<Result<Gift, GiveFault>, CallFault>
+    requires row { IsRow survey.now.fields row.now }
+    requires donor { IsDonorRecord survey.now (option_copied donor) }
+{
+    let edits = edits_of(alloc, survey)?;
+    let changed = changed_in(alloc, survey, &edits, row)?;
+    Ok(given::<Brand>(alloc, survey, &edits, row, changed, donor, Blank::new(1)))
+}
+
+// The fields that change in the record.
+fn changed_in(
+    alloc: Global,
+    survey: &Survey,
+    edits: &Arc<Edits>,
+    row: &Row,
+) -> Result<FieldSet, CallFault>
+    requires row { IsRow survey.now.fields row.now }
+    requires shape { (arc_value edits.now).shape ≡ shape_of survey.now.fields }
+    requires same { SayTheRules survey.now (arc_value edits.now) }
+    ensures { IfOk result (λ changed. CanGive survey.now (arc_value edits.now) row.now changed) }
+{
+    case_known(survey, edits, row);
+    match outcome_of(alloc, survey, edits, row, BUDGET) {
+        Ok(Outcome::Change { path, .. }) => Ok(changed_set(survey, path.letters())),
+        _ => Err(CallFault::NoChange),
+    }
+}
+
+// What the record is given in the place of these fields, from the donor, if there is one.
+fn given<L: Ledger>(
+    alloc: Global,
+    survey: &Survey,
+    edits: &Arc<Edits>,
+    row: &Row,
+    changed: FieldSet,
+    donor: Option<&Row>,
+    blank: Blank,
+) -> Result<Gift, GiveFault>
+    requires name { blank.name ≡ L.name }
+    requires parts { blank.parts ≡ L.parts }
+    requires counts { 0 < blank.parts }
+    requires path { CanGive survey.now (arc_value edits.now) row.now changed }
+    requires donor { IsDonorRecord survey.now (option_copied donor) }
+{
+    let mut steps = Steps::<L>::start(blank);
+    give(
+        alloc,
+        &mut Recompute,
+        survey,
+        edits,
+        row,
+        changed,
+        donor,
+        &mut steps,
+    )
 }
