@@ -1,5 +1,5 @@
 //! Boxes of a record, and what is left of them: of a code of a field, or without a field.
-ghost use Rattle.std.specs.Prelude.{◌≡◌, ◌<◌, IfOk, true};
+ghost use Rattle.std.specs.Prelude.{◌≡◌, ◌<◌, All, IfOk, true};
 ghost use Rattle.edit_line.specs.CodeFields.{size_of};
 ghost use Rattle.edit_line.specs.Domains.{domains};
 ghost use Rattle.edit_line.specs.Shapes.{shape_of};
@@ -7,7 +7,6 @@ ghost use Rattle.edit_model.specs.Rows.{IsRow};
 ghost use Rattle.categ_combine.specs.Apart.{LieApart};
 ghost use Rattle.categ_combine.specs.BoxLists.{AreBoxesOver, HaveCode, HaveCodeField};
 
-use crate::derivations::derived_lines;
 use crate::fault::CallFault;
 use crate::numbers::{from_one, number_in, place_in};
 use crate::rules::{code_of, field_of};
@@ -16,8 +15,9 @@ use categ_combine::{
     BoxFault, BoxFrom, BoxOrigin, Covered, boxes_of, cat_step, fix, fix_apart, step_apart,
 };
 use edit_language::write_conditions;
-use edit_line::Shape;
+use edit_line::{Derived, Line, Origin, Shape};
 use edit_model::{Row, Survey, Test};
+use edit_normal::normal_lines;
 use foundation::{OutOfMemory, Sequence};
 use std::alloc::Global;
 
@@ -58,6 +58,31 @@ pub fn boxes_told(
         }
         Err(BoxFault::OutOfMemory) => Err(CallFault::OutOfMemory),
     }
+}
+
+// The lines of the rules, each with the number of its rule as its origin.
+fn derived_lines(alloc: Global, survey: &Survey) -> Result<Vec<Derived>, CallFault>
+    ensures { IfOk result (λ lines. All (λ d. d.line.shape ≡ shape_of survey.now.fields) lines.items) }
+{
+    let shape = Shape::of(survey);
+    let mut lines = Vec::new(alloc);
+    for made in &normal_lines(alloc, survey)? {
+        lines.push(Derived {
+            line: line_over(alloc, shape, &made.line)?,
+            origin: Origin::Base(u64::from(made.rule)),
+        })?;
+    }
+    Ok(lines)
+}
+
+// An equal line, over the survey's fields.
+fn line_over(alloc: Global, shape: Shape, line: &Line) -> Result<Line, CallFault>
+    ensures { IfOk result (λ copy. copy.shape ≡ domains shape) }
+{
+    if line.shape() != shape {
+        return Err(CallFault::Shape);
+    }
+    Ok(line.copy(alloc)?)
 }
 
 // The boxes after the changes that the words ask for.

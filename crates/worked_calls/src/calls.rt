@@ -4,9 +4,10 @@ use crate::boxes::boxes_told;
 use crate::derivations::{steps_told, tree_told};
 use crate::fault::CallFault;
 use crate::lines::{lines_told, negations_told, sums_told};
-use crate::numbers::number_in;
+use crate::numbers::{number_in, place_in};
 use crate::outcomes::search_told;
 use crate::pruning::{dropped_told, prune_told};
+use crate::ranking::{measured_told, rank_told};
 use crate::records::row_of;
 use crate::rules::{bytes_in, survey_in};
 use crate::systems::{pairs_told, system_told};
@@ -64,22 +65,33 @@ fn is_call(word: &str) -> bool {
             | "tree"
             | "search"
             | "values"
+            | "rank"
+            | "measured"
     )
 }
 
 // What the call of these words answers.
 fn told(alloc: Global, files: &Files, words: &[&str]) -> Result<Texts, CallFault> {
     match words {
-        [
-            name @ ("lines" | "negations" | "system" | "pairs" | "prune" | "dropped"),
-            rules,
-            others @ ..,
-        ] => { rules_told(alloc, files, name, rules, others) }
+        [name @ ("rank" | "measured"), rules, records, others @ ..] => {
+            donors_told(alloc, files, name, rules, records, others)
+        }
+        [name, rules, others @ ..] if is_of_rules(name) => {
+            rules_told(alloc, files, name, rules, others)
+        }
         [name, rules, record, others @ ..] => {
             record_told(alloc, files, name, rules, record, others)
         }
         _ => Err(CallFault::Words),
     }
+}
+
+// Whether the call of this name takes rules and no record.
+fn is_of_rules(name: &str) -> bool {
+    matches!(
+        name,
+        "lines" | "negations" | "system" | "pairs" | "prune" | "dropped"
+    )
 }
 
 // What a call on rules alone answers.
@@ -123,6 +135,32 @@ fn record_told(
         ("search", [budget]) => search_told(alloc, &survey, &row, number_in(budget)?),
         ("values", []) => values_told(alloc, &survey, &row, None),
         ("values", [donor]) => values_from(alloc, &survey, &row, donor),
+        _ => Err(CallFault::Words),
+    }
+}
+
+// What a call on rules and a record file answers: it names a path, a row and how many donors are asked for.
+fn donors_told(
+    alloc: Global,
+    files: &Files,
+    name: &str,
+    rules: &str,
+    records: &str,
+    others: &[&str],
+) -> Result<Texts, CallFault> {
+    let survey = survey_in(alloc, files, rules)?;
+    let records = bytes_in(files, records)?;
+    let [path, row, near, most @ ..] = others else {
+        return Err(CallFault::Words);
+    };
+    let row_no = place_in(row)? as u64;
+    let near = number_in(near)?;
+    match (name, most) {
+        ("rank", []) => rank_told(alloc, &survey, records, path, row_no, near),
+        ("measured", [most]) => {
+            let most = number_in(most)?;
+            measured_told(alloc, &survey, records, path, row_no, near, most)
+        }
         _ => Err(CallFault::Words),
     }
 }

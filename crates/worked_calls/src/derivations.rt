@@ -1,8 +1,6 @@
 //! Derivations and proof trees over the lines of rules, checked.
-ghost use Rattle.std.specs.Prelude.{◌≡◌, IfOk, All, length};
+ghost use Rattle.std.specs.Prelude.{◌≡◌, IfOk, length};
 ghost use Rattle.edit_model.specs.Rows.{IsRow};
-ghost use Rattle.edit_line.specs.Domains.{domains};
-ghost use Rattle.edit_line.specs.Shapes.{shape_of};
 
 use crate::boxes::push_box;
 use crate::fault::CallFault;
@@ -11,9 +9,8 @@ use crate::proofs_read::{steps_of, tree_of};
 use crate::texts::{Texts, alone, told_line};
 use bound_cert::{CertFault, Path, check_cert};
 use derivation::{Proved, StepsFault, check_steps};
-use edit_line::{Derived, Line, Origin, Shape};
 use edit_model::{Row, Survey};
-use edit_normal::{lines_of_rules, normal_lines};
+use edit_normal::lines_of_rules;
 use std::alloc::Global;
 
 /// What the steps of a file prove of a record from the lines of the rules but those of these numbers, where the path's fields
@@ -58,8 +55,8 @@ fn proved_text(alloc: Global, survey: &Survey, proved: &Proved) -> Result<Vec<u8
     }
 }
 
-// The path of these letters: K for kept, C for changed, `-` for none.
-fn path_of(alloc: Global, text: &str) -> Result<Path, CallFault> {
+/// The path of these letters: K for kept, C for changed, `-` for none.
+pub fn path_of(alloc: Global, text: &str) -> Result<Path, CallFault> {
     let mut letters = Vec::new(alloc);
     for byte in text.as_bytes() {
         match *byte {
@@ -113,29 +110,4 @@ pub fn tree_told(alloc: Global, survey: &Survey, row: &Row, tree: &[u8]) -> Resu
         Err(CertFault::OutOfMemory) => return Err(CallFault::OutOfMemory),
     };
     alone(alloc, text.into_bytes())
-}
-
-/// The lines of the rules, each with the number of its rule as its origin.
-pub fn derived_lines(alloc: Global, survey: &Survey) -> Result<Vec<Derived>, CallFault>
-    ensures { IfOk result (λ lines. All (λ d. d.line.shape ≡ shape_of survey.now.fields) lines.items) }
-{
-    let shape = Shape::of(survey);
-    let mut lines = Vec::new(alloc);
-    for made in &normal_lines(alloc, survey)? {
-        lines.push(Derived {
-            line: line_over(alloc, shape, &made.line)?,
-            origin: Origin::Base(u64::from(made.rule)),
-        })?;
-    }
-    Ok(lines)
-}
-
-// An equal line, over the survey's fields.
-fn line_over(alloc: Global, shape: Shape, line: &Line) -> Result<Line, CallFault>
-    ensures { IfOk result (λ copy. copy.shape ≡ domains shape) }
-{
-    if line.shape() != shape {
-        return Err(CallFault::Shape);
-    }
-    Ok(line.copy(alloc)?)
 }

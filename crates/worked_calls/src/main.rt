@@ -11,6 +11,7 @@ mod numbers;
 mod outcomes;
 mod proofs_read;
 mod pruning;
+mod ranking;
 mod records;
 mod rules;
 mod systems;

@@ -412,3 +412,24 @@ Of rules and records that both have no reading the rules are told, and the recor
   $ ls
   records
   rules
+
+A text in quotes is kept where it is no value of a field, and is told as it was read where it is one.
+
+  $ cat >rules <<EOF
+  > number A
+  > number B
+  > A + B = 10
+  > EOF
+  $ cat >records <<EOF
+  > id,A,B
+  > "c, ""d""","1, ""e""",4
+  > EOF
+  $ forxainde edit --rules rules --records records --released released --reasons reasons --proof proof
+  records 1 clean 0 changed 1 unresolved 0 weight 1
+  claims 1 given 0
+  $ cat released
+  id,A,B
+  "c, ""d""",6,4
+  $ cat reasons
+  record,cause,field,before,after,donor,detail
+  1,changed,A,"1, ""e""",6,,nearest

@@ -1,0 +1,2 @@
+mod SystemLaws
+mod ValueLaws
