@@ -4,7 +4,7 @@ ghost use Rattle.std.specs.Arc.{arc_value};
 ghost use Rattle.linear_elim.specs.Systems.{AreNumerical};
 ghost use Rattle.shared_edits.specs.Pools.{IsReaderOf};
 
-use super::reading::{LinePlan, TRADE, edits_of, is_line, number_set, rule_lines, survey_of};
+use super::reading::{LinePlan, TRADE, edits_of, is_line, number_set, survey_of};
 use edit_line::Edits;
 use edit_line::Relation::AtLeast;
 use edit_model::FieldSet;
@@ -41,9 +41,8 @@ struct Trade {
 
 fn read_trade(alloc: Global) -> Result<Trade, Fail> {
     let survey = survey_of(alloc, TRADE)?;
-    let lines = rule_lines(alloc, &survey)?;
     Ok(Trade {
-        edits: edits_of(alloc, &survey, &lines)?,
+        edits: edits_of(alloc, &survey)?,
         costs: number_set(&survey, &[1])?,
         both: number_set(&survey, &[1, 2])?,
     })

@@ -1,2 +1,1 @@
 mod SearchLaws
-mod ValueLaws

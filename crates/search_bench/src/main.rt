@@ -1,6 +1,5 @@
 //! A program that searches for the least set of fields to change in each record of a file, so that the
-//! search can be timed beside other editors; and the tests of the worked surveys, from the rule text to the
-//! certificate. The search of a file is in `search`.
+//! search can be timed beside other editors. The search of a file is in `search`.
 #![tactic(auto)]
 
 ghost use Rattle.std.specs.Prelude.{◌≡◌, ◌<◌, ◌^◌, Err, IfOk, length, string_bytes};
@@ -8,8 +7,6 @@ ghost use Rattle.search_bench.specs.inner.Texts.{rules_fault_of, sheet_fault_of}
 ghost use Rattle.search_bench.specs.inner.Told.{HasNoRules, HasNoSheet, IsTold};
 
 mod search;
-#[cfg(test)]
-mod tests;
 
 use bench_frame::{Fault, after_program_name, leave};
 use edit_desk::OutPrinter;

@@ -1,4 +1,0 @@
-use Rattle.search_bench.proofs.tests.values.gift_of.Given as goal
-
-abbrev pub ghosts-given : goal.ghosts-given
-ghosts-given a = record { name = a.blank.name; parts = a.blank.parts }
