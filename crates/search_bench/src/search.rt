@@ -57,8 +57,8 @@ fn push_record(
     Ok(())
 }
 
-/// What is found of a record within a budget of work.
-pub fn outcome_of(
+// What is found of a record within a budget of work.
+fn outcome_of(
     alloc: Global,
     survey: &Survey,
     edits: &Arc<Edits>,

@@ -39,6 +39,14 @@ Fractions are exact.
   > EOF
   $ values sum '3 4'
   3 7: nearest
+  $ cat >two <<EOF
+  > number A
+  > number B
+  > A + B = 10
+  > A - B = 4
+  > EOF
+  $ values two '1 1'
+  7 3: nearest nearest
 
 Codes, and codes beside numbers.
 
