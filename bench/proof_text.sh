@@ -6,8 +6,9 @@
 # The files, each of about so many MiB: in `given`, `fail`, `fix` and `combine` one line of the rules is dropped by
 # so many such steps; in `cover` by covers of three parts; in `tree` one record has the leaves of a full tree, each
 # with a path of 20 letters and one step; in `short` the leaves have the empty path; in `claims` there are claims
-# that rank three donors; in `clean` and `bad` the records, or the leaves, are the shortest there are. The last
-# file has the line `lines 4000000000` and a few more.
+# that rank three donors; in `clean` and `bad` the records, or the leaves, are the shortest there are. These are of
+# version 1. In `table` a proof of version 2 has so many combinations in its table, and in `shared` one step, which each leaf
+# of the empty path names. The last two files have the line `lines 4000000000`, or `table 4000000000`, and a few more.
 #
 # How to read a line: the kind of file; its MiB; the seconds of the program, the user's and the system's, with the
 # seconds for reading the bytes of the file; the MiB a second; and the bytes of memory at the highest, without
@@ -33,11 +34,11 @@ build() {
     [ -x "$program" ] || { cat "$work/log" >&2; exit 1; }
 }
 
-# A file with so many times this text, behind this front and before this end.
+# A file of this version (1 where none is named) with so many times this text, behind this front and before this end.
 file_of() {
     local front=$1 text=$2 end=$3 count
     count=$((mib * 1048576 / $(printf '%b' "$text" | wc -c)))
-    printf "fh-proof 1\nlimit 1 near 5 budget 1000000\n$front" "$count"
+    printf "fh-proof ${version:-1}\nlimit 1 near 5 budget 1000000\n$front" "$count"
     yes "$(printf '%b' "$text")" | head -n $((count * $(printf '%b' "$text" | wc -l)))
     printf '%b' "$end"
 }
@@ -95,12 +96,26 @@ leaves_of 'line - 1\ngiven 1\n' >"$work/file"
 tell short
 file_of 'lines 0\nrecords 0\nclaims %d\n' 'claim 123 77 77 12 230\n' 'end\n' >"$work/file"
 tell claims
+version=2 file_of 'lines 0\ntable %d\n' 'combine 1 1 2 1 1\n' 'records 0\nclaims 0\nend\n' >"$work/file"
+tell table
+version=2 file_of 'lines 0\ntable 1\ngiven 1\nrecords 1\ncontradictory %d\n' 'line - 1\nshared 1\n' 'claims 0\nend\n' >"$work/file"
+tell shared
 if [ "$mib" -le 256 ]; then
     file_of 'lines 0\nrecords %d\n' 'clean\n' 'claims 0\nend\n' >"$work/file"
     tell clean
     leaves_of 'bad K\n' >"$work/file"
     tell bad
 fi
+
+# A count that no file has the lines of costs nothing.
+counted() {
+    local word=$1
+    "$program" "$work/file"
+    python3 "$top/bench/yardstick/measure.py" "$program" "$work/file" |
+        awk -v word="$word" 'NR == 2 { printf "%s 4000000000: %s s, %.1f MiB\n", word, $2, $3 / 1048576 }'
+}
+
 printf 'fh-proof 1\nlimit 1 near 5 budget 1000000\nlines 4000000000\nkeep\nkeep\n' >"$work/file"
-"$program" "$work/file"
-python3 "$top/bench/yardstick/measure.py" "$program" "$work/file" | awk 'NR == 2 { printf "lines 4000000000: %s s, %.1f MiB\n", $2, $3 / 1048576 }'
+counted lines
+printf 'fh-proof 2\nlimit 1 near 5 budget 1000000\nlines 0\ntable 4000000000\ngiven 1\n' >"$work/file"
+counted table

@@ -1,4 +1,4 @@
-"""Changes the files of four worked releases, a proof in each single token, and checks how `check` ends on each.
+"""Changes the files of five worked releases, a proof of each version in each single token, and checks how `check` ends on each.
 
 Usage: change_tokens.py PROGRAM EXAMPLES SEED
 """
@@ -9,7 +9,10 @@ import subprocess
 import sys
 import tempfile
 
-# How often a byte of the files of each kind is changed, over the four releases together, and which bytes half of them become:
+sys.path.insert(0, str(pathlib.Path(__file__).resolve().parent.parent))
+from first_version import first_version
+
+# How often a byte of the files of each kind is changed, over all releases together, and which bytes half of them become:
 # of the others most are in no text.
 BYTE_CHANGES = 2000
 TEXT_BYTES = b"\n\r\t \",-.0123456789<=>ABC#"
@@ -17,11 +20,11 @@ TEXT_BYTES = b"\n\r\t \",-.0123456789<=>ABC#"
 # After so many seconds a check is said to have no end.
 SECONDS = 30
 
-KEYWORDS = ("fh-proof limit near budget lines keep drop records clean change gift step test contradictory bound bad line "
-            "box given combine fail cover fix claims claim end").split()
+KEYWORDS = ("fh-proof limit near budget lines keep drop table records clean change gift step test contradictory bound bad line "
+            "box given shared combine fail cover fix claims claim end").split()
 
 VALID = re.compile(r"valid records (\d+) released (\d+)\n")
-REJECTED = re.compile(r"fault: proof line (\d+) (Grammar|Head|Drop|Cert|RowText|Claims)\n")
+REJECTED = re.compile(r"fault: proof line (\d+) (Grammar|Head|Drop|Table|Cert|RowText|Claims)\n")
 REFUSED = {3: re.compile(r"fault: rules line \d+ kind \d+ \w+\n"), 4: re.compile(r"fault: records kind \d+ \w+.*\n")}
 
 
@@ -40,10 +43,16 @@ class Release:
         if status not in (0, 1):
             raise Failed(f"{name}: the edit ended with {status}: {printed}")
         self.bytes = {kind: (self.folder / kind).read_bytes() for kind in ("rules", "records", "released", "proof")}
-        self.proof = self.bytes["proof"].decode()
         status, self.valid = self.check("proof", self.bytes["proof"])
         if status != 0:
             raise Failed(f"{name}: status {status} of the files as they were written: {self.valid}")
+
+    def proofs(self):
+        """The proof as the editor writes it, and the same of version 1, each with its version. Both are valid."""
+        written = self.bytes["proof"].decode()
+        for version, proof in ((2, written), (1, first_version(written))):
+            self.judged("proof", proof.encode(), {0})
+            yield version, proof
 
     def write(self, kind, content):
         (self.folder / kind).write_bytes(content)
@@ -127,10 +136,10 @@ def changes(proof):
             yield f"lines {place + 1} and {place + 2}: {line} and {behind[0]} have changed places", before + [behind[0], line] + behind[1:]
 
 
-def change_tokens(release):
-    """Checks the release with each change of its proof; two changes that make the same text count once."""
-    seen, accepted, rejected = {release.proof}, [], 0
-    for what, lines in changes(release.proof):
+def change_tokens(release, version, proof):
+    """Checks the release with each change of its proof of this version; two changes that make the same text count once."""
+    seen, accepted, rejected = {proof}, [], 0
+    for what, lines in changes(proof):
         text = "".join(line + "\n" for line in lines)
         if text in seen:
             continue
@@ -140,7 +149,7 @@ def change_tokens(release):
         else:
             rejected += 1
     count = len(accepted) + rejected
-    print(f"{release.name}: {release.valid.strip()}; {count} changes of the proof, {len(accepted)} valid, {rejected} rejected")
+    print(f"{release.name}, version {version}: {release.valid.strip()}; {count} changes of the proof, {len(accepted)} valid, {rejected} rejected")
     print("".join(f"    {what}\n" for what in accepted), end="", flush=True)
 
 
@@ -168,6 +177,8 @@ def worked(examples):
     yield "sum", b"number A\nnumber B\nA + B = 10\n", b"A,B\n3,4\n"
     yield "household", (examples / "household.rules").read_bytes(), b"Age,Status,Rel\nchild,married,spouse\n"
     yield "contradiction", b"number A\nA >= 5\nA <= 3\n", b"A\n4\n"
+    conditions = b"if B in {x} then A >= 5\nif B in {x} then A <= 3\n"
+    yield "conditions", b"number A\ncode B weight 3 in {x, y}\n" + conditions, b"A,B\n4,x\n6,x\n"
 
 
 def main():
@@ -180,7 +191,8 @@ def main():
                 place.mkdir()
                 releases.append(Release(program, place, name, rules, records))
             for release in releases:
-                change_tokens(release)
+                for version, proof in release.proofs():
+                    change_tokens(release, version, proof)
             for kind in ("rules", "records", "released"):
                 change_bytes(releases, kind, random.Random(seed))
         except Failed as failure:

@@ -14,6 +14,9 @@ import sys
 import tempfile
 import time
 
+sys.path.insert(0, str(pathlib.Path(__file__).resolve().parent.parent))
+from first_version import first_version
+
 MOST_BYTES = 67108864
 MOST_PROOF_BYTES = 536870912
 STATUSES = set(range(10))
@@ -39,7 +42,7 @@ RULES = ["rules", "--rules", "rules"]
 CHECK_EVERY = 4
 
 SUMMARY = re.compile(r"records (\d+) clean (\d+) changed (\d+) unresolved (\d+) weight \d+\nclaims (\d+) given (\d+)\n")
-REJECTED = re.compile(r"fault: proof line (\d+) (Grammar|Head|Drop|Cert|RowText|Claims)\n")
+REJECTED = re.compile(r"fault: proof line (\d+) (Grammar|Head|Drop|Table|Cert|RowText|Claims)\n")
 
 
 def processor_seconds():
@@ -293,7 +296,7 @@ def hard_files(attack, examples, dice):
     attack.end()
 
 
-# A proof of the change of B in the record 3,4,x to the rule A + B = 10.
+# A proof of the change of B in the record 3,4,x to the rule A + B = 10, and the same with a table.
 SUM_PROOF = b"""fh-proof 1
 limit 1 near 5 budget 1000000
 lines 1
@@ -308,31 +311,39 @@ claims 1
 claim 1 0
 end
 """
+TABLE_PROOF = SUM_PROOF.replace(b"fh-proof 1", b"fh-proof 2").replace(b"given 1", b"shared 1").replace(b"keep\n", b"keep\ntable 1\ngiven 1\n")
 
 PROOF_BYTES = b"\n 0129-KCbdx\x00\xff"
-PROOF_WORDS = b"fh-proof limit near lines keep drop records clean change claims end given combine bound line K C - 0 1 2 18446744073709551616 \n \n"
+PROOF_WORDS = b"fh-proof limit near lines keep drop table records clean change claims end given shared combine bound line K C - 0 1 2 18446744073709551616 \n \n"
 
 
 def proofs(attack, examples, dice):
-    """Proof files of the examples that are random, cut off or changed in a byte; and large ones, of one kind of line."""
+    """Proof files of the examples, of both versions, that are random, cut off or changed in a byte; and large ones, of one kind of line."""
     attack.begin("proofs")
     for rules, records in pairs(examples):
         if attack.files(rules, records, ANY) not in RELEASED:
             continue
         proof = (attack.folder / "proof").read_bytes()
-        for _ in range(200):
-            attack.proof(random_proof(dice, proof.splitlines(True)), {0, 9})
-        for length in some(range(len(proof)), dice):
-            attack.proof(proof[:length], {9})
-        for place in some(range(len(proof)), dice):
-            attack.proof(proof[:place] + bytes([dice.choice(PROOF_BYTES)]) + proof[place + 1:], {0, 9})
-        for changed in some(list(with_other_numbers(proof)), dice):
-            attack.proof(changed, {0, 9})
+        for version in (proof, first_version(proof.decode()).encode()):
+            attack.proof(version, {0})
+            small_proofs(attack, version, dice)
     attack.files(b"number A\nnumber B\ncode C in {x, y}\nA + B = 10\n", b"A,B,C\n3,4,x\n", {0})
     for size in (MOST_BYTES // 4, 100 << 20):
         for proof, expected in large_proofs(size):
             attack.proof(proof, expected)
     attack.end()
+
+
+def small_proofs(attack, proof, dice):
+    """What comes of this proof where it is random, cut off, or changed in a byte or a number."""
+    for _ in range(200):
+        attack.proof(random_proof(dice, proof.splitlines(True)), {0, 9})
+    for length in some(range(len(proof)), dice):
+        attack.proof(proof[:length], {9})
+    for place in some(range(len(proof)), dice):
+        attack.proof(proof[:place] + bytes([dice.choice(PROOF_BYTES)]) + proof[place + 1:], {0, 9})
+    for changed in some(list(with_other_numbers(proof)), dice):
+        attack.proof(changed, {0, 9})
 
 
 def with_other_numbers(proof):
@@ -351,15 +362,16 @@ def some(places, dice):
 
 
 def random_proof(dice, lines):
-    """Bytes, or words of the grammar, or lines of a proof behind its first four, in no order."""
+    """Bytes, or words of the grammar, or lines of a proof behind its first four, or behind the count of its records, in no order."""
     count = dice.choice([1, 10, 100, 1000])
+    records = 1 + next(place for place, line in enumerate(lines) if line.startswith(b"records "))
     return dice.choice([lambda: bytes(dice.randrange(256) for _ in range(count)),
                         lambda: b" ".join(dice.choice(PROOF_WORDS.split(b" ")) for _ in range(count)),
-                        lambda: b"".join(lines[:4] + [dice.choice(lines) for _ in range(count)])])()
+                        lambda: b"".join(lines[:dice.choice([4, records])] + [dice.choice(lines) for _ in range(count)])])()
 
 
 def large_proofs(size):
-    """The proof of the sum as it is, and then with many lines of one kind, or a long one, in the place of some of it."""
+    """The proof of the sum as it is, and then with many lines of one kind, or a long one, in the place of some of it; then the same with a table."""
     def many(text):
         return text * (size // len(text))
 
@@ -389,6 +401,21 @@ def large_proofs(size):
     yield with_text(b"lines 1\n", b"lines 4000000000\n"), {9}
     yield with_text(b"claims 1\nclaim 1 0\n", counted(b"claims", many(b"claim 1 0\n"))), {9}
     yield SUM_PROOF + many(b"\n"), {9}
+
+    def with_table(before, text):
+        assert before in TABLE_PROOF
+        return TABLE_PROOF.replace(before, text)
+
+    table = b"table 1\ngiven 1\n"
+    yield TABLE_PROOF, {0}
+    yield with_table(table, counted(b"table", many(given))), {0}
+    yield with_table(table, counted(b"table", given + many(b"combine 1 1 1 1 2\n"))), {0}
+    yield with_table(table, counted(b"table", given + many(b"combine 1 1 1 1 3\n"))), {9}
+    yield with_table(b"line KK 1\nshared 1\n", counted(b"line KK", many(b"shared 1\n"))), {0}
+    yield with_table(b"line KK 1\nshared 1\n", counted(b"box KK", b"shared 1\n" + many(b"fail 1\n"))), {0}
+    yield with_table(b"shared 1\n", b"shared " + many(b"1") + b"\n"), {9}
+    yield with_table(table, b"table 4000000000\ngiven 1\n"), {9}
+    yield with_table(table, b"table " + many(b"1") + b"\ngiven 1\n"), {9}
 
 
 def little_memory(attack, examples, dice):

@@ -46,14 +46,15 @@ fn text_of(alloc: Global, bytes: &[u8]) -> Result<String, Fault>
     }
 }
 
-// How many lines, records and claims there are.
+// How many lines of the rules, steps of the table, records and claims there are.
 fn counts(alloc: Global, proof: &Proof) -> Result<String, Fault>
     ensures { IfOk result (λ text. string_bytes text ≡ counts_text proof.now) }
 {
     let verdicts = proof.verdicts.len();
+    let table = proof.table.len();
     let rows = proof.rows.len();
     let claims = proof.claims.len();
-    Ok(format!(in alloc; "lines {verdicts} records {rows} claims {claims}\n")?)
+    Ok(format!(in alloc; "lines {verdicts} table {table} records {rows} claims {claims}\n")?)
 }
 
 // The line that can't go on.

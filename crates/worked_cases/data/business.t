@@ -162,7 +162,7 @@ Of the 30 lines four follow from others.
   10,changed,Profit,8110,811,,nearest
   10,changed,Full,220,22,,nearest
   $ cat proof
-  fh-proof 1
+  fh-proof 2
   limit 1 near 5 budget 1000000
   lines 30
   drop 10
@@ -231,6 +231,16 @@ Of the 30 lines four follow from others.
   keep
   keep
   keep
+  table 9
+  given 13
+  given 21
+  given 27
+  given 28
+  given 20
+  given 18
+  given 14
+  given 10
+  combine 7 -1 8 1 1
   records 11
   clean
   change 1 KKKCKKKKKKKKKKKK 17
@@ -253,7 +263,7 @@ Of the 30 lines four follow from others.
   bound C
   change 1 KKKKKKKCKKKKKKKK 17
   line KKKKKKKK 1
-  given 13
+  shared 1
   bound KKKKKKKCKKKKKKKK
   bound KKKKKKKCKKKKKKKC
   bound KKKKKKKCKKKKKKC
@@ -272,7 +282,7 @@ Of the 30 lines four follow from others.
   bound C
   change 1 KKKKKKKKKKKKKCKK 17
   box KKKKKKKKKKKKKK 3
-  given 21
+  shared 2
   fail 1
   fix 14 2
   bound KKKKKKKKKKKKKCKK
@@ -293,7 +303,7 @@ Of the 30 lines four follow from others.
   bound C
   change 1 KKKKKKKKKKKKKKKC 17
   box KKKKKKKKKKKKKKKK 4
-  given 27
+  shared 3
   fail 1
   fix 14 2
   fix 16 3
@@ -333,7 +343,7 @@ Of the 30 lines four follow from others.
   bound C
   change 1 KKKKKKKKKKKKKKKC 17
   box KKKKKKKKKKKKKKKK 4
-  given 28
+  shared 4
   fail 1
   fix 13 2
   fix 16 3
@@ -355,7 +365,7 @@ Of the 30 lines four follow from others.
   bound C
   change 1 KKKKKKKKCKKKKKKK 17
   line KKKKKKKKK 1
-  given 20
+  shared 5
   bound KKKKKKKKCKKKKKKK
   bound KKKKKKKKCKKKKKKC
   bound KKKKKKKKCKKKKKC
@@ -374,7 +384,7 @@ Of the 30 lines four follow from others.
   bound C
   change 1 KKKKKKKKKKKCKKKK 17
   line KKKKKKKKKKKK 1
-  given 18
+  shared 6
   bound KKKKKKKKKKKCKKKK
   bound KKKKKKKKKKKCKKKC
   bound KKKKKKKKKKKCKKC
@@ -393,13 +403,11 @@ Of the 30 lines four follow from others.
   bound C
   change 2 KKKKKKKCKCKKKKKK 38
   line KKKKKKKK 1
-  given 13
+  shared 1
   line KKKKKKKCKKK 1
-  given 14
-  line KKKKKKKCKKC 3
-  given 14
-  given 10
-  combine 1 -1 2 1 1
+  shared 7
+  line KKKKKKKCKKC 1
+  shared 9
   bound KKKKKKKCKCKKKKKK
   bound KKKKKKKCKCKKKKKC
   bound KKKKKKKCKCKKKKC
@@ -410,29 +418,29 @@ Of the 30 lines four follow from others.
   bound KKKKKKKCC
   bound KKKKKKC
   line KKKKKCKK 1
-  given 13
+  shared 1
   bound KKKKKCKC
   bound KKKKKCC
   line KKKKCKKK 1
-  given 13
+  shared 1
   bound KKKKCKKC
   bound KKKKCKC
   bound KKKKCC
   line KKKCKKKK 1
-  given 13
+  shared 1
   bound KKKCKKKC
   bound KKKCKKC
   bound KKKCKC
   bound KKKCC
   line KKCKKKKK 1
-  given 13
+  shared 1
   bound KKCKKKKC
   bound KKCKKKC
   bound KKCKKC
   bound KKCKC
   bound KKCC
   line KCKKKKKK 1
-  given 13
+  shared 1
   bound KCKKKKKC
   bound KCKKKKC
   bound KCKKKC

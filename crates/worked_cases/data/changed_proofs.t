@@ -43,14 +43,16 @@ The editor makes these files itself.
   A,B
   3,0
   $ cat proof
-  fh-proof 1
+  fh-proof 2
   limit 1 near 5 budget 1000000
   lines 1
   keep
+  table 1
+  given 1
   records 1
   change 1 KC 3
   line KK 1
-  given 1
+  shared 1
   bound KC
   bound C
   claims 1

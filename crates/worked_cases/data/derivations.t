@@ -135,22 +135,25 @@ Boxes of codes. The household's record: a child who is married and somebody's sp
   records 1 clean 0 changed 1 unresolved 0 weight 1
   claims 1 given 0
   $ cat proof
-  fh-proof 1
+  fh-proof 2
   limit 1 near 5 budget 1000000
   lines 2
   keep
   keep
+  table 2
+  given 1
+  given 2
   records 1
   change 1 CKK 6
   box KK 4
-  given 1
+  shared 1
   fail 1
   fix 1 2
   fix 2 3
   box KCK 7
-  given 2
+  shared 2
   fail 1
-  given 1
+  shared 1
   fail 3
   fix 1 4
   cover 2 2 5
@@ -162,7 +165,41 @@ Boxes of codes. The household's record: a child who is married and somebody's sp
   claims 1
   claim 1 0
   end
-  $ cp proof right.proof
+
+The same in version 1, where each leaf has its steps itself.
+
+  $ cat >right.proof <<EOF
+  > fh-proof 1
+  > limit 1 near 5 budget 1000000
+  > lines 2
+  > keep
+  > keep
+  > records 1
+  > change 1 CKK 6
+  > box KK 4
+  > given 1
+  > fail 1
+  > fix 1 2
+  > fix 2 3
+  > box KCK 7
+  > given 2
+  > fail 1
+  > given 1
+  > fail 3
+  > fix 1 4
+  > cover 2 2 5
+  > fix 3 6
+  > bound KCC
+  > bound CKK
+  > bound CKC
+  > bound CC
+  > claims 1
+  > claim 1 0
+  > end
+  > EOF
+  $ cp right.proof proof
+  $ forxainde check --rules rules --records records --released released --proof proof
+  valid records 1 released 1
 
 Line 19 covers Status with a part for each of its codes: a part that has not the code, the parts in another order, one less,
 a field that is not there, and parts that have nothing in common elsewhere.
@@ -251,16 +288,18 @@ A code and a number: the record is a child with a wage, and the wage changes.
   records 1 clean 0 changed 1 unresolved 0 weight 1
   claims 1 given 0
   $ cat proof
-  fh-proof 1
+  fh-proof 2
   limit 1 near 5 budget 1000000
   lines 3
   keep
   keep
   keep
+  table 1
+  given 2
   records 1
   change 1 CK 4
   box KK 3
-  given 2
+  shared 1
   fail 1
   fix 1 2
   bound KC
@@ -269,7 +308,32 @@ A code and a number: the record is a child with a wage, and the wage changes.
   claims 1
   claim 1 0
   end
-  $ cp proof right.proof
+
+The same in version 1.
+
+  $ cat >right.proof <<EOF
+  > fh-proof 1
+  > limit 1 near 5 budget 1000000
+  > lines 3
+  > keep
+  > keep
+  > keep
+  > records 1
+  > change 1 CK 4
+  > box KK 3
+  > given 2
+  > fail 1
+  > fix 1 2
+  > bound KC
+  > bound CK
+  > bound CC
+  > claims 1
+  > claim 1 0
+  > end
+  > EOF
+  $ cp right.proof proof
+  $ forxainde check --rules rules --records records --released released --proof proof
+  valid records 1 released 1
 
 A line that holds at the record, one in which a field stands that is not kept, and two lines that no code meets.
 

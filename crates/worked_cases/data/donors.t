@@ -29,12 +29,13 @@ given nobody.
   2,changed,B,,4,1,donor
   3,changed,B,,1,,nearest
   $ cat proof
-  fh-proof 1
+  fh-proof 2
   limit 1 near 1 budget 1000000
   lines 3
   keep
   keep
   keep
+  table 0
   records 3
   clean
   change 1 KC 3
@@ -67,12 +68,13 @@ Twice, where the limit is two.
   2,changed,B,,4,1,donor
   3,changed,B,,4,1,donor
   $ cat proof
-  fh-proof 1
+  fh-proof 2
   limit 2 near 1 budget 1000000
   lines 3
   keep
   keep
   keep
+  table 0
   records 3
   clean
   change 1 KC 3
@@ -122,10 +124,11 @@ earlier is first.
   4,changed,B,,20,2,donor
   5,changed,B,,1,,nearest
   $ cat proof
-  fh-proof 1
+  fh-proof 2
   limit 1 near 64 budget 1000000
   lines 1
   keep
+  table 0
   records 5
   clean
   clean
@@ -176,11 +179,12 @@ it is from 0, though 1 is in the next bucket; of the two donors the earlier is g
   record,cause,field,before,after,donor,detail
   3,changed,B,,2,1,donor
   $ cat proof
-  fh-proof 1
+  fh-proof 2
   limit 1 near 1 budget 1000000
   lines 2
   keep
   keep
+  table 0
   records 3
   clean
   clean
@@ -214,11 +218,12 @@ A donor that is far away at the first field is behind, whichever is earlier.
   record,cause,field,before,after,donor,detail
   3,changed,B,,3,1,donor
   $ cat proof
-  fh-proof 1
+  fh-proof 2
   limit 1 near 1 budget 1000000
   lines 2
   keep
   keep
+  table 0
   records 3
   clean
   clean
@@ -281,10 +286,11 @@ far as numbers can be at a field of that weight.
   5,changed,B,,13,3,donor
   6,changed,B,,11,1,donor
   $ cat proof
-  fh-proof 1
+  fh-proof 2
   limit 3 near 2 budget 1000000
   lines 1
   keep
+  table 0
   records 6
   clean
   clean
@@ -380,7 +386,7 @@ and the eighth had harvested more than it can.
   7,changed,Sold,,120,3,nearest
   8,changed,Harvest,900,80,4,donor
   $ cat proof
-  fh-proof 1
+  fh-proof 2
   limit 1 near 3 budget 1000000
   lines 5
   keep
@@ -393,6 +399,8 @@ and the eighth had harvested more than it can.
   keep
   keep
   keep
+  table 1
+  given 3
   records 8
   clean
   clean
@@ -418,7 +426,7 @@ and the eighth had harvested more than it can.
   bound C
   change 1 KCKK 5
   line KK 1
-  given 3
+  shared 1
   bound KCKK
   bound KCKC
   bound KCC
@@ -489,13 +497,14 @@ A record whose giving stops had claimed its donor before, and the next one is gi
   2,overflow,,,,,giving x5 line 1
   3,changed,x5,,0,,default
   $ cat proof
-  fh-proof 1
+  fh-proof 2
   limit 1 near 5 budget 1000000
   lines 4
   keep
   keep
   keep
   keep
+  table 0
   records 3
   clean
   gift 4 KCCCC 5 1 9

@@ -18,7 +18,7 @@ Of two lower bounds the less is dropped: with the other one its negation, line 3
   A
   3
   $ cat proof
-  fh-proof 1
+  fh-proof 2
   limit 1 near 5 budget 1000000
   lines 2
   keep
@@ -26,6 +26,7 @@ Of two lower bounds the less is dropped: with the other one its negation, line 3
   given 1
   given 3
   combine 1 1 2 1 1
+  table 0
   records 1
   clean
   claims 0

@@ -24,14 +24,16 @@ A sum. The work is 4, one for each path up to B's change and none for pairs.
   record,cause,field,before,after,donor,detail
   1,changed,B,4,7,,nearest
   $ cat proof
-  fh-proof 1
+  fh-proof 2
   limit 1 near 5 budget 1000000
   lines 1
   keep
+  table 1
+  given 1
   records 1
   change 1 KC 3
   line KK 1
-  given 1
+  shared 1
   bound KC
   bound C
   claims 1
@@ -55,10 +57,11 @@ A sum. The work is 4, one for each path up to B's change and none for pairs.
   record,cause,field,before,after,donor,detail
   1,budget,,,,,path KC work 3
   $ cat proof
-  fh-proof 1
+  fh-proof 2
   limit 1 near 5 budget 3
   lines 1
   keep
+  table 0
   records 1
   budget KC 3
   claims 0
@@ -87,14 +90,16 @@ A fraction: the value that the equality forces is not rounded.
   record,cause,field,before,after,donor,detail
   1,changed,A,5,7/3,,nearest
   $ cat proof
-  fh-proof 1
+  fh-proof 2
   limit 1 near 5 budget 1000000
   lines 1
   keep
+  table 1
+  given 1
   records 1
   change 1 CK 4
   line KK 1
-  given 1
+  shared 1
   bound KC
   bound CK
   bound CC
@@ -128,23 +133,24 @@ into the second with a factor below 0, which an equality may have.
   1,changed,A,1,7,,nearest
   1,changed,B,1,3,,nearest
   $ cat proof
-  fh-proof 1
+  fh-proof 2
   limit 1 near 5 budget 9
   lines 2
   keep
   keep
-  records 1
-  change 2 CC 4
-  line KK 1
-  given 1
-  line KC 3
+  table 4
   given 1
   given 2
   combine 1 1 2 1 2
-  line CK 3
-  given 1
-  given 2
   combine 1 -1 2 1 2
+  records 1
+  change 2 CC 4
+  line KK 1
+  shared 1
+  line KC 1
+  shared 3
+  line CK 1
+  shared 4
   bound CC
   claims 1
   claim 1 0
@@ -206,16 +212,18 @@ its substitution.
   record,cause,field,before,after,donor,detail
   1,changed,B,4,7,,nearest
   $ cat proof
-  fh-proof 1
+  fh-proof 2
   limit 1 near 5 budget 5
   lines 3
   keep
   keep
   keep
+  table 1
+  given 1
   records 1
   change 1 KC 3
   line KK 1
-  given 1
+  shared 1
   bound KC
   bound C
   claims 1
@@ -283,15 +291,17 @@ An equality that is false, and one that is always true.
   record,cause,field,before,after,donor,detail
   1,contradictory,,,,,
   $ cat proof
-  fh-proof 1
+  fh-proof 2
   limit 1 near 5 budget 1000000
   lines 2
   keep
   keep
+  table 1
+  given 1
   records 1
   contradictory 1
   line - 1
-  given 1
+  shared 1
   claims 0
   end
   $ forxainde check --rules rules --records records --released released --proof proof
@@ -347,19 +357,21 @@ A strict one does not follow from it, and contradicts it. So do two equalities, 
   record,cause,field,before,after,donor,detail
   1,contradictory,,,,,
   $ cat proof
-  fh-proof 1
+  fh-proof 2
   limit 1 near 5 budget 1000000
   lines 2
   keep
   keep
-  records 1
-  contradictory 2
-  line K 1
-  given 1
-  line C 3
+  table 3
   given 1
   given 2
   combine 1 -1 2 1 1
+  records 1
+  contradictory 2
+  line K 1
+  shared 1
+  line C 1
+  shared 3
   claims 0
   end
   $ forxainde check --rules rules --records records --released released --proof proof
@@ -419,7 +431,7 @@ An equality and rules on codes: by it the second rule gives, for the code x, wha
   1,changed,C,1,5,,nearest
   2,changed,C,2,6,,nearest
   $ cat proof
-  fh-proof 1
+  fh-proof 2
   limit 1 near 5 budget 1000000
   lines 3
   keep
@@ -434,30 +446,32 @@ An equality and rules on codes: by it the second rule gives, for the code x, wha
   given 5
   fail 7
   cover 1 6 8
+  table 3
+  given 2
+  given 1
+  combine 2 -1 1 1 1
   records 2
   change 2 CCK 8
   box KKK 3
-  given 2
+  shared 1
   fail 1
   fix 1 2
   bound KKC
   box KCK 3
-  given 2
+  shared 1
   fail 1
   fix 1 2
   bound KCC
-  box CKK 5
-  given 1
-  given 2
-  combine 1 -1 2 1 1
-  fail 3
-  fix 1 4
+  box CKK 3
+  shared 3
+  fail 1
+  fix 1 2
   bound CKC
   bound CCK
   bound CCC
   change 1 KCK 4
   line KK 1
-  given 1
+  shared 2
   bound KCK
   bound KCC
   bound C
@@ -521,7 +535,7 @@ A factor past 128 bits in a substitution: the equality is told first, though its
   record,cause,field,before,after,donor,detail
   1,overflow,,,,,path KCCCC lines 2 1 at x1
   $ cat proof
-  fh-proof 1
+  fh-proof 2
   limit 1 near 5 budget 1000000
   lines 5
   keep
@@ -529,6 +543,7 @@ A factor past 128 bits in a substitution: the equality is told first, though its
   keep
   keep
   keep
+  table 0
   records 1
   step KCCCC 2 1 1
   claims 0

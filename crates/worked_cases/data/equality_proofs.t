@@ -23,37 +23,122 @@ An equality and two inequalities. A + B is 10, A - B is at least 4 and B at leas
   record,cause,field,before,after,donor,detail
   1,contradictory,,,,,
   $ cat proof
-  fh-proof 1
+  fh-proof 2
   limit 1 near 5 budget 1000000
   lines 3
   keep
   keep
   keep
-  records 1
-  contradictory 4
-  line KK 1
-  given 1
-  line KC 3
+  table 6
   given 1
   given 2
   combine 1 1 2 1 2
+  given 3
+  combine 1 -1 2 1 2
+  combine 4 1 5 1 2
+  records 1
+  contradictory 4
+  line KK 1
+  shared 1
+  line KC 1
+  shared 3
   line CK 1
-  given 3
-  line CC 5
-  given 3
-  given 1
-  given 2
-  combine 2 -1 3 1 2
-  combine 1 1 4 1 2
+  shared 4
+  line CC 1
+  shared 6
   claims 0
   end
   $ forxainde check --rules rules --records records --released released --proof proof
   valid records 1 released 0
 
-Line 21 of the proof substitutes the equality, with -1, into the first inequality, which gives that B is at most 3.
-Multiples of both do as well, and so does the inequality if it is named first.
+Line 12 is the fifth step of the table, which substitutes the equality, with -1, into the first inequality. Multiples of both
+do as well, and so does the inequality if it is named first.
 
   $ cp proof right.proof
+  $ cp right.proof proof
+  $ sed -i -e '12c\combine 1 -2 2 2 4' proof
+  $ forxainde check --rules rules --records records --released released --proof proof
+  valid records 1 released 0
+  $ cp right.proof proof
+  $ sed -i -e '12c\combine 1 -2 2 2 1' -e '13c\combine 4 4 5 1 8' proof
+  $ forxainde check --rules rules --records records --released released --proof proof
+  valid records 1 released 0
+  $ cp right.proof proof
+  $ sed -i -e '12c\combine 2 1 1 -1 2' proof
+  $ forxainde check --rules rules --records records --released released --proof proof
+  valid records 1 released 0
+
+A multiplier by which A does not go, after which the next step's divisor does not divide; the multiplier 0, and one by which the
+numbers leave 128 bits; a multiplier below 0 for the inequality; and a step with one that is valid, by which B stays in a leaf.
+
+  $ cp right.proof proof
+  $ sed -i -e '12c\combine 1 1 2 1 2' proof
+  $ forxainde check --rules rules --records records --released released --proof proof
+  fault: proof line 13 Table
+  [9]
+  $ cp right.proof proof
+  $ sed -i -e '12c\combine 1 0 2 1 1' proof
+  $ forxainde check --rules rules --records records --released released --proof proof
+  fault: proof line 12 Table
+  [9]
+  $ cp right.proof proof
+  $ sed -i -e '12c\combine 1 -170141183460469231731687303715884105727 2 1 1' proof
+  $ forxainde check --rules rules --records records --released released --proof proof
+  fault: proof line 12 Table
+  [9]
+  $ cp right.proof proof
+  $ sed -i -e '12c\combine 1 1 2 -1 2' proof
+  $ forxainde check --rules rules --records records --released released --proof proof
+  fault: proof line 12 Table
+  [9]
+  $ cp right.proof proof
+  $ sed -i -e '12c\combine 2 -1 1 1 2' proof
+  $ forxainde check --rules rules --records records --released released --proof proof
+  fault: proof line 12 Table
+  [9]
+  $ cp right.proof proof
+  $ sed -i -e '12c\combine 1 -1 2 -1 2' proof
+  $ forxainde check --rules rules --records records --released released --proof proof
+  fault: proof line 12 Table
+  [9]
+  $ cp right.proof proof
+  $ sed -i -e '10c\combine 1 -1 2 1 2' proof
+  $ forxainde check --rules rules --records records --released released --proof proof
+  fault: proof line 18 Cert
+  [9]
+
+The same in version 1, where each leaf has its steps itself. Line 21 substitutes the equality, with -1, into the first
+inequality, which gives that B is at most 3. Multiples of both do as well, and so does the inequality if it is named first.
+
+  $ cat >right.proof <<EOF
+  > fh-proof 1
+  > limit 1 near 5 budget 1000000
+  > lines 3
+  > keep
+  > keep
+  > keep
+  > records 1
+  > contradictory 4
+  > line KK 1
+  > given 1
+  > line KC 3
+  > given 1
+  > given 2
+  > combine 1 1 2 1 2
+  > line CK 1
+  > given 3
+  > line CC 5
+  > given 3
+  > given 1
+  > given 2
+  > combine 2 -1 3 1 2
+  > combine 1 1 4 1 2
+  > claims 0
+  > end
+  > EOF
+  $ cp right.proof proof
+  $ forxainde check --rules rules --records records --released released --proof proof
+  valid records 1 released 0
   $ cp right.proof proof
   $ sed -i -e '21c\combine 2 -2 3 2 4' proof
   $ forxainde check --rules rules --records records --released released --proof proof
@@ -121,28 +206,57 @@ Two equalities, of which any multiples but by 0 may be added: the sum is an equa
   records 1 clean 0 changed 1 unresolved 0 weight 2
   claims 1 given 0
   $ cat proof
-  fh-proof 1
+  fh-proof 2
   limit 1 near 5 budget 1000000
   lines 2
   keep
   keep
-  records 1
-  change 2 CC 4
-  line KK 1
-  given 1
-  line KC 3
+  table 4
   given 1
   given 2
   combine 1 1 2 1 2
-  line CK 3
-  given 1
-  given 2
   combine 1 -1 2 1 2
+  records 1
+  change 2 CC 4
+  line KK 1
+  shared 1
+  line KC 1
+  shared 3
+  line CK 1
+  shared 4
   bound CC
   claims 1
   claim 1 0
   end
-  $ cp proof right.proof
+
+The same in version 1.
+
+  $ cat >right.proof <<EOF
+  > fh-proof 1
+  > limit 1 near 5 budget 1000000
+  > lines 2
+  > keep
+  > keep
+  > records 1
+  > change 2 CC 4
+  > line KK 1
+  > given 1
+  > line KC 3
+  > given 1
+  > given 2
+  > combine 1 1 2 1 2
+  > line CK 3
+  > given 1
+  > given 2
+  > combine 1 -1 2 1 2
+  > bound CC
+  > claims 1
+  > claim 1 0
+  > end
+  > EOF
+  $ cp right.proof proof
+  $ forxainde check --rules rules --records records --released released --proof proof
+  valid records 1 released 1
   $ cp right.proof proof
   $ sed -i -e '13c\combine 1 -1 2 -1 2' proof
   $ forxainde check --rules rules --records records --released released --proof proof
@@ -255,7 +369,7 @@ An equality that is dropped: the line of the drop is told, whether its steps are
   $ cat reasons
   record,cause,field,before,after,donor,detail
   $ cat proof
-  fh-proof 1
+  fh-proof 2
   limit 1 near 5 budget 1000000
   lines 3
   keep
@@ -264,6 +378,7 @@ An equality that is dropped: the line of the drop is told, whether its steps are
   given 1
   given 4
   combine 1 1 2 1 1
+  table 0
   records 1
   clean
   claims 0
@@ -303,7 +418,7 @@ What follows from an equality may be dropped with a multiplier below 0, and not 
   records 1 clean 1 changed 0 unresolved 0 weight 0
   claims 0 given 0
   $ cat proof
-  fh-proof 1
+  fh-proof 2
   limit 1 near 5 budget 1000000
   lines 2
   keep
@@ -311,6 +426,7 @@ What follows from an equality may be dropped with a multiplier below 0, and not 
   given 1
   given 3
   combine 1 -1 2 1 1
+  table 0
   records 1
   clean
   claims 0

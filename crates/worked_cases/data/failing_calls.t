@@ -78,7 +78,7 @@ The proof is stored first. Where that fails, the other two files are not there.
   fault: write proof
   [6]
   $ cat proof
-  fh-proof 1
+  fh-proof 2
   limit 1 near 5 budget 1000000
   lines 4
   keep
@@ -94,10 +94,12 @@ The proof is stored first. Where that fails, the other two files are not there.
   combine 5 1 8 1 1
   keep
   keep
+  table 1
+  given 3
   records 1
   change 1 KKC 4
   line KKK 1
-  given 3
+  shared 1
   bound KKC
   bound KC
   bound C
@@ -124,7 +126,7 @@ The reasons are stored next, behind a whole proof.
   rules
   $ cat reasons
   $ cat proof
-  fh-proof 1
+  fh-proof 2
   limit 1 near 5 budget 1000000
   lines 4
   keep
@@ -140,10 +142,12 @@ The reasons are stored next, behind a whole proof.
   combine 5 1 8 1 1
   keep
   keep
+  table 1
+  given 3
   records 1
   change 1 KKC 4
   line KKK 1
-  given 3
+  shared 1
   bound KKC
   bound KC
   bound C
@@ -187,7 +191,7 @@ The released file is stored last, behind two whole files.
   rules
   $ cat released
   $ cat proof
-  fh-proof 1
+  fh-proof 2
   limit 1 near 5 budget 1000000
   lines 4
   keep
@@ -203,10 +207,12 @@ The released file is stored last, behind two whole files.
   combine 5 1 8 1 1
   keep
   keep
+  table 1
+  given 3
   records 1
   change 1 KKC 4
   line KKK 1
-  given 3
+  shared 1
   bound KKC
   bound KC
   bound C
@@ -246,7 +252,7 @@ There is no sixth call. Two that fail in one run: the first ends it.
   record,cause,field,before,after,donor,detail
   1,changed,Profit,400,40,,nearest
   $ cat proof
-  fh-proof 1
+  fh-proof 2
   limit 1 near 5 budget 1000000
   lines 4
   keep
@@ -262,10 +268,12 @@ There is no sixth call. Two that fail in one run: the first ends it.
   combine 5 1 8 1 1
   keep
   keep
+  table 1
+  given 3
   records 1
   change 1 KKC 4
   line KKK 1
-  given 3
+  shared 1
   bound KKC
   bound KC
   bound C

@@ -27,7 +27,7 @@ A summary that can't be printed: all three files are whole.
   record,cause,field,before,after,donor,detail
   1,changed,Profit,400,40,,nearest
   $ cat proof
-  fh-proof 1
+  fh-proof 2
   limit 1 near 5 budget 1000000
   lines 4
   keep
@@ -43,10 +43,12 @@ A summary that can't be printed: all three files are whole.
   combine 5 1 8 1 1
   keep
   keep
+  table 1
+  given 3
   records 1
   change 1 KKC 4
   line KKK 1
-  given 3
+  shared 1
   bound KKC
   bound KC
   bound C

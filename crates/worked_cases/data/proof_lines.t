@@ -37,11 +37,6 @@ something else.
 The first line: another version, blanks that are none, a carriage return, a byte order mark, and an empty line.
 
   $ cp right.proof proof
-  $ sed -i -e '1c\fh-proof 2' proof
-  $ forxainde check --rules rules --records records --released released --proof proof
-  fault: proof line 1 Grammar
-  [9]
-  $ cp right.proof proof
   $ sed -i -e '1c\fh-proof 3' proof
   $ forxainde check --rules rules --records records --released released --proof proof
   fault: proof line 1 Grammar
@@ -75,6 +70,14 @@ The first line: another version, blanks that are none, a carriage return, a byte
   $ sed -i -e '1c\' proof
   $ forxainde check --rules rules --records records --released released --proof proof
   fault: proof line 1 Grammar
+  [9]
+
+A proof of version 2 has a table behind the lines of the rules.
+
+  $ cp right.proof proof
+  $ sed -i -e '1c\fh-proof 2' proof
+  $ forxainde check --rules rules --records records --released released --proof proof
+  fault: proof line 5 Grammar
   [9]
 
 The head: numbers of 32 and of 64 bits, without zeros in front and without signs, in this order.

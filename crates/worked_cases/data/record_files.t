@@ -37,10 +37,12 @@ missing value. The clean record gives its number to the next one, and has no mor
   2,changed,A,1e3,15/2,1,donor
   3,changed,A,-4,0,,default
   $ cat proof
-  fh-proof 1
+  fh-proof 2
   limit 1 near 5 budget 1000000
   lines 1
   keep
+  table 1
+  given 1
   records 3
   clean
   change 1 C 2
@@ -48,7 +50,7 @@ missing value. The clean record gives its number to the next one, and has no mor
   bound C
   change 1 C 2
   line K 1
-  given 1
+  shared 1
   bound C
   claims 2
   claim 2 1 1

@@ -40,7 +40,7 @@ A record that meets all rules keeps its bytes, and has no line in the reasons.
   $ cat reasons
   record,cause,field,before,after,donor,detail
   $ cat proof
-  fh-proof 1
+  fh-proof 2
   limit 1 near 5 budget 1000000
   lines 4
   keep
@@ -56,6 +56,7 @@ A record that meets all rules keeps its bytes, and has no line in the reasons.
   combine 5 1 8 1 1
   keep
   keep
+  table 0
   records 1
   clean
   claims 0
@@ -80,7 +81,7 @@ than 60 %.
   record,cause,field,before,after,donor,detail
   1,changed,Profit,400,40,,nearest
   $ cat proof
-  fh-proof 1
+  fh-proof 2
   limit 1 near 5 budget 1000000
   lines 4
   keep
@@ -96,10 +97,12 @@ than 60 %.
   combine 5 1 8 1 1
   keep
   keep
+  table 1
+  given 3
   records 1
   change 1 KKC 4
   line KKK 1
-  given 3
+  shared 1
   bound KKC
   bound KC
   bound C
@@ -144,7 +147,7 @@ Two fields of weight 1, where turnover alone, of weight 2, is impossible.
   1,changed,Costs,30,100,,nearest
   1,changed,Profit,70,0,,default
   $ cat proof
-  fh-proof 1
+  fh-proof 2
   limit 1 near 5 budget 1000000
   lines 4
   keep
@@ -160,16 +163,18 @@ Two fields of weight 1, where turnover alone, of weight 2, is impossible.
   combine 5 1 8 1 1
   keep
   keep
+  table 3
+  given 4
+  given 3
+  combine 2 -5 1 1 1
   records 1
   change 2 KCC 5
   line KKK 1
-  given 4
-  line KKC 3
-  given 3
-  given 4
-  combine 1 -5 2 1 1
+  shared 1
+  line KKC 1
+  shared 3
   line KCK 1
-  given 4
+  shared 1
   bound KCC
   bound C
   claims 1
@@ -195,7 +200,7 @@ Two missing values: both change, and nothing else.
   1,changed,Costs,,100,,nearest
   1,changed,Profit,,0,,default
   $ cat proof
-  fh-proof 1
+  fh-proof 2
   limit 1 near 5 budget 1000000
   lines 4
   keep
@@ -211,6 +216,7 @@ Two missing values: both change, and nothing else.
   combine 5 1 8 1 1
   keep
   keep
+  table 0
   records 1
   change 2 KCC 4
   bad KK
@@ -242,7 +248,7 @@ A donor whose values are not allowed: of the profit 80 only 60 is, and then of t
   2,changed,Costs,,40,1,nearest
   2,changed,Profit,400,60,1,nearest
   $ cat proof
-  fh-proof 1
+  fh-proof 2
   limit 1 near 5 budget 1000000
   lines 4
   keep
@@ -258,12 +264,14 @@ A donor whose values are not allowed: of the profit 80 only 60 is, and then of t
   combine 5 1 8 1 1
   keep
   keep
+  table 1
+  given 4
   records 2
   clean
   change 2 KCC 4
   bad KK
   line KCK 1
-  given 4
+  shared 1
   bound KCC
   bound C
   claims 1

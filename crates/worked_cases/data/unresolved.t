@@ -21,19 +21,21 @@ No number is at least 5 and at most 3. The tree of the proof has two leaves, and
   record,cause,field,before,after,donor,detail
   1,contradictory,,,,,
   $ cat proof
-  fh-proof 1
+  fh-proof 2
   limit 1 near 5 budget 1000000
   lines 2
   keep
   keep
-  records 1
-  contradictory 2
-  line K 1
-  given 1
-  line C 3
+  table 3
   given 1
   given 2
   combine 1 1 2 1 2
+  records 1
+  contradictory 2
+  line K 1
+  shared 1
+  line C 1
+  shared 3
   claims 0
   end
   $ forxainde check --rules rules --records records --released released --proof proof
@@ -61,17 +63,19 @@ A rule that is never true says so of every record, whatever it holds.
   1,contradictory,,,,,
   2,contradictory,,,,,
   $ cat proof
-  fh-proof 1
+  fh-proof 2
   limit 1 near 5 budget 1000000
   lines 1
   keep
+  table 1
+  given 1
   records 2
   contradictory 1
   line - 1
-  given 1
+  shared 1
   contradictory 1
   line - 1
-  given 1
+  shared 1
   claims 0
   end
   $ forxainde check --rules rules --records records --released released --proof proof
@@ -107,7 +111,7 @@ needs 999999999^5.
   record,cause,field,before,after,donor,detail
   1,overflow,,,,,path KCCCC lines 1 2 at x1
   $ cat proof
-  fh-proof 1
+  fh-proof 2
   limit 1 near 5 budget 1000000
   lines 5
   keep
@@ -115,6 +119,7 @@ needs 999999999^5.
   keep
   keep
   keep
+  table 0
   records 1
   step KCCCC 1 2 1
   claims 0
@@ -149,13 +154,14 @@ A constant past 128 bits, where the factors still fit.
   record,cause,field,before,after,donor,detail
   1,overflow,,,,,path KCCC lines 1 2 at constant
   $ cat proof
-  fh-proof 1
+  fh-proof 2
   limit 1 near 5 budget 1000000
   lines 4
   keep
   keep
   keep
   keep
+  table 0
   records 1
   step KCCC 1 2 0
   claims 0
@@ -191,13 +197,14 @@ has claimed before; here nobody is there to be claimed.
   record,cause,field,before,after,donor,detail
   1,overflow,,,,,giving x5 line 1
   $ cat proof
-  fh-proof 1
+  fh-proof 2
   limit 1 near 5 budget 1000000
   lines 4
   keep
   keep
   keep
   keep
+  table 0
   records 1
   gift 4 KCCCC 5 1 9
   bad KK
@@ -238,10 +245,11 @@ the three numbers has a numerator of 140 bits.
   record,cause,field,before,after,donor,detail
   1,overflow,,,,,path KKK line 1 at C
   $ cat proof
-  fh-proof 1
+  fh-proof 2
   limit 1 near 5 budget 1000000
   lines 1
   keep
+  table 0
   records 1
   test KKK 1 3
   claims 0
@@ -275,10 +283,11 @@ change, but its final test leaves 128 bits. It is no donor, and claims none.
   1,overflow,,,,,giving rule 1
   2,changed,C,,0,,default
   $ cat proof
-  fh-proof 1
+  fh-proof 2
   limit 1 near 5 budget 1000000
   lines 1
   keep
+  table 0
   records 2
   gift 0 KKK 0 1 1
   bound -

@@ -19,10 +19,11 @@ The options stand in any order, with numbers at their limits and with zeros in f
   claims 0 given 0
   [1]
   $ cat proof
-  fh-proof 1
+  fh-proof 2
   limit 7 near 1 budget 2
   lines 1
   keep
+  table 0
   records 1
   budget C 2
   claims 0

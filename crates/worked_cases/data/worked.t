@@ -23,15 +23,17 @@ an equality, as two inequalities, is two lines, and takes one pair more than the
   record,cause,field,before,after,donor,detail
   1,changed,B,4,7,,nearest
   $ cat proof
-  fh-proof 1
+  fh-proof 2
   limit 1 near 5 budget 5
   lines 2
   keep
   keep
+  table 1
+  given 1
   records 1
   change 1 KC 3
   line KK 1
-  given 1
+  shared 1
   bound KC
   bound C
   claims 1
@@ -49,11 +51,12 @@ an equality, as two inequalities, is two lines, and takes one pair more than the
   record,cause,field,before,after,donor,detail
   1,budget,,,,,path KC work 3
   $ cat proof
-  fh-proof 1
+  fh-proof 2
   limit 1 near 5 budget 4
   lines 2
   keep
   keep
+  table 0
   records 1
   budget KC 3
   claims 0
@@ -85,22 +88,25 @@ record, which only both rules together show. The work is 11.
   record,cause,field,before,after,donor,detail
   1,changed,Age,child,adult,,nearest
   $ cat proof
-  fh-proof 1
+  fh-proof 2
   limit 1 near 5 budget 1000000
   lines 2
   keep
   keep
+  table 2
+  given 1
+  given 2
   records 1
   change 1 CKK 6
   box KK 4
-  given 1
+  shared 1
   fail 1
   fix 1 2
   fix 2 3
   box KCK 7
-  given 2
+  shared 2
   fail 1
-  given 1
+  shared 1
   fail 3
   fix 1 4
   cover 2 2 5
@@ -151,11 +157,12 @@ The middle of an open interval.
   record,cause,field,before,after,donor,detail
   1,changed,A,,1/2,,nearest
   $ cat proof
-  fh-proof 1
+  fh-proof 2
   limit 1 near 5 budget 1000000
   lines 2
   keep
   keep
+  table 0
   records 1
   change 1 C 2
   bad K
@@ -182,10 +189,11 @@ An open interval without an upper end: one further in.
   record,cause,field,before,after,donor,detail
   1,changed,A,,1,,nearest
   $ cat proof
-  fh-proof 1
+  fh-proof 2
   limit 1 near 5 budget 1000000
   lines 1
   keep
+  table 0
   records 1
   change 1 C 2
   bad K
@@ -254,15 +262,17 @@ A rule of a code and a number, of which the code is lighter: an adult may have a
   record,cause,field,before,after,donor,detail
   1,changed,Status,child,adult,,nearest
   $ cat proof
-  fh-proof 1
+  fh-proof 2
   limit 1 near 5 budget 1000000
   lines 2
   keep
   keep
+  table 1
+  given 2
   records 1
   change 1 KC 3
   box KK 3
-  given 2
+  shared 1
   fail 1
   fix 1 2
   bound KC
@@ -290,15 +300,17 @@ And of which the number is: the child has none.
   record,cause,field,before,after,donor,detail
   1,changed,Wage,50,0,,default
   $ cat proof
-  fh-proof 1
+  fh-proof 2
   limit 1 near 5 budget 1000000
   lines 2
   keep
   keep
+  table 1
+  given 2
   records 1
   change 1 CK 4
   box KK 3
-  given 2
+  shared 1
   fail 1
   fix 1 2
   bound KC
@@ -408,10 +420,12 @@ Codes that are missing, unknown or not allowed. Without a donor the first one th
   3,changed,B,x,y,,nearest
   4,changed,B,Y,y,,nearest
   $ cat proof
-  fh-proof 1
+  fh-proof 2
   limit 1 near 5 budget 1000000
   lines 1
   keep
+  table 1
+  given 1
   records 5
   change 1 C 2
   bad K
@@ -421,7 +435,7 @@ Codes that are missing, unknown or not allowed. Without a donor the first one th
   bound C
   change 1 C 2
   box K 3
-  given 1
+  shared 1
   fail 1
   fix 1 2
   bound C
@@ -456,11 +470,12 @@ No records.
   $ cat reasons
   record,cause,field,before,after,donor,detail
   $ cat proof
-  fh-proof 1
+  fh-proof 2
   limit 1 near 5 budget 1000000
   lines 2
   keep
   keep
+  table 0
   records 0
   claims 0
   end

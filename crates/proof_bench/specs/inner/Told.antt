@@ -7,11 +7,11 @@ use Rattle.proof_grammar.specs.declared.proof.Proof.{Proof}
 
 -- What the program tells of the bytes of a file. Private contracts alone cite this page.
 
--- how many lines of the rules, records and claims a proof has
+-- how many lines of the rules, steps of its table, records and claims a proof has
 abbrev pub counts_text : Proof → List ℕ
 counts_text p =
-    codes "lines " ++ decimal (length p.verdicts) ++ codes " records " ++ decimal (length p.rows) ++ codes " claims "
-    ++ decimal (length p.claims) ++ codes "\n"
+    codes "lines " ++ decimal (length p.verdicts) ++ codes " table " ++ decimal (length p.table) ++ codes " records "
+    ++ decimal (length p.rows) ++ codes " claims " ++ decimal (length p.claims) ++ codes "\n"
 
 -- the line that can't go on
 abbrev pub fault_text : ℕ → List ℕ
