@@ -15,7 +15,7 @@ use Rattle.bound_cert.specs.declared.outcome.Outcome.{Outcome}
 use Rattle.bound_cert.specs.declared.outcome.Outcome.TheVariants.{Budget, Change, Contradictory, Overflow}
 use Rattle.bound_cert.specs.declared.outcome.RowProof.{RowProof}
 use Rattle.donor_book.specs.Claims.{claim_of}
-use Rattle.donor_book.specs.Entries.{won_of, wins_of}
+use Rattle.donor_book.specs.Entries.{wins_of}
 use Rattle.donor_book.specs.declared.claim.Entry.{Entry}
 use Rattle.donor_book.specs.declared.claim.Won.{Won}
 use Rattle.donor_book.proofs.IndexLaws.{no_row}

@@ -1,6 +1,5 @@
 -- The values of a record that was given values: their texts stand for them, and where the record is changed they are others.
 use Rattle.std.proofs.Common.{◌≡◌, ◌≢◌, ◌∙◌, sym, ap, refl, ℕ, zero, suc, ◌+◌, ◌<◌, ◌≤◌, ◌==◌, ◌||◌, ◌⊎◌, inl, inr, not, Bool, true, false, if◌then◌else◌, List, [], ◌∷◌, length, map, get_or, slice_get, All, Some, subst, ℤ, pos, ◌*ℤ◌, ◌<ℤ◌, arith}
-use Rattle.std.specs.List.{list_any}
 use Rattle.std.specs.Str.{bytes_eq}
 use Rattle.std.proofs.lemmas.Bool.{cases_lt, ne_eqb}
 use Rattle.std.proofs.lemmas.Bool.Decides.{Decides-int_eq}
@@ -13,13 +12,11 @@ use Rattle.edit_model.specs.Corrections.{change_weight, differs_from, path_order
 use Rattle.edit_model.specs.FieldSets.{has_field}
 use Rattle.edit_model.specs.Parts.{SurveyParts, survey_of}
 use Rattle.edit_model.specs.Points.{Point}
-use Rattle.edit_model.specs.Rows.{IsOfKind, IsRow, is_bad, value_of}
+use Rattle.edit_model.specs.Rows.{IsOfKind, IsRow, value_of}
 use Rattle.edit_model.specs.Surveys.{IsField, IsKind}
-use Rattle.edit_model.specs.Trials.{rule_at}
 use Rattle.edit_model.specs.declared.field.Field.{Field}
 use Rattle.edit_model.specs.declared.field.Kind.{Kind}
 use Rattle.edit_model.specs.declared.field.Kind.TheVariants as kind
-use Rattle.edit_model.specs.declared.rule.Rule.{Rule}
 use Rattle.edit_model.specs.declared.value.Value.{Value}
 use Rattle.edit_model.specs.declared.value.Value.TheVariants.{Bad, Code, Number}
 use Rattle.edit_model.proofs.NameLemmas.{false_unless}

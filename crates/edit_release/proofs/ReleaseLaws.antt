@@ -22,6 +22,7 @@ use Rattle.record_text.proofs.ValueLaws.{values_are_row}
 use Rattle.proof_grammar.specs.Limits.{IsPlain}
 use Rattle.proof_grammar.specs.ProofLines.{proof_text}
 use Rattle.proof_grammar.specs.declared.proof.Proof.{Proof}
+use Rattle.proof_text.specs.SharedProofs.{shared_proof}
 use Rattle.proof_text.specs.Sizes.{IsCoherent, IsCoherentRow, IsSized}
 use Rattle.proof_text.proofs.SharedCoherence.{coherent-shared}
 use Rattle.proof_text.proofs.SizeLaws.{plain-if}
@@ -35,9 +36,10 @@ use Rattle.record_workers.specs.Said.{Says}
 use Rattle.cert_check.specs.Releases.{Audit, IsValidRelease, audit_of, head_fault, is_released, limits_fit}
 use Rattle.cert_check.specs.RowChecks.{AreReleasedTexts, RowFiles, RowRules}
 use Rattle.cert_check.proofs.SharedReleaseLaws.{own_rules, stays-valid}
+use Rattle.redundancy.specs.declared.verdict.Verdict.{Verdict}
 use Rattle.pruned_rules.specs.Pruned.{kept_edits, rule_flags, rule_verdicts}
 use Rattle.pruned_rules.proofs.KeptLaws.{rules-follow}
-use Rattle.edit_release.specs.Edits.{proof_of, said, written_proof}
+use Rattle.edit_release.specs.Edits.{proof_of, proof_telling, said, written_proof}
 use Rattle.edit_release.specs.Guarantee.{HasTree, IsGuaranteed, NamesStop}
 use Rattle.edit_release.specs.Releases.{AllGiven, HasGuarantee, IsReleaseOf, written_in}
 use Rattle.edit_release.specs.declared.release.Release.{Release}
@@ -124,6 +126,14 @@ released-told r f (Change path weight cert) (Some stop) gift told released = tt
 released-told r f (Budget path work) stop gift told released = tt
 released-told r f (Overflow path event) stop gift told released = tt
 released-told r f (Contradictory cert) stop gift told released = tt
+
+-- ---- the proof that is written
+
+-- its lines are shared after it was made of the verdicts, the terms, the ends and the claims
+pub told-written : (survey : SurveyParts) (terms : Terms) (ends : List RowEnd) (history : List Entry) (verdicts : List Verdict) (own told : Proof)
+    → verdicts ≡ rule_verdicts survey → own ≡ proof_telling verdicts terms ends history → told ≡ shared_proof own → told ≡ written_proof survey terms ends history
+told-written survey terms ends history verdicts own told are telling shared =
+    shared ∙ ap shared_proof telling ∙ ap (λ (vs : List Verdict). shared_proof (proof_telling vs terms ends history)) are
 
 -- ---- the release
 

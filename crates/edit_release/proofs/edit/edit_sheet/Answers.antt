@@ -1,4 +1,4 @@
-use Rattle.std.proofs.Common.{◌≡◌, ◌∙◌, ap, subst, List, IsTrue, ◌↔◌}
+use Rattle.std.proofs.Common.{◌∙◌, ap, subst, List, IsTrue, ◌↔◌}
 use Rattle.std.specs.List.{AllZip}
 use Rattle.edit_line.specs.EditSets.{EditsParts}
 use Rattle.record_text.proofs.SheetLaws.{rows_are_records}
@@ -9,12 +9,9 @@ use Rattle.donor_book.specs.declared.claim.Entry.{Entry}
 use Rattle.edit_report.specs.declared.end.RowEnd.{RowEnd}
 use Rattle.record_workers.specs.Ends.{IsEndOf}
 use Rattle.record_workers.specs.Said.{Says}
-use Rattle.redundancy.specs.declared.verdict.Verdict.{Verdict}
-use Rattle.proof_text.specs.SharedProofs.{shared_proof}
-use Rattle.edit_release.specs.Edits.{proof_telling}
 use Rattle.edit_release.specs.Releases.{AllGiven}
 use Rattle.edit_release.specs.declared.release.Release.{Release}
-use Rattle.edit_release.proofs.ReleaseLaws.{guarantee-of, release-of}
+use Rattle.edit_release.proofs.ReleaseLaws.{guarantee-of, release-of, told-written}
 use Rattle.edit_release.proofs.TextLaws.{each-tellable, ends-tellable}
 use Rattle.edit_release.proofs.edit.edit_sheet.Goals as goal
 
@@ -40,8 +37,7 @@ returns g c =
     let release : Release = record { proof = c.in_ok-proof.proof; reasons = c.in_ok-reasons.reasons; released = c.in_ok-released.released; summary = c.in_ok-summary.summary; whole = c.are_given-whole.result } in
     let each = subst (λ (edits : EditsParts). AllZip (IsEndOf survey edits terms.budget sheet.rows) sheet.rows ends) c.in_ok-edits.ensures.edits c.in_ok-edited.ensures.ends in
     let say = subst (λ (edits : EditsParts). AllZip (Says survey edits terms.budget) sheet.rows ends) c.in_ok-edits.ensures.edits c.in_ok-edited.ensures.say in
-    let telling = c.in_ok-proof_of.ensures ∙ ap (λ (verdicts : List Verdict). proof_telling verdicts terms ends history) c.in_ok-pruned.ensures.verdicts in
-    let same = c.in_ok-told.ensures.shared ∙ ap shared_proof telling in
+    let same = told-written survey terms ends history c.in_ok-pruned.pruned.verdicts.items c.in_ok-proof_of.field-0 c.in_ok-told.told c.in_ok-pruned.ensures.verdicts c.in_ok-proof_of.ensures c.in_ok-told.ensures.shared in
     let released = c.in_ok-released.ensures ∙ ap (λ (es : List RowEnd). released_text_of survey sheet es) c.as_slice-ends.ensures.value in
     record {
       guaranteed = guarantee-of survey sheet c.requires.read.0 terms ends history c.fields-fields.ensures.well_formed c.requires.read.1 c.requires.terms each say c.in_ok-edited.ensures.donations
