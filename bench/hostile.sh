@@ -9,7 +9,7 @@
 # be as they were. Where the rules of a file say which status is right, it has to be that one. What an edit wrote is checked,
 # and has to be valid, with as many records as it counted: after each edit, and of the random, cut and changed files
 # after each fourth that released something. The group `proofs` has rules, records and released files that are right,
-# and proofs that are not. A line for each group of cases counts the runs and how many of them were checks,
+# and proofs of both versions that are not. A line for each group of cases counts the runs and how many of them were checks,
 # and names the slowest; the first failure is printed with its files, and ends the script with status 1.
 set -eu
 top=$(cd "$(dirname "$0")/.." && pwd)

@@ -406,11 +406,15 @@ def large_proofs(size):
         assert before in TABLE_PROOF
         return TABLE_PROOF.replace(before, text)
 
+    def fewer(text):
+        """A quarter as many, since the line of each step of a table is kept: some 300 bytes, and 16 more for each number field."""
+        return text * (size // 4 // len(text))
+
     table = b"table 1\ngiven 1\n"
     yield TABLE_PROOF, {0}
-    yield with_table(table, counted(b"table", many(given))), {0}
-    yield with_table(table, counted(b"table", given + many(b"combine 1 1 1 1 2\n"))), {0}
-    yield with_table(table, counted(b"table", given + many(b"combine 1 1 1 1 3\n"))), {9}
+    yield with_table(table, counted(b"table", fewer(given))), {0}
+    yield with_table(table, counted(b"table", given + fewer(b"combine 1 1 1 1 2\n"))), {0}
+    yield with_table(table, counted(b"table", given + fewer(b"combine 1 1 1 1 3\n"))), {9}
     yield with_table(b"line KK 1\nshared 1\n", counted(b"line KK", many(b"shared 1\n"))), {0}
     yield with_table(b"line KK 1\nshared 1\n", counted(b"box KK", b"shared 1\n" + many(b"fail 1\n"))), {0}
     yield with_table(b"shared 1\n", b"shared " + many(b"1") + b"\n"), {9}
