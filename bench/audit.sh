@@ -20,7 +20,7 @@
 # proof there were, no two of them to the same text, and how many of these are valid, and how many rejected. Under it
 # stands each that is valid, for a reader to judge: it has to be a proof of the same release. So it may name other limits,
 # since no donor was given and no search broken off; another line that fails at the record too, or the same as `given` and
-# not as `shared`; steps in another order; or a combination that is divided by less. Then there is a line for each other
+# not as `shared`; steps or claims in another order; or a combination that is divided by less. Then there is a line for each other
 # kind of file, with the statuses, and how often each came. There 0 comes where the byte is in a comment, or changes a
 # rule, a weight or a number of which the release says nothing.
 set -eu
