@@ -1,5 +1,5 @@
 //! Boxes of a record, and what is left of them: of a code of a field, or without a field.
-ghost use Rattle.std.specs.Prelude.{◌≡◌, ◌<◌, All, IfOk, true};
+ghost use Rattle.std.specs.Prelude.{◌≡◌, ◌<◌, All, IfOk, IfSome, true};
 ghost use Rattle.edit_line.specs.CodeFields.{size_of};
 ghost use Rattle.edit_line.specs.Domains.{domains};
 ghost use Rattle.edit_line.specs.Shapes.{shape_of};
@@ -21,13 +21,12 @@ use edit_normal::normal_lines;
 use foundation::{OutOfMemory, Sequence};
 use std::alloc::Global;
 
-/// Boxes, whether it is known that they lie apart, and how many pairs the last elimination looked at.
+// Boxes, whether it is known that they lie apart, and how many pairs the last elimination looked at.
 #[derive(Drop)]
 struct Boxes {
     list: Vec<BoxFrom>,
     are_apart: bool,
     pairs: Option<u64>,
-    ghost lie: { are_apart ≡ true → LieApart list.items },
 }
 
 /// The boxes of the lines that fail at a record, after the changes that the words ask for, three each: `fix FIELD CODE`,
@@ -91,13 +90,15 @@ fn changed_told(
     survey: &Survey,
     first: Boxes,
     words: &[&str],
-) -> Result<Texts, CallFault> {
+) -> Result<Texts, CallFault>
+    requires { first.are_apart ≡ true → LieApart first.list.items }
+{
     let mut boxes = first;
     for change in words.chunks(3) {
-        match changed(alloc, survey, &boxes, change)? {
-            Some(next) => boxes = next,
-            None => return alone(alloc, b"passed".to_vec(alloc)?),
-        }
+        let Some(next) = changed(alloc, survey, &boxes, change)? else {
+            return alone(alloc, b"passed".to_vec(alloc)?);
+        };
+        boxes = next;
     }
     told(alloc, survey, &boxes)
 }
@@ -108,7 +109,10 @@ fn changed(
     survey: &Survey,
     boxes: &Boxes,
     words: &[&str],
-) -> Result<Option<Boxes>, CallFault> {
+) -> Result<Option<Boxes>, CallFault>
+    requires { boxes.now.are_apart ≡ true → LieApart boxes.now.list.items }
+    ensures { IfOk result (λ next. IfSome next (λ b. b.are_apart ≡ true → LieApart b.list.items)) }
+{
     match words {
         ["fix", field, code] => fixed(alloc, survey, boxes, field_of(survey, field)?, code),
         ["cover", field, most] => {
@@ -131,7 +135,9 @@ fn picked(
     boxes: &Boxes,
     first: usize,
     second: usize,
-) -> Result<Option<Boxes>, CallFault> {
+) -> Result<Option<Boxes>, CallFault>
+    ensures { IfOk result (λ next. IfSome next (λ b. b.are_apart ≡ true → LieApart b.list.items)) }
+{
     let (Some(first), Some(second)) = (boxes.list.get(first), boxes.list.get(second)) else {
         return Err(CallFault::Number);
     };
@@ -152,7 +158,10 @@ fn fixed(
     boxes: &Boxes,
     field: u32,
     name: &str,
-) -> Result<Option<Boxes>, CallFault> {
+) -> Result<Option<Boxes>, CallFault>
+    requires { boxes.now.are_apart ≡ true → LieApart boxes.now.list.items }
+    ensures { IfOk result (λ next. IfSome next (λ b. b.are_apart ≡ true → LieApart b.list.items)) }
+{
     let shape = Shape::of(survey);
     let Some(declared) = survey.fields().get(field as usize) else {
         return Err(CallFault::Field);
@@ -170,7 +179,8 @@ fn fixed(
 
 // What a code leaves of boxes over fields that have it.
 fn left(alloc: Global, boxes: &Boxes, field: u32, code: u8) -> Result<Vec<BoxFrom>, OutOfMemory>
-    requires { HaveCode boxes.now.list.items field code }
+    requires code { HaveCode boxes.now.list.items field code }
+    requires apart { boxes.now.are_apart ≡ true → LieApart boxes.now.list.items }
     ensures { IfOk result (λ left. LieApart left.items) }
 {
     if boxes.are_apart {
@@ -187,7 +197,10 @@ fn covered(
     boxes: &Boxes,
     field: u32,
     most: u64,
-) -> Result<Option<Boxes>, CallFault> {
+) -> Result<Option<Boxes>, CallFault>
+    requires { boxes.now.are_apart ≡ true → LieApart boxes.now.list.items }
+    ensures { IfOk result (λ next. IfSome next (λ b. b.are_apart ≡ true → LieApart b.list.items)) }
+{
     let shape = Shape::of(survey);
     if !has_code(&shape, field, 0) || !are_over(shape, &boxes.list) {
         return Err(CallFault::Field);
@@ -204,7 +217,8 @@ fn covered(
 
 // What the elimination of a field from boxes over it gives.
 fn without(alloc: Global, boxes: &Boxes, field: u32, most: u64) -> Result<Covered, OutOfMemory>
-    requires { HaveCodeField boxes.now.list.items field }
+    requires field { HaveCodeField boxes.now.list.items field }
+    requires apart { boxes.now.are_apart ≡ true → LieApart boxes.now.list.items }
 {
     if boxes.are_apart {
         step_apart(alloc, &boxes.list, field, most)

@@ -73,15 +73,26 @@ pub fn path_of(alloc: Global, text: &str) -> Result<Path, CallFault> {
 fn all_but(alloc: Global, count: usize, without: &[&str]) -> Result<Vec<bool>, CallFault>
     ensures { IfOk result (λ usable. length usable.items ≡ count) }
 {
-    let mut places = Vec::new(alloc);
-    for number in without {
-        places.push(place_in(number)?)?;
-    }
+    let places = places_of(alloc, without)?;
     let mut usable = Vec::new(alloc);
     for i in 0..count {
-        usable.push(!places.contains(&i))?;
+        usable.push(!has(&places, i))?;
     }
     Ok(usable)
+}
+
+// The places that these numbers name.
+fn places_of(alloc: Global, numbers: &[&str]) -> Result<Vec<usize>, CallFault> {
+    let mut places = Vec::new(alloc);
+    for number in numbers {
+        places.push(place_in(number)?)?;
+    }
+    Ok(places)
+}
+
+// Whether the place is one of these.
+fn has(places: &[usize], place: usize) -> bool {
+    places.contains(&place)
 }
 
 /// What the checker says of the tree of a file, as what it is told to show of a record.

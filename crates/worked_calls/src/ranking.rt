@@ -105,12 +105,23 @@ fn nearest<L: Ledger>(
         measured.set(measured.get().wrapping_add(1));
         field_distance(survey, field, first, second)
     });
-    if row_no >= sheet.len() || path.letters().len() > survey.fields().len() {
+    if row_no >= sheet.len() {
         return Err(CallFault::Number);
     }
+    if path.letters().len() > survey.fields().len() {
+        return Err(CallFault::Path);
+    }
     let row = sheet.row(row_no);
-    let kept = path.kept_set(survey, row);
-    let donors = ranking(alloc, &deck, sheet, &measure, row, kept, near, &mut steps)?;
+    let donors = ranking(
+        alloc,
+        &deck,
+        sheet,
+        &measure,
+        row,
+        path.kept_set(survey, row),
+        near,
+        &mut steps,
+    )?;
     Ok(Found {
         donors,
         measured: measured.get(),
