@@ -60,12 +60,16 @@ pub record IsGuaranteed (survey : SurveyParts) (sheet : SheetParts) (terms : Ter
 abbrev pub table_premises : SurveyParts → Proof → Premises
 table_premises survey told = no_record survey (normal_lines_of survey) (kept_flags told)
 
+-- over the lines of the rules, of which those that the proof keeps may be used, and the lines of its table, which all may be, what
+-- the proof says of a record has its tree
+abbrev pub HasTreeIn : SurveyParts → Proof → List LineParts → List Value → RowProof → Type 0
+HasTreeIn survey told shared row said =
+    HasTree survey (normal_lines_of survey ++ shared) (kept_flags told ++ map (λ line. true) shared) row said.outcome
+
 -- each step of the table is valid and gives a line, which follows from the lines of the rules that are kept; and over these and the
 -- lines of the table, what the proof says of each record has its tree
 pub record HasTrees (survey : SurveyParts) (rows : List (List Value)) (told : Proof) : Type 0 where
   pub shared : List LineParts
   pub table : AreLinesOf (table_premises survey told) told.table shared
   pub follow : AllFollowFrom (table_premises survey told) shared
-  pub each : AllZip
-      (λ row (said : RowProof). HasTree survey (normal_lines_of survey ++ shared) (kept_flags told ++ map (λ line. true) shared) row said.outcome)
-      rows told.rows
+  pub each : AllZip (HasTreeIn survey told shared) rows told.rows
