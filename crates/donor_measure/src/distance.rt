@@ -4,7 +4,7 @@ ghost use Rattle.donor_measure.specs.Distances.{bucket_gap, field_distance, thou
 ghost use Rattle.donor_measure.specs.Measures.{IsMeasurable};
 ghost use Rattle.donor_measure.specs.Yardsticks.{IsScale, IsYardstick, yardstick_at, yardsticks_of};
 
-use crate::yardstick::Yardstick;
+use crate::yardstick::{Yardstick, Yardsticks};
 use edit_model::{Survey, Value};
 use fraction128::Fraction;
 
@@ -23,6 +23,20 @@ pub fn field_distance(survey: &Survey, field: u32, first: &Value, second: &Value
     ensures gap { bucket_gap (yardstick_at (yardsticks_of survey.now.fields) field) first.now second.now ≤ result }
 {
     distance_by(yardstick(survey, field), first, second)
+}
+
+impl Yardsticks {
+    /// The distance of two values of a field of the survey that these yardsticks are of, as [`field_distance`] has it. No
+    /// memory.
+    pub fn distance(&self, field: u32, first: &Value, second: &Value) -> u64
+        requires field { field < length self.now }
+        requires first { IsMeasurable (yardstick_at self.now field).scale first.now }
+        requires second { IsMeasurable (yardstick_at self.now field).scale second.now }
+        ensures distance { result ≡ field_distance (yardstick_at self.now field) first.now second.now }
+        ensures gap { bucket_gap (yardstick_at self.now field) first.now second.now ≤ result }
+    {
+        distance_by(self.at(field), first, second)
+    }
 }
 
 // The yardstick of the field.

@@ -56,8 +56,9 @@ impl Sheet {
         }
     }
 
-    /// How many rows there are. No memory.
+    /// How many rows there are, at most 200,000. No memory.
     pub fn len(&self) -> u32
+        ensures few { result ≤ 200000 }
         ensures rows { result ≡ length self.now.rows }
         ensures row_texts { result ≡ length self.now.row_texts }
     {
