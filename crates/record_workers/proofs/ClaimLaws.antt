@@ -1,4 +1,4 @@
-use Rattle.std.proofs.Common.{◌≡◌, ◌++◌, ◌<◌, ℕ, not, Bool, true, false, List, [], ◌∷◌, All, Option, None, Some, IfSome, cond, get_or, length, map, refl, sym, ap, ◌∙◌, subst, arith}
+use Rattle.std.proofs.Common.{◌≡◌, ◌<◌, ℕ, not, Bool, true, false, List, [], ◌∷◌, All, Option, None, Some, IfSome, cond, get_or, length, map, refl, sym, ap, ◌∙◌, subst, arith}
 use Rattle.std.specs.Borrow.{Bor}
 use Rattle.std.specs.Fn.{Shared}
 use Rattle.std.specs.List.{find}
@@ -22,20 +22,19 @@ use Rattle.edit_paths.proofs.ChoiceLaws.{found-from, word-at}
 use Rattle.edit_paths.proofs.FieldPlaces.{place-of}
 use Rattle.edit_paths.proofs.KeptLines.{kept-number}
 use Rattle.back_subst.specs.Gifts.{path_of}
-use Rattle.donor_book.specs.Claims.{answer_to, claim_of, first_free, given, had_or}
-use Rattle.donor_book.specs.Entries.{entry_of, history_after, wins_of}
-use Rattle.donor_book.specs.declared.claim.Claim.{Claim}
-use Rattle.donor_book.specs.declared.claim.Entry.{Entry}
-use Rattle.donor_book.specs.declared.claim.Won.{Won}
 use Rattle.donor_measure.specs.Yardsticks.{yardsticks_of}
 use Rattle.donor_search.specs.CleanRows.{IsCleanRow, donors_of, row_at}
 use Rattle.donor_search.specs.Rankings.{ranking_of}
 use Rattle.donor_search.proofs.RankedLaws.{ranking-donors}
-use Rattle.record_workers.specs.declared.editing.Editing.{Editing}
-use Rattle.record_workers.specs.inner.Donors.{donor_answered}
-use Rattle.record_workers.specs.inner.Editings.{IsEditing, rows_in}
+use Rattle.bound_cert.specs.Claims.{claims_donor}
+use Rattle.edit_report.specs.Ends.{path_found}
+use Rattle.record_workers.specs.Needs.{IsRankingFor, Ranks}
+use Rattle.record_workers.specs.Rests.{IsPieceIn, IsRest, rows_in}
+use Rattle.record_workers.specs.declared.piece.Piece.{Piece}
+use Rattle.record_workers.specs.declared.rest.Rest.{Rest}
+use Rattle.record_workers.specs.inner.Searches.{RanksDonors}
 
--- The fields that a path keeps, the ranking for them, and what a first claim is answered.
+-- The fields that a path keeps, and the ranking for them.
 
 module _ (c : SearchCase) where
   -- the path of a change is open
@@ -67,40 +66,15 @@ module _ (c : SearchCase) where
 
 -- ---- the ranking
 
-module _ {F : Type 0} (calls : Shared F (ℕ × (Bor Value × (Bor Value × Unit {0}))) ℕ) (e : Editing F) (editing : IsEditing calls e) (row_no : ℕ) (row : List Value) (kept : ℕ) (ranking : List ℕ)
-    (there : row ≡ row_at (rows_in e) row_no) (is : ranking ≡ ranking_of e.measure.now.yardsticks (rows_in e) e.deck.now.donors row kept e.terms.near) where
+module _ {F : Type 0} (calls : Shared F (ℕ × (Bor Value × (Bor Value × Unit {0}))) ℕ) (e : Rest F) (is_rest : IsRest calls e) (row_no : ℕ) (row : List Value) (kept : ℕ) (ranking : List ℕ)
+    (there : row ≡ row_at (rows_in e) row_no) (is : ranking ≡ ranking_of e.measure.yardsticks (rows_in e) e.deck.donors row kept e.near) where
   -- the deck and the measure rank the clean records by the survey's yardsticks
-  pub ranking-is : ranking ≡ ranking_of (yardsticks_of e.survey.now.fields) (rows_in e) (donors_of e.survey.now (rows_in e)) (row_at (rows_in e) row_no) kept e.terms.near
-  ranking-is = is ∙ (λ i. ranking_of (editing.yardsticks i) (rows_in e) (editing.deck i) (there i) kept e.terms.near)
+  pub ranking-is : ranking ≡ ranking_of (yardsticks_of e.survey.fields) (rows_in e) (donors_of e.survey (rows_in e)) (row_at (rows_in e) row_no) kept e.near
+  ranking-is = is ∙ (λ i. ranking_of (is_rest.yardsticks i) (rows_in e) (is_rest.deck i) (there i) kept e.near)
 
   -- so each that is ranked is a clean record
-  pub ranking-clean : All (IsCleanRow e.survey.now (rows_in e)) ranking
-  ranking-clean = subst (λ (ds : List ℕ). All (IsCleanRow e.survey.now (rows_in e)) ds) (sym ranking-is) (ranking-donors (yardsticks_of e.survey.now.fields) e.survey.now (rows_in e) (row_at (rows_in e) row_no) kept e.terms.near)
-
--- ---- a first claim
-
-answered-given : (reply : Option ℕ) → donor_answered (given reply) ≡ reply
-answered-given None = refl
-answered-given (Some donor) = refl
-
-history-given : (history : List Entry) (row_no : ℕ) (ranking : List ℕ) (reply : Option ℕ) → history_after history row_no ranking (given reply) ≡ history ++ entry_of row_no ranking reply ∷ []
-history-given history row_no ranking None = refl
-history-given history row_no ranking (Some donor) = refl
-
-module _ (limit : ℕ) (history : List Entry) (row_no : ℕ) (ranking : List ℕ) (answer : Claim) (first : claim_of row_no (wins_of history) ≡ None) (is : answer ≡ answer_to limit (wins_of history) row_no ranking) where
-  abbrev free : Option ℕ
-  free = first_free limit (wins_of history) ranking
-
-  answer-given : answer ≡ given free
-  answer-given = is ∙ ap (λ (o : Option Won). had_or o (given free)) first
-
-  -- it is answered the first donor that the claims before leave
-  pub first-reply : donor_answered answer ≡ first_free limit (wins_of history) ranking
-  first-reply = ap donor_answered answer-given ∙ answered-given free
-
-  -- and it stands behind them
-  pub first-entered : history_after history row_no ranking answer ≡ history ++ entry_of row_no ranking (donor_answered answer) ∷ []
-  first-entered = ap (history_after history row_no ranking) answer-given ∙ history-given history row_no ranking free ∙ ap (λ (o : Option ℕ). history ++ entry_of row_no ranking o ∷ []) (sym first-reply)
+  pub ranking-clean : All (IsCleanRow e.survey (rows_in e)) ranking
+  ranking-clean = subst (λ (ds : List ℕ). All (IsCleanRow e.survey (rows_in e)) ds) (sym ranking-is) (ranking-donors (yardsticks_of e.survey.fields) e.survey (rows_in e) (row_at (rows_in e) row_no) kept e.near)
 
 -- what is found has what each of the list has
 pub found-has : (P : ℕ → Type 0) (p : ℕ → Bool) (xs : List ℕ) → All P xs → IfSome (find p xs) P
@@ -110,3 +84,22 @@ found-has P p (x ∷ xs) all = by (p x) (All-head P x xs all) (found-has P p xs 
     by : (b : Bool) → P x → IfSome (find p xs) P → IfSome (cond b (Some x) (find p xs)) P
     by true here rest = here
     by false here rest = rest
+
+-- ---- the donors of a piece
+
+-- the donors that a piece ranks are clean records
+pub piece-clean : {F : Type 0} (rest : Rest F) (piece : Piece) → IsPieceIn rest piece → (ranking : List ℕ) → piece.ranking ≡ Some ranking → All (IsCleanRow rest.survey (rows_in rest)) ranking
+piece-clean rest piece is ranking there = by (claims_donor piece.outcome) (subst (IsRankingFor rest.survey (rows_in rest) rest.near (row_at (rows_in rest) piece.row_no) piece.outcome) there is.ranking)
+  where
+    by : (b : Bool) → Ranks b rest.survey (rows_in rest) rest.near (row_at (rows_in rest) piece.row_no) (path_found piece.outcome) (Some ranking) → All (IsCleanRow rest.survey (rows_in rest)) ranking
+    by true ranked =
+        subst (λ (ds : List ℕ). All (IsCleanRow rest.survey (rows_in rest)) ds) (sym ranked.ranked) (ranking-donors (yardsticks_of rest.survey.fields) rest.survey (rows_in rest) (row_at (rows_in rest) piece.row_no) ranked.kept rest.near)
+    by false none = absurd (cc)
+
+-- so they are records
+pub piece-donors : {F : Type 0} (rest : Rest F) (piece : Piece) (donors : ℕ) → IsPieceIn rest piece → donors ≡ length (rows_in rest) → RanksDonors donors piece.ranking
+piece-donors rest piece donors is as_many = by piece.ranking refl
+  where
+    by : (o : Option (List ℕ)) → piece.ranking ≡ o → RanksDonors donors o
+    by None there = tt
+    by (Some ranking) there = λ k d lt. (let here = piece-clean rest piece is ranking there k d lt in omega (arith, here.0, as_many))

@@ -1,151 +1,169 @@
-use Rattle.std.proofs.Common.{◌≡◌, ◌≢◌, ◌++◌, ℕ, zero, suc, ◌+◌, ◌<◌, ◌≤◌, Bool, true, false, cond, eqb, List, [], ◌∷◌, map, length, Option, None, Some, IsSomeAnd, ⊎_elim, refl, sym, ap, ◌∙◌, subst, append-nil, append_assoc, arith}
+use Rattle.std.proofs.Common.{◌≡◌, ℕ, zero, suc, ◌+◌, ◌<◌, ◌++◌, Bool, true, false, List, [], ◌∷◌, All, Option, Some, None, IsSomeAnd, length, map, inl, inr, refl, sym, ap, ◌∙◌, subst, arith}
 use Rattle.std.specs.Prelude.{slice_get}
-use Rattle.std.specs.List.{AllByRecursion}
-use Rattle.std.specs.Option.{option_or}
-use Rattle.std.proofs.lemmas.Bool.Decides.{eqb_tells}
+use Rattle.std.specs.List.{AllByRecursion, AllZip, range_with_len}
+use Rattle.std.specs.List.Sorted.{IsPermutation}
 use Rattle.std.proofs.lemmas.List.{map-append}
-use Rattle.std.proofs.lemmas.List.Folds.{find-append}
-use Rattle.std.proofs.lemmas.Option.{slice_get_within}
+use Rattle.std.proofs.lemmas.List.Elements.{All-head, All-tail}
+use Rattle.std.proofs.lemmas.List.Sorted.{IsPermutation-map}
 use Rattle.edit_model.specs.Parts.{SurveyParts}
 use Rattle.edit_model.specs.declared.value.Value.{Value}
-use Rattle.donor_book.specs.Claims.{claim_of}
-use Rattle.donor_book.specs.Entries.{entry_of, won_of, wins_of}
+use Rattle.edit_line.specs.Reductions.{IsIn}
+use Rattle.edit_line.proofs.Members.{in-all, in-map}
+use Rattle.bound_cert.specs.Claims.{claims_donor}
+use Rattle.donor_book.specs.Entries.{IsLegalHistory}
 use Rattle.donor_book.specs.declared.claim.Entry.{Entry}
-use Rattle.donor_book.specs.declared.claim.Won.{Won}
-use Rattle.donor_book.proofs.LegalLaws.{legal_fresh, legal_push, wins_push}
 use Rattle.donor_search.specs.CleanRows.{row_at}
 use Rattle.donor_search.specs.Places.{place_if, places_from}
 use Rattle.edit_report.specs.Ends.{path_found}
 use Rattle.edit_report.specs.declared.end.RowEnd.{RowEnd}
-use Rattle.record_workers.specs.Donations.{AreDonations, IsRanked, IsRankingOf, donor_in, end_claims}
+use Rattle.bound_cert.specs.declared.outcome.Outcome.{Outcome}
+use Rattle.record_workers.specs.Donations.{AreDonations, AreInRowOrder, IsRanked, IsRankingOf, claimers_of, donor_in, end_claims, rows_claimed}
+use Rattle.record_workers.specs.Givings.{EndsBy, IsEndIn, SaysIn}
+use Rattle.record_workers.specs.Needs.{AnswersNeeds, IsRankingFor, Need, Ranks, need_in, needs_by, needs_of}
+use Rattle.record_workers.specs.Rests.{ArePiecesIn, IsPieceIn, rows_in, rows_of}
+use Rattle.record_workers.specs.declared.piece.Piece.{Piece}
+use Rattle.record_workers.specs.declared.rest.Rest.{Rest}
 use Rattle.record_workers.specs.declared.terms.Terms.{Terms}
-use Rattle.record_workers.specs.inner.Donors.{Donates}
-use Rattle.foundation.specs.Options.{◌>>?◌}
+use Rattle.donor_search.proofs.PlaceLaws.{places-rise}
+use Rattle.record_workers.proofs.AloneLaws.{in-order}
+use Rattle.record_workers.proofs.NeedLaws.{in-other-order, need-from, piece-at}
+use Rattle.record_workers.proofs.RunLaws.{rows-asked}
 
--- The claims of the records so far, and those of one record more.
+-- The claims of all records, by their ends.
 
--- ---- which records claimed
+-- ---- two lists side by side
 
--- one record more
-claimers-push : (i : ℕ) (ends : List RowEnd) (end : RowEnd) → places_from end_claims i (ends ++ end ∷ []) ≡ places_from end_claims i ends ++ (place_if (end_claims end) (i + length ends))
-claimers-push i [] end =
-    let same : i ≡ i + 0 = omega arith in
-    append-nil (place_if (end_claims end) i) ∙ ap (λ (k : ℕ). place_if (end_claims end) k) same
-claimers-push i (first ∷ ends) end =
-    let next : suc i + length ends ≡ i + suc (length ends) = omega arith in
-    ap (λ (ns : List ℕ). (place_if (end_claims first) i) ++ ns) (claimers-push (suc i) ends end)
-    ∙ sym (append_assoc (place_if (end_claims first) i) (places_from end_claims (suc i) ends) (place_if (end_claims end) (suc i + length ends)))
-    ∙ ap (λ (k : ℕ). places_from end_claims i (first ∷ ends) ++ (place_if (end_claims end) k)) next
+-- what stands beside an element
+zip-get : {X Y : Type 0} (R : X → Y → Type 0) (xs : List X) (ys : List Y) → AllZip R xs ys → (k : ℕ) (x : X) → slice_get xs k ≡ Some x → (y : Y) × (slice_get ys k ≡ Some y) × R x y
+zip-get R [] ys each k x at = absurd (cc)
+zip-get R (a ∷ xs) [] each k x at = absurd each
+zip-get R (a ∷ xs) (b ∷ ys) each zero x at = let same : a ≡ x = cc in (b, refl, subst (λ z. R z b) same each.0)
+zip-get R (a ∷ xs) (b ∷ ys) each (suc k) x at = zip-get R xs ys each.1 k x at
 
--- they are among the records so far
-claimers-below : (i n : ℕ) (ends : List RowEnd) → i + length ends ≤ n → AllByRecursion (λ k. k < n) (places_from end_claims i ends)
-claimers-below i n [] few = tt
-claimers-below i n (end ∷ ends) few = by (end_claims end) (claimers-below (suc i) n ends (omega (arith, few)))
-  where
-    by : (b : Bool) → AllByRecursion (λ k. k < n) (places_from end_claims (suc i) ends) → AllByRecursion (λ k. k < n) (place_if b i ++ places_from end_claims (suc i) ends)
-    by true rest = (omega (arith, few), rest)
-    by false rest = rest
+-- and what it stands beside
+zip-got : {X Y : Type 0} (R : X → Y → Type 0) (xs : List X) (ys : List Y) → AllZip R xs ys → (k : ℕ) (y : Y) → slice_get ys k ≡ Some y → (x : X) × (slice_get xs k ≡ Some x) × R x y
+zip-got R [] [] each k y at = absurd (cc)
+zip-got R [] (b ∷ ys) each k y at = absurd each
+zip-got R (a ∷ xs) [] each k y at = absurd each
+zip-got R (a ∷ xs) (b ∷ ys) each zero y at = let same : b ≡ y = cc in (a, refl, subst (R a) same each.0)
+zip-got R (a ∷ xs) (b ∷ ys) each (suc k) y at = zip-got R xs ys each.1 k y at
 
-other-row : (a b : ℕ) → a ≢ b → eqb a b ≡ false
-other-row a b apart = ⊎_elim (λ (t : (eqb a b ≡ true) × (a ≡ b)). absurd (apart t.1)) (λ (f : (eqb a b ≡ false) × (a ≢ b)). f.0) (eqb_tells a b)
+-- the row of the piece at a place
+row-at : (k n : ℕ) (pieces : List Piece) → rows_of pieces ≡ range_with_len k n → (i : ℕ) (p : Piece) → slice_get pieces i ≡ Some p → p.row_no ≡ k + i
+row-at k n [] rows i p at = absurd (cc)
+row-at k zero (first ∷ pieces) rows i p at = absurd (cc)
+row-at k (suc n) (first ∷ pieces) rows zero p at = let own : first.row_no ≡ k = cc in let same : first ≡ p = cc in omega (arith, own, ap (λ (q : Piece). q.row_no) same)
+row-at k (suc n) (first ∷ pieces) rows (suc i) p at =
+    let rest : rows_of pieces ≡ range_with_len (k + 1) n = cc in
+    let later = row-at (k + 1) n pieces rest i p at in omega (arith, later)
 
-same-row : (a : ℕ) → eqb a a ≡ true
-same-row a = ⊎_elim (λ (t : (eqb a a ≡ true) × (a ≡ a)). t.0) (λ (f : (eqb a a ≡ false) × (a ≢ a)). absurd (f.1 refl)) (eqb_tells a a)
+-- what holds beside the pieces of all rows holds beside the rows
+rows-beside : (R : List Value → RowEnd → Type 0) (whole : List (List Value)) (k : ℕ) (rows : List (List Value)) → ((j : ℕ) → j < length rows → row_at whole (k + j) ≡ row_at rows j)
+    → (pieces : List Piece) → rows_of pieces ≡ range_with_len k (length rows) → (ends : List RowEnd) → AllZip (λ (p : Piece) (end : RowEnd). R (row_at whole p.row_no) end) pieces ends → AllZip R rows ends
+rows-beside R whole k [] stands [] are [] each = tt
+rows-beside R whole k [] stands [] are (e ∷ ends) each = absurd each
+rows-beside R whole k [] stands (p ∷ pieces) are ends each = absurd (cc)
+rows-beside R whole k (row ∷ rows) stands [] are ends each = absurd (cc)
+rows-beside R whole k (row ∷ rows) stands (p ∷ pieces) are [] each = absurd each
+rows-beside R whole k (row ∷ rows) stands (p ∷ pieces) are (e ∷ ends) each =
+    let own : p.row_no ≡ k + 0 = (let same : p.row_no ≡ k = cc in omega (arith, same)) in
+    let rest : rows_of pieces ≡ range_with_len (k + 1) (length rows) = cc in
+    let here : row_at whole p.row_no ≡ row = ap (row_at whole) own ∙ stands 0 (omega arith) in (
+      subst (λ (r : List Value). R r e) here each.0,
+      rows-beside R whole (k + 1) rows (λ j lt. (let next : (k + 1) + j ≡ k + suc j = omega arith in ap (row_at whole) next ∙ stands (suc j) (omega (arith, lt)))) pieces rest ends each.1,
+    )
 
--- a record behind those that claimed has no claim
-none-behind : (n : ℕ) (history : List Entry) → AllByRecursion (λ k. k < n) (map (λ (e : Entry). e.row_no) history) → claim_of n (wins_of history) ≡ None
-none-behind n [] below = refl
-none-behind n (e ∷ history) below =
-    ap (λ b. cond b (Some (won_of e)) (claim_of n (wins_of history))) (other-row e.row_no n (λ same. absurd (omega (arith, same, below.0)))) ∙ none-behind n history below.1
+-- what holds beside each element holds if it follows from what does
+zip-weaker : {X Y : Type 0} (R S : X → Y → Type 0) (xs : List X) (ys : List Y) → ((x : X) (y : Y) → R x y → S x y) → AllZip R xs ys → AllZip S xs ys
+zip-weaker R S [] [] turn each = tt
+zip-weaker R S [] (y ∷ ys) turn each = absurd each
+zip-weaker R S (x ∷ xs) [] turn each = absurd each
+zip-weaker R S (x ∷ xs) (y ∷ ys) turn each = (turn x y each.0, zip-weaker R S xs ys turn each.1)
 
--- ---- what a record was given
+module _ {F : Type 0} (rest : Rest F) (pieces : List Piece) (are : ArePiecesIn rest pieces) (ends : List RowEnd) where
+  -- what holds of the ends of pieces holds of the ends of the records
+  ends-beside : (R : List Value → RowEnd → Type 0) → AllZip (λ (p : Piece) (end : RowEnd). R (row_at (rows_in rest) p.row_no) end) pieces ends → AllZip R (rows_in rest) ends
+  ends-beside R each = rows-beside R (rows_in rest) 0 (rows_in rest) (λ j lt. (let same : 0 + j ≡ j = omega arith in ap (row_at (rows_in rest)) same)) pieces are.rows ends each
 
-claim-push : (row_no : ℕ) (history : List Entry) (e : Entry) → claim_of row_no (wins_of (history ++ e ∷ [])) ≡ option_or (claim_of row_no (wins_of history)) (cond (eqb e.row_no row_no) (Some (won_of e)) None)
-claim-push row_no history e = ap (claim_of row_no) (wins_push history e) ∙ find-append (λ (w : Won). eqb w.row_no row_no) (wins_of history) (won_of e ∷ [])
+  module _ (limit : ℕ) (history : List Entry) (answers : AnswersNeeds limit pieces history) (each : AllZip (EndsBy rest history) pieces ends) where
+    -- what becomes of the records, in order
+    pub ends-become : AllZip (IsEndIn rest) (rows_in rest) ends
+    ends-become = ends-beside (IsEndIn rest) (zip-weaker (EndsBy rest history) (λ (p : Piece) (end : RowEnd). IsEndIn rest (row_at (rows_in rest) p.row_no) end) pieces ends (λ p end by. by.becomes) each)
 
-or-none : (o : Option Won) → option_or o None ≡ o
-or-none None = refl
-or-none (Some w) = refl
+    -- and what their ends say of them
+    pub ends-say : AllZip (SaysIn rest) (rows_in rest) ends
+    ends-say = ends-beside (SaysIn rest) (zip-weaker (EndsBy rest history) (λ (p : Piece) (end : RowEnd). SaysIn rest (row_at (rows_in rest) p.row_no) end) pieces ends (λ p end by. by.says) each)
 
--- a claim of another record changes nothing
-donor-other : (row_no : ℕ) (history : List Entry) (e : Entry) → e.row_no ≢ row_no → donor_in (history ++ e ∷ []) row_no ≡ donor_in history row_no
-donor-other row_no history e apart =
-    ap (λ (o : Option Won). (o >>? (λ w. w.reply))) (claim-push row_no history e ∙ ap (λ b. option_or (claim_of row_no (wins_of history)) (cond b (Some (won_of e)) None)) (other-row e.row_no row_no apart) ∙ or-none (claim_of row_no (wins_of history)))
-
--- a first claim is the record's
-donor-own : (history : List Entry) (e : Entry) → claim_of e.row_no (wins_of history) ≡ None → donor_in (history ++ e ∷ []) e.row_no ≡ e.reply
-donor-own history e none =
-    ap (λ (o : Option Won). (o >>? (λ w. w.reply))) (claim-push e.row_no history e ∙ ap (λ (o : Option Won). option_or o (cond (eqb e.row_no e.row_no) (Some (won_of e)) None)) none ∙ ap (λ b. cond b (Some (won_of e)) None) (same-row e.row_no))
-
--- ---- the ends, and one more
-
--- what holds of each end at its place and of one more behind them
-each-push : (P : ℕ → RowEnd → Type 0) (ends : List RowEnd) (end : RowEnd) → ((k : ℕ) (x : RowEnd) → slice_get ends k ≡ Some x → P k x) → P (length ends) end
-    → (k : ℕ) (x : RowEnd) → slice_get (ends ++ end ∷ []) k ≡ Some x → P k x
-each-push P [] end each last zero x is = subst (P 0) (let same : end ≡ x = cc in same) last
-each-push P [] end each last (suc k) x is = absurd (cc)
-each-push P (first ∷ ends) end each last zero x is = each 0 x is
-each-push P (first ∷ ends) end each last (suc k) x is = each-push (λ k x. P (suc k) x) ends end (λ k x is. each (suc k) x is) last k x is
-
--- what holds of an end at a place does with more ends
-some-push : (P : RowEnd → Type 0) (ends : List RowEnd) (end : RowEnd) (k : ℕ) → IsSomeAnd (slice_get ends k) P → IsSomeAnd (slice_get (ends ++ end ∷ []) k) P
-some-push P [] end k some = absurd some
-some-push P (first ∷ ends) end zero some = some
-some-push P (first ∷ ends) end (suc k) some = some-push P ends end k some
-
--- and what holds of the last
-some-last : (P : RowEnd → Type 0) (ends : List RowEnd) (end : RowEnd) → P end → IsSomeAnd (slice_get (ends ++ end ∷ []) (length ends)) P
-some-last P [] end holds = holds
-some-last P (first ∷ ends) end holds = some-last P ends end holds
-
--- what holds of each turns into what holds of each and of one more
-turned-push : {X : Type 0} (P Q : X → Type 0) (xs : List X) (x : X) → ((y : X) → P y → Q y) → AllByRecursion P xs → Q x → AllByRecursion Q (xs ++ x ∷ [])
-turned-push P Q [] x turn all last = (last, tt)
-turned-push P Q (y ∷ xs) x turn all last = (turn y all.0, turned-push P Q xs x turn all.1 last)
-
-turned-all : {X : Type 0} (P Q : X → Type 0) (xs : List X) → ((y : X) → P y → Q y) → AllByRecursion P xs → AllByRecursion Q xs
-turned-all P Q [] turn all = tt
-turned-all P Q (y ∷ xs) turn all = (turn y all.0, turned-all P Q xs turn all.1)
-
--- ---- the claims of the records so far
-
-module _ (survey : SurveyParts) (rows : List (List Value)) (terms : Terms) where
-  -- none of no records
-  pub donations-none : AreDonations survey rows terms [] []
-  donations-none = record { legal = legal_fresh terms.limit; claimers = refl; ranked = tt; given = λ i end is. absurd (cc) }
-
-  module _ (ends : List RowEnd) (before : List Entry) (so_far : AreDonations survey rows terms ends before) where
-    -- the next record has no claim
-    pub next-free : claim_of (length ends) (wins_of before) ≡ None
-    next-free = none-behind (length ends) before (subst (AllByRecursion (λ k. k < length ends)) (sym so_far.claimers) (claimers-below 0 (length ends) ends (omega arith)))
-
-    -- and its claim, if it makes one, stands behind theirs
-    pub donations-more : (end : RowEnd) (after : List Entry) → Donates (end_claims end) survey rows terms (length ends) (path_found end.proof.outcome) before after end.donor → AreDonations survey rows terms (ends ++ end ∷ []) after
-    donations-more end after = by (end_claims end) refl
+    -- the records that need a donor are those that claim one
+    needs-claim : (k n : ℕ) (ps : List Piece) (es : List RowEnd) → rows_of ps ≡ range_with_len k n → All (IsPieceIn rest) ps → AllZip (EndsBy rest history) ps es
+        → map (λ (need : Need). need.row_no) (needs_of ps) ≡ places_from end_claims k es
+    needs-claim k n [] [] rows all zip = refl
+    needs-claim k n [] (e ∷ es) rows all zip = absurd zip
+    needs-claim k n (p ∷ ps) [] rows all zip = absurd zip
+    needs-claim k zero (p ∷ ps) (e ∷ es) rows all zip = absurd (cc)
+    needs-claim k (suc n) (p ∷ ps) (e ∷ es) rows all zip =
+        let own : p.row_no ≡ k = cc in
+        let next : k + 1 ≡ suc k = omega arith in
+        let later : rows_of ps ≡ range_with_len (k + 1) n = cc in
+        let rest_is = needs-claim (suc k) n ps es (subst (λ (m : ℕ). rows_of ps ≡ range_with_len m n) next later) (All-tail (IsPieceIn rest) p ps all) zip.1 in
+        let first = here (claims_donor p.outcome) p.ranking own (All-head (IsPieceIn rest) p ps all).ranking in
+        let same : claims_donor p.outcome ≡ end_claims e = ap claims_donor (sym zip.0.outcome) in
+        map-append (λ (need : Need). need.row_no) (needs_by p.row_no p.ranking) (needs_of ps)
+        ∙ ap (λ (ns : List ℕ). ns ++ map (λ (need : Need). need.row_no) (needs_of ps)) (first ∙ ap (λ (b : Bool). place_if b k) same)
+        ∙ ap (λ (ns : List ℕ). place_if (end_claims e) k ++ ns) rest_is
       where
-        ranked-still : (entry : Entry) → IsRanked survey rows terms.near ends entry → IsRanked survey rows terms.near (ends ++ end ∷ []) entry
-        ranked-still entry is = some-push (λ (x : RowEnd). IsRankingOf survey rows terms.near (row_at rows entry.row_no) (path_found x.proof.outcome) entry.ranking) ends end entry.row_no is
+        here : (b : Bool) (ranking : Option (List ℕ)) → p.row_no ≡ k → Ranks b rest.survey (rows_in rest) rest.near (row_at (rows_in rest) p.row_no) (path_found p.outcome) ranking
+            → map (λ (need : Need). need.row_no) (needs_by p.row_no ranking) ≡ place_if b k
+        here true None own ranks = absurd ranks
+        here true (Some r) own ranks = ap (λ (m : ℕ). m ∷ []) own
+        here false None own ranks = refl
+        here false (Some r) own ranks = absurd (cc)
 
-        by : (b : Bool) → end_claims end ≡ b → Donates b survey rows terms (length ends) (path_found end.proof.outcome) before after end.donor → AreDonations survey rows terms (ends ++ end ∷ []) after
-        by true claims made =
-            let entry : Entry = entry_of (length ends) made.ranking end.donor in
-            let first : 0 + length ends ≡ length ends = omega arith in
-            subst (AreDonations survey rows terms (ends ++ end ∷ [])) (sym made.entered) (record {
-              legal = legal_push terms.limit before entry so_far.legal next-free made.reply;
-              claimers =
-                  map-append (λ (e : Entry). e.row_no) before (entry ∷ [])
-                  ∙ ap (λ (ns : List ℕ). ns ++ length ends ∷ []) so_far.claimers
-                  ∙ sym (claimers-push 0 ends end ∙ ap (λ (b : Bool). places_from end_claims 0 ends ++ (place_if b (0 + length ends))) claims ∙ ap (λ (k : ℕ). places_from end_claims 0 ends ++ k ∷ []) first);
-              ranked = turned-push (IsRanked survey rows terms.near ends) (IsRanked survey rows terms.near (ends ++ end ∷ [])) before entry ranked-still so_far.ranked
-                  (some-last (λ (x : RowEnd). IsRankingOf survey rows terms.near (row_at rows (length ends)) (path_found x.proof.outcome) made.ranking) ends end made.ranked);
-              given = each-push (λ k (x : RowEnd). x.donor ≡ donor_in (before ++ entry ∷ []) k) ends end
-                  (λ k x is. so_far.given k x is ∙ sym (donor-other k before entry (λ same. absurd (let below = slice_get_within ends k x is in omega (arith, below, same)))))
-                  (sym (donor-own before entry next-free));
-            })
-        by false claims made =
-            subst (AreDonations survey rows terms (ends ++ end ∷ [])) (sym made.0) (record {
-              legal = so_far.legal;
-              claimers = so_far.claimers ∙ sym (claimers-push 0 ends end ∙ ap (λ (b : Bool). places_from end_claims 0 ends ++ (place_if b (0 + length ends))) claims ∙ append-nil (places_from end_claims 0 ends));
-              ranked = turned-all (IsRanked survey rows terms.near ends) (IsRanked survey rows terms.near (ends ++ end ∷ [])) before ranked-still so_far.ranked;
-              given = each-push (λ k (x : RowEnd). x.donor ≡ donor_in before k) ends end so_far.given (made.1 ∙ sym (ap (λ (o : Option Won). (o >>? (λ w. w.reply))) next-free));
-            })
+    claimers : IsPermutation (claimers_of ends) (rows_claimed history)
+    claimers = subst (λ (ns : List ℕ). IsPermutation ns (rows_claimed history)) (needs-claim 0 (length (rows_in rest)) pieces ends are.rows are.each each)
+        (subst (λ (ns : List ℕ). IsPermutation (map (λ (need : Need). need.row_no) (needs_of pieces)) ns) (rows-asked history)
+        (IsPermutation-map (λ (need : Need). need.row_no) (needs_of pieces) (map need_in history) answers.needs))
+
+    -- each claim has the ranking of its record
+    ranked-one : (e : Entry) → IsIn e history → IsRanked rest.survey (rows_in rest) rest.near ends e
+    ranked-one e there =
+        let (p, in_pieces, row, ranking) = need-from (need_in e) pieces (in-other-order (needs_of pieces) (map need_in history) (need_in e) answers.needs (in-map need_in e history there)) in
+        let at = piece-at 0 (length (rows_in rest)) pieces are.rows p in_pieces e.row_no (omega (arith, row)) in
+        let (end, stands, becomes) = zip-get (EndsBy rest history) pieces ends each e.row_no p at in
+        let is = in-all (IsPieceIn rest) p pieces are.each in_pieces in
+        let of = by p (claims_donor p.outcome) (subst (IsRankingFor rest.survey (rows_in rest) rest.near (row_at (rows_in rest) p.row_no) p.outcome) ranking is.ranking) in
+        let mine = subst (λ (n : ℕ). IsRankingOf rest.survey (rows_in rest) rest.near (row_at (rows_in rest) n) (path_found p.outcome) e.ranking) row of in
+        let told = subst (λ (o : Outcome). IsRankingOf rest.survey (rows_in rest) rest.near (row_at (rows_in rest) e.row_no) (path_found o) e.ranking) (sym becomes.outcome) mine in
+        subst (λ (o : Option RowEnd). IsSomeAnd o (λ (end : RowEnd). IsRankingOf rest.survey (rows_in rest) rest.near (row_at (rows_in rest) e.row_no) (path_found end.proof.outcome) e.ranking)) (sym stands) told
+      where
+        by : (p : Piece) (b : Bool) → Ranks b rest.survey (rows_in rest) rest.near (row_at (rows_in rest) p.row_no) (path_found p.outcome) (Some e.ranking)
+            → IsRankingOf rest.survey (rows_in rest) rest.near (row_at (rows_in rest) p.row_no) (path_found p.outcome) e.ranking
+        by p true ranks = ranks
+        by p false none = absurd (cc)
+
+    ranked-all : (es : List Entry) → ((e : Entry) → IsIn e es → IsRanked rest.survey (rows_in rest) rest.near ends e) → AllByRecursion (IsRanked rest.survey (rows_in rest) rest.near ends) es
+    ranked-all [] one = tt
+    ranked-all (e ∷ es) one = (one e (inl refl), ranked-all es (λ x there. one x (inr there)))
+
+    given : (i : ℕ) (end : RowEnd) → slice_get ends i ≡ Some end → end.donor ≡ donor_in history i
+    given i end at =
+        let (p, stands, becomes) = zip-got (EndsBy rest history) pieces ends each i end at in
+        let row = row-at 0 (length (rows_in rest)) pieces are.rows i p stands in
+        becomes.given ∙ ap (donor_in history) (let same : p.row_no ≡ i = omega (arith, row) in same)
+
+    -- the claims are the donations of the records that ended so
+    pub donations-are : (terms : Terms) → terms.limit ≡ limit → terms.near ≡ rest.near → AreDonations rest.survey (rows_in rest) terms ends history
+    donations-are terms limit_is near_is = record {
+      legal = subst (λ (n : ℕ). IsLegalHistory n history) (sym limit_is) answers.legal;
+      claimers = claimers;
+      ranked = subst (λ (n : ℕ). AllByRecursion (IsRanked rest.survey (rows_in rest) n ends) history) (sym near_is) (ranked-all history ranked-one);
+      given = given;
+    }
+
+-- ---- in row order
+
+-- where the records claimed in their order, the claims are those of the records that claim, in order
+pub in-row-order : (survey : SurveyParts) (rows : List (List Value)) (terms : Terms) (ends : List RowEnd) (history : List Entry) → AreDonations survey rows terms ends history → AreInRowOrder history
+    → rows_claimed history ≡ claimers_of ends
+in-row-order survey rows terms ends history donations rise =
+    in-order (claimers_of ends) (rows_claimed history) (λ k lt. places-rise end_claims 0 ends k (k + 1) 0 (omega arith) lt) rise donations.claimers

@@ -1,5 +1,17 @@
+pub mod AloneLaws
 pub mod ClaimLaws
+pub mod ClaimedLaws
+pub mod CollectedLaws
 pub mod CorrectedLaws
 pub mod DonationLaws
+pub mod DonorLaws
 pub mod EndLaws
+pub mod GatherLaws
+pub mod GivenLaws
+pub mod KeepLaws
+pub mod NeedLaws
+pub mod OrderLaws
 pub mod OverflowLaws
+pub mod OwnLaws
+pub mod RangeLaws
+pub mod RunLaws

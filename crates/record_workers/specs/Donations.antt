@@ -1,6 +1,7 @@
 -- Which records claim a donor, how they rank the donors, and whom each is given.
 use Rattle.std.specs.Prelude.{◌≡◌, ℕ, ◌≤◌, not, Bool, List, Option, Some, IsSomeAnd, map, slice_get}
 use Rattle.std.specs.List.{AllByRecursion}
+use Rattle.std.specs.List.Sorted.{IsPermutation, IsStrictlyIncreasing}
 use Rattle.edit_model.specs.Parts.{SurveyParts}
 use Rattle.edit_model.specs.declared.value.Value.{Value}
 use Rattle.bound_cert.specs.Claims.{claims_donor}
@@ -30,7 +31,7 @@ pub record AreTerms (terms : Terms) : Type 0 where
 abbrev pub end_claims : RowEnd → Bool
 end_claims end = claims_donor end.proof.outcome
 
--- the numbers of the records that claim a donor
+-- the numbers of the records that claim a donor, in order
 abbrev pub claimers_of : List RowEnd → List ℕ
 claimers_of ends = places_from end_claims 0 ends
 
@@ -56,11 +57,20 @@ donor_in history row_no = claim_of row_no (wins_of history) >>? (λ w. w.reply)
 
 -- ---- the claims of all records
 
+-- the numbers of the records that claimed, in the order of their claims
+abbrev pub rows_claimed : List Entry → List ℕ
+rows_claimed history = map (λ (entry : Entry). entry.row_no) history
+
 -- the claims of the records of a sheet that ended so, on these terms: one legal history, whose claims are those of the records of
--- which some field is changed, in order, each with its ranking; and each record has the donor that it was given there
+-- which some field is changed, each once, in some order, and each with its ranking; and each record has the donor that it was
+-- given there
 pub record AreDonations (survey : SurveyParts) (rows : List (List Value)) (terms : Terms)
     (ends : List RowEnd) (history : List Entry) : Type 0 where
   pub legal : IsLegalHistory terms.limit history
-  pub claimers : map (λ (entry : Entry). entry.row_no) history ≡ claimers_of ends
+  pub claimers : IsPermutation (claimers_of ends) (rows_claimed history)
   pub ranked : AllByRecursion (IsRanked survey rows terms.near ends) history
   pub given : (i : ℕ) (end : RowEnd) → slice_get ends i ≡ Some end → end.donor ≡ donor_in history i
+
+-- the records claimed in their order
+abbrev pub AreInRowOrder : List Entry → Type 0
+AreInRowOrder history = IsStrictlyIncreasing (rows_claimed history)

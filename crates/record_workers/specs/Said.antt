@@ -1,5 +1,5 @@
 -- What the end of a record says of it, in terms of corrections.
-use Rattle.std.specs.Prelude.{◌≡◌, ⊤, ℕ, ◌<◌, Bool, List, [], Option, Some, None}
+use Rattle.std.specs.Prelude.{◌≡◌, ℕ, ◌<◌, Bool, List, [], Option, Some, None}
 use Rattle.edit_model.specs.Corrections.{IsCorrection, IsFirstLeast, IsLeastWeight, change_weight, word_of}
 use Rattle.edit_model.specs.Parts.{SurveyParts}
 use Rattle.edit_model.specs.Points.{Point}

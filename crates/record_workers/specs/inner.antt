@@ -1,2 +1,3 @@
 pub mod Donors
-pub mod Editings
+pub mod Gatherings
+pub mod Searches

@@ -1,10 +1,12 @@
+use crate::rest::Rest;
 use donor_book::Entry;
 use edit_report::RowEnd;
 
-/// What became of the records of a sheet: the end of each, in order, and the claims of donors, in the order in which
-/// they were answered.
-#[derive(Debug, Drop)]
-pub struct Edited {
+/// What became of the records of a sheet: the end of each, in order, the claims of donors, in the order in which they
+/// were answered, and by what the records were edited.
+#[derive(Drop)]
+pub struct Edited<F> {
     pub ends: Vec<RowEnd>,
     pub history: Vec<Entry>,
+    pub rest: Rest<F>,
 }

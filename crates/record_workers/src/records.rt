@@ -1,135 +1,176 @@
-ghost use Rattle.std.specs.Prelude.{◌≡◌, ◌<◌, IfOk};
-ghost use Rattle.std.specs.List.{AllByRecursion, AllZip};
+//! What becomes of all records, by workers that run side by side.
+ghost use Rattle.std.specs.Prelude.{◌≡◌, ◌≤◌, ◌<◌, IfOk, length};
+ghost use Rattle.std.specs.List.{All, AllByRecursion, AllZip};
 ghost use Rattle.edit_line.specs.EditSets.{SayTheRules};
 ghost use Rattle.edit_line.specs.Shapes.{shape_of};
 ghost use Rattle.edit_model.specs.PlainNumbers.{HasPlain};
 ghost use Rattle.edit_model.specs.Rows.{IsRow};
+ghost use Rattle.ticket_row.specs.Tickets.{IsFresh, Row};
+ghost use Rattle.donor_book.specs.Passes.{BookName};
 ghost use Rattle.donor_measure.specs.Measures.{Measures};
 ghost use Rattle.donor_measure.specs.Yardsticks.{yardsticks_of};
-ghost use Rattle.record_workers.specs.Donations.{AreDonations};
+ghost use Rattle.record_workers.specs.Donations.{AreDonations, AreInRowOrder};
 ghost use Rattle.record_workers.specs.Ends.{IsEndOf};
+ghost use Rattle.record_workers.specs.Givings.{AreDonationsIn, IsEndIn, SaysIn};
+ghost use Rattle.record_workers.specs.Rests.{IsRest, rows_in};
 ghost use Rattle.record_workers.specs.Said.{Says};
-ghost use Rattle.record_workers.specs.inner.Editings.{AllSayIn, AreDonationsIn, AreEndsIn, IsEditing, edits_in};
+ghost use Rattle.record_workers.specs.Workers.{IsReady, IsShared};
+ghost use Rattle.record_workers.specs.inner.Gatherings.{IsFreshPass, IsReadyAt};
 
 use crate::edited::Edited;
-use crate::editing::Editing;
-use crate::row_ends::edit_record;
+use crate::ends::give_all;
+use crate::gate::Gate;
+use crate::gathered::{Gathered, run_all};
+use crate::rest::{Rest, Shared};
 use crate::terms::Terms;
-use donor_book::Book;
+use crate::worker::Worker;
+use donor_book::{Pass, SharedBook};
 use donor_measure::Measure;
 use donor_search::Deck;
 use edit_line::Edits;
 use edit_model::{Survey, Value};
-use foundation::{OutOfMemory, Steps};
-use linear_elim::Systems;
+use foundation::OutOfMemory;
 use record_text::Sheet;
-use shared_edits::{Pool, PoolSource};
+use shared_edits::Pool;
 use std::alloc::Global;
-use std::marker::Brand;
-use std::sync::ledger::{Blank, Ledger};
 use std::sync::{Arc, Wait};
+use std::thread::Threads;
+use ticket_row::{Seat, Tickets};
 
 /// What becomes of each record of a sheet, in order: the outcome of its search by the edits, and the values of its
-/// changed fields, for which it claims a donor among the clean records. The edits are over the survey's fields, and
-/// they say of a point with codes of these what the rules say. The measure is one of the survey, and the numbers of
-/// the records have numerators below 10^21 and denominators of at most 10^6.
-pub fn edit_records<F: Fn(u32, &Value, &Value) -> u64, R: Wait>(
+/// changed fields, for which it claims a donor among the clean records. From 1 to 64 workers draw the records side by
+/// side. The edits are over the survey's fields, and they say of a point with codes of these what the rules say. The
+/// measure is one of the survey, and the numbers of the records have numerators below 10^21 and denominators of at most
+/// 10^6.
+pub fn edit_records<R: Threads + Wait + Sync, F: Fn(u32, &Value, &Value) -> u64 + Send + Sync, G: Gate>(
     rt: &R,
     alloc: Global,
-    survey: &Survey,
+    survey: Survey,
     edits: Edits,
-    sheet: &Sheet,
-    measure: &Measure<F>,
+    sheet: Sheet,
+    measure: Measure<F>,
     terms: Terms,
-) -> Result<Edited, OutOfMemory>
-    requires over { edits.shape ≡ shape_of survey.now.fields }
-    requires same { SayTheRules survey.now edits }
-    requires rows { AllByRecursion (IsRow survey.now.fields) sheet.now.rows }
-    requires plain { AllByRecursion HasPlain sheet.now.rows }
-    requires measures { Measures F.Fn measure.now.closure measure.now.yardsticks }
-    requires yardsticks { measure.now.yardsticks ≡ yardsticks_of survey.now.fields }
-    ensures ends { IfOk result (λ edited. AllZip (IsEndOf survey.now edits terms.budget sheet.now.rows) sheet.now.rows edited.ends.items) }
-    ensures say { IfOk result (λ edited. AllZip (Says survey.now edits terms.budget) sheet.now.rows edited.ends.items) }
-    ensures donations { IfOk result (λ edited. AreDonations survey.now sheet.now.rows terms edited.ends.items edited.history.items) }
+    workers: u32,
+    gate: &G,
+) -> Result<Edited<F>, OutOfMemory>
+    requires over { edits.shape ≡ shape_of survey.fields }
+    requires same { SayTheRules survey edits }
+    requires rows { AllByRecursion (IsRow survey.fields) sheet.rows }
+    requires plain { AllByRecursion HasPlain sheet.rows }
+    requires measures { Measures F.Fn measure.closure measure.yardsticks }
+    requires yardsticks { measure.yardsticks ≡ yardsticks_of survey.fields }
+    requires workers { (1 ≤ workers) × (workers ≤ 64) }
+    ensures survey { IfOk result (λ edited. edited.rest.survey ≡ survey) }
+    ensures sheet { IfOk result (λ edited. edited.rest.sheet ≡ sheet) }
+    ensures ends { IfOk result (λ edited. AllZip (IsEndOf survey edits terms.budget sheet.rows) sheet.rows edited.ends.items) }
+    ensures say { IfOk result (λ edited. AllZip (Says survey edits terms.budget) sheet.rows edited.ends.items) }
+    ensures donations { IfOk result (λ edited. AreDonations survey sheet.rows terms edited.ends.items edited.history.items) }
+    ensures order { IfOk result (λ edited. workers ≡ 1 → AreInRowOrder edited.history.items) }
 {
-    edited_of::<F, R, Brand>(
-        rt,
-        alloc,
+    let deck = Deck::new(alloc, &survey, &sheet)?;
+    let edits = Arc::new(alloc, edits)?;
+    let pool = Pool::new(alloc, Arc::try_clone(&edits)?)?;
+    let rest = Rest {
         survey,
         edits,
         sheet,
+        deck,
         measure,
-        terms,
-        Blank::new(1),
-    )
+        near: terms.near,
+        budget: terms.budget,
+        pool,
+    };
+    edit_by(rt, alloc, rest, terms.limit, workers, gate)
 }
 
-// What becomes of each record of a sheet, with a ledger for the counter of the steps of its searches.
-fn edited_of<F: Fn(u32, &Value, &Value) -> u64, R: Wait, L: Ledger>(
+// What becomes of each record, where a donor is given at most as often as this limit says.
+fn edit_by<R: Threads + Wait + Sync, F: Fn(u32, &Value, &Value) -> u64 + Send + Sync, G: Gate>(
     rt: &R,
     alloc: Global,
-    survey: &Survey,
-    edits: Edits,
-    sheet: &Sheet,
-    measure: &Measure<F>,
-    terms: Terms,
-    blank: Blank,
-) -> Result<Edited, OutOfMemory>
-    requires name { blank.name ≡ L.name }
-    requires parts { blank.parts ≡ L.parts }
-    requires counts { 0 < blank.parts }
-    requires over { edits.shape ≡ shape_of survey.now.fields }
-    requires same { SayTheRules survey.now edits }
-    requires rows { AllByRecursion (IsRow survey.now.fields) sheet.now.rows }
-    requires plain { AllByRecursion HasPlain sheet.now.rows }
-    requires measures { Measures F.Fn measure.now.closure measure.now.yardsticks }
-    requires yardsticks { measure.now.yardsticks ≡ yardsticks_of survey.now.fields }
-    ensures ends { IfOk result (λ edited. AllZip (IsEndOf survey.now edits terms.budget sheet.now.rows) sheet.now.rows edited.ends.items) }
-    ensures say { IfOk result (λ edited. AllZip (Says survey.now edits terms.budget) sheet.now.rows edited.ends.items) }
-    ensures donations { IfOk result (λ edited. AreDonations survey.now sheet.now.rows terms edited.ends.items edited.history.items) }
+    rest: Rest<F>,
+    limit: u32,
+    workers: u32,
+    gate: &G,
+) -> Result<Edited<F>, OutOfMemory>
+    requires rest { IsRest F.Fn rest }
+    requires workers { (1 ≤ workers) × (workers ≤ 64) }
+    ensures rest { IfOk result (λ edited. edited.rest ≡ rest) }
+    ensures ends { IfOk result (λ edited. AllZip (IsEndIn rest) (rows_in rest) edited.ends.items) }
+    ensures say { IfOk result (λ edited. AllZip (SaysIn rest) (rows_in rest) edited.ends.items) }
+    ensures donations { IfOk result (λ edited. AreDonationsIn rest limit edited.ends.items edited.history.items) }
+    ensures order { IfOk result (λ edited. workers ≡ 1 → AreInRowOrder edited.history.items) }
 {
-    let edits = Arc::new(alloc, edits)?;
-    let deck = Deck::new(alloc, survey, sheet)?;
-    let mut steps = Steps::<L>::start(blank);
-    let pool = Pool::new(alloc, Arc::try_clone(&edits)?)?;
-    let mut reader = pool.reader(alloc)?;
-    let mut source = PoolSource {
-        pool: &pool,
-        reader: &mut reader,
-        rt,
-    };
-    let editing = Editing {
-        survey,
-        edits: &edits,
-        sheet,
-        deck: &deck,
-        measure,
-        terms,
-    };
-    edit_all(alloc, &mut source, &editing, &mut steps)
-}
-
-// What becomes of each record, by any source of systems.
-fn edit_all<F: Fn(u32, &Value, &Value) -> u64, S: Systems, L: Ledger>(
-    alloc: Global,
-    source: &mut S,
-    editing: &Editing<F>,
-    steps: &mut Steps<L>,
-) -> Result<Edited, OutOfMemory>
-    requires editing { IsEditing F.Fn editing.now }
-    requires served { S.serves source.old (edits_in editing.now) }
-    ensures ends { IfOk result (λ edited. AreEndsIn editing.now edited.ends.items) }
-    ensures say { IfOk result (λ edited. AllSayIn editing.now edited.ends.items) }
-    ensures donations { IfOk result (λ edited. AreDonationsIn editing.now edited.ends.items edited.history.items) }
-{
-    let count = editing.sheet.len();
-    let mut book = Book::start(alloc, count, editing.terms.limit, count)?;
-    let mut ends = Vec::with_capacity(alloc, count as usize)?;
-    for row_no in 0..count {
-        ends.push(edit_record(alloc, source, editing, &mut book, row_no, steps)?)?;
-    }
+    let (shared, ready) = shared_by(alloc, rest, limit, workers)?;
+    let Gathered {
+        pieces,
+        history,
+        rest,
+    } = run_all(rt, alloc, shared, ready, gate)?;
+    let ends = give_all(rt, alloc, &rest, &pieces, &history)?;
     Ok(Edited {
         ends,
-        history: book.close(),
+        history,
+        rest,
     })
+}
+
+// What so many workers share, and these workers.
+fn shared_by<F: Fn(u32, &Value, &Value) -> u64>(
+    alloc: Global,
+    rest: Rest<F>,
+    limit: u32,
+    workers: u32,
+) -> Result<(Shared<F>, Vec<Worker>), OutOfMemory>
+    requires rest { IsRest F.Fn rest }
+    requires workers { (1 ≤ workers) × (workers ≤ 64) }
+    ensures rest { IfOk result (λ made. made.0.rest ≡ rest) }
+    ensures limit { IfOk result (λ made. made.0.book.terms.limit ≡ limit) }
+    ensures shared { IfOk result (λ made. IsShared F.Fn made.0) }
+    ensures ready { IfOk result (λ made. All (IsReady made.0) made.1.items) }
+    ensures workers { IfOk result (λ made. length made.1.items ≡ workers) }
+    ensures seats { IfOk result (λ made. made.0.tickets.seats ≡ workers) }
+    ensures passes { IfOk result (λ made. made.0.book.terms.passes ≡ workers) }
+{
+    let rows = rest.sheet.len();
+    let (tickets, seats) = Tickets::new(alloc, rows, workers)?;
+    let (book, passes) = SharedBook::share(alloc, rows, limit, rows, workers)?;
+    let ready = workers_at(alloc, &rest.pool, seats, passes, workers)?;
+    let shared = Shared {
+        rest,
+        tickets,
+        book,
+    };
+    Ok((shared, ready))
+}
+
+// A worker for each of the seats and passes, which has done nothing yet.
+fn workers_at(
+    alloc: Global,
+    pool: &Pool,
+    seats: Vec<Seat>,
+    passes: Vec<Pass>,
+    count: u32,
+) -> Result<Vec<Worker>, OutOfMemory>
+    requires seats { length seats.items ≡ count }
+    requires passes { length passes.items ≡ count }
+    ensures as_many { IfOk result (λ workers. length workers.items ≡ count) }
+    ensures ready { IfOk result (λ workers. (row : Row) (book : BookName) → All (IsFresh row) seats.items
+        → All (IsFreshPass book) passes.items → All (IsReadyAt row book) workers.items) }
+{
+    let mut seats = seats;
+    let mut passes = passes;
+    let mut workers = Vec::with_capacity(alloc, count as usize)?;
+    for number in 0..count {
+        let (Some(seat), Some(pass)) = (seats.pop(), passes.pop()) else {
+            unreachable!()
+        };
+        workers.push(Worker {
+            number,
+            seat,
+            pass,
+            reader: pool.reader(alloc)?,
+            pieces: Vec::new(alloc),
+        })?;
+    }
+    Ok(workers)
 }

@@ -1,66 +1,48 @@
 //! What becomes of one record.
 ghost use Rattle.std.specs.Prelude.{◌≡◌, ◌<◌, IfOk, IfSome, None, Some, length, option_copied, option_map};
-ghost use Rattle.edit_line.specs.EditSets.{EditsParts};
 ghost use Rattle.edit_model.specs.Rows.{IsRow};
 ghost use Rattle.edit_paths.specs.Outcomes.{outcome_of};
 ghost use Rattle.bound_cert.specs.declared.outcome.Outcome.TheVariants as outcome;
-ghost use Rattle.donor_book.specs.Claims.{claim_of};
-ghost use Rattle.donor_book.specs.Entries.{wins_of};
 ghost use Rattle.donor_search.specs.CleanRows.{IsCleanRow, row_at};
-ghost use Rattle.record_workers.specs.inner.Editings.{EndDonates, IsBookOf, IsEditing, IsEndIn, SaysIn, case_in, edits_in, rows_in};
+ghost use Rattle.record_workers.specs.Givings.{EndsIn, IsEndIn, SaysIn};
+ghost use Rattle.record_workers.specs.Rests.{IsPieceIn, IsRest, case_in, rows_in};
 
-use crate::donation::donor_for;
-use crate::editing::Editing;
+use crate::copies::copy_outcome;
+use crate::piece::Piece;
+use crate::rest::Rest;
 use back_subst::{GiveFault, changed_set, give};
 use bound_cert::{Cert, GiftFault, Outcome, Path, RowProof};
-use donor_book::Book;
 use edit_model::{Row, Value};
 use edit_paths::case_known;
 use edit_report::RowEnd;
 use foundation::{OutOfMemory, Steps};
-use linear_elim::Systems;
-use localise_tree::localise;
+use linear_elim::Recompute;
 use record_text::Sheet;
 use std::alloc::Global;
-use std::sync::ledger::Ledger;
+use std::marker::Brand;
+use std::sync::ledger::{Blank, Ledger};
 
-/// What becomes of a record: the outcome of its search, the donor that it claims, and the values of its changed fields.
-pub(crate) fn edit_record<F: Fn(u32, &Value, &Value) -> u64, S: Systems, L: Ledger>(
+/// What becomes of the record of a piece that is given this donor: the outcome of its search, and the values of its
+/// changed fields, the donor's where they fit.
+pub(crate) fn end_of<F: Fn(u32, &Value, &Value) -> u64>(
     alloc: Global,
-    source: &mut S,
-    editing: &Editing<F>,
-    book: &mut Book,
-    row_no: u32,
-    steps: &mut Steps<L>,
+    rest: &Rest<F>,
+    piece: &Piece,
+    donor: Option<u32>,
 ) -> Result<RowEnd, OutOfMemory>
-    requires editing { IsEditing F.Fn editing.now }
-    requires served { S.serves source.old (edits_in editing.now) }
-    requires book { IsBookOf editing.now book.old }
-    requires row { row_no < length (rows_in editing.now) }
-    requires first { claim_of row_no (wins_of book.old.history) ≡ None }
-    ensures end { IfOk result (IsEndIn editing.now (row_at (rows_in editing.now) row_no)) }
-    ensures says { IfOk result (SaysIn editing.now (row_at (rows_in editing.now) row_no)) }
-    ensures donates { IfOk result (EndDonates editing.now row_no book.old.history book.new.history) }
-    ensures book { IsBookOf editing.now book.new }
-    ensures serves { (e : EditsParts) → S.serves source.old e → S.serves source.new e }
+    requires rest { IsRest F.Fn rest.now }
+    requires piece { IsPieceIn rest.now piece.now }
+    requires donor { IfSome donor (IsCleanRow rest.now.survey (rows_in rest.now)) }
+    ensures { IfOk result (EndsIn rest.now piece.now donor) }
 {
-    let row = editing.sheet.row(row_no);
-    case_known(editing.survey, editing.edits, row);
-    match localise(
-        alloc,
-        source,
-        editing.survey,
-        editing.edits,
-        row,
-        editing.terms.budget,
-        steps,
-    )? {
+    let row = rest.sheet.row(piece.row_no);
+    case_known(&rest.survey, &rest.edits, row);
+    match copy_outcome(alloc, &piece.outcome)? {
         Outcome::Change { path, weight, cert } => {
-            let donor = donor_for(alloc, editing, book, row_no, &path, weight, steps)?;
             let change = Change { path, weight, cert };
-            with_values(alloc, source, editing, row, change, donor, steps)
+            with_values::<F, Brand>(alloc, rest, row, change, donor, Blank::new(1))
         }
-        outcome => Ok(left_out(outcome)),
+        outcome => Ok(left_out(outcome, donor)),
     }
 }
 
@@ -73,38 +55,38 @@ struct Change {
 }
 
 // What becomes of a record for which a change was found: its changed fields are given values, the donor's where they fit.
-fn with_values<F: Fn(u32, &Value, &Value) -> u64, S: Systems, L: Ledger>(
+fn with_values<F: Fn(u32, &Value, &Value) -> u64, L: Ledger>(
     alloc: Global,
-    source: &mut S,
-    editing: &Editing<F>,
+    rest: &Rest<F>,
     row: &Row,
     change: Change,
     donor: Option<u32>,
-    steps: &mut Steps<L>,
+    blank: Blank,
 ) -> Result<RowEnd, OutOfMemory>
-    requires editing { IsEditing F.Fn editing.now }
-    requires row { IsRow editing.now.survey.now.fields row.now }
-    requires served { S.serves source.old (edits_in editing.now) }
-    requires found { outcome_of (case_in editing.now row.now) editing.now.terms.budget
-        ≡ outcome.Change change.path change.weight change.cert }
-    requires donor { IfSome donor (IsCleanRow editing.now.survey.now (rows_in editing.now)) }
-    ensures end { IfOk result (IsEndIn editing.now row.now) }
-    ensures says { IfOk result (SaysIn editing.now row.now) }
+    requires name { blank.name ≡ L.name }
+    requires parts { blank.parts ≡ L.parts }
+    requires counts { 0 < blank.parts }
+    requires rest { IsRest F.Fn rest.now }
+    requires row { IsRow rest.now.survey.fields row.now }
+    requires found { outcome_of (case_in rest.now row.now) rest.now.budget ≡ outcome.Change change.path change.weight change.cert }
+    requires donor { IfSome donor (IsCleanRow rest.now.survey (rows_in rest.now)) }
+    ensures end { IfOk result (IsEndIn rest.now row.now) }
+    ensures says { IfOk result (SaysIn rest.now row.now) }
     ensures change { IfOk result (λ end. end.proof.outcome ≡ outcome.Change change.path change.weight change.cert) }
     ensures donor { IfOk result (λ end. end.donor ≡ donor) }
-    ensures serves { (e : EditsParts) → S.serves source.old e → S.serves source.new e }
 {
-    case_known(editing.survey, editing.edits, row);
-    let changed = changed_set(editing.survey, change.path.letters());
+    case_known(&rest.survey, &rest.edits, row);
+    let changed = changed_set(&rest.survey, change.path.letters());
+    let mut steps = Steps::<L>::start(blank);
     match give(
         alloc,
-        source,
-        editing.survey,
-        editing.edits,
+        &mut Recompute,
+        &rest.survey,
+        &rest.edits,
         row,
         changed,
-        values_of(editing.sheet, donor),
-        steps,
+        values_of(&rest.sheet, donor),
+        &mut steps,
     ) {
         Ok(gift) => Ok(RowEnd {
             proof: proof_of(change, None),
@@ -161,16 +143,16 @@ fn without_values(change: Change, donor: Option<u32>, fault: GiftFault) -> RowEn
 }
 
 // The end of a record for which no change was found.
-fn left_out(outcome: Outcome) -> RowEnd
+fn left_out(outcome: Outcome, donor: Option<u32>) -> RowEnd
     ensures outcome { result.proof.outcome ≡ outcome }
-    ensures none { (result.proof.gift ≡ None) × (result.donor ≡ None) × (result.gift ≡ None) }
+    ensures none { (result.proof.gift ≡ None) × (result.donor ≡ donor) × (result.gift ≡ None) }
 {
     RowEnd {
         proof: RowProof {
             outcome,
             gift: None,
         },
-        donor: None,
+        donor,
         gift: None,
     }
 }

@@ -1,31 +1,19 @@
-use Rattle.std.specs.Prelude.{◌≡◌, ℕ, ◌++◌, Bool, true, false, List, [], ◌∷◌, Option, Some, None}
-use Rattle.edit_model.specs.Parts.{SurveyParts}
-use Rattle.edit_model.specs.declared.value.Value.{Value}
-use Rattle.donor_book.specs.Claims.{first_free}
-use Rattle.donor_book.specs.Entries.{entry_of, wins_of}
-use Rattle.donor_book.specs.declared.claim.Claim.{Claim}
-use Rattle.donor_book.specs.declared.claim.Claim.TheVariants as claim
+-- The donors of the records, by their numbers.
+use Rattle.std.specs.Prelude.{◌≡◌, ℕ, ◌<◌, IfSome, List, Option, None, slice_index_or}
 use Rattle.donor_book.specs.declared.claim.Entry.{Entry}
-use Rattle.donor_search.specs.CleanRows.{row_at}
-use Rattle.record_workers.specs.Donations.{IsRankingOf}
-use Rattle.record_workers.specs.declared.terms.Terms.{Terms}
+use Rattle.donor_search.specs.CleanRows.{IsCleanRow}
+use Rattle.record_workers.specs.Donations.{donor_in}
+use Rattle.record_workers.specs.Rests.{rows_in}
+use Rattle.record_workers.specs.declared.rest.Rest.{Rest}
 
--- the donor that a claim is answered
-abbrev pub donor_answered : Claim → Option ℕ
-donor_answered (claim.Given donor) = Some donor
-donor_answered claim.Nobody = None
-donor_answered (claim.Had reply) = reply
+-- the donor of the record of this number, in a list of all
+abbrev pub donor_at : List (Option ℕ) → ℕ → Option ℕ
+donor_at donors row_no = slice_index_or donors row_no None
 
--- a record claims a donor: the first of its ranking that the claims before leave, or nobody; its claim stands behind them
-pub record Claims (survey : SurveyParts) (rows : List (List Value)) (terms : Terms) (row_no : ℕ) (path : List Bool)
-    (before after : List Entry) (donor : Option ℕ) : Type 0 where
-  pub ranking : List ℕ
-  pub ranked : IsRankingOf survey rows terms.near (row_at rows row_no) path ranking
-  pub reply : donor ≡ first_free terms.limit (wins_of before) ranking
-  pub entered : after ≡ before ++ entry_of row_no ranking donor ∷ []
+-- the list has the donor of each of the first rows
+abbrev pub ListsDonors : List Entry → ℕ → List (Option ℕ) → Type 0
+ListsDonors history rows donors = (i : ℕ) → i < rows → donor_at donors i ≡ donor_in history i
 
--- what a record does with the claims: it claims a donor, or it leaves them as they are and is given nobody
-abbrev pub Donates : Bool → SurveyParts → List (List Value) → Terms → ℕ → List Bool
-    → List Entry → List Entry → Option ℕ → Type 0
-Donates true survey rows terms row_no path before after donor = Claims survey rows terms row_no path before after donor
-Donates false survey rows terms row_no path before after donor = (after ≡ before) × (donor ≡ None)
+-- the donor of the record of this number, if it has one, is a clean record
+abbrev pub HasCleanDonor : {F : Type 0} → Rest F → List (Option ℕ) → ℕ → Type 0
+HasCleanDonor rest donors row_no = IfSome (donor_at donors row_no) (IsCleanRow rest.survey (rows_in rest))

@@ -19,24 +19,24 @@ use Rattle.bound_cert.specs.declared.cert.Cert.{Cert}
 pub changed_set-changed-requires : goal.changed_set-changed-requires
 changed_set-changed-requires g c = record {
   whole =
-      rw c.letters.ensures (change-whole c.args.editing.now.survey.now (arc_value c.args.editing.now.edits.now) c.args.row.now c.args.editing.now.terms.budget c.args.change.path c.args.change.weight c.args.change.cert
+      rw c.letters.ensures (change-whole c.args.rest.now.survey (arc_value c.args.rest.now.edits) c.args.row.now c.args.rest.now.budget c.args.change.path c.args.change.weight c.args.change.cert
       c.case_known.ensures.case c.requires.found);
 }
 
 pub give-requires-clause-path : goal.give-requires-clause-path
 give-requires-clause-path g c =
-    change-given c.args.editing.now.survey.now (arc_value c.args.editing.now.edits.now) c.args.row.now c.args.editing.now.terms.budget c.args.change.path c.args.change.weight c.args.change.cert
-    c.case_known.ensures.case c.requires.found (c.requires.editing.same c.args.row.now) c.changed_set-changed.result (c.changed_set-changed.ensures.path ∙ c.letters.ensures)
-    c.requires.editing.shape c.requires.editing.budget
+    change-given c.args.rest.now.survey (arc_value c.args.rest.now.edits) c.args.row.now c.args.rest.now.budget c.args.change.path c.args.change.weight c.args.change.cert
+    c.case_known.ensures.case c.requires.found (c.requires.rest.same c.args.row.now) c.changed_set-changed.result (c.changed_set-changed.ensures.path ∙ c.letters.ensures)
+    c.requires.rest.shape c.requires.rest.budget
 
 pub returns-in-Ok-clause-says : goal.returns-in-Ok-clause-says
 returns-in-Ok-clause-says g c =
-    let survey = c.args.editing.now.survey.now in
-    let edits = arc_value c.args.editing.now.edits.now in
-    let same = c.requires.editing.same c.args.row.now in
+    let survey = c.args.rest.now.survey in
+    let edits = arc_value c.args.rest.now.edits in
+    let same = c.requires.rest.same c.args.row.now in
     let path_is = c.changed_set-changed.ensures.path ∙ c.letters.ensures in
-    let choice = change-choice (case_of survey edits c.args.row.now) c.case_known.ensures.case c.args.editing.now.terms.budget c.args.change.path c.args.change.weight c.args.change.cert c.requires.found in
-    let needed = change-needed survey edits c.args.row.now c.args.editing.now.terms.budget c.args.change.path c.args.change.weight c.args.change.cert c.case_known.ensures.case c.requires.found same c.changed_set-changed.result path_is in
+    let choice = change-choice (case_of survey edits c.args.row.now) c.case_known.ensures.case c.args.rest.now.budget c.args.change.path c.args.change.weight c.args.change.cert c.requires.found in
+    let needed = change-needed survey edits c.args.row.now c.args.rest.now.budget c.args.change.path c.args.change.weight c.args.change.cert c.case_known.ensures.case c.requires.found same c.changed_set-changed.result path_is in
     let (point, completes) = c.in-Ok.ensures.consistent in
     rw c.proof_of.ensures.outcome
     (corrected survey c.args.row.now c.in-Ok.gift.row c.changed_set-changed.result _ point c.requires.row c.in-Ok.ensures.imputed completes
@@ -57,12 +57,12 @@ least-says survey edits row budget path weight cert end is found same told none 
 
 pub returns-in-Err-Bound-clause-says : goal.returns-in-Err-Bound-clause-says
 returns-in-Err-Bound-clause-says g c =
-    let e = c.args.editing.now in
-    least-says e.survey.now (arc_value e.edits.now) c.args.row.now e.terms.budget c.args.change.path c.args.change.weight c.args.change.cert c.without_values.result
-    c.case_known.ensures.case c.requires.found (c.requires.editing.same c.args.row.now) c.without_values.ensures.outcome c.without_values.ensures.none.1
+    let rest = c.args.rest.now in
+    least-says rest.survey (arc_value rest.edits) c.args.row.now rest.budget c.args.change.path c.args.change.weight c.args.change.cert c.without_values.result
+    c.case_known.ensures.case c.requires.found (c.requires.rest.same c.args.row.now) c.without_values.ensures.outcome c.without_values.ensures.none.1
 
 pub returns-in-Err-Test-clause-says : goal.returns-in-Err-Test-clause-says
 returns-in-Err-Test-clause-says g c =
-    let e = c.args.editing.now in
-    least-says e.survey.now (arc_value e.edits.now) c.args.row.now e.terms.budget c.args.change.path c.args.change.weight c.args.change.cert c.without_values-in-Err-Test.result
-    c.case_known.ensures.case c.requires.found (c.requires.editing.same c.args.row.now) c.without_values-in-Err-Test.ensures.outcome c.without_values-in-Err-Test.ensures.none.1
+    let rest = c.args.rest.now in
+    least-says rest.survey (arc_value rest.edits) c.args.row.now rest.budget c.args.change.path c.args.change.weight c.args.change.cert c.without_values-in-Err-Test.result
+    c.case_known.ensures.case c.requires.found (c.requires.rest.same c.args.row.now) c.without_values-in-Err-Test.ensures.outcome c.without_values-in-Err-Test.ensures.none.1

@@ -1,0 +1,98 @@
+-- Workers that draw the records and claim donors side by side.
+use Rattle.std.specs.Prelude.{◌≡◌, ◌⊎◌, ◌++◌, ℕ, Bool, true, List, [], ◌∷◌, IsSome, length, map}
+use Rattle.std.specs.Borrow.{Bor}
+use Rattle.std.specs.Fn as closures
+use Rattle.std.specs.List.{All}
+use Rattle.std.specs.List.Sorted.{IsStrictlyIncreasing}
+use Rattle.edit_model.specs.declared.value.Value.{Value}
+use Rattle.edit_line.specs.Reductions.{IsIn}
+use Rattle.ticket_row.specs.Tickets as tickets
+use Rattle.donor_book.specs.Claims.{claim_of}
+use Rattle.donor_book.specs.Passes as passes
+use Rattle.donor_book.specs.declared.rule.Placed.{Placed}
+use Rattle.donor_search.specs.CleanRows.{row_at}
+use Rattle.localise_tree.specs.KeptFields.{KeepsChange}
+use Rattle.shared_edits.specs.Pools.{IsReaderOf, Walked, keeps_fields}
+use Rattle.record_workers.specs.Needs.{Need, need_in, needs_of}
+use Rattle.record_workers.specs.Rests.{IsPieceIn, IsRest, case_in, rows_in, rows_of}
+use Rattle.record_workers.specs.declared.piece.Piece.{Piece}
+use Rattle.record_workers.specs.declared.rest.Rest.{Rest}
+use Rattle.record_workers.specs.declared.rest.Shared.{Shared}
+use Rattle.record_workers.specs.declared.worker.Worker.{Worker}
+
+-- what workers share: a ticket for each record, and a book in which the records both claim and are the donors
+pub record IsShared {F : Type 0} (calls : closures.Shared F (ℕ × (Bor Value × (Bor Value × Unit {0}))) ℕ) (shared : Shared F) : Type 0 where
+  pub rest : IsRest calls shared.rest
+  pub tickets : shared.tickets.row.count ≡ length (rows_in shared.rest)
+  pub rows : shared.book.terms.rows ≡ length (rows_in shared.rest)
+  pub donors : shared.book.terms.donors ≡ length (rows_in shared.rest)
+
+-- a worker that has a seat, a pass and a reader of the pool, and has done nothing yet
+pub record IsReady {F : Type 0} (shared : Shared F) (worker : Worker) : Type 0 where
+  pub seat : tickets.IsFresh shared.tickets.row worker.seat
+  pub pass : passes.IsFresh shared.book worker.pass
+  pub reader : IsReaderOf shared.rest.pool worker.reader
+  pub pieces : worker.pieces.items ≡ []
+
+-- ---- the claims of one worker
+
+-- what the claims of a pass ask for, in their order
+abbrev pub needs_in : passes.PassState → List Need
+needs_in p = map (λ (m : Placed). need_in m.entry) p.mine
+
+-- the pass has seen a claim of this row
+abbrev pub HasSeen : passes.PassState → ℕ → Type 0
+HasSeen p row_no = IsSome (claim_of row_no p.seen)
+
+-- the claims of a pass are for what the records of these pieces need, in rising order of rows; a need that the pass did not claim
+-- for was claimed for by another, and the pass has seen it
+pub record AreClaimed (pieces : List Piece) (p : passes.PassState) : Type 0 where
+  pub needed : All (λ (need : Need). IsIn need (needs_of pieces)) (needs_in p)
+  pub claimed : All (λ (need : Need). IsIn need (needs_in p) ⊎ HasSeen p need.row_no) (needs_of pieces)
+  pub rising : IsStrictlyIncreasing (map (λ (need : Need). need.row_no) (needs_in p))
+
+-- ---- the systems that it keeps
+
+-- for each piece whose outcome is a change, a source keeps the system of the numerical fields that are changed
+abbrev pub KeepsAll : {F : Type 0} → Rest F → (ℕ → Bool) → List Piece → Type 0
+KeepsAll rest keeps pieces = All (λ (piece : Piece). KeepsChange keeps (case_in rest (row_at (rows_in rest) piece.row_no)) piece.outcome) pieces
+
+-- the sets of fields that a source over the pool keeps, by what a reader has walked
+abbrev pub kept_by : {F : Type 0} → Rest F → List Walked → ℕ → Bool
+kept_by rest reader fields = keeps_fields rest.pool fields reader
+
+-- ---- what a worker has done
+
+-- these pieces were found, and claimed for
+pub record HasFound {F : Type 0} (shared : Shared F) (found : List Piece) (p : passes.PassState) : Type 0 where
+  pub pass : p.book ≡ shared.book
+  pub pieces : All (IsPieceIn shared.rest) found
+  pub claims : AreClaimed found p
+  pub places : passes.ArePlaced p.seen p.mine
+
+-- what a worker has found and claimed so far
+pub record HasWorked {F : Type 0} (shared : Shared F) (worker : Worker) : Type 0 where
+  pub seat : worker.seat.row ≡ shared.tickets.row
+  pub found : HasFound shared worker.pieces.items worker.pass
+
+-- the pieces are those of the rows that were drawn, in that order
+abbrev pub HasAll : List Piece → List ℕ → Type 0
+HasAll pieces drawn = rows_of pieces ≡ drawn
+
+-- of the last row that was drawn there is no piece
+abbrev pub LacksLast : List Piece → List ℕ → Type 0
+LacksLast pieces drawn = (row_no : ℕ) × (drawn ≡ rows_of pieces ++ row_no ∷ [])
+
+-- a worker found what there is to find of the rows that its seat drew, in that order
+abbrev pub FoundAll : Worker → Type 0
+FoundAll worker = HasAll worker.pieces.items worker.seat.drawn
+
+-- of the last row that its seat drew it found nothing
+abbrev pub MissesLast : Worker → Type 0
+MissesLast worker = LacksLast worker.pieces.items worker.seat.drawn
+
+-- a worker has drawn records until none was left
+pub record HasRun {F : Type 0} (shared : Shared F) (worker : Worker) : Type 0 where
+  pub worked : HasWorked shared worker
+  pub found : FoundAll worker
+  pub ended : worker.seat.ended ≡ true

@@ -1,0 +1,44 @@
+-- What some workers have, all together.
+use Rattle.std.specs.Prelude.{◌≡◌, ℕ, List, [], Option, Some, None, map, slice_get}
+use Rattle.std.specs.List.{flat_map}
+use Rattle.ticket_row.specs.Tickets as tickets
+use Rattle.donor_book.specs.Entries.{entry_of}
+use Rattle.donor_book.specs.Passes as passes
+use Rattle.donor_book.specs.declared.claim.Entry.{Entry}
+use Rattle.donor_book.specs.declared.claim.Won.{Won}
+use Rattle.record_workers.specs.declared.piece.Piece.{Piece}
+use Rattle.record_workers.specs.declared.worker.Worker.{Worker}
+
+-- their seats, their passes, and their pieces
+abbrev pub seats_of : List Worker → List tickets.SeatState
+seats_of workers = map (λ (w : Worker). w.seat) workers
+
+abbrev pub passes_of : List Worker → List passes.PassState
+passes_of workers = map (λ (w : Worker). w.pass) workers
+
+abbrev pub pieces_of : List Worker → List Piece
+pieces_of workers = flat_map (λ (w : Worker). w.pieces.items) workers
+
+-- the ranking of a piece, or no donors where it has none
+abbrev pub ranking_or : Option (List ℕ) → List ℕ
+ranking_or None = []
+ranking_or (Some ranking) = ranking
+
+abbrev pub ranking_at : Option Piece → List ℕ
+ranking_at None = []
+ranking_at (Some piece) = ranking_or piece.ranking
+
+-- the claim of a record, with the ranking that its piece has, of pieces in row order
+abbrev pub entry_by : List Piece → Won → Entry
+entry_by pieces w = entry_of w.row_no (ranking_at (slice_get pieces w.row_no)) w.reply
+
+-- a pass of this book that has seen and claimed nothing
+abbrev pub IsFreshPass : passes.BookName → passes.PassState → Type 0
+IsFreshPass book p = passes.IsFresh book p
+
+-- a worker at these tickets and at this book that has done nothing yet
+pub record IsReadyAt (row : tickets.Row) (book : passes.BookName) (worker : Worker) : Type 0 where
+  pub seat : tickets.IsFresh row worker.seat
+  pub pass : passes.IsFresh book worker.pass
+  pub reader : worker.reader ≡ []
+  pub pieces : worker.pieces.items ≡ []

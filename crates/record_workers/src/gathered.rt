@@ -1,0 +1,103 @@
+//! All workers, side by side.
+ghost use Rattle.std.specs.Prelude.{◌≡◌, ◌<◌, IfOk, length};
+ghost use Rattle.std.specs.List.{All};
+ghost use Rattle.record_workers.specs.Donations.{AreInRowOrder};
+ghost use Rattle.record_workers.specs.Needs.{AnswersNeeds};
+ghost use Rattle.record_workers.specs.Rests.{ArePiecesIn};
+ghost use Rattle.record_workers.specs.Workers.{HasRun, IsReady, IsShared};
+
+use crate::gate::Gate;
+use crate::history::entries_of;
+use crate::parts::{Parts, parts_of};
+use crate::piece::Piece;
+use crate::rest::{Rest, Shared};
+use crate::worker::Worker;
+use donor_book::Entry;
+use edit_model::Value;
+use foundation::OutOfMemory;
+use std::alloc::Global;
+use std::sync::Wait;
+use std::thread;
+use std::thread::Threads;
+
+/// What workers found and claimed, all together: a piece for each record, in row order, the claims of donors in the
+/// order in which they were answered, and by what the records were edited.
+#[derive(Drop)]
+pub struct Gathered<F> {
+    pub pieces: Vec<Piece>,
+    pub history: Vec<Entry>,
+    pub rest: Rest<F>,
+}
+
+/// Lets all workers run, each in a thread of its own, and gathers what they found and claimed. The workers have all
+/// seats and all passes, and there is at least one.
+pub fn run_all<R: Threads + Wait + Sync, F: Fn(u32, &Value, &Value) -> u64 + Send + Sync, G: Gate>(
+    rt: &R,
+    alloc: Global,
+    shared: Shared<F>,
+    workers: Vec<Worker>,
+    gate: &G,
+) -> Result<Gathered<F>, OutOfMemory>
+    requires shared { IsShared F.Fn shared }
+    requires ready { All (IsReady shared) workers.items }
+    requires some { 0 < length workers.items }
+    requires seats { length workers.items ≡ shared.tickets.seats }
+    requires passes { length workers.items ≡ shared.book.terms.passes }
+    ensures rest { IfOk result (λ gathered. gathered.rest ≡ shared.rest) }
+    ensures pieces { IfOk result (λ gathered. ArePiecesIn shared.rest gathered.pieces.items) }
+    ensures history { IfOk result (λ gathered. AnswersNeeds shared.book.terms.limit gathered.pieces.items gathered.history.items) }
+    ensures order { IfOk result (λ gathered. length workers.items ≡ 1 → AreInRowOrder gathered.history.items) }
+{
+    let ran = all_run(rt, alloc, &shared, workers, gate)?;
+    let Shared {
+        rest,
+        tickets,
+        book,
+    } = shared;
+    let Parts {
+        seats,
+        passes,
+        mut pieces,
+    } = parts_of(alloc, ran)?;
+    tickets.close(seats);
+    let wins = book.close(passes);
+    pieces.sort_unstable_by_key(|piece| piece.row_no);
+    let history = entries_of(alloc, &pieces, &wins)?;
+    Ok(Gathered {
+        pieces,
+        history,
+        rest,
+    })
+}
+
+// Lets all workers run, and gives them back in order.
+fn all_run<R: Threads + Wait + Sync, F: Fn(u32, &Value, &Value) -> u64 + Send + Sync, G: Gate>(
+    rt: &R,
+    alloc: Global,
+    shared: &Shared<F>,
+    workers: Vec<Worker>,
+    gate: &G,
+) -> Result<Vec<Worker>, OutOfMemory>
+    requires shared { IsShared F.Fn shared.now }
+    requires ready { All (IsReady shared.now) workers.items }
+    ensures as_many { IfOk result (λ ran. length ran.items ≡ length workers.items) }
+    ensures ran { IfOk result (λ ran. All (HasRun shared.now) ran.items) }
+{
+    let results = thread::map_vec(
+        rt,
+        workers,
+        &|worker: Worker| -> Result<Worker, OutOfMemory>
+            requires { IsShared F.Fn shared.now × IsReady shared.now worker }
+            ensures { IfOk result (HasRun shared.entry.now) }
+        {
+            let mut worker = worker;
+            worker.run(rt, alloc, shared, gate)?;
+            Ok(worker)
+        },
+    )?;
+    let mut ran = Vec::with_capacity(alloc, results.len())?;
+    for worker in results {
+        ran.push(worker?)?;
+    }
+    Ok(ran)
+}

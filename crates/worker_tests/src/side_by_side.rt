@@ -1,0 +1,184 @@
+//! Records that two workers edit, where a gate tells which of them goes first. What is expected was worked out by hand.
+ghost use Rattle.std.specs.Prelude.{◌≤◌, ◌<◌, ◌^◌, length};
+
+use donor_book::Entry;
+use donor_measure::{Measure, Yardsticks};
+use edit_language::read_rules;
+use edit_model::Value;
+use edit_report::RowEnd;
+use foundation::OutOfMemory;
+use pruned_rules::prune_rules;
+use record_text::read_records;
+use record_workers::{Edited, Gate, NoGate, Terms, edit_records};
+use std::alloc::Global;
+use std::sync::atomic::{AtomicU64, Ordering};
+use std::test::Fail;
+use std::thread;
+use std::thread::Threads;
+
+/// How often a worker that is held looks before it gives up.
+const TURNS: u32 = 1_000_000_000;
+
+/// The gate that holds the worker that drew one row until another row was drawn.
+#[derive(Drop)]
+struct Hold {
+    row_no: u32,
+    until: u32,
+    drawn: AtomicU64,
+    given_up: AtomicU64,
+}
+
+impl Hold {
+    fn new(row_no: u32, until: u32) -> Hold {
+        Hold {
+            row_no,
+            until,
+            drawn: AtomicU64::new(0),
+            given_up: AtomicU64::new(0),
+        }
+    }
+
+    // Waits for the other row, and tells whether it was drawn.
+    fn waits(&self) -> bool {
+        for _ in 0..TURNS {
+            if self.drawn.load(Ordering::SeqCst) == 1 {
+                return true;
+            }
+            thread::yield_now();
+        }
+        false
+    }
+
+    fn has_given_up(&self) -> bool {
+        self.given_up.load(Ordering::SeqCst) == 1
+    }
+}
+
+impl Gate for Hold {
+    fn at(&self, _worker: u32, row_no: u32) {
+        if row_no == self.until {
+            self.drawn.store(1, Ordering::SeqCst);
+        }
+        if row_no == self.row_no && !self.waits() {
+            self.given_up.store(1, Ordering::SeqCst);
+        }
+    }
+}
+
+// What becomes of the records of a file, by the rules of another, with one donor a record, each given once.
+fn edited<R: Threads + Sync, G: Gate>(
+    rt: &R,
+    alloc: Global,
+    rules: &[u8],
+    records: &[u8],
+    workers: u32,
+    gate: &G,
+) -> Result<(Vec<RowEnd>, Vec<Entry>), OutOfMemory>
+    requires rules { length rules.now < 2 ^ 32 }
+    requires workers { (1 ≤ workers) × (workers ≤ 64) }
+{
+    let Ok(survey) = read_rules(alloc, rules) else {
+        return Err(OutOfMemory);
+    };
+    let Ok(sheet) = read_records(alloc, &survey, records) else {
+        return Err(OutOfMemory);
+    };
+    let edits = prune_rules(alloc, &survey)?.kept_edits(alloc, &survey)?;
+    let yardsticks = Yardsticks::of(&survey);
+    let measure = Measure::new(&survey, move |field: u32, first: &Value, second: &Value| {
+        yardsticks.distance(field, first, second)
+    });
+    let terms = Terms {
+        budget: 1_000_000,
+        limit: 1,
+        near: 1,
+    };
+    let Edited { ends, history, .. } = edit_records(
+        rt, alloc, survey, edits, sheet, measure, terms, workers, gate,
+    )?;
+    Ok((ends, history))
+}
+
+// Whether the claim is of this row, which ranks the first record alone, and was given this.
+fn is_claim(entry: &Entry, row_no: u32, reply: Option<u32>) -> bool {
+    entry.row_no == row_no && entry.ranking.as_slice() == [0].as_slice() && entry.reply == reply
+}
+
+// Whether the record has this whole number at this field.
+fn has_number(end: &RowEnd, field: u32, number: i128) -> bool {
+    let Some(gift) = &end.gift else {
+        return false;
+    };
+    match gift.row.values().get(field as usize) {
+        Some(Value::Number(x)) => x.numerator() == number && x.denominator() == 1,
+        _ => false,
+    }
+}
+
+const PAIR_RULES: &[u8] = b"number A\nnumber B\nA >= 1\nB >= 1\nB <= 9\n";
+
+#[test]
+fn two_workers_give_one_donor_once(rt: HostRuntime) -> Result<(), Fail> {
+    let (_, history) = edited(
+        &rt,
+        rt.alloc(),
+        PAIR_RULES,
+        b"A,B\n5,4\n5,\n6,\n",
+        2,
+        &NoGate,
+    )?;
+    assert_eq!(rt; history.len(), 2);
+    assert!(rt; history[0].reply == Some(0) && history[1].reply.is_none());
+    Ok(())
+}
+
+#[test]
+fn one_worker_claims_in_row_order(rt: HostRuntime) -> Result<(), Fail> {
+    let (ends, history) = edited(
+        &rt,
+        rt.alloc(),
+        PAIR_RULES,
+        b"A,B\n5,4\n5,\n6,\n",
+        1,
+        &NoGate,
+    )?;
+    assert_eq!(rt; history.len(), 2);
+    assert!(rt; is_claim(&history[0], 1, Some(0)) && is_claim(&history[1], 2, None));
+    assert!(rt; ends.len() == 3 && has_number(&ends[1], 1, 4) && has_number(&ends[2], 1, 1));
+    Ok(())
+}
+
+#[test]
+fn a_worker_draws_while_another_is_held(rt: HostRuntime) -> Result<(), Fail> {
+    let gate = Hold::new(0, 1);
+    let (ends, history) = edited(
+        &rt,
+        rt.alloc(),
+        b"number A\nA >= 0\n",
+        b"A\n1\n2\n",
+        2,
+        &gate,
+    )?;
+    assert!(rt; !gate.has_given_up());
+    assert!(rt; history.is_empty() && ends.len() == 2);
+    assert!(rt; has_number(&ends[0], 0, 1) && has_number(&ends[1], 0, 2));
+    Ok(())
+}
+
+#[test]
+fn a_worker_claims_before_it_draws_again(rt: HostRuntime) -> Result<(), Fail> {
+    let gate = Hold::new(1, 3);
+    let (ends, history) = edited(
+        &rt,
+        rt.alloc(),
+        PAIR_RULES,
+        b"A,B\n5,4\n5,\n6,\n7,4\n",
+        2,
+        &gate,
+    )?;
+    assert!(rt; !gate.has_given_up());
+    assert_eq!(rt; history.len(), 2);
+    assert!(rt; is_claim(&history[0], 2, Some(0)) && is_claim(&history[1], 1, None));
+    assert!(rt; ends.len() == 4 && has_number(&ends[1], 1, 1) && has_number(&ends[2], 1, 4));
+    Ok(())
+}
