@@ -24,22 +24,23 @@ one_value : (values : List (List ℕ)) (a b : List ℕ) → values ≡ a ∷ [] 
 one_value values a b p q = cc
 
 -- an edit of these files, on these terms
-abbrev pub edit_of : List ℕ → List ℕ → List ℕ → List ℕ → List ℕ → ℕ → ℕ → ℕ → EditAsked
-edit_of r c d s p budget limit near = record {
+abbrev pub edit_of : List ℕ → List ℕ → List ℕ → List ℕ → List ℕ → ℕ → ℕ → ℕ → ℕ → EditAsked
+edit_of r c d s p workers budget limit near = record {
   names = record { rules = r; records = c; released = d; reasons = s; proof = p };
+  workers = workers;
   budget = budget;
   limit = limit;
   near = near;
 }
 
-same_edit : (r c d s p r' c' d' s' p' : List ℕ) (b l n b' l' n' : ℕ) → r ≡ r' → c ≡ c' → d ≡ d' → s ≡ s' → p ≡ p' → b ≡ b' → l ≡ l' → n ≡ n' → edit_of r c d s p b l n ≡ edit_of r' c' d' s' p' b' l' n'
-same_edit r c d s p r' c' d' s' p' b l n b' l' n' er ec ed es ep eb el en = cc
+same_edit : (r c d s p r' c' d' s' p' : List ℕ) (w b l n w' b' l' n' : ℕ) → r ≡ r' → c ≡ c' → d ≡ d' → s ≡ s' → p ≡ p' → w ≡ w' → b ≡ b' → l ≡ l' → n ≡ n' → edit_of r c d s p w b l n ≡ edit_of r' c' d' s' p' w' b' l' n'
+same_edit r c d s p r' c' d' s' p' w b l n w' b' l' n' er ec ed es ep ew eb el en = cc
 
 -- pairs give one edit at most
 pub one_edit : (pairs : Pairs) (a b : EditAsked) → GiveEdit pairs a → GiveEdit pairs b → a ≡ b
 one_edit pairs a b p q =
-    same_edit _ _ _ _ _ _ _ _ _ _ _ _ _ _ _ _ (one_value _ _ _ p.rules q.rules) (one_value _ _ _ p.records q.records) (one_value _ _ _ p.released q.released) (one_value _ _ _ p.reasons q.reasons) (one_value _ _ _ p.proof q.proof)
-    (one_number _ _ _ _ _ _ p.budget q.budget) (one_number _ _ _ _ _ _ p.limit q.limit) (one_number _ _ _ _ _ _ p.near q.near)
+    same_edit _ _ _ _ _ _ _ _ _ _ _ _ _ _ _ _ _ _ (one_value _ _ _ p.rules q.rules) (one_value _ _ _ p.records q.records) (one_value _ _ _ p.released q.released) (one_value _ _ _ p.reasons q.reasons) (one_value _ _ _ p.proof q.proof)
+    (one_number _ _ _ _ _ _ p.workers q.workers) (one_number _ _ _ _ _ _ p.budget q.budget) (one_number _ _ _ _ _ _ p.limit q.limit) (one_number _ _ _ _ _ _ p.near q.near)
 
 -- a check of these files
 abbrev pub check_of : List ℕ → List ℕ → List ℕ → List ℕ → CheckAsked

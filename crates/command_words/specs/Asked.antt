@@ -19,17 +19,18 @@ pub record Names : Type 0 where
   pub reasons : List ℕ
   pub proof : List ℕ
 
--- what an edit is asked for: its files, the most work that may be spent on one record, how often a donor may be given,
--- and how many donors a record ranks
+-- what an edit is asked for: its files, how many workers edit the records, the most work that may be spent on one record,
+-- how often a donor may be given, and how many donors a record ranks
 pub record EditAsked : Type 0 where
   pub names : Names
+  pub workers : ℕ
   pub budget : ℕ
   pub limit : ℕ
   pub near : ℕ
 
 -- the options of an edit that are given numbers
 abbrev pub number_options : List (List ℕ)
-number_options = codes "--budget" ∷ codes "--limit" ∷ codes "--near" ∷ []
+number_options = codes "--workers" ∷ codes "--budget" ∷ codes "--limit" ∷ codes "--near" ∷ []
 
 -- the options of an edit: those that name files, and these
 abbrev pub edit_options : List (List ℕ)
@@ -40,8 +41,9 @@ edit_options =
 abbrev pub names_in : Names → List (List ℕ)
 names_in names = names.rules ∷ names.records ∷ names.released ∷ names.reasons ∷ names.proof ∷ []
 
--- the pairs give the options of an edit, each at most once: five that name files, no two of them the same; a budget from
--- 1 to 1,000,000,000, or 1,000,000; a limit from 1 to 1,000, or 1; and 1 to 64 donors that a record ranks, or 5
+-- the pairs give the options of an edit, each at most once: five that name files, no two of them the same; 1 to 64
+-- workers, or 1; a budget from 1 to 1,000,000,000, or 1,000,000; a limit from 1 to 1,000, or 1; and 1 to 64 donors that a
+-- record ranks, or 5
 pub record GiveEdit (pairs : Pairs) (asked : EditAsked) : Type 0 where
   pub given : ArePairsOf edit_options pairs
   pub rules : values_of (codes "--rules") pairs ≡ asked.names.rules ∷ []
@@ -49,6 +51,7 @@ pub record GiveEdit (pairs : Pairs) (asked : EditAsked) : Type 0 where
   pub released : values_of (codes "--released") pairs ≡ asked.names.released ∷ []
   pub reasons : values_of (codes "--reasons") pairs ≡ asked.names.reasons ∷ []
   pub proof : values_of (codes "--proof") pairs ≡ asked.names.proof ∷ []
+  pub workers : GivesNumber 1 1 64 (values_of (codes "--workers") pairs) asked.workers
   pub budget : GivesNumber 1000000 1 1000000000 (values_of (codes "--budget") pairs) asked.budget
   pub limit : GivesNumber 1 1 1000 (values_of (codes "--limit") pairs) asked.limit
   pub near : GivesNumber 5 1 64 (values_of (codes "--near") pairs) asked.near

@@ -7,16 +7,24 @@ use crate::options::{are_given, differs_from, number_given, only_value, options_
 use std::marker::Model;
 
 /// The options of the command `edit`.
-const EDIT_OPTIONS: [&str; 8] = [
+const EDIT_OPTIONS: [&str; 9] = [
     "--rules",
     "--records",
     "--released",
     "--reasons",
     "--proof",
+    "--workers",
     "--budget",
     "--limit",
     "--near",
 ];
+
+/// How many workers edit the records where no number is given, the least that can be given, and the most.
+const WORKERS: u64 = 1;
+
+const LEAST_WORKERS: u64 = 1;
+
+const MOST_WORKERS: u64 = 64;
 
 /// The most work on one record where no budget is given, the least that can be given, and the most.
 const BUDGET: u64 = 1_000_000;
@@ -52,6 +60,8 @@ pub struct EditWords<'a> {
     pub reasons: &'a str,
     /// The file that the proof goes to.
     pub proof: &'a str,
+    /// How many workers edit the records side by side, from 1 to 64.
+    pub workers: u32,
     /// The most work on one record, from 1 to 1,000,000,000.
     pub budget: u64,
     /// How often a donor may be given, from 1 to 1,000.
@@ -76,20 +86,21 @@ impl<'a> Model for EditWords<'a> {
         reasons = w.reasons.now;
         proof = w.proof.now;
       };
+      workers = w.workers;
       budget = w.budget;
       limit = w.limit;
       near = w.near;
     } };
 
     ghost invariant = { λ w. AreApart (w.rules.now ∷ w.records.now ∷ w.released.now ∷ w.reasons.now ∷ w.proof.now ∷ [])
-        × InBounds w.budget w.limit w.near };
+        × InBounds w.workers w.budget w.limit w.near };
 }
 
 /// Reads the words after the program's name as the command `edit` with pairs of an option and its value, in any
 /// order and each at most once: `--rules`, `--records`, `--released`, `--reasons` and `--proof`, each with a file's
-/// name, and `--budget`, `--limit` and `--near`, each with a number, which may be left out: the budget is 1,000,000
-/// then, a donor is given once, and a record ranks 5 donors. No value is empty or begins with `-`, and the five names
-/// differ. What is asked for is all that the words can be read as. No memory.
+/// name, and `--workers`, `--budget`, `--limit` and `--near`, each with a number, which may be left out: there is one
+/// worker then, the budget is 1,000,000, a donor is given once, and a record ranks 5 donors. No value is empty or begins
+/// with `-`, and the five names differ. What is asked for is all that the words can be read as. No memory.
 pub fn edit_asked(words: &[String]) -> Option<EditWords<'_>>
     ensures some { IfSome result (λ asked. IsEdit (map string_bytes words.now) asked) }
     ensures only { IfSome result (λ asked. (other : EditAsked) → IsEdit (map string_bytes words.now) other → other ≡ asked) }
@@ -112,6 +123,7 @@ fn edit_options(options: &[String]) -> Option<EditWords<'_>>
     let released = only_value("--released", options)?;
     let reasons = only_value("--reasons", options)?;
     let proof = only_value("--proof", options)?;
+    let workers = number_given("--workers", options, WORKERS, LEAST_WORKERS, MOST_WORKERS)?;
     let budget = number_given("--budget", options, BUDGET, LEAST_BUDGET, MOST_BUDGET)?;
     let limit = number_given("--limit", options, LIMIT, LEAST_LIMIT, MOST_LIMIT)?;
     let near = number_given("--near", options, NEAR, LEAST_NEAR, MOST_NEAR)?;
@@ -124,6 +136,7 @@ fn edit_options(options: &[String]) -> Option<EditWords<'_>>
         released,
         reasons,
         proof,
+        workers: workers as u32,
         budget,
         limit: limit as u32,
         near: near as u32,

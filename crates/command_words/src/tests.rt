@@ -6,28 +6,39 @@ use std::test::Fail;
 /// An edit of five files.
 const NAMES: &str = "edit --rules r --records c --released d --reasons w --proof p";
 
-/// Further words of this edit, and its budget, its limit and how many donors a record ranks.
+/// Further words of this edit, and how many workers it has, its budget, its limit and how many donors a record ranks.
 const NUMBERS: &[(&str, &str)] = &[
-    ("", "1000000 1 5"),
-    (" --budget 1", "1 1 5"),
-    (" --budget 1000000000", "1000000000 1 5"),
+    ("", "1 1000000 1 5"),
+    (" --workers 0", "none"),
+    (" --workers 1", "1 1000000 1 5"),
+    (" --workers 2", "2 1000000 1 5"),
+    (" --workers 64", "64 1000000 1 5"),
+    (" --workers 65", "none"),
+    (" --workers 4294967297", "none"),
+    (" --workers 3 --workers 3", "none"),
+    (" --budget 1", "1 1 1 5"),
+    (" --budget 1000000000", "1 1000000000 1 5"),
     (" --budget 1000000001", "none"),
     (" --limit 0", "none"),
-    (" --limit 1", "1000000 1 5"),
-    (" --limit 1000", "1000000 1000 5"),
+    (" --limit 1", "1 1000000 1 5"),
+    (" --limit 1000", "1 1000000 1000 5"),
     (" --limit 1001", "none"),
     (" --near 0", "none"),
-    (" --near 1", "1000000 1 1"),
-    (" --near 64", "1000000 1 64"),
+    (" --near 1", "1 1000000 1 1"),
+    (" --near 64", "1 1000000 1 64"),
     (" --near 65", "none"),
-    (" --budget 3 --near 2", "3 1 2"),
+    (" --budget 3 --near 2", "1 3 1 2"),
+    (
+        " --near 9 --workers 008 --limit 2 --budget 7",
+        "8 7 2 9",
+    ),
     (
         " --near 64 --limit 1000 --budget 1000000000",
-        "1000000000 1000 64",
+        "1 1000000000 1000 64",
     ),
     // ten digits, eleven, and one more than 32 bits hold
-    (" --limit 007", "1000000 7 5"),
-    (" --near 0000000064", "1000000 1 64"),
+    (" --limit 007", "1 1000000 7 5"),
+    (" --near 0000000064", "1 1000000 1 64"),
     (" --near 00000000064", "none"),
     (" --budget 01000000000", "none"),
     (" --limit 4294967297", "none"),
@@ -52,11 +63,11 @@ const NUMBERS: &[(&str, &str)] = &[
 const COMMANDS: &[(&str, &str)] = &[
     (
         "edit --proof p --near 9 --reasons w --released d --records c --limit 3 --rules r",
-        "edit r c d w p 1000000 3 9",
+        "edit r c d w p 1 1000000 3 9",
     ),
     (
         "edit --rules edit --records a-b --released 5 --reasons r. --proof é",
-        "edit edit a-b 5 r. é 1000000 1 5",
+        "edit edit a-b 5 r. é 1 1000000 1 5",
     ),
     // a file that is not named
     (
@@ -162,9 +173,10 @@ fn edit_told(alloc: Global, words: &[String]) -> Result<String, Fail> {
     };
     let (rules, records, released) = (asked.rules, asked.records, asked.released);
     let (reasons, proof) = (asked.reasons, asked.proof);
-    let (budget, limit, near) = (asked.budget, asked.limit, asked.near);
+    let (workers, budget) = (asked.workers, asked.budget);
+    let (limit, near) = (asked.limit, asked.near);
     Ok(format!(in alloc;
-        "edit {rules} {records} {released} {reasons} {proof} {budget} {limit} {near}"
+        "edit {rules} {records} {released} {reasons} {proof} {workers} {budget} {limit} {near}"
     )?)
 }
 
