@@ -14,7 +14,10 @@ digit n = slice_index (codes "0123456789abcdef") n
 
 -- a byte of an escaped line: a backslash is doubled, and what is not printable is a backslash, an x and two digits
 abbrev pub byte_spelling : ℕ → List ℕ
-byte_spelling byte = if byte == 92 then 92 ∷ 92 ∷ [] else if is_printable byte then byte ∷ [] else 92 ∷ 120 ∷ digit (byte / 16) ∷ digit (byte % 16) ∷ []
+byte_spelling byte =
+    if byte == 92 then 92 ∷ 92 ∷ []
+    else if is_printable byte then byte ∷ []
+    else 92 ∷ 120 ∷ digit (byte / 16) ∷ digit (byte % 16) ∷ []
 
 -- the line stands as it is: all of it is printable, and its end is not that of another spelling
 abbrev pub is_plain : List ℕ → Bool

@@ -17,14 +17,14 @@ use std::alloc::Global;
 
 /// The proof of version 2: each line that the steps of its leaves derive is written once, in the table, and the leaves
 /// name it there. What made a valid release with the proof makes one with the answer. The time is in proportion to the
-/// steps.
+/// steps, and beside the proof and the answer there is never more than one tree twice.
 pub fn share_lines(alloc: Global, proof: Proof) -> Result<Proof, OutOfMemory>
     ensures shared { IfOk result (λ shared. shared ≡ shared_proof proof) }
     ensures counted { IfOk result (λ shared. length shared.verdicts + length shared.table < 2 ^ 64) }
 {
     let given = proof.verdicts.as_slice().len() as u64;
     let mut table = LineTable::new(alloc);
-    let rows = share_rows(alloc, &mut table, given, proof.rows.as_slice())?;
+    let rows = share_rows(alloc, &mut table, given, proof.rows.into_vec())?;
     let table = table.steps(alloc)?;
     let Some(_) = given.checked_add(table.as_slice().len() as u64) else {
         return Err(OutOfMemory); // no memory holds so many lines

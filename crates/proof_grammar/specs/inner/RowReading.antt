@@ -90,6 +90,10 @@ clean_proof = record { outcome = outcome.Change [] 0 (record { leaves = clean_le
 abbrev pub change_proof : List Bool → ℕ → Option GiftFault → List Leaf → RowProof
 change_proof path weight fault leaves = record { outcome = outcome.Change path weight (record { leaves = leaves }); gift = fault }
 
+-- a record that no change corrects, with these leaves
+abbrev pub contradictory_proof : List Leaf → RowProof
+contradictory_proof leaves = record { outcome = outcome.Contradictory (record { leaves = leaves }); gift = None }
+
 -- what is read behind the head of a row
 abbrev pub behind_row : Option ℕ → RowHead → List Line → Reading Line RowProof
 behind_row shared CleanAt ls = Ok (clean_proof, ls)
@@ -98,8 +102,7 @@ behind_row shared (GiftAt weight path fault n) ls =
     seen (λ leaves. change_proof path weight (Some fault) leaves) (read_many (leaf_reading shared) n ls)
 behind_row shared (BudgetAt path work) ls = Ok (record { outcome = outcome.Budget path work; gift = None }, ls)
 behind_row shared (EventAt path event) ls = Ok (record { outcome = outcome.Overflow path event; gift = None }, ls)
-behind_row shared (ContradictoryAt n) ls =
-    seen (λ leaves. record { outcome = outcome.Contradictory (record { leaves = leaves }); gift = None }) (read_many (leaf_reading shared) n ls)
+behind_row shared (ContradictoryAt n) ls = seen contradictory_proof (read_many (leaf_reading shared) n ls)
 
 abbrev pub row_reading : Option ℕ → List Line → Reading Line RowProof
 row_reading shared ls = then_read (read_line row_in ls) (behind_row shared)

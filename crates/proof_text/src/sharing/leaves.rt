@@ -7,7 +7,7 @@ ghost use Rattle.bound_cert.specs.ValidTrees.{steps_in};
 use super::kept_steps::{shared_box, shared_line};
 use super::line_table::LineTable;
 use super::put_steps::put_steps;
-use bound_cert::{Leaf, LeafWhy, Path};
+use bound_cert::{Leaf, LeafWhy};
 use foundation::OutOfMemory;
 use std::alloc::Global;
 
@@ -16,10 +16,10 @@ pub(super) fn share_leaves(
     alloc: Global,
     table: &mut LineTable,
     given: u64,
-    leaves: &[Leaf],
+    leaves: Vec<Leaf>,
 ) -> Result<Vec<Leaf>, OutOfMemory>
-    ensures leaves { IfOk result (λ shared. shared.items ≡ shared_leaves given table.old leaves.now) }
-    ensures table { OnOk result (table.new ≡ table_with_leaves table.old leaves.now) }
+    ensures leaves { IfOk result (λ shared. shared.items ≡ shared_leaves given table.old leaves.items) }
+    ensures table { OnOk result (table.new ≡ table_with_leaves table.old leaves.items) }
 {
     let mut shared = Vec::with_capacity(alloc, leaves.len())?;
     for leaf in leaves {
@@ -33,22 +33,15 @@ fn share_leaf(
     alloc: Global,
     table: &mut LineTable,
     given: u64,
-    leaf: &Leaf,
+    leaf: Leaf,
 ) -> Result<Leaf, OutOfMemory>
-    ensures leaf { IfOk result (λ shared. shared ≡ shared_leaf given table.old leaf.now) }
-    ensures table { OnOk result (table.new ≡ table_with_leaf table.old leaf.now) }
+    ensures leaf { IfOk result (λ shared. shared ≡ shared_leaf given table.old leaf) }
+    ensures table { OnOk result (table.new ≡ table_with_leaf table.old leaf) }
 {
     Ok(Leaf {
-        path: copy_of(alloc, &leaf.path)?,
+        path: leaf.path,
         why: share_why(alloc, table, given, &leaf.why)?,
     })
-}
-
-/// An equal path.
-pub(super) fn copy_of(alloc: Global, path: &Path) -> Result<Path, OutOfMemory>
-    ensures { IfOk result (λ copy. copy ≡ path.now) }
-{
-    Ok(Path::new(Vec::from_slice(alloc, path.letters())?))
 }
 
 // The reason of a leaf, with the names of its lines.
