@@ -1,0 +1,52 @@
+#!/bin/bash
+# Times `edit` by 1, 2, 4 and 8 workers, over records of a business survey of 16 fields and 30 rules.
+#
+# usage: [ONE_IN=K] [WORKERS='1 2 4'] bench/workers.sh [ROWS..]     (default: 20000 and 50000 records, one in 4 wrong)
+#
+# The workers draw the records side by side, search them, rank donors and claim them; then values are given side by side. What
+# is read, pruned, written and printed is one thread's work, and so is the index of the donors. Each line has the workers; the
+# seconds of the clock, the best of three runs; how many times as fast as one worker that is; the seconds of all processors;
+# and what share of one worker's time is left to one thread, by the seconds that more workers did not save: of t seconds by one
+# worker and u by n of them, (n u - t) / (n - 1) would be one thread's. More workers than the machine has free processors save
+# nothing, and a machine with other work says little. The line `clean` is the same file without an error: what is read, tested
+# and written, mostly one thread's.
+#
+# Whatever the workers, the released file has the same records, and the first line of the summary is the same: the script says so.
+set -eu
+top=$(cd "$(dirname "$0")/.." && pwd)
+program=${PROGRAM:-$("$top/forxainde" --where)}      # another build, or the checkout's, which is built first where it is not
+yardstick="$top/bench/yardstick"
+work=$(mktemp -d)
+trap 'rm -rf "$work"' EXIT
+
+words=(edit --rules "$work/rules" --records "$work/records" --released "$work/released" --reasons "$work/reasons" --proof "$work/proof")
+
+# The best seconds of the clock of three runs by so many workers, and the seconds of all processors in that run.
+best() {
+    for _ in 1 2 3; do
+        python3 "$yardstick/measure.py" "$program" "${words[@]}" --workers "$1" >"$work/measured"
+        read -r status seconds _ processor < <(tail -n 1 "$work/measured")
+        [ "$status" -le 1 ] || { cat "$work/measured" >&2; exit 1; }
+        head -n 1 "$work/measured" >>"$work/summaries"
+        echo "$seconds $processor"
+    done | sort -n | head -n 1
+}
+
+for rows in "${@:-20000 50000}"; do
+    for count in $rows; do
+        python3 "$yardstick/business_survey.py" --rules "$work/rules" --records "$work/records" --rows "$count" --one-in "${ONE_IN:-4}"
+        : >"$work/summaries"
+        one=
+        for workers in ${WORKERS:-1 2 4 8}; do
+            found=$(best "$workers")
+            one=${one:-$found}
+            echo "$one $found" | awk -v rows="$count" -v n="$workers" '{
+                printf "%d records, %d workers: %.2f s, %.2f times as fast, %.2f s of all processors", rows, n, $3, $1 / $3, $4
+                if (n > 1) printf ", one thread has %.0f %%", 100 * (n * $3 - $1) / (n - 1) / $1
+                print "" }'
+        done
+        sort -u "$work/summaries" | awk 'END { if (NR > 1) print "the summaries differ"; else print $0, "(each time)" }'
+        python3 "$yardstick/business_survey.py" --rules "$work/rules" --records "$work/records" --rows "$count" --one-in 1000000000
+        best 1 | awk -v rows="$count" '{ printf "%d records, clean, 1 worker: %.2f s\n", rows, $1 }'
+    done
+done
