@@ -1,2 +1,1 @@
-mod SystemLaws
 mod ValueLaws

@@ -1,20 +1,15 @@
 //! The calls, by the words of their commands.
 
-use crate::boxes::boxes_told;
 use crate::derivations::{steps_told, tree_told};
-use crate::fault::CallFault;
-use crate::lines::{lines_told, negations_told, sums_told};
-use crate::numbers::{number_in, place_in};
 use crate::outcomes::search_told;
-use crate::pruning::{dropped_told, prune_told};
 use crate::ranking::{measured_told, rank_told};
-use crate::records::row_of;
-use crate::rules::{bytes_in, survey_in};
-use crate::systems::{pairs_told, system_told};
-use crate::texts::Texts;
 use crate::values::{values_from, values_told};
 use case_files::{Commands, Files, Role, failing};
 use foundation::OutOfMemory;
+use line_calls::{
+    CallFault, Texts, boxes_told, bytes_in, dropped_told, lines_told, negations_told, number_in,
+    pairs_told, place_in, prune_told, row_of, sums_told, survey_in, system_told,
+};
 use std::alloc::Global;
 use std::sync::Wait;
 

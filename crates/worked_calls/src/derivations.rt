@@ -2,15 +2,12 @@
 ghost use Rattle.std.specs.Prelude.{◌≡◌, IfOk, length};
 ghost use Rattle.edit_model.specs.Rows.{IsRow};
 
-use crate::boxes::push_box;
-use crate::fault::CallFault;
-use crate::numbers::{from_one, place_in};
 use crate::proofs_read::{steps_of, tree_of};
-use crate::texts::{Texts, alone, told_line};
 use bound_cert::{CertFault, Path, check_cert};
 use derivation::{Proved, StepsFault, check_steps};
 use edit_model::{Row, Survey};
 use edit_normal::lines_of_rules;
+use line_calls::{CallFault, Texts, alone, from_one, place_in, push_box, told_line};
 use std::alloc::Global;
 
 /// What the steps of a file prove of a record from the lines of the rules but those of these numbers, where the path's fields

@@ -2,20 +2,11 @@
 //! The calls are told by [`calls`]; the form of the files is that of [`case_files`].
 #![tactic(auto)]
 
-mod boxes;
 mod calls;
 mod derivations;
-mod fault;
-mod lines;
-mod numbers;
 mod outcomes;
 mod proofs_read;
-mod pruning;
 mod ranking;
-mod records;
-mod rules;
-mod systems;
-mod texts;
 mod values;
 
 use calls::Calls;

@@ -6,14 +6,12 @@ ghost use Rattle.edit_model.specs.Rows.{IsRow};
 ghost use Rattle.edit_paths.specs.Cases.{case_of};
 ghost use Rattle.edit_paths.specs.Outcomes.{outcome_of};
 
-use crate::fault::CallFault;
-use crate::rules::edits_of;
-use crate::texts::Texts;
 use bound_cert::{Outcome, RowProof};
 use case_files::spelled_lines;
 use edit_line::Edits;
 use edit_model::{Row, Survey};
 use foundation::{OutOfMemory, Sequence, Steps};
+use line_calls::{CallFault, Texts, edits_of};
 use linear_elim::Recompute;
 use localise_tree::localise;
 use proof_text::{Proof, write_proof};

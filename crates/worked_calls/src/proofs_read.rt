@@ -1,9 +1,9 @@
 //! Steps and trees from files: their lines are those of a proof file of version 1, without what stands around them there.
 
-use crate::fault::CallFault;
 use bound_cert::{Cert, Outcome};
 use derivation::Step;
 use foundation::Sequence;
+use line_calls::CallFault;
 use proof_text::{Proof, ProofFault, read_proof};
 use std::alloc::Global;
 

@@ -5,14 +5,12 @@ ghost use Rattle.edit_model.specs.PlainNumbers.{HasPlain};
 ghost use Rattle.edit_model.specs.Rows.{IsRow};
 
 use crate::derivations::path_of;
-use crate::fault::CallFault;
-use crate::numbers::from_one;
-use crate::texts::{Texts, alone};
 use bound_cert::Path;
 use donor_measure::{Measure, field_distance};
 use donor_search::{Deck, ranking};
 use edit_model::{Survey, Value};
 use foundation::Steps;
+use line_calls::{CallFault, Texts, alone, from_one};
 use record_text::{Sheet, read_records};
 use std::alloc::Global;
 use std::cell::Cell;

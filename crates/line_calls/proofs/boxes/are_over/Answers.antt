@@ -4,7 +4,7 @@ use Rattle.std.proofs.lemmas.List.Elements.{All-more}
 use Rattle.edit_line.specs.Domains.{domains}
 use Rattle.categ_combine.specs.BoxLists.{AreBoxesOver}
 use Rattle.categ_combine.specs.declared.box_from.BoxFrom.{BoxFrom}
-use Rattle.worked_calls.proofs.boxes.are_over.Goals as goal
+use Rattle.line_calls.proofs.boxes.are_over.Goals as goal
 
 pub loop-i-preserved : goal.loop-i-preserved
 loop-i-preserved c =

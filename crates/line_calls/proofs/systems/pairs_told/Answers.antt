@@ -3,7 +3,7 @@ use Rattle.edit_line.specs.Reductions.{lines_of}
 use Rattle.edit_line.specs.declared.derived.Derived.{Derived}
 use Rattle.edit_line.specs.Lines.{HaveShape}
 use Rattle.linear_elim.proofs.ShapeLaws.{OneShape-have}
-use Rattle.worked_calls.proofs.systems.pairs_told.Goals as goal
+use Rattle.line_calls.proofs.systems.pairs_told.Goals as goal
 
 pub pairs-count-requires : goal.pairs-count-requires
 pairs-count-requires c =

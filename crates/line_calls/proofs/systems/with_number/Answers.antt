@@ -1,7 +1,7 @@
 use Rattle.std.proofs.Common.{◌≡◌, true, rules}
 use Rattle.edit_line.specs.Shapes.{has_field}
-use Rattle.worked_calls.proofs.SystemLaws.{with-numerical}
-use Rattle.worked_calls.proofs.systems.with_number.Goals as goal
+use Rattle.line_calls.proofs.SystemLaws.{with-numerical}
+use Rattle.line_calls.proofs.systems.with_number.Goals as goal
 
 pub returns : goal.returns
 returns c =

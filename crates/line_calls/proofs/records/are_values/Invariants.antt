@@ -1,6 +1,6 @@
 use Rattle.std.proofs.Common.{drop}
 use Rattle.edit_model.specs.Rows.{IsRow}
-use Rattle.worked_calls.proofs.records.are_values.Given as goal
+use Rattle.line_calls.proofs.records.are_values.Given as goal
 
 abbrev pub invariant-loop-i : goal.invariant-loop-i
 invariant-loop-i l = IsRow (drop l.i l.fields) (drop l.i l.values) → IsRow l.fields l.values

@@ -1,0 +1,24 @@
+//! Worked calls on the rules of a survey, on lines, derived systems and boxes: what each answers, as text; and what all
+//! worked calls share: the survey of a rule file, a record in one word, numbers, and why a call is not made. The program
+//! that runs files of them is `worked_calls`.
+#![tactic(auto)]
+
+mod boxes;
+mod fault;
+mod lines;
+mod numbers;
+mod pruning;
+mod records;
+mod rules;
+mod systems;
+mod texts;
+
+pub use boxes::{boxes_told, push_box};
+pub use fault::CallFault;
+pub use lines::{lines_told, negations_told, sums_told};
+pub use numbers::{from_one, number_in, place_in};
+pub use pruning::{dropped_told, prune_told};
+pub use records::{push_row, row_of};
+pub use rules::{bytes_in, edits_of, survey_in};
+pub use systems::{pairs_told, system_told};
+pub use texts::{Texts, alone, push_name, told_line};
