@@ -4,6 +4,7 @@ use crate::files::Files;
 use foundation::OutOfMemory;
 use std::alloc::Global;
 use std::sync::Wait;
+use std::thread::Threads;
 
 /// What a command of a program's own is among the commands of a file.
 #[derive(Clone, Copy, Debug, PartialEq, Eq)]
@@ -23,7 +24,7 @@ pub trait Commands: Drop {
     fn role_of(words: &[&str]) -> Option<Role>;
 
     /// Does the command of these words, and gives the lines of its output, as they are spelled.
-    fn perform<R: Wait>(
+    fn perform<R: Threads + Wait + Sync>(
         &mut self,
         rt: &R,
         alloc: Global,

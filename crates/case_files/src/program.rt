@@ -8,12 +8,14 @@ use edit_desk::{FileDesk, OutPrinter, Printer};
 use std::process::ExitCode;
 use std::rt::{Env, Files};
 use std::sync::Wait;
+use std::thread::Threads;
 
 /// Runs the files of cases that the program's words name, prints what came of each and how many cases passed and failed,
 /// and answers the exit status: 0 where there were cases and all passed, else 1.
-pub fn run_program<C: Commands, R: Wait + Env + Files + Print + AllocGlobal + Clone + Drop>(
-    rt: R,
-) -> ExitCode {
+pub fn run_program<
+    C: Commands,
+    R: Threads + Wait + Sync + Env + Files + Print + AllocGlobal + Clone + Drop,
+>(rt: R) -> ExitCode {
     let alloc = rt.alloc();
     let Ok(out) = rt.clone() else {
         return ExitCode::from(1);

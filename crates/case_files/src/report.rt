@@ -9,12 +9,13 @@ use crate::workplace::Workplace;
 use edit_desk::{Desk, FetchError, Printer};
 use std::alloc::Global;
 use std::sync::Wait;
+use std::thread::Threads;
 
 /// The most bytes of a file of cases: 16 MiB.
 const MOST_BYTES: u64 = 16_777_216;
 
 /// Runs files of cases, prints what came of each, and says how many cases passed and failed.
-pub fn run_files<C: Commands, R: Wait, D: Desk, P: Printer>(
+pub fn run_files<C: Commands, R: Threads + Wait + Sync, D: Desk, P: Printer>(
     rt: &R,
     alloc: Global,
     names: &[String],
@@ -64,7 +65,7 @@ fn refuse_form<P: Printer>(
 }
 
 // Runs the commands of a file of cases with these bytes.
-fn run_file<C: Commands, R: Wait, P: Printer>(
+fn run_file<C: Commands, R: Threads + Wait + Sync, P: Printer>(
     rt: &R,
     alloc: Global,
     name: &str,
@@ -79,7 +80,7 @@ fn run_file<C: Commands, R: Wait, P: Printer>(
 }
 
 // Does the commands in order, and prints how many cases there are, or each difference.
-fn run_steps<C: Commands, R: Wait, P: Printer>(
+fn run_steps<C: Commands, R: Threads + Wait + Sync, P: Printer>(
     rt: &R,
     alloc: Global,
     name: &str,

@@ -6,6 +6,7 @@ use crate::files::{Files, repeated};
 use foundation::OutOfMemory;
 use std::alloc::Global;
 use std::sync::Wait;
+use std::thread::Threads;
 
 /// Files in memory, and what the program's own commands keep.
 #[derive(Drop)]
@@ -24,7 +25,7 @@ impl<C: Commands> Workplace<C> {
     }
 
     /// Does a command, and gives the lines of its output, as they are spelled.
-    pub fn perform<R: Wait>(
+    pub fn perform<R: Threads + Wait + Sync>(
         &mut self,
         rt: &R,
         alloc: Global,

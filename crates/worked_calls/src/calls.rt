@@ -12,6 +12,7 @@ use line_calls::{
 };
 use std::alloc::Global;
 use std::sync::Wait;
+use std::thread::Threads;
 
 /// The calls of the crates below the program. Nothing is kept from one to the next.
 #[derive(Drop)]
@@ -29,7 +30,7 @@ impl Commands for Calls {
         }
     }
 
-    fn perform<R: Wait>(
+    fn perform<R: Threads + Wait + Sync>(
         &mut self,
         _rt: &R,
         alloc: Global,
