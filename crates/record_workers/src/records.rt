@@ -106,7 +106,7 @@ fn edit_by<R: Threads + Wait + Sync, F: Fn(u32, &Value, &Value) -> u64 + Send + 
         history,
         rest,
     } = run_all(rt, alloc, shared, ready, gate)?;
-    let ends = give_all(rt, alloc, &rest, &pieces, &history)?;
+    let ends = give_all(rt, alloc, &rest, pieces, &history)?;
     Ok(Edited {
         ends,
         history,

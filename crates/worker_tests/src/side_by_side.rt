@@ -11,6 +11,7 @@ use pruned_rules::prune_rules;
 use record_text::read_records;
 use record_workers::{Edited, Gate, NoGate, Terms, edit_records};
 use std::alloc::Global;
+use std::sync::Wait;
 use std::sync::atomic::{AtomicU64, Ordering};
 use std::test::Fail;
 use std::thread;
@@ -66,7 +67,7 @@ impl Gate for Hold {
 }
 
 // What becomes of the records of a file, by the rules of another, with one donor a record, each given once.
-fn edited<R: Threads + Sync, G: Gate>(
+fn edited<R: Threads + Wait + Sync, G: Gate>(
     rt: &R,
     alloc: Global,
     rules: &[u8],
