@@ -23,7 +23,7 @@ collect-requires-clause-ready g c κs within =
     let donors = c.in_ok-donors.donors.items in
     let same = ap (λ it. vec_items it.base) c.map.ensures.base ∙ ap (λ it. vec_items it) c.with_min_len.ensures.base ∙ c.into_par_iter.ensures in
     let ready = piece-ready rest pieces c.requires.pieces c.requires.history.0 history c.requires.history.1 donors c.in_ok-donors.ensures.as_many
-        c.in_ok-donors.ensures.each in
+    c.in_ok-donors.ensures.each in
     rw (c.map.ensures.f, same) (λ k d lt.
     let now = ready (get_or pieces k d) (at-place pieces k d (get_or pieces k d) lt refl) in
     ((c.requires.rest, now.0, now.1, now.2), λ y p. tt))
