@@ -46,7 +46,9 @@ returns c =
     let read = c.requires.read.1 in
     let formed = c.fields-fields.ensures.well_formed in
     let told = c.in_ok-told.told in
-    let same = told-written survey terms ends history c.args.verdicts.items c.in_ok-proof_of.field-0 told c.requires.verdicts c.in_ok-proof_of.ensures c.in_ok-told.ensures.shared in
+    let same =
+        told-written survey terms ends history c.args.verdicts.items c.in_ok-proof_of.field-0 told
+        c.requires.verdicts c.in_ok-proof_of.ensures c.in_ok-told.ensures.shared in
     let proof = c.in_ok-proof.ensures in
     let reasons = c.in_ok-reasons.ensures ∙ ap (λ (es : List RowEnd). reasons_text_of survey sheet es) all in
     let released = c.in_ok-released.ensures ∙ ap (λ (es : List RowEnd). released_text_of survey sheet es) all in
@@ -56,8 +58,9 @@ returns c =
     let whole = subst (λ (es : List RowEnd). IsTrue c.are_given-whole.result ↔ AllGiven es) all c.are_given-whole.ensures in
     record {
       guaranteed =
-          guarantee-of survey sheet bytes terms ends history formed read c.requires.terms c.requires.ends c.requires.say c.requires.donations release told same proof.text released;
+          guarantee-of survey sheet bytes terms ends history formed read c.requires.terms c.requires.ends c.requires.say c.requires.donations
+          release told same proof.text released;
       edit = λ workers order.
-          release-of survey sheet bytes terms ends history formed read c.requires.terms c.requires.ends c.requires.say c.requires.donations release told same proof.sized proof.text
-          reasons released summary workers order whole;
+          release-of survey sheet bytes terms ends history formed read c.requires.terms c.requires.ends c.requires.say c.requires.donations
+          release told same proof.sized proof.text reasons released summary workers order whole;
     }
