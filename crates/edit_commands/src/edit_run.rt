@@ -119,6 +119,13 @@ fn release_of<R: Threads + Wait + Sync, G: Gate>(
     });
     let terms = terms_asked(asked);
     edit_sheet(
-        rt, alloc, survey, sheet, measure, terms, asked.workers, gate,
+        rt,
+        alloc,
+        survey,
+        sheet,
+        measure,
+        terms,
+        asked.workers,
+        gate,
     )
 }

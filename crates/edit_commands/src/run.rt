@@ -21,11 +21,11 @@ use std::sync::Wait;
 use std::thread::Threads;
 
 /// Serves the words after the program's name, over a desk and a printer. `edit` fetches and reads the rules, then
-/// the records, corrects each record at the least weight, by as many workers as the words ask for, each of which tells the
-/// gate what records it draws, stores the proof, the reasons and the released file, and prints a summary. `check` fetches
-/// and reads the rules, then the records, fetches the released file, then the proof, and prints whether they are a valid
-/// release. `rules` fetches and reads the rules, and prints what becomes of each of their lines. The first refusal in this
-/// order ends the call, and is printed.
+/// the records, corrects each record at the least weight, stores the proof, the reasons and the released file, and
+/// prints a summary; as many workers as the words ask for draw the records side by side, and the gate is told of each
+/// draw. `check` fetches and reads the rules, then the records, fetches the released file, then the proof, and prints
+/// whether they are a valid release. `rules` fetches and reads the rules, and prints what becomes of each of their
+/// lines. The first refusal in this order ends the call, and is printed.
 pub fn fh_main<R: Threads + Wait + Sync, D: Desk, P: Printer, G: Gate>(
     rt: &R,
     alloc: Global,

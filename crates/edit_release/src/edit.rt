@@ -28,10 +28,14 @@ use std::thread::Threads;
 
 /// The edit of a sheet of the survey's records on these terms: a budget from 1 to 1,000,000,000, a limit from 1 to
 /// 1,000, and 1 to 64 donors that a record ranks. Lines of the rules that follow from the others are dropped first, and
-/// from 1 to 64 workers, which the gate is told of, search the records side by side by those that are kept. The measure,
-/// by which the nearest donors are found, is one of the survey, and the numbers of the records have numerators below
-/// 10^21 and denominators of at most 10^6.
-pub fn edit_sheet<R: Threads + Wait + Sync, F: Fn(u32, &Value, &Value) -> u64 + Send + Sync, G: Gate>(
+/// the records are searched by those that are kept, by 1 to 64 workers side by side; the gate is told of each record
+/// that one draws. The measure, by which the nearest donors are found, is one of the survey, and the numbers of the
+/// records have numerators below 10^21 and denominators of at most 10^6.
+pub fn edit_sheet<
+    R: Threads + Wait + Sync,
+    F: Fn(u32, &Value, &Value) -> u64 + Send + Sync,
+    G: Gate,
+>(
     rt: &R,
     alloc: Global,
     survey: Survey,

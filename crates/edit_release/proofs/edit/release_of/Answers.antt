@@ -47,14 +47,14 @@ returns c =
     let formed = c.fields-fields.ensures.well_formed in
     let told = c.in_ok-told.told in
     let same =
-        told-written survey terms ends history c.args.verdicts.items c.in_ok-proof_of.field-0 told
-        c.requires.verdicts c.in_ok-proof_of.ensures c.in_ok-told.ensures.shared in
+    told-written survey terms ends history c.args.verdicts.items c.in_ok-proof_of.field-0 told
+    c.requires.verdicts c.in_ok-proof_of.ensures c.in_ok-told.ensures.shared in
     let proof = c.in_ok-proof.ensures in
     let reasons = c.in_ok-reasons.ensures ∙ ap (λ (es : List RowEnd). reasons_text_of survey sheet es) all in
     let released = c.in_ok-released.ensures ∙ ap (λ (es : List RowEnd). released_text_of survey sheet es) all in
     let summary =
-        c.in_ok-summary.ensures ∙ ap (λ (es : List RowEnd). summary_lines survey es c.deref.result.now) all
-        ∙ ap (λ (h : List Entry). summary_lines survey ends h) c.deref.ensures.value in
+    c.in_ok-summary.ensures ∙ ap (λ (es : List RowEnd). summary_lines survey es c.deref.result.now) all
+    ∙ ap (λ (h : List Entry). summary_lines survey ends h) c.deref.ensures.value in
     let whole = subst (λ (es : List RowEnd). IsTrue c.are_given-whole.result ↔ AllGiven es) all c.are_given-whole.ensures in
     record {
       guaranteed =
