@@ -39,13 +39,13 @@ shown-by false ends h = inr (refl, λ all. let t = h.1 all in absurd cc)
 
 -- what is to be made of the files that were read
 pub made : (asked : EditAsked) (files : Files) (survey : SurveyParts) (s : SheetParts) (release : Release) → HoldsRules files asked.names.rules survey → HoldsRecords files asked.names.records survey.fields s
-    → IsReleaseOf survey s (terms_asked asked) release → IsMade asked (edit_status release) files (written_in release)
+    → IsReleaseOf survey s (terms_asked asked) asked.workers release → IsMade asked (edit_status release) files (written_in release)
 made asked files survey s release hr hs h = record {
   survey = survey;
   sheet = s;
   rules = hr;
   records = hs;
-  edit = record { ends = h.ends; history = h.history; edit = h.edit; ended = shown-by release.whole h.ends h.whole };
+  edit = record { ends = h.ends; history = h.history; edit = h.edit; order = h.order; ended = shown-by release.whole h.ends h.whole };
 }
 
 -- ---- what an edit leaves

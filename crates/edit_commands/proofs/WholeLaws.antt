@@ -45,4 +45,4 @@ by-status ends answer (inl (done, all)) given = done
 by-status ends answer (inr (some, not)) given = absurd (not given)
 
 pub whole-released : WholeLaw
-whole-released survey s terms answer written p edit correction reach = by-status edit.ends answer edit.ended (all-given survey terms.budget s.rows p correction s.rows edit.ends reach edit.edit.each (edit-says survey s terms edit.ends edit.history written edit.edit))
+whole-released survey s terms workers answer written p edit correction reach = by-status edit.ends answer edit.ended (all-given survey terms.budget s.rows p correction s.rows edit.ends reach edit.edit.each (edit-says survey s terms edit.ends edit.history written edit.edit))

@@ -26,13 +26,13 @@ edit_files asked written =
     (asked.names.proof, written.proof) ∷ (asked.names.reasons, written.reasons) ∷ (asked.names.released, written.released) ∷ []
 
 -- this is to be written and printed of the files that the desk held: the rules and the records were read, and it is
--- their edit
+-- their edit by as many workers as were asked for
 pub record IsMade (asked : EditAsked) (answer : Status) (files : Files) (written : Written) : Type 0 where
   pub survey : SurveyParts
   pub sheet : SheetParts
   pub rules : HoldsRules files asked.names.rules survey
   pub records : HoldsRecords files asked.names.records survey.fields sheet
-  pub edit : IsEditWith survey sheet (terms_asked asked) answer written
+  pub edit : IsEditWith survey sheet (terms_asked asked) asked.workers answer written
 
 -- the three files of an edit stand there, and every other one is as it was
 pub record AreWritten (asked : EditAsked) (written : Written) (before after : Files) : Type 0 where

@@ -1,9 +1,10 @@
 -- How an edit ends.
-use Rattle.std.specs.Prelude.{◌≡◌, ◌⊎◌, List}
+use Rattle.std.specs.Prelude.{◌≡◌, ◌⊎◌, ℕ, List}
 use Rattle.edit_model.specs.Parts.{SurveyParts}
 use Rattle.command_words.specs.Asked.{EditAsked}
 use Rattle.donor_book.specs.declared.claim.Entry.{Entry}
 use Rattle.record_text.specs.Sheets.{SheetParts}
+use Rattle.record_workers.specs.Donations.{AreInRowOrder}
 use Rattle.record_workers.specs.declared.terms.Terms.{Terms}
 use Rattle.edit_report.specs.declared.end.RowEnd.{RowEnd}
 use Rattle.edit_release.specs.Edits.{IsEditOf, Written}
@@ -15,11 +16,14 @@ use Rattle.edit_commands.specs.declared.status.Status.TheVariants.{Done, SomeUnr
 abbrev pub IsStatusOf : List RowEnd → Status → Type 0
 IsStatusOf ends answer = ((answer ≡ Done) × AllGiven ends) ⊎ ((answer ≡ SomeUnresolved) × ¬ AllGiven ends)
 
--- the edit of a sheet on these terms, which ends so, and what it writes and prints
-pub record IsEditWith (survey : SurveyParts) (sheet : SheetParts) (terms : Terms) (answer : Status) (written : Written) : Type 0 where
+-- the edit of a sheet on these terms by so many workers, which ends so, and what it writes and prints; one worker alone claims
+-- donors for the records in their order
+pub record IsEditWith (survey : SurveyParts) (sheet : SheetParts) (terms : Terms) (workers : ℕ)
+    (answer : Status) (written : Written) : Type 0 where
   pub ends : List RowEnd
   pub history : List Entry
   pub edit : IsEditOf survey sheet terms ends history written
+  pub order : workers ≡ 1 → AreInRowOrder history
   pub ended : IsStatusOf ends answer
 
 -- the terms that an edit is asked for

@@ -29,8 +29,9 @@ pub record IsInReach (survey : SurveyParts) (budget : ℕ) (rows : List (List Va
   pub values_fit : (donor : Option ℕ) (path : List Bool) (stop : GiftFault)
       → ¬ StopsGiving survey (kept_edits survey) row path (option_map (row_at rows) donor) stop
 
--- where some point is consistent, and nothing stands in the way of any record, the edit ends with all records released
+-- where some point is consistent, and nothing stands in the way of any record, the edit ends with all records released,
+-- whatever the number of workers
 abbrev pub WholeLaw : Type 0
-WholeLaw = (survey : SurveyParts) (sheet : SheetParts) (terms : Terms) (answer : Status) (written : Written) (p : Point)
-    → IsEditWith survey sheet terms answer written → IsCorrection survey p
+WholeLaw = (survey : SurveyParts) (sheet : SheetParts) (terms : Terms) (workers : ℕ) (answer : Status) (written : Written) (p : Point)
+    → IsEditWith survey sheet terms workers answer written → IsCorrection survey p
     → AllByRecursion (IsInReach survey terms.budget sheet.rows) sheet.rows → answer ≡ Done

@@ -20,23 +20,25 @@ use crate::status::Status;
 use crate::storing::store_release;
 use crate::telling::{refuse, tell_all};
 use command_words::EditWords;
-use donor_measure::{Measure, field_distance};
+use donor_measure::{Measure, Yardsticks};
 use edit_desk::{Desk, Printer};
 use edit_model::{Survey, Value};
 use edit_release::{Release, edit_sheet};
 use foundation::OutOfMemory;
 use record_text::Sheet;
-use record_workers::Terms;
+use record_workers::{Gate, Terms};
 use std::alloc::Global;
 use std::sync::Wait;
+use std::thread::Threads;
 
 /// Edits what the words ask for, and prints the summary, or why the run is refused.
-pub(crate) fn run_edit<D: Desk, P: Printer, R: Wait>(
+pub(crate) fn run_edit<R: Threads + Wait + Sync, D: Desk, P: Printer, G: Gate>(
     rt: &R,
     alloc: Global,
     asked: &EditWords,
     desk: &mut D,
     printer: &mut P,
+    gate: &G,
 ) -> Status
     ensures command { result ≢ Status.Usage }
     ensures edited { HasReleased result → IsEdited asked.now result (ran D.Desk P.Printer desk printer) }
@@ -44,7 +46,7 @@ pub(crate) fn run_edit<D: Desk, P: Printer, R: Wait>(
     ensures complete { IsEditComplete asked.now result (ran D.Desk P.Printer desk printer) }
     ensures due { IfSome (D.files desk.old) (λ files. AnswersDue (IsDue asked.now files) result) }
 {
-    match edit(rt, alloc, asked, desk) {
+    match edit(rt, alloc, asked, desk, gate) {
         Ok(release) => tell_all(printer, &release.summary, status_of(&release)),
         Err(refusal) => refuse(printer, refusal.line(), refusal.status()),
     }
@@ -62,11 +64,12 @@ fn status_of(release: &Release) -> Status
 }
 
 // Does on the desk all that an edit does there, up to the first fault.
-fn edit<'a, D: Desk, R: Wait>(
+fn edit<'a, R: Threads + Wait + Sync, D: Desk, G: Gate>(
     rt: &R,
     alloc: Global,
     asked: &EditWords<'a>,
     desk: &mut D,
+    gate: &G,
 ) -> Result<Release, Refusal<'a>>
     ensures kind { IfErr result IsOfEdit }
     ensures cause { IfErr result (λ fault. IfSome (D.files desk.old) (λ files. Refuses asked.now files fault)) }
@@ -77,7 +80,7 @@ fn edit<'a, D: Desk, R: Wait>(
 {
     let survey = fetch_survey(alloc, asked.rules, desk)?;
     let sheet = fetch_sheet(alloc, asked.records, &survey, desk)?;
-    let Ok(release) = release_of(rt, alloc, &survey, &sheet, terms_asked(asked)) else {
+    let Ok(release) = release_of(rt, alloc, survey, sheet, asked, gate) else {
         return Err(Refusal::out_of_memory());
     };
     store_release(alloc, asked, &release, desk)?;
@@ -96,21 +99,33 @@ fn terms_asked(asked: &EditWords) -> Terms
     }
 }
 
-// What the edit of the sheet releases. How far records are apart is told by the distances of their fields' values.
-fn release_of<R: Wait>(
+// What the edit of the sheet releases, on the terms and by as many workers as are asked for. How far records are apart is
+// told by the distances of their fields' values.
+fn release_of<R: Threads + Wait + Sync, G: Gate>(
     rt: &R,
     alloc: Global,
-    survey: &Survey,
-    sheet: &Sheet,
-    terms: Terms,
+    survey: Survey,
+    sheet: Sheet,
+    asked: &EditWords,
+    gate: &G,
 ) -> Result<Release, OutOfMemory>
-    requires read { (bytes : List ℕ) × IsSheet survey.now.fields bytes sheet.now }
-    requires plain { AllByRecursion HasPlain sheet.now.rows }
-    requires terms { AreTerms terms }
-    ensures edit { IfOk result (IsReleaseOf survey.now sheet.now terms) }
+    requires read { (bytes : List ℕ) × IsSheet survey.fields bytes sheet }
+    requires plain { AllByRecursion HasPlain sheet.rows }
+    ensures edit { IfOk result (IsReleaseOf survey sheet (terms_asked asked.now) asked.now.workers) }
 {
-    let measure = Measure::new(survey, |field: u32, first: &Value, second: &Value| {
-        field_distance(survey, field, first, second)
+    let yardsticks = Yardsticks::of(&survey);
+    let measure = Measure::new(&survey, move |field: u32, first: &Value, second: &Value| {
+        yardsticks.distance(field, first, second)
     });
-    edit_sheet(rt, alloc, survey, sheet, &measure, terms)
+    let terms = terms_asked(asked);
+    edit_sheet(
+        rt,
+        alloc,
+        survey,
+        sheet,
+        measure,
+        terms,
+        asked.workers,
+        gate,
+    )
 }

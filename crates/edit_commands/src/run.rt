@@ -15,20 +15,24 @@ use crate::status::Status;
 use crate::telling::refuse;
 use command_words::{check_asked, edit_asked, rules_asked};
 use edit_desk::{Desk, Printer};
+use record_workers::Gate;
 use std::alloc::Global;
 use std::sync::Wait;
+use std::thread::Threads;
 
 /// Serves the words after the program's name, over a desk and a printer. `edit` fetches and reads the rules, then
 /// the records, corrects each record at the least weight, stores the proof, the reasons and the released file, and
-/// prints a summary. `check` fetches and reads the rules, then the records, fetches the released file, then the proof,
-/// and prints whether they are a valid release. `rules` fetches and reads the rules, and prints what becomes of each of
-/// their lines. The first refusal in this order ends the call, and is printed.
-pub fn fh_main<D: Desk, P: Printer, R: Wait>(
+/// prints a summary; as many workers as the words ask for draw the records side by side, and the gate is told of each
+/// draw. `check` fetches and reads the rules, then the records, fetches the released file, then the proof, and prints
+/// whether they are a valid release. `rules` fetches and reads the rules, and prints what becomes of each of their
+/// lines. The first refusal in this order ends the call, and is printed.
+pub fn fh_main<R: Threads + Wait + Sync, D: Desk, P: Printer, G: Gate>(
     rt: &R,
     alloc: Global,
     words: &[String],
     desk: &mut D,
     printer: &mut P,
+    gate: &G,
 ) -> Status
     // `ran` is what the desk and the printer tell when the call begins, and when it returns.
 
@@ -75,7 +79,7 @@ pub fn fh_main<D: Desk, P: Printer, R: Wait>(
     ensures rules_due { ForRules words.now (λ ask. IfSome (D.files desk.old) (λ files. AnswersDue (IsRulesDue ask files) result)) }
 {
     if let Some(asked) = edit_asked(words) {
-        return run_edit(rt, alloc, &asked, desk, printer);
+        return run_edit(rt, alloc, &asked, desk, printer, gate);
     }
     if let Some(asked) = check_asked(words) {
         return run_check(alloc, &asked, desk, printer);

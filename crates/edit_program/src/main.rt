@@ -6,6 +6,7 @@ mod words;
 
 use edit_commands::{Status, fh_main, refuse_words};
 use edit_desk::{FileDesk, OutPrinter};
+use record_workers::NoGate;
 use std::process::ExitCode;
 
 fn main(rt: HostRuntime) -> ExitCode {
@@ -18,7 +19,14 @@ fn main(rt: HostRuntime) -> ExitCode {
     };
     let mut printer = OutPrinter::new(out);
     let status = match words::after_program_name(&rt) {
-        Ok(words) => fh_main(&rt, alloc, &words, &mut FileDesk::new(files), &mut printer),
+        Ok(words) => fh_main(
+            &rt,
+            alloc,
+            &words,
+            &mut FileDesk::new(files),
+            &mut printer,
+            &NoGate,
+        ),
         Err(status) => refuse_words(&mut printer, status),
     };
     ExitCode::from(status.number())

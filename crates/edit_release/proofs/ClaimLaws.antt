@@ -2,6 +2,7 @@ use Rattle.std.proofs.Common.{◌≡◌, ◌≢◌, ◌≤◌, ◌<◌, ◌+◌,
 use Rattle.std.specs.Prelude.{option_map}
 use Rattle.std.specs.List.{AllByRecursion, IsDistinct, list_any}
 use Rattle.std.proofs.lemmas.Bool.Decides.{Decides-eqb}
+use Rattle.std.proofs.lemmas.List.Sorted.{All-permutation, IsPermutation-sym}
 use Rattle.std.proofs.lemmas.Option.{slice_get-map}
 use Rattle.edit_model.specs.CleanRecords.{is_clean}
 use Rattle.edit_model.specs.Parts.{SurveyParts}
@@ -26,8 +27,9 @@ use Rattle.donor_search.proofs.PlaceLaws.{each-place}
 use Rattle.donor_search.proofs.RankedLaws.{ranking-donors, ranking-few, ranking-once}
 use Rattle.edit_report.specs.Ends.{path_found}
 use Rattle.edit_report.specs.declared.end.RowEnd.{RowEnd}
-use Rattle.record_workers.specs.Donations.{AreDonations, IsRanked, IsRankingOf, claimers_of, end_claims}
+use Rattle.record_workers.specs.Donations.{AreDonations, IsRanked, IsRankingOf, claimers_of, end_claims, rows_claimed}
 use Rattle.record_workers.specs.declared.terms.Terms.{Terms}
+use Rattle.record_workers.proofs.NeedLaws.{in-other-order}
 use Rattle.proof_grammar.specs.declared.proof.Proof.{Proof}
 use Rattle.cert_check.specs.Claims.{AllClaim, AreValidClaims, IsClaim, IsDonor}
 use Rattle.edit_release.specs.Edits.{proof_of, said, said_of}
@@ -125,12 +127,16 @@ module _ (survey : SurveyParts) (terms : Terms) (rows : List (List Value)) (ends
       let (end, there, same) = get-map-out said ends i s at in
       let own : i ≡ 0 + i = omega arith in
       let claims_here : end_claims end ≡ true = sym (said-claims end) ∙ ap (λ (t : RowProof). claims_donor t.outcome) (sym same) ∙ claims in
-      has-claim history i (subst (λ (ns : List ℕ). IsIn i ns) (sym donations.claimers) (subst (λ n. IsIn n (claimers_of ends)) (sym own) (claimer-in 0 ends i end there claims_here)))
+      let claimer = subst (λ n. IsIn n (claimers_of ends)) (sym own) (claimer-in 0 ends i end there claims_here) in
+      has-claim history i (in-other-order (rows_claimed history) (claimers_of ends) i (IsPermutation-sym (claimers_of ends) (rows_claimed history) donations.claimers) claimer)
+
+  all-claimers : All Claims (claimers_of ends)
+  all-claimers = each-place end_claims Claims 0 ends (λ k end at claims. let own : k ≡ 0 + k = omega arith in subst Claims own (end, at, claims))
 
   pub claims-valid : AreValidClaims survey rows p
   claims-valid = record {
     right = record {
-      each = all-formed history (subst (λ (ns : List ℕ). All Claims ns) (sym donations.claimers) (each-place end_claims Claims 0 ends (λ k end at claims. let own : k ≡ 0 + k = omega arith in subst Claims own (end, at, claims)))) donations.ranked;
+      each = all-formed history (All-permutation Claims (claimers_of ends) (rows_claimed history) donations.claimers all-claimers) donations.ranked;
       legal = donations.legal;
     };
     complete = all-claim;

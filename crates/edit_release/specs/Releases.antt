@@ -1,5 +1,5 @@
 -- What an edit gives.
-use Rattle.std.specs.Prelude.{◌≡◌, ◌↔◌, IsSome, IsTrue, List, [], length, map}
+use Rattle.std.specs.Prelude.{◌≡◌, ◌↔◌, ℕ, IsSome, IsTrue, List, [], length, map}
 use Rattle.std.specs.List.{AllByRecursion}
 use Rattle.edit_model.specs.Parts.{SurveyParts}
 use Rattle.bound_cert.specs.SharedTrees.{shared_rows}
@@ -10,6 +10,7 @@ use Rattle.proof_grammar.specs.declared.proof.Proof.{Proof}
 use Rattle.cert_check.specs.Dropped.{kept_flags}
 use Rattle.donor_book.specs.declared.claim.Entry.{Entry}
 use Rattle.record_text.specs.Sheets.{SheetParts}
+use Rattle.record_workers.specs.Donations.{AreInRowOrder}
 use Rattle.record_workers.specs.declared.terms.Terms.{Terms}
 use Rattle.edit_release.specs.Edits.{IsEditOf, Written, said}
 use Rattle.edit_release.specs.Guarantee.{HasTrees, IsGuaranteed}
@@ -43,9 +44,11 @@ pub record HasGuarantee (survey : SurveyParts) (sheet : SheetParts) (terms : Ter
   pub trees : HasTrees survey sheet.rows told
   pub claims : told.claims ≡ history
 
--- it is the edit of a sheet on these terms, and tells whether all records are released
-pub record IsReleaseOf (survey : SurveyParts) (sheet : SheetParts) (terms : Terms) (release : Release) : Type 0 where
+-- it is the edit of a sheet on these terms by so many workers, and tells whether all records are released; one worker alone
+-- claims donors for the records in their order
+pub record IsReleaseOf (survey : SurveyParts) (sheet : SheetParts) (terms : Terms) (workers : ℕ) (release : Release) : Type 0 where
   pub ends : List RowEnd
   pub history : List Entry
   pub edit : IsEditOf survey sheet terms ends history (written_in release)
+  pub order : workers ≡ 1 → AreInRowOrder history
   pub whole : IsTrue release.whole ↔ AllGiven ends

@@ -1,14 +1,18 @@
-ghost use Rattle.std.specs.Prelude.{◌≡◌, ◌↔◌, ℕ, List, IfOk, IsTrue};
-ghost use Rattle.std.specs.List.{AllByRecursion};
+ghost use Rattle.std.specs.Prelude.{◌≡◌, ◌≤◌, ◌↔◌, ℕ, List, IfOk, IsTrue};
+ghost use Rattle.std.specs.List.{AllByRecursion, AllZip};
 ghost use Rattle.donor_measure.specs.Measures.{Measures};
 ghost use Rattle.donor_measure.specs.Yardsticks.{yardsticks_of};
 ghost use Rattle.edit_model.specs.PlainNumbers.{HasPlain};
 ghost use Rattle.record_text.specs.Sheets.{IsSheet};
-ghost use Rattle.record_workers.specs.Donations.{AreTerms};
+ghost use Rattle.pruned_rules.specs.Pruned.{kept_edits, rule_verdicts};
+ghost use Rattle.record_workers.specs.Donations.{AreDonations, AreInRowOrder, AreTerms};
+ghost use Rattle.record_workers.specs.Ends.{IsEndOf};
+ghost use Rattle.record_workers.specs.Said.{Says};
 ghost use Rattle.edit_release.specs.Releases.{AllGiven, HasGuarantee, IsReleaseOf};
 
 use crate::proof::proof_of;
 use crate::release::Release;
+use donor_book::Entry;
 use donor_measure::Measure;
 use edit_model::{Survey, Value};
 use edit_report::{RowEnd, reasons_text, released_text, summary_text};
@@ -16,40 +20,89 @@ use foundation::OutOfMemory;
 use proof_text::{share_lines, write_proof};
 use pruned_rules::prune_rules;
 use record_text::Sheet;
-use record_workers::{Terms, edit_records};
+use record_workers::{Edited, Gate, Terms, edit_records};
+use redundancy::Verdict;
 use std::alloc::Global;
 use std::sync::Wait;
+use std::thread::Threads;
 
 /// The edit of a sheet of the survey's records on these terms: a budget from 1 to 1,000,000,000, a limit from 1 to
 /// 1,000, and 1 to 64 donors that a record ranks. Lines of the rules that follow from the others are dropped first, and
-/// the records are searched by those that are kept. The measure, by which the nearest donors are found, is one of the
-/// survey, and the numbers of the records have numerators below 10^21 and denominators of at most 10^6.
-pub fn edit_sheet<F: Fn(u32, &Value, &Value) -> u64, R: Wait>(
+/// the records are searched by those that are kept, by 1 to 64 workers side by side; the gate is told of each record
+/// that one draws. The measure, by which the nearest donors are found, is one of the survey, and the numbers of the
+/// records have numerators below 10^21 and denominators of at most 10^6.
+pub fn edit_sheet<
+    R: Threads + Wait + Sync,
+    F: Fn(u32, &Value, &Value) -> u64 + Send + Sync,
+    G: Gate,
+>(
     rt: &R,
+    alloc: Global,
+    survey: Survey,
+    sheet: Sheet,
+    measure: Measure<F>,
+    terms: Terms,
+    workers: u32,
+    gate: &G,
+) -> Result<Release, OutOfMemory>
+    requires read { (bytes : List ℕ) × IsSheet survey.fields bytes sheet }
+    requires plain { AllByRecursion HasPlain sheet.rows }
+    requires measures { Measures F.Fn measure.closure measure.yardsticks }
+    requires yardsticks { measure.yardsticks ≡ yardsticks_of survey.fields }
+    requires terms { AreTerms terms }
+    requires workers { (1 ≤ workers) × (workers ≤ 64) }
+    ensures guaranteed { IfOk result (HasGuarantee survey sheet terms) }
+    ensures edit { IfOk result (IsReleaseOf survey sheet terms workers) }
+{
+    let pruned = prune_rules(alloc, &survey)?;
+    let edits = pruned.kept_edits(alloc, &survey)?;
+    let edited = edit_records(
+        rt, alloc, survey, edits, sheet, measure, terms, workers, gate,
+    )?;
+    let Edited {
+        ends,
+        history,
+        rest,
+    } = edited;
+    release_of(
+        alloc,
+        &rest.survey,
+        &rest.sheet,
+        pruned.verdicts,
+        terms,
+        ends,
+        history,
+    )
+}
+
+// What is released of the records of a sheet, where the lines of the rules were dropped so, the records ended so, and
+// donors were claimed so.
+fn release_of(
     alloc: Global,
     survey: &Survey,
     sheet: &Sheet,
-    measure: &Measure<F>,
+    verdicts: Vec<Verdict>,
     terms: Terms,
+    ends: Vec<RowEnd>,
+    history: Vec<Entry>,
 ) -> Result<Release, OutOfMemory>
     requires read { (bytes : List ℕ) × IsSheet survey.now.fields bytes sheet.now }
-    requires plain { AllByRecursion HasPlain sheet.now.rows }
-    requires measures { Measures F.Fn measure.now.closure measure.now.yardsticks }
-    requires yardsticks { measure.now.yardsticks ≡ yardsticks_of survey.now.fields }
     requires terms { AreTerms terms }
+    requires verdicts { verdicts.items ≡ rule_verdicts survey.now }
+    requires ends { AllZip (IsEndOf survey.now (kept_edits survey.now) terms.budget sheet.now.rows) sheet.now.rows ends.items }
+    requires say { AllZip (Says survey.now (kept_edits survey.now) terms.budget) sheet.now.rows ends.items }
+    requires donations { AreDonations survey.now sheet.now.rows terms ends.items history.items }
     ensures guaranteed { IfOk result (HasGuarantee survey.now sheet.now terms) }
-    ensures edit { IfOk result (IsReleaseOf survey.now sheet.now terms) }
+    ensures edit { IfOk result (λ release. (workers : ℕ) → (workers ≡ 1 → AreInRowOrder history.items)
+        → IsReleaseOf survey.now sheet.now terms workers release) }
 {
     let _fields = survey.fields(); // read for what it says: the survey is well formed
-    let pruned = prune_rules(alloc, survey)?;
-    let edits = pruned.kept_edits(alloc, survey)?;
-    let edited = edit_records(rt, alloc, survey, edits, sheet, measure, terms)?;
-    let ends = edited.ends.as_slice();
-    let reasons = reasons_text(alloc, sheet, survey, ends)?;
-    let released = released_text(alloc, sheet, survey, ends)?;
-    let summary = summary_text(alloc, survey, ends, &edited.history)?;
-    let whole = are_given(ends);
-    let told = share_lines(alloc, proof_of(alloc, pruned.verdicts, terms, edited)?)?;
+    let all = ends.as_slice();
+    let reasons = reasons_text(alloc, sheet, survey, all)?;
+    let released = released_text(alloc, sheet, survey, all)?;
+    let summary = summary_text(alloc, survey, all, &history)?;
+    let whole = are_given(all);
+    let told = share_lines(alloc, proof_of(alloc, verdicts, terms, ends, history)?)?;
     let proof = write_proof(alloc, &told)?;
     Ok(Release {
         proof,

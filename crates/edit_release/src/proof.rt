@@ -5,10 +5,11 @@ ghost use Rattle.edit_release.specs.Edits.{proof_telling, refutation_by, said, s
 
 use bound_cert::{Cert, Outcome, Path, RowProof};
 use derivation::Step;
+use donor_book::Entry;
 use edit_report::RowEnd;
 use foundation::{OutOfMemory, Sequence};
 use proof_text::Proof;
-use record_workers::{Edited, Terms};
+use record_workers::Terms;
 use redundancy::Verdict;
 use std::alloc::Global;
 
@@ -18,9 +19,10 @@ pub(crate) fn proof_of(
     alloc: Global,
     verdicts: Vec<Verdict>,
     terms: Terms,
-    edited: Edited,
+    ends: Vec<RowEnd>,
+    history: Vec<Entry>,
 ) -> Result<Proof, OutOfMemory>
-    ensures { IfOk result (λ proof. proof ≡ proof_telling verdicts.items terms edited.ends.items edited.history.items) }
+    ensures { IfOk result (λ proof. proof ≡ proof_telling verdicts.items terms ends.items history.items) }
 {
     Ok(Proof {
         version: 1,
@@ -29,8 +31,8 @@ pub(crate) fn proof_of(
         budget: terms.budget,
         verdicts: Sequence::from_vec(all_refuted(alloc, verdicts)?),
         table: Sequence::from_vec(Vec::new(alloc)),
-        rows: Sequence::from_vec(all_said(alloc, edited.ends)?),
-        claims: Sequence::from_vec(edited.history),
+        rows: Sequence::from_vec(all_said(alloc, ends)?),
+        claims: Sequence::from_vec(history),
     })
 }
 

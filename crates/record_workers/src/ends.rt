@@ -24,25 +24,28 @@ pub fn give_all<R: Threads + Sync, F: Fn(u32, &Value, &Value) -> u64 + Send + Sy
     rt: &R,
     alloc: Global,
     rest: &Rest<F>,
-    pieces: &[Piece],
+    pieces: Vec<Piece>,
     history: &[Entry],
 ) -> Result<Vec<RowEnd>, OutOfMemory>
     requires rest { IsRest F.Fn rest.now }
-    requires pieces { ArePiecesIn rest.now pieces.now }
-    requires history { (limit : ℕ) × AnswersNeeds limit pieces.now history.now }
-    ensures { IfOk result (λ ends. AllZip (EndsBy rest.now history.now) pieces.now ends.items) }
+    requires pieces { ArePiecesIn rest.now pieces.items }
+    requires history { (limit : ℕ) × AnswersNeeds limit pieces.items history.now }
+    ensures { IfOk result (λ ends. AllZip (EndsBy rest.now history.now) pieces.items ends.items) }
 {
     let donors = donors_of(alloc, pieces.len(), history)?;
     let given = &donors;
     pieces
-        .par_iter()
+        .into_par_iter()
         .with_min_len(1)
         .map(
-            |piece: &Piece| -> Result<RowEnd, OutOfMemory>
-                requires { IsRest F.Fn rest.now × IsPieceIn rest.now piece.now × (piece.now.row_no < length given.now.items)
-                    × HasCleanDonor rest.now given.now.items piece.now.row_no }
-                ensures { IfOk result (EndsIn rest.entry.now piece.now (donor_at given.entry.now.items piece.now.row_no)) }
-            { end_of(alloc, rest, piece, given[piece.row_no as usize]) },
+            |piece: Piece| -> Result<RowEnd, OutOfMemory>
+                requires { IsRest F.Fn rest.now × IsPieceIn rest.now piece × (piece.row_no < length given.now.items)
+                    × HasCleanDonor rest.now given.now.items piece.row_no }
+                ensures { IfOk result (EndsIn rest.entry.now piece (donor_at given.entry.now.items piece.row_no)) }
+            {
+                let donor = given[piece.row_no as usize];
+                end_of(alloc, rest, piece, donor)
+            },
         )
         .collect::<Result<Vec<RowEnd>, OutOfMemory>>(rt, alloc)?
 }

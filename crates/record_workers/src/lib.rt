@@ -4,7 +4,6 @@
 //! `specs/Ends.antt`, and who claims which donor in `specs/Donations.antt`.
 #![tactic(auto)]
 
-mod copies;
 mod edited;
 mod ends;
 mod gate;

@@ -7,7 +7,6 @@ ghost use Rattle.donor_search.specs.CleanRows.{IsCleanRow, row_at};
 ghost use Rattle.record_workers.specs.Givings.{EndsIn, IsEndIn, SaysIn};
 ghost use Rattle.record_workers.specs.Rests.{IsPieceIn, IsRest, case_in, rows_in};
 
-use crate::copies::copy_outcome;
 use crate::piece::Piece;
 use crate::rest::Rest;
 use back_subst::{GiveFault, changed_set, give};
@@ -27,17 +26,17 @@ use std::sync::ledger::{Blank, Ledger};
 pub(crate) fn end_of<F: Fn(u32, &Value, &Value) -> u64>(
     alloc: Global,
     rest: &Rest<F>,
-    piece: &Piece,
+    piece: Piece,
     donor: Option<u32>,
 ) -> Result<RowEnd, OutOfMemory>
     requires rest { IsRest F.Fn rest.now }
-    requires piece { IsPieceIn rest.now piece.now }
+    requires piece { IsPieceIn rest.now piece }
     requires donor { IfSome donor (IsCleanRow rest.now.survey (rows_in rest.now)) }
-    ensures { IfOk result (EndsIn rest.now piece.now donor) }
+    ensures { IfOk result (EndsIn rest.now piece donor) }
 {
     let row = rest.sheet.row(piece.row_no);
     case_known(&rest.survey, &rest.edits, row);
-    match copy_outcome(alloc, &piece.outcome)? {
+    match piece.outcome {
         Outcome::Change { path, weight, cert } => {
             let change = Change { path, weight, cert };
             with_values::<F, Brand>(alloc, rest, row, change, donor, Blank::new(1))

@@ -11,10 +11,10 @@ Words that are a command, and words that are none: then nothing is fetched, noth
 
 The options stand in any order, with numbers at their limits and with zeros in front.
 
-  $ forxainde edit --proof proof --near 64 --reasons reasons --released released --records records --limit 1000 --rules rules --budget 1000000000
+  $ forxainde edit --proof proof --near 64 --reasons reasons --workers 64 --released released --records records --limit 1000 --rules rules --budget 1000000000
   records 1 clean 0 changed 1 unresolved 0 weight 1
   claims 1 given 0
-  $ forxainde edit --rules rules --records records --released released --reasons reasons --proof proof --near 0000000001 --limit 007 --budget 0000000002
+  $ forxainde edit --rules rules --records records --released released --reasons reasons --proof proof --near 0000000001 --limit 007 --budget 0000000002 --workers 01
   records 1 clean 0 changed 0 unresolved 1 weight 0
   claims 0 given 0
   [1]
@@ -99,6 +99,9 @@ An option without a value, with an empty one, with one that begins as an option 
   $ forxainde edit --rules rules --records records --released released --reasons reasons --proof proof --near 5 --near 5
   fault: usage
   [2]
+  $ forxainde edit --rules rules --records records --released released --reasons reasons --proof proof --workers 2 --workers 2
+  fault: usage
+  [2]
   $ forxainde check --rules rules --records records --released released --proof proof --proof others
   fault: usage
   [2]
@@ -122,6 +125,9 @@ Options of other commands, and of none.
   fault: usage
   [2]
   $ forxainde check --rules rules --records records --released released --proof proof --near 5
+  fault: usage
+  [2]
+  $ forxainde check --rules rules --records records --released released --proof proof --workers 2
   fault: usage
   [2]
   $ forxainde check --rules rules --records records --released released --proof proof --reasons reasons
@@ -168,6 +174,18 @@ Numbers past their limits, and texts that are no numbers: 1 to 10 digits.
   fault: usage
   [2]
   $ forxainde edit --rules rules --records records --released released --reasons reasons --proof proof --near 65
+  fault: usage
+  [2]
+  $ forxainde edit --rules rules --records records --released released --reasons reasons --proof proof --workers 0
+  fault: usage
+  [2]
+  $ forxainde edit --rules rules --records records --released released --reasons reasons --proof proof --workers 65
+  fault: usage
+  [2]
+  $ forxainde edit --rules rules --records records --released released --reasons reasons --proof proof --workers x
+  fault: usage
+  [2]
+  $ forxainde edit --rules rules --records records --released released --reasons reasons --proof proof --workers 4294967297
   fault: usage
   [2]
   $ forxainde edit --rules rules --records records --released released --reasons reasons --proof proof --budget 0

@@ -5,9 +5,11 @@ use case_files::{Commands, Files, Role, spelled_lines};
 use edit_commands::fh_main;
 use edit_desk::{Call, Failure, MemoryDesk, MemoryPrinter};
 use foundation::OutOfMemory;
+use record_workers::NoGate;
 use std::alloc::{AllocError, Global};
 use std::mem;
 use std::sync::Wait;
+use std::thread::Threads;
 
 /// The failures that are asked of the next run, and the calls of the last one.
 #[derive(Drop)]
@@ -30,7 +32,7 @@ impl Commands for Runs {
         Some(Own::of(words)?.role())
     }
 
-    fn perform<R: Wait>(
+    fn perform<R: Threads + Wait + Sync>(
         &mut self,
         rt: &R,
         alloc: Global,
@@ -55,7 +57,7 @@ impl Commands for Runs {
 
 impl Runs {
     // Runs the program over the files, and gives the lines that it prints and, where it is not 0, its status.
-    fn run<R: Wait>(
+    fn run<R: Threads + Wait + Sync>(
         &mut self,
         rt: &R,
         alloc: Global,
@@ -66,7 +68,7 @@ impl Runs {
         let failures = mem::replace(&mut self.failures, Vec::new(alloc));
         let mut printer = MemoryPrinter::new(alloc, self.failing_line.take())?;
         let mut desk = MemoryDesk::new(alloc, files.take(alloc), failures);
-        let status = fh_main(rt, alloc, &words, &mut desk, &mut printer).number();
+        let status = fh_main(rt, alloc, &words, &mut desk, &mut printer, &NoGate).number();
         self.calls = call_lines(alloc, desk.calls())?;
         files.restore(desk.into_files());
         let mut lines = spelled_lines(alloc, printer.text())?;

@@ -4,13 +4,15 @@ ghost use Rattle.std.specs.Prelude.{◌≤◌, ◌<◌, ◌^◌, length};
 use donor_book::Entry;
 use donor_measure::{Measure, Yardsticks};
 use edit_language::read_rules;
-use edit_model::Value;
+use edit_model::{FieldSet, Value};
 use edit_report::RowEnd;
 use foundation::OutOfMemory;
 use pruned_rules::prune_rules;
 use record_text::read_records;
-use record_workers::{Edited, Gate, NoGate, Terms, edit_records};
+use record_workers::{Edited, Gate, NoGate, Rest, Terms, edit_records};
+use shared_edits::Pool;
 use std::alloc::Global;
+use std::sync::Wait;
 use std::sync::atomic::{AtomicU64, Ordering};
 use std::test::Fail;
 use std::thread;
@@ -65,15 +67,23 @@ impl Gate for Hold {
     }
 }
 
+/// What became of the records of a file, who claimed which donor, and the systems that were derived.
+#[derive(Drop)]
+struct Seen {
+    ends: Vec<RowEnd>,
+    history: Vec<Entry>,
+    pool: Pool,
+}
+
 // What becomes of the records of a file, by the rules of another, with one donor a record, each given once.
-fn edited<R: Threads + Sync, G: Gate>(
+fn edited<R: Threads + Wait + Sync, G: Gate>(
     rt: &R,
     alloc: Global,
     rules: &[u8],
     records: &[u8],
     workers: u32,
     gate: &G,
-) -> Result<(Vec<RowEnd>, Vec<Entry>), OutOfMemory>
+) -> Result<Seen, OutOfMemory>
     requires rules { length rules.now < 2 ^ 32 }
     requires workers { (1 ≤ workers) × (workers ≤ 64) }
 {
@@ -93,10 +103,19 @@ fn edited<R: Threads + Sync, G: Gate>(
         limit: 1,
         near: 1,
     };
-    let Edited { ends, history, .. } = edit_records(
+    let Edited {
+        ends,
+        history,
+        rest,
+    } = edit_records(
         rt, alloc, survey, edits, sheet, measure, terms, workers, gate,
     )?;
-    Ok((ends, history))
+    let Rest { pool, .. } = rest;
+    Ok(Seen {
+        ends,
+        history,
+        pool,
+    })
 }
 
 // Whether the claim is of this row, which ranks the first record alone, and was given this.
@@ -119,7 +138,7 @@ const PAIR_RULES: &[u8] = b"number A\nnumber B\nA >= 1\nB >= 1\nB <= 9\n";
 
 #[test]
 fn two_workers_give_one_donor_once(rt: HostRuntime) -> Result<(), Fail> {
-    let (_, history) = edited(
+    let Seen { history, .. } = edited(
         &rt,
         rt.alloc(),
         PAIR_RULES,
@@ -134,7 +153,7 @@ fn two_workers_give_one_donor_once(rt: HostRuntime) -> Result<(), Fail> {
 
 #[test]
 fn one_worker_claims_in_row_order(rt: HostRuntime) -> Result<(), Fail> {
-    let (ends, history) = edited(
+    let Seen { ends, history, .. } = edited(
         &rt,
         rt.alloc(),
         PAIR_RULES,
@@ -151,7 +170,7 @@ fn one_worker_claims_in_row_order(rt: HostRuntime) -> Result<(), Fail> {
 #[test]
 fn a_worker_draws_while_another_is_held(rt: HostRuntime) -> Result<(), Fail> {
     let gate = Hold::new(0, 1);
-    let (ends, history) = edited(
+    let Seen { ends, history, .. } = edited(
         &rt,
         rt.alloc(),
         b"number A\nA >= 0\n",
@@ -168,7 +187,7 @@ fn a_worker_draws_while_another_is_held(rt: HostRuntime) -> Result<(), Fail> {
 #[test]
 fn a_worker_claims_before_it_draws_again(rt: HostRuntime) -> Result<(), Fail> {
     let gate = Hold::new(1, 3);
-    let (ends, history) = edited(
+    let Seen { ends, history, .. } = edited(
         &rt,
         rt.alloc(),
         PAIR_RULES,
@@ -180,5 +199,21 @@ fn a_worker_claims_before_it_draws_again(rt: HostRuntime) -> Result<(), Fail> {
     assert_eq!(rt; history.len(), 2);
     assert!(rt; is_claim(&history[0], 2, Some(0)) && is_claim(&history[1], 1, None));
     assert!(rt; ends.len() == 4 && has_number(&ends[1], 1, 1) && has_number(&ends[2], 1, 4));
+    Ok(())
+}
+
+#[test]
+fn a_new_reader_finds_what_a_worker_derived(rt: HostRuntime) -> Result<(), Fail> {
+    let Seen { ends, pool, .. } = edited(
+        &rt,
+        rt.alloc(),
+        b"number A\nnumber B\nA + B = 10\n",
+        b"A,B\n3,4\n",
+        1,
+        &NoGate,
+    )?;
+    assert!(rt; ends.len() == 1 && has_number(&ends[0], 1, 7));
+    let mut reader = pool.reader(rt.alloc())?;
+    assert!(rt; pool.find(&mut reader, FieldSet::empty().with(1)).is_some());
     Ok(())
 }
