@@ -42,7 +42,11 @@ use ticket_row::{Seat, Tickets};
 /// side. The edits are over the survey's fields, and they say of a point with codes of these what the rules say. The
 /// measure is one of the survey, and the numbers of the records have numerators below 10^21 and denominators of at most
 /// 10^6.
-pub fn edit_records<R: Threads + Wait + Sync, F: Fn(u32, &Value, &Value) -> u64 + Send + Sync, G: Gate>(
+pub fn edit_records<
+    R: Threads + Wait + Sync,
+    F: Fn(u32, &Value, &Value) -> u64 + Send + Sync,
+    G: Gate,
+>(
     rt: &R,
     alloc: Global,
     survey: Survey,

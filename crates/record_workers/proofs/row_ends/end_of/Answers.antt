@@ -13,7 +13,7 @@ returns-in_default g c =
     let case = rw c.row-row.ensures at c.case_known.ensures.case in
     let none : IsNoChange piece.outcome = λ path weight cert e. c.in_default.not-Change path weight cert e in
     let both = left-out rest.survey (edits_in rest) row rest.budget case (c.requires.rest.same row) rows piece.outcome
-        c.left_out.result c.requires.piece.outcome none told.outcome told.none.0 told.none.2 in
+    c.left_out.result c.requires.piece.outcome none told.outcome told.none.0 told.none.2 in
     record {
       outcome = told.outcome;
       given = told.none.1;
