@@ -1,9 +1,11 @@
 -- Words ask for one command at most.
-use Rattle.std.proofs.Common.{◌≡◌, ◌∙◌, ◌≤◌, ℕ, Option, Some, None, List, [], ◌∷◌, ap, subst, sym}
+use Rattle.std.proofs.Common.{◌≡◌, ◌∙◌, ◌≤◌, ℕ, Option, Some, None, List, ap, subst, sym}
 use Rattle.std.specs.Prelude.{⊤, IfNone, IfSome}
 use Rattle.clap.specs.Words.{App, Row, matches_of}
+use Rattle.clap.specs.declared.parser.matches.ArgMatches.{ArgMatches}
 use Rattle.command_words.specs.Asked.{CheckAsked, EditAsked, GivesCheck, GivesEdit, GivesRules, IsCommand, RulesAsked}
 use Rattle.command_words.specs.Options.{GivesNumber}
+use Rattle.command_words.specs.inner.Found.{rows_in}
 
 -- ---- what is found
 
@@ -67,23 +69,35 @@ one_rules found a b p q = ap rules_of (one_text _ _ _ p.rules q.rules)
 
 -- ---- a command and what is found for it
 
-module _ (command : App) (words : List (List ℕ)) where
-  -- words that are not the command at all ask for nothing
-  pub not_asked : (Holds : List Row → Type 0) → (¬ IsCommand command words (λ rows. ⊤)) → ¬ IsCommand command words Holds
-  not_asked Holds none is = none (record { others = is.others; named = is.named; taken = is.taken; found = tt })
+module _ (made command : App) (words : List (List ℕ)) (same : made ≡ command) where
+  -- where nothing is found for it, the words ask for nothing
+  pub not_asked : (found : Option ArgMatches) (Holds : List Row → Type 0) → found ≡ None → IfNone found (¬ IsCommand made words (λ rows. ⊤))
+      → ¬ IsCommand command words Holds
+  not_asked None Holds e none is =
+      subst (λ (app : App). ¬ IsCommand app words (λ rows. ⊤)) same none (record { others = is.others; named = is.named; taken = is.taken; found = tt })
+  not_asked (Some m) Holds e none is = absurd cc
 
-  module _ (found : List Row) (is : IsCommand command words (λ rows. rows ≡ found)) (Holds : List Row → Type 0) where
-    -- what holds of what was found holds of what the words are
-    pub asked_by : Holds found → IsCommand command words Holds
-    asked_by holds = record { others = is.others; named = is.named; taken = is.taken; found = subst Holds (sym is.found) holds }
+  -- and where something is, it is what the words say
+  pub is_found : (found : Option ArgMatches) (m : ArgMatches) → found ≡ Some m
+      → IfSome found (λ n. IsCommand made words (λ rows. rows ≡ rows_in n)) → IsCommand command words (λ rows. rows ≡ rows_in m)
+  is_found None m e some = absurd cc
+  is_found (Some n) m e some =
+      let is : n ≡ m = cc in
+      subst (λ (app : App). IsCommand app words (λ rows. rows ≡ rows_in m)) same
+      (subst (λ (k : ArgMatches). IsCommand made words (λ rows. rows ≡ rows_in k)) is some)
 
-    -- and the other way round
-    pub found_by : IsCommand command words Holds → Holds found
-    found_by other =
-        let this = is.named in
-        let that = other.named in
-        let same : other.others ≡ is.others = cc in
-        subst Holds (ap (matches_of command) same ∙ is.found) other.found
+module _ (command : App) (words : List (List ℕ)) (found : List Row) (is : IsCommand command words (λ rows. rows ≡ found)) (Holds : List Row → Type 0) where
+  -- what holds of what was found holds of what the words say
+  pub asked_by : Holds found → IsCommand command words Holds
+  asked_by holds = record { others = is.others; named = is.named; taken = is.taken; found = subst Holds (sym is.found) holds }
+
+  -- and the other way round
+  pub found_by : IsCommand command words Holds → Holds found
+  found_by other =
+      let this = is.named in
+      let that = other.named in
+      let same : other.others ≡ is.others = cc in
+      subst Holds (ap (matches_of command) same ∙ is.found) other.found
 
 -- ---- answers
 

@@ -34,9 +34,9 @@ pub record EditAsked : Type 0 where
 -- the options of an edit: five that name files and have to stand, and four that give numbers
 abbrev pub edit_command : App
 edit_command = command_with (codes "edit") (
-  must_stand (codes "rules") ∷ must_stand (codes "records") ∷ must_stand (codes "released") ∷ must_stand (codes "reasons")
-  ∷ must_stand (codes "proof") ∷ may_stand (codes "workers") ∷ may_stand (codes "budget") ∷ may_stand (codes "limit")
-  ∷ may_stand (codes "near") ∷ [])
+    must_stand (codes "rules") ∷ must_stand (codes "records") ∷ must_stand (codes "released") ∷ must_stand (codes "reasons")
+    ∷ must_stand (codes "proof") ∷ may_stand (codes "workers") ∷ may_stand (codes "budget") ∷ may_stand (codes "limit")
+    ∷ may_stand (codes "near") ∷ [])
 
 -- the names of the five files
 abbrev pub names_in : Names → List (List ℕ)
@@ -72,7 +72,7 @@ pub record CheckAsked : Type 0 where
 -- the options of a check: four that name files and have to stand
 abbrev pub check_command : App
 check_command = command_with (codes "check") (
-  must_stand (codes "rules") ∷ must_stand (codes "records") ∷ must_stand (codes "released") ∷ must_stand (codes "proof") ∷ [])
+    must_stand (codes "rules") ∷ must_stand (codes "records") ∷ must_stand (codes "released") ∷ must_stand (codes "proof") ∷ [])
 
 -- the names of the four files
 abbrev pub checked_in : CheckAsked → List (List ℕ)

@@ -35,7 +35,10 @@ impl<'a> Model for CheckWords<'a> {
 /// `--released` and `--proof`, each with a file's name. The options stand as `clap` takes them, and the four names
 /// differ. What is asked for is all that the words can be read as, and there is None exactly where they are no such
 /// command.
-pub fn check_asked<'a>(alloc: Global, words: &'a [String]) -> Result<Option<CheckWords<'a>>, OutOfMemory>
+pub fn check_asked<'a>(
+    alloc: Global,
+    words: &'a [String],
+) -> Result<Option<CheckWords<'a>>, OutOfMemory>
     ensures some { IfOk result (λ asked. IfSome asked (IsCheck (map string_bytes words.entry.now))) }
     ensures only { IfOk result (λ asked. IfSome asked
         (λ one. (other : CheckAsked) → IsCheck (map string_bytes words.entry.now) other → other ≡ one)) }

@@ -94,7 +94,10 @@ impl<'a> Model for EditWords<'a> {
 /// number of 1 to 10 digits, which may be left out: there is one worker then, the budget is 1,000,000, a donor is given
 /// once, and a record ranks 5 donors. The options stand as `clap` takes them, and the five names differ. What is asked
 /// for is all that the words can be read as, and there is None exactly where they are no such command.
-pub fn edit_asked<'a>(alloc: Global, words: &'a [String]) -> Result<Option<EditWords<'a>>, OutOfMemory>
+pub fn edit_asked<'a>(
+    alloc: Global,
+    words: &'a [String],
+) -> Result<Option<EditWords<'a>>, OutOfMemory>
     ensures some { IfOk result (λ asked. IfSome asked (IsEdit (map string_bytes words.entry.now))) }
     ensures only { IfOk result (λ asked. IfSome asked
         (λ one. (other : EditAsked) → IsEdit (map string_bytes words.entry.now) other → other ≡ one)) }

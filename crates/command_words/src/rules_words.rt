@@ -27,7 +27,10 @@ impl<'a> Model for RulesWords<'a> {
 /// Reads the words after the program's name as the command `rules` with the option `--rules` and a file's name, which
 /// stand as `clap` takes them. What is asked for is all that the words can be read as, and there is None exactly where
 /// they are no such command.
-pub fn rules_asked<'a>(alloc: Global, words: &'a [String]) -> Result<Option<RulesWords<'a>>, OutOfMemory>
+pub fn rules_asked<'a>(
+    alloc: Global,
+    words: &'a [String],
+) -> Result<Option<RulesWords<'a>>, OutOfMemory>
     ensures some { IfOk result (λ asked. IfSome asked (IsRules (map string_bytes words.entry.now))) }
     ensures only { IfOk result (λ asked. IfSome asked
         (λ one. (other : RulesAsked) → IsRules (map string_bytes words.entry.now) other → other ≡ one)) }
