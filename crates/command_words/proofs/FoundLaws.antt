@@ -41,6 +41,7 @@ first_differs true rest a b named others = (λ t. absurd cc, λ both. absurd (bo
 first_differs false rest a b named others = (λ t. (λ e. let h = named.1 e in cc, others.0 t), λ both. others.1 both.1)
 
 -- a name is not listed where it has other bytes than each that is
-pub all_differ : (name : List ℕ) (others : List (Bor (List ℕ))) → IsTrue (not (list_any (λ (o : Bor (List ℕ)). bytes_eq name o.now) others)) ↔ AllByRecursion (λ (o : Bor (List ℕ)). name ≢ o.now) others
+pub all_differ : (name : List ℕ) (others : List (Bor (List ℕ)))
+    → IsTrue (not (list_any (λ (o : Bor (List ℕ)). bytes_eq name o.now) others)) ↔ AllByRecursion (λ (o : Bor (List ℕ)). name ≢ o.now) others
 all_differ name [] = (λ t. tt, λ t. refl)
 all_differ name (other ∷ others) = first_differs (bytes_eq name other.now) _ name other.now (bytes_eq-Decides name other.now) (all_differ name others)
