@@ -1,2 +1,3 @@
 pub mod AskedLaws
-mod PairLaws
+mod CommandLaws
+mod FoundLaws

@@ -1,13 +1,16 @@
 -- What the words of the command line ask for.
-use Rattle.std.specs.Prelude.{◌≡◌, ℕ, List, [], ◌∷◌, codes, map, string_bytes, String}
+use Rattle.std.specs.Prelude.{◌≡◌, ℕ, List, [], ◌∷◌, Some, codes, map, string_bytes, String}
 use Rattle.std.specs.declared.alloc.Global.{Global}
-use Rattle.command_words.specs.Options.{AreApart, ArePairsOf, GivesNumber, Pairs, values_of, words_of}
+use Rattle.clap.specs.Words.{App, Row, fault_of, first_of, matches_of}
+use Rattle.command_words.specs.Options.{AreApart, GivesNumber, command_with, may_stand, must_stand}
 
--- the words are this command, and behind it pairs of an option and its value of which the claim holds
-pub record IsCommand (name : List ℕ) (words : List (List ℕ)) (Holds : Pairs → Type 0) : Type 0 where
-  pub pairs : Pairs
-  pub form : words ≡ name ∷ words_of pairs
-  pub options : Holds pairs
+-- the first word is the name of the command, `clap` takes the others as words of the command, and the claim holds of what it
+-- finds in them
+pub record IsCommand (command : App) (words : List (List ℕ)) (Holds : List Row → Type 0) : Type 0 where
+  pub others : List (List ℕ)
+  pub named : words ≡ command.top.name ∷ others
+  pub taken : fault_of command others ≡ []
+  pub found : Holds (matches_of command others)
 
 -- ---- edit
 
@@ -28,38 +31,34 @@ pub record EditAsked : Type 0 where
   pub limit : ℕ
   pub near : ℕ
 
--- the options of an edit that are given numbers
-abbrev pub number_options : List (List ℕ)
-number_options = codes "--workers" ∷ codes "--budget" ∷ codes "--limit" ∷ codes "--near" ∷ []
-
--- the options of an edit: those that name files, and these
-abbrev pub edit_options : List (List ℕ)
-edit_options =
-    codes "--rules" ∷ codes "--records" ∷ codes "--released" ∷ codes "--reasons" ∷ codes "--proof" ∷ number_options
+-- the options of an edit: five that name files and have to stand, and four that give numbers
+abbrev pub edit_command : App
+edit_command = command_with (codes "edit") (
+    must_stand (codes "rules") ∷ must_stand (codes "records") ∷ must_stand (codes "released") ∷ must_stand (codes "reasons")
+    ∷ must_stand (codes "proof") ∷ may_stand (codes "workers") ∷ may_stand (codes "budget") ∷ may_stand (codes "limit")
+    ∷ may_stand (codes "near") ∷ [])
 
 -- the names of the five files
 abbrev pub names_in : Names → List (List ℕ)
 names_in names = names.rules ∷ names.records ∷ names.released ∷ names.reasons ∷ names.proof ∷ []
 
--- the pairs give the options of an edit, each at most once: five that name files, no two of them the same; 1 to 64
--- workers, or 1; a budget from 1 to 1,000,000,000, or 1,000,000; a limit from 1 to 1,000, or 1; and 1 to 64 donors that a
--- record ranks, or 5
-pub record GiveEdit (pairs : Pairs) (asked : EditAsked) : Type 0 where
-  pub given : ArePairsOf edit_options pairs
-  pub rules : values_of (codes "--rules") pairs ≡ asked.names.rules ∷ []
-  pub records : values_of (codes "--records") pairs ≡ asked.names.records ∷ []
-  pub released : values_of (codes "--released") pairs ≡ asked.names.released ∷ []
-  pub reasons : values_of (codes "--reasons") pairs ≡ asked.names.reasons ∷ []
-  pub proof : values_of (codes "--proof") pairs ≡ asked.names.proof ∷ []
-  pub workers : GivesNumber 1 1 64 (values_of (codes "--workers") pairs) asked.workers
-  pub budget : GivesNumber 1000000 1 1000000000 (values_of (codes "--budget") pairs) asked.budget
-  pub limit : GivesNumber 1 1 1000 (values_of (codes "--limit") pairs) asked.limit
-  pub near : GivesNumber 5 1 64 (values_of (codes "--near") pairs) asked.near
+-- what is found are five names of files, no two of them the same; 1 to 64 workers, or 1; a budget from 1 to 1,000,000,000, or
+-- 1,000,000; a limit from 1 to 1,000, or 1; and 1 to 64 donors that a record ranks, or 5
+pub record GivesEdit (found : List Row) (asked : EditAsked) : Type 0 where
+  pub rules : first_of (codes "rules") found ≡ Some asked.names.rules
+  pub records : first_of (codes "records") found ≡ Some asked.names.records
+  pub released : first_of (codes "released") found ≡ Some asked.names.released
+  pub reasons : first_of (codes "reasons") found ≡ Some asked.names.reasons
+  pub proof : first_of (codes "proof") found ≡ Some asked.names.proof
+  pub workers : GivesNumber 1 1 64 (first_of (codes "workers") found) asked.workers
+  pub budget : GivesNumber 1000000 1 1000000000 (first_of (codes "budget") found) asked.budget
+  pub limit : GivesNumber 1 1 1000 (first_of (codes "limit") found) asked.limit
+  pub near : GivesNumber 5 1 64 (first_of (codes "near") found) asked.near
   pub apart : AreApart (names_in asked.names)
 
--- the words ask for an edit: the command, and behind it pairs that give its options, in any order
+-- the words ask for an edit: they are the command, and what is found gives it
 abbrev pub IsEdit : List (List ℕ) → EditAsked → Type 0
-IsEdit words asked = IsCommand (codes "edit") words (λ pairs. GiveEdit pairs asked)
+IsEdit words asked = IsCommand edit_command words (λ found. GivesEdit found asked)
 
 -- ---- check
 
@@ -70,26 +69,26 @@ pub record CheckAsked : Type 0 where
   pub released : List ℕ
   pub proof : List ℕ
 
--- the options of a check
-abbrev pub check_options : List (List ℕ)
-check_options = codes "--rules" ∷ codes "--records" ∷ codes "--released" ∷ codes "--proof" ∷ []
+-- the options of a check: four that name files and have to stand
+abbrev pub check_command : App
+check_command = command_with (codes "check") (
+    must_stand (codes "rules") ∷ must_stand (codes "records") ∷ must_stand (codes "released") ∷ must_stand (codes "proof") ∷ [])
 
 -- the names of the four files
 abbrev pub checked_in : CheckAsked → List (List ℕ)
 checked_in asked = asked.rules ∷ asked.records ∷ asked.released ∷ asked.proof ∷ []
 
--- the pairs give the options of a check, each once: four that name files, no two of them the same
-pub record GiveCheck (pairs : Pairs) (asked : CheckAsked) : Type 0 where
-  pub given : ArePairsOf check_options pairs
-  pub rules : values_of (codes "--rules") pairs ≡ asked.rules ∷ []
-  pub records : values_of (codes "--records") pairs ≡ asked.records ∷ []
-  pub released : values_of (codes "--released") pairs ≡ asked.released ∷ []
-  pub proof : values_of (codes "--proof") pairs ≡ asked.proof ∷ []
+-- what is found are four names of files, no two of them the same
+pub record GivesCheck (found : List Row) (asked : CheckAsked) : Type 0 where
+  pub rules : first_of (codes "rules") found ≡ Some asked.rules
+  pub records : first_of (codes "records") found ≡ Some asked.records
+  pub released : first_of (codes "released") found ≡ Some asked.released
+  pub proof : first_of (codes "proof") found ≡ Some asked.proof
   pub apart : AreApart (checked_in asked)
 
--- the words ask for a check: the command, and behind it pairs that give its options, in any order
+-- the words ask for a check: they are the command, and what is found gives it
 abbrev pub IsCheck : List (List ℕ) → CheckAsked → Type 0
-IsCheck words asked = IsCommand (codes "check") words (λ pairs. GiveCheck pairs asked)
+IsCheck words asked = IsCommand check_command words (λ found. GivesCheck found asked)
 
 -- ---- rules
 
@@ -97,18 +96,17 @@ IsCheck words asked = IsCommand (codes "check") words (λ pairs. GiveCheck pairs
 pub record RulesAsked : Type 0 where
   pub rules : List ℕ
 
--- the one option of the command
-abbrev pub rules_options : List (List ℕ)
-rules_options = codes "--rules" ∷ []
+-- the one option of the command, which names a file and has to stand
+abbrev pub rules_command : App
+rules_command = command_with (codes "rules") (must_stand (codes "rules") ∷ [])
 
--- the pairs give this option, once
-pub record GiveRules (pairs : Pairs) (asked : RulesAsked) : Type 0 where
-  pub given : ArePairsOf rules_options pairs
-  pub rules : values_of (codes "--rules") pairs ≡ asked.rules ∷ []
+-- what is found is the name of a file
+pub record GivesRules (found : List Row) (asked : RulesAsked) : Type 0 where
+  pub rules : first_of (codes "rules") found ≡ Some asked.rules
 
--- the words ask what becomes of the lines of rules: the command, and behind it the pair that gives its option
+-- the words ask what becomes of the lines of rules: they are the command, and what is found gives its file
 abbrev pub IsRules : List (List ℕ) → RulesAsked → Type 0
-IsRules words asked = IsCommand (codes "rules") words (λ pairs. GiveRules pairs asked)
+IsRules words asked = IsCommand rules_command words (λ found. GivesRules found asked)
 
 -- ---- any words
 

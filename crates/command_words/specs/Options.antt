@@ -1,42 +1,38 @@
--- Options of the command line: words in pairs of an option and its value.
-use Rattle.std.specs.Prelude.{◌≡◌, ◌≢◌, ⊤, ℕ, ◌≤◌, if◌then◌else◌, IsTrue, List, [], ◌∷◌, length}
-use Rattle.std.specs.List.{AllByRecursion, list_any}
-use Rattle.std.specs.Str.{bytes_eq}
+-- Options of the command line, as the crate `clap` reads them, and the two rules on their values.
+use Rattle.std.specs.Prelude.{◌≡◌, ◌≢◌, ⊤, ℕ, ◌≤◌, true, List, [], ◌∷◌, Option, Some, None, length}
+use Rattle.std.specs.List.{AllByRecursion}
 use Rattle.std.specs.Str.Parse.{IsNumeral, digits_value}
+use Rattle.clap.specs.Simple.{new_shape}
+use Rattle.clap.specs.Words.{App, Rule, new_rule}
+use Rattle.clap.specs.declared.builder.action.ArgAction.TheVariants.{Set}
 
--- options and their values, in the order of the words
-abbrev pub Pairs : Type 0
-Pairs = List (List ℕ × List ℕ)
+-- ---- what clap is told of a command
 
--- the words that the pairs are: each option, and behind it its value
-abbrev pub words_of : Pairs → List (List ℕ)
-words_of [] = []
-words_of (pair ∷ pairs) = pair.0 ∷ pair.1 ∷ words_of pairs
+-- the option `--name`, which is given one value where it stands
+abbrev pub may_stand : List ℕ → Rule
+may_stand name = record (new_rule name) { long = Some name; action = Some Set }
 
--- a text that may be a value: it is not empty and does not begin with a dash
-abbrev pub IsValue : List ℕ → Type 0
-IsValue [] = ⊥
-IsValue (first ∷ rest) = first ≢ 45
+-- the same, where the option has to stand
+abbrev pub must_stand : List ℕ → Rule
+must_stand name = record (may_stand name) { required = true }
 
--- each pair is one of these options, and a value
-abbrev pub ArePairsOf : List (List ℕ) → Pairs → Type 0
-ArePairsOf options [] = ⊤
-ArePairsOf options (pair ∷ pairs) = IsTrue (list_any (bytes_eq pair.0) options) × IsValue pair.1 × ArePairsOf options pairs
+-- the command of this name, with these options and nothing else, also no flag that asks for help
+abbrev pub command_with : List ℕ → List Rule → App
+command_with name options = record {
+  top = record (new_shape name) { rules = options; no_binary_name = true; disable_help_flag = true };
+  subs = [];
+}
 
--- the values that an option is given
-abbrev pub values_of : List ℕ → Pairs → List (List ℕ)
-values_of option [] = []
-values_of option (pair ∷ pairs) = if bytes_eq pair.0 option then pair.1 ∷ values_of option pairs else values_of option pairs
+-- ---- the two rules on values
 
 -- the text is 1 to 10 digits, and they spell the number
 abbrev pub IsNumberText : List ℕ → ℕ → Type 0
 IsNumberText text number = IsNumeral 10 text × (length text ≤ 10) × (number ≡ digits_value 10 text)
 
--- the number of an option with these values: that of its one value, from the least to the most, or the default where it has none
-abbrev pub GivesNumber : ℕ → ℕ → ℕ → List (List ℕ) → ℕ → Type 0
-GivesNumber default least most [] number = number ≡ default
-GivesNumber default least most (text ∷ []) number = IsNumberText text number × (least ≤ number) × (number ≤ most)
-GivesNumber default least most (text ∷ second ∷ more) number = ⊥
+-- the number of an option with this text: what it spells, from the least to the most, or the default where there is none
+abbrev pub GivesNumber : ℕ → ℕ → ℕ → Option (List ℕ) → ℕ → Type 0
+GivesNumber default least most None number = number ≡ default
+GivesNumber default least most (Some text) number = IsNumberText text number × (least ≤ number) × (number ≤ most)
 
 -- no two of the texts are the same
 abbrev pub AreApart : List (List ℕ) → Type 0

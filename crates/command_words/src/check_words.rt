@@ -1,13 +1,14 @@
-ghost use Rattle.std.specs.Prelude.{◌≡◌, ◌↔◌, ◌∷◌, [], IfSome, IfNone, IsTrue, map, string_bytes};
-ghost use Rattle.command_words.specs.Asked.{CheckAsked, GiveCheck, IsCheck};
+ghost use Rattle.std.specs.Prelude.{◌≡◌, ◌↔◌, ◌∷◌, [], IfOk, IfSome, IfNone, IsTrue, map, string_bytes};
+ghost use Rattle.clap.specs.Words.{app_of};
+ghost use Rattle.command_words.specs.Asked.{CheckAsked, GivesCheck, IsCheck, check_command};
 ghost use Rattle.command_words.specs.Options.{AreApart};
-ghost use Rattle.command_words.specs.inner.Pairs.{pairs_of};
+ghost use Rattle.command_words.specs.inner.Found.{rows_in};
 
-use crate::options::{are_given, differs_from, only_value, options_of};
+use crate::options::{command_named, differs_from, found_in, required, text_in};
+use clap::{ArgMatches, Command};
+use foundation::OutOfMemory;
+use std::alloc::Global;
 use std::marker::Model;
-
-/// The options of the command `check`.
-const CHECK_OPTIONS: [&str; 4] = ["--rules", "--records", "--released", "--proof"];
 
 /// What the command `check` was asked for. No two names are the same.
 #[derive(Debug, Drop)]
@@ -30,30 +31,46 @@ impl<'a> Model for CheckWords<'a> {
     ghost view = { λ w. record { rules = w.rules.now; records = w.records.now; released = w.released.now; proof = w.proof.now } };
 }
 
-/// Reads the words after the program's name as the command `check` with pairs of an option and its value, in any
-/// order and each once: `--rules`, `--records`, `--released` and `--proof`, each with a file's name. No value is empty
-/// or begins with `-`, and the four names differ. What is asked for is all that the words can be read as. No memory.
-pub fn check_asked(words: &[String]) -> Option<CheckWords<'_>>
-    ensures some { IfSome result (λ asked. IsCheck (map string_bytes words.now) asked) }
-    ensures only { IfSome result (λ asked. (other : CheckAsked) → IsCheck (map string_bytes words.now) other → other ≡ asked) }
-    ensures none { IfNone result ((asked : CheckAsked) → ¬ IsCheck (map string_bytes words.now) asked) }
+/// Reads the words after the program's name as the command `check` with the options `--rules`, `--records`,
+/// `--released` and `--proof`, each with a file's name. The options stand as `clap` takes them, and the four names
+/// differ. What is asked for is all that the words can be read as, and there is None exactly where they are no such
+/// command.
+pub fn check_asked<'a>(
+    alloc: Global,
+    words: &'a [String],
+) -> Result<Option<CheckWords<'a>>, OutOfMemory>
+    ensures some { IfOk result (λ asked. IfSome asked (IsCheck (map string_bytes words.entry.now))) }
+    ensures only { IfOk result (λ asked. IfSome asked
+        (λ one. (other : CheckAsked) → IsCheck (map string_bytes words.entry.now) other → other ≡ one)) }
+    ensures none { IfOk result (λ asked. IfNone asked ((one : CheckAsked) → ¬ IsCheck (map string_bytes words.entry.now) one)) }
 {
-    let options = options_of("check", words)?;
-    check_options(options)
+    let Some(found) = found_in(command(alloc)?, words)? else {
+        return Ok(None);
+    };
+    Ok(check_of(&found))
 }
 
-// What a check is asked for by its options, taken two by two.
-fn check_options(options: &[String]) -> Option<CheckWords<'_>>
-    ensures some { IfSome result (λ asked. GiveCheck (pairs_of (map string_bytes options.now)) asked) }
-    ensures none { IfNone result ((asked : CheckAsked) → ¬ GiveCheck (pairs_of (map string_bytes options.now)) asked) }
+// The command and its options.
+fn command<'a>(alloc: Global) -> Result<Command<'a>, OutOfMemory>
+    ensures { IfOk result (λ command. app_of command ≡ check_command) }
 {
-    if !are_given(options, &CHECK_OPTIONS) {
-        return None;
-    }
-    let rules = only_value("--rules", options)?;
-    let records = only_value("--records", options)?;
-    let released = only_value("--released", options)?;
-    let proof = only_value("--proof", options)?;
+    let command = command_named(alloc, "check")
+        .arg(required(alloc, "rules"))?
+        .arg(required(alloc, "records"))?
+        .arg(required(alloc, "released"))?
+        .arg(required(alloc, "proof"))?;
+    Ok(command)
+}
+
+// What a check is asked for by what was found for its options.
+fn check_of<'a>(found: &ArgMatches<'a>) -> Option<CheckWords<'a>>
+    ensures some { IfSome result (GivesCheck (rows_in found.now)) }
+    ensures none { IfNone result ((asked : CheckAsked) → ¬ GivesCheck (rows_in found.now) asked) }
+{
+    let rules = text_in(found, "rules")?;
+    let records = text_in(found, "records")?;
+    let released = text_in(found, "released")?;
+    let proof = text_in(found, "proof")?;
     if !are_apart(rules, records, released, proof) {
         return None;
     }

@@ -1,23 +1,16 @@
-ghost use Rattle.std.specs.Prelude.{◌≡◌, ◌↔◌, ◌∷◌, [], IfSome, IfNone, IsTrue, map, string_bytes};
-ghost use Rattle.command_words.specs.Asked.{EditAsked, GiveEdit, IsEdit};
+ghost use Rattle.std.specs.Prelude.{◌≡◌, ◌↔◌, ◌∷◌, [], IfOk, IfSome, IfNone, IsTrue, map, string_bytes};
+ghost use Rattle.clap.specs.Words.{app_of};
+ghost use Rattle.command_words.specs.Asked.{EditAsked, GivesEdit, IsEdit, edit_command};
 ghost use Rattle.command_words.specs.Options.{AreApart};
-ghost use Rattle.command_words.specs.inner.Pairs.{pairs_of};
+ghost use Rattle.command_words.specs.inner.Found.{rows_in};
 
-use crate::options::{are_given, differs_from, number_given, only_value, options_of};
+use crate::options::{
+    command_named, differs_from, found_in, number_in, optional, required, text_in,
+};
+use clap::{ArgMatches, Command};
+use foundation::OutOfMemory;
+use std::alloc::Global;
 use std::marker::Model;
-
-/// The options of the command `edit`.
-const EDIT_OPTIONS: [&str; 9] = [
-    "--rules",
-    "--records",
-    "--released",
-    "--reasons",
-    "--proof",
-    "--workers",
-    "--budget",
-    "--limit",
-    "--near",
-];
 
 /// How many workers edit the records where no number is given, the least that can be given, and the most.
 const WORKERS: u64 = 1;
@@ -96,37 +89,57 @@ impl<'a> Model for EditWords<'a> {
         × InBounds w.workers w.budget w.limit w.near };
 }
 
-/// Reads the words after the program's name as the command `edit` with pairs of an option and its value, in any
-/// order and each at most once: `--rules`, `--records`, `--released`, `--reasons` and `--proof`, each with a file's
-/// name, and `--workers`, `--budget`, `--limit` and `--near`, each with a number, which may be left out: there is one
-/// worker then, the budget is 1,000,000, a donor is given once, and a record ranks 5 donors. No value is empty or begins
-/// with `-`, and the five names differ. What is asked for is all that the words can be read as. No memory.
-pub fn edit_asked(words: &[String]) -> Option<EditWords<'_>>
-    ensures some { IfSome result (λ asked. IsEdit (map string_bytes words.now) asked) }
-    ensures only { IfSome result (λ asked. (other : EditAsked) → IsEdit (map string_bytes words.now) other → other ≡ asked) }
-    ensures none { IfNone result ((asked : EditAsked) → ¬ IsEdit (map string_bytes words.now) asked) }
+/// Reads the words after the program's name as the command `edit` with the options `--rules`, `--records`, `--released`,
+/// `--reasons` and `--proof`, each with a file's name, and `--workers`, `--budget`, `--limit` and `--near`, each with a
+/// number of 1 to 10 digits, which may be left out: there is one worker then, the budget is 1,000,000, a donor is given
+/// once, and a record ranks 5 donors. The options stand as `clap` takes them, and the five names differ. What is asked
+/// for is all that the words can be read as, and there is None exactly where they are no such command.
+pub fn edit_asked<'a>(
+    alloc: Global,
+    words: &'a [String],
+) -> Result<Option<EditWords<'a>>, OutOfMemory>
+    ensures some { IfOk result (λ asked. IfSome asked (IsEdit (map string_bytes words.entry.now))) }
+    ensures only { IfOk result (λ asked. IfSome asked
+        (λ one. (other : EditAsked) → IsEdit (map string_bytes words.entry.now) other → other ≡ one)) }
+    ensures none { IfOk result (λ asked. IfNone asked ((one : EditAsked) → ¬ IsEdit (map string_bytes words.entry.now) one)) }
 {
-    let options = options_of("edit", words)?;
-    edit_options(options)
+    let Some(found) = found_in(command(alloc)?, words)? else {
+        return Ok(None);
+    };
+    Ok(edit_of(&found))
 }
 
-// What an edit is asked for by its options, taken two by two.
-fn edit_options(options: &[String]) -> Option<EditWords<'_>>
-    ensures some { IfSome result (λ asked. GiveEdit (pairs_of (map string_bytes options.now)) asked) }
-    ensures none { IfNone result ((asked : EditAsked) → ¬ GiveEdit (pairs_of (map string_bytes options.now)) asked) }
+// The command and its options.
+fn command<'a>(alloc: Global) -> Result<Command<'a>, OutOfMemory>
+    ensures { IfOk result (λ command. app_of command ≡ edit_command) }
 {
-    if !are_given(options, &EDIT_OPTIONS) {
-        return None;
-    }
-    let rules = only_value("--rules", options)?;
-    let records = only_value("--records", options)?;
-    let released = only_value("--released", options)?;
-    let reasons = only_value("--reasons", options)?;
-    let proof = only_value("--proof", options)?;
-    let workers = number_given("--workers", options, WORKERS, LEAST_WORKERS, MOST_WORKERS)?;
-    let budget = number_given("--budget", options, BUDGET, LEAST_BUDGET, MOST_BUDGET)?;
-    let limit = number_given("--limit", options, LIMIT, LEAST_LIMIT, MOST_LIMIT)?;
-    let near = number_given("--near", options, NEAR, LEAST_NEAR, MOST_NEAR)?;
+    let command = command_named(alloc, "edit")
+        .arg(required(alloc, "rules"))?
+        .arg(required(alloc, "records"))?
+        .arg(required(alloc, "released"))?
+        .arg(required(alloc, "reasons"))?
+        .arg(required(alloc, "proof"))?
+        .arg(optional(alloc, "workers"))?
+        .arg(optional(alloc, "budget"))?
+        .arg(optional(alloc, "limit"))?
+        .arg(optional(alloc, "near"))?;
+    Ok(command)
+}
+
+// What an edit is asked for by what was found for its options.
+fn edit_of<'a>(found: &ArgMatches<'a>) -> Option<EditWords<'a>>
+    ensures some { IfSome result (GivesEdit (rows_in found.now)) }
+    ensures none { IfNone result ((asked : EditAsked) → ¬ GivesEdit (rows_in found.now) asked) }
+{
+    let rules = text_in(found, "rules")?;
+    let records = text_in(found, "records")?;
+    let released = text_in(found, "released")?;
+    let reasons = text_in(found, "reasons")?;
+    let proof = text_in(found, "proof")?;
+    let workers = number_in(found, "workers", WORKERS, LEAST_WORKERS, MOST_WORKERS)?;
+    let budget = number_in(found, "budget", BUDGET, LEAST_BUDGET, MOST_BUDGET)?;
+    let limit = number_in(found, "limit", LIMIT, LEAST_LIMIT, MOST_LIMIT)?;
+    let near = number_in(found, "near", NEAR, LEAST_NEAR, MOST_NEAR)?;
     if !are_apart(rules, records, released, reasons, proof) {
         return None;
     }

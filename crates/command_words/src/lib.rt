@@ -1,5 +1,6 @@
-//! What the words of the command line ask for: a command, and its options with their values. Begin with [`edit_asked`],
-//! [`check_asked`] and [`rules_asked`]; which words are which command stands in `specs/Asked.antt`.
+//! What the words of the command line ask for: a command, and its options with their values, as the crate `clap` takes
+//! them. Begin with [`edit_asked`], [`check_asked`] and [`rules_asked`]; which words are which command stands in
+//! `specs/Asked.antt`.
 #![tactic(auto)]
 
 mod check_words;

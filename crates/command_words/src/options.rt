@@ -1,60 +1,91 @@
-ghost use Rattle.std.specs.Prelude.{◌≡◌, ◌≢◌, ◌↔◌, ◌+◌, ◌*◌, ◌<◌, ◌++◌, ◌∷◌, [], ℕ, List, IfSome, IfNone, IsTrue, length, map, string_bytes, slice_index_or};
+ghost use Rattle.std.specs.Prelude.{◌≡◌, ◌≢◌, ◌↔◌, ⊤, [], ℕ, true, false, Some, None, IfOk, IfSome, IfNone, IsTrue, map, string_bytes};
 ghost use Rattle.std.specs.List.{AllByRecursion, list_any};
 ghost use Rattle.std.specs.Str.{bytes_eq};
-ghost use Rattle.command_words.specs.Options.{ArePairsOf, GivesNumber, IsNumberText, IsValue, Pairs, values_of, words_of};
-ghost use Rattle.command_words.specs.inner.Pairs.{pairs_of, values_found, values_in};
+ghost use Rattle.clap.specs.Words.{app_of, first_of, is_simple_and_free, rule_of};
+ghost use Rattle.command_words.specs.Asked.{IsCommand};
+ghost use Rattle.command_words.specs.Options.{GivesNumber, IsNumberText, command_with, may_stand, must_stand};
+ghost use Rattle.command_words.specs.inner.Found.{rows_in};
+
+use clap::error::ErrorKind;
+use clap::{Arg, ArgAction, ArgMatches, Command};
+use foundation::OutOfMemory;
+use std::alloc::Global;
 
 /// The most digits of a number.
 const MOST_DIGITS: usize = 10;
 
-/// The options behind a command, where the words are this command and pairs of an option and its value. No memory.
-pub(crate) fn options_of<'a>(command: &str, words: &'a [String]) -> Option<&'a [String]>
-    ensures some { IfSome result (λ options. map string_bytes words.now
-        ≡ command.now ∷ words_of (pairs_of (map string_bytes options.now))) }
-    ensures none { IfNone result ((pairs : Pairs) → map string_bytes words.now ≢ command.now ∷ words_of pairs) }
+/// The command of this name, without an option so far. No flag asks for its help.
+pub(crate) fn command_named<'a>(alloc: Global, name: &'a str) -> Command<'a>
+    ensures { app_of result ≡ command_with name.entry.now [] }
 {
-    let (first, options) = words.split_first()?;
-    if first.as_str() != command || options.len() % 2 != 0 {
-        return None;
+    Command::new(alloc, name)
+        .no_binary_name(true)
+        .disable_help_flag(true)
+}
+
+/// The option `--name`, which is given one value where it stands.
+pub(crate) fn optional<'a>(alloc: Global, name: &'a str) -> Arg<'a>
+    ensures option { rule_of result ≡ may_stand name.entry.now }
+    ensures local { result.global ≡ false }
+{
+    Arg::new(alloc, name).long(name).action(ArgAction::Set)
+}
+
+/// The option `--name`, which has to stand and is given one value.
+pub(crate) fn required<'a>(alloc: Global, name: &'a str) -> Arg<'a>
+    ensures option { rule_of result ≡ must_stand name.entry.now }
+    ensures local { result.global ≡ false }
+{
+    optional(alloc, name).required(true)
+}
+
+/// What is found in the words for the command: the first has to be its name, and `clap` has to take the others.
+pub(crate) fn found_in<'a>(
+    command: Command<'a>,
+    words: &'a [String],
+) -> Result<Option<ArgMatches<'a>>, OutOfMemory>
+    requires { is_simple_and_free (app_of command) ≡ true }
+    ensures some { IfOk result (λ found. IfSome found
+        (λ m. IsCommand (app_of command.entry) (map string_bytes words.entry.now) (λ rows. rows ≡ rows_in m))) }
+    ensures none { IfOk result (λ found. IfNone found
+        (¬ IsCommand (app_of command.entry) (map string_bytes words.entry.now) (λ rows. ⊤))) }
+{
+    let Some((first, others)) = words.split_first() else {
+        return Ok(None);
+    };
+    if first.as_str() != command.get_name() {
+        return Ok(None);
     }
-    Some(options)
-}
-
-/// Whether the words, taken two by two, are each one of the options and a value. A value is not empty and
-/// does not begin with `-`. No memory.
-pub(crate) fn are_given(words: &[String], options: &[&str]) -> bool
-    ensures { IsTrue result ↔ ArePairsOf (map (λ o. o.now) options.now) (pairs_of (map string_bytes words.now)) }
-{
-    for place in 0..words.len() / 2 {
-        let (option, value) = pair_at(words, place);
-        if !is_given(options, option, value) {
-            return false;
-        }
+    match command.try_get_matches_from(others) {
+        Ok(found) => Ok(Some(found)),
+        Err(error) => match error.kind() {
+            ErrorKind::OutOfMemory => Err(OutOfMemory),
+            _ => Ok(None),
+        },
     }
-    true
 }
 
-/// The value of an option among words taken two by two, where it stands there once. No memory.
-pub(crate) fn only_value<'a>(option: &str, words: &'a [String]) -> Option<&'a str>
-    ensures some { IfSome result (λ value. values_in option.now words.now ≡ value.now ∷ []) }
-    ensures none { IfNone result ((value : List ℕ) → values_in option.now words.now ≢ value ∷ []) }
+/// The text that was found for the option. No memory.
+pub(crate) fn text_in<'a>(found: &ArgMatches<'a>, name: &str) -> Option<&'a str>
+    ensures some { IfSome result (λ text. first_of name.now (rows_in found.now) ≡ Some text.now) }
+    ensures none { IfNone result (first_of name.now (rows_in found.now) ≡ None) }
 {
-    value_of(option, words)?
+    found.get_str(name)
 }
 
-/// The number that an option is given among words taken two by two, from the least to the most, or the
-/// default where it does not stand there. A number is 1 to 10 digits. No memory.
-pub(crate) fn number_given(
-    option: &str,
-    words: &[String],
+/// The number that was found for the option, from the least to the most, or the default where nothing was found. A
+/// number is 1 to 10 digits. No memory.
+pub(crate) fn number_in(
+    found: &ArgMatches<'_>,
+    name: &str,
     default: u64,
     least: u64,
     most: u64,
 ) -> Option<u64>
-    ensures some { IfSome result (λ n. GivesNumber default least most (values_in option.now words.now) n) }
-    ensures none { IfNone result ((n : ℕ) → ¬ GivesNumber default least most (values_in option.now words.now) n) }
+    ensures some { IfSome result (λ n. GivesNumber default least most (first_of name.now (rows_in found.now)) n) }
+    ensures none { IfNone result ((n : ℕ) → ¬ GivesNumber default least most (first_of name.now (rows_in found.now)) n) }
 {
-    let Some(text) = value_of(option, words)? else {
+    let Some(text) = text_in(found, name) else {
         return Some(default);
     };
     let number = number_of(text)?;
@@ -62,72 +93,6 @@ pub(crate) fn number_given(
         Some(number)
     } else {
         None
-    }
-}
-
-// The value of an option among words taken two by two, if it stands there, or None where it stands there again.
-fn value_of<'a>(option: &str, words: &'a [String]) -> Option<Option<&'a str>>
-    ensures once { IfSome result (λ found. values_in option.now words.now ≡ values_found found) }
-    ensures again { IfNone result (1 < length (values_in option.now words.now)) }
-{
-    let mut found = None;
-    for place in 0..words.len() / 2 {
-        let (name, value) = pair_at(words, place);
-        found = found_next(found, option, name, value)?;
-    }
-    Some(found)
-}
-
-// What is found of an option after one more pair, or None where it is found again.
-fn found_next<'a>(
-    found: Option<&'a str>,
-    option: &str,
-    name: &str,
-    value: &'a str,
-) -> Option<Option<&'a str>>
-    ensures once { IfSome result (λ next. values_found next ≡ values_found found.entry
-        ++ values_of option.now ((name.now, value.now) ∷ [])) }
-    ensures again { IfNone result (1 < length (values_found found.entry ++ values_of option.now ((name.now, value.now) ∷ []))) }
-{
-    if name != option {
-        return Some(found);
-    }
-    match found {
-        None => Some(Some(value)),
-        Some(_) => None,
-    }
-}
-
-// The pair of this number, from 0, of words taken two by two.
-fn pair_at(words: &[String], place: usize) -> (&str, &str)
-    requires { 2 * place + 1 < length words.now }
-    ensures { slice_index_or (pairs_of (map string_bytes words.now)) place ([], []) ≡ (result.0.now, result.1.now) }
-{
-    (words[2 * place].as_str(), words[2 * place + 1].as_str())
-}
-
-// Whether the pair is one of the options and a value.
-#[tactic(auto, using(crate::proofs::PairLaws::listed_among))]
-fn is_given(options: &[&str], option: &str, value: &str) -> bool
-    ensures { IsTrue result ↔ ArePairsOf (map (λ o. o.now) options.now) ((option.now, value.now) ∷ []) }
-{
-    is_listed(options, option) && is_value(value)
-}
-
-// Whether the word is one of the options.
-fn is_listed(options: &[&str], word: &str) -> bool
-    ensures { result ≡ list_any (λ o. bytes_eq word.now o.now) options.now }
-{
-    options.iter().any(|option| word == *option)
-}
-
-// Whether the text may be a value.
-fn is_value(text: &str) -> bool
-    ensures { IsTrue result ↔ IsValue text.now }
-{
-    match text.as_bytes().first() {
-        None => false,
-        Some(first) => *first != b'-',
     }
 }
 
@@ -150,4 +115,11 @@ pub(crate) fn differs_from(name: &str, others: &[&str]) -> bool
     ensures { IsTrue result ↔ AllByRecursion (λ other. name.now ≢ other.now) others.now }
 {
     !is_listed(others, name)
+}
+
+// Whether the word is one of those listed.
+fn is_listed(listed: &[&str], word: &str) -> bool
+    ensures { result ≡ list_any (λ other. bytes_eq word.now other.now) listed.now }
+{
+    listed.iter().any(|other| word == *other)
 }

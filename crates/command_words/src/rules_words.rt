@@ -1,12 +1,13 @@
-ghost use Rattle.std.specs.Prelude.{◌≡◌, IfSome, IfNone, map, string_bytes};
-ghost use Rattle.command_words.specs.Asked.{GiveRules, IsRules, RulesAsked};
-ghost use Rattle.command_words.specs.inner.Pairs.{pairs_of};
+ghost use Rattle.std.specs.Prelude.{◌≡◌, IfOk, IfSome, IfNone, map, string_bytes};
+ghost use Rattle.clap.specs.Words.{app_of};
+ghost use Rattle.command_words.specs.Asked.{GivesRules, IsRules, RulesAsked, rules_command};
+ghost use Rattle.command_words.specs.inner.Found.{rows_in};
 
-use crate::options::{are_given, only_value, options_of};
+use crate::options::{command_named, found_in, required, text_in};
+use clap::{ArgMatches, Command};
+use foundation::OutOfMemory;
+use std::alloc::Global;
 use std::marker::Model;
-
-/// The options of the command `rules`.
-const RULES_OPTIONS: [&str; 1] = ["--rules"];
 
 /// What the command `rules` was asked for.
 #[derive(Debug, Drop)]
@@ -23,25 +24,37 @@ impl<'a> Model for RulesWords<'a> {
     ghost view = { λ w. record { rules = w.rules.now } };
 }
 
-/// Reads the words after the program's name as the command `rules` with one pair, `--rules` and a file's name, which is
-/// not empty and does not begin with `-`. What is asked for is all that the words can be read as. No memory.
-pub fn rules_asked(words: &[String]) -> Option<RulesWords<'_>>
-    ensures some { IfSome result (λ asked. IsRules (map string_bytes words.now) asked) }
-    ensures only { IfSome result (λ asked. (other : RulesAsked) → IsRules (map string_bytes words.now) other → other ≡ asked) }
-    ensures none { IfNone result ((asked : RulesAsked) → ¬ IsRules (map string_bytes words.now) asked) }
+/// Reads the words after the program's name as the command `rules` with the option `--rules` and a file's name, which
+/// stand as `clap` takes them. What is asked for is all that the words can be read as, and there is None exactly where
+/// they are no such command.
+pub fn rules_asked<'a>(
+    alloc: Global,
+    words: &'a [String],
+) -> Result<Option<RulesWords<'a>>, OutOfMemory>
+    ensures some { IfOk result (λ asked. IfSome asked (IsRules (map string_bytes words.entry.now))) }
+    ensures only { IfOk result (λ asked. IfSome asked
+        (λ one. (other : RulesAsked) → IsRules (map string_bytes words.entry.now) other → other ≡ one)) }
+    ensures none { IfOk result (λ asked. IfNone asked ((one : RulesAsked) → ¬ IsRules (map string_bytes words.entry.now) one)) }
 {
-    let options = options_of("rules", words)?;
-    rules_options(options)
+    let Some(found) = found_in(command(alloc)?, words)? else {
+        return Ok(None);
+    };
+    Ok(rules_of(&found))
 }
 
-// What the command is asked for by its options, taken two by two.
-fn rules_options(options: &[String]) -> Option<RulesWords<'_>>
-    ensures some { IfSome result (λ asked. GiveRules (pairs_of (map string_bytes options.now)) asked) }
-    ensures none { IfNone result ((asked : RulesAsked) → ¬ GiveRules (pairs_of (map string_bytes options.now)) asked) }
+// The command and its option.
+fn command<'a>(alloc: Global) -> Result<Command<'a>, OutOfMemory>
+    ensures { IfOk result (λ command. app_of command ≡ rules_command) }
 {
-    if !are_given(options, &RULES_OPTIONS) {
-        return None;
-    }
-    let rules = only_value("--rules", options)?;
+    let command = command_named(alloc, "rules").arg(required(alloc, "rules"))?;
+    Ok(command)
+}
+
+// What the command is asked for by what was found for its option.
+fn rules_of<'a>(found: &ArgMatches<'a>) -> Option<RulesWords<'a>>
+    ensures some { IfSome result (GivesRules (rows_in found.now)) }
+    ensures none { IfNone result ((asked : RulesAsked) → ¬ GivesRules (rows_in found.now) asked) }
+{
+    let rules = text_in(found, "rules")?;
     Some(RulesWords { rules })
 }

@@ -28,10 +28,7 @@ const NUMBERS: &[(&str, &str)] = &[
     (" --near 64", "1 1000000 1 64"),
     (" --near 65", "none"),
     (" --budget 3 --near 2", "1 3 1 2"),
-    (
-        " --near 9 --workers 008 --limit 2 --budget 7",
-        "8 7 2 9",
-    ),
+    (" --near 9 --workers 008 --limit 2 --budget 7", "8 7 2 9"),
     (
         " --near 64 --limit 1000 --budget 1000000000",
         "1 1000000000 1000 64",
@@ -44,19 +41,39 @@ const NUMBERS: &[(&str, &str)] = &[
     (" --limit 4294967297", "none"),
     // no digits alone
     (" --budget +5", "none"),
+    (" --budget=+5", "none"),
     (" --limit -1", "none"),
+    (" --limit=-1", "none"),
     (" --near 5.", "none"),
     (" --near 0x5", "none"),
     (" --near ", "none"),
+    (" --near=", "none"),
+    (" --near -", "none"),
+    (" --near=5=5", "none"),
+    // the value behind the option's name
+    (" --near=64", "1 1000000 1 64"),
+    (" --limit=007 --workers 2", "2 1000000 7 5"),
+    (" --budget=3 --", "1 3 1 5"),
+    (" --", "1 1000000 1 5"),
     // an option for a value, again, unknown, and without a value
     (" --near --limit", "none"),
     (" --near 5 --near 5", "none"),
+    (" --near=5 --near=5", "none"),
+    (" --near 5 --near=6", "none"),
     (" --limit 2 --budget 4 --limit 3", "none"),
     (" --far 5", "none"),
     (" --Near 5", "none"),
     (" near 5", "none"),
     (" --limit", "none"),
     (" --limit 2 --near", "none"),
+    (" --nea 5", "none"),
+    (" -n 5", "none"),
+    (" -near 5", "none"),
+    // behind two dashes there is nothing to be named
+    (" --near --", "none"),
+    (" --near -- 5", "none"),
+    (" -- --near 5", "none"),
+    (" -- --", "none"),
 ];
 
 /// Words, and what they ask for: the files in the order of the command, and the numbers behind them.
@@ -98,13 +115,31 @@ const COMMANDS: &[(&str, &str)] = &[
         "edit --rules r --records c --released d --reasons w --proof w",
         "none",
     ),
-    // no name
+    // an empty name is a name, but not twice
     (
         "edit --rules  --records c --released d --reasons w --proof p",
+        "edit  c d w p 1 1000000 1 5",
+    ),
+    (
+        "edit --rules r --records= --released d --reasons w --proof p --near 9",
+        "edit r  d w p 1 1000000 1 9",
+    ),
+    (
+        "edit --rules= --records  --released d --reasons w --proof p",
+        "none",
+    ),
+    // a name that begins with a dash
+    (
+        "edit --rules r --records -c --released d --reasons w --proof p",
         "none",
     ),
     (
-        "edit --rules r --records -c --released d --reasons w --proof p",
+        "edit --rules r --records=-c --released - --reasons=--near --proof=5",
+        "edit r -c - --near 5 1 1000000 1 5",
+    ),
+    // the same name in two ways
+    (
+        "edit --rules r --records c --released d --reasons=r --proof p",
         "none",
     ),
     // no command, or behind its options
@@ -140,6 +175,14 @@ const COMMANDS: &[(&str, &str)] = &[
         "none",
     ),
     ("check --rules r --records c --released d", "none"),
+    (
+        "check --rules=a=b --proof=é --records c --released d --",
+        "check a=b c d é",
+    ),
+    (
+        "check --rules r --records c --released d --proof p --help",
+        "none",
+    ),
     ("check --rules r --records c --released r --proof p", "none"),
     (
         "check --rules r --records c --released d --proof p --proof p",
@@ -153,8 +196,44 @@ const COMMANDS: &[(&str, &str)] = &[
     ("rules --records r", "none"),
     ("rules --rules r r", "none"),
     ("rules --rules", "none"),
-    ("rules --rules ", "none"),
-    ("rules --rules -", "none"),
+    ("rules --rules ", "rules "),
+    ("rules --rules=", "rules "),
+    ("rules --rules -", "rules -"),
+    ("rules --rules=r", "rules r"),
+    ("rules --rules=-x", "rules -x"),
+    ("rules --rules=--", "rules --"),
+    ("rules --rules -x", "none"),
+    ("rules --rules --x", "none"),
+    ("rules --rules --rules", "none"),
+    ("rules --rules r --", "rules r"),
+    ("rules --rules=r --", "rules r"),
+    ("rules --rules r -- r", "none"),
+    ("rules --rules r -- --", "none"),
+    ("rules --rules r -", "none"),
+    ("rules --rules r ", "none"),
+    ("rules --rules --", "none"),
+    ("rules --rules -- r", "none"),
+    ("rules -- --rules r", "none"),
+    ("rules r --rules r", "none"),
+    ("rules --rules r --rules=r", "none"),
+    ("rules --=r", "none"),
+    ("rules --rule r", "none"),
+    ("rules --Rules r", "none"),
+    ("rules -rules r", "none"),
+    ("rules --", "none"),
+    ("rules", "none"),
+    // help and the version are no commands
+    ("rules --rules r --help", "none"),
+    ("rules --help", "none"),
+    ("rules -h", "none"),
+    ("rules --version", "none"),
+    ("rules -V", "none"),
+    ("rules help", "none"),
+    ("edit --help", "none"),
+    ("--help", "none"),
+    ("-h", "none"),
+    ("--version", "none"),
+    ("help", "none"),
 ];
 
 // The words between the blanks of a line.
@@ -168,7 +247,7 @@ fn words(alloc: Global, line: &str) -> Result<Vec<String>, Fail> {
 
 // The files and the numbers of the edit that the words ask for.
 fn edit_told(alloc: Global, words: &[String]) -> Result<String, Fail> {
-    let Some(asked) = edit_asked(words) else {
+    let Some(asked) = edit_asked(alloc, words)? else {
         return Ok(String::from_str(alloc, "none")?);
     };
     let (rules, records, released) = (asked.rules, asked.records, asked.released);
@@ -182,7 +261,7 @@ fn edit_told(alloc: Global, words: &[String]) -> Result<String, Fail> {
 
 // The files of the check that the words ask for.
 fn check_told(alloc: Global, words: &[String]) -> Result<String, Fail> {
-    let Some(asked) = check_asked(words) else {
+    let Some(asked) = check_asked(alloc, words)? else {
         return Ok(String::from_str(alloc, "none")?);
     };
     let (rules, records) = (asked.rules, asked.records);
@@ -192,7 +271,7 @@ fn check_told(alloc: Global, words: &[String]) -> Result<String, Fail> {
 
 // The file of the rules that the words ask about.
 fn rules_told(alloc: Global, words: &[String]) -> Result<String, Fail> {
-    let Some(asked) = rules_asked(words) else {
+    let Some(asked) = rules_asked(alloc, words)? else {
         return Ok(String::from_str(alloc, "none")?);
     };
     let rules = asked.rules;
@@ -253,8 +332,14 @@ fn numbers_are_those_given_or_the_usual_ones(rt: HostRuntime) -> Result<(), Fail
 #[test]
 fn words_ask_for_one_command_or_none(rt: HostRuntime) -> Result<(), Fail> {
     assert_eq!(rt; first_wrong(rt.alloc(), COMMANDS)?, None);
-    assert!(rt;
-        edit_asked(&[]).is_none() && check_asked(&[]).is_none() && rules_asked(&[]).is_none()
-    );
+    Ok(())
+}
+
+#[test]
+fn no_words_ask_for_nothing(rt: HostRuntime) -> Result<(), Fail> {
+    let alloc = rt.alloc();
+    assert!(rt; edit_asked(alloc, &[])?.is_none());
+    assert!(rt; check_asked(alloc, &[])?.is_none());
+    assert!(rt; rules_asked(alloc, &[])?.is_none());
     Ok(())
 }

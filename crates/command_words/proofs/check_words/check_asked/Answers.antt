@@ -1,21 +1,30 @@
-use Rattle.command_words.specs.Asked.{CheckAsked, GiveCheck}
-use Rattle.command_words.specs.Options.{Pairs}
-use Rattle.command_words.proofs.AskedLaws.{given_of, if_none, if_some, one_check}
+use Rattle.std.proofs.Common.{◌∙◌, ap}
+use Rattle.clap.specs.Words.{is_simple_and_free}
+use Rattle.command_words.specs.Asked.{GivesCheck, check_command}
+use Rattle.command_words.proofs.AskedLaws.{asked_by, found_by, if_none, if_some, is_found, not_asked, one_check}
+use Rattle.command_words.proofs.CommandLaws.{check_simple}
 use Rattle.command_words.proofs.check_words.check_asked.Goals as goal
 
-abbrev gives : CheckAsked → Pairs → Type 0
-gives asked pairs = GiveCheck pairs asked
+pub found_in-requires : goal.found_in-requires
+found_in-requires c = ap is_simple_and_free c.in_ok-command.ensures ∙ check_simple
 
-pub returns-in_err-options-clause-none : goal.returns-in_err-options-clause-none
-returns-in_err-options-clause-none c = rw c.from_residual.ensures (λ asked is. c.in_err-options.ensures.none is.pairs is.form)
+pub returns-in_default-clause-none : goal.returns-in_default-clause-none
+returns-in_default-clause-none c =
+    λ asked. not_asked _ check_command _ c.in_ok-command.ensures _ (λ rows. GivesCheck rows asked) c.in_default.is c.in_ok-found.ensures.none
 
 pub returns-clause-some : goal.returns-clause-some
-returns-clause-some c = if_some c.check_options.result (λ asked given. record { pairs = _; form = c.in_ok-options.ensures.some; options = given }) c.check_options.ensures.some
+returns-clause-some c =
+    let is = is_found _ check_command _ c.in_ok-command.ensures _ c.in-Some.found c.in-Some.is c.in_ok-found.ensures.some in
+    if_some c.check_of.result (λ asked gives. asked_by check_command _ _ is (λ rows. GivesCheck rows asked) gives) c.check_of.ensures.some
 
 pub returns-clause-only : goal.returns-clause-only
 returns-clause-only c =
-    if_some c.check_options.result (λ asked given other is. one_check _ other asked (given_of (gives other) c.in_ok-options.ensures.some is) given) c.check_options.ensures.some
+    let is = is_found _ check_command _ c.in_ok-command.ensures _ c.in-Some.found c.in-Some.is c.in_ok-found.ensures.some in
+    if_some c.check_of.result
+    (λ asked gives other asks. one_check _ other asked (found_by check_command _ _ is (λ rows. GivesCheck rows other) asks) gives) c.check_of.ensures.some
 
 pub returns-clause-none : goal.returns-clause-none
 returns-clause-none c =
-    if_none c.check_options.result (λ unasked asked is. unasked asked (given_of (gives asked) c.in_ok-options.ensures.some is)) c.check_options.ensures.none
+    let is = is_found _ check_command _ c.in_ok-command.ensures _ c.in-Some.found c.in-Some.is c.in_ok-found.ensures.some in
+    if_none c.check_of.result (λ ungiven asked asks. ungiven asked (found_by check_command _ _ is (λ rows. GivesCheck rows asked) asks))
+    c.check_of.ensures.none

@@ -1,4 +1,4 @@
-use Rattle.command_words.proofs.PairLaws.{all_differ}
+use Rattle.command_words.proofs.FoundLaws.{all_differ}
 use Rattle.command_words.proofs.options.differs_from.Goals as goal
 
 pub returns : goal.returns

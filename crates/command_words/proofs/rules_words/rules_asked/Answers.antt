@@ -1,21 +1,18 @@
-use Rattle.command_words.specs.Asked.{RulesAsked, GiveRules}
-use Rattle.command_words.specs.Options.{Pairs}
-use Rattle.command_words.proofs.AskedLaws.{given_of, if_none, if_some, one_rules}
+use Rattle.command_words.specs.Asked.{GivesRules, rules_command}
+use Rattle.command_words.proofs.AskedLaws.{asked_by, found_by, if_none, if_some, is_found, not_asked}
 use Rattle.command_words.proofs.rules_words.rules_asked.Goals as goal
 
-abbrev gives : RulesAsked → Pairs → Type 0
-gives asked pairs = GiveRules pairs asked
-
-pub returns-in_err-options-clause-none : goal.returns-in_err-options-clause-none
-returns-in_err-options-clause-none c = rw c.from_residual.ensures (λ asked is. c.in_err-options.ensures.none is.pairs is.form)
+pub returns-in_default-clause-none : goal.returns-in_default-clause-none
+returns-in_default-clause-none c =
+    λ asked. not_asked _ rules_command _ c.in_ok-command.ensures _ (λ rows. GivesRules rows asked) c.in_default.is c.in_ok-found.ensures.none
 
 pub returns-clause-some : goal.returns-clause-some
-returns-clause-some c = if_some c.rules_options.result (λ asked given. record { pairs = _; form = c.in_ok-options.ensures.some; options = given }) c.rules_options.ensures.some
-
-pub returns-clause-only : goal.returns-clause-only
-returns-clause-only c =
-    if_some c.rules_options.result (λ asked given other is. one_rules _ other asked (given_of (gives other) c.in_ok-options.ensures.some is) given) c.rules_options.ensures.some
+returns-clause-some c =
+    let is = is_found _ rules_command _ c.in_ok-command.ensures _ c.in-Some.found c.in-Some.is c.in_ok-found.ensures.some in
+    if_some c.rules_of.result (λ asked gives. asked_by rules_command _ _ is (λ rows. GivesRules rows asked) gives) c.rules_of.ensures.some
 
 pub returns-clause-none : goal.returns-clause-none
 returns-clause-none c =
-    if_none c.rules_options.result (λ unasked asked is. unasked asked (given_of (gives asked) c.in_ok-options.ensures.some is)) c.rules_options.ensures.none
+    let is = is_found _ rules_command _ c.in_ok-command.ensures _ c.in-Some.found c.in-Some.is c.in_ok-found.ensures.some in
+    if_none c.rules_of.result (λ ungiven asked asks. ungiven asked (found_by rules_command _ _ is (λ rows. GivesRules rows asked) asks))
+    c.rules_of.ensures.none

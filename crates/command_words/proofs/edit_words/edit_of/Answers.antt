@@ -1,6 +1,6 @@
 use Rattle.std.proofs.Common.{rules, arith}
 use Rattle.command_words.proofs.AskedLaws.{between}
-use Rattle.command_words.proofs.edit_words.edit_options.Goals as goal
+use Rattle.command_words.proofs.edit_words.edit_of.Goals as goal
 
 pub invariant_of-result : goal.invariant_of-result
 invariant_of-result c =

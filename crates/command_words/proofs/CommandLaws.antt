@@ -1,0 +1,18 @@
+-- The commands are made of their options, and are of the kind of which `clap` says exactly what words it takes.
+use Rattle.std.proofs.Common.{◌≡◌, ◌∙◌, true, false, ap₂, refl}
+use Rattle.clap.specs.Built.{AddsArg}
+use Rattle.clap.specs.Words.{App, Rule, app_of, is_simple_and_free, rule_of, with_rule}
+use Rattle.clap.specs.declared.builder.arg.Arg.{Arg}
+use Rattle.clap.specs.declared.builder.command.Command.{Command}
+use Rattle.command_words.specs.Asked.{check_command, edit_command}
+
+-- a command with one option more
+pub one_more : (before : App) (option : Rule) (old new : Command) (arg : Arg) → app_of old ≡ before → rule_of arg ≡ option → arg.global ≡ false
+    → AddsArg old arg new → app_of new ≡ with_rule before option
+one_more before option old new arg is made local adds = adds.shape local ∙ ap₂ with_rule is made
+
+pub edit_simple : is_simple_and_free edit_command ≡ true
+edit_simple = refl
+
+pub check_simple : is_simple_and_free check_command ≡ true
+check_simple = refl
