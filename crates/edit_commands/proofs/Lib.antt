@@ -11,3 +11,4 @@ pub mod StoreLaws
 mod TellingLaws
 pub mod ToldLaws
 pub mod WholeLaws
+mod WordLaws

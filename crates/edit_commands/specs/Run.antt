@@ -1,5 +1,5 @@
 -- What a run asks of the desk, leaves on it, and prints.
-use Rattle.std.specs.Prelude.{◌≡◌, ◌⊎◌, ◌<◌, ◌^◌, ◌-◌, ℕ, List, [], ◌∷◌, ◌++◌, Option, Result, Some, IfSome, take}
+use Rattle.std.specs.Prelude.{◌≡◌, ◌⊎◌, ⊤, ◌<◌, ◌^◌, ◌-◌, ℕ, List, [], ◌∷◌, ◌++◌, Option, Result, Some, IfSome, take}
 use Rattle.std.specs.Borrow.{MutBor}
 use denote.Triple.Both.{Both}
 use Rattle.edit_desk.specs.Desk.{Asked, Files, HoldsPrefix, PutsOnRecord, SameElsewhere, Told, failing, fetched, raised, stored}
@@ -166,12 +166,15 @@ pub record IsRefused (command : Refusals) (answer : Status) (run : Run) : Type 0
   pub faults : run.after.faults ≡ faults_by fault run.before.faults
   pub printed : IsLinePrinted (fault_text fault) run
 
--- words that are no command ask for nothing; that is printed
-pub record IsUsage (run : Run) : Type 0 where
-  pub files : run.after.files ≡ run.before.files
-  pub calls : run.after.calls ≡ run.before.calls
-  pub faults : run.after.faults ≡ run.before.faults
-  pub printed : IsLinePrinted (fault_text fault.Usage) run
+-- what words may be refused for that are no command
+abbrev pub IsOfWords : Fault → Type 0
+IsOfWords fault.Usage = ⊤
+IsOfWords fault.OutOfMemory = ⊤
+IsOfWords fault = ⊥
+
+-- the refusals of words that are no command: they ask for nothing of the desk, whatever it holds
+abbrev pub word_refusals : Refusals
+word_refusals = record { meets = IsOfWords; refuses = λ files fault. ⊤; order = []; leaves = LeavesAll }
 
 -- the desk and the printer met no fault, and their counts do not stand at their end
 pub record IsFaultless (run : Run) : Type 0 where

@@ -2,6 +2,7 @@
 //! them, and which rules follow from the others. Begin with [`fh_main`].
 #![tactic(auto)]
 
+mod asked;
 mod check_run;
 mod edit_run;
 mod fault;

@@ -1,20 +1,21 @@
-ghost use Rattle.std.specs.Prelude.{◌≡◌, ◌≢◌, ◌↔◌, IfSome};
+ghost use Rattle.std.specs.Prelude.{◌≡◌, ◌≢◌, IfSome};
 ghost use Rattle.command_words.specs.Asked.{ForCheck, ForEdit, ForRules, IsNoCommand};
 ghost use Rattle.edit_commands.specs.CheckRun.{IsCheckComplete, IsCheckStopped, IsChecked};
 ghost use Rattle.edit_commands.specs.EditRun.{IsEditComplete, IsEditStopped, IsEdited};
 ghost use Rattle.edit_commands.specs.Edits.{HasReleased};
 ghost use Rattle.edit_commands.specs.Readings.{AnswersDue, IsCheckDue, IsDue, IsRulesDue};
 ghost use Rattle.edit_commands.specs.RulesRun.{IsRuled, IsRulesComplete, IsRulesStopped};
-ghost use Rattle.edit_commands.specs.Run.{IsUsage, ran};
+ghost use Rattle.edit_commands.specs.Run.{IsRefused, ran, word_refusals};
 
+use crate::asked::{Asked, asked};
 use crate::check_run::run_check;
 use crate::edit_run::run_edit;
-use crate::fault::USAGE;
+use crate::fault::{OUT_OF_MEMORY, USAGE};
 use crate::rules_run::run_rules;
 use crate::status::Status;
 use crate::telling::refuse;
-use command_words::{check_asked, edit_asked, rules_asked};
 use edit_desk::{Desk, Printer};
+use foundation::OutOfMemory;
 use record_workers::Gate;
 use std::alloc::Global;
 use std::sync::Wait;
@@ -36,9 +37,9 @@ pub fn fh_main<R: Threads + Wait + Sync, D: Desk, P: Printer, G: Gate>(
 ) -> Status
     // `ran` is what the desk and the printer tell when the call begins, and when it returns.
 
-    // The words are no command.
-    ensures usage { (result ≡ Status.Usage) ↔ IsNoCommand words.now }
-    ensures unasked { result ≡ Status.Usage → IsUsage (ran D.Desk P.Printer desk printer) }
+    // The words are no command: that is told exactly where it is so, but for want of memory, and nothing is asked of the desk.
+    ensures usage { result ≡ Status.Usage → IsNoCommand words.now }
+    ensures unasked { IsNoCommand words.now → IsRefused word_refusals result (ran D.Desk P.Printer desk printer) }
 
     // The release guarantee: what stands in the three files, and what was printed, where an edit ends with 0 or 1.
     ensures edited { HasReleased result → ForEdit words.now (λ ask. IsEdited ask result (ran D.Desk P.Printer desk printer)) }
@@ -78,14 +79,11 @@ pub fn fh_main<R: Threads + Wait + Sync, D: Desk, P: Printer, G: Gate>(
     // Rules that are too long or have no reading are told exactly where they are so.
     ensures rules_due { ForRules words.now (λ ask. IfSome (D.files desk.old) (λ files. AnswersDue (IsRulesDue ask files) result)) }
 {
-    if let Some(asked) = edit_asked(words) {
-        return run_edit(rt, alloc, &asked, desk, printer, gate);
+    match asked(alloc, words) {
+        Ok(Asked::Edit(edit)) => run_edit(rt, alloc, &edit, desk, printer, gate),
+        Ok(Asked::Check(check)) => run_check(alloc, &check, desk, printer),
+        Ok(Asked::Rules(rules)) => run_rules(alloc, &rules, desk, printer),
+        Ok(Asked::Nothing) => refuse(printer, USAGE, Status::Usage),
+        Err(OutOfMemory) => refuse(printer, OUT_OF_MEMORY, Status::OutOfMemory),
     }
-    if let Some(asked) = check_asked(words) {
-        return run_check(alloc, &asked, desk, printer);
-    }
-    if let Some(asked) = rules_asked(words) {
-        return run_rules(alloc, &asked, desk, printer);
-    }
-    refuse(printer, USAGE, Status::Usage)
 }

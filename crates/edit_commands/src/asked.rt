@@ -1,0 +1,37 @@
+//! What the words of the command line ask for.
+ghost use Rattle.std.specs.Prelude.{IfOk};
+ghost use Rattle.edit_commands.specs.inner.Asks.{Asks};
+
+use command_words::{CheckWords, EditWords, RulesWords, check_asked, edit_asked, rules_asked};
+use foundation::OutOfMemory;
+use std::alloc::Global;
+
+/// What words ask for: one of the commands, or nothing.
+#[derive(Drop)]
+pub(crate) enum Asked<'a> {
+    Edit(EditWords<'a>),
+    Check(CheckWords<'a>),
+    Rules(RulesWords<'a>),
+    Nothing,
+}
+
+/// What the words ask for.
+pub(crate) fn asked<'a>(alloc: Global, words: &'a [String]) -> Result<Asked<'a>, OutOfMemory>
+    ensures { IfOk result (Asks words.entry.now) }
+{
+    match edit_asked(alloc, words) {
+        Ok(Some(edit)) => return Ok(Asked::Edit(edit)),
+        Ok(None) => {}
+        Err(OutOfMemory) => return Err(OutOfMemory),
+    }
+    match check_asked(alloc, words) {
+        Ok(Some(check)) => return Ok(Asked::Check(check)),
+        Ok(None) => {}
+        Err(OutOfMemory) => return Err(OutOfMemory),
+    }
+    match rules_asked(alloc, words) {
+        Ok(Some(rules)) => Ok(Asked::Rules(rules)),
+        Ok(None) => Ok(Asked::Nothing),
+        Err(OutOfMemory) => Err(OutOfMemory),
+    }
+}
