@@ -28,10 +28,7 @@ const NUMBERS: &[(&str, &str)] = &[
     (" --near 64", "1 1000000 1 64"),
     (" --near 65", "none"),
     (" --budget 3 --near 2", "1 3 1 2"),
-    (
-        " --near 9 --workers 008 --limit 2 --budget 7",
-        "8 7 2 9",
-    ),
+    (" --near 9 --workers 008 --limit 2 --budget 7", "8 7 2 9"),
     (
         " --near 64 --limit 1000 --budget 1000000000",
         "1 1000000000 1000 64",
