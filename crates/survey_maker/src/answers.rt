@@ -1,0 +1,70 @@
+//! What is given for the numbers of a business.
+ghost use Rattle.std.specs.Prelude.{◌≡◌, ◌++◌, OnOk};
+ghost use Rattle.std.specs.Fmt.{decimal};
+ghost use Rattle.survey_maker.specs.Draws.{state_after};
+ghost use Rattle.survey_maker.specs.RecordFiles.{answer_text, slipped};
+ghost use Rattle.survey_maker.specs.inner.Drawn.{answers_from, draws_from};
+
+use crate::generator::Generator;
+use foundation::OutOfMemory;
+use itoa::Buffer;
+
+/// What is given for a number: the number, nothing, or ten times the number and 1 more.
+#[derive(Clone, Copy)]
+pub(crate) enum Answer {
+    Right(u32),
+    LeftOut,
+    Tenfold(u32),
+}
+
+impl Answer {
+    // The answer with a slip: it is left out, or else ten times the number and 1 more.
+    fn slipped(self, is_left_out: bool) -> Answer
+        ensures { result ≡ slipped is_left_out self }
+    {
+        match self {
+            Answer::Right(number) => {
+                if is_left_out {
+                    Answer::LeftOut
+                } else {
+                    Answer::Tenfold(number)
+                }
+            }
+            Answer::LeftOut | Answer::Tenfold(_) => self,
+        }
+    }
+
+    /// Appends the text of the answer.
+    pub(crate) fn write(self, text: &mut Vec<u8>) -> Result<(), OutOfMemory>
+        ensures { OnOk result (text.new.items ≡ text.old.items ++ answer_text self) }
+    {
+        match self {
+            Answer::Right(number) => write_number(text, u64::from(number)),
+            Answer::LeftOut => Ok(()),
+            Answer::Tenfold(number) => write_number(text, 10 * u64::from(number) + 1),
+        }
+    }
+}
+
+/// Draws what is given in the place of answers that are right: these, or all but one, which has a slip.
+pub(crate) fn draw_answers(right: [Answer; 12], generator: &mut Generator) -> [Answer; 12]
+    ensures answers { result ≡ answers_from right generator.old }
+    ensures state { generator.new ≡ state_after (draws_from generator.old) generator.old }
+{
+    let mut answers = right;
+    if generator.draw(4) == 0 {
+        let field = generator.draw(12) as usize;
+        let is_left_out = generator.draw(2) == 0;
+        answers[field] = right[field].slipped(is_left_out);
+    }
+    answers
+}
+
+/// Appends the number in decimal.
+pub(crate) fn write_number(text: &mut Vec<u8>, number: u64) -> Result<(), OutOfMemory>
+    ensures { OnOk result (text.new.items ≡ text.old.items ++ decimal number) }
+{
+    let mut buffer = Buffer::new();
+    text.extend_from_slice(buffer.format(number).as_bytes())?;
+    Ok(())
+}

@@ -1,0 +1,18 @@
+//! A survey of businesses that are made up, for trials of the editor: its rule file, and record files of it of any length,
+//! each of which follows from a number to start from. Begin with [`rules_text`] and [`records_text`]; the survey stands
+//! in `specs/SurveyMade.antt` and `specs/Kinds.antt`, what a row says in `specs/Businesses.antt` and `specs/RecordFiles.antt`.
+#![tactic(auto)]
+
+mod answers;
+mod business;
+mod generator;
+mod kinds;
+mod lines;
+mod records;
+mod rules;
+mod size;
+#[cfg(test)]
+mod tests;
+
+pub use records::records_text;
+pub use rules::rules_text;

@@ -1,0 +1,25 @@
+//! The record file.
+ghost use Rattle.std.specs.Prelude.{◌≡◌, IfOk};
+ghost use Rattle.survey_maker.specs.RecordFiles.{record_file};
+
+use crate::generator::Generator;
+use crate::lines::write_row;
+use foundation::OutOfMemory;
+use std::alloc::Global;
+
+/// The names of the columns.
+const HEADER: &[u8] =
+    b"id,Turnover,Goods,Bought,Wages,Social,Other,Costs,Profit,Staff,Full,Part,Invest,Activity,Size,Region,Form\n";
+
+/// A record file of so many rows, which follow from the start: a header, and a line for each business.
+#[tactic(auto, unfolding(crate::specs::RecordFiles::header_line))]
+pub fn records_text(alloc: Global, start: u32, rows: u32) -> Result<Vec<u8>, OutOfMemory>
+    ensures { IfOk result (λ text. text.items ≡ record_file start rows) }
+{
+    let mut generator = Generator::new(start);
+    let mut text = Vec::from_slice(alloc, HEADER)?;
+    for row in 0..rows {
+        write_row(&mut text, row + 1, &mut generator)?;
+    }
+    Ok(text)
+}

@@ -1,0 +1,77 @@
+//! Size classes of businesses, by their staff.
+ghost use Rattle.std.specs.Prelude.{◌≡◌, ◌+◌, ◌<◌, ◌≤◌, slice_index_or};
+ghost use Rattle.survey_maker.specs.Kinds.{least_staff, may_be_sole, size_text, sizes, staff_numbers};
+ghost use Rattle.survey_maker.specs.declared.size.Size.TheVariants.{Large};
+
+/// A size class.
+#[derive(Clone, Copy)]
+pub(crate) enum Size {
+    Micro,
+    Small,
+    Medium,
+    Large,
+}
+
+impl Size {
+    /// The size class of this number, from 0.
+    pub(crate) fn numbered(number: u32) -> Size
+        requires { number < 4 }
+        ensures { result ≡ slice_index_or sizes number Large }
+    {
+        match number {
+            0 => Size::Micro,
+            1 => Size::Small,
+            2 => Size::Medium,
+            _ => Size::Large,
+        }
+    }
+
+    /// The least staff of the class.
+    pub(crate) fn least_staff(self) -> u32
+        ensures number { result ≡ least_staff self }
+        ensures within { result ≤ 250 }
+    {
+        match self {
+            Size::Micro => 1,
+            Size::Small => 10,
+            Size::Medium => 50,
+            Size::Large => 250,
+        }
+    }
+
+    /// How many numbers of staff the class has.
+    pub(crate) fn staff_numbers(self) -> u32
+        ensures number { result ≡ staff_numbers self }
+        ensures some { 0 < result }
+        ensures within { result ≤ 750 }
+    {
+        match self {
+            Size::Micro => 9,
+            Size::Small => 40,
+            Size::Medium => 200,
+            Size::Large => 750,
+        }
+    }
+
+    /// Whether a business of the class may be one person's.
+    pub(crate) fn may_be_sole(self) -> bool
+        ensures { result ≡ may_be_sole self }
+    {
+        match self {
+            Size::Micro | Size::Small => true,
+            Size::Medium | Size::Large => false,
+        }
+    }
+
+    /// The code of the class.
+    pub(crate) fn text(self) -> &'static [u8]
+        ensures { result.now ≡ size_text self }
+    {
+        match self {
+            Size::Micro => b"micro",
+            Size::Small => b"small",
+            Size::Medium => b"medium",
+            Size::Large => b"large",
+        }
+    }
+}
