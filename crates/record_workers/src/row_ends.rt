@@ -34,9 +34,14 @@ pub(crate) fn end_of<F: Fn(u32, &Value, &Value) -> u64>(
     requires donor { IfSome donor (IsCleanRow rest.now.survey (rows_in rest.now)) }
     ensures { IfOk result (EndsIn rest.now piece donor) }
 {
-    let row = rest.sheet.row(piece.row_no);
+    let Piece {
+        row_no,
+        outcome,
+        ..
+    } = piece;
+    let row = rest.sheet.row(row_no);
     case_known(&rest.survey, &rest.edits, row);
-    match piece.outcome {
+    match outcome {
         Outcome::Change { path, weight, cert } => {
             let change = Change { path, weight, cert };
             with_values::<F, Brand>(alloc, rest, row, change, donor, Blank::new(1))

@@ -18,7 +18,7 @@ use std::sync::ledger::Ledger;
 use std::sync::{Arc, Wait};
 
 /// What a source is over: a pool, and the borrow of a worker's reader. A search that uses the source leaves them the same.
-pub(crate) trait Lent {
+trait Lent {
     ghost pool: { Option PoolParts };
 
     ghost reader: { ℕ };
@@ -70,9 +70,32 @@ impl<'a, R: Wait, N: Lent> Systems for WorkerSource<'a, R, N> {
     }
 }
 
-/// What is found of the record of this number, with the systems of the pool, and the reader, which is given back. The pool
-/// and the reader have a mark, by which it is known that the search leaves them the same.
-pub(crate) fn find_piece<'a, R: Wait, F: Fn(u32, &Value, &Value) -> u64, L: Ledger, N: Lent>(
+/// What is found of the record of this number, with the systems of the pool, of which the reader walks more.
+pub(crate) fn find_piece<R: Wait, F: Fn(u32, &Value, &Value) -> u64, L: Ledger>(
+    reader: &mut Reader,
+    rt: &R,
+    alloc: Global,
+    rest: &Rest<F>,
+    row_no: u32,
+    steps: &mut Steps<L>,
+) -> Result<Piece, OutOfMemory>
+    requires rest { IsRest F.Fn rest.now }
+    requires reader { IsReaderOf rest.now.pool reader.old }
+    requires row { row_no < length (rows_in rest.now) }
+    ensures reader { IsReaderOf rest.now.pool reader.new }
+    ensures keeps { (f : ℕ) → kept_by rest.now reader.old f ≡ true → kept_by rest.now reader.new f ≡ true }
+    ensures row { IfOk result (λ piece. piece.row_no ≡ row_no) }
+    ensures piece { IfOk result (IsPieceIn rest.now) }
+    ensures kept { IfOk result (KeepsFor rest.now (kept_by rest.now reader.new)) }
+{
+    let mut found = Err(OutOfMemory);
+    find_lent::<R, F, L, Brand>(reader, rt, alloc, rest, row_no, steps, &mut found);
+    found
+}
+
+// What is found of the record, and the reader, which is given back. The pool and the reader have a mark, by which it is
+// known that the search leaves them the same.
+fn find_lent<'a, R: Wait, F: Fn(u32, &Value, &Value) -> u64, L: Ledger, N: Lent>(
     reader: &'a mut Reader,
     rt: &'a R,
     alloc: Global,

@@ -95,17 +95,7 @@ impl Worker {
         ensures found { OnOk result (FoundAll self.new) }
         ensures refused { OnErr result (MissesLast self.new) }
     {
-        let mut found = Err(OutOfMemory);
-        find_piece::<R, F, L, Brand>(
-            &mut self.reader,
-            rt,
-            alloc,
-            &shared.rest,
-            row_no,
-            steps,
-            &mut found,
-        );
-        let piece = found?;
+        let piece = find_piece(&mut self.reader, rt, alloc, &shared.rest, row_no, steps)?;
         self.pieces.reserve(1)?;
         claim_for(&shared.book, &mut self.pass, &piece);
         self.pieces.push_reserved(piece);

@@ -1,5 +1,6 @@
-use Rattle.std.proofs.Common.{◌<◌, ◌∙◌, Err, List, Result, IfOk, ap, get_or, length, refl, subst}
+use Rattle.std.proofs.Common.{◌≡◌, ◌<◌, ◌∙◌, Err, List, Result, IfOk, ap, get_or, length, refl, rules, subst}
 use Rattle.std.specs.List.{AllZip, Contains}
+use Rattle.std.specs.Vec.{vec_len}
 use Rattle.rayon.proofs.ListFacts.{IfOk-then}
 use Rattle.rayon.specs.Lists.{vec_items}
 use Rattle.foundation.specs.declared.memory.OutOfMemory.{OutOfMemory}
@@ -13,7 +14,9 @@ use Rattle.record_workers.proofs.ends.give_all.Goals as goal
 
 pub donors_of-requires-clause-within : goal.donors_of-requires-clause-within
 donors_of-requires-clause-within g c =
-    claims-within c.args.rest.now c.args.pieces.items c.requires.pieces c.requires.history.0 c.args.history.now c.requires.history.1
+    let long : vec_len c.args.pieces ≡ length c.args.pieces.items = search rules in
+    rw (c.len.ensures ∙ long)
+    (claims-within c.args.rest.now c.args.pieces.items c.requires.pieces c.requires.history.0 c.args.history.now c.requires.history.1)
 
 pub collect-requires-clause-ready : goal.collect-requires-clause-ready
 collect-requires-clause-ready g c κs within =
@@ -22,8 +25,10 @@ collect-requires-clause-ready g c κs within =
     let history = c.args.history.now in
     let donors = c.in_ok-donors.donors.items in
     let same = ap (λ it. vec_items it.base) c.map.ensures.base ∙ ap (λ it. vec_items it) c.with_min_len.ensures.base ∙ c.into_par_iter.ensures in
-    let ready = piece-ready rest pieces c.requires.pieces c.requires.history.0 history c.requires.history.1 donors c.in_ok-donors.ensures.as_many
-    c.in_ok-donors.ensures.each in
+    let long : vec_len c.args.pieces ≡ length pieces = search rules in
+    let many = c.in_ok-donors.ensures.as_many ∙ c.len.ensures ∙ long in
+    let lists = rw (c.len.ensures ∙ long) at c.in_ok-donors.ensures.each in
+    let ready = piece-ready rest pieces c.requires.pieces c.requires.history.0 history c.requires.history.1 donors many lists in
     rw (c.map.ensures.f, same) (λ k d lt.
     let now = ready (get_or pieces k d) (at-place pieces k d (get_or pieces k d) lt refl) in
     ((c.requires.rest, now.0, now.1, now.2), λ y p. tt))
@@ -34,6 +39,8 @@ returns g c =
     let pieces = c.args.pieces.items in
     let history = c.args.history.now in
     let donors = c.in_ok-donors.donors.items in
+    let long : vec_len c.args.pieces ≡ length pieces = search rules in
+    let lists = rw (c.len.ensures ∙ long) at c.in_ok-donors.ensures.each in
     let given = c.in_ok-collect.ensures in
     let same = ap (λ it. vec_items it.base) c.map.ensures.base ∙ ap (λ it. vec_items it) c.with_min_len.ensures.base ∙ c.into_par_iter.ensures in
     let found = rw c.map.ensures.f at given.1.2 in
@@ -41,4 +48,4 @@ returns g c =
     let Ends = λ (p : Piece) (r : Result RowEnd OutOfMemory). IfOk r (P p) in
     let each = subst (λ (ps : List Piece). AllZip Ends ps given.0) (given.1.1 ∙ same) found in
     let all = collected OutOfMemory P pieces given.0 c.in_ok-collect.field-0 (λ e. Contains given.0 (Err e)) each given.2 in
-    IfOk-then c.in_ok-collect.field-0 _ _ all (λ v h. ends-by rest pieces c.requires.pieces history donors c.in_ok-donors.ensures.each v.items h)
+    IfOk-then c.in_ok-collect.field-0 _ _ all (λ v h. ends-by rest pieces c.requires.pieces history donors lists v.items h)

@@ -19,7 +19,7 @@ returns g c =
     let are = subst (λ (r : Rest g.row.F.Denot). ArePiecesIn r pieces) (sym was) c.in_ok-pieces.ensures.pieces in
     let limit = c.in_ok-shared.shared.book.terms.limit in
     let answers = c.in_ok-pieces.ensures.history in
-    let each = rw (c.deref.ensures.value, c.deref-2.ensures.value) at c.in_ok-ends.ensures in
+    let each = rw c.deref.ensures.value at c.in_ok-ends.ensures in
     let terms : Terms = record { budget = rest.budget; limit = c.args.limit; near = rest.near } in
     let donations = donations-are rest pieces are ends limit history answers each terms (sym c.in_ok-shared.ensures.limit) refl in
     record {
