@@ -1,4 +1,4 @@
-use Rattle.std.proofs.Common.{◌≡◌, ◌<◌, ◌∙◌, Err, List, Result, IfOk, ap, get_or, length, refl, rules, subst}
+use Rattle.std.proofs.Common.{◌≡◌, ◌∙◌, Err, List, Result, IfOk, ap, get_or, length, refl, rules, subst}
 use Rattle.std.specs.List.{AllZip, Contains}
 use Rattle.std.specs.Vec.{vec_len}
 use Rattle.rayon.proofs.ListFacts.{IfOk-then}
