@@ -1,4 +1,5 @@
-use Rattle.std.proofs.Common.{◌≡◌, ℕ, suc, ◌+◌, ◌<◌, ◌≤◌, cond, eqb, List, [], ◌∷◌, All, Some, length, get_or, map, inl, inr, ⊎_elim, refl, sym, ap, ◌∙◌, subst, arith}
+use Rattle.std.proofs.Common.{◌≡◌, ℕ, suc, ◌+◌, ◌<◌, ◌≤◌, cond, eqb, List, [], ◌∷◌, All, Some, length, get_or, map, inl, inr, ⊎_elim, refl, sym, ap, ◌∙◌, subst}
+use Rattle.std.proofs.Common.{arith}
 use Rattle.std.specs.Prelude.{slice_get}
 use Rattle.std.specs.List.{AllByRecursion, range_with_len, sum_by}
 use Rattle.std.specs.List.Sorted.{IsNonDecreasing, IsPermutation, IsStrictlyIncreasing}
@@ -45,7 +46,11 @@ above x (y ∷ ys) all = (all 0 (omega arith), above x ys (λ j lt. all (suc j) 
 
 rises : (xs : List ℕ) → ((i j : ℕ) → i < j → j < length xs → get_or xs i 0 < get_or xs j 0) → Rises xs
 rises [] all = tt
-rises (x ∷ xs) all = (above x xs (λ j lt. all 0 (suc j) (omega arith) (omega (arith, lt))), rises xs (λ i j less lt. all (suc i) (suc j) (omega (arith, less)) (omega (arith, lt))))
+rises (x ∷ xs) all = (
+  above x xs (λ j lt. all 0 (suc j) (omega arith) (omega (arith, lt))),
+  rises xs
+      (λ i j less lt. all (suc i) (suc j) (omega (arith, less)) (omega (arith, lt))),
+)
 
 is-above : (x y : ℕ) (ys : List ℕ) → AllByRecursion (λ z. x < z) ys → IsIn y ys → x < y
 is-above x y [] all there = absurd there
@@ -77,7 +82,8 @@ same-rising (x ∷ xs) (y ∷ ys) up-xs up-ys to back =
 -- so a rising list is the other in order
 pub in-order : (xs ys : List ℕ) → IsStrictlyIncreasing xs → IsStrictlyIncreasing ys → IsPermutation xs ys → ys ≡ xs
 in-order xs ys up-xs up-ys same =
-    same-rising ys xs (rises ys (λ i j less lt. AllPairs-from_increasing ys up-ys i j 0 less lt)) (rises xs (λ i j less lt. AllPairs-from_increasing xs up-xs i j 0 less lt))
+    same-rising ys xs (rises ys (λ i j less lt. AllPairs-from_increasing ys up-ys i j 0 less lt))
+    (rises xs (λ i j less lt. AllPairs-from_increasing xs up-xs i j 0 less lt))
     (λ y there. in-other-order xs ys y same there) (λ x there. in-other-order ys xs x (IsPermutation-sym xs ys same) there)
 
 -- ---- the claims of one pass
@@ -91,7 +97,8 @@ times-places place (m ∷ mine) =
 
 -- claims at rising places of a list of entries are these entries
 entries-are : (all : List Entry) (k : ℕ) (mine : List Placed) (entries : List Entry) → ((m : Placed) → IsIn m mine → slice_get all m.place ≡ Some m.entry)
-    → map (λ (m : Placed). m.place) mine ≡ range_with_len k (length entries) → StandsAt all k entries → map need_in entries ≡ map (λ (m : Placed). need_in m.entry) mine
+    → map (λ (m : Placed). m.place) mine ≡ range_with_len k (length entries) → StandsAt all k entries
+    → map need_in entries ≡ map (λ (m : Placed). need_in m.entry) mine
 entries-are all k [] [] placed places at = refl
 entries-are all k [] (e ∷ entries) placed places at = absurd (cc)
 entries-are all k (m ∷ mine) [] placed places at = absurd (cc)
@@ -100,27 +107,31 @@ entries-are all k (m ∷ mine) (e ∷ entries) placed places at =
     let later : map (λ (m : Placed). m.place) mine ≡ range_with_len (k + 1) (length entries) = cc in
     let next : suc k ≡ k + 1 = omega arith in
     let first : e ≡ m.entry = same_Some e m.entry (sym (first-at all k e entries at) ∙ ap (slice_get all) (sym here) ∙ placed m (inl refl)) in
-    let rest = entries-are all (k + 1) mine entries (λ n there. placed n (inr there)) later (subst (λ n. StandsAt all n entries) next (later-at all k e entries at)) in
+    let rest = entries-are all (k + 1) mine entries (λ n there. placed n (inr there)) later
+    (subst (λ n. StandsAt all n entries) next (later-at all k e entries at)) in
     λ i. need_in (first i) ∷ rest i
 
 module _ (limit : ℕ) (pass : PassState) (pieces : List Piece) (claimed : AreClaimed pieces pass) (places : ArePlaced pass.seen pass.mine)
     (history : List Won) (whole : IsWhole limit (pass ∷ []) history) (entries : List Entry) (collected : AreCollected limit (pass ∷ []) history entries) where
   one-pass : (place : ℕ) → times place (map (λ (m : Placed). m.place) pass.mine) ≡ sum_by (λ (p : PassState). claims_at place p.mine) (pass ∷ [])
-  one-pass place = let one = sum_by-cons (λ (p : PassState). claims_at place p.mine) pass [] in let same = times-places place pass.mine in omega (arith, one, same)
+  one-pass place = let one = sum_by-cons (λ (p : PassState). claims_at place p.mine) pass [] in let same = times-places place pass.mine in
+      omega (arith, one, same)
 
   as-many : length entries ≡ length history
   as-many = sym (length-map entries won_of) ∙ ap length collected.wins
 
   places-are : map (λ (m : Placed). m.place) pass.mine ≡ range_with_len 0 (length entries)
-  places-are = sorted-range (length entries) (map (λ (m : Placed). m.place) pass.mine) (rising-sorted (map (λ (m : Placed). m.place) pass.mine) places.rising) (record {
-    below = λ k lt. absurd (omega (arith, lt));
-    once = λ k low lt. one-pass k ∙ whole.once k (omega (arith, lt, as-many));
-    past = λ k low. one-pass k ∙ whole.no_other k (omega (arith, low, as-many));
-  })
+  places-are = sorted-range (length entries) (map (λ (m : Placed). m.place) pass.mine)
+      (rising-sorted (map (λ (m : Placed). m.place) pass.mine) places.rising) (record {
+        below = λ k lt. absurd (omega (arith, lt));
+        once = λ k low lt. one-pass k ∙ whole.once k (omega (arith, lt, as-many));
+        past = λ k low. one-pass k ∙ whole.no_other k (omega (arith, low, as-many));
+      })
 
   -- the rows of the history rise
   pub alone-rising : IsStrictlyIncreasing (map (λ (need : Need). need.row_no) (map need_in entries))
   alone-rising =
       let placed = All-head (λ (p : PassState). All (λ (m : Placed). slice_get entries m.place ≡ Some m.entry) p.mine) pass [] collected.placed in
-      let same = entries-are entries 0 pass.mine entries (λ m there. in-all (λ (m : Placed). slice_get entries m.place ≡ Some m.entry) m pass.mine placed there) places-are (whole-at entries) in
+      let same = entries-are entries 0 pass.mine entries
+      (λ m there. in-all (λ (m : Placed). slice_get entries m.place ≡ Some m.entry) m pass.mine placed there) places-are (whole-at entries) in
       subst (λ (needs : List Need). IsStrictlyIncreasing (map (λ (need : Need). need.row_no) needs)) (sym same) claimed.rising

@@ -1,4 +1,5 @@
-use Rattle.std.proofs.Common.{◌≡◌, ◌<◌, ℕ, not, Bool, true, false, List, [], ◌∷◌, All, Option, None, Some, IfSome, cond, get_or, length, map, refl, sym, ap, ◌∙◌, subst, arith}
+use Rattle.std.proofs.Common.{◌≡◌, ◌<◌, ℕ, not, Bool, true, false, List, [], ◌∷◌, All, Option, None, Some, IfSome, cond, get_or, length, map, refl, sym, ap}
+use Rattle.std.proofs.Common.{◌∙◌, subst, arith}
 use Rattle.std.specs.Borrow.{Bor}
 use Rattle.std.specs.Fn.{Shared}
 use Rattle.std.specs.List.{find}
@@ -47,7 +48,8 @@ module _ (c : SearchCase) where
 
     -- a path that says something of all fields changes those that it does not keep
     pub kept-path : path_of c.survey.fields (kept_set c.survey.fields c.row path) ≡ map not path
-    kept-path = same_lists (path_of c.survey.fields kept) (map not path) (as_many ∙ sym whole ∙ sym (length-map path not)) (λ k d below. letter k d (omega (arith, below, as_many)))
+    kept-path = same_lists (path_of c.survey.fields kept) (map not path) (as_many ∙ sym whole ∙ sym (length-map path not))
+        (λ k d below. letter k d (omega (arith, below, as_many)))
       where
         kept : ℕ
         kept = kept_set c.survey.fields c.row path
@@ -66,7 +68,8 @@ module _ (c : SearchCase) where
 
 -- ---- the ranking
 
-module _ {F : Type 0} (calls : Shared F (ℕ × (Bor Value × (Bor Value × Unit {0}))) ℕ) (e : Rest F) (is_rest : IsRest calls e) (row_no : ℕ) (row : List Value) (kept : ℕ) (ranking : List ℕ)
+module _ {F : Type 0} (calls : Shared F (ℕ × (Bor Value × (Bor Value × Unit {0}))) ℕ) (e : Rest F) (is_rest : IsRest calls e) (row_no : ℕ)
+    (row : List Value) (kept : ℕ) (ranking : List ℕ)
     (there : row ≡ row_at (rows_in e) row_no) (is : ranking ≡ ranking_of e.measure.yardsticks (rows_in e) e.deck.donors row kept e.near) where
   -- the deck and the measure rank the clean records by the survey's yardsticks
   pub ranking-is : ranking ≡ ranking_of (yardsticks_of e.survey.fields) (rows_in e) (donors_of e.survey (rows_in e)) (row_at (rows_in e) row_no) kept e.near
@@ -74,7 +77,8 @@ module _ {F : Type 0} (calls : Shared F (ℕ × (Bor Value × (Bor Value × Unit
 
   -- so each that is ranked is a clean record
   pub ranking-clean : All (IsCleanRow e.survey (rows_in e)) ranking
-  ranking-clean = subst (λ (ds : List ℕ). All (IsCleanRow e.survey (rows_in e)) ds) (sym ranking-is) (ranking-donors (yardsticks_of e.survey.fields) e.survey (rows_in e) (row_at (rows_in e) row_no) kept e.near)
+  ranking-clean = subst (λ (ds : List ℕ). All (IsCleanRow e.survey (rows_in e)) ds) (sym ranking-is)
+      (ranking-donors (yardsticks_of e.survey.fields) e.survey (rows_in e) (row_at (rows_in e) row_no) kept e.near)
 
 -- what is found has what each of the list has
 pub found-has : (P : ℕ → Type 0) (p : ℕ → Bool) (xs : List ℕ) → All P xs → IfSome (find p xs) P
@@ -88,16 +92,21 @@ found-has P p (x ∷ xs) all = by (p x) (All-head P x xs all) (found-has P p xs 
 -- ---- the donors of a piece
 
 -- the donors that a piece ranks are clean records
-pub piece-clean : {F : Type 0} (rest : Rest F) (piece : Piece) → IsPieceIn rest piece → (ranking : List ℕ) → piece.ranking ≡ Some ranking → All (IsCleanRow rest.survey (rows_in rest)) ranking
-piece-clean rest piece is ranking there = by (claims_donor piece.outcome) (subst (IsRankingFor rest.survey (rows_in rest) rest.near (row_at (rows_in rest) piece.row_no) piece.outcome) there is.ranking)
+pub piece-clean : {F : Type 0} (rest : Rest F) (piece : Piece) → IsPieceIn rest piece → (ranking : List ℕ) → piece.ranking ≡ Some ranking
+    → All (IsCleanRow rest.survey (rows_in rest)) ranking
+piece-clean rest piece is ranking there = by (claims_donor piece.outcome)
+    (subst (IsRankingFor rest.survey (rows_in rest) rest.near (row_at (rows_in rest) piece.row_no) piece.outcome) there is.ranking)
   where
-    by : (b : Bool) → Ranks b rest.survey (rows_in rest) rest.near (row_at (rows_in rest) piece.row_no) (path_found piece.outcome) (Some ranking) → All (IsCleanRow rest.survey (rows_in rest)) ranking
+    by : (b : Bool) → Ranks b rest.survey (rows_in rest) rest.near (row_at (rows_in rest) piece.row_no) (path_found piece.outcome) (Some ranking)
+        → All (IsCleanRow rest.survey (rows_in rest)) ranking
     by true ranked =
-        subst (λ (ds : List ℕ). All (IsCleanRow rest.survey (rows_in rest)) ds) (sym ranked.ranked) (ranking-donors (yardsticks_of rest.survey.fields) rest.survey (rows_in rest) (row_at (rows_in rest) piece.row_no) ranked.kept rest.near)
+        subst (λ (ds : List ℕ). All (IsCleanRow rest.survey (rows_in rest)) ds) (sym ranked.ranked)
+        (ranking-donors (yardsticks_of rest.survey.fields) rest.survey (rows_in rest) (row_at (rows_in rest) piece.row_no) ranked.kept rest.near)
     by false none = absurd (cc)
 
 -- so they are records
-pub piece-donors : {F : Type 0} (rest : Rest F) (piece : Piece) (donors : ℕ) → IsPieceIn rest piece → donors ≡ length (rows_in rest) → RanksDonors donors piece.ranking
+pub piece-donors : {F : Type 0} (rest : Rest F) (piece : Piece) (donors : ℕ) → IsPieceIn rest piece → donors ≡ length (rows_in rest)
+    → RanksDonors donors piece.ranking
 piece-donors rest piece donors is as_many = by piece.ranking refl
   where
     by : (o : Option (List ℕ)) → piece.ranking ≡ o → RanksDonors donors o

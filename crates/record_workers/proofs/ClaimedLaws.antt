@@ -1,4 +1,5 @@
-use Rattle.std.proofs.Common.{◌≡◌, ◌⊎◌, ℕ, ◌<◌, ◌++◌, Bool, true, false, cond, eqb, List, [], ◌∷◌, All, Option, Some, None, IsSome, length, map, inl, inr, refl, sym, ap, ◌∙◌, subst, arith}
+use Rattle.std.proofs.Common.{◌≡◌, ◌⊎◌, ℕ, ◌<◌, ◌++◌, Bool, true, false, cond, eqb, List, [], ◌∷◌, All, Option, Some, None, IsSome, length, map, inl, inr, refl}
+use Rattle.std.proofs.Common.{sym, ap, ◌∙◌, subst, arith}
 use Rattle.std.specs.List.Sorted.{IsStrictlyIncreasing}
 use Rattle.std.proofs.lemmas.List.{get_or_append_left, get_or_push, length_push, map-append}
 use Rattle.std.proofs.lemmas.List.Kept.{AllPairs-from_increasing}
@@ -31,7 +32,8 @@ seen-more : (row : ℕ) (seen more : List Won) → IsSome (claim_of row seen) �
 seen-more row [] more some = absurd (cc)
 seen-more row (w ∷ seen) more some = by (eqb w.row_no row) some (seen-more row seen more)
   where
-    by : (b : Bool) → IsSome (cond b (Some w) (claim_of row seen)) → (IsSome (claim_of row seen) → IsSome (claim_of row (seen ++ more))) → IsSome (cond b (Some w) (claim_of row (seen ++ more)))
+    by : (b : Bool) → IsSome (cond b (Some w) (claim_of row seen)) → (IsSome (claim_of row seen) → IsSome (claim_of row (seen ++ more)))
+        → IsSome (cond b (Some w) (claim_of row (seen ++ more)))
     by true some later = refl
     by false some later = later some
 
@@ -41,7 +43,8 @@ module _ (pieces : List Piece) (piece : Piece) (old new : PassState) (claimed : 
 
   -- what was needed is needed still
   needed-still : (need : Need) → IsIn need (needs_of pieces) → IsIn need (needs_of more)
-  needed-still need there = let (p, in_pieces, row, ranking) = need-from need pieces there in need-in need p more (in-left p pieces (piece ∷ []) in_pieces) row ranking
+  needed-still need there = let (p, in_pieces, row, ranking) = need-from need pieces there in
+      need-in need p more (in-left p pieces (piece ∷ []) in_pieces) row ranking
 
   needed-before : (need : Need) → IsIn need (needs_in old) → IsIn need (needs_of more)
   needed-before need there = needed-still need (in-all (λ (n : Need). IsIn n (needs_of pieces)) need (needs_in old) claimed.needed there)
@@ -50,7 +53,8 @@ module _ (pieces : List Piece) (piece : Piece) (old new : PassState) (claimed : 
   need-or-last : (need : Need) → IsIn need (needs_of more) → IsIn need (needs_of pieces) ⊎ ((piece.row_no ≡ need.row_no) × (piece.ranking ≡ Some need.ranking))
   need-or-last need there = let (p, in_more, row, ranking) = need-from need more there in by p row ranking (in-either p pieces (piece ∷ []) in_more)
     where
-      by : (p : Piece) → p.row_no ≡ need.row_no → p.ranking ≡ Some need.ranking → IsIn p pieces ⊎ IsIn p (piece ∷ []) → IsIn need (needs_of pieces) ⊎ ((piece.row_no ≡ need.row_no) × (piece.ranking ≡ Some need.ranking))
+      by : (p : Piece) → p.row_no ≡ need.row_no → p.ranking ≡ Some need.ranking → IsIn p pieces ⊎ IsIn p (piece ∷ []) → IsIn need (needs_of pieces)
+          ⊎ ((piece.row_no ≡ need.row_no) × (piece.ranking ≡ Some need.ranking))
       by p row ranking (inl before) = inl (need-in need p pieces before row ranking)
       by p row ranking (inr (inl same)) = inr (ap (λ (q : Piece). q.row_no) (sym same) ∙ row, ap (λ (q : Piece). q.ranking) (sym same) ∙ ranking)
       by p row ranking (inr (inr none)) = absurd none
@@ -63,11 +67,13 @@ module _ (pieces : List Piece) (piece : Piece) (old new : PassState) (claimed : 
     rising = claimed.rising;
   })
     where
-      by : (need : Need) → IsIn need (needs_of pieces) ⊎ ((piece.row_no ≡ need.row_no) × (piece.ranking ≡ Some need.ranking)) → IsIn need (needs_in old) ⊎ HasSeen old need.row_no
+      by : (need : Need) → IsIn need (needs_of pieces) ⊎ ((piece.row_no ≡ need.row_no) × (piece.ranking ≡ Some need.ranking))
+          → IsIn need (needs_in old) ⊎ HasSeen old need.row_no
       by need (inl before) = in-all (λ (need : Need). IsIn need (needs_in old) ⊎ HasSeen old need.row_no) need (needs_of pieces) claimed.claimed before
       by need (inr last) = absurd (cc (sym none ∙ last.1))
 
-  module _ (drawn : List ℕ) (next : IsDrawnNext (rows_of pieces) drawn piece.row_no) (ranking : List ℕ) (is : piece.ranking ≡ Some ranking) (began : StartsWith new.seen old.seen) where
+  module _ (drawn : List ℕ) (next : IsDrawnNext (rows_of pieces) drawn piece.row_no) (ranking : List ℕ) (is : piece.ranking ≡ Some ranking)
+      (began : StartsWith new.seen old.seen) where
     abbrev last : Need
     last = record { row_no = piece.row_no; ranking = ranking }
 
@@ -85,16 +91,20 @@ module _ (pieces : List Piece) (piece : Piece) (old new : PassState) (claimed : 
     rows-below = all-in (λ (n : ℕ). n < piece.row_no) (map (λ (need : Need). need.row_no) (needs_in old)) (λ n there. (
         let (need, in_old, same) = in-map-out (λ (need : Need). need.row_no) n (needs_in old) there in
         let (p, in_pieces, row, ranked) = need-from need pieces (in-all (λ (n : Need). IsIn n (needs_of pieces)) need (needs_in old) claimed.needed in_old) in
-        let lt = below-last (rows_of pieces) piece.row_no (subst IsStrictlyIncreasing next.last next.rising) p.row_no (in-map (λ (q : Piece). q.row_no) p pieces in_pieces) in
+        let lt = below-last (rows_of pieces) piece.row_no (subst IsStrictlyIncreasing next.last next.rising) p.row_no
+        (in-map (λ (q : Piece). q.row_no) p pieces in_pieces) in
         omega (arith, lt, row, same)))
 
     -- the pass has claimed for it
     claimed-own : needs_in new ≡ needs_in old ++ last ∷ [] → AreClaimed more new
     claimed-own mine = record {
-      needed = subst (All (λ (need : Need). IsIn need (needs_of more))) (sym mine) (all-in (λ (need : Need). IsIn need (needs_of more)) (needs_in old ++ last ∷ []) (λ need there. in-new need (in-either need (needs_in old) (last ∷ []) there)));
+      needed = subst (All (λ (need : Need). IsIn need (needs_of more))) (sym mine)
+          (all-in (λ (need : Need). IsIn need (needs_of more)) (needs_in old ++ last ∷ [])
+          (λ need there. in-new need (in-either need (needs_in old) (last ∷ []) there)));
       claimed = all-in (λ (need : Need). IsIn need (needs_in new) ⊎ HasSeen new need.row_no) (needs_of more) (λ need there. by need (need-or-last need there));
       rising = subst (λ (needs : List Need). IsStrictlyIncreasing (map (λ (need : Need). need.row_no) needs)) (sym mine)
-          (subst IsStrictlyIncreasing (sym (map-append (λ (need : Need). need.row_no) (needs_in old) (last ∷ []))) (rising_push (map (λ (need : Need). need.row_no) (needs_in old)) piece.row_no claimed.rising rows-below));
+          (subst IsStrictlyIncreasing (sym (map-append (λ (need : Need). need.row_no) (needs_in old) (last ∷ [])))
+          (rising_push (map (λ (need : Need). need.row_no) (needs_in old)) piece.row_no claimed.rising rows-below));
     }
       where
         in-new : (need : Need) → IsIn need (needs_in old) ⊎ IsIn need (last ∷ []) → IsIn need (needs_of more)
@@ -106,14 +116,17 @@ module _ (pieces : List Piece) (piece : Piece) (old new : PassState) (claimed : 
         still need (inl own) = inl (subst (IsIn need) (sym mine) (in-left need (needs_in old) (last ∷ []) own))
         still need (inr seen) = inr (seen-still need.row_no seen)
 
-        by : (need : Need) → IsIn need (needs_of pieces) ⊎ ((piece.row_no ≡ need.row_no) × (piece.ranking ≡ Some need.ranking)) → IsIn need (needs_in new) ⊎ HasSeen new need.row_no
-        by need (inl before) = still need (in-all (λ (need : Need). IsIn need (needs_in old) ⊎ HasSeen old need.row_no) need (needs_of pieces) claimed.claimed before)
+        by : (need : Need) → IsIn need (needs_of pieces) ⊎ ((piece.row_no ≡ need.row_no) × (piece.ranking ≡ Some need.ranking))
+            → IsIn need (needs_in new) ⊎ HasSeen new need.row_no
+        by need (inl before) = still need
+            (in-all (λ (need : Need). IsIn need (needs_in old) ⊎ HasSeen old need.row_no) need (needs_of pieces) claimed.claimed before)
         by need (inr same) = inl (subst (IsIn need) (sym mine) (in-right need (needs_in old) (last ∷ []) (inl (last-is need same))))
 
     -- another has claimed for it
     claimed-had : needs_in new ≡ needs_in old → HasSeen new piece.row_no → AreClaimed more new
     claimed-had mine had = record {
-      needed = subst (All (λ (need : Need). IsIn need (needs_of more))) (sym mine) (all-in (λ (need : Need). IsIn need (needs_of more)) (needs_in old) needed-before);
+      needed = subst (All (λ (need : Need). IsIn need (needs_of more))) (sym mine)
+          (all-in (λ (need : Need). IsIn need (needs_of more)) (needs_in old) needed-before);
       claimed = all-in (λ (need : Need). IsIn need (needs_in new) ⊎ HasSeen new need.row_no) (needs_of more) (λ need there. by need (need-or-last need there));
       rising = subst (λ (needs : List Need). IsStrictlyIncreasing (map (λ (need : Need). need.row_no) needs)) (sym mine) claimed.rising;
     }
@@ -122,8 +135,10 @@ module _ (pieces : List Piece) (piece : Piece) (old new : PassState) (claimed : 
         still need (inl own) = inl (subst (IsIn need) (sym mine) own)
         still need (inr seen) = inr (seen-still need.row_no seen)
 
-        by : (need : Need) → IsIn need (needs_of pieces) ⊎ ((piece.row_no ≡ need.row_no) × (piece.ranking ≡ Some need.ranking)) → IsIn need (needs_in new) ⊎ HasSeen new need.row_no
-        by need (inl before) = still need (in-all (λ (need : Need). IsIn need (needs_in old) ⊎ HasSeen old need.row_no) need (needs_of pieces) claimed.claimed before)
+        by : (need : Need) → IsIn need (needs_of pieces) ⊎ ((piece.row_no ≡ need.row_no) × (piece.ranking ≡ Some need.ranking))
+            → IsIn need (needs_in new) ⊎ HasSeen new need.row_no
+        by need (inl before) = still need
+            (in-all (λ (need : Need). IsIn need (needs_in old) ⊎ HasSeen old need.row_no) need (needs_of pieces) claimed.claimed before)
         by need (inr same) = inr (subst (HasSeen new) same.0 had)
 
   -- after a piece more the claims are for what is needed

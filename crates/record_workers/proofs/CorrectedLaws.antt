@@ -28,7 +28,8 @@ order-within fields f there = by (has_field (number_fields fields) f) refl (sym 
     by true e h = field-below is_numerical fields f e
     by false e h = field-below (λ k. not (is_numerical k)) fields f h
 
-module _ (survey : SurveyParts) (row new : List Value) (changed : ℕ) (donor : Option (List Value)) (p : Point) (is_row : IsRow survey.fields row) (imputed : IsImputed survey row changed donor new)
+module _ (survey : SurveyParts) (row new : List Value) (changed : ℕ) (donor : Option (List Value)) (p : Point) (is_row : IsRow survey.fields row)
+    (imputed : IsImputed survey row changed donor new)
     (completes : Completes survey new [] p) (differs : (f : ℕ) → has_number changed f ≡ true → Differs row p f) where
   -- the letter of a field is whether the set has it
   letter : (f : ℕ) → f < length survey.fields → differs_from (value_of row f) p f ≡ has_number changed f
@@ -41,7 +42,8 @@ module _ (survey : SurveyParts) (row new : List Value) (changed : ℕ) (donor : 
           ∙ completes.agrees f (omega (arith, below, row-length survey.fields new imputed.fits)) refl
 
   word-is : word_of survey row p ≡ path_of survey.fields changed
-  word-is = map-agree (λ f. differs_from (value_of row f) p f) (has_number changed) (path_order survey.fields) (λ f there. letter f (order-within survey.fields f there))
+  word-is = map-agree (λ f. differs_from (value_of row f) p f) (has_number changed) (path_order survey.fields)
+      (λ f there. letter f (order-within survey.fields f there))
 
   pub corrected : (path : List Bool) (weight : ℕ) → path_of survey.fields changed ≡ path → weight ≡ path_weight survey.fields path
       → IsLeastWeight survey row weight → IsFirstLeast survey row path → IsCorrected survey row new path weight

@@ -1,4 +1,5 @@
-use Rattle.std.proofs.Common.{◌≡◌, ℕ, zero, suc, ◌+◌, ◌<◌, ◌++◌, Bool, true, false, List, [], ◌∷◌, All, Option, Some, None, IsSomeAnd, length, map, inl, inr, refl, sym, ap, ◌∙◌, subst, arith}
+use Rattle.std.proofs.Common.{◌≡◌, ℕ, zero, suc, ◌+◌, ◌<◌, ◌++◌, Bool, true, false, List, [], ◌∷◌, All, Option, Some, None, IsSomeAnd, length, map, inl, inr}
+use Rattle.std.proofs.Common.{refl, sym, ap, ◌∙◌, subst, arith}
 use Rattle.std.specs.Prelude.{slice_get}
 use Rattle.std.specs.List.{AllByRecursion, AllZip, range_with_len}
 use Rattle.std.specs.List.Sorted.{IsPermutation}
@@ -34,14 +35,16 @@ use Rattle.record_workers.proofs.RunLaws.{rows-asked}
 -- ---- two lists side by side
 
 -- what stands beside an element
-zip-get : {X Y : Type 0} (R : X → Y → Type 0) (xs : List X) (ys : List Y) → AllZip R xs ys → (k : ℕ) (x : X) → slice_get xs k ≡ Some x → (y : Y) × (slice_get ys k ≡ Some y) × R x y
+zip-get : {X Y : Type 0} (R : X → Y → Type 0) (xs : List X) (ys : List Y) → AllZip R xs ys → (k : ℕ) (x : X) → slice_get xs k ≡ Some x → (y : Y)
+    × (slice_get ys k ≡ Some y) × R x y
 zip-get R [] ys each k x at = absurd (cc)
 zip-get R (a ∷ xs) [] each k x at = absurd each
 zip-get R (a ∷ xs) (b ∷ ys) each zero x at = let same : a ≡ x = cc in (b, refl, subst (λ z. R z b) same each.0)
 zip-get R (a ∷ xs) (b ∷ ys) each (suc k) x at = zip-get R xs ys each.1 k x at
 
 -- and what it stands beside
-zip-got : {X Y : Type 0} (R : X → Y → Type 0) (xs : List X) (ys : List Y) → AllZip R xs ys → (k : ℕ) (y : Y) → slice_get ys k ≡ Some y → (x : X) × (slice_get xs k ≡ Some x) × R x y
+zip-got : {X Y : Type 0} (R : X → Y → Type 0) (xs : List X) (ys : List Y) → AllZip R xs ys → (k : ℕ) (y : Y) → slice_get ys k ≡ Some y → (x : X)
+    × (slice_get xs k ≡ Some x) × R x y
 zip-got R [] [] each k y at = absurd (cc)
 zip-got R [] (b ∷ ys) each k y at = absurd each
 zip-got R (a ∷ xs) [] each k y at = absurd each
@@ -52,14 +55,17 @@ zip-got R (a ∷ xs) (b ∷ ys) each (suc k) y at = zip-got R xs ys each.1 k y a
 row-at : (k n : ℕ) (pieces : List Piece) → rows_of pieces ≡ range_with_len k n → (i : ℕ) (p : Piece) → slice_get pieces i ≡ Some p → p.row_no ≡ k + i
 row-at k n [] rows i p at = absurd (cc)
 row-at k zero (first ∷ pieces) rows i p at = absurd (cc)
-row-at k (suc n) (first ∷ pieces) rows zero p at = let own : first.row_no ≡ k = cc in let same : first ≡ p = cc in omega (arith, own, ap (λ (q : Piece). q.row_no) same)
+row-at k (suc n) (first ∷ pieces) rows zero p at = let own : first.row_no ≡ k = cc in let same : first ≡ p = cc in
+    omega (arith, own, ap (λ (q : Piece). q.row_no) same)
 row-at k (suc n) (first ∷ pieces) rows (suc i) p at =
     let rest : rows_of pieces ≡ range_with_len (k + 1) n = cc in
     let later = row-at (k + 1) n pieces rest i p at in omega (arith, later)
 
 -- what holds beside the pieces of all rows holds beside the rows
-rows-beside : (R : List Value → RowEnd → Type 0) (whole : List (List Value)) (k : ℕ) (rows : List (List Value)) → ((j : ℕ) → j < length rows → row_at whole (k + j) ≡ row_at rows j)
-    → (pieces : List Piece) → rows_of pieces ≡ range_with_len k (length rows) → (ends : List RowEnd) → AllZip (λ (p : Piece) (end : RowEnd). R (row_at whole p.row_no) end) pieces ends → AllZip R rows ends
+rows-beside : (R : List Value → RowEnd → Type 0) (whole : List (List Value)) (k : ℕ) (rows : List (List Value))
+    → ((j : ℕ) → j < length rows → row_at whole (k + j) ≡ row_at rows j)
+    → (pieces : List Piece) → rows_of pieces ≡ range_with_len k (length rows) → (ends : List RowEnd)
+    → AllZip (λ (p : Piece) (end : RowEnd). R (row_at whole p.row_no) end) pieces ends → AllZip R rows ends
 rows-beside R whole k [] stands [] are [] each = tt
 rows-beside R whole k [] stands [] are (e ∷ ends) each = absurd each
 rows-beside R whole k [] stands (p ∷ pieces) are ends each = absurd (cc)
@@ -70,7 +76,8 @@ rows-beside R whole k (row ∷ rows) stands (p ∷ pieces) are (e ∷ ends) each
     let rest : rows_of pieces ≡ range_with_len (k + 1) (length rows) = cc in
     let here : row_at whole p.row_no ≡ row = ap (row_at whole) own ∙ stands 0 (omega arith) in (
       subst (λ (r : List Value). R r e) here each.0,
-      rows-beside R whole (k + 1) rows (λ j lt. (let next : (k + 1) + j ≡ k + suc j = omega arith in ap (row_at whole) next ∙ stands (suc j) (omega (arith, lt)))) pieces rest ends each.1,
+      rows-beside R whole (k + 1) rows
+          (λ j lt. (let next : (k + 1) + j ≡ k + suc j = omega arith in ap (row_at whole) next ∙ stands (suc j) (omega (arith, lt)))) pieces rest ends each.1,
     )
 
 -- what holds beside each element holds if it follows from what does
@@ -82,20 +89,27 @@ zip-weaker R S (x ∷ xs) (y ∷ ys) turn each = (turn x y each.0, zip-weaker R 
 
 module _ {F : Type 0} (rest : Rest F) (pieces : List Piece) (are : ArePiecesIn rest pieces) (ends : List RowEnd) where
   -- what holds of the ends of pieces holds of the ends of the records
-  ends-beside : (R : List Value → RowEnd → Type 0) → AllZip (λ (p : Piece) (end : RowEnd). R (row_at (rows_in rest) p.row_no) end) pieces ends → AllZip R (rows_in rest) ends
-  ends-beside R each = rows-beside R (rows_in rest) 0 (rows_in rest) (λ j lt. (let same : 0 + j ≡ j = omega arith in ap (row_at (rows_in rest)) same)) pieces are.rows ends each
+  ends-beside : (R : List Value → RowEnd → Type 0) → AllZip (λ (p : Piece) (end : RowEnd). R (row_at (rows_in rest) p.row_no) end) pieces ends
+      → AllZip R (rows_in rest) ends
+  ends-beside R each = rows-beside R (rows_in rest) 0 (rows_in rest)
+      (λ j lt. (let same : 0 + j ≡ j = omega arith in ap (row_at (rows_in rest)) same)) pieces are.rows ends each
 
   module _ (limit : ℕ) (history : List Entry) (answers : AnswersNeeds limit pieces history) (each : AllZip (EndsBy rest history) pieces ends) where
     -- what becomes of the records, in order
     pub ends-become : AllZip (IsEndIn rest) (rows_in rest) ends
-    ends-become = ends-beside (IsEndIn rest) (zip-weaker (EndsBy rest history) (λ (p : Piece) (end : RowEnd). IsEndIn rest (row_at (rows_in rest) p.row_no) end) pieces ends (λ p end by. by.becomes) each)
+    ends-become = ends-beside (IsEndIn rest)
+        (zip-weaker (EndsBy rest history) (λ (p : Piece) (end : RowEnd). IsEndIn rest (row_at (rows_in rest) p.row_no) end) pieces ends
+        (λ p end by. by.becomes) each)
 
     -- and what their ends say of them
     pub ends-say : AllZip (SaysIn rest) (rows_in rest) ends
-    ends-say = ends-beside (SaysIn rest) (zip-weaker (EndsBy rest history) (λ (p : Piece) (end : RowEnd). SaysIn rest (row_at (rows_in rest) p.row_no) end) pieces ends (λ p end by. by.says) each)
+    ends-say = ends-beside (SaysIn rest)
+        (zip-weaker (EndsBy rest history) (λ (p : Piece) (end : RowEnd). SaysIn rest (row_at (rows_in rest) p.row_no) end) pieces ends
+        (λ p end by. by.says) each)
 
     -- the records that need a donor are those that claim one
-    needs-claim : (k n : ℕ) (ps : List Piece) (es : List RowEnd) → rows_of ps ≡ range_with_len k n → All (IsPieceIn rest) ps → AllZip (EndsBy rest history) ps es
+    needs-claim : (k n : ℕ) (ps : List Piece) (es : List RowEnd) → rows_of ps ≡ range_with_len k n → All (IsPieceIn rest) ps
+        → AllZip (EndsBy rest history) ps es
         → map (λ (need : Need). need.row_no) (needs_of ps) ≡ places_from end_claims k es
     needs-claim k n [] [] rows all zip = refl
     needs-claim k n [] (e ∷ es) rows all zip = absurd zip
@@ -112,7 +126,8 @@ module _ {F : Type 0} (rest : Rest F) (pieces : List Piece) (are : ArePiecesIn r
         ∙ ap (λ (ns : List ℕ). ns ++ map (λ (need : Need). need.row_no) (needs_of ps)) (first ∙ ap (λ (b : Bool). place_if b k) same)
         ∙ ap (λ (ns : List ℕ). place_if (end_claims e) k ++ ns) rest_is
       where
-        here : (b : Bool) (ranking : Option (List ℕ)) → p.row_no ≡ k → Ranks b rest.survey (rows_in rest) rest.near (row_at (rows_in rest) p.row_no) (path_found p.outcome) ranking
+        here : (b : Bool) (ranking : Option (List ℕ)) → p.row_no ≡ k
+            → Ranks b rest.survey (rows_in rest) rest.near (row_at (rows_in rest) p.row_no) (path_found p.outcome) ranking
             → map (λ (need : Need). need.row_no) (needs_by p.row_no ranking) ≡ place_if b k
         here true None own ranks = absurd ranks
         here true (Some r) own ranks = ap (λ (m : ℕ). m ∷ []) own
@@ -127,21 +142,27 @@ module _ {F : Type 0} (rest : Rest F) (pieces : List Piece) (are : ArePiecesIn r
     -- each claim has the ranking of its record
     ranked-one : (e : Entry) → IsIn e history → IsRanked rest.survey (rows_in rest) rest.near ends e
     ranked-one e there =
-        let (p, in_pieces, row, ranking) = need-from (need_in e) pieces (in-other-order (needs_of pieces) (map need_in history) (need_in e) answers.needs (in-map need_in e history there)) in
+        let (p, in_pieces, row, ranking) = need-from (need_in e) pieces
+        (in-other-order (needs_of pieces) (map need_in history) (need_in e) answers.needs (in-map need_in e history there)) in
         let at = piece-at 0 (length (rows_in rest)) pieces are.rows p in_pieces e.row_no (omega (arith, row)) in
         let (end, stands, becomes) = zip-get (EndsBy rest history) pieces ends each e.row_no p at in
         let is = in-all (IsPieceIn rest) p pieces are.each in_pieces in
-        let of = by p (claims_donor p.outcome) (subst (IsRankingFor rest.survey (rows_in rest) rest.near (row_at (rows_in rest) p.row_no) p.outcome) ranking is.ranking) in
+        let of = by p (claims_donor p.outcome)
+        (subst (IsRankingFor rest.survey (rows_in rest) rest.near (row_at (rows_in rest) p.row_no) p.outcome) ranking is.ranking) in
         let mine = subst (λ (n : ℕ). IsRankingOf rest.survey (rows_in rest) rest.near (row_at (rows_in rest) n) (path_found p.outcome) e.ranking) row of in
-        let told = subst (λ (o : Outcome). IsRankingOf rest.survey (rows_in rest) rest.near (row_at (rows_in rest) e.row_no) (path_found o) e.ranking) (sym becomes.outcome) mine in
-        subst (λ (o : Option RowEnd). IsSomeAnd o (λ (end : RowEnd). IsRankingOf rest.survey (rows_in rest) rest.near (row_at (rows_in rest) e.row_no) (path_found end.proof.outcome) e.ranking)) (sym stands) told
+        let told = subst (λ (o : Outcome). IsRankingOf rest.survey (rows_in rest) rest.near (row_at (rows_in rest) e.row_no)
+        (path_found o) e.ranking) (sym becomes.outcome) mine in
+        subst (λ (o : Option RowEnd). IsSomeAnd o
+        (λ (end : RowEnd). IsRankingOf rest.survey (rows_in rest) rest.near (row_at (rows_in rest) e.row_no)
+        (path_found end.proof.outcome) e.ranking)) (sym stands) told
       where
         by : (p : Piece) (b : Bool) → Ranks b rest.survey (rows_in rest) rest.near (row_at (rows_in rest) p.row_no) (path_found p.outcome) (Some e.ranking)
             → IsRankingOf rest.survey (rows_in rest) rest.near (row_at (rows_in rest) p.row_no) (path_found p.outcome) e.ranking
         by p true ranks = ranks
         by p false none = absurd (cc)
 
-    ranked-all : (es : List Entry) → ((e : Entry) → IsIn e es → IsRanked rest.survey (rows_in rest) rest.near ends e) → AllByRecursion (IsRanked rest.survey (rows_in rest) rest.near ends) es
+    ranked-all : (es : List Entry) → ((e : Entry) → IsIn e es → IsRanked rest.survey (rows_in rest) rest.near ends e)
+        → AllByRecursion (IsRanked rest.survey (rows_in rest) rest.near ends) es
     ranked-all [] one = tt
     ranked-all (e ∷ es) one = (one e (inl refl), ranked-all es (λ x there. one x (inr there)))
 
@@ -163,7 +184,8 @@ module _ {F : Type 0} (rest : Rest F) (pieces : List Piece) (are : ArePiecesIn r
 -- ---- in row order
 
 -- where the records claimed in their order, the claims are those of the records that claim, in order
-pub in-row-order : (survey : SurveyParts) (rows : List (List Value)) (terms : Terms) (ends : List RowEnd) (history : List Entry) → AreDonations survey rows terms ends history → AreInRowOrder history
+pub in-row-order : (survey : SurveyParts) (rows : List (List Value)) (terms : Terms) (ends : List RowEnd) (history : List Entry)
+    → AreDonations survey rows terms ends history → AreInRowOrder history
     → rows_claimed history ≡ claimers_of ends
 in-row-order survey rows terms ends history donations rise =
     in-order (claimers_of ends) (rows_claimed history) (λ k lt. places-rise end_claims 0 ends k (k + 1) 0 (omega arith) lt) rise donations.claimers

@@ -1,4 +1,5 @@
-use Rattle.std.proofs.Common.{◌≡◌, ◌≢◌, ◌++◌, ℕ, suc, ◌+◌, ◌<◌, true, false, cond, eqb, List, [], ◌∷◌, ◌⊎◌, inl, inr, map, length, Option, None, Some, ⊎_elim, refl, sym, ap, ◌∙◌, subst, take, drop, drop-cons, get_or, arith}
+use Rattle.std.proofs.Common.{◌≡◌, ◌≢◌, ◌++◌, ℕ, suc, ◌+◌, ◌<◌, true, false, cond, eqb, List, [], ◌∷◌, ◌⊎◌, inl, inr, map, length, Option, None, Some, ⊎_elim}
+use Rattle.std.proofs.Common.{refl, sym, ap, ◌∙◌, subst, take, drop, drop-cons, get_or, arith}
 use Rattle.std.specs.Prelude.{replicate}
 use Rattle.std.proofs.Math.ListN.{set}
 use Rattle.std.specs.List.{IsDistinct}
@@ -25,7 +26,8 @@ other-row a b apart = ⊎_elim (λ (t : (eqb a b ≡ true) × (a ≡ b)). absurd
 same-row : (a : ℕ) → eqb a a ≡ true
 same-row a = ⊎_elim (λ (t : (eqb a a ≡ true) × (a ≡ a)). t.0) (λ (f : (eqb a a ≡ false) × (a ≢ a)). absurd (f.1 refl)) (eqb_tells a a)
 
-claim-push : (row_no : ℕ) (history : List Entry) (e : Entry) → claim_of row_no (wins_of (history ++ e ∷ [])) ≡ option_or (claim_of row_no (wins_of history)) (cond (eqb e.row_no row_no) (Some (won_of e)) None)
+claim-push : (row_no : ℕ) (history : List Entry) (e : Entry)
+    → claim_of row_no (wins_of (history ++ e ∷ [])) ≡ option_or (claim_of row_no (wins_of history)) (cond (eqb e.row_no row_no) (Some (won_of e)) None)
 claim-push row_no history e = ap (claim_of row_no) (wins_push history e) ∙ find-append (λ (w : Won). eqb w.row_no row_no) (wins_of history) (won_of e ∷ [])
 
 or-none : (o : Option Won) → option_or o None ≡ o
@@ -35,34 +37,46 @@ or-none (Some w) = refl
 -- a claim of another record changes nothing
 pub donor-other : (row_no : ℕ) (history : List Entry) (e : Entry) → e.row_no ≢ row_no → donor_in (history ++ e ∷ []) row_no ≡ donor_in history row_no
 donor-other row_no history e apart =
-    ap (λ (o : Option Won). (o >>? (λ w. w.reply))) (claim-push row_no history e ∙ ap (λ b. option_or (claim_of row_no (wins_of history)) (cond b (Some (won_of e)) None)) (other-row e.row_no row_no apart) ∙ or-none (claim_of row_no (wins_of history)))
+    ap (λ (o : Option Won). (o >>? (λ w. w.reply)))
+    (claim-push row_no history e ∙ ap (λ b. option_or (claim_of row_no (wins_of history)) (cond b (Some (won_of e)) None))
+    (other-row e.row_no row_no apart) ∙ or-none (claim_of row_no (wins_of history)))
 
 -- a first claim is the record's
 pub donor-own : (history : List Entry) (e : Entry) → claim_of e.row_no (wins_of history) ≡ None → donor_in (history ++ e ∷ []) e.row_no ≡ e.reply
 donor-own history e none =
-    ap (λ (o : Option Won). (o >>? (λ w. w.reply))) (claim-push e.row_no history e ∙ ap (λ (o : Option Won). option_or o (cond (eqb e.row_no e.row_no) (Some (won_of e)) None)) none ∙ ap (λ b. cond b (Some (won_of e)) None) (same-row e.row_no))
+    ap (λ (o : Option Won). (o >>? (λ w. w.reply)))
+    (claim-push e.row_no history e ∙ ap (λ (o : Option Won). option_or o (cond (eqb e.row_no e.row_no) (Some (won_of e)) None)) none
+    ∙ ap (λ b. cond b (Some (won_of e)) None) (same-row e.row_no))
 
 -- ---- a list of the donors of all
 
 pub donors-none : (rows : ℕ) → ListsDonors [] rows (replicate rows None)
 donors-none rows i lt = get_or-replicate rows i None None lt
 
-module _ (rows : ℕ) (history : List Entry) (once : IsDistinct eqb (map (λ (w : Won). w.row_no) (wins_of history))) (k : ℕ) (e : Entry) (lt : k < length history) (is : e ≡ get_or history k e) where
+module _ (rows : ℕ) (history : List Entry) (once : IsDistinct eqb (map (λ (w : Won). w.row_no) (wins_of history))) (k : ℕ) (e : Entry)
+    (lt : k < length history) (is : e ≡ get_or history k e) where
   at-k : history ≡ take k history ++ e ∷ drop (suc k) history
-  at-k = sym (take-append-drop k history) ∙ ap (λ (rest : List Entry). take k history ++ rest) (drop-cons history k e lt ∙ ap (λ (x : Entry). x ∷ drop (suc k) history) (sym is))
+  at-k = sym (take-append-drop k history)
+      ∙ ap (λ (rest : List Entry). take k history ++ rest) (drop-cons history k e lt ∙ ap (λ (x : Entry). x ∷ drop (suc k) history) (sym is))
 
   none : claim_of e.row_no (wins_of (take k history)) ≡ None
   none = none_before (wins_of (take k history)) (wins_of (drop (suc k) history)) (won_of e)
-      (subst (λ (ws : List Won). IsDistinct eqb (map (λ (w : Won). w.row_no) ws)) (ap wins_of at-k ∙ map-append won_of (take k history) (e ∷ drop (suc k) history)) once)
+      (subst (λ (ws : List Won). IsDistinct eqb (map (λ (w : Won). w.row_no) ws))
+      (ap wins_of at-k ∙ map-append won_of (take k history) (e ∷ drop (suc k) history)) once)
 
   one-more : take (k + 1) history ≡ take k history ++ e ∷ []
-  one-more = let next : k + 1 ≡ suc k = omega arith in ap (λ n. take n history) next ∙ take-suc history k e lt ∙ ap (λ (x : Entry). take k history ++ x ∷ []) (sym is)
+  one-more = let next : k + 1 ≡ suc k = omega arith in ap (λ n. take n history) next ∙ take-suc history k e lt
+      ∙ ap (λ (x : Entry). take k history ++ x ∷ []) (sym is)
 
   -- with the donor of one claim more
-  pub donors-more : (donors : List (Option ℕ)) → length donors ≡ rows → e.row_no < rows → ListsDonors (take k history) rows donors → ListsDonors (take (k + 1) history) rows (set donors e.row_no e.reply)
-  donors-more donors as_many within lists i below = subst (λ (es : List Entry). donor_at (set donors e.row_no e.reply) i ≡ donor_in es i) (sym one-more) (by (eqb_tells e.row_no i))
+  pub donors-more : (donors : List (Option ℕ)) → length donors ≡ rows → e.row_no < rows → ListsDonors (take k history) rows donors
+      → ListsDonors (take (k + 1) history) rows (set donors e.row_no e.reply)
+  donors-more donors as_many within lists i below = subst (λ (es : List Entry). donor_at (set donors e.row_no e.reply) i ≡ donor_in es i)
+      (sym one-more) (by (eqb_tells e.row_no i))
     where
-      by : ((eqb e.row_no i ≡ true) × (e.row_no ≡ i)) ⊎ ((eqb e.row_no i ≡ false) × (e.row_no ≢ i)) → donor_at (set donors e.row_no e.reply) i ≡ donor_in (take k history ++ e ∷ []) i
+      by : ((eqb e.row_no i ≡ true) × (e.row_no ≡ i)) ⊎ ((eqb e.row_no i ≡ false) × (e.row_no ≢ i))
+          → donor_at (set donors e.row_no e.reply) i ≡ donor_in (take k history ++ e ∷ []) i
       by (inl here) = subst (λ (j : ℕ). donor_at (set donors e.row_no e.reply) j ≡ donor_in (take k history ++ e ∷ []) j) here.1
           (get_or-set_same donors e.row_no e.reply None (omega (arith, within, as_many)) ∙ sym (donor-own (take k history) e none))
-      by (inr other) = get_or-set_other donors e.row_no i e.reply None (λ same. absurd (other.1 (sym same))) ∙ lists i below ∙ sym (donor-other i (take k history) e other.1)
+      by (inr other) = get_or-set_other donors e.row_no i e.reply None (λ same. absurd (other.1 (sym same))) ∙ lists i below
+          ∙ sym (donor-other i (take k history) e other.1)

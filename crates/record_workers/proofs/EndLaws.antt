@@ -26,9 +26,11 @@ use Rattle.record_workers.proofs.OverflowLaws.{step-shown, test-shown}
 abbrev pub IsNoChange : Outcome → Type 0
 IsNoChange o = (path : List Bool) (weight : ℕ) (cert : Cert) → ¬ (o ≡ outcome.Change path weight cert)
 
-module _ (survey : SurveyParts) (edits : EditsParts) (row : List Value) (budget : ℕ) (is : IsCase (case_of survey edits row)) (same : (p : Point) → Meets (case_of survey edits row) p ↔ IsCorrection survey p) where
+module _ (survey : SurveyParts) (edits : EditsParts) (row : List Value) (budget : ℕ) (is : IsCase (case_of survey edits row))
+    (same : (p : Point) → Meets (case_of survey edits row) p ↔ IsCorrection survey p) where
   -- a budget that was passed is less than the search needs
-  passed : (path : List Bool) (work : ℕ) → outcome_of (case_of survey edits row) budget ≡ outcome.Budget path work → budget < total_work (case_of survey edits row)
+  passed : (path : List Bool) (work : ℕ) → outcome_of (case_of survey edits row) budget ≡ outcome.Budget path work
+      → budget < total_work (case_of survey edits row)
   passed path work e = by (nat_lt budget (total_work (case_of survey edits row))) refl
     where
       by : (b : Bool) → nat_lt budget (total_work (case_of survey edits row)) ≡ b → budget < total_work (case_of survey edits row)
@@ -51,7 +53,8 @@ module _ (survey : SurveyParts) (edits : EditsParts) (row : List Value) (budget 
   no-change-follows donor (outcome.Contradictory cert) none = tt
 
   -- so the end of a record for which no change was found tells the outcome, and nothing beside it
-  pub left-out : (rows : List (List Value)) (o : Outcome) (end : RowEnd) → o ≡ outcome_of (case_of survey edits row) budget → IsNoChange o → end.proof.outcome ≡ o → end.proof.gift ≡ None → end.gift ≡ None
+  pub left-out : (rows : List (List Value)) (o : Outcome) (end : RowEnd) → o ≡ outcome_of (case_of survey edits row) budget → IsNoChange o
+      → end.proof.outcome ≡ o → end.proof.gift ≡ None → end.gift ≡ None
       → IsEndOf survey edits budget rows row end × Says survey edits budget row end
   left-out rows o end e none told stop gift = (
     record { outcome = told ∙ e; follows = rw (told, stop, gift) (no-change-follows (option_map (row_at rows) end.donor) o none) },

@@ -1,4 +1,5 @@
-use Rattle.std.proofs.Common.{◌≡◌, ◌≢◌, ◌⊎◌, ℕ, ◌+◌, ◌<◌, ◌++◌, true, false, cond, eqb, nat_eq, List, [], ◌∷◌, All, Option, Some, IsSome, length, map, inl, inr, ⊎_elim, refl, sym, ap, ◌∙◌, subst, arith}
+use Rattle.std.proofs.Common.{◌≡◌, ◌≢◌, ◌⊎◌, ℕ, ◌+◌, ◌<◌, ◌++◌, true, false, cond, eqb, nat_eq, List, [], ◌∷◌, All, Option, Some, IsSome, length, map, inl, inr}
+use Rattle.std.proofs.Common.{⊎_elim, refl, sym, ap, ◌∙◌, subst, arith}
 use Rattle.std.specs.Prelude.{slice_get}
 use Rattle.std.specs.List.{IsDistinct, AllByRecursion, range_with_len}
 use Rattle.std.specs.List.Sorted.{IsNonDecreasing, IsPermutation}
@@ -41,18 +42,21 @@ all-times x (w ∷ workers) found =
     let row = λ (p : Piece). p.row_no in
     let one : times x (rows_of w.pieces.items) ≡ times x w.seat.drawn = ap (times x) (All-head FoundDrawn w workers found) in
     let rest = all-times x workers (All-tail FoundDrawn w workers found) in
-    let whole : times x (rows_of (pieces_of (w ∷ workers))) ≡ times x (rows_of w.pieces.items ++ rows_of (pieces_of workers)) = ap (times x) (map-append row w.pieces.items (pieces_of workers)) in
+    let whole : times x (rows_of (pieces_of (w ∷ workers))) ≡ times x (rows_of w.pieces.items ++ rows_of (pieces_of workers)) = ap (times x)
+    (map-append row w.pieces.items (pieces_of workers)) in
     whole
     ∙ sum_by-append (λ y. cond (eqb y x) 1 0) (rows_of w.pieces.items) (rows_of (pieces_of workers))
     ∙ ap (λ n. n + times x (rows_of (pieces_of workers))) one
     ∙ ap (λ n. times x w.seat.drawn + n) rest
     ∙ sym (sum_by-cons (λ seat. times x seat.drawn) w.seat (seats_of workers))
 
-module _ (workers : List Worker) (count : ℕ) (drawn : DrawnBelow count (seats_of workers)) (found : All FoundDrawn workers) (pieces : List Piece) (same : IsPermutation (pieces_of workers) pieces)
+module _ (workers : List Worker) (count : ℕ) (drawn : DrawnBelow count (seats_of workers)) (found : All FoundDrawn workers) (pieces : List Piece)
+    (same : IsPermutation (pieces_of workers) pieces)
     (sorted : IsNonDecreasing (rows_of pieces)) where
   each-once : (x : ℕ) → times x (rows_of pieces) ≡ times_drawn x (seats_of workers)
   each-once x =
-      sum_by-IsPermutation (λ y. cond (eqb y x) 1 0) (rows_of (pieces_of workers)) (rows_of pieces) (IsPermutation-map (λ (p : Piece). p.row_no) (pieces_of workers) pieces same)
+      sum_by-IsPermutation (λ y. cond (eqb y x) 1 0) (rows_of (pieces_of workers)) (rows_of pieces)
+      (IsPermutation-map (λ (p : Piece). p.row_no) (pieces_of workers) pieces same)
       ∙ all-times x workers found
 
   -- there is one piece for each row, in row order
@@ -68,7 +72,8 @@ module _ (workers : List Worker) (count : ℕ) (drawn : DrawnBelow count (seats_
 -- the claim at a place of the history is one of a pass
 is-at : (k : ℕ) (m : Placed) → 0 < cond (eqb m.place k) 1 0 → m.place ≡ k
 is-at k m some =
-    ⊎_elim (λ (t : (eqb m.place k ≡ true) × (m.place ≡ k)). t.1) (λ (f : (eqb m.place k ≡ false) × (m.place ≢ k)). absurd (omega (arith, some, one-other k m.place f.1)))
+    ⊎_elim (λ (t : (eqb m.place k ≡ true) × (m.place ≡ k)). t.1)
+    (λ (f : (eqb m.place k ≡ false) × (m.place ≢ k)). absurd (omega (arith, some, one-other k m.place f.1)))
     (eqb_tells m.place k)
 
 -- a claim that is found is in the history
@@ -76,20 +81,24 @@ pub found-in : (row : ℕ) (history : List Won) → IsSome (claim_of row history
 found-in row [] some = absurd (cc)
 found-in row (w ∷ history) some = by (eqb_tells w.row_no row) (λ more. found-in row history more)
   where
-    by : ((eqb w.row_no row ≡ true) × (w.row_no ≡ row)) ⊎ ((eqb w.row_no row ≡ false) × (w.row_no ≢ row)) → (IsSome (claim_of row history) → (v : Won) × IsIn v history × (v.row_no ≡ row))
+    by : ((eqb w.row_no row ≡ true) × (w.row_no ≡ row)) ⊎ ((eqb w.row_no row ≡ false) × (w.row_no ≢ row))
+        → (IsSome (claim_of row history) → (v : Won) × IsIn v history × (v.row_no ≡ row))
         → (v : Won) × IsIn v (w ∷ history) × (v.row_no ≡ row)
     by (inl here) later = (w, inl refl, here.1)
     by (inr other) later = let rest = later (subst IsSome (ap (λ b. cond b (Some w) (claim_of row history)) other.0) some) in (rest.0, inr rest.1, rest.2)
 
 -- rows that stand once are apart
-distinct-apart : (entries : List Entry) → IsDistinct nat_eq (map (λ (w : Won). w.row_no) (wins_of entries)) → AreApart (λ (need : Need). need.row_no) (map need_in entries)
+distinct-apart : (entries : List Entry) → IsDistinct nat_eq (map (λ (w : Won). w.row_no) (wins_of entries))
+    → AreApart (λ (need : Need). need.row_no) (map need_in entries)
 unfolding IsDistinct
 distinct-apart [] once = tt
 distinct-apart (e ∷ entries) once = (lacks entries once.0, distinct-apart entries once.1)
   where
-    lacks : (rest : List Entry) → AllByRecursion (λ n. nat_eq e.row_no n ≡ false) (map (λ (w : Won). w.row_no) (wins_of rest)) → Lacks (λ (need : Need). need.row_no) e.row_no (map need_in rest)
+    lacks : (rest : List Entry) → AllByRecursion (λ n. nat_eq e.row_no n ≡ false) (map (λ (w : Won). w.row_no) (wins_of rest))
+        → Lacks (λ (need : Need). need.row_no) e.row_no (map need_in rest)
     lacks [] all need there same = there
-    lacks (x ∷ rest) all need (inl is) same = ⊎_elim (λ (t : (eqb e.row_no x.row_no ≡ true) × (e.row_no ≡ x.row_no)). cc (sym t.0 ∙ all.0)) (λ (f : (eqb e.row_no x.row_no ≡ false) × (e.row_no ≢ x.row_no)). f.1 (sym same ∙ ap (λ (n : Need). n.row_no) is)) (eqb_tells e.row_no x.row_no)
+    lacks (x ∷ rest) all need (inl is) same = ⊎_elim (λ (t : (eqb e.row_no x.row_no ≡ true) × (e.row_no ≡ x.row_no)). cc (sym t.0 ∙ all.0))
+        (λ (f : (eqb e.row_no x.row_no ≡ false) × (e.row_no ≢ x.row_no)). f.1 (sym same ∙ ap (λ (n : Need). n.row_no) is)) (eqb_tells e.row_no x.row_no)
     lacks (x ∷ rest) all need (inr there) same = lacks rest all.1 need there same
 
 module _ (workers : List Worker) (count : ℕ) (claimed : All (λ (w : Worker). AreClaimed w.pieces.items w.pass) workers)
@@ -117,7 +126,8 @@ module _ (workers : List Worker) (count : ℕ) (claimed : All (λ (w : Worker). 
   pub placed-of : (w : Worker) (m : Placed) → IsIn w workers → IsIn m w.pass.mine → slice_get entries m.place ≡ Some m.entry
   placed-of w m in_workers in_mine =
       in-all (λ (m : Placed). slice_get entries m.place ≡ Some m.entry) m w.pass.mine
-      (in-all (λ (p : PassState). All (λ (m : Placed). slice_get entries m.place ≡ Some m.entry) p.mine) w.pass (passes_of workers) collected.placed (in-map (λ (w : Worker). w.pass) w workers in_workers)) in_mine
+      (in-all (λ (p : PassState). All (λ (m : Placed). slice_get entries m.place ≡ Some m.entry) p.mine) w.pass (passes_of workers) collected.placed
+      (in-map (λ (w : Worker). w.pass) w workers in_workers)) in_mine
 
   claims-of : (w : Worker) → IsIn w workers → AreClaimed w.pieces.items w.pass
   claims-of w there = in-all (λ (w : Worker). AreClaimed w.pieces.items w.pass) w workers claimed there
@@ -138,7 +148,8 @@ module _ (workers : List Worker) (count : ℕ) (claimed : All (λ (w : Worker). 
   row-claimed : (need : Need) → IsIn need (needs_of pieces) → (x : Won) → IsIn x history → x.row_no ≡ need.row_no → IsIn need (map need_in entries)
   row-claimed need needed x there row =
       let (e, in_entries, is) = in-map-out won_of x entries (subst (IsIn x) (sym collected.wins) there) in
-      let own : need_in e ≡ need = same-by-key (λ (n : Need). n.row_no) (needs_of pieces) (need_in e) need apart (claim-needed e in_entries) needed (sym (ap (λ (w : Won). w.row_no) is) ∙ row) in
+      let own : need_in e ≡ need = same-by-key (λ (n : Need). n.row_no) (needs_of pieces) (need_in e) need apart (claim-needed e in_entries) needed
+      (sym (ap (λ (w : Won). w.row_no) is) ∙ row) in
       subst (λ (n : Need). IsIn n (map need_in entries)) own (in-map need_in e entries in_entries)
 
   -- each need has a claim
@@ -146,21 +157,26 @@ module _ (workers : List Worker) (count : ℕ) (claimed : All (λ (w : Worker). 
   need-claimed need needed =
       let (p, in_pieces, row, ranking) = need-from need pieces needed in
       let (w, in_workers, in_found) = in-flat_map-out (λ (v : Worker). v.pieces.items) p workers (in-other-order (pieces_of workers) pieces p same in_pieces) in
-      by w in_workers (in-all (λ (n : Need). IsIn n (needs_in w.pass) ⊎ HasSeen w.pass n.row_no) need (needs_of w.pieces.items) (claims-of w in_workers).claimed (need-in need p w.pieces.items in_found row ranking))
+      by w in_workers (in-all (λ (n : Need). IsIn n (needs_in w.pass) ⊎ HasSeen w.pass n.row_no) need (needs_of w.pieces.items)
+      (claims-of w in_workers).claimed (need-in need p w.pieces.items in_found row ranking))
     where
       by : (w : Worker) → IsIn w workers → IsIn need (needs_in w.pass) ⊎ HasSeen w.pass need.row_no → IsIn need (map need_in entries)
       by w in_workers (inl own) =
           let (m, in_mine, is) = in-map-out (λ (m : Placed). need_in m.entry) need w.pass.mine own in
-          subst (λ (n : Need). IsIn n (map need_in entries)) (sym is) (in-map need_in m.entry entries (in-get m.entry entries m.place (placed-of w m in_workers in_mine)))
+          subst (λ (n : Need). IsIn n (map need_in entries)) (sym is)
+          (in-map need_in m.entry entries (in-get m.entry entries m.place (placed-of w m in_workers in_mine)))
       by w in_workers (inr seen) =
           let (x, in_seen, row) = found-in need.row_no w.pass.seen seen in
-          let (rest, is) = in-all (λ (p : PassState). StartsWith history p.seen) w.pass (passes_of workers) whole.seen (in-map (λ (w : Worker). w.pass) w workers in_workers) in
+          let (rest, is) = in-all (λ (p : PassState). StartsWith history p.seen) w.pass (passes_of workers) whole.seen
+          (in-map (λ (w : Worker). w.pass) w workers in_workers) in
           row-claimed need needed x (subst (IsIn x) (sym is) (in-left x w.pass.seen rest in_seen)) row
 
   -- the claims are for the needs, each once
   pub needs-claimed : IsPermutation (needs_of pieces) (map need_in entries)
-  needs-claimed = same-elements (λ (need : Need). need.row_no) (needs_of pieces) (map need_in entries) apart (distinct-apart entries collected.legal.once) need-claimed
-      (λ need there. (let (e, in_entries, is) = in-map-out need_in need entries there in subst (λ (n : Need). IsIn n (needs_of pieces)) (sym is) (claim-needed e in_entries)))
+  needs-claimed = same-elements (λ (need : Need). need.row_no) (needs_of pieces) (map need_in entries) apart
+      (distinct-apart entries collected.legal.once) need-claimed
+      (λ need there. (let (e, in_entries, is) = in-map-out need_in need entries there in
+      subst (λ (n : Need). IsIn n (needs_of pieces)) (sym is) (claim-needed e in_entries)))
 
   -- and have the rankings of the pieces
   ranked : (e : Entry) → IsIn e entries → entry_by pieces (won_of e) ≡ e

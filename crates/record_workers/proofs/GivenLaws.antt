@@ -1,4 +1,5 @@
-use Rattle.std.proofs.Common.{◌≡◌, ℕ, ◌<◌, Bool, true, false, cond, eqb, List, [], ◌∷◌, All, Option, IfSome, get_or, length, map, nat_lt, take, Some, inl, inr, refl, sym, ap, ◌∙◌, subst, arith}
+use Rattle.std.proofs.Common.{◌≡◌, ℕ, ◌<◌, Bool, true, false, cond, eqb, List, [], ◌∷◌, All, Option, IfSome, get_or, length, map, nat_lt, take, Some, inl, inr}
+use Rattle.std.proofs.Common.{refl, sym, ap, ◌∙◌, subst, arith}
 use Rattle.std.specs.List.{AllZip}
 use Rattle.std.proofs.lemmas.List.{length-map}
 use Rattle.std.proofs.lemmas.List.FromFn.{length-range_with_len}
@@ -28,7 +29,8 @@ given-has : (P : ℕ → Type 0) (row_no : ℕ) (history : List Entry) → ((e :
 given-has P row_no [] each = tt
 given-has P row_no (e ∷ history) each = by (eqb e.row_no row_no) (each e (inl refl)) (given-has P row_no history (λ x there. each x (inr there)))
   where
-    by : (b : Bool) → IfSome e.reply P → IfSome (donor_in history row_no) P → IfSome (cond b (Some (won_of e)) (claim_of row_no (wins_of history)) >>? (λ w. w.reply)) P
+    by : (b : Bool) → IfSome e.reply P → IfSome (donor_in history row_no) P
+        → IfSome (cond b (Some (won_of e)) (claim_of row_no (wins_of history)) >>? (λ w. w.reply)) P
     by true here rest = here
     by false here rest = rest
 
@@ -47,11 +49,13 @@ module _ {F : Type 0} (rest : Rest F) (pieces : List Piece) (are : ArePiecesIn r
 
   module _ (limit : ℕ) (history : List Entry) (answers : AnswersNeeds limit pieces history) where
     claim-of-piece : (e : Entry) → IsIn e history → (p : Piece) × IsIn p pieces × (p.row_no ≡ e.row_no) × (p.ranking ≡ Some e.ranking)
-    claim-of-piece e there = need-from (need_in e) pieces (in-other-order (needs_of pieces) (map need_in history) (need_in e) answers.needs (in-map need_in e history there))
+    claim-of-piece e there = need-from (need_in e) pieces
+        (in-other-order (needs_of pieces) (map need_in history) (need_in e) answers.needs (in-map need_in e history there))
 
     -- each claim is of a row that there is
     pub claims-within : All (λ (e : Entry). e.row_no < length pieces) history
-    claims-within = all-in (λ (e : Entry). e.row_no < length pieces) history (λ e there. (let (p, in_pieces, row, ranking) = claim-of-piece e there in let below = piece-within p in_pieces in omega (arith, below, row)))
+    claims-within = all-in (λ (e : Entry). e.row_no < length pieces) history
+        (λ e there. (let (p, in_pieces, row, ranking) = claim-of-piece e there in let below = piece-within p in_pieces in omega (arith, below, row)))
 
     -- and who is given is a clean record
     pub given-clean : (row_no : ℕ) → IfSome (donor_in history row_no) (IsCleanRow rest.survey (rows_in rest))

@@ -17,7 +17,8 @@ use Rattle.record_workers.proofs.OrderLaws.{AreApart, Lacks}
 
 -- what is in a list is in the list in another order
 pub in-other-order : {X : Type 0} (xs ys : List X) (x : X) → IsPermutation xs ys → IsIn x ys → IsIn x xs
-in-other-order xs ys x same there = in-all (λ y. IsIn y xs) x ys (All-permutation (λ y. IsIn y xs) xs ys same (all-in (λ y. IsIn y xs) xs (λ y in_xs. in_xs))) there
+in-other-order xs ys x same there = in-all (λ y. IsIn y xs) x ys
+    (All-permutation (λ y. IsIn y xs) xs ys same (all-in (λ y. IsIn y xs) xs (λ y in_xs. in_xs))) there
 
 -- an element stands at some place
 pub place-in : {X : Type 0} (x : X) (xs : List X) → IsIn x xs → (place : ℕ) × (slice_get xs place ≡ Some x)
@@ -37,7 +38,8 @@ some-counts {X} f (x ∷ xs) some = by (f x) refl (λ more. some-counts f xs mor
 -- ---- what the records of pieces need
 
 -- each need is that of a piece
-pub need-from : (need : Need) (pieces : List Piece) → IsIn need (needs_of pieces) → (p : Piece) × IsIn p pieces × (p.row_no ≡ need.row_no) × (p.ranking ≡ Some need.ranking)
+pub need-from : (need : Need) (pieces : List Piece) → IsIn need (needs_of pieces) → (p : Piece) × IsIn p pieces × (p.row_no ≡ need.row_no)
+    × (p.ranking ≡ Some need.ranking)
 need-from need pieces there =
     let (p, in_pieces, in_needs) = in-flat_map-out (λ (p : Piece). needs_by p.row_no p.ranking) need pieces there in
     let is = by p.row_no p.ranking in_needs in
@@ -49,7 +51,8 @@ need-from need pieces there =
     by row_no (Some ranking) (inr none) = absurd none
 
 -- and what a piece needs is among the needs of all
-pub need-in : (need : Need) (p : Piece) (pieces : List Piece) → IsIn p pieces → p.row_no ≡ need.row_no → p.ranking ≡ Some need.ranking → IsIn need (needs_of pieces)
+pub need-in : (need : Need) (p : Piece) (pieces : List Piece) → IsIn p pieces → p.row_no ≡ need.row_no → p.ranking ≡ Some need.ranking
+    → IsIn need (needs_of pieces)
 need-in need p pieces there row ranking =
     in-flat_map (λ (p : Piece). needs_by p.row_no p.ranking) p need pieces there
     (subst (λ (o : Option (List ℕ)). IsIn need (needs_by p.row_no o)) (sym ranking) (inl (λ i. record { row_no = sym row i; ranking = need.ranking })))
@@ -82,10 +85,12 @@ needs-apart (p ∷ pieces) apart = by p.row_no p.ranking apart.0 (needs-apart pi
     by : (row_no : ℕ) (ranking : Option (List ℕ)) → Lacks (λ (p : Piece). p.row_no) row_no pieces → AreApart (λ (need : Need). need.row_no) (needs_of pieces)
         → AreApart (λ (need : Need). need.row_no) (needs_by row_no ranking ++ needs_of pieces)
     by row_no None lacks rest = rest
-    by row_no (Some ranking) lacks rest = ((λ need there same. (let (p, in_pieces, row, is) = need-from need pieces there in lacks p in_pieces (row ∙ same))), rest)
+    by row_no (Some ranking) lacks rest =
+        ((λ need there same. (let (p, in_pieces, row, is) = need-from need pieces there in lacks p in_pieces (row ∙ same))), rest)
 
 -- the piece of a row stands at the row's place
-pub piece-at : (k n : ℕ) (pieces : List Piece) → rows_of pieces ≡ range_with_len k n → (p : Piece) → IsIn p pieces → (place : ℕ) → k + place ≡ p.row_no → slice_get pieces place ≡ Some p
+pub piece-at : (k n : ℕ) (pieces : List Piece) → rows_of pieces ≡ range_with_len k n → (p : Piece) → IsIn p pieces → (place : ℕ)
+    → k + place ≡ p.row_no → slice_get pieces place ≡ Some p
 piece-at k n [] rows p there place is = absurd there
 piece-at k zero (first ∷ pieces) rows p there place is = absurd (cc)
 piece-at k (suc n) (first ∷ pieces) rows p (inl same) zero is = ap (λ z. Some z) (sym same)

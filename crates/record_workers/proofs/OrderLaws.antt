@@ -77,4 +77,5 @@ module _ {X : Type 0} (key : X → ℕ) where
       (λ z there. not-middle x z left right (apart-xs.0 z there) (middle-or x z left right (subst (IsIn z) is (to z (inr there)))))
       (λ z there. in-rest x z xs (apart.1 z there) (back z (subst (IsIn z) (sym is) (with-middle x z left right there)))) in
       subst (IsPermutation (x ∷ xs)) (sym is)
-      (IsPermutation-trans (x ∷ xs) (x ∷ (left ++ right)) (left ++ x ∷ right) (IsPermutation-cons x xs (left ++ right) rest) (IsPermutation-sym (left ++ x ∷ right) (x ∷ (left ++ right)) (IsPermutation-middle left x right)))
+      (IsPermutation-trans (x ∷ xs) (x ∷ (left ++ right)) (left ++ x ∷ right) (IsPermutation-cons x xs (left ++ right) rest)
+      (IsPermutation-sym (left ++ x ∷ right) (x ∷ (left ++ right)) (IsPermutation-middle left x right)))

@@ -30,14 +30,16 @@ module _ (c : SearchCase) (budget : ℕ) where
   later : (first : List Bool) (paths : List (List Bool)) (path : List Bool) (e : Event) → StopsIn c paths path e → StopsIn c (first ∷ paths) path e
   later first paths path e stops = record { there = inr stops.there; state = stops.state }
 
-  pub stops-from : (taken paths : List (List Bool)) (path : List Bool) (e : Event) → outcome_from c budget taken paths ≡ outcome.Overflow path e → StopsIn c paths path e
+  pub stops-from : (taken paths : List (List Bool)) (path : List Bool) (e : Event) → outcome_from c budget taken paths ≡ outcome.Overflow path e
+      → StopsIn c paths path e
   stops-from taken [] path e is = absurd (cc)
   stops-from taken (first ∷ paths) path e is =
       by (nat_lt budget (work_of_all c taken + work_of c first)) (state_of c first) refl (λ h. stops-from (taken ++ first ∷ []) paths path e h) is
     where
       by : (over : Bool) (s : PathState) → state_of c first ≡ s
           → (outcome_from c budget (taken ++ first ∷ []) paths ≡ outcome.Overflow path e → StopsIn c paths path e)
-          → (unwrap_or (if over then Some (outcome.Budget first (work_of_all c taken)) else end_by c taken first s) (outcome_from c budget (taken ++ first ∷ []) paths)) ≡ outcome.Overflow path e
+          → (unwrap_or (if over then Some (outcome.Budget first (work_of_all c taken)) else end_by c taken first s)
+          (outcome_from c budget (taken ++ first ∷ []) paths)) ≡ outcome.Overflow path e
           → StopsIn c (first ∷ paths) path e
       by true s state rest h = absurd (cc)
       by false (Overflows d) state rest h =
@@ -47,7 +49,10 @@ module _ (c : SearchCase) (budget : ℕ) where
       by false Open state rest h = at (is_complete c first) rest h
         where
           at : (full : Bool) → (outcome_from c budget (taken ++ first ∷ []) paths ≡ outcome.Overflow path e → StopsIn c paths path e)
-              → (unwrap_or (if full then Some (outcome.Change first (path_weight c.survey.fields first) (record { leaves = certificate_of c (if nat_lt 0 (path_weight c.survey.fields first) then taken else []) })) else None) (outcome_from c budget (taken ++ first ∷ []) paths)) ≡ outcome.Overflow path e
+              → (unwrap_or (if full then Some
+              (outcome.Change first (path_weight c.survey.fields first)
+              (record { leaves = certificate_of c (if nat_lt 0 (path_weight c.survey.fields first) then taken else []) })) else None)
+              (outcome_from c budget (taken ++ first ∷ []) paths)) ≡ outcome.Overflow path e
               → StopsIn c (first ∷ paths) path e
           at true rest h = absurd (cc)
           at false rest h = later first paths path e (rest h)
@@ -55,7 +60,8 @@ module _ (c : SearchCase) (budget : ℕ) where
       by false (ClosedLine i) state rest h = later first paths path e (rest h)
       by false (ClosedBox i) state rest h = later first paths path e (rest h)
 
-  pub step-shown : (path : List Bool) (first second : ℕ) (place : Place) → outcome_of c budget ≡ outcome.Overflow path (event.Step first second place) → IsStepOverflow c path first second place
+  pub step-shown : (path : List Bool) (first second : ℕ) (place : Place)
+      → outcome_of c budget ≡ outcome.Overflow path (event.Step first second place) → IsStepOverflow c path first second place
   step-shown path first second place is =
       let stops = stops-from [] (reached_paths c) path (event.Step first second place) is in
       let reached = (reached-are c path).0 stops.there in

@@ -39,7 +39,8 @@ Found w row_no = IsIn row_no (rows_of w.pieces.items)
 drawn-once : (row_no : ℕ) (w : Worker) → FoundDrawn w → Found w row_no → 1 ≤ times row_no w.seat.drawn
 drawn-once row_no w found there = times-in row_no w.seat.drawn (subst (IsIn row_no) found there)
 
-drawn-among : (row_no : ℕ) (workers : List Worker) → All FoundDrawn workers → (w : Worker) → IsIn w workers → Found w row_no → 1 ≤ times_drawn row_no (seats_of workers)
+drawn-among : (row_no : ℕ) (workers : List Worker) → All FoundDrawn workers → (w : Worker) → IsIn w workers → Found w row_no
+    → 1 ≤ times_drawn row_no (seats_of workers)
 drawn-among row_no [] all w there found = absurd there
 drawn-among row_no (v ∷ workers) all w (inl same) found =
     let mine = drawn-once row_no v (All-head FoundDrawn v workers all) (subst (λ u. Found u row_no) same found) in
@@ -49,7 +50,8 @@ drawn-among row_no (v ∷ workers) all w (inr there) found =
     omega (arith, rest, sum_by-cons (λ seat. times row_no seat.drawn) v.seat (seats_of workers))
 
 -- a row that is drawn once is of one worker
-one-worker : (row_no : ℕ) (workers : List Worker) → All FoundDrawn workers → times_drawn row_no (seats_of workers) ≤ 1 → (u v : Worker) → IsIn u workers → IsIn v workers → Found u row_no → Found v row_no → u ≡ v
+one-worker : (row_no : ℕ) (workers : List Worker) → All FoundDrawn workers → times_drawn row_no (seats_of workers) ≤ 1 → (u v : Worker)
+    → IsIn u workers → IsIn v workers → Found u row_no → Found v row_no → u ≡ v
 one-worker row_no [] all few u v in-u in-v has-u has-v = absurd in-u
 one-worker row_no (w ∷ workers) all few u v (inl u-is) (inl v-is) has-u has-v = u-is ∙ sym v-is
 one-worker row_no (w ∷ workers) all few u v (inl u-is) (inr in-v) has-u has-v =
@@ -61,10 +63,12 @@ one-worker row_no (w ∷ workers) all few u v (inr in-u) (inl v-is) has-u has-v 
     let rest = drawn-among row_no workers (All-tail FoundDrawn w workers all) u in-u has-u in
     omega (arith, mine, rest, few, sum_by-cons (λ seat. times row_no seat.drawn) w.seat (seats_of workers)))
 one-worker row_no (w ∷ workers) all few u v (inr in-u) (inr in-v) has-u has-v =
-    one-worker row_no workers (All-tail FoundDrawn w workers all) (omega (arith, few, sum_by-cons (λ seat. times row_no seat.drawn) w.seat (seats_of workers))) u v in-u in-v has-u has-v
+    one-worker row_no workers (All-tail FoundDrawn w workers all)
+    (omega (arith, few, sum_by-cons (λ seat. times row_no seat.drawn) w.seat (seats_of workers))) u v in-u in-v has-u has-v
 
 need-found : (w : Worker) (need : Need) → IsIn need (needs_of w.pieces.items) → Found w need.row_no
-need-found w need needed = let (p, in_pieces, row, ranking) = need-from need w.pieces.items needed in subst (λ (n : ℕ). Found w n) row (in-map (λ (p : Piece). p.row_no) p w.pieces.items in_pieces)
+need-found w need needed = let (p, in_pieces, row, ranking) = need-from need w.pieces.items needed in
+    subst (λ (n : ℕ). Found w n) row (in-map (λ (p : Piece). p.row_no) p w.pieces.items in_pieces)
 
 -- one worker's draws of a row are among all
 times-among : (row_no : ℕ) (workers : List Worker) (w : Worker) → IsIn w workers → times row_no w.seat.drawn ≤ times_drawn row_no (seats_of workers)
@@ -85,7 +89,8 @@ apart-by-times (p ∷ pieces) few = (
   apart-by-times pieces (λ row_no. (let most = few row_no in omega (arith, most, times-cons row_no p.row_no (rows_of pieces)))),
 )
 
-module _ (workers : List Worker) (count : ℕ) (drawn : DrawnBelow count (seats_of workers)) (found : All FoundDrawn workers) (claimed : All (λ (w : Worker). AreClaimed w.pieces.items w.pass) workers)
+module _ (workers : List Worker) (count : ℕ) (drawn : DrawnBelow count (seats_of workers)) (found : All FoundDrawn workers)
+    (claimed : All (λ (w : Worker). AreClaimed w.pieces.items w.pass) workers)
     (pieces : List Piece) (same : IsPermutation (pieces_of workers) pieces) (rows : rows_of pieces ≡ range_with_len 0 count)
     (limit : ℕ) (history : List Won) (whole : IsWhole limit (passes_of workers) history)
     (entries : List Entry) (collected : AreCollected limit (passes_of workers) history entries) where
@@ -100,20 +105,25 @@ module _ (workers : List Worker) (count : ℕ) (drawn : DrawnBelow count (seats_
   claims-of w there = in-all (λ (w : Worker). AreClaimed w.pieces.items w.pass) w workers claimed there
 
   -- a row whose claim was seen was claimed for by a worker
-  claim-of-row : (w : Worker) → IsIn w workers → (row_no : ℕ) → HasSeen w.pass row_no → (v : Worker) × IsIn v workers × (need : Need) × IsIn need (needs_in v.pass) × (need.row_no ≡ row_no)
+  claim-of-row : (w : Worker) → IsIn w workers → (row_no : ℕ) → HasSeen w.pass row_no → (v : Worker) × IsIn v workers × (need : Need)
+      × IsIn need (needs_in v.pass) × (need.row_no ≡ row_no)
   claim-of-row w there row_no seen =
       let (x, in_seen, row) = found-in row_no w.pass.seen seen in
-      let (rest, is) = in-all (λ (p : PassState). StartsWith history p.seen) w.pass (passes_of workers) whole.seen (in-map (λ (w : Worker). w.pass) w workers there) in
+      let (rest, is) = in-all (λ (p : PassState). StartsWith history p.seen) w.pass (passes_of workers) whole.seen
+      (in-map (λ (w : Worker). w.pass) w workers there) in
       let (place, at) = place-in x history (subst (IsIn x) (sym is) (in-left x w.pass.seen rest in_seen)) in
-      let (v, in_workers, m, in_mine, here) = claim-at workers count claimed pieces same rows limit history whole entries collected place (slice_get_within history place x at) in
+      let (v, in_workers, m, in_mine, here) = claim-at workers count claimed pieces same rows limit history whole entries collected place
+      (slice_get_within history place x at) in
       let stands = placed-of workers count claimed pieces same rows limit history whole entries collected v m in_workers in_mine in
-      let won : slice_get history place ≡ Some (won_of m.entry) = ap (slice_get history) (sym here) ∙ ap (λ (ws : List Won). slice_get ws m.place) (sym collected.wins) ∙ get-map won_of entries m.place m.entry stands in
+      let won : slice_get history place ≡ Some (won_of m.entry) = ap (slice_get history) (sym here)
+      ∙ ap (λ (ws : List Won). slice_get ws m.place) (sym collected.wins) ∙ get-map won_of entries m.place m.entry stands in
       let own : won_of m.entry ≡ x = same_Some (won_of m.entry) x (sym won ∙ at) in
       (v, in_workers, need_in m.entry, in-map (λ (m : Placed). need_in m.entry) m v.pass.mine in_mine, ap (λ (w : Won). w.row_no) own ∙ row)
 
   -- the pass of each worker has the claims for all that its records need
   pub own-claimed : (w : Worker) → IsIn w workers → (need : Need) → IsIn need (needs_of w.pieces.items) → IsIn need (needs_in w.pass)
-  own-claimed w there need needed = by (in-all (λ (n : Need). IsIn n (needs_in w.pass) ⊎ HasSeen w.pass n.row_no) need (needs_of w.pieces.items) (claims-of w there).claimed needed)
+  own-claimed w there need needed = by
+      (in-all (λ (n : Need). IsIn n (needs_in w.pass) ⊎ HasSeen w.pass n.row_no) need (needs_of w.pieces.items) (claims-of w there).claimed needed)
     where
       apart : AreApart (λ (n : Need). n.row_no) (needs_of w.pieces.items)
       apart = needs-apart w.pieces.items (apart-by-times w.pieces.items (λ row_no. (
@@ -127,7 +137,9 @@ module _ (workers : List Worker) (count : ℕ) (drawn : DrawnBelow count (seats_
       by (inr seen) =
           let (v, in_workers, other, in_mine, row) = claim-of-row w there need.row_no seen in
           let other_needed = in-all (λ (n : Need). IsIn n (needs_of v.pieces.items)) other (needs_in v.pass) (claims-of v in_workers).needed in_mine in
-          let one : v ≡ w = one-worker need.row_no workers found (few need.row_no) v w in_workers there (subst (λ (n : ℕ). Found v n) row (need-found v other other_needed)) (need-found w need needed) in
+          let one : v ≡ w = one-worker need.row_no workers found (few need.row_no) v w in_workers there
+          (subst (λ (n : ℕ). Found v n) row (need-found v other other_needed)) (need-found w need needed) in
           let mine = subst (λ (u : Worker). IsIn other (needs_in u.pass)) one in_mine in
           let mine_needed = subst (λ (u : Worker). IsIn other (needs_of u.pieces.items)) one other_needed in
-          subst (λ (n : Need). IsIn n (needs_in w.pass)) (same-by-key (λ (n : Need). n.row_no) (needs_of w.pieces.items) other need apart mine_needed needed row) mine
+          subst (λ (n : Need). IsIn n (needs_in w.pass))
+          (same-by-key (λ (n : Need). n.row_no) (needs_of w.pieces.items) other need apart mine_needed needed row) mine

@@ -57,7 +57,7 @@ module _ {F : Type 0} (shared : Shared F) (ran : List Worker) (all : All (HasRun
   seats-shared = all-map (λ (s : SeatState). s.row ≡ shared.tickets.row) (λ (w : Worker). w.seat) ran (λ w there. (has-run w there).worked.seat)
 
   pub passes-shared : All (λ (p : PassState). p.book ≡ shared.book) (passes_of ran)
-  passes-shared = all-map (λ (p : PassState). p.book ≡ shared.book) (λ (w : Worker). w.pass) ran (λ w there. (has-run w there).worked.found.pass)
+  passes-shared = all-map (λ (p : PassState). p.book ≡ shared.book) (λ (w : Worker). w.pass) ran (λ w there. (has-run w there).worked.pass)
 
   -- some seat was answered None
   pub some-ended : 0 < length ran → Any (λ (s : SeatState). s.ended ≡ true) (seats_of ran)
@@ -71,14 +71,15 @@ module _ {F : Type 0} (shared : Shared F) (ran : List Worker) (all : All (HasRun
   found-drawn = All-weaker (HasRun shared) FoundDrawn (λ w run. run.found) ran all
 
   claims : All (λ (w : Worker). AreClaimed w.pieces.items w.pass) ran
-  claims = All-weaker (HasRun shared) (λ (w : Worker). AreClaimed w.pieces.items w.pass) (λ w run. run.worked.found.claims) ran all
+  claims = All-weaker (HasRun shared) (λ (w : Worker). AreClaimed w.pieces.items w.pass) (λ w run. run.worked.claims) ran all
 
   pieces-found : All (IsPieceIn shared.rest) (pieces_of ran)
   pieces-found = all-in (IsPieceIn shared.rest) (pieces_of ran) (λ p there. (
       let (w, in_ran, in_pieces) = in-flat_map-out (λ (w : Worker). w.pieces.items) p ran there in
-      in-all (IsPieceIn shared.rest) p w.pieces.items (has-run w in_ran).worked.found.pieces in_pieces))
+      in-all (IsPieceIn shared.rest) p w.pieces.items (has-run w in_ran).worked.pieces in_pieces))
 
-  module _ (count : ℕ) (drawn : DrawnBelow count (seats_of ran)) (all_drawn : count ≡ length (rows_in shared.rest)) (pieces : List Piece) (same : IsPermutation (pieces_of ran) pieces)
+  module _ (count : ℕ) (drawn : DrawnBelow count (seats_of ran)) (all_drawn : count ≡ length (rows_in shared.rest)) (pieces : List Piece)
+      (same : IsPermutation (pieces_of ran) pieces)
       (sorted : IsNonDecreasingBy (λ (p : Piece). p.row_no) pieces) where
     rows-are : rows_of pieces ≡ range_with_len 0 count
     rows-are = all-rows ran count drawn found-drawn pieces same (rows-sorted pieces sorted)
@@ -90,7 +91,8 @@ module _ {F : Type 0} (shared : Shared F) (ran : List Worker) (all : All (HasRun
       each = All-permutation (IsPieceIn shared.rest) (pieces_of ran) pieces same pieces-found;
     }
 
-    module _ (limit : ℕ) (wins : List Won) (whole : IsWhole limit (passes_of ran) wins) (legal : (entries : List Entry) × AreCollected limit (passes_of ran) wins entries)
+    module _ (limit : ℕ) (wins : List Won) (whole : IsWhole limit (passes_of ran) wins)
+        (legal : (entries : List Entry) × AreCollected limit (passes_of ran) wins entries)
         (history : List Entry) (is : history ≡ map (entry_by pieces) wins) where
       history-is : history ≡ legal.0
       history-is = is ∙ history-ranked ran count claims pieces same rows-are limit wins whole legal.0 legal.1
@@ -106,9 +108,11 @@ module _ {F : Type 0} (shared : Shared F) (ran : List Worker) (all : All (HasRun
       pub alone-in-order : length ran ≡ 1 → AreInRowOrder history
       alone-in-order one = subst AreInRowOrder (sym history-is) (by ran all one whole legal)
         where
-          by : (ran : List Worker) → All (HasRun shared) ran → length ran ≡ 1 → IsWhole limit (passes_of ran) wins → (legal : (entries : List Entry) × AreCollected limit (passes_of ran) wins entries) → AreInRowOrder legal.0
+          by : (ran : List Worker) → All (HasRun shared) ran → length ran ≡ 1 → IsWhole limit (passes_of ran) wins
+              → (legal : (entries : List Entry) × AreCollected limit (passes_of ran) wins entries) → AreInRowOrder legal.0
           by [] all one whole legal = absurd (omega (arith, one))
           by (w ∷ []) all one whole legal =
               let run = All-head (HasRun shared) w [] all in
-              subst IsStrictlyIncreasing (rows-asked legal.0) (alone-rising limit w.pass w.pieces.items run.worked.found.claims run.worked.found.places wins whole legal.0 legal.1)
+              subst IsStrictlyIncreasing (rows-asked legal.0)
+              (alone-rising limit w.pass w.pieces.items run.worked.claims run.worked.places wins whole legal.0 legal.1)
           by (w ∷ v ∷ rest) all one whole legal = absurd (omega (arith, one))

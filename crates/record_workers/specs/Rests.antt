@@ -36,7 +36,8 @@ case_in rest row = case_of rest.survey (edits_in rest) row
 -- the edits are over the survey's fields, and hold at a point with codes exactly where it is consistent; the records are of the
 -- survey, with plain numbers, and the deck has the clean ones, with an index of them; the measure is the survey's; the pool has
 -- systems of the edits
-pub record IsRest {F : Type 0} (calls : closures.Shared F (ℕ × (Bor Value × (Bor Value × Unit {0}))) ℕ) (rest : Rest F) : Type 0 where
+pub record IsRest {F : Type 0} (calls : closures.Shared F (ℕ × (Bor Value × (Bor Value × Unit {0}))) ℕ)
+    (rest : Rest F) : Type 0 where
   pub shape : (edits_in rest).shape ≡ shape_of rest.survey.fields
   pub same : (row : List Value) (p : Point) → Meets (case_in rest row) p ↔ IsCorrection rest.survey p
   pub rows : AllByRecursion (IsRow rest.survey.fields) (rows_in rest)

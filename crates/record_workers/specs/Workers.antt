@@ -21,7 +21,8 @@ use Rattle.record_workers.specs.declared.rest.Shared.{Shared}
 use Rattle.record_workers.specs.declared.worker.Worker.{Worker}
 
 -- what workers share: a ticket for each record, and a book in which the records both claim and are the donors
-pub record IsShared {F : Type 0} (calls : closures.Shared F (ℕ × (Bor Value × (Bor Value × Unit {0}))) ℕ) (shared : Shared F) : Type 0 where
+pub record IsShared {F : Type 0} (calls : closures.Shared F (ℕ × (Bor Value × (Bor Value × Unit {0}))) ℕ)
+    (shared : Shared F) : Type 0 where
   pub rest : IsRest calls shared.rest
   pub tickets : shared.tickets.row.count ≡ length (rows_in shared.rest)
   pub rows : shared.book.terms.rows ≡ length (rows_in shared.rest)
@@ -53,43 +54,33 @@ pub record AreClaimed (pieces : List Piece) (p : passes.PassState) : Type 0 wher
 
 -- ---- the systems that it keeps
 
--- for each piece whose outcome is a change, a source keeps the system of the numerical fields that are changed
-abbrev pub KeepsAll : {F : Type 0} → Rest F → (ℕ → Bool) → List Piece → Type 0
-KeepsAll rest keeps pieces = All (λ (piece : Piece). KeepsChange keeps (case_in rest (row_at (rows_in rest) piece.row_no)) piece.outcome) pieces
+-- where the outcome of a piece is a change, the system of the numerical fields that are changed is kept
+abbrev pub KeepsFor : {F : Type 0} → Rest F → (ℕ → Bool) → Piece → Type 0
+KeepsFor rest keeps piece = KeepsChange keeps (case_in rest (row_at (rows_in rest) piece.row_no)) piece.outcome
 
--- the sets of fields that a source over the pool keeps, by what a reader has walked
+-- the sets of fields whose systems a source over the pool keeps, by what a reader has walked
 abbrev pub kept_by : {F : Type 0} → Rest F → List Walked → ℕ → Bool
 kept_by rest reader fields = keeps_fields rest.pool fields reader
 
 -- ---- what a worker has done
 
--- these pieces were found, and claimed for
-pub record HasFound {F : Type 0} (shared : Shared F) (found : List Piece) (p : passes.PassState) : Type 0 where
-  pub pass : p.book ≡ shared.book
-  pub pieces : All (IsPieceIn shared.rest) found
-  pub claims : AreClaimed found p
-  pub places : passes.ArePlaced p.seen p.mine
-
--- what a worker has found and claimed so far
+-- what a worker has found so far, what it has claimed, and what the pool keeps for it
 pub record HasWorked {F : Type 0} (shared : Shared F) (worker : Worker) : Type 0 where
   pub seat : worker.seat.row ≡ shared.tickets.row
-  pub found : HasFound shared worker.pieces.items worker.pass
-
--- the pieces are those of the rows that were drawn, in that order
-abbrev pub HasAll : List Piece → List ℕ → Type 0
-HasAll pieces drawn = rows_of pieces ≡ drawn
-
--- of the last row that was drawn there is no piece
-abbrev pub LacksLast : List Piece → List ℕ → Type 0
-LacksLast pieces drawn = (row_no : ℕ) × (drawn ≡ rows_of pieces ++ row_no ∷ [])
+  pub pass : worker.pass.book ≡ shared.book
+  pub reader : IsReaderOf shared.rest.pool worker.reader
+  pub pieces : All (IsPieceIn shared.rest) worker.pieces.items
+  pub claims : AreClaimed worker.pieces.items worker.pass
+  pub places : passes.ArePlaced worker.pass.seen worker.pass.mine
+  pub kept : All (KeepsFor shared.rest (kept_by shared.rest worker.reader)) worker.pieces.items
 
 -- a worker found what there is to find of the rows that its seat drew, in that order
 abbrev pub FoundAll : Worker → Type 0
-FoundAll worker = HasAll worker.pieces.items worker.seat.drawn
+FoundAll worker = rows_of worker.pieces.items ≡ worker.seat.drawn
 
 -- of the last row that its seat drew it found nothing
 abbrev pub MissesLast : Worker → Type 0
-MissesLast worker = LacksLast worker.pieces.items worker.seat.drawn
+MissesLast worker = (row_no : ℕ) × (worker.seat.drawn ≡ rows_of worker.pieces.items ++ row_no ∷ [])
 
 -- a worker has drawn records until none was left
 pub record HasRun {F : Type 0} (shared : Shared F) (worker : Worker) : Type 0 where

@@ -37,9 +37,8 @@ pub(crate) fn end_of<F: Fn(u32, &Value, &Value) -> u64>(
     let Piece {
         row_no,
         outcome,
-        ranking,
+        ..
     } = piece;
-    drop(ranking);
     let row = rest.sheet.row(row_no);
     case_known(&rest.survey, &rest.edits, row);
     match outcome {

@@ -5,8 +5,8 @@ ghost use Rattle.edit_paths.specs.Cases.{IsCase};
 ghost use Rattle.edit_paths.specs.Outcomes.{outcome_of};
 ghost use Rattle.edit_paths.specs.States.{IsOpen};
 ghost use Rattle.donor_search.specs.CleanRows.{row_at};
-ghost use Rattle.localise_tree.specs.KeptFields.{KeepsChange};
 ghost use Rattle.record_workers.specs.Rests.{IsPieceIn, IsRest, case_in, edits_in, rows_in};
+ghost use Rattle.record_workers.specs.Workers.{KeepsFor};
 ghost use Rattle.record_workers.specs.inner.Searches.{IsRankingIn, RanksIn};
 
 use crate::piece::Piece;
@@ -34,7 +34,7 @@ pub(crate) fn piece_of<F: Fn(u32, &Value, &Value) -> u64, S: Systems, L: Ledger>
     requires row { row_no < length (rows_in rest.now) }
     ensures row { IfOk result (λ piece. piece.row_no ≡ row_no) }
     ensures piece { IfOk result (IsPieceIn rest.now) }
-    ensures kept { IfOk result (λ piece. KeepsChange (S.keeps source.new) (case_in rest.now (row_at (rows_in rest.now) row_no)) piece.outcome) }
+    ensures kept { IfOk result (KeepsFor rest.now (S.keeps source.new)) }
     ensures serves { (e : EditsParts) → S.serves source.old e → S.serves source.new e }
     ensures keeps { (f : ℕ) → S.keeps source.old f ≡ true → S.keeps source.new f ≡ true }
 {

@@ -1,19 +1,24 @@
-//! A worker's source of derived systems.
-ghost use Rattle.std.specs.Prelude.{◌≡◌, ℕ, None, Option, Some};
+//! What a worker finds of one record, with the systems of the pool.
+ghost use Rattle.std.specs.Prelude.{◌≡◌, ◌<◌, ℕ, IfOk, None, Option, Some, length, true};
 ghost use Rattle.shared_edits.specs.Pools.{IsReaderOf, PoolParts, keeps_fields};
+ghost use Rattle.record_workers.specs.Rests.{IsPieceIn, IsRest, rows_in};
+ghost use Rattle.record_workers.specs.Workers.{KeepsFor, kept_by};
 
+use crate::piece::Piece;
+use crate::rest::Rest;
+use crate::search::piece_of;
 use edit_line::Edits;
-use edit_model::FieldSet;
-use foundation::Steps;
+use edit_model::{FieldSet, Value};
+use foundation::{OutOfMemory, Steps};
 use linear_elim::{Held, System, SystemFault, Systems};
-use shared_edits::PoolSource;
+use shared_edits::{PoolSource, Reader};
 use std::alloc::Global;
 use std::marker::{Brand, PhantomData};
 use std::sync::ledger::Ledger;
 use std::sync::{Arc, Wait};
 
 /// What a source is over: a pool, and the borrow of a worker's reader. A search that uses the source leaves them the same.
-pub(crate) trait Lent {
+trait Lent {
     ghost pool: { Option PoolParts };
 
     ghost reader: { ℕ };
@@ -27,9 +32,9 @@ impl Lent for Brand {
 
 /// A source over a pool and a worker's reader, of which it is known which pool and which reader these are.
 #[derive(Drop)]
-pub(crate) struct WorkerSource<'a, R: Wait, N: Lent> {
-    pub(crate) source: PoolSource<'a, R>,
-    pub(crate) lent: PhantomData<N>,
+struct WorkerSource<'a, R: Wait, N: Lent> {
+    source: PoolSource<'a, R>,
+    lent: PhantomData<N>,
 }
 
 impl<'a, R: Wait, N: Lent> Systems for WorkerSource<'a, R, N> {
@@ -63,4 +68,63 @@ impl<'a, R: Wait, N: Lent> Systems for WorkerSource<'a, R, N> {
         own.pool
             .obtain_after(own.rt, alloc, own.reader, before, field, steps)
     }
+}
+
+/// What is found of the record of this number, with the systems of the pool, of which the reader walks more.
+pub(crate) fn find_piece<R: Wait, F: Fn(u32, &Value, &Value) -> u64, L: Ledger>(
+    reader: &mut Reader,
+    rt: &R,
+    alloc: Global,
+    rest: &Rest<F>,
+    row_no: u32,
+    steps: &mut Steps<L>,
+) -> Result<Piece, OutOfMemory>
+    requires rest { IsRest F.Fn rest.now }
+    requires reader { IsReaderOf rest.now.pool reader.old }
+    requires row { row_no < length (rows_in rest.now) }
+    ensures reader { IsReaderOf rest.now.pool reader.new }
+    ensures keeps { (f : ℕ) → kept_by rest.now reader.old f ≡ true → kept_by rest.now reader.new f ≡ true }
+    ensures row { IfOk result (λ piece. piece.row_no ≡ row_no) }
+    ensures piece { IfOk result (IsPieceIn rest.now) }
+    ensures kept { IfOk result (KeepsFor rest.now (kept_by rest.now reader.new)) }
+{
+    let mut found = Err(OutOfMemory);
+    find_lent::<R, F, L, Brand>(reader, rt, alloc, rest, row_no, steps, &mut found);
+    found
+}
+
+// What is found of the record, and the reader, which is given back. The pool and the reader have a mark, by which it is
+// known that the search leaves them the same.
+fn find_lent<'a, R: Wait, F: Fn(u32, &Value, &Value) -> u64, L: Ledger, N: Lent>(
+    reader: &'a mut Reader,
+    rt: &'a R,
+    alloc: Global,
+    rest: &'a Rest<F>,
+    row_no: u32,
+    steps: &mut Steps<L>,
+    found: &mut Result<Piece, OutOfMemory>,
+) -> &'a mut Reader
+    requires lent { (Some rest.now.pool ≡ N.pool) × (reader.ghost_name ≡ N.reader) }
+    requires rest { IsRest F.Fn rest.now }
+    requires reader { IsReaderOf rest.now.pool reader.old }
+    requires row { row_no < length (rows_in rest.now) }
+    ensures same_reader { result.ghost_name ≡ reader.entry.ghost_name }
+    ensures reader { IsReaderOf rest.now.pool result.now }
+    ensures keeps { (f : ℕ) → kept_by rest.now reader.old f ≡ true → kept_by rest.now result.now f ≡ true }
+    ensures row { IfOk found.new (λ piece. piece.row_no ≡ row_no) }
+    ensures piece { IfOk found.new (IsPieceIn rest.now) }
+    ensures kept { IfOk found.new (KeepsFor rest.now (kept_by rest.now result.now)) }
+{
+    let mut own = WorkerSource::<'a, R, N> {
+        source: PoolSource {
+            pool: &rest.pool,
+            reader,
+            rt,
+        },
+        lent: PhantomData,
+    };
+    *found = piece_of(alloc, &mut own, rest, row_no, steps);
+    let WorkerSource { source, .. } = own;
+    let PoolSource { reader, .. } = source;
+    reader
 }

@@ -10,5 +10,6 @@ loop-entry-preserved c =
     let within : e.row_no < c.args.rows = rw (← c.entry-item.is) at (c.requires.within loop.entry-index e c.loop-entry-test.true) in
     record {
       as_many = length-set loop.donors.items e.row_no e.reply ∙ loop.invariant.as_many;
-      lists = donors-more c.args.rows c.args.history.now c.requires.once loop.entry-index e c.loop-entry-test.true c.entry-item.is loop.donors.items loop.invariant.as_many within loop.invariant.lists;
+      lists = donors-more c.args.rows c.args.history.now c.requires.once loop.entry-index e c.loop-entry-test.true c.entry-item.is loop.donors.items
+          loop.invariant.as_many within loop.invariant.lists;
     }

@@ -10,4 +10,10 @@ returns-clause-ready g c =
     let row = c.in_ok-tickets.tickets.row in
     let book = c.in_ok-book.book in
     let ready = c.in_ok-ready.ensures.ready row book c.in_ok-tickets.ensures.fresh c.in_ok-book.ensures.fresh in
-    All-weaker (IsReadyAt row book) (IsReady record { rest = c.args.rest; tickets = c.in_ok-tickets.tickets; book = book }) (λ w is. record { seat = is.seat; pass = is.pass; reader = subst (IsReaderOf c.args.rest.pool) (sym is.reader) (All-nil (IsOf c.args.rest.pool)); pieces = is.pieces }) c.in_ok-ready.ready.items ready
+    All-weaker (IsReadyAt row book) (IsReady record { rest = c.args.rest; tickets = c.in_ok-tickets.tickets; book = book })
+    (λ w is. record {
+      seat = is.seat;
+      pass = is.pass;
+      reader = subst (IsReaderOf c.args.rest.pool) (sym is.reader) (All-nil (IsOf c.args.rest.pool));
+      pieces = is.pieces;
+    }) c.in_ok-ready.ready.items ready

@@ -12,5 +12,6 @@ invariant-loop-number l = record {
   workers : length l.workers.items ≡ l.number;
   fresh : (row : Row) → All (IsFresh row) l.fn.seats.items → All (IsFresh row) l.seats.items;
   unspent : (book : BookName) → All (IsFreshPass book) l.fn.passes.items → All (IsFreshPass book) l.passes.items;
-  ready : (row : Row) (book : BookName) → All (IsFresh row) l.fn.seats.items → All (IsFreshPass book) l.fn.passes.items → All (IsReadyAt row book) l.workers.items;
+  ready : (row : Row) (book : BookName) → All (IsFresh row) l.fn.seats.items → All (IsFreshPass book) l.fn.passes.items
+      → All (IsReadyAt row book) l.workers.items;
 }

@@ -3,8 +3,8 @@ use Rattle.record_workers.specs.Rests.{edits_in, rows_in}
 use Rattle.record_workers.proofs.EndLaws.{IsNoChange, left-out}
 use Rattle.record_workers.proofs.row_ends.end_of.Goals as goal
 
-pub returns-in_default : goal.returns-in_default
-returns-in_default g c =
+pub returns : goal.returns
+returns g c =
     let rest = c.args.rest.now in
     let rows = rows_in rest in
     let piece = c.args.piece in

@@ -19,14 +19,18 @@ use Rattle.bound_cert.specs.declared.cert.Cert.{Cert}
 pub changed_set-changed-requires : goal.changed_set-changed-requires
 changed_set-changed-requires g c = record {
   whole =
-      rw c.letters.ensures (change-whole c.args.rest.now.survey (arc_value c.args.rest.now.edits) c.args.row.now c.args.rest.now.budget c.args.change.path c.args.change.weight c.args.change.cert
+      rw c.letters.ensures
+      (change-whole c.args.rest.now.survey
+      (arc_value c.args.rest.now.edits) c.args.row.now c.args.rest.now.budget c.args.change.path c.args.change.weight c.args.change.cert
       c.case_known.ensures.case c.requires.found);
 }
 
 pub give-requires-clause-path : goal.give-requires-clause-path
 give-requires-clause-path g c =
-    change-given c.args.rest.now.survey (arc_value c.args.rest.now.edits) c.args.row.now c.args.rest.now.budget c.args.change.path c.args.change.weight c.args.change.cert
-    c.case_known.ensures.case c.requires.found (c.requires.rest.same c.args.row.now) c.changed_set-changed.result (c.changed_set-changed.ensures.path ∙ c.letters.ensures)
+    change-given c.args.rest.now.survey
+    (arc_value c.args.rest.now.edits) c.args.row.now c.args.rest.now.budget c.args.change.path c.args.change.weight c.args.change.cert
+    c.case_known.ensures.case c.requires.found (c.requires.rest.same c.args.row.now) c.changed_set-changed.result
+    (c.changed_set-changed.ensures.path ∙ c.letters.ensures)
     c.requires.rest.shape c.requires.rest.budget
 
 pub returns-in-Ok-clause-says : goal.returns-in-Ok-clause-says
@@ -35,18 +39,24 @@ returns-in-Ok-clause-says g c =
     let edits = arc_value c.args.rest.now.edits in
     let same = c.requires.rest.same c.args.row.now in
     let path_is = c.changed_set-changed.ensures.path ∙ c.letters.ensures in
-    let choice = change-choice (case_of survey edits c.args.row.now) c.case_known.ensures.case c.args.rest.now.budget c.args.change.path c.args.change.weight c.args.change.cert c.requires.found in
-    let needed = change-needed survey edits c.args.row.now c.args.rest.now.budget c.args.change.path c.args.change.weight c.args.change.cert c.case_known.ensures.case c.requires.found same c.changed_set-changed.result path_is in
+    let choice = change-choice
+    (case_of survey edits c.args.row.now) c.case_known.ensures.case c.args.rest.now.budget c.args.change.path c.args.change.weight
+    c.args.change.cert c.requires.found in
+    let needed = change-needed survey edits c.args.row.now c.args.rest.now.budget c.args.change.path c.args.change.weight c.args.change.cert
+    c.case_known.ensures.case c.requires.found same c.changed_set-changed.result path_is in
     let (point, completes) = c.in-Ok.ensures.consistent in
     rw c.proof_of.ensures.outcome
     (corrected survey c.args.row.now c.in-Ok.gift.row c.changed_set-changed.result _ point c.requires.row c.in-Ok.ensures.imputed completes
     (λ f there. c.in-Ok.ensures.differs needed point f completes there) c.args.change.path c.args.change.weight path_is choice.1
-    (subst (λ n. IsLeastWeight survey c.args.row.now n) (sym choice.1) (choice-least survey edits c.args.row.now c.case_known.ensures.case same c.args.change.path choice.0))
+    (subst (λ n. IsLeastWeight survey c.args.row.now n) (sym choice.1)
+    (choice-least survey edits c.args.row.now c.case_known.ensures.case same c.args.change.path choice.0))
     (choice-first survey edits c.args.row.now c.case_known.ensures.case same c.args.change.path choice.0))
 
 -- where no values are given, the weight is the least all the same, and the path the first
-least-says : (survey : SurveyParts) (edits : EditsParts) (row : List Value) (budget : ℕ) (path : List Bool) (weight : ℕ) (cert : Cert) (end : RowEnd) → IsCase (case_of survey edits row)
-    → outcome_of (case_of survey edits row) budget ≡ outcome.Change path weight cert → TellCorrections survey edits row → end.proof.outcome ≡ outcome.Change path weight cert → end.gift ≡ None
+least-says : (survey : SurveyParts) (edits : EditsParts) (row : List Value) (budget : ℕ) (path : List Bool) (weight : ℕ) (cert : Cert) (end : RowEnd)
+    → IsCase (case_of survey edits row)
+    → outcome_of (case_of survey edits row) budget ≡ outcome.Change path weight cert → TellCorrections survey edits row
+    → end.proof.outcome ≡ outcome.Change path weight cert → end.gift ≡ None
     → Says survey edits budget row end
 least-says survey edits row budget path weight cert end is found same told none =
     let choice = change-choice (case_of survey edits row) is budget path weight cert found in
@@ -64,5 +74,7 @@ returns-in-Err-Bound-clause-says g c =
 pub returns-in-Err-Test-clause-says : goal.returns-in-Err-Test-clause-says
 returns-in-Err-Test-clause-says g c =
     let rest = c.args.rest.now in
-    least-says rest.survey (arc_value rest.edits) c.args.row.now rest.budget c.args.change.path c.args.change.weight c.args.change.cert c.without_values-in-Err-Test.result
-    c.case_known.ensures.case c.requires.found (c.requires.rest.same c.args.row.now) c.without_values-in-Err-Test.ensures.outcome c.without_values-in-Err-Test.ensures.none.1
+    least-says rest.survey
+    (arc_value rest.edits) c.args.row.now rest.budget c.args.change.path c.args.change.weight c.args.change.cert c.without_values-in-Err-Test.result
+    c.case_known.ensures.case c.requires.found
+    (c.requires.rest.same c.args.row.now) c.without_values-in-Err-Test.ensures.outcome c.without_values-in-Err-Test.ensures.none.1

@@ -37,7 +37,8 @@ ranking-requires-clause-donors g c =
     let rest = c.args.rest.now in
     let rows = rows_in rest in
     subst (λ (ds : List ℕ). All (IsRankable rest.measure.yardsticks rows c.kept_set.result) ds) (sym is_rest.deck)
-    (subst (λ (ys : List Yardstick). All (IsRankable ys rows c.kept_set.result) (donors_of rest.survey rows)) (sym is_rest.yardsticks) (donors_give rest.survey rows is_rest.rows is_rest.plain c.kept_set.result))
+    (subst (λ (ys : List Yardstick). All (IsRankable ys rows c.kept_set.result) (donors_of rest.survey rows)) (sym is_rest.yardsticks)
+    (donors_give rest.survey rows is_rest.rows is_rest.plain c.kept_set.result))
 
 pub ranking-requires-clause-deck : goal.ranking-requires-clause-deck
 ranking-requires-clause-deck g c =
@@ -55,5 +56,7 @@ returns g c =
       fields =
           ap (path_of fields) (c.kept_set.ensures.set ∙ ap (λ (r : List Value). kept_set fields r c.args.path.now) c.row-row.ensures)
           ∙ kept-path (case_in rest (row_at (rows_in rest) c.args.row_no)) c.requires.case c.args.path.now c.requires.whole c.requires.opened;
-      ranked = c.from_vec.ensures ∙ ranking-is g.F.Fn rest c.requires.rest c.args.row_no c.row-row.result.now c.kept_set.result c.in_ok-ranking.ranking.items c.row-row.ensures c.in_ok-ranking.ensures.ranking;
+      ranked = c.from_vec.ensures
+          ∙ ranking-is g.F.Fn rest c.requires.rest c.args.row_no c.row-row.result.now c.kept_set.result c.in_ok-ranking.ranking.items
+          c.row-row.ensures c.in_ok-ranking.ensures.ranking;
     })

@@ -8,9 +8,12 @@ use Rattle.record_workers.proofs.search.ranking_for.Goals as goal
 pub change_ranking-requires-clause-whole : goal.change_ranking-requires-clause-whole
 change_ranking-requires-clause-whole g c =
     let rest = c.args.rest.now in
-    change-whole rest.survey (edits_in rest) (row_at (rows_in rest) c.args.row_no) rest.budget c.in-Change.path c.in-Change.weight c.in-Change.cert c.requires.case (sym c.requires.found ∙ c.in-Change.is)
+    change-whole rest.survey (edits_in rest)
+    (row_at (rows_in rest) c.args.row_no) rest.budget c.in-Change.path c.in-Change.weight c.in-Change.cert c.requires.case
+    (sym c.requires.found ∙ c.in-Change.is)
 
 pub change_ranking-requires-clause-opened : goal.change_ranking-requires-clause-opened
 change_ranking-requires-clause-opened g c =
     let rest = c.args.rest.now in
-    change-open (case_in rest (row_at (rows_in rest) c.args.row_no)) rest.budget c.in-Change.path c.in-Change.weight c.in-Change.cert (sym c.requires.found ∙ c.in-Change.is)
+    change-open (case_in rest (row_at (rows_in rest) c.args.row_no)) rest.budget c.in-Change.path c.in-Change.weight c.in-Change.cert
+    (sym c.requires.found ∙ c.in-Change.is)

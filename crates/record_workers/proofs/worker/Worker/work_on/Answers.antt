@@ -1,0 +1,73 @@
+use Rattle.std.proofs.Common.{◌≡◌, ◌∙◌, ◌++◌, List, [], ◌∷◌, ap, subst, sym}
+use Rattle.std.specs.List.{All}
+use Rattle.std.proofs.lemmas.List.Elements.{All-push}
+use Rattle.record_workers.specs.Rests.{IsPieceIn}
+use Rattle.record_workers.specs.Workers.{AreClaimed, KeepsFor, kept_by}
+use Rattle.record_workers.specs.declared.piece.Piece.{Piece}
+use Rattle.record_workers.proofs.ClaimLaws.{piece-donors}
+use Rattle.record_workers.proofs.ClaimedLaws.{claimed-more}
+use Rattle.record_workers.proofs.KeepLaws.{keeps-later, keeps-more}
+use Rattle.record_workers.proofs.worker.Worker.work_on.Goals as goal
+
+pub claim_for-requires-clause-donors : goal.claim_for-requires-clause-donors
+claim_for-requires-clause-donors g c =
+    let shared = c.args.shared.now in
+    piece-donors shared.rest c.in_ok-piece.piece shared.book.terms.donors c.in_ok-piece.ensures.piece c.requires.shared.donors
+
+pub returns-in_err-piece-clause-worked : goal.returns-in_err-piece-clause-worked
+returns-in_err-piece-clause-worked g c =
+    let rest = c.args.shared.now.rest in
+    let worked = c.requires.worked in
+    let found = c.find_piece.ensures in
+    let keeps = kept_by rest c.find_piece.new.reader in
+    record {
+      seat = worked.seat;
+      pass = worked.pass;
+      reader = found.reader;
+      pieces = worked.pieces;
+      claims = worked.claims;
+      places = worked.places;
+      kept = keeps-later rest (kept_by rest c.args.self.now.reader) keeps found.keeps c.args.self.now.pieces.items worked.kept;
+    }
+
+pub returns-in_err-reserve-clause-worked : goal.returns-in_err-reserve-clause-worked
+returns-in_err-reserve-clause-worked g c =
+    let rest = c.args.shared.now.rest in
+    let worked = c.requires.worked in
+    let found = c.find_piece.ensures in
+    let keeps = kept_by rest c.find_piece.new.reader in
+    let same = sym c.in_err-reserve.ensures.items in
+    let kept = keeps-later rest (kept_by rest c.args.self.now.reader) keeps found.keeps c.args.self.now.pieces.items worked.kept in
+    record {
+      seat = worked.seat;
+      pass = worked.pass;
+      reader = found.reader;
+      pieces = subst (All (IsPieceIn rest)) same worked.pieces;
+      claims = subst (λ (ps : List Piece). AreClaimed ps c.args.self.now.pass) same worked.claims;
+      places = worked.places;
+      kept = subst (All (KeepsFor rest keeps)) same kept;
+    }
+
+pub returns-clause-worked : goal.returns-clause-worked
+returns-clause-worked g c =
+    let rest = c.args.shared.now.rest in
+    let worked = c.requires.worked in
+    let old = c.args.self.now.pieces.items in
+    let keeps = kept_by rest c.find_piece.new.reader in
+    let piece = c.in_ok-piece.piece in
+    let pass = c.claim_for.new.pass in
+    let found = c.in_ok-piece.ensures in
+    let items : c.push_reserved.new.self.items ≡ old ++ piece ∷ [] =
+    c.push_reserved.ensures.items ∙ ap (λ (ps : List Piece). ps ++ piece ∷ []) c.in_ok-reserve.ensures.items in
+    let kept = keeps-more rest (kept_by rest c.args.self.now.reader) keeps found.keeps old worked.kept piece found.kept in
+    record {
+      seat = worked.seat;
+      pass = c.claim_for.ensures.book ∙ worked.pass;
+      reader = found.reader;
+      pieces = subst (All (IsPieceIn rest)) (sym items) (All-push (IsPieceIn rest) old piece worked.pieces found.piece);
+      claims = subst (λ (ps : List Piece). AreClaimed ps pass) (sym items)
+          (claimed-more old piece c.args.self.now.pass pass worked.claims c.args.self.now.seat.drawn (rw found.row c.requires.drawn)
+          c.claim_for.ensures.asked);
+      places = c.claim_for.ensures.placed;
+      kept = subst (All (KeepsFor rest keeps)) (sym items) kept;
+    }
