@@ -1,4 +1,5 @@
 //! The commands that a program has beside those of files.
+ghost use Rattle.std.specs.Thread.{IsSync};
 
 use crate::files::Files;
 use foundation::OutOfMemory;
@@ -30,5 +31,6 @@ pub trait Commands: Drop {
         alloc: Global,
         files: &mut Files,
         words: &[&str],
-    ) -> Result<Vec<Vec<u8>>, OutOfMemory>;
+    ) -> Result<Vec<Vec<u8>>, OutOfMemory>
+        requires sync { IsSync R.row };
 }

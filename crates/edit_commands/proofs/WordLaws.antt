@@ -1,5 +1,5 @@
 -- Runs that are refused before anything is asked of the desk.
-use Rattle.std.proofs.Common.{◌≡◌, ◌∙◌, ℕ, List, [], ◌++◌, Option, Some, None, IfSome, append_nil, subst, sym}
+use Rattle.std.proofs.Common.{◌≡◌, ◌∙◌, ℕ, List, [], ◌++◌, Option, Some, None, IfSome, append-nil, subst, sym}
 use Rattle.edit_desk.specs.Desk.{Asked, Files, PutsOnRecord, Told}
 use Rattle.edit_commands.specs.Faults.{fault_status, fault_text}
 use Rattle.edit_commands.specs.Run.{AreCallsTo, IsLinePrinted, IsRefused, Refusals, Run, faults_by}
@@ -36,7 +36,7 @@ untouched-refused command fault answer run untouched printed ended met called no
   status = ended;
   kind = met;
   cause = if-told run.before.files (λ files. command.refuses files fault) called;
-  calls = told-same run.before.calls run.after.calls _ untouched.calls (λ calls. ([], sym (append_nil calls), none));
+  calls = told-same run.before.calls run.after.calls _ untouched.calls (λ calls. ([], sym (append-nil calls), none));
   files = told-same run.before.files run.after.files (command.leaves fault) untouched.files left;
   faults = untouched.faults ∙ sym (counted run.before.faults);
   printed = printed;

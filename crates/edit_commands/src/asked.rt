@@ -16,7 +16,7 @@ pub(crate) enum Asked<'a> {
 }
 
 /// What the words ask for.
-pub(crate) fn asked<'a>(alloc: Global, words: &'a [String]) -> Result<Asked<'a>, OutOfMemory>
+pub(crate) fn read_words<'a>(alloc: Global, words: &'a [String]) -> Result<Asked<'a>, OutOfMemory>
     ensures { IfOk result (Asks words.entry.now) }
 {
     match edit_asked(alloc, words) {

@@ -7,7 +7,7 @@ ghost use Rattle.edit_commands.specs.Readings.{AnswersDue, IsCheckDue, IsDue, Is
 ghost use Rattle.edit_commands.specs.RulesRun.{IsRuled, IsRulesComplete, IsRulesStopped};
 ghost use Rattle.edit_commands.specs.Run.{IsRefused, ran, word_refusals};
 
-use crate::asked::{Asked, asked};
+use crate::asked::{Asked, read_words};
 use crate::check_run::run_check;
 use crate::edit_run::run_edit;
 use crate::fault::{OUT_OF_MEMORY, USAGE};
@@ -79,7 +79,7 @@ pub fn fh_main<R: Threads + Wait + Sync, D: Desk, P: Printer, G: Gate>(
     // Rules that are too long or have no reading are told exactly where they are so.
     ensures rules_due { ForRules words.now (λ ask. IfSome (D.files desk.old) (λ files. AnswersDue (IsRulesDue ask files) result)) }
 {
-    match asked(alloc, words) {
+    match read_words(alloc, words) {
         Ok(Asked::Edit(edit)) => run_edit(rt, alloc, &edit, desk, printer, gate),
         Ok(Asked::Check(check)) => run_check(alloc, &check, desk, printer),
         Ok(Asked::Rules(rules)) => run_rules(alloc, &rules, desk, printer),

@@ -1,64 +1,97 @@
+use Rattle.std.proofs.Common.{inl, refl}
+use Rattle.edit_commands.specs.CheckRun.{check_refusals}
+use Rattle.edit_commands.specs.EditRun.{edit_refusals}
+use Rattle.edit_commands.specs.RulesRun.{rules_refusals}
+use Rattle.edit_commands.specs.Run.{word_refusals}
+use Rattle.edit_commands.specs.declared.fault.Fault.TheVariants as fault
+use Rattle.edit_commands.proofs.WordLaws.{untouched-refused}
 use Rattle.edit_commands.proofs.run.fh_main.Goals as goal
 
-pub returns-in-Some-clause-edited : goal.returns-in-Some-clause-edited
-returns-in-Some-clause-edited g c = λ ended asked is. rw (c.in-Some.ensures.only asked is) (c.run_edit.ensures.edited ended)
+-- ---- an edit
 
-pub returns-in-Some-clause-edit_stopped : goal.returns-in-Some-clause-edit_stopped
-returns-in-Some-clause-edit_stopped g c = λ not asked is. rw (c.in-Some.ensures.only asked is) (c.run_edit.ensures.stopped not)
+pub returns-in-Ok-Edit-clause-unasked : goal.returns-in-Ok-Edit-clause-unasked
+returns-in-Ok-Edit-clause-unasked g c = λ none. absurd (none.no_edit c.in-Ok-Edit.edit (rw c.in-Ok-Edit.field-0-is at c.in-Ok-Edit.ensures).0)
 
-pub returns-in-Some-clause-edit_complete : goal.returns-in-Some-clause-edit_complete
-returns-in-Some-clause-edit_complete g c = λ asked is. rw (c.in-Some.ensures.only asked is) c.run_edit.ensures.complete
+pub returns-in-Ok-Edit-clause-edited : goal.returns-in-Ok-Edit-clause-edited
+returns-in-Ok-Edit-clause-edited g c = λ ended asked is. rw ((rw c.in-Ok-Edit.field-0-is at c.in-Ok-Edit.ensures).1 asked is) (c.run_edit.ensures.edited ended)
 
-pub returns-in-Some-clause-edit_due : goal.returns-in-Some-clause-edit_due
-returns-in-Some-clause-edit_due g c = λ asked is. rw (c.in-Some.ensures.only asked is) c.run_edit.ensures.due
+pub returns-in-Ok-Edit-clause-edit_stopped : goal.returns-in-Ok-Edit-clause-edit_stopped
+returns-in-Ok-Edit-clause-edit_stopped g c = λ not asked is. rw ((rw c.in-Ok-Edit.field-0-is at c.in-Ok-Edit.ensures).1 asked is) (c.run_edit.ensures.stopped not)
 
-pub returns-in-Some-check_asked-clause-checked : goal.returns-in-Some-check_asked-clause-checked
-returns-in-Some-check_asked-clause-checked g c = λ done asked is. rw (c.in-Some-check_asked.ensures.only asked is) (c.run_check.ensures.checked done)
+pub returns-in-Ok-Edit-clause-edit_complete : goal.returns-in-Ok-Edit-clause-edit_complete
+returns-in-Ok-Edit-clause-edit_complete g c = λ asked is. rw ((rw c.in-Ok-Edit.field-0-is at c.in-Ok-Edit.ensures).1 asked is) c.run_edit.ensures.complete
 
-pub returns-in-Some-check_asked-clause-check_stopped : goal.returns-in-Some-check_asked-clause-check_stopped
-returns-in-Some-check_asked-clause-check_stopped g c = λ not asked is. rw (c.in-Some-check_asked.ensures.only asked is) (c.run_check.ensures.stopped not)
+pub returns-in-Ok-Edit-clause-edit_due : goal.returns-in-Ok-Edit-clause-edit_due
+returns-in-Ok-Edit-clause-edit_due g c = λ asked is. rw ((rw c.in-Ok-Edit.field-0-is at c.in-Ok-Edit.ensures).1 asked is) c.run_edit.ensures.due
 
-pub returns-in-Some-check_asked-clause-check_complete : goal.returns-in-Some-check_asked-clause-check_complete
-returns-in-Some-check_asked-clause-check_complete g c = λ asked is. rw (c.in-Some-check_asked.ensures.only asked is) c.run_check.ensures.complete
+-- ---- a check
 
-pub returns-in-Some-check_asked-clause-check_due : goal.returns-in-Some-check_asked-clause-check_due
-returns-in-Some-check_asked-clause-check_due g c = λ asked is. rw (c.in-Some-check_asked.ensures.only asked is) c.run_check.ensures.due
+pub returns-in-Ok-Check-clause-unasked : goal.returns-in-Ok-Check-clause-unasked
+returns-in-Ok-Check-clause-unasked g c = λ none. absurd (none.no_check c.in-Ok-Check.check (rw c.in-Ok-Check.field-0-is at c.in-Ok-Check.ensures).0)
 
-pub returns-clause-edit_stopped : goal.returns-clause-edit_stopped
-returns-clause-edit_stopped g c = λ not asked is. absurd (c.in_default.ensures.none asked is)
+pub returns-in-Ok-Check-clause-check_due : goal.returns-in-Ok-Check-clause-check_due
+returns-in-Ok-Check-clause-check_due g c = λ asked is. rw ((rw c.in-Ok-Check.field-0-is at c.in-Ok-Check.ensures).1 asked is) c.run_check.ensures.due
 
-pub returns-clause-edit_complete : goal.returns-clause-edit_complete
-returns-clause-edit_complete g c = λ asked is. absurd (c.in_default.ensures.none asked is)
+-- ---- rules
 
-pub returns-clause-edit_due : goal.returns-clause-edit_due
-returns-clause-edit_due g c = λ asked is. absurd (c.in_default.ensures.none asked is)
+pub returns-in-Ok-Rules-clause-unasked : goal.returns-in-Ok-Rules-clause-unasked
+returns-in-Ok-Rules-clause-unasked g c = λ none. absurd (none.no_rules c.in-Ok-Rules.rules (rw c.in-Ok-Rules.field-0-is at c.in-Ok-Rules.ensures).0)
 
-pub returns-clause-check_stopped : goal.returns-clause-check_stopped
-returns-clause-check_stopped g c = λ not asked is. absurd (c.in_default-check_asked.ensures.none asked is)
+pub returns-in-Ok-Rules-clause-rules_due : goal.returns-in-Ok-Rules-clause-rules_due
+returns-in-Ok-Rules-clause-rules_due g c = λ asked is. rw ((rw c.in-Ok-Rules.field-0-is at c.in-Ok-Rules.ensures).1 asked is) c.run_rules.ensures.due
 
-pub returns-clause-check_complete : goal.returns-clause-check_complete
-returns-clause-check_complete g c = λ asked is. absurd (c.in_default-check_asked.ensures.none asked is)
+-- ---- words that are no command
 
-pub returns-clause-check_due : goal.returns-clause-check_due
-returns-clause-check_due g c = λ asked is. absurd (c.in_default-check_asked.ensures.none asked is)
+pub returns-in-Ok-Nothing-clause-unasked : goal.returns-in-Ok-Nothing-clause-unasked
+returns-in-Ok-Nothing-clause-unasked g c = λ none.
+    untouched-refused word_refusals fault.Usage c.refuse.result _ (record { files = refl; calls = refl; faults = refl })
+    c.refuse.ensures.printed c.refuse.ensures.status tt (λ files. tt) refl (λ files. refl) (λ count. refl)
 
-pub returns-in-Some-rules_asked-clause-ruled : goal.returns-in-Some-rules_asked-clause-ruled
-returns-in-Some-rules_asked-clause-ruled g c = λ done asked is. rw (c.in-Some-rules_asked.ensures.only asked is) (c.run_rules.ensures.ruled done)
+pub returns-in-Ok-Nothing-clause-edit_stopped : goal.returns-in-Ok-Nothing-clause-edit_stopped
+returns-in-Ok-Nothing-clause-edit_stopped g c = λ not asked is. absurd ((rw c.in-Ok-Nothing.field-0-is at c.in-Ok-Nothing.ensures).no_edit asked is)
 
-pub returns-in-Some-rules_asked-clause-rules_stopped : goal.returns-in-Some-rules_asked-clause-rules_stopped
-returns-in-Some-rules_asked-clause-rules_stopped g c = λ not asked is. rw (c.in-Some-rules_asked.ensures.only asked is) (c.run_rules.ensures.stopped not)
+pub returns-in-Ok-Nothing-clause-edit_complete : goal.returns-in-Ok-Nothing-clause-edit_complete
+returns-in-Ok-Nothing-clause-edit_complete g c = λ asked is. absurd ((rw c.in-Ok-Nothing.field-0-is at c.in-Ok-Nothing.ensures).no_edit asked is)
 
-pub returns-in-Some-rules_asked-clause-rules_complete : goal.returns-in-Some-rules_asked-clause-rules_complete
-returns-in-Some-rules_asked-clause-rules_complete g c = λ asked is. rw (c.in-Some-rules_asked.ensures.only asked is) c.run_rules.ensures.complete
+pub returns-in-Ok-Nothing-clause-edit_due : goal.returns-in-Ok-Nothing-clause-edit_due
+returns-in-Ok-Nothing-clause-edit_due g c = λ asked is. absurd ((rw c.in-Ok-Nothing.field-0-is at c.in-Ok-Nothing.ensures).no_edit asked is)
 
-pub returns-in-Some-rules_asked-clause-rules_due : goal.returns-in-Some-rules_asked-clause-rules_due
-returns-in-Some-rules_asked-clause-rules_due g c = λ asked is. rw (c.in-Some-rules_asked.ensures.only asked is) c.run_rules.ensures.due
+pub returns-in-Ok-Nothing-clause-check_stopped : goal.returns-in-Ok-Nothing-clause-check_stopped
+returns-in-Ok-Nothing-clause-check_stopped g c = λ not asked is. absurd ((rw c.in-Ok-Nothing.field-0-is at c.in-Ok-Nothing.ensures).no_check asked is)
 
-pub returns-clause-rules_stopped : goal.returns-clause-rules_stopped
-returns-clause-rules_stopped g c = λ not asked is. absurd (c.in_default-rules_asked.ensures.none asked is)
+pub returns-in-Ok-Nothing-clause-check_complete : goal.returns-in-Ok-Nothing-clause-check_complete
+returns-in-Ok-Nothing-clause-check_complete g c = λ asked is. absurd ((rw c.in-Ok-Nothing.field-0-is at c.in-Ok-Nothing.ensures).no_check asked is)
 
-pub returns-clause-rules_complete : goal.returns-clause-rules_complete
-returns-clause-rules_complete g c = λ asked is. absurd (c.in_default-rules_asked.ensures.none asked is)
+pub returns-in-Ok-Nothing-clause-check_due : goal.returns-in-Ok-Nothing-clause-check_due
+returns-in-Ok-Nothing-clause-check_due g c = λ asked is. absurd ((rw c.in-Ok-Nothing.field-0-is at c.in-Ok-Nothing.ensures).no_check asked is)
 
-pub returns-clause-rules_due : goal.returns-clause-rules_due
-returns-clause-rules_due g c = λ asked is. absurd (c.in_default-rules_asked.ensures.none asked is)
+pub returns-in-Ok-Nothing-clause-rules_stopped : goal.returns-in-Ok-Nothing-clause-rules_stopped
+returns-in-Ok-Nothing-clause-rules_stopped g c = λ not asked is. absurd ((rw c.in-Ok-Nothing.field-0-is at c.in-Ok-Nothing.ensures).no_rules asked is)
+
+pub returns-in-Ok-Nothing-clause-rules_complete : goal.returns-in-Ok-Nothing-clause-rules_complete
+returns-in-Ok-Nothing-clause-rules_complete g c = λ asked is. absurd ((rw c.in-Ok-Nothing.field-0-is at c.in-Ok-Nothing.ensures).no_rules asked is)
+
+pub returns-in-Ok-Nothing-clause-rules_due : goal.returns-in-Ok-Nothing-clause-rules_due
+returns-in-Ok-Nothing-clause-rules_due g c = λ asked is. absurd ((rw c.in-Ok-Nothing.field-0-is at c.in-Ok-Nothing.ensures).no_rules asked is)
+
+-- ---- words for which there was no memory
+
+pub returns-in-Err-clause-unasked : goal.returns-in-Err-clause-unasked
+returns-in-Err-clause-unasked g c = λ none.
+    untouched-refused word_refusals fault.OutOfMemory c.refuse-in-Err.result _ (record { files = refl; calls = refl; faults = refl })
+    c.refuse-in-Err.ensures.printed c.refuse-in-Err.ensures.status tt (λ files. tt) (0, refl) (λ files. refl) (λ count. refl)
+
+pub returns-in-Err-clause-edit_stopped : goal.returns-in-Err-clause-edit_stopped
+returns-in-Err-clause-edit_stopped g c = λ not asked is. inl (
+    untouched-refused (edit_refusals asked) fault.OutOfMemory c.refuse-in-Err.result _ (record { files = refl; calls = refl; faults = refl })
+    c.refuse-in-Err.ensures.printed c.refuse-in-Err.ensures.status tt (λ files. tt) (0, refl) (λ files. inl refl) (λ count. refl))
+
+pub returns-in-Err-clause-check_stopped : goal.returns-in-Err-clause-check_stopped
+returns-in-Err-clause-check_stopped g c = λ not asked is. inl (
+    untouched-refused (check_refusals asked) fault.OutOfMemory c.refuse-in-Err.result _ (record { files = refl; calls = refl; faults = refl })
+    c.refuse-in-Err.ensures.printed c.refuse-in-Err.ensures.status tt (λ files. tt) (0, refl) (λ files. refl) (λ count. refl))
+
+pub returns-in-Err-clause-rules_stopped : goal.returns-in-Err-clause-rules_stopped
+returns-in-Err-clause-rules_stopped g c = λ not asked is. inl (
+    untouched-refused (rules_refusals asked) fault.OutOfMemory c.refuse-in-Err.result _ (record { files = refl; calls = refl; faults = refl })
+    c.refuse-in-Err.ensures.printed c.refuse-in-Err.ensures.status tt (λ files. tt) (0, refl) (λ files. refl) (λ count. refl))
