@@ -110,6 +110,51 @@ An option without a value, with an empty one, with one that begins as an option 
   [2]
   $ calls
 
+The options stand as `clap` takes them: with their values behind a sign of equality too, which may be empty or begin with a dash;
+a dash alone is a value, and two dashes may end the words.
+
+  $ forxainde rules --rules=rules
+  1 kept needed A - 3 >= 0
+  $ forxainde rules --rules rules --
+  1 kept needed A - 3 >= 0
+  $ forxainde rules --rules=-x
+  fault: read -x
+  [5]
+  $ forxainde rules --rules -
+  fault: read -
+  [5]
+  $ forxainde rules --rules ''
+  fault: read 
+  [5]
+  $ forxainde rules --rules=
+  fault: read 
+  [5]
+
+A value behind a blank that begins as an option does, a word behind two dashes, a part of an option's name, and flags that ask for help.
+
+  $ forxainde rules --rules -x
+  fault: usage
+  [2]
+  $ forxainde rules -- --rules rules
+  fault: usage
+  [2]
+  $ forxainde rules --rule rules
+  fault: usage
+  [2]
+  $ forxainde rules --help
+  fault: usage
+  [2]
+  $ forxainde rules -h
+  fault: usage
+  [2]
+  $ forxainde --help
+  fault: usage
+  [2]
+  $ forxainde --version
+  fault: usage
+  [2]
+  $ calls
+
 Options of other commands, and of none.
 
   $ forxainde edit --rules rules --records records --released released --reasons reasons --proof proof --far 5
