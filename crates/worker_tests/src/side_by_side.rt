@@ -21,6 +21,9 @@ use std::thread::Threads;
 /// How often a worker that is held looks before it gives up.
 const TURNS: u32 = 1_000_000_000;
 
+/// How often the worker that drew the other row looks away, so that the one that was held can end first.
+const LOOKS: u32 = 200_000;
+
 /// The gate that holds the worker that drew one row until another row was drawn.
 #[derive(Drop)]
 struct Hold {
@@ -63,6 +66,23 @@ impl Gate for Hold {
         }
         if row_no == self.row_no && !self.waits() {
             self.given_up.store(1, Ordering::SeqCst);
+        }
+    }
+}
+
+/// The gate that also keeps the worker that drew the other row waiting, while the one that was held goes on.
+#[derive(Drop)]
+struct Relay {
+    hold: Hold,
+}
+
+impl Gate for Relay {
+    fn at(&self, worker: u32, row_no: u32) {
+        self.hold.at(worker, row_no);
+        if row_no == self.hold.until {
+            for _ in 0..LOOKS {
+                thread::yield_now();
+            }
         }
     }
 }
@@ -186,7 +206,9 @@ fn a_worker_draws_while_another_is_held(rt: HostRuntime) -> Result<(), Fail> {
 
 #[test]
 fn a_worker_claims_before_it_draws_again(rt: HostRuntime) -> Result<(), Fail> {
-    let gate = Hold::new(1, 3);
+    let gate = Relay {
+        hold: Hold::new(1, 3),
+    };
     let Seen { ends, history, .. } = edited(
         &rt,
         rt.alloc(),
@@ -195,7 +217,7 @@ fn a_worker_claims_before_it_draws_again(rt: HostRuntime) -> Result<(), Fail> {
         2,
         &gate,
     )?;
-    assert!(rt; !gate.has_given_up());
+    assert!(rt; !gate.hold.has_given_up());
     assert_eq!(rt; history.len(), 2);
     assert!(rt; is_claim(&history[0], 2, Some(0)) && is_claim(&history[1], 1, None));
     assert!(rt; ends.len() == 4 && has_number(&ends[1], 1, 1) && has_number(&ends[2], 1, 4));
