@@ -11,7 +11,8 @@
 # nothing, and a machine with other work says little. The line `clean` is the same file without an error: what is read, tested
 # and written, mostly one thread's.
 #
-# Whatever the workers, the released file has the same records, and the first line of the summary is the same: the script says so.
+# Whatever the workers, the first line of the summary is the same, where no number leaves 128 bits while values are given; the
+# script says whether it was.
 set -eu
 top=$(cd "$(dirname "$0")/.." && pwd)
 program=${PROGRAM:-$("$top/forxainde" --where)}      # another build, or the checkout's, which is built first where it is not
