@@ -12,12 +12,13 @@ is_printable byte = (byte == 32) || is_ascii_graphic byte
 abbrev pub digit : ℕ → ℕ
 digit n = slice_index (codes "0123456789abcdef") n
 
--- a byte of an escaped line: a backslash is doubled, and what is not printable is a backslash, an x and two digits
+-- a backslash, an x and the byte's two digits of base 16
+abbrev pub escaped_byte : ℕ → List ℕ
+escaped_byte byte = 92 ∷ 120 ∷ digit (byte / 16) ∷ digit (byte % 16) ∷ []
+
+-- a byte of an escaped line: a backslash is doubled, and what is not printable is told by its digits
 abbrev pub byte_spelling : ℕ → List ℕ
-byte_spelling byte =
-    if byte == 92 then 92 ∷ 92 ∷ []
-    else if is_printable byte then byte ∷ []
-    else 92 ∷ 120 ∷ digit (byte / 16) ∷ digit (byte % 16) ∷ []
+byte_spelling byte = if byte == 92 then 92 ∷ 92 ∷ [] else if is_printable byte then byte ∷ [] else escaped_byte byte
 
 -- the line stands as it is: all of it is printable, and its end is not that of another spelling
 abbrev pub is_plain : List ℕ → Bool
