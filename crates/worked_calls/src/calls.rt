@@ -1,15 +1,14 @@
 //! The calls, by the words of their commands.
 
-use crate::derivations::{steps_told, tree_told};
-use crate::outcomes::search_told;
 use crate::ranking::{measured_told, rank_told};
-use crate::values::{values_from, values_told};
 use case_files::{Commands, Files, Role, failing};
 use foundation::OutOfMemory;
 use line_calls::{
     CallFault, Texts, boxes_told, bytes_in, dropped_told, lines_told, negations_told, number_in,
     pairs_told, place_in, prune_told, row_of, sums_told, survey_in, system_told,
 };
+use proof_calls::{steps_told, tree_told};
+use search_calls::{search_told, values_from, values_told};
 use std::alloc::Global;
 use std::sync::Wait;
 use std::thread::Threads;

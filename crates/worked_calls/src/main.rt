@@ -3,11 +3,7 @@
 #![tactic(auto)]
 
 mod calls;
-mod derivations;
-mod outcomes;
-mod proofs_read;
 mod ranking;
-mod values;
 
 use calls::Calls;
 use case_files::run_program;

@@ -4,13 +4,13 @@ ghost use Rattle.std.specs.List.{AllByRecursion};
 ghost use Rattle.edit_model.specs.PlainNumbers.{HasPlain};
 ghost use Rattle.edit_model.specs.Rows.{IsRow};
 
-use crate::derivations::path_of;
 use bound_cert::Path;
 use donor_measure::{Measure, field_distance};
 use donor_search::{Deck, ranking};
 use edit_model::{Survey, Value};
 use foundation::Steps;
 use line_calls::{CallFault, Texts, alone, from_one};
+use proof_calls::path_of;
 use record_text::{Sheet, read_records};
 use std::alloc::Global;
 use std::cell::Cell;

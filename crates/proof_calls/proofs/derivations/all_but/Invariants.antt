@@ -1,5 +1,5 @@
 use Rattle.std.proofs.Common.{◌≡◌, length}
-use Rattle.worked_calls.proofs.derivations.all_but.Given as goal
+use Rattle.proof_calls.proofs.derivations.all_but.Given as goal
 
 abbrev pub invariant-loop-i : goal.invariant-loop-i
 invariant-loop-i l = length l.usable.items ≡ l.i

@@ -1,4 +1,4 @@
-use Rattle.worked_calls.proofs.outcomes.outcome_of.Given as goal
+use Rattle.search_calls.proofs.outcomes.outcome_of.Given as goal
 
 abbrev pub ghosts-counted_outcome : goal.ghosts-counted_outcome
 ghosts-counted_outcome a = record { name = a.blank.name; parts = a.blank.parts }
