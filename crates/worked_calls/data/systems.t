@@ -48,6 +48,21 @@ without Profit none, since both other lines bound it from above.
   $ pairs trade Costs Profit
   0 pairs
 
+The same with the equality as two inequalities: without Costs two pairs are combined, of which one says nothing.
+
+  $ cp trade two
+  $ sed -i -e '6c\Turnover - Costs - Profit >= 0\nTurnover - Costs - Profit <= 0' two
+  $ system two Costs
+  same 1: Turnover >= 0
+  same 5: 3 Turnover - 5 Profit >= 0
+  combine 2 1 3 1 1: Turnover - Profit >= 0
+  $ system two Costs Profit
+  same 1: Turnover >= 0
+  $ pairs two Costs
+  2 pairs
+  $ pairs two Costs Profit
+  0 pairs
+
 Two equalities: the first is substituted into the second, and their common divisor is 2.
 
   $ cat >sums <<EOF
@@ -66,6 +81,12 @@ Above 0 and at most 0: what is left is false, since one of the two is strict.
   > A > 0
   > A <= 0
   > EOF
+  $ system strict A
+  combine 1 1 2 1 1: never
+  $ sed -i -e '3c\-A >= 0' strict
+  $ system strict
+  given 1: A > 0
+  given 2: -A >= 0
   $ system strict A
   combine 1 1 2 1 1: never
   $ cat >touching <<EOF
