@@ -1,4 +1,4 @@
-//! What a survey finds, and fields that make none.
+//! What a survey finds, and which fields make none.
 
 use edit_language::read_rules;
 use edit_model::{Field, Kind, Name, Survey, SurveyFault};
@@ -25,6 +25,29 @@ fn a_name_is_declared_once(rt: HostRuntime) -> Result<(), Fail> {
     let two = fields_of_one_name(rt.alloc(), 2)?;
     assert!(rt; matches!(two, Err(SurveyFault::Malformed)));
     assert!(rt; Name::new(b"abcdefghijklmnopqrstuvwxyz0123456").is_none());
+    Ok(())
+}
+
+/// A survey of one number of this weight, or why it makes none.
+fn number_of_weight(alloc: Global, weight: u32) -> Result<Result<Survey, SurveyFault>, Fail> {
+    let mut fields = Vec::new(alloc);
+    fields.push(Field {
+        name: Name::new(b"A").ok_or("a name of one byte")?,
+        weight,
+        kind: Kind::Number { scale: 1 },
+    })?;
+    Ok(Survey::new(alloc, fields, Vec::new(alloc)))
+}
+
+#[test]
+fn a_weight_is_from_1_to_1000(rt: HostRuntime) -> Result<(), Fail> {
+    let none = number_of_weight(rt.alloc(), 0)?;
+    assert!(rt; matches!(none, Err(SurveyFault::Malformed)));
+    let least = number_of_weight(rt.alloc(), 1)?;
+    let greatest = number_of_weight(rt.alloc(), 1000)?;
+    assert!(rt; least.is_ok() && greatest.is_ok());
+    let beyond = number_of_weight(rt.alloc(), 1001)?;
+    assert!(rt; matches!(beyond, Err(SurveyFault::Malformed)));
     Ok(())
 }
 
