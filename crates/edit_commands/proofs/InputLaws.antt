@@ -5,7 +5,7 @@ use Rattle.record_text.specs.Sheets.{SheetParts}
 use Rattle.edit_desk.specs.Desk.{Files, IsLonger}
 use Rattle.edit_commands.specs.Faults.{fault_status}
 use Rattle.edit_commands.specs.Readings.{AnswersDue, HoldsRecords, HoldsRules, IsInputDue, RefusesInput, WithSheet}
-use Rattle.edit_commands.specs.inner.Parts.{IsOfRecords, IsOfStores, RefusesRecords}
+use Rattle.edit_commands.specs.inner.Parts.{IsOfRecords, IsOfRules, IsOfStores, RefusesRecords, RefusesRules}
 use Rattle.edit_commands.specs.declared.fault.Fault.{Fault}
 use Rattle.edit_commands.specs.declared.fault.Fault.TheVariants as fault
 use Rattle.edit_commands.specs.declared.status.Status.{Status}
@@ -77,7 +77,23 @@ module _ (rules records : List ℕ) (files : Files) where
     records-due fault.OutOfMemory kind why = λ s due. inr (inr refl)
     records-due f kind why = absurd kind
 
+    -- they are refused for what their reading says
+    pub records-refuse : (f : Fault) → IsOfRecords records f → RefusesRecords records survey.fields files f → RefusesInput rules records files f
+    records-refuse (fault.Records what) kind why = (survey, hr, why)
+    records-refuse (fault.Read name) kind why = inr (kind, survey, hr, tt)
+    records-refuse (fault.TooLong name) kind why = (inr (kind, survey, hr, tt), why)
+    records-refuse fault.OutOfMemory kind why = tt
+    records-refuse f kind why = absurd kind
+
   -- ---- other refusals
+
+  -- the rules are refused for what their reading says
+  pub rules-refuse-input : (f : Fault) → IsOfRules rules f → RefusesRules rules files f → RefusesInput rules records files f
+  rules-refuse-input (fault.Rules line k) kind why = why
+  rules-refuse-input (fault.Read name) kind why = inl kind
+  rules-refuse-input (fault.TooLong name) kind why = (inl kind, why)
+  rules-refuse-input fault.OutOfMemory kind why = tt
+  rules-refuse-input f kind why = absurd kind
 
   -- a fault of a store says nothing of the files
   pub stores-refuse : (f : Fault) → IsOfStores f → RefusesInput rules records files f
@@ -90,8 +106,8 @@ module _ (rules records : List ℕ) (files : Files) where
   read-beside (fault.Rules line k) survey s hr hs why = not_unread files rules survey hr (weaker files rules MOST_BYTES (λ bytes no. no.unread) why)
   read-beside (fault.Records what) survey s hr hs (other, held, unread) =
       not_unread_records files records survey other s (one_survey files rules survey other hr held) hs (weaker files records MOST_BYTES (λ bytes none. none.unread) unread)
-  read-beside (fault.TooLong name) survey s hr hs (inl (same, long)) = not_longer files rules MOST_BYTES hr (subst (λ (n : List ℕ). IsLonger files n MOST_BYTES) same long)
-  read-beside (fault.TooLong name) survey s hr hs (inr (same, other, held, long)) = not_longer files records MOST_BYTES hs (subst (λ (n : List ℕ). IsLonger files n MOST_BYTES) same long)
+  read-beside (fault.TooLong name) survey s hr hs (inl same, long) = not_longer files rules MOST_BYTES hr (subst (λ (n : List ℕ). IsLonger files n MOST_BYTES) same long)
+  read-beside (fault.TooLong name) survey s hr hs (inr (same, other, held, done), long) = not_longer files records MOST_BYTES hs (subst (λ (n : List ℕ). IsLonger files n MOST_BYTES) same long)
   read-beside (fault.Read name) survey s hr hs why = tt
   read-beside (fault.Write name) survey s hr hs why = tt
   read-beside fault.OutOfMemory survey s hr hs why = tt

@@ -62,6 +62,6 @@ module _ (asked : RulesAsked) (files : Files) where
   pub rules-refuse : (f : Fault) → IsOfRules asked.rules f → RefusesRules asked.rules files f → RefusesRulesCommand asked files f
   rules-refuse (fault.Rules line k) kind why = why
   rules-refuse (fault.TooLong name) kind why = (kind, why)
-  rules-refuse (fault.Read name) kind why = tt
+  rules-refuse (fault.Read name) kind why = kind
   rules-refuse fault.OutOfMemory kind why = tt
   rules-refuse f kind why = absurd kind

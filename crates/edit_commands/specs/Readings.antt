@@ -77,42 +77,54 @@ abbrev pub WithSheet : Files → List ℕ → List ℕ → (SurveyParts → Shee
 WithSheet files rules records P =
     WithRules files rules (λ survey. (sheet : SheetParts) × HoldsRecords files records survey.fields sheet × P survey sheet)
 
--- why the rules and the records, in files of these names, are refused; a file that could not be read or written, and want
--- of memory, say nothing of them
+-- the file of this name is fetched where these two are: it is the rules, or it is the records and the rules were read
+abbrev pub IsInput : List ℕ → List ℕ → Files → List ℕ → Type 0
+IsInput rules records files name = (name ≡ rules) ⊎ ((name ≡ records) × WithRules files rules (λ survey. ⊤))
+
+-- why the rules and the records, in files of these names, are refused; a file that could not be read is one of them, in their order;
+-- one that could not be written, and want of memory, say nothing of them
 abbrev pub RefusesInput : List ℕ → List ℕ → Files → Fault → Type 0
 RefusesInput rules records files (fault.Rules line kind) = HoldsText files rules (AreNoRules line kind)
 RefusesInput rules records files (fault.Records what) =
     WithRules files rules (λ survey. HoldsText files records (AreNoRecords survey.fields what))
-RefusesInput rules records files (fault.TooLong name) =
-    ((name ≡ rules) × IsLonger files name MOST_BYTES)
-    ⊎ ((name ≡ records) × (survey : SurveyParts) × HoldsRules files rules survey × IsLonger files name MOST_BYTES)
+RefusesInput rules records files (fault.TooLong name) = IsInput rules records files name × IsLonger files name MOST_BYTES
+RefusesInput rules records files (fault.Read name) = IsInput rules records files name
+RefusesInput rules records files (fault.Write name) = ⊤
+RefusesInput rules records files fault.OutOfMemory = ⊤
 RefusesInput rules records files fault.Usage = ⊥
 RefusesInput rules records files (fault.Rejected line why) = ⊥
-RefusesInput rules records files fault = ⊤
 
 -- why the files of an edit are refused
 abbrev pub Refuses : EditAsked → Files → Fault → Type 0
 Refuses asked files fault = RefusesInput asked.names.rules asked.names.records files fault
 
--- a released file, or a proof, behind rules and records that were read, is too long
-abbrev pub IsTooLong : CheckAsked → Files → List ℕ → Type 0
-IsTooLong asked files name = WithSheet files asked.rules asked.records (λ survey sheet.
-    ((name ≡ asked.released) × IsLonger files name MOST_BYTES)
-    ⊎ ((name ≡ asked.proof) × (bytes : List ℕ) × HoldsBytes files asked.released MOST_BYTES bytes × IsLonger files name MOST_PROOF_BYTES))
+-- the file of this name is fetched behind rules and records that were read: it is the released file, with this limit, or it is the
+-- proof, with its own, behind a released file within the limit
+abbrev pub IsOutput : CheckAsked → Files → List ℕ → ℕ → Type 0
+IsOutput asked files name most = WithSheet files asked.rules asked.records (λ survey sheet.
+    ((name ≡ asked.released) × (most ≡ MOST_BYTES))
+    ⊎ ((name ≡ asked.proof) × (most ≡ MOST_PROOF_BYTES) × (bytes : List ℕ) × HoldsBytes files asked.released MOST_BYTES bytes))
 
--- why the files of a check are refused: the rules or the records are, or another file is too long, or they are no valid release
+-- such a file is too long
+abbrev pub IsTooLong : CheckAsked → Files → List ℕ → Type 0
+IsTooLong asked files name = (most : ℕ) × IsOutput asked files name most × IsLonger files name most
+
+-- why the files of a check are refused: the rules or the records are, or another file could not be read or is too long, or they are no
+-- valid release
 abbrev pub RefusesCheck : CheckAsked → Files → Fault → Type 0
 RefusesCheck asked files (fault.TooLong name) =
     RefusesInput asked.rules asked.records files (fault.TooLong name) ⊎ IsTooLong asked files name
+RefusesCheck asked files (fault.Read name) =
+    RefusesInput asked.rules asked.records files (fault.Read name) ⊎ ((most : ℕ) × IsOutput asked files name most)
 RefusesCheck asked files (fault.Rejected line why) =
     (audit : Audit) × HoldsRelease files asked audit × ¬ IsValidRelease audit × IsFirstFailure audit line why
 RefusesCheck asked files fault = RefusesInput asked.rules asked.records files fault
 
--- why the file of the command `rules` is refused: it is too long, or holds no rules
+-- why the file of the command `rules` is refused: it holds no rules, is too long, or could not be read
 abbrev pub RefusesRulesCommand : RulesAsked → Files → Fault → Type 0
 RefusesRulesCommand asked files (fault.Rules line kind) = HoldsText files asked.rules (AreNoRules line kind)
 RefusesRulesCommand asked files (fault.TooLong name) = (name ≡ asked.rules) × IsLonger files name MOST_BYTES
-RefusesRulesCommand asked files (fault.Read name) = ⊤
+RefusesRulesCommand asked files (fault.Read name) = name ≡ asked.rules
 RefusesRulesCommand asked files fault.OutOfMemory = ⊤
 RefusesRulesCommand asked files fault = ⊥
 
