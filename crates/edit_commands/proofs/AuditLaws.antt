@@ -22,7 +22,7 @@ use Rattle.edit_commands.specs.declared.status.Status.TheVariants as status
 use Rattle.edit_commands.proofs.HeldLaws.{not_longer, one_audit}
 use Rattle.edit_commands.proofs.InputLaws.{IsBeside, IsDueOrRead, read-beside, read-not-due}
 use Rattle.edit_commands.proofs.ToldLaws.{each-told, four-told}
-use Rattle.edit_commands.specs.declared.reading.TheConstants.{MOST_BYTES, MOST_PROOF_BYTES}
+use Rattle.edit_commands.specs.Limits.{most_bytes, most_proof_bytes}
 
 module _ (asked : CheckAsked) (files : Files) where
   -- ---- the rules and the records
@@ -57,17 +57,17 @@ module _ (asked : CheckAsked) (files : Files) where
     fetch-refuse name most fault.OutOfMemory there kind why = tt
     fetch-refuse name most f there kind why = absurd kind
 
-    pub released-due : (f : Fault) → IsOfFetch asked.released f → RefusesLong MOST_BYTES files f → AnswersDue (IsCheckDue asked files) (fault_status f)
-    released-due f kind why = fetch-due asked.released MOST_BYTES f kind why (λ long audit held. not_longer files asked.released MOST_BYTES held.released long)
+    pub released-due : (f : Fault) → IsOfFetch asked.released f → RefusesLong most_bytes files f → AnswersDue (IsCheckDue asked files) (fault_status f)
+    released-due f kind why = fetch-due asked.released most_bytes f kind why (λ long audit held. not_longer files asked.released most_bytes held.released long)
 
-    pub released-refuse : (f : Fault) → IsOfFetch asked.released f → RefusesLong MOST_BYTES files f → RefusesCheck asked files f
-    released-refuse f kind why = fetch-refuse asked.released MOST_BYTES f (survey, hr, (s, hs, inl (refl, refl))) kind why
+    pub released-refuse : (f : Fault) → IsOfFetch asked.released f → RefusesLong most_bytes files f → RefusesCheck asked files f
+    released-refuse f kind why = fetch-refuse asked.released most_bytes f (survey, hr, (s, hs, inl (refl, refl))) kind why
 
-    pub proof-due : (f : Fault) → IsOfFetch asked.proof f → RefusesLong MOST_PROOF_BYTES files f → AnswersDue (IsCheckDue asked files) (fault_status f)
-    proof-due f kind why = fetch-due asked.proof MOST_PROOF_BYTES f kind why (λ long audit held. not_longer files asked.proof MOST_PROOF_BYTES held.proof long)
+    pub proof-due : (f : Fault) → IsOfFetch asked.proof f → RefusesLong most_proof_bytes files f → AnswersDue (IsCheckDue asked files) (fault_status f)
+    proof-due f kind why = fetch-due asked.proof most_proof_bytes f kind why (λ long audit held. not_longer files asked.proof most_proof_bytes held.proof long)
 
-    pub proof-refuse : (released : List ℕ) (f : Fault) → HoldsBytes files asked.released MOST_BYTES released → IsOfFetch asked.proof f → RefusesLong MOST_PROOF_BYTES files f → RefusesCheck asked files f
-    proof-refuse released f held kind why = fetch-refuse asked.proof MOST_PROOF_BYTES f (survey, hr, (s, hs, inr (refl, refl, released, held))) kind why
+    pub proof-refuse : (released : List ℕ) (f : Fault) → HoldsBytes files asked.released most_bytes released → IsOfFetch asked.proof f → RefusesLong most_proof_bytes files f → RefusesCheck asked files f
+    proof-refuse released f held kind why = fetch-refuse asked.proof most_proof_bytes f (survey, hr, (s, hs, inr (refl, refl, released, held))) kind why
 
   -- ---- a release
 
@@ -77,8 +77,8 @@ module _ (asked : CheckAsked) (files : Files) where
   module _ (audit : Audit) (held : HoldsRelease files asked audit) where
     not-long : IsCheckDue asked files status.TooLong → ⊥
     not-long (inl due) = read-not-due asked.rules asked.records files audit.survey audit.sheet held.rules held.records status.TooLong due
-    not-long (inr (name, most, (survey, hr, (sheet, hs, inl (same, is))), long)) = not_longer files asked.released MOST_BYTES held.released (moved same is long)
-    not-long (inr (name, most, (survey, hr, (sheet, hs, inr (same, is, bytes, there))), long)) = not_longer files asked.proof MOST_PROOF_BYTES held.proof (moved same is long)
+    not-long (inr (name, most, (survey, hr, (sheet, hs, inl (same, is))), long)) = not_longer files asked.released most_bytes held.released (moved same is long)
+    not-long (inr (name, most, (survey, hr, (sheet, hs, inr (same, is, bytes, there))), long)) = not_longer files asked.proof most_proof_bytes held.proof (moved same is long)
 
     -- none is due of a valid one
     pub valid-due : IsValidRelease audit → (answer : Status) → AnswersDue (IsCheckDue asked files) answer
@@ -122,7 +122,7 @@ module _ (asked : CheckAsked) (files : Files) where
 module _ (asked : CheckAsked) (files : Option Files) where
   -- what was fetched and read is a release
   pub told-held : (audit : Audit) → IfSome files (λ o. HoldsRules o asked.rules audit.survey) → IfSome files (λ o. HoldsRecords o asked.records audit.survey.fields audit.sheet)
-      → IfSome files (λ o. HoldsBytes o asked.released MOST_BYTES audit.released) → IfSome files (λ o. HoldsBytes o asked.proof MOST_PROOF_BYTES audit.proof) → IfSome files (λ o. HoldsRelease o asked audit)
+      → IfSome files (λ o. HoldsBytes o asked.released most_bytes audit.released) → IfSome files (λ o. HoldsBytes o asked.proof most_proof_bytes audit.proof) → IfSome files (λ o. HoldsRelease o asked audit)
   told-held audit hr hs hb hp = four-told files (λ o rules records released proof. record { rules = rules; records = records; released = released; proof = proof }) hr hs hb hp
 
   module _ (audit : Audit) (held : IfSome files (λ o. HoldsRelease o asked audit)) where
