@@ -39,9 +39,14 @@ pub record ReadsAs (bytes : List ℕ) (survey : SurveyParts) : Type 0 where
 abbrev pub HoldsRules : Files → List ℕ → SurveyParts → Type 0
 HoldsRules files name survey = HoldsText files name (λ bytes. ReadsAs bytes survey)
 
+-- the bytes read as the sheet of records of these fields, and as no other
+pub record ReadsAsSheet (fields : List Field) (bytes : List ℕ) (sheet : SheetParts) : Type 0 where
+  pub read : IsSheet fields bytes sheet
+  pub only : (other : SheetParts) → IsSheet fields bytes other → other ≡ sheet
+
 -- the file reads as the sheet of records of these fields
 abbrev pub HoldsRecords : Files → List ℕ → List Field → SheetParts → Type 0
-HoldsRecords files name fields sheet = HoldsText files name (λ bytes. IsSheet fields bytes sheet)
+HoldsRecords files name fields sheet = HoldsText files name (λ bytes. ReadsAsSheet fields bytes sheet)
 
 -- the file has just these bytes
 abbrev pub HoldsBytes : Files → List ℕ → ℕ → List ℕ → Type 0
