@@ -12,7 +12,7 @@ use Rattle.cert_check.specs.declared.fault.Why.{Why}
 use Rattle.command_words.specs.Asked.{CheckAsked}
 use Rattle.edit_commands.specs.CheckRun.{valid_text}
 use Rattle.edit_commands.specs.Faults.{IsOfCheck, fault_status}
-use Rattle.edit_commands.specs.Readings.{AnswersDue, HoldsBytes, HoldsRecords, HoldsRelease, HoldsRules, IsCheckDue, IsTooLong, RefusesCheck}
+use Rattle.edit_commands.specs.Readings.{AnswersDue, HoldsBytes, HoldsRecords, HoldsRelease, HoldsRules, IsCheckDue, IsOutput, RefusesCheck}
 use Rattle.edit_commands.specs.inner.CheckParts.{Accepts}
 use Rattle.edit_commands.specs.inner.Parts.{IsOfFetch, RefusesLong}
 use Rattle.edit_commands.specs.declared.fault.Fault.{Fault}
@@ -22,7 +22,7 @@ use Rattle.edit_commands.specs.declared.status.Status.TheVariants as status
 use Rattle.edit_commands.proofs.HeldLaws.{not_longer, one_audit}
 use Rattle.edit_commands.proofs.InputLaws.{IsBeside, IsDueOrRead, read-beside, read-not-due}
 use Rattle.edit_commands.proofs.ToldLaws.{each-told, four-told}
-use Rattle.edit_commands.specs.declared.reading.TheConstants.{MOST_BYTES, MOST_PROOF_BYTES}
+use Rattle.edit_commands.specs.Limits.{most_bytes, most_proof_bytes}
 
 module _ (asked : CheckAsked) (files : Files) where
   -- ---- the rules and the records
@@ -30,7 +30,7 @@ module _ (asked : CheckAsked) (files : Files) where
   -- a status that is due of a check is due of these, or they were read
   due-or-read : (s : Status) → IsCheckDue asked files s → IsDueOrRead asked.rules asked.records files s
   due-or-read status.TooLong (inl due) = inl due
-  due-or-read status.TooLong (inr (name, (survey, hr, (sheet, hs, long)))) = inr (survey, hr, (sheet, hs, tt))
+  due-or-read status.TooLong (inr (name, most, (survey, hr, (sheet, hs, which)), long)) = inr (survey, hr, (sheet, hs, tt))
   due-or-read status.Rejected (audit, held, none) = inr (audit.survey, held.rules, (audit.sheet, held.records, tt))
   due-or-read s due = inl due
 
@@ -51,32 +51,34 @@ module _ (asked : CheckAsked) (files : Files) where
     fetch-due name most fault.OutOfMemory kind why none = λ other due. inr (inr refl)
     fetch-due name most f kind why none = absurd kind
 
-    fetch-refuse : (name : List ℕ) (most : ℕ) (f : Fault) → IsOfFetch name f → RefusesLong most files f → (IsLonger files name most → IsTooLong asked files name) → RefusesCheck asked files f
-    fetch-refuse name most (fault.Read n) kind why long = tt
-    fetch-refuse name most (fault.TooLong n) kind why long =
-        inr (subst (IsTooLong asked files) (sym kind) (long (subst (λ (m : List ℕ). IsLonger files m most) kind why)))
-    fetch-refuse name most fault.OutOfMemory kind why long = tt
-    fetch-refuse name most f kind why long = absurd kind
+    fetch-refuse : (name : List ℕ) (most : ℕ) (f : Fault) → IsOutput asked files name most → IsOfFetch name f → RefusesLong most files f → RefusesCheck asked files f
+    fetch-refuse name most (fault.Read n) there kind why = inr (most, subst (λ (m : List ℕ). IsOutput asked files m most) (sym kind) there)
+    fetch-refuse name most (fault.TooLong n) there kind why = inr (most, subst (λ (m : List ℕ). IsOutput asked files m most) (sym kind) there, why)
+    fetch-refuse name most fault.OutOfMemory there kind why = tt
+    fetch-refuse name most f there kind why = absurd kind
 
-    pub released-due : (f : Fault) → IsOfFetch asked.released f → RefusesLong MOST_BYTES files f → AnswersDue (IsCheckDue asked files) (fault_status f)
-    released-due f kind why = fetch-due asked.released MOST_BYTES f kind why (λ long audit held. not_longer files asked.released MOST_BYTES held.released long)
+    pub released-due : (f : Fault) → IsOfFetch asked.released f → RefusesLong most_bytes files f → AnswersDue (IsCheckDue asked files) (fault_status f)
+    released-due f kind why = fetch-due asked.released most_bytes f kind why (λ long audit held. not_longer files asked.released most_bytes held.released long)
 
-    pub released-refuse : (f : Fault) → IsOfFetch asked.released f → RefusesLong MOST_BYTES files f → RefusesCheck asked files f
-    released-refuse f kind why = fetch-refuse asked.released MOST_BYTES f kind why (λ long. (survey, hr, (s, hs, inl (refl, long))))
+    pub released-refuse : (f : Fault) → IsOfFetch asked.released f → RefusesLong most_bytes files f → RefusesCheck asked files f
+    released-refuse f kind why = fetch-refuse asked.released most_bytes f (survey, hr, (s, hs, inl (refl, refl))) kind why
 
-    pub proof-due : (f : Fault) → IsOfFetch asked.proof f → RefusesLong MOST_PROOF_BYTES files f → AnswersDue (IsCheckDue asked files) (fault_status f)
-    proof-due f kind why = fetch-due asked.proof MOST_PROOF_BYTES f kind why (λ long audit held. not_longer files asked.proof MOST_PROOF_BYTES held.proof long)
+    pub proof-due : (f : Fault) → IsOfFetch asked.proof f → RefusesLong most_proof_bytes files f → AnswersDue (IsCheckDue asked files) (fault_status f)
+    proof-due f kind why = fetch-due asked.proof most_proof_bytes f kind why (λ long audit held. not_longer files asked.proof most_proof_bytes held.proof long)
 
-    pub proof-refuse : (released : List ℕ) (f : Fault) → HoldsBytes files asked.released MOST_BYTES released → IsOfFetch asked.proof f → RefusesLong MOST_PROOF_BYTES files f → RefusesCheck asked files f
-    proof-refuse released f held kind why = fetch-refuse asked.proof MOST_PROOF_BYTES f kind why (λ long. (survey, hr, (s, hs, inr (refl, released, held, long))))
+    pub proof-refuse : (released : List ℕ) (f : Fault) → HoldsBytes files asked.released most_bytes released → IsOfFetch asked.proof f → RefusesLong most_proof_bytes files f → RefusesCheck asked files f
+    proof-refuse released f held kind why = fetch-refuse asked.proof most_proof_bytes f (survey, hr, (s, hs, inr (refl, refl, released, held))) kind why
 
   -- ---- a release
+
+  moved : {name other : List ℕ} {most more : ℕ} → name ≡ other → most ≡ more → IsLonger files name most → IsLonger files other more
+  moved {name} {other} {most} {more} same is long = subst (λ (m : ℕ). IsLonger files other m) is (subst (λ (n : List ℕ). IsLonger files n most) same long)
 
   module _ (audit : Audit) (held : HoldsRelease files asked audit) where
     not-long : IsCheckDue asked files status.TooLong → ⊥
     not-long (inl due) = read-not-due asked.rules asked.records files audit.survey audit.sheet held.rules held.records status.TooLong due
-    not-long (inr (name, (survey, hr, (sheet, hs, inl (same, long))))) = not_longer files asked.released MOST_BYTES held.released (subst (λ (n : List ℕ). IsLonger files n MOST_BYTES) same long)
-    not-long (inr (name, (survey, hr, (sheet, hs, inr (same, bytes, there, long))))) = not_longer files asked.proof MOST_PROOF_BYTES held.proof (subst (λ (n : List ℕ). IsLonger files n MOST_PROOF_BYTES) same long)
+    not-long (inr (name, most, (survey, hr, (sheet, hs, inl (same, is))), long)) = not_longer files asked.released most_bytes held.released (moved same is long)
+    not-long (inr (name, most, (survey, hr, (sheet, hs, inr (same, is, bytes, there))), long)) = not_longer files asked.proof most_proof_bytes held.proof (moved same is long)
 
     -- none is due of a valid one
     pub valid-due : IsValidRelease audit → (answer : Status) → AnswersDue (IsCheckDue asked files) answer
@@ -111,6 +113,7 @@ module _ (asked : CheckAsked) (files : Files) where
     pub valid-beside : (f : Fault) → IsValidRelease audit → RefusesCheck asked files f → IsBeside f
     valid-beside (fault.TooLong name) valid (inl why) = read-beside asked.rules asked.records files (fault.TooLong name) audit.survey audit.sheet held.rules held.records why
     valid-beside (fault.TooLong name) valid (inr long) = not-long (inr (name, long))
+    valid-beside (fault.Read name) valid why = tt
     valid-beside (fault.Rejected line why) valid (other, there, invalid, first) = invalid (subst IsValidRelease (one_audit files asked audit other held there) valid)
     valid-beside f valid why = read-beside asked.rules asked.records files f audit.survey audit.sheet held.rules held.records why
 
@@ -119,7 +122,7 @@ module _ (asked : CheckAsked) (files : Files) where
 module _ (asked : CheckAsked) (files : Option Files) where
   -- what was fetched and read is a release
   pub told-held : (audit : Audit) → IfSome files (λ o. HoldsRules o asked.rules audit.survey) → IfSome files (λ o. HoldsRecords o asked.records audit.survey.fields audit.sheet)
-      → IfSome files (λ o. HoldsBytes o asked.released MOST_BYTES audit.released) → IfSome files (λ o. HoldsBytes o asked.proof MOST_PROOF_BYTES audit.proof) → IfSome files (λ o. HoldsRelease o asked audit)
+      → IfSome files (λ o. HoldsBytes o asked.released most_bytes audit.released) → IfSome files (λ o. HoldsBytes o asked.proof most_proof_bytes audit.proof) → IfSome files (λ o. HoldsRelease o asked audit)
   told-held audit hr hs hb hp = four-told files (λ o rules records released proof. record { rules = rules; records = records; released = released; proof = proof }) hr hs hb hp
 
   module _ (audit : Audit) (held : IfSome files (λ o. HoldsRelease o asked audit)) where

@@ -4,7 +4,6 @@ use Rattle.edit_language.specs.Grammar.{IsRuleText}
 use Rattle.edit_model.specs.Parts.{SurveyParts}
 use Rattle.edit_model.specs.declared.field.Field.{Field}
 use Rattle.record_text.specs.Sheets.{IsSheet, SheetParts}
-use Rattle.record_text.proofs.SheetLaws.{only_by_sheet}
 use Rattle.edit_desk.specs.Desk.{Files, IsLonger}
 use Rattle.cert_check.specs.Releases.{Audit, audit_of}
 use Rattle.command_words.specs.Asked.{CheckAsked}
@@ -46,11 +45,11 @@ not_unread files name survey read unread = unread.claim survey (same_claim files
 
 -- a file of records reads as one sheet
 pub one_sheet : (files : Files) (name : List ℕ) (fields : List Field) (a b : SheetParts) → HoldsRecords files name fields a → HoldsRecords files name fields b → a ≡ b
-one_sheet files name fields a b ha hb = only_by_sheet fields hb.bytes (Ok b) hb.claim a (same_claim files name _ ha hb)
+one_sheet files name fields a b ha hb = hb.claim.only a (same_claim files name _ ha hb).read
 
 -- a file of records does not read as none
 pub not_unread_records : (files : Files) (name : List ℕ) (a b : SurveyParts) (s : SheetParts) → a ≡ b → HoldsRecords files name a.fields s → HoldsText files name (λ bytes. (t : SheetParts) → ¬ IsSheet b.fields bytes t) → ⊥
-not_unread_records files name a b s same read unread = unread.claim s (subst (λ (survey : SurveyParts). IsSheet survey.fields unread.bytes s) same (same_claim files name _ read unread))
+not_unread_records files name a b s same read unread = unread.claim s (subst (λ (survey : SurveyParts). IsSheet survey.fields unread.bytes s) same (same_claim files name _ read unread).read)
 
 -- ---- a release
 

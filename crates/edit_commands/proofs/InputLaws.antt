@@ -5,13 +5,13 @@ use Rattle.record_text.specs.Sheets.{SheetParts}
 use Rattle.edit_desk.specs.Desk.{Files, IsLonger}
 use Rattle.edit_commands.specs.Faults.{fault_status}
 use Rattle.edit_commands.specs.Readings.{AnswersDue, HoldsRecords, HoldsRules, IsInputDue, RefusesInput, WithSheet}
-use Rattle.edit_commands.specs.inner.Parts.{IsOfRecords, IsOfStores, RefusesRecords}
+use Rattle.edit_commands.specs.inner.Parts.{IsOfRecords, IsOfRules, IsOfStores, RefusesRecords, RefusesRules}
 use Rattle.edit_commands.specs.declared.fault.Fault.{Fault}
 use Rattle.edit_commands.specs.declared.fault.Fault.TheVariants as fault
 use Rattle.edit_commands.specs.declared.status.Status.{Status}
 use Rattle.edit_commands.specs.declared.status.Status.TheVariants as status
 use Rattle.edit_commands.proofs.HeldLaws.{not_longer, not_unread, not_unread_records, one_survey, weaker}
-use Rattle.edit_commands.specs.declared.reading.TheConstants.{MOST_BYTES}
+use Rattle.edit_commands.specs.Limits.{most_bytes}
 
 -- a fault that says nothing of the files
 abbrev pub IsBeside : Fault → Type 0
@@ -33,8 +33,8 @@ module _ (rules records : List ℕ) (files : Files) where
 
   module _ (survey : SurveyParts) (s : SheetParts) (hr : HoldsRules files rules survey) (hs : HoldsRecords files records survey.fields s) where
     pub read-not-due : (due : Status) → IsInputDue rules records files due → ⊥
-    read-not-due status.TooLong (inl long) = not_longer files rules MOST_BYTES hr long
-    read-not-due status.TooLong (inr (other, held, long)) = not_longer files records MOST_BYTES hs long
+    read-not-due status.TooLong (inl long) = not_longer files rules most_bytes hr long
+    read-not-due status.TooLong (inr (other, held, long)) = not_longer files records most_bytes hs long
     read-not-due status.Rules unread = not_unread files rules survey hr unread
     read-not-due status.Records (other, held, unread) = not_unread_records files records survey other s (one_survey files rules survey other hr held) hs unread
     read-not-due answer due = due
@@ -46,19 +46,19 @@ module _ (rules records : List ℕ) (files : Files) where
 
   one-due : (a b : Status) → IsInputDue rules records files a → IsInputDue rules records files b → a ≡ b
   one-due status.TooLong status.TooLong h k = refl
-  one-due status.TooLong status.Rules (inl long) k = absurd (not_longer files rules MOST_BYTES k long)
+  one-due status.TooLong status.Rules (inl long) k = absurd (not_longer files rules most_bytes k long)
   one-due status.TooLong status.Rules (inr (survey, hr, long)) k = absurd (not_unread files rules survey hr k)
-  one-due status.TooLong status.Records (inl long) (other, held, unread) = absurd (not_longer files rules MOST_BYTES held long)
-  one-due status.TooLong status.Records (inr (survey, hr, long)) (other, held, unread) = absurd (not_longer files records MOST_BYTES unread long)
+  one-due status.TooLong status.Records (inl long) (other, held, unread) = absurd (not_longer files rules most_bytes held long)
+  one-due status.TooLong status.Records (inr (survey, hr, long)) (other, held, unread) = absurd (not_longer files records most_bytes unread long)
   one-due status.TooLong b h k = absurd k
   one-due status.Rules status.Rules h k = refl
-  one-due status.Rules status.TooLong h (inl long) = absurd (not_longer files rules MOST_BYTES h long)
+  one-due status.Rules status.TooLong h (inl long) = absurd (not_longer files rules most_bytes h long)
   one-due status.Rules status.TooLong h (inr (survey, hr, long)) = absurd (not_unread files rules survey hr h)
   one-due status.Rules status.Records h (other, held, unread) = absurd (not_unread files rules other held h)
   one-due status.Rules b h k = absurd k
   one-due status.Records status.Records h k = refl
-  one-due status.Records status.TooLong (other, held, unread) (inl long) = absurd (not_longer files rules MOST_BYTES held long)
-  one-due status.Records status.TooLong (other, held, unread) (inr (survey, hr, long)) = absurd (not_longer files records MOST_BYTES unread long)
+  one-due status.Records status.TooLong (other, held, unread) (inl long) = absurd (not_longer files rules most_bytes held long)
+  one-due status.Records status.TooLong (other, held, unread) (inr (survey, hr, long)) = absurd (not_longer files records most_bytes unread long)
   one-due status.Records status.Rules (other, held, unread) k = absurd (not_unread files rules other held k)
   one-due status.Records b h k = absurd k
   one-due a b h k = absurd h
@@ -71,13 +71,29 @@ module _ (rules records : List ℕ) (files : Files) where
 
   module _ (survey : SurveyParts) (hr : HoldsRules files rules survey) where
     pub records-due : (f : Fault) → IsOfRecords records f → RefusesRecords records survey.fields files f → AnswersDue IsDueOrRead (fault_status f)
-    records-due (fault.Records what) kind why = answered status.Records (survey, hr, weaker files records MOST_BYTES (λ bytes no. no.unread) why)
+    records-due (fault.Records what) kind why = answered status.Records (survey, hr, weaker files records most_bytes (λ bytes no. no.unread) why)
     records-due (fault.Read name) kind why = λ s due. inr (inl refl)
-    records-due (fault.TooLong name) kind why = answered status.TooLong (inr (survey, hr, subst (λ (n : List ℕ). IsLonger files n MOST_BYTES) kind why))
+    records-due (fault.TooLong name) kind why = answered status.TooLong (inr (survey, hr, subst (λ (n : List ℕ). IsLonger files n most_bytes) kind why))
     records-due fault.OutOfMemory kind why = λ s due. inr (inr refl)
     records-due f kind why = absurd kind
 
+    -- they are refused for what their reading says
+    pub records-refuse : (f : Fault) → IsOfRecords records f → RefusesRecords records survey.fields files f → RefusesInput rules records files f
+    records-refuse (fault.Records what) kind why = (survey, hr, why)
+    records-refuse (fault.Read name) kind why = inr (kind, survey, hr, tt)
+    records-refuse (fault.TooLong name) kind why = (inr (kind, survey, hr, tt), why)
+    records-refuse fault.OutOfMemory kind why = tt
+    records-refuse f kind why = absurd kind
+
   -- ---- other refusals
+
+  -- the rules are refused for what their reading says
+  pub rules-refuse-input : (f : Fault) → IsOfRules rules f → RefusesRules rules files f → RefusesInput rules records files f
+  rules-refuse-input (fault.Rules line k) kind why = why
+  rules-refuse-input (fault.Read name) kind why = inl kind
+  rules-refuse-input (fault.TooLong name) kind why = (inl kind, why)
+  rules-refuse-input fault.OutOfMemory kind why = tt
+  rules-refuse-input f kind why = absurd kind
 
   -- a fault of a store says nothing of the files
   pub stores-refuse : (f : Fault) → IsOfStores f → RefusesInput rules records files f
@@ -87,11 +103,11 @@ module _ (rules records : List ℕ) (files : Files) where
 
   -- files that were read are refused for no fault but one that says nothing of them
   pub read-beside : (f : Fault) (survey : SurveyParts) (s : SheetParts) → HoldsRules files rules survey → HoldsRecords files records survey.fields s → RefusesInput rules records files f → IsBeside f
-  read-beside (fault.Rules line k) survey s hr hs why = not_unread files rules survey hr (weaker files rules MOST_BYTES (λ bytes no. no.unread) why)
+  read-beside (fault.Rules line k) survey s hr hs why = not_unread files rules survey hr (weaker files rules most_bytes (λ bytes no. no.unread) why)
   read-beside (fault.Records what) survey s hr hs (other, held, unread) =
-      not_unread_records files records survey other s (one_survey files rules survey other hr held) hs (weaker files records MOST_BYTES (λ bytes none. none.unread) unread)
-  read-beside (fault.TooLong name) survey s hr hs (inl (same, long)) = not_longer files rules MOST_BYTES hr (subst (λ (n : List ℕ). IsLonger files n MOST_BYTES) same long)
-  read-beside (fault.TooLong name) survey s hr hs (inr (same, other, held, long)) = not_longer files records MOST_BYTES hs (subst (λ (n : List ℕ). IsLonger files n MOST_BYTES) same long)
+      not_unread_records files records survey other s (one_survey files rules survey other hr held) hs (weaker files records most_bytes (λ bytes none. none.unread) unread)
+  read-beside (fault.TooLong name) survey s hr hs (inl same, long) = not_longer files rules most_bytes hr (subst (λ (n : List ℕ). IsLonger files n most_bytes) same long)
+  read-beside (fault.TooLong name) survey s hr hs (inr (same, other, held, done), long) = not_longer files records most_bytes hs (subst (λ (n : List ℕ). IsLonger files n most_bytes) same long)
   read-beside (fault.Read name) survey s hr hs why = tt
   read-beside (fault.Write name) survey s hr hs why = tt
   read-beside fault.OutOfMemory survey s hr hs why = tt

@@ -13,12 +13,12 @@ use Rattle.edit_commands.specs.declared.fault.Fault.TheVariants as fault
 use Rattle.edit_commands.specs.declared.fault.RecordsFault.{RecordsFault}
 use Rattle.edit_commands.proofs.HeldLaws.{holds}
 use Rattle.edit_commands.proofs.ToldLaws.{each-told}
-use Rattle.edit_commands.specs.declared.reading.TheConstants.{MOST_BYTES}
+use Rattle.edit_commands.specs.Limits.{most_bytes}
 
 -- records that were not read are refused
-module _ (files : Files) (name bytes : List ℕ) (fields : List Field) (held : HoldsBytes files name MOST_BYTES bytes) where
+module _ (files : Files) (name bytes : List ℕ) (fields : List Field) (held : HoldsBytes files name most_bytes bytes) where
   refused-as : (told : SheetFault) (what : RecordsFault) → sheet_refusal fields told ≡ fault.Records what → IsSheetFault fields bytes told → ((t : SheetParts) → ¬ IsSheet fields bytes t) → RefusesRecords name fields files (fault.Records what)
-  refused-as told what shown is none = holds (AreNoRecords fields what) files name MOST_BYTES bytes held (record { unread = none; found = told; first = is; told = shown })
+  refused-as told what shown is none = holds (AreNoRecords fields what) files name most_bytes bytes held (record { unread = none; found = told; first = is; told = shown })
 
   records-unread : (told : SheetFault) → (told ≢ sheet.OutOfMemory → IsSheetFault fields bytes told) → (told ≢ sheet.OutOfMemory → (t : SheetParts) → ¬ IsSheet fields bytes t) → RefusesRecords name fields files (sheet_refusal fields told)
   records-unread sheet.OutOfMemory is none = tt
@@ -30,7 +30,7 @@ module _ (files : Files) (name bytes : List ℕ) (fields : List Field) (held : H
   records-unread (sheet.RowLength n) is none = refused-as (sheet.RowLength n) _ refl (is (λ e. cc e)) (none (λ e. cc e))
 
 -- unless for want of memory
-pub records-refused : (files : Option Files) (name bytes : List ℕ) (fields : List Field) (told : SheetFault) (f : Fault) → IfSome files (λ o. HoldsBytes o name MOST_BYTES bytes)
+pub records-refused : (files : Option Files) (name bytes : List ℕ) (fields : List Field) (told : SheetFault) (f : Fault) → IfSome files (λ o. HoldsBytes o name most_bytes bytes)
     → (told ≢ sheet.OutOfMemory → IsSheetFault fields bytes told) → (told ≢ sheet.OutOfMemory → (t : SheetParts) → ¬ IsSheet fields bytes t) → (f ≡ sheet_refusal fields told) ⊎ (f ≡ fault.OutOfMemory)
     → IfSome files (λ o. RefusesRecords name fields o f)
 records-refused files name bytes fields told f held is none (inl same) = each-told files (λ o h. subst (RefusesRecords name fields o) (sym same) (records-unread o name bytes fields h told is none)) held

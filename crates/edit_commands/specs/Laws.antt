@@ -1,6 +1,6 @@
 -- What an edit says of a sheet whose records all have corrections in reach.
-use Rattle.std.specs.Prelude.{◌≡◌, ◌≤◌, ℕ, Bool, List, Option, option_map}
-use Rattle.std.specs.List.{AllByRecursion}
+use Rattle.std.specs.Prelude.{◌≡◌, ◌≤◌, ℕ, Bool, List, option_map}
+use Rattle.std.specs.List.{AllZip}
 use Rattle.edit_model.specs.Corrections.{IsCorrection}
 use Rattle.edit_model.specs.Parts.{SurveyParts}
 use Rattle.edit_model.specs.Points.{Point}
@@ -10,6 +10,8 @@ use Rattle.bound_cert.specs.declared.outcome.GiftFault.{GiftFault}
 use Rattle.bound_cert.specs.declared.outcome.Outcome.TheVariants.{Overflow}
 use Rattle.edit_paths.specs.Cases.{case_of}
 use Rattle.edit_paths.specs.Outcomes.{outcome_of, total_work}
+use Rattle.edit_report.specs.Ends.{path_found}
+use Rattle.edit_report.specs.declared.end.RowEnd.{RowEnd}
 use Rattle.record_text.specs.Sheets.{SheetParts}
 use Rattle.donor_search.specs.CleanRows.{row_at}
 use Rattle.record_workers.specs.Ends.{StopsGiving}
@@ -20,18 +22,19 @@ use Rattle.edit_commands.specs.Edits.{IsEditWith}
 use Rattle.edit_commands.specs.declared.status.Status.{Status}
 use Rattle.edit_commands.specs.declared.status.Status.TheVariants.{Done}
 
--- nothing stands in the way of the correction of a record among the rows of a sheet: its search needs no more than the
--- budget, and no number of the search leaves the range, nor one of the values, whichever row is its donor, or without one
-pub record IsInReach (survey : SurveyParts) (budget : ℕ) (rows : List (List Value)) (row : List Value) : Type 0 where
+-- nothing stands in the way of the correction of a record among the rows of a sheet, which ended so: its search needs no more than the
+-- budget, and no number of the search leaves the range, nor one of the values at the fields that it found, with the donor that the
+-- record was given, or without one
+pub record IsInReach (survey : SurveyParts) (budget : ℕ) (rows : List (List Value)) (row : List Value) (end : RowEnd) : Type 0 where
   pub enough : total_work (case_of survey (kept_edits survey) row) ≤ budget
   pub search_fits : (path : List Bool) (event : Event)
       → ¬ (outcome_of (case_of survey (kept_edits survey) row) budget ≡ Overflow path event)
-  pub values_fit : (donor : Option ℕ) (path : List Bool) (stop : GiftFault)
-      → ¬ StopsGiving survey (kept_edits survey) row path (option_map (row_at rows) donor) stop
+  pub values_fit : (stop : GiftFault)
+      → ¬ StopsGiving survey (kept_edits survey) row (path_found end.proof.outcome) (option_map (row_at rows) end.donor) stop
 
 -- where some point is consistent, and nothing stands in the way of any record, the edit ends with all records released,
 -- whatever the number of workers
 abbrev pub WholeLaw : Type 0
 WholeLaw = (survey : SurveyParts) (sheet : SheetParts) (terms : Terms) (workers : ℕ) (answer : Status) (written : Written) (p : Point)
-    → IsEditWith survey sheet terms workers answer written → IsCorrection survey p
-    → AllByRecursion (IsInReach survey terms.budget sheet.rows) sheet.rows → answer ≡ Done
+    → (edit : IsEditWith survey sheet terms workers answer written) → IsCorrection survey p
+    → AllZip (IsInReach survey terms.budget sheet.rows) sheet.rows edit.ends → answer ≡ Done

@@ -3,6 +3,7 @@ pub mod EditRun
 pub mod Edits
 pub mod Faults
 pub mod Laws
+pub mod Limits
 pub mod Readings
 pub mod RulesRun
 pub mod Run

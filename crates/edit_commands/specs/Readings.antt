@@ -13,7 +13,7 @@ use Rattle.edit_commands.specs.Faults.{sheet_refusal}
 use Rattle.edit_commands.specs.declared.fault.Fault.{Fault}
 use Rattle.edit_commands.specs.declared.fault.Fault.TheVariants as fault
 use Rattle.edit_commands.specs.declared.fault.RecordsFault.{RecordsFault}
-use Rattle.edit_commands.specs.declared.reading.TheConstants.{MOST_BYTES, MOST_PROOF_BYTES}
+use Rattle.edit_commands.specs.Limits.{most_bytes, most_proof_bytes}
 use Rattle.edit_commands.specs.declared.status.Status.{Status}
 use Rattle.edit_commands.specs.declared.status.Status.TheVariants as status
 
@@ -26,7 +26,7 @@ pub record HoldsWithin (files : Files) (name : List ℕ) (most : ℕ) (P : List 
 
 -- a file of that name stands on the desk, within the limit of all files but a proof, and its bytes meet the claim
 abbrev pub HoldsText : Files → List ℕ → (List ℕ → Type 0) → Type 0
-HoldsText files name P = HoldsWithin files name MOST_BYTES P
+HoldsText files name P = HoldsWithin files name most_bytes P
 
 -- ---- readings
 
@@ -39,9 +39,14 @@ pub record ReadsAs (bytes : List ℕ) (survey : SurveyParts) : Type 0 where
 abbrev pub HoldsRules : Files → List ℕ → SurveyParts → Type 0
 HoldsRules files name survey = HoldsText files name (λ bytes. ReadsAs bytes survey)
 
+-- the bytes read as the sheet of records of these fields, and as no other
+pub record ReadsAsSheet (fields : List Field) (bytes : List ℕ) (sheet : SheetParts) : Type 0 where
+  pub read : IsSheet fields bytes sheet
+  pub only : (other : SheetParts) → IsSheet fields bytes other → other ≡ sheet
+
 -- the file reads as the sheet of records of these fields
 abbrev pub HoldsRecords : Files → List ℕ → List Field → SheetParts → Type 0
-HoldsRecords files name fields sheet = HoldsText files name (λ bytes. IsSheet fields bytes sheet)
+HoldsRecords files name fields sheet = HoldsText files name (λ bytes. ReadsAsSheet fields bytes sheet)
 
 -- the file has just these bytes
 abbrev pub HoldsBytes : Files → List ℕ → ℕ → List ℕ → Type 0
@@ -51,8 +56,8 @@ HoldsBytes files name most bytes = HoldsWithin files name most (λ held. held �
 pub record HoldsRelease (files : Files) (asked : CheckAsked) (audit : Audit) : Type 0 where
   pub rules : HoldsRules files asked.rules audit.survey
   pub records : HoldsRecords files asked.records audit.survey.fields audit.sheet
-  pub released : HoldsBytes files asked.released MOST_BYTES audit.released
-  pub proof : HoldsBytes files asked.proof MOST_PROOF_BYTES audit.proof
+  pub released : HoldsBytes files asked.released most_bytes audit.released
+  pub proof : HoldsBytes files asked.proof most_proof_bytes audit.proof
 
 -- ---- refusals
 
@@ -77,42 +82,54 @@ abbrev pub WithSheet : Files → List ℕ → List ℕ → (SurveyParts → Shee
 WithSheet files rules records P =
     WithRules files rules (λ survey. (sheet : SheetParts) × HoldsRecords files records survey.fields sheet × P survey sheet)
 
--- why the rules and the records, in files of these names, are refused; a file that could not be read or written, and want
--- of memory, say nothing of them
+-- the file of this name is fetched where these two are: it is the rules, or it is the records and the rules were read
+abbrev pub IsInput : List ℕ → List ℕ → Files → List ℕ → Type 0
+IsInput rules records files name = (name ≡ rules) ⊎ ((name ≡ records) × WithRules files rules (λ survey. ⊤))
+
+-- why the rules and the records, in files of these names, are refused; a file that could not be read is one of them, in their order;
+-- one that could not be written, and want of memory, say nothing of them
 abbrev pub RefusesInput : List ℕ → List ℕ → Files → Fault → Type 0
 RefusesInput rules records files (fault.Rules line kind) = HoldsText files rules (AreNoRules line kind)
 RefusesInput rules records files (fault.Records what) =
     WithRules files rules (λ survey. HoldsText files records (AreNoRecords survey.fields what))
-RefusesInput rules records files (fault.TooLong name) =
-    ((name ≡ rules) × IsLonger files name MOST_BYTES)
-    ⊎ ((name ≡ records) × (survey : SurveyParts) × HoldsRules files rules survey × IsLonger files name MOST_BYTES)
+RefusesInput rules records files (fault.TooLong name) = IsInput rules records files name × IsLonger files name most_bytes
+RefusesInput rules records files (fault.Read name) = IsInput rules records files name
+RefusesInput rules records files (fault.Write name) = ⊤
+RefusesInput rules records files fault.OutOfMemory = ⊤
 RefusesInput rules records files fault.Usage = ⊥
 RefusesInput rules records files (fault.Rejected line why) = ⊥
-RefusesInput rules records files fault = ⊤
 
 -- why the files of an edit are refused
 abbrev pub Refuses : EditAsked → Files → Fault → Type 0
 Refuses asked files fault = RefusesInput asked.names.rules asked.names.records files fault
 
--- a released file, or a proof, behind rules and records that were read, is too long
-abbrev pub IsTooLong : CheckAsked → Files → List ℕ → Type 0
-IsTooLong asked files name = WithSheet files asked.rules asked.records (λ survey sheet.
-    ((name ≡ asked.released) × IsLonger files name MOST_BYTES)
-    ⊎ ((name ≡ asked.proof) × (bytes : List ℕ) × HoldsBytes files asked.released MOST_BYTES bytes × IsLonger files name MOST_PROOF_BYTES))
+-- the file of this name is fetched behind rules and records that were read: it is the released file, with this limit, or it is the
+-- proof, with its own, behind a released file within the limit
+abbrev pub IsOutput : CheckAsked → Files → List ℕ → ℕ → Type 0
+IsOutput asked files name most = WithSheet files asked.rules asked.records (λ survey sheet.
+    ((name ≡ asked.released) × (most ≡ most_bytes))
+    ⊎ ((name ≡ asked.proof) × (most ≡ most_proof_bytes) × (bytes : List ℕ) × HoldsBytes files asked.released most_bytes bytes))
 
--- why the files of a check are refused: the rules or the records are, or another file is too long, or they are no valid release
+-- such a file is too long
+abbrev pub IsTooLong : CheckAsked → Files → List ℕ → Type 0
+IsTooLong asked files name = (most : ℕ) × IsOutput asked files name most × IsLonger files name most
+
+-- why the files of a check are refused: the rules or the records are, or another file could not be read or is too long, or they are no
+-- valid release
 abbrev pub RefusesCheck : CheckAsked → Files → Fault → Type 0
 RefusesCheck asked files (fault.TooLong name) =
     RefusesInput asked.rules asked.records files (fault.TooLong name) ⊎ IsTooLong asked files name
+RefusesCheck asked files (fault.Read name) =
+    RefusesInput asked.rules asked.records files (fault.Read name) ⊎ ((most : ℕ) × IsOutput asked files name most)
 RefusesCheck asked files (fault.Rejected line why) =
     (audit : Audit) × HoldsRelease files asked audit × ¬ IsValidRelease audit × IsFirstFailure audit line why
 RefusesCheck asked files fault = RefusesInput asked.rules asked.records files fault
 
--- why the file of the command `rules` is refused: it is too long, or holds no rules
+-- why the file of the command `rules` is refused: it holds no rules, is too long, or could not be read
 abbrev pub RefusesRulesCommand : RulesAsked → Files → Fault → Type 0
 RefusesRulesCommand asked files (fault.Rules line kind) = HoldsText files asked.rules (AreNoRules line kind)
-RefusesRulesCommand asked files (fault.TooLong name) = (name ≡ asked.rules) × IsLonger files name MOST_BYTES
-RefusesRulesCommand asked files (fault.Read name) = ⊤
+RefusesRulesCommand asked files (fault.TooLong name) = (name ≡ asked.rules) × IsLonger files name most_bytes
+RefusesRulesCommand asked files (fault.Read name) = name ≡ asked.rules
 RefusesRulesCommand asked files fault.OutOfMemory = ⊤
 RefusesRulesCommand asked files fault = ⊥
 
@@ -121,7 +138,7 @@ RefusesRulesCommand asked files fault = ⊥
 -- the rules and the records are to be refused with this status: a file is too long, or has no reading
 abbrev pub IsInputDue : List ℕ → List ℕ → Files → Status → Type 0
 IsInputDue rules records files status.TooLong =
-    IsLonger files rules MOST_BYTES ⊎ WithRules files rules (λ survey. IsLonger files records MOST_BYTES)
+    IsLonger files rules most_bytes ⊎ WithRules files rules (λ survey. IsLonger files records most_bytes)
 IsInputDue rules records files status.Rules = HoldsText files rules (λ bytes. (survey : SurveyParts) → ¬ IsRuleText bytes survey)
 IsInputDue rules records files status.Records =
     WithRules files rules (λ survey. HoldsText files records (λ bytes. (sheet : SheetParts) → ¬ IsSheet survey.fields bytes sheet))
@@ -141,7 +158,7 @@ IsCheckDue asked files answer = IsInputDue asked.rules asked.records files answe
 
 -- the file of the command `rules` is to be refused with this status
 abbrev pub IsRulesDue : RulesAsked → Files → Status → Type 0
-IsRulesDue asked files status.TooLong = IsLonger files asked.rules MOST_BYTES
+IsRulesDue asked files status.TooLong = IsLonger files asked.rules most_bytes
 IsRulesDue asked files status.Rules = HoldsText files asked.rules (λ bytes. (survey : SurveyParts) → ¬ IsRuleText bytes survey)
 IsRulesDue asked files answer = ⊥
 

@@ -17,7 +17,7 @@ use Rattle.redundancy.specs.declared.verdict.Verdict.TheVariants.{Dropped, Kept}
 use Rattle.redundancy.proofs.BaseLaws.{verdicts-count}
 use Rattle.pruned_rules.specs.Pruned.{rule_flags, rule_verdicts}
 use Rattle.pruned_rules.proofs.KeptLaws.{rule-refuted}
-use Rattle.pruned_rules.specs.declared.pruned.TheConstants.{PRUNING_BUDGET}
+use Rattle.pruned_rules.specs.Limits.{pruning_budget}
 use Rattle.proof_grammar.specs.ProofLines.{verdict_lines}
 use Rattle.proof_text.specs.Sizes.{AreCoherentSteps}
 use Rattle.edit_report.specs.declared.end.RowEnd.{RowEnd}
@@ -99,6 +99,6 @@ coherent-steps (line ∷ lines) (Dropped steps ∷ verdicts) same positive = (po
 -- what is said of the lines of the rules is coherent
 pub verdicts-coherent : (survey : SurveyParts) → IsWellFormed survey → AllByRecursion (λ v. IfSome v AreCoherentSteps) (map refutation_by (rule_verdicts survey))
 verdicts-coherent survey formed =
-    coherent-steps (normal_lines_of survey) (rule_verdicts survey) (verdicts-count survey (normal_lines_of survey) PRUNING_BUDGET 0 (normal_lines_of survey)) (λ place line steps at told.
+    coherent-steps (normal_lines_of survey) (rule_verdicts survey) (verdicts-count survey (normal_lines_of survey) pruning_budget 0 (normal_lines_of survey)) (λ place line steps at told.
     let (apart, refutes) = rule-refuted survey formed place line steps at told in
     let (x, valid, wrong) = refutes in valid-coherent (refutation_at survey (rule_flags survey) place line) steps x valid)

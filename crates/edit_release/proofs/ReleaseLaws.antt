@@ -1,5 +1,5 @@
 -- The files of an edit are a valid release.
-use Rattle.std.proofs.Common.{◌≡◌, ◌<◌, ◌∙◌, sym, ap, refl, ℕ, ◌==◌, true, List, [], ◌∷◌, length, map, All, IsSome, IsTrue, ◌↔◌, Option, Some, None, inl, subst, option_map}
+use Rattle.std.proofs.Common.{◌≡◌, ◌<◌, ◌∙◌, sym, ap, refl, ℕ, ◌==◌, true, List, [], ◌∷◌, length, map, All, IfSome, IsSome, IsTrue, ◌↔◌, Option, Some, None, inl, subst, option_map}
 use Rattle.std.specs.Prelude.{is_some}
 use Rattle.std.specs.List.{AllByRecursion, AllZip}
 use Rattle.std.proofs.lemmas.Bool.{le-leb}
@@ -12,6 +12,8 @@ use Rattle.edit_model.specs.Surveys.{IsWellFormed}
 use Rattle.edit_model.specs.declared.value.Value.{Value}
 use Rattle.edit_normal.specs.RuleLines.{normal_lines_of}
 use Rattle.bound_cert.specs.declared.outcome.GiftFault.{GiftFault}
+use Rattle.edit_paths.specs.Cases.{case_of}
+use Rattle.edit_paths.specs.Outcomes.{outcome_of}
 use Rattle.bound_cert.specs.declared.outcome.Outcome.{Outcome}
 use Rattle.bound_cert.specs.declared.outcome.Outcome.TheVariants.{Budget, Change, Contradictory, Overflow}
 use Rattle.back_subst.specs.declared.gift.Gift.{Gift}
@@ -40,7 +42,7 @@ use Rattle.redundancy.specs.declared.verdict.Verdict.{Verdict}
 use Rattle.pruned_rules.specs.Pruned.{kept_edits, rule_flags, rule_verdicts}
 use Rattle.pruned_rules.proofs.KeptLaws.{rules-follow}
 use Rattle.edit_release.specs.Edits.{proof_of, proof_telling, said, written_proof}
-use Rattle.edit_release.specs.Guarantee.{HasTree, IsGuaranteed, NamesStop}
+use Rattle.edit_release.specs.Guarantee.{HasTree, HasValuesOrStop, IsGuaranteed, IsGuaranteedEnd, IsMet}
 use Rattle.edit_release.specs.Releases.{AllGiven, HasGuarantee, IsReleaseOf, written_in}
 use Rattle.edit_release.specs.declared.release.Release.{Release}
 use Rattle.edit_release.proofs.CoherentLaws.{clean-leaves, said-coherent}
@@ -100,23 +102,59 @@ module _ (survey : SurveyParts) (formed : IsWellFormed survey) (budget : ℕ) (a
   pub proof-coherent : (terms : Terms) (history : List Entry) (rows : List (List Value)) (ends : List RowEnd) → AllByRecursion (IsRow survey.fields) rows → AllZip (IsEndOf survey (kept_edits survey) budget all) rows ends → IsCoherent (proof_of survey terms ends history)
   proof-coherent terms history rows ends are each = record { version = inl refl; table = refl; verdicts = verdicts-coherent survey formed; rows = all-coherent rows ends are each }
 
--- a change without values names where the giving of values stopped
-stop-named : (survey : SurveyParts) (row : List Value) (donor : Option (List Value)) (o : Outcome) (stop : Option GiftFault) (gift : Option Gift) → ComesOf survey (kept_edits survey) row donor o stop gift → NamesStop o gift stop
-stop-named survey row donor (Change path weight cert) None None follows = absurd follows
-stop-named survey row donor (Change path weight cert) None (Some gift) follows = tt
-stop-named survey row donor (Change path weight cert) (Some stop) None follows = refl
-stop-named survey row donor (Change path weight cert) (Some stop) (Some gift) follows = tt
-stop-named survey row donor (Budget path work) stop gift follows = tt
-stop-named survey row donor (Overflow path event) stop gift follows = tt
-stop-named survey row donor (Contradictory cert) stop gift follows = tt
+-- ---- what is guaranteed of each record
 
-all-named : (survey : SurveyParts) (budget : ℕ) (all rows : List (List Value)) (ends : List RowEnd) → AllZip (IsEndOf survey (kept_edits survey) budget all) rows ends
-    → AllByRecursion (λ (end : RowEnd). NamesStop end.proof.outcome end.gift end.proof.gift) ends
-all-named survey budget all [] [] each = tt
-all-named survey budget all [] (end ∷ ends) each = absurd each
-all-named survey budget all (row ∷ rows) [] each = absurd each
-all-named survey budget all (row ∷ rows) (end ∷ ends) each =
-    (stop-named survey row (option_map (row_at all) end.donor) end.proof.outcome end.proof.gift end.gift each.0.follows, all-named survey budget all rows ends each.1)
+module _ (survey : SurveyParts) (formed : IsWellFormed survey) (budget : ℕ) (all : List (List Value)) where
+  -- it has values exactly where it is a change whose giving did not stop
+  values-or-stop : (row : List Value) (donor : Option (List Value)) (o : Outcome) (stop : Option GiftFault) (gift : Option Gift) → ComesOf survey (kept_edits survey) row donor o stop gift → HasValuesOrStop o stop gift
+  values-or-stop row donor (Change path weight cert) None None follows = follows
+  values-or-stop row donor (Change path weight cert) None (Some gift) follows = tt
+  values-or-stop row donor (Change path weight cert) (Some stop) None follows = tt
+  values-or-stop row donor (Change path weight cert) (Some stop) (Some gift) follows = follows
+  values-or-stop row donor (Budget path work) None None follows = tt
+  values-or-stop row donor (Budget path work) None (Some gift) follows = follows
+  values-or-stop row donor (Budget path work) (Some stop) gift follows = follows
+  values-or-stop row donor (Overflow path event) None None follows = tt
+  values-or-stop row donor (Overflow path event) None (Some gift) follows = follows
+  values-or-stop row donor (Overflow path event) (Some stop) gift follows = follows
+  values-or-stop row donor (Contradictory cert) None None follows = tt
+  values-or-stop row donor (Contradictory cert) None (Some gift) follows = follows
+  values-or-stop row donor (Contradictory cert) (Some stop) gift follows = follows
+
+  -- its values are a record of the survey
+  values-fit : (row : List Value) (donor : Option (List Value)) (o : Outcome) (stop : Option GiftFault) (gift : Option Gift) → ComesOf survey (kept_edits survey) row donor o stop gift → IfSome gift (λ (g : Gift). IsRow survey.fields g.row)
+  values-fit row donor o stop None follows = tt
+  values-fit row donor (Change path weight cert) None (Some gift) follows = follows.imputed.fits
+  values-fit row donor (Change path weight cert) (Some stop) (Some gift) follows = absurd follows
+  values-fit row donor (Budget path work) None (Some gift) follows = absurd follows
+  values-fit row donor (Budget path work) (Some stop) (Some gift) follows = absurd follows
+  values-fit row donor (Overflow path event) None (Some gift) follows = absurd follows
+  values-fit row donor (Overflow path event) (Some stop) (Some gift) follows = absurd follows
+  values-fit row donor (Contradictory cert) None (Some gift) follows = absurd follows
+  values-fit row donor (Contradictory cert) (Some stop) (Some gift) follows = absurd follows
+
+  -- a number out of range is the first that its search meets
+  first-met : (row : List Value) (o : Outcome) → outcome_of (case_of survey (kept_edits survey) row) budget ≡ o → IsMet survey (kept_edits survey) budget row o
+  first-met row (Change path weight cert) e = tt
+  first-met row (Budget path work) e = tt
+  first-met row (Overflow path event) e = e
+  first-met row (Contradictory cert) e = tt
+
+  end-guaranteed : (row : List Value) (end : RowEnd) → IsRow survey.fields row → IsEndOf survey (kept_edits survey) budget all row end → Says survey (kept_edits survey) budget row end → IsGuaranteedEnd survey (rule_flags survey) budget row end
+  end-guaranteed row end is ends says = record {
+    ends = values-or-stop row (option_map (row_at all) end.donor) end.proof.outcome end.proof.gift end.gift ends.follows;
+    fits = values-fit row (option_map (row_at all) end.donor) end.proof.outcome end.proof.gift end.gift ends.follows;
+    says = says;
+    met = first-met row end.proof.outcome (sym ends.outcome);
+    shown = tree-shown survey row budget formed is all end ends;
+  }
+
+  pub all-guaranteed : (rows : List (List Value)) (ends : List RowEnd) → AllByRecursion (IsRow survey.fields) rows → AllZip (IsEndOf survey (kept_edits survey) budget all) rows ends → AllZip (Says survey (kept_edits survey) budget) rows ends
+      → AllZip (IsGuaranteedEnd survey (rule_flags survey) budget) rows ends
+  all-guaranteed [] [] are each say = tt
+  all-guaranteed [] (end ∷ ends) are each say = absurd each
+  all-guaranteed (row ∷ rows) [] are each say = absurd each
+  all-guaranteed (row ∷ rows) (end ∷ ends) are each say = (end-guaranteed row end are.0 each.0 say.0, all-guaranteed rows ends are.1 each.1 say.1)
 
 -- texts are released of a record that is told to be released
 released-told : (r : RowRules) (f : RowFiles) (o : Outcome) (stop : Option GiftFault) (gift : Option Gift) → is_released (record { outcome = o; gift = stop }) ≡ is_some gift → (IsSome gift → AreReleasedTexts r f (path_found o)) → IsReleasedSaid r f o stop
@@ -192,25 +230,35 @@ module _ (survey : SurveyParts) (sheet : SheetParts) (bytes : List ℕ) (terms :
   guaranteed-of = record {
     kept = rule_flags survey;
     follow = rules-follow survey formed;
-    say = say;
-    shown = shown;
-    stops = all-named survey terms.budget sheet.rows sheet.rows ends each;
+    each = all-guaranteed survey formed terms.budget sheet.rows sheet.rows ends are each say;
     legal = donations.legal;
   }
 
+  -- the proof that is written has one spelling
+  written-plain : (p : Proof) → p ≡ written_proof survey terms ends history → IsSized p → IsPlain (written_proof survey terms ends history)
+  written-plain p same sized = plain-if (written_proof survey terms ends history) (subst IsSized same sized) (coherent-shared (proof_of survey terms ends history) coherent)
+
   -- what was written tells of it
-  pub guarantee-of : (release : Release) (p : Proof) → p ≡ written_proof survey terms ends history → release.proof.items ≡ proof_text p → release.released.items ≡ released_text_of survey sheet ends → HasGuarantee survey sheet terms release
-  guarantee-of release p same proof released = record {
+  pub guarantee-of : (release : Release) (p : Proof) → p ≡ written_proof survey terms ends history → IsSized p → release.proof.items ≡ proof_text p → release.released.items ≡ released_text_of survey sheet ends
+      → HasGuarantee survey sheet terms release
+  guarantee-of release p same sized proof released = record {
     ends = ends;
     history = history;
     guaranteed = guaranteed-of;
     released = released;
     told = written_proof survey terms ends history;
     proof = proof ∙ ap proof_text same;
-    kept = flags-said (rule_verdicts survey);
-    rows = refl;
-    trees = has-trees survey terms ends history sheet.rows shown;
-    claims = refl;
+    tells = record {
+      plain = written-plain p same sized;
+      limit = refl;
+      near = refl;
+      budget = refl;
+      kept = flags-said (rule_verdicts survey);
+      refuted = none-faulty survey formed terms ends history;
+      rows = refl;
+      trees = has-trees survey terms ends history sheet.rows shown;
+      claims = refl;
+    };
   }
 
   -- and is the edit of the sheet
@@ -231,13 +279,10 @@ module _ (survey : SurveyParts) (sheet : SheetParts) (bytes : List ℕ) (terms :
       released = released;
       summary = summary;
       trees = has-trees survey terms ends history sheet.rows shown;
-      valid = subst (λ (given : List ℕ). IsValidRelease (audit_of survey sheet given release.proof.items)) (sym released) (subst (λ (told : List ℕ). IsValidRelease (audit_of survey sheet (released_text_of survey sheet ends) told)) (sym text) (release-valid plain));
+      valid = subst (λ (given : List ℕ). IsValidRelease (audit_of survey sheet given release.proof.items)) (sym released) (subst (λ (told : List ℕ). IsValidRelease (audit_of survey sheet (released_text_of survey sheet ends) told)) (sym text) (release-valid (written-plain p same sized)));
     };
     whole = whole;
   }
     where
       text : release.proof.items ≡ proof_text (written_proof survey terms ends history)
       text = proof ∙ ap proof_text same
-
-      plain : IsPlain (written_proof survey terms ends history)
-      plain = plain-if (written_proof survey terms ends history) (subst IsSized same sized) (coherent-shared (proof_of survey terms ends history) coherent)

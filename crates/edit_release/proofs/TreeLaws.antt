@@ -22,7 +22,7 @@ use Rattle.cert_check.specs.Dropped.{kept_flags}
 use Rattle.edit_report.specs.declared.end.RowEnd.{RowEnd}
 use Rattle.redundancy.proofs.BaseLaws.{verdicts-count}
 use Rattle.pruned_rules.specs.Pruned.{rule_flags, rule_verdicts}
-use Rattle.pruned_rules.specs.declared.pruned.TheConstants.{PRUNING_BUDGET}
+use Rattle.pruned_rules.specs.Limits.{pruning_budget}
 use Rattle.record_workers.specs.declared.terms.Terms.{Terms}
 use Rattle.donor_book.specs.declared.claim.Entry.{Entry}
 use Rattle.edit_release.specs.Edits.{proof_of, refutation_by, said, said_of, written_proof}
@@ -97,7 +97,7 @@ module _ (survey : SurveyParts) (terms : Terms) (ends : List RowEnd) (history : 
 
   -- it says something of each line of the rules
   pub lines-many : length p.verdicts ≡ length (normal_lines_of survey)
-  lines-many = length-map (rule_verdicts survey) refutation_by ∙ verdicts-count survey (normal_lines_of survey) PRUNING_BUDGET 0 (normal_lines_of survey)
+  lines-many = length-map (rule_verdicts survey) refutation_by ∙ verdicts-count survey (normal_lines_of survey) pruning_budget 0 (normal_lines_of survey)
 
   even : length (normal_lines_of survey) ≡ length (kept_flags p)
   even = omega (arith, lines-many, length-map p.verdicts is_none)

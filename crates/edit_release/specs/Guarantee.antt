@@ -1,7 +1,8 @@
 -- The release guarantee: what is so of the records of a sheet that ended so, and of the claims of donors.
-use Rattle.std.specs.Prelude.{⊤, ◌++◌, Bool, true, List, Option, Some, None, IsSome, map}
-use Rattle.std.specs.List.{AllByRecursion, AllZip}
+use Rattle.std.specs.Prelude.{◌≡◌, ⊤, ◌++◌, ℕ, Bool, true, List, Option, Some, None, IfSome, map}
+use Rattle.std.specs.List.{AllZip}
 use Rattle.edit_model.specs.Parts.{SurveyParts}
+use Rattle.edit_model.specs.Rows.{IsRow}
 use Rattle.edit_model.specs.declared.value.Value.{Value}
 use Rattle.edit_line.specs.EditSets.{EditsParts}
 use Rattle.edit_line.specs.Lines.{LineParts}
@@ -11,7 +12,9 @@ use Rattle.redundancy.specs.Verdicts.{usable_from}
 use Rattle.bound_cert.specs.ValidTrees.{IsValidTree, tree_case}
 use Rattle.bound_cert.specs.declared.outcome.GiftFault.{GiftFault}
 use Rattle.bound_cert.specs.declared.outcome.Outcome.{Outcome}
-use Rattle.bound_cert.specs.declared.outcome.Outcome.TheVariants.{Change, Contradictory}
+use Rattle.bound_cert.specs.declared.outcome.Outcome.TheVariants.{Change, Contradictory, Overflow}
+use Rattle.edit_paths.specs.Cases.{case_of}
+use Rattle.edit_paths.specs.Outcomes.{outcome_of}
 use Rattle.back_subst.specs.declared.gift.Gift.{Gift}
 use Rattle.donor_book.specs.Entries.{IsLegalHistory}
 use Rattle.donor_book.specs.declared.claim.Entry.{Entry}
@@ -37,21 +40,37 @@ HasTree survey lines usable row (Change path w cert) = IsValidTree (tree_case su
 HasTree survey lines usable row (Contradictory cert) = IsValidTree (tree_case survey lines usable row None) cert.leaves
 HasTree survey lines usable row outcome = ⊤
 
--- where no values were given to the fields of a change, it is named at which number that stopped
-abbrev pub NamesStop : Outcome → Option Gift → Option GiftFault → Type 0
-NamesStop (Change path weight cert) None stop = IsSome stop
-NamesStop outcome gift stop = ⊤
+-- a change has values, or the number at which the giving of values stopped; any other end has neither
+abbrev pub HasValuesOrStop : Outcome → Option GiftFault → Option Gift → Type 0
+HasValuesOrStop (Change path weight cert) None (Some gift) = ⊤
+HasValuesOrStop (Change path weight cert) (Some stop) None = ⊤
+HasValuesOrStop (Change path weight cert) None None = ⊥
+HasValuesOrStop (Change path weight cert) (Some stop) (Some gift) = ⊥
+HasValuesOrStop outcome None None = ⊤
+HasValuesOrStop outcome stop gift = ⊥
 
--- some lines of the rules are kept, and each line follows from these; what the end of each record says of it in terms of
--- corrections is so, its tree shows it, and a change without values names the number that left the range; and the claims are a
--- legal history, in which each donor is given at most as often as the limit says
+-- where the search is told to have met a number out of range, that is what the search of the record comes to: the first such number
+abbrev pub IsMet : SurveyParts → EditsParts → ℕ → List Value → Outcome → Type 0
+IsMet survey edits budget row (Overflow path event) = outcome_of (case_of survey edits row) budget ≡ Overflow path event
+IsMet survey edits budget row outcome = ⊤
+
+-- what is guaranteed of the end of a record, where these lines of the rules are kept: it has values exactly where it is a change whose
+-- giving did not stop; they are a record of the survey; what the end says in terms of corrections is so; a number out of range is the
+-- first that the search meets; and its tree shows it
+pub record IsGuaranteedEnd (survey : SurveyParts) (kept : List Bool) (budget : ℕ) (row : List Value) (end : RowEnd) : Type 0 where
+  pub ends : HasValuesOrStop end.proof.outcome end.proof.gift end.gift
+  pub fits : IfSome end.gift (λ (gift : Gift). IsRow survey.fields gift.row)
+  pub says : Says survey (usable_edits survey kept) budget row end
+  pub met : IsMet survey (usable_edits survey kept) budget row end.proof.outcome
+  pub shown : HasTree survey (normal_lines_of survey) kept row end.proof.outcome
+
+-- some lines of the rules are kept, and each line follows from these; of the end of each record this is so; and the claims are a legal
+-- history, in which each donor is given at most as often as the limit says
 pub record IsGuaranteed (survey : SurveyParts) (sheet : SheetParts) (terms : Terms)
     (ends : List RowEnd) (history : List Entry) : Type 0 where
   pub kept : List Bool
   pub follow : AllFollow (normal_lines_of survey) kept
-  pub say : AllZip (Says survey (usable_edits survey kept) terms.budget) sheet.rows ends
-  pub shown : AllZip (λ row (end : RowEnd). HasTree survey (normal_lines_of survey) kept row end.proof.outcome) sheet.rows ends
-  pub stops : AllByRecursion (λ (end : RowEnd). NamesStop end.proof.outcome end.gift end.proof.gift) ends
+  pub each : AllZip (IsGuaranteedEnd survey kept terms.budget) sheet.rows ends
   pub legal : IsLegalHistory terms.limit history
 
 -- ---- what the proof file shows

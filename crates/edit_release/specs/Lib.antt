@@ -1,3 +1,4 @@
 pub mod Edits
 pub mod Guarantee
+pub mod Laws
 pub mod Releases

@@ -22,7 +22,7 @@ use Rattle.redundancy.specs.declared.verdict.Verdict.TheVariants.{Dropped}
 use Rattle.redundancy.proofs.BaseLaws.{usable-given, usable-more, usable-rising, verdicts-count}
 use Rattle.redundancy.proofs.PruneLaws.{dropped-valid, lines-follow, usable-place, usable-plain}
 use Rattle.pruned_rules.specs.Pruned.{kept_edits, rule_flags, rule_verdicts}
-use Rattle.pruned_rules.specs.declared.pruned.TheConstants.{PRUNING_BUDGET}
+use Rattle.pruned_rules.specs.Limits.{pruning_budget}
 
 -- The kept lines of a survey's rules say what all lines say.
 
@@ -74,7 +74,7 @@ kept-all place lines verdicts kept same past so_far =
 -- there is a verdict for each
 pub verdict-each : (survey : SurveyParts) (lines : List LineParts) (verdicts : List Verdict) → lines ≡ normal_lines_of survey → verdicts ≡ rule_verdicts survey → length verdicts ≡ length lines
 verdict-each survey lines verdicts lines_are verdicts_are =
-    ap (λ (vs : List Verdict). length vs) verdicts_are ∙ verdicts-count survey (normal_lines_of survey) PRUNING_BUDGET 0 (normal_lines_of survey) ∙ ap (λ (ls : List LineParts). length ls) (sym lines_are)
+    ap (λ (vs : List Verdict). length vs) verdicts_are ∙ verdicts-count survey (normal_lines_of survey) pruning_budget 0 (normal_lines_of survey) ∙ ap (λ (ls : List LineParts). length ls) (sym lines_are)
 
 -- those that are kept
 pub kept-are : (survey : SurveyParts) (lines : List LineParts) (verdicts : List Verdict) (kept : List (ℕ × LineParts)) → lines ≡ normal_lines_of survey → verdicts ≡ rule_verdicts survey → kept ≡ usable_from 0 lines (map keeps_line verdicts)
@@ -85,12 +85,12 @@ kept-are survey lines verdicts kept lines_are verdicts_are is =
 module _ (survey : SurveyParts) (formed : IsWellFormed survey) where
   -- each line follows from the kept ones
   pub rules-follow : (line : LineParts) → IsIn line (normal_lines_of survey) → Follows (usable_lines (normal_lines_of survey) (rule_flags survey)) line
-  rules-follow = lines-follow survey formed.fields (normal_lines_of survey) (normal-over survey) (normal-lines survey formed) PRUNING_BUDGET
+  rules-follow = lines-follow survey formed.fields (normal_lines_of survey) (normal-over survey) (normal-lines survey formed) pruning_budget
 
   -- a dropped line is no equality, and its steps refute its negation
   pub rule-refuted : (place : ℕ) (line : LineParts) (steps : List Step) → slice_get (normal_lines_of survey) place ≡ Some line → slice_get (rule_verdicts survey) place ≡ Some (Dropped steps)
       → (line.relation ≢ Equal) × RefutedBy (refutation_of (shape_of survey.fields) (normal_lines_of survey) (left_at (rule_flags survey) place) line (no_values survey.fields)) steps
-  rule-refuted place line steps at told = dropped-valid survey formed.fields (normal_lines_of survey) (normal-over survey) (normal-lines survey formed) PRUNING_BUDGET place line at steps told
+  rule-refuted place line steps at told = dropped-valid survey formed.fields (normal_lines_of survey) (normal-over survey) (normal-lines survey formed) pruning_budget place line at steps told
 
   -- a point with codes of the survey meets the kept edits exactly where it meets all rules
   pub kept-mean : (p : Point) → (HasCodesFrom 0 survey.fields p × AllHold (map (λ (e : ℕ × LineParts). e.1) (kept_edits survey).lines) p) ↔ IsConsistent survey p

@@ -6,11 +6,11 @@ use Rattle.edit_line.specs.Shapes.{shape_of}
 use Rattle.edit_normal.specs.RuleLines.{normal_lines_of}
 use Rattle.redundancy.specs.Verdicts.{keeps_line, usable_from, verdicts_of}
 use Rattle.redundancy.specs.declared.verdict.Verdict.{Verdict}
-use Rattle.pruned_rules.specs.declared.pruned.TheConstants.{PRUNING_BUDGET}
+use Rattle.pruned_rules.specs.Limits.{pruning_budget}
 
 -- the verdicts on the lines of the rules
 abbrev pub rule_verdicts : SurveyParts → List Verdict
-rule_verdicts survey = verdicts_of survey (normal_lines_of survey) PRUNING_BUDGET
+rule_verdicts survey = verdicts_of survey (normal_lines_of survey) pruning_budget
 
 -- which lines are kept
 abbrev pub rule_flags : SurveyParts → List Bool

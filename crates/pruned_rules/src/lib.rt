@@ -5,4 +5,4 @@
 
 mod pruned;
 
-pub use pruned::{PRUNING_BUDGET, PrunedRules, prune_rules};
+pub use pruned::{PrunedRules, prune_rules};

@@ -13,7 +13,7 @@ use redundancy::{Verdict, prune};
 use std::alloc::Global;
 
 /// The most work that is done to find whether one line may be dropped.
-pub const PRUNING_BUDGET: u64 = 2000;
+const PRUNING_BUDGET: u64 = 2000;
 
 /// The lines of a survey's rules in order, and for each of them whether it is kept.
 #[derive(Debug, Drop)]

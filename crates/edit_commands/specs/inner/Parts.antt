@@ -13,7 +13,7 @@ use Rattle.edit_commands.specs.declared.fault.Fault.{Fault}
 use Rattle.edit_commands.specs.declared.fault.Fault.TheVariants as fault
 use Rattle.edit_commands.specs.declared.status.Status.{Status}
 use Rattle.edit_commands.specs.declared.status.Status.TheVariants as status
-use Rattle.edit_commands.specs.declared.reading.TheConstants.{MOST_BYTES}
+use Rattle.edit_commands.specs.Limits.{most_bytes}
 
 -- the count of faults after a part of a run
 abbrev pub faults_after : {A : Type 0} → Result A Fault → ℕ → ℕ
@@ -57,12 +57,12 @@ RefusesLong most files fault = ⊤
 -- why a file of rules is refused: it holds no rules, or is too long
 abbrev pub RefusesRules : List ℕ → Files → Fault → Type 0
 RefusesRules name files (fault.Rules line kind) = HoldsText files name (AreNoRules line kind)
-RefusesRules name files fault = RefusesLong MOST_BYTES files fault
+RefusesRules name files fault = RefusesLong most_bytes files fault
 
 -- why a file of records is refused: it holds no records of these fields, or is too long
 abbrev pub RefusesRecords : List ℕ → List Field → Files → Fault → Type 0
 RefusesRecords name fields files (fault.Records what) = HoldsText files name (AreNoRecords fields what)
-RefusesRecords name fields files fault = RefusesLong MOST_BYTES files fault
+RefusesRecords name fields files fault = RefusesLong most_bytes files fault
 
 -- ---- the stores
 

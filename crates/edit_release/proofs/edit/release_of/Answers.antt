@@ -59,7 +59,7 @@ returns c =
     record {
       guaranteed =
           guarantee-of survey sheet bytes terms ends history formed read c.requires.terms c.requires.ends c.requires.say c.requires.donations
-          release told same proof.text released;
+          release told same proof.sized proof.text released;
       edit = λ workers order.
           release-of survey sheet bytes terms ends history formed read c.requires.terms c.requires.ends c.requires.say c.requires.donations
           release told same proof.sized proof.text reasons released summary workers order whole;

@@ -1,0 +1,26 @@
+-- What the guarantee says of the records that are released.
+use Rattle.std.specs.Prelude.{ℕ, Bool, List, IfSome}
+use Rattle.std.specs.List.{AllZip}
+use Rattle.edit_model.specs.Parts.{SurveyParts}
+use Rattle.edit_model.specs.Rows.{IsRow}
+use Rattle.edit_model.specs.declared.value.Value.{Value}
+use Rattle.back_subst.specs.declared.gift.Gift.{Gift}
+use Rattle.donor_book.specs.declared.claim.Entry.{Entry}
+use Rattle.edit_report.specs.declared.end.RowEnd.{RowEnd}
+use Rattle.record_text.specs.Sheets.{SheetParts}
+use Rattle.record_workers.specs.Said.{IsCorrected}
+use Rattle.record_workers.specs.declared.terms.Terms.{Terms}
+use Rattle.edit_release.specs.Guarantee.{IsGuaranteed}
+
+-- these values are a record of the survey, and a correction of the record that was read of which no other weighs less
+pub record IsLeastCorrection (survey : SurveyParts) (row new : List Value) : Type 0 where
+  pub fits : IsRow survey.fields new
+  pub path : List Bool
+  pub weight : ℕ
+  pub corrected : IsCorrected survey row new path weight
+
+-- each record that is released is a correction of least weight, by the guarantee alone
+abbrev pub ReleasedLaw : Type 0
+ReleasedLaw = (survey : SurveyParts) (sheet : SheetParts) (terms : Terms) (ends : List RowEnd) (history : List Entry)
+    → IsGuaranteed survey sheet terms ends history
+    → AllZip (λ row (end : RowEnd). IfSome end.gift (λ (gift : Gift). IsLeastCorrection survey row gift.row)) sheet.rows ends
