@@ -2,6 +2,7 @@
 //! else is that of [`case_files`].
 #![tactic(auto)]
 
+mod asked;
 mod own;
 mod runs;
 

@@ -8,6 +8,8 @@ use edit_desk::Failure;
 pub enum Own<'a> {
     /// `forxainde WORD ..`: the program is run.
     Run { words: &'a [&'a str] },
+    /// `words WORD ..`: shows what the words ask for.
+    Words { words: &'a [&'a str] },
     /// `fail call N keep K`: a call of the desk of the next run fails.
     FailCall { failure: Failure },
     /// `fail line N`: a printed line of the next run fails.
@@ -21,6 +23,7 @@ impl<'a> Own<'a> {
     pub fn of(words: &'a [&'a str]) -> Option<Own<'a>> {
         match words {
             ["forxainde", words @ ..] => Some(Own::Run { words }),
+            ["words", words @ ..] => Some(Own::Words { words }),
             ["fail", "call", call, "keep", keep] => Some(Own::FailCall {
                 failure: Failure {
                     call: number_of(call)?,
@@ -35,10 +38,10 @@ impl<'a> Own<'a> {
         }
     }
 
-    /// What it is among the commands of a file: a case begins with a run.
+    /// What it is among the commands of a file: a case begins with a run, or with words.
     pub fn role(self) -> Role {
         match self {
-            Own::Run { .. } => Role::Begins,
+            Own::Run { .. } | Own::Words { .. } => Role::Begins,
             _ => Role::Follows,
         }
     }

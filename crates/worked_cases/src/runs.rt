@@ -1,5 +1,6 @@
 //! Runs of the program over files in memory.
 
+use crate::asked::asked_line;
 use crate::own::Own;
 use case_files::{Commands, Files, Role, spelled_lines};
 use edit_commands::fh_main;
@@ -50,6 +51,7 @@ impl Commands for Runs {
                 Ok(Vec::new(alloc))
             }
             Some(Own::Run { words }) => self.run(rt, alloc, files, words),
+            Some(Own::Words { words }) => told(alloc, words),
             Some(Own::Calls) => copied(alloc, &self.calls),
         }
     }
@@ -77,6 +79,12 @@ impl Runs {
         }
         Ok(lines)
     }
+}
+
+// The line that tells what the words ask for.
+fn told(alloc: Global, words: &[&str]) -> Result<Vec<Vec<u8>>, OutOfMemory> {
+    let line = asked_line(alloc, &owned(alloc, words)?)?;
+    spelled_lines(alloc, &line)
 }
 
 // The words, each in memory of its own.

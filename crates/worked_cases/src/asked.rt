@@ -1,0 +1,67 @@
+//! What the words of a command line ask for, as a line.
+
+use command_words::{check_asked, edit_asked, make_asked, rules_asked};
+use foundation::OutOfMemory;
+use std::alloc::Global;
+
+/// The line that tells what the words ask for, with its line feed: the command, its files in the order of its options, and
+/// then its numbers; or `nothing`. Where the words asked for two commands, both would be told.
+pub fn asked_line(alloc: Global, words: &[String]) -> Result<Vec<u8>, OutOfMemory> {
+    let mut line = Vec::new(alloc);
+    for told in [
+        edit_told(alloc, words)?,
+        check_told(alloc, words)?,
+        rules_told(alloc, words)?,
+        make_told(alloc, words)?,
+    ] {
+        line.extend_from_slice(told.as_bytes())?;
+    }
+    if line.is_empty() {
+        line.extend_from_slice(b"nothing")?;
+    }
+    line.push(b'\n')?;
+    Ok(line)
+}
+
+// The edit that the words ask for; no text where they ask for none.
+fn edit_told(alloc: Global, words: &[String]) -> Result<String, OutOfMemory> {
+    let Some(asked) = edit_asked(alloc, words)? else {
+        return Ok(String::new(alloc));
+    };
+    let (rules, records, released) = (asked.rules, asked.records, asked.released);
+    let (reasons, proof) = (asked.reasons, asked.proof);
+    let (workers, budget) = (asked.workers, asked.budget);
+    let (limit, near) = (asked.limit, asked.near);
+    Ok(format!(in alloc;
+        "edit {rules} {records} {released} {reasons} {proof} {workers} {budget} {limit} {near}"
+    )?)
+}
+
+// The check that the words ask for.
+fn check_told(alloc: Global, words: &[String]) -> Result<String, OutOfMemory> {
+    let Some(asked) = check_asked(alloc, words)? else {
+        return Ok(String::new(alloc));
+    };
+    let (rules, records) = (asked.rules, asked.records);
+    let (released, proof) = (asked.released, asked.proof);
+    Ok(format!(in alloc; "check {rules} {records} {released} {proof}")?)
+}
+
+// The command `rules` that the words ask for.
+fn rules_told(alloc: Global, words: &[String]) -> Result<String, OutOfMemory> {
+    let Some(asked) = rules_asked(alloc, words)? else {
+        return Ok(String::new(alloc));
+    };
+    let rules = asked.rules;
+    Ok(format!(in alloc; "rules {rules}")?)
+}
+
+// The survey that the words ask to be made.
+fn make_told(alloc: Global, words: &[String]) -> Result<String, OutOfMemory> {
+    let Some(asked) = make_asked(alloc, words)? else {
+        return Ok(String::new(alloc));
+    };
+    let (rules, records) = (asked.rules, asked.records);
+    let (start, rows) = (asked.start, asked.rows);
+    Ok(format!(in alloc; "make {rules} {records} {start} {rows}")?)
+}
