@@ -353,6 +353,24 @@ Bounds of two fields, and no rule that ties them: each record is corrected for i
   $ forxainde check --rules rules --records records --released released --proof proof
   valid records 3 released 3
 
+Without the clean record there is no donor: a changed field is given 0 where its bounds allow that, and else the end that is nearest to it.
+
+  $ sed -i -e '4d' records
+  $ forxainde edit --rules rules --records records --released released --reasons reasons --proof proof
+  records 2 clean 0 changed 2 unresolved 0 weight 5
+  claims 2 given 0
+  $ cat released
+  A,B
+  3,0
+  4,0
+  $ cat reasons
+  record,cause,field,before,after,donor,detail
+  1,changed,A,10,3,,nearest
+  1,changed,B,7,0,,default
+  2,changed,B,,0,,default
+  $ forxainde check --rules rules --records records --released released --proof proof
+  valid records 2 released 2
+
 The greatest value that a bound below 0 allows.
 
   $ cat >rules <<EOF
