@@ -1,3 +1,1 @@
-pub mod SharedProofs
-pub mod Sizes
 pub mod inner
