@@ -1,3 +1,4 @@
 pub mod FileReads
 pub mod PartTexts
+pub mod PlaceLaws
 pub mod ReadingLaws
