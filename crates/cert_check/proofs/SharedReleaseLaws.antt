@@ -16,8 +16,8 @@ use Rattle.donor_book.specs.declared.claim.Entry.{Entry}
 use Rattle.proof_grammar.specs.Limits.{IsPlain}
 use Rattle.proof_grammar.specs.declared.proof.Proof.{Proof}
 use Rattle.proof_grammar.proofs.ProofWords.{text-once}
-use Rattle.proof_text.specs.SharedProofs.{shared_proof}
-use Rattle.proof_text.proofs.SharedPlain.{plain-shared}
+use Rattle.proof_sharing.specs.SharedProofs.{shared_proof}
+use Rattle.proof_sharing.proofs.SharedPlain.{plain-shared}
 use Rattle.cert_check.specs.Claims.{AreValidClaims, IsClaim}
 use Rattle.cert_check.specs.Dropped.{drop_fault, kept_flags}
 use Rattle.cert_check.specs.Places.{records_line}

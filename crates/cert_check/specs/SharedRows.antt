@@ -8,7 +8,7 @@ use Rattle.derivation.specs.declared.step.Step.{Step}
 use Rattle.bound_cert.specs.SharedTrees.{shared_rows, table_with_rows}
 use Rattle.bound_cert.specs.declared.outcome.RowProof.{RowProof}
 use Rattle.proof_grammar.specs.Limits.{IsRowProof}
-use Rattle.proof_text.specs.SharedProofs.{shared_proof}
+use Rattle.proof_sharing.specs.SharedProofs.{shared_proof}
 use Rattle.proof_grammar.specs.ProofLines.{proof_text}
 use Rattle.proof_grammar.specs.declared.proof.Proof.{Proof}
 use Rattle.cert_check.specs.Releases.{AreValidRows, Audit, IsValidRelease, Spells, audit_of}

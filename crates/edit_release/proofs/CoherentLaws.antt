@@ -33,7 +33,7 @@ use Rattle.edit_paths.specs.Cases.{case_of}
 use Rattle.edit_paths.specs.Outcomes.{outcome_of}
 use Rattle.back_subst.specs.declared.gift.Gift.{Gift}
 use Rattle.cert_check.proofs.SharedRowLaws.{AreCleanLeaves, HasCleanLeaf}
-use Rattle.proof_text.specs.Sizes.{AreCoherentLeaves, AreCoherentSteps, IsCoherentOutcome, IsCoherentRow, IsCoherentReason, IsCoherentStep, IsMultiplier}
+use Rattle.proof_grammar.specs.Sizes.{AreCoherentLeaves, AreCoherentSteps, IsCoherentOutcome, IsCoherentRow, IsCoherentReason, IsCoherentStep, IsMultiplier}
 use Rattle.edit_report.specs.declared.end.RowEnd.{RowEnd}
 use Rattle.record_workers.specs.Ends.{ComesOf, IsEndOf}
 use Rattle.pruned_rules.specs.Pruned.{kept_edits}

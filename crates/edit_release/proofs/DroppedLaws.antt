@@ -19,7 +19,7 @@ use Rattle.pruned_rules.specs.Pruned.{rule_flags, rule_verdicts}
 use Rattle.pruned_rules.proofs.KeptLaws.{rule-refuted}
 use Rattle.pruned_rules.specs.Limits.{pruning_budget}
 use Rattle.proof_grammar.specs.ProofLines.{verdict_lines}
-use Rattle.proof_text.specs.Sizes.{AreCoherentSteps}
+use Rattle.proof_grammar.specs.Sizes.{AreCoherentSteps}
 use Rattle.edit_report.specs.declared.end.RowEnd.{RowEnd}
 use Rattle.cert_check.specs.Dropped.{drop_fault, dropped_fault, fault_by, or_later, refutation_at, refutation_fault, verdict_fault, verdicts_fault}
 use Rattle.edit_release.specs.Edits.{proof_of, refutation_by}

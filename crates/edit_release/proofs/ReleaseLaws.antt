@@ -24,10 +24,10 @@ use Rattle.record_text.proofs.ValueLaws.{values_are_row}
 use Rattle.proof_grammar.specs.Limits.{IsPlain}
 use Rattle.proof_grammar.specs.ProofLines.{proof_text}
 use Rattle.proof_grammar.specs.declared.proof.Proof.{Proof}
-use Rattle.proof_text.specs.SharedProofs.{shared_proof}
-use Rattle.proof_text.specs.Sizes.{IsCoherent, IsCoherentRow, IsSized}
-use Rattle.proof_text.proofs.SharedCoherence.{coherent-shared}
-use Rattle.proof_text.proofs.SizeLaws.{plain-if}
+use Rattle.proof_sharing.specs.SharedProofs.{shared_proof}
+use Rattle.proof_grammar.specs.Sizes.{IsCoherent, IsCoherentRow, IsSized}
+use Rattle.proof_sharing.proofs.SharedCoherence.{coherent-shared}
+use Rattle.proof_grammar.proofs.SizeLaws.{plain-if}
 use Rattle.edit_report.specs.Ends.{path_found}
 use Rattle.edit_report.specs.Reasons.{reasons_text_of}
 use Rattle.edit_report.specs.Released.{released_rows, released_text_of}

@@ -10,7 +10,7 @@ use Rattle.bound_cert.specs.declared.outcome.RowProof.{RowProof}
 use Rattle.record_text.specs.Sheets.{SheetParts}
 use Rattle.proof_grammar.specs.ProofLines.{proof_text}
 use Rattle.proof_grammar.specs.declared.proof.Proof.{Proof}
-use Rattle.proof_text.specs.SharedProofs.{shared_proof}
+use Rattle.proof_sharing.specs.SharedProofs.{shared_proof}
 use Rattle.cert_check.specs.Releases.{IsValidRelease, audit_of}
 use Rattle.edit_report.specs.Reasons.{reasons_text_of}
 use Rattle.edit_report.specs.Released.{released_text_of}

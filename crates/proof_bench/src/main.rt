@@ -7,7 +7,7 @@ ghost use Rattle.proof_bench.specs.inner.Told.{IsTold, counts_text, fault_text};
 
 use bench_frame::{Fault, after_program_name, leave};
 use edit_desk::OutPrinter;
-use proof_text::{Proof, ProofFault, read_proof};
+use proof_text::{ProofFault, ProofFile, open_proof};
 use std::alloc::Global;
 use std::fs;
 use std::io::ErrorKind;
@@ -39,7 +39,7 @@ fn told(rt: &HostRuntime, alloc: Global) -> Result<String, Fault> {
 fn text_of(alloc: Global, bytes: &[u8]) -> Result<String, Fault>
     ensures { IfOk result (λ text. IsTold bytes.now (string_bytes text)) }
 {
-    match read_proof(alloc, bytes) {
+    match open_proof(alloc, bytes) {
         Ok(proof) => Ok(counts(alloc, &proof)?),
         Err(ProofFault::At { line }) => Ok(fault_at(alloc, line)?),
         Err(ProofFault::OutOfMemory) => Err(Fault::OutOfMemory),
@@ -47,13 +47,13 @@ fn text_of(alloc: Global, bytes: &[u8]) -> Result<String, Fault>
 }
 
 // How many lines of the rules, steps of the table, records and claims there are.
-fn counts(alloc: Global, proof: &Proof) -> Result<String, Fault>
+fn counts(alloc: Global, proof: &ProofFile) -> Result<String, Fault>
     ensures { IfOk result (λ text. string_bytes text ≡ counts_text proof.now) }
 {
-    let verdicts = proof.verdicts.len();
-    let table = proof.table.len();
-    let rows = proof.rows.len();
-    let claims = proof.claims.len();
+    let verdicts = proof.verdicts().len();
+    let table = proof.table().len();
+    let rows = proof.rows().len();
+    let claims = proof.claims().len();
     Ok(format!(in alloc; "lines {verdicts} table {table} records {rows} claims {claims}\n")?)
 }
 

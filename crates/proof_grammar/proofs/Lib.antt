@@ -10,6 +10,7 @@ pub mod Productions
 pub mod ProofGrammar
 pub mod ProofWords
 pub mod RowForms
+pub mod SizeLaws
 pub mod StepForms
 pub mod TextFaults
 pub mod WordForms

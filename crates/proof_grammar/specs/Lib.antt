@@ -3,6 +3,7 @@ pub mod FirstFaults
 pub mod Limits
 pub mod LinesLeft
 pub mod ProofLines
+pub mod Sizes
 pub mod Texts
 pub mod Words
 pub mod inner

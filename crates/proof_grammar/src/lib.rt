@@ -1,5 +1,5 @@
 //! The grammar of proof files: what a proof holds ([`Proof`]), the lines that spell it (`specs/ProofLines.antt`),
-//! which proofs have a text (`specs/Limits.antt`), and where bytes leave the grammar
+//! which proofs have a text (`specs/Limits.antt`, `specs/Sizes.antt`), and where bytes leave the grammar
 //! (`specs/FirstFaults.antt`). Each text is that of one proof, and bytes that are none have one first line
 //! that can't go on ([`one_reading`]). A reader takes [`Lines`] from the bytes one after another, and
 //! [`Words`] from a line.
@@ -7,6 +7,7 @@
 
 mod fault;
 mod heads;
+mod laws;
 mod lines;
 mod numbers;
 mod paths;
@@ -16,6 +17,7 @@ mod words;
 
 pub use fault::ProofFault;
 pub use heads::{LeafHead, RowHead, RunLimits};
+pub use laws::proof_laws;
 pub use lines::{Lines, settle};
 pub use numbers::{named_long, named_short};
 pub use proof::Proof;

@@ -36,6 +36,16 @@ impl<'a> Lines<'a> {
         }
     }
 
+    /// The same lines, to be read once more.
+    pub fn copy(&self) -> Lines<'a>
+        ensures { result ≡ self.now }
+    {
+        Lines {
+            rest: self.rest,
+            taken: self.taken,
+        }
+    }
+
     /// The next line, which is taken, or a fault at its number where there is none that ends.
     pub fn next(&mut self) -> Result<&'a [u8], ProofFault>
         ensures line { IfOk result (λ line. self.old.left ≡ split 32 line.now ∷ self.new.left) }

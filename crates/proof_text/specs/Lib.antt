@@ -1,3 +1,2 @@
-pub mod SharedProofs
-pub mod Sizes
+pub mod Changes
 pub mod inner

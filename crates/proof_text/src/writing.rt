@@ -3,7 +3,7 @@ ghost use Rattle.std.specs.Prelude.{◌≡◌, ◌++◌, IfOk, OnOk};
 ghost use Rattle.proof_grammar.specs.FirstFaults.{IsOnlyOf};
 ghost use Rattle.proof_grammar.specs.Limits.{AreFit, IsEntry, IsLong, IsPlain, IsShort};
 ghost use Rattle.proof_grammar.specs.ProofLines.{proof_text};
-ghost use Rattle.proof_text.specs.Sizes.{IsSized, IsSizedRow, IsSizedTable, IsSizedVerdict};
+ghost use Rattle.proof_grammar.specs.Sizes.{IsSized, IsSizedRow, IsSizedTable, IsSizedVerdict};
 ghost use Rattle.proof_text.specs.inner.Texts.{claims_text, limits_text, parts_text, rows_text, table_text, verdict_text, verdicts_text, version_text};
 
 mod claims;

@@ -1,21 +1,24 @@
 //! The lines of a whole file.
+ghost use Rattle.std.specs.Prelude.{codes};
 ghost use Rattle.proof_grammar.specs.Cuts.{split};
 ghost use Rattle.proof_grammar.specs.inner.FileReading.{behind_verdicts, behind_version, budget_behind, claims_reading, count_in, counted_reading, end_in, file_reading, limits_in, lists_reading, near_behind, rows_reading, table_reading, version_in, version_said};
 ghost use Rattle.proof_grammar.specs.inner.Readings.{Reads, read_line};
+ghost use Rattle.proof_grammar.specs.inner.RowReading.{row_reading};
 ghost use Rattle.proof_grammar.specs.Words.{ReadsAs, Takes, word_in};
 
 use super::parts::{Part, parts};
+use super::places::{RowPlace, next_places};
+use super::proof_file::ProofFile;
 use super::steps::table_steps;
 use crate::versions::{has_table, shared_from};
-use bound_cert::RowProof;
 use derivation::Step;
 use donor_book::Entry;
 use foundation::Sequence;
-use proof_grammar::{Lines, Proof, ProofFault, RunLimits, Stop, Words, settle};
+use proof_grammar::{Lines, ProofFault, RunLimits, Stop, Words, settle};
 use std::alloc::Global;
 
 /// The proof of all lines.
-pub(super) fn file(alloc: Global, lines: &mut Lines) -> Result<Proof, ProofFault>
+pub(super) fn file<'a>(alloc: Global, lines: &mut Lines<'a>) -> Result<ProofFile<'a>, ProofFault>
     ensures { Reads result lines.old lines.new (file_reading lines.old.left) }
 {
     match next_version(lines) {
@@ -25,7 +28,11 @@ pub(super) fn file(alloc: Global, lines: &mut Lines) -> Result<Proof, ProofFault
 }
 
 // The proof behind its first line.
-fn behind_version(alloc: Global, lines: &mut Lines, version: u32) -> Result<Proof, ProofFault>
+fn behind_version<'a>(
+    alloc: Global,
+    lines: &mut Lines<'a>,
+    version: u32,
+) -> Result<ProofFile<'a>, ProofFault>
     ensures { Reads result lines.old lines.new (behind_version version lines.old.left) }
 {
     match next_limits(lines) {
@@ -35,12 +42,12 @@ fn behind_version(alloc: Global, lines: &mut Lines, version: u32) -> Result<Proo
 }
 
 // The proof of these limits, whose verdicts are at the front.
-fn behind_limits(
+fn behind_limits<'a>(
     alloc: Global,
-    lines: &mut Lines,
+    lines: &mut Lines<'a>,
     version: u32,
     limits: RunLimits,
-) -> Result<Proof, ProofFault>
+) -> Result<ProofFile<'a>, ProofFault>
     ensures { Reads result lines.old lines.new (lists_reading version limits lines.old.left) }
 {
     match counted(alloc, lines, None, b"lines") {
@@ -50,13 +57,13 @@ fn behind_limits(
 }
 
 // The proof of these limits and verdicts, whose table is at the front, if there is one.
-fn behind_verdicts(
+fn behind_verdicts<'a>(
     alloc: Global,
-    lines: &mut Lines,
+    lines: &mut Lines<'a>,
     version: u32,
     limits: RunLimits,
     verdicts: Sequence<Option<Sequence<Step>>>,
-) -> Result<Proof, ProofFault>
+) -> Result<ProofFile<'a>, ProofFault>
     ensures { Reads result lines.old lines.new (behind_verdicts version limits verdicts lines.old.left) }
 {
     match table(alloc, lines, has_table(version)) {
@@ -66,41 +73,41 @@ fn behind_verdicts(
 }
 
 // The proof of these limits, verdicts and table, whose rows are at the front.
-fn behind_table(
+fn behind_table<'a>(
     alloc: Global,
-    lines: &mut Lines,
+    lines: &mut Lines<'a>,
     version: u32,
     limits: RunLimits,
     verdicts: Sequence<Option<Sequence<Step>>>,
     table: Sequence<Step>,
-) -> Result<Proof, ProofFault>
+) -> Result<ProofFile<'a>, ProofFault>
     ensures { Reads result lines.old lines.new (rows_reading version limits verdicts table lines.old.left) }
 {
     let shared = shared_from(has_table(version), verdicts.as_slice().len());
-    match counted(alloc, lines, shared, b"records") {
+    match counted_rows(alloc, lines, shared) {
         Ok(rows) => behind_rows(alloc, lines, version, limits, verdicts, table, rows),
         Err(fault) => Err(fault),
     }
 }
 
 // The proof of these parts, whose claims are at the front.
-fn behind_rows(
+fn behind_rows<'a>(
     alloc: Global,
-    lines: &mut Lines,
+    lines: &mut Lines<'a>,
     version: u32,
     limits: RunLimits,
     verdicts: Sequence<Option<Sequence<Step>>>,
     table: Sequence<Step>,
-    rows: Sequence<RowProof>,
-) -> Result<Proof, ProofFault>
-    ensures { Reads result lines.old lines.new (claims_reading version limits verdicts table rows lines.old.left) }
+    rows: Sequence<RowPlace<'a>>,
+) -> Result<ProofFile<'a>, ProofFault>
+    ensures { Reads result lines.old lines.new (claims_reading version limits verdicts table rows.entry lines.old.left) }
 {
     let claims = match counted(alloc, lines, None, b"claims") {
         Ok(claims) => claims,
         Err(fault) => return Err(fault),
     };
     match next_end(lines) {
-        Ok(()) => Ok(Proof {
+        Ok(()) => Ok(ProofFile {
             version,
             limit: limits.limit,
             near: limits.near,
@@ -123,6 +130,20 @@ fn table(alloc: Global, lines: &mut Lines, there: bool) -> Result<Sequence<Step>
     }
     match next_count(lines, b"table") {
         Ok(count) => table_steps(alloc, lines, count),
+        Err(fault) => Err(fault),
+    }
+}
+
+// The count of the rows, and the places of as many.
+fn counted_rows<'a>(
+    alloc: Global,
+    lines: &mut Lines<'a>,
+    shared: Option<u64>,
+) -> Result<Sequence<RowPlace<'a>>, ProofFault>
+    ensures { Reads result lines.old lines.new (counted_reading (count_in (codes "records")) (row_reading shared) lines.old.left) }
+{
+    match next_count(lines, b"records") {
+        Ok(count) => next_places(alloc, lines, shared, count),
         Err(fault) => Err(fault),
     }
 }

@@ -5,22 +5,25 @@ ghost use Rattle.proof_grammar.specs.inner.Readings.{Reads, read_line};
 ghost use Rattle.proof_grammar.specs.inner.RowReading.{WeighsLong, behind_row, budget_in, change_in, clean_proof, contradictory_in, gift_fault_in, gift_in, row_in, row_reading, step_event_in, test_event_in};
 ghost use Rattle.proof_grammar.specs.Words.{ReadsAs, Takes};
 
-use super::parts::{Part, parts};
+use super::parts::parts;
 use bound_cert::{Cert, Event, GiftFault, Leaf, LeafWhy, Outcome, Path, RowProof};
 use foundation::Sequence;
 use proof_grammar::{Lines, ProofFault, RowHead, Stop, Words, settle};
 use std::alloc::Global;
 
-impl Part for RowProof {
-    ghost reading = { row_reading };
-
-    fn read(alloc: Global, lines: &mut Lines, shared: Option<u64>) -> Result<RowProof, ProofFault> {
-        let head = match next_head(alloc, lines) {
-            Ok(head) => head,
-            Err(fault) => return Err(fault),
-        };
-        behind_head(alloc, lines, shared, head)
-    }
+/// The row whose lines are at the front.
+pub(super) fn next_row(
+    alloc: Global,
+    lines: &mut Lines,
+    shared: Option<u64>,
+) -> Result<RowProof, ProofFault>
+    ensures { Reads result lines.old lines.new (row_reading shared lines.old.left) }
+{
+    let head = match next_head(alloc, lines) {
+        Ok(head) => head,
+        Err(fault) => return Err(fault),
+    };
+    behind_head(alloc, lines, shared, head)
 }
 
 // The row of a head, whose leaves are at the front.

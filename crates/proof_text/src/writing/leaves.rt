@@ -3,7 +3,7 @@ ghost use Rattle.std.specs.Prelude.{◌≡◌, ◌∷◌, ◌++◌, length, OnOk
 ghost use Rattle.std.specs.Fmt.{decimal};
 ghost use Rattle.std.specs.List.{flat_map};
 ghost use Rattle.proof_grammar.specs.ProofLines.{leaf_lines_in, lines_text};
-ghost use Rattle.proof_text.specs.Sizes.{AreSizedLeaves, IsSizedLeaf};
+ghost use Rattle.proof_grammar.specs.Sizes.{AreSizedLeaves, IsSizedLeaf};
 ghost use Rattle.proof_text.specs.inner.Texts.{counted_text};
 
 use super::steps::write_steps;

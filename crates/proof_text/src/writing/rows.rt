@@ -2,7 +2,7 @@
 ghost use Rattle.std.specs.Prelude.{◌≡◌, ◌++◌, OnOk};
 ghost use Rattle.proof_grammar.specs.Limits.{IsEvent, IsGift, IsLong};
 ghost use Rattle.proof_grammar.specs.ProofLines.{change_lines_in, event_line, line_text, lines_text, row_lines_in};
-ghost use Rattle.proof_text.specs.Sizes.{AreSizedLeaves, IsSizedChange, IsSizedRow};
+ghost use Rattle.proof_grammar.specs.Sizes.{AreSizedLeaves, IsSizedChange, IsSizedRow};
 ghost use Rattle.proof_text.specs.inner.Texts.{gift_text};
 
 use super::leaves::write_leaves;

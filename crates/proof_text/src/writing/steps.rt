@@ -5,7 +5,7 @@ ghost use Rattle.derivation.specs.declared.step.Step.TheVariants as step;
 ghost use Rattle.bound_cert.specs.Paths.{named};
 ghost use Rattle.proof_grammar.specs.Limits.{IsLong};
 ghost use Rattle.proof_grammar.specs.ProofLines.{given_words, lines_text, step_line, step_line_in, words_text};
-ghost use Rattle.proof_text.specs.Sizes.{AreSizedSteps, IsSizedStep, IsWide};
+ghost use Rattle.proof_grammar.specs.Sizes.{AreSizedSteps, IsSizedStep, IsWide};
 ghost use Rattle.proof_text.specs.inner.Texts.{combine_line, counted_text};
 
 use super::words::{write_all_named, write_count, write_named, write_signed};

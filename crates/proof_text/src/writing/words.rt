@@ -5,7 +5,7 @@ ghost use Rattle.std.specs.List.{AllByRecursion, flat_map};
 ghost use Rattle.bound_cert.specs.Paths.{named, path_text};
 ghost use Rattle.proof_grammar.specs.Limits.{IsLong, IsPlace, IsShort};
 ghost use Rattle.proof_grammar.specs.ProofLines.{named_or_0, place_word};
-ghost use Rattle.proof_text.specs.Sizes.{IsWide};
+ghost use Rattle.proof_grammar.specs.Sizes.{IsWide};
 
 use bound_cert::Path;
 use edit_line::Place;

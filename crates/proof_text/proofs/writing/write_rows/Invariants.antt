@@ -2,7 +2,7 @@ use Rattle.std.proofs.Common.{◌≡◌, ◌++◌, codes, take}
 use Rattle.std.specs.List.{AllByRecursion, flat_map}
 use Rattle.proof_grammar.specs.ProofLines.{count_line, line_text, lines_text, row_lines_in}
 use Rattle.bound_cert.specs.declared.outcome.RowProof.{RowProof}
-use Rattle.proof_text.specs.Sizes.{IsSizedRow}
+use Rattle.proof_grammar.specs.Sizes.{IsSizedRow}
 use Rattle.proof_text.proofs.writing.write_rows.Given as goal
 
 abbrev pub invariant-loop-row : goal.invariant-loop-row

@@ -2,7 +2,7 @@ use Rattle.std.proofs.Common.{◌≡◌, ◌∷◌, ◌++◌, length, take}
 use Rattle.std.specs.Fmt.{decimal}
 use Rattle.std.specs.List.{AllByRecursion, flat_map}
 use Rattle.proof_grammar.specs.ProofLines.{lines_text, leaf_lines_in}
-use Rattle.proof_text.specs.Sizes.{IsSizedLeaf}
+use Rattle.proof_grammar.specs.Sizes.{IsSizedLeaf}
 use Rattle.proof_text.proofs.writing.leaves.write_leaves.Given as goal
 
 abbrev pub invariant-loop-leaf : goal.invariant-loop-leaf

@@ -1,0 +1,4 @@
+pub mod SharedCoherence
+pub mod SharedPlain
+pub mod SharingLoops
+pub mod TableLaws

@@ -1,0 +1,2 @@
+pub mod SharedProofs
+pub mod inner

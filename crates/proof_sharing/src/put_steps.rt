@@ -1,0 +1,37 @@
+//! The steps of a leaf, put into the table.
+ghost use Rattle.std.specs.Prelude.{◌≡◌, ◌∷◌, ◌++◌, [], IfOk, OnOk};
+ghost use Rattle.derivation.specs.SharedLines.{as_tabled, tabled, tabled_of, with_tabled};
+
+use crate::line_step::as_tabled;
+use crate::line_table::LineTable;
+use derivation::Step;
+use foundation::OutOfMemory;
+use std::alloc::Global;
+
+/// Puts the steps that give lines into the table, and tells the place of each step there, 0 for another one.
+pub(crate) fn put_steps(
+    alloc: Global,
+    table: &mut LineTable,
+    steps: &[Step],
+) -> Result<Vec<u64>, OutOfMemory>
+    ensures table { OnOk result (table.new ≡ (tabled table.old steps.now).table) }
+    ensures places { IfOk result (λ places. places.items ≡ (tabled table.old steps.now).places) }
+{
+    let mut places = Vec::with_capacity(alloc, steps.len())?;
+    for step in steps {
+        let place = put_step(table, &places, step)?;
+        places.push(place)?;
+    }
+    Ok(places)
+}
+
+// Puts the step into the table, if it gives a line, and tells its place there; `places` has those of the steps before it.
+fn put_step(table: &mut LineTable, places: &[u64], step: &Step) -> Result<u64, OutOfMemory>
+    ensures { IfOk result (λ place.
+        tabled_of table.new (places.now ++ place ∷ []) ≡ with_tabled (tabled_of table.old places.now) (as_tabled places.now step.now)) }
+{
+    match as_tabled(places, step) {
+        None => Ok(0),
+        Some(line) => table.put(line),
+    }
+}

@@ -1,6 +1,0 @@
-use Rattle.std.proofs.Common.{◌≡◌, map, take}
-use Rattle.proof_text.specs.inner.Tables.{step_of}
-use Rattle.proof_text.proofs.sharing.line_step.steps_of.Given as goal
-
-abbrev pub invariant-loop-key : goal.invariant-loop-key
-invariant-loop-key l = l.steps.items ≡ map step_of (take l.key-index l.keys)
