@@ -10,8 +10,8 @@ use Rattle.back_subst.specs.declared.gift.Gift.{Gift}
 use Rattle.donor_book.specs.declared.claim.Entry.{Entry}
 use Rattle.record_text.specs.Sheets.{SheetParts}
 use Rattle.edit_report.specs.declared.end.RowEnd.{RowEnd}
-use Rattle.record_workers.specs.Said.{OutcomeSays, Says}
-use Rattle.record_workers.specs.declared.terms.Terms.{Terms}
+use Rattle.record_ends.specs.Said.{OutcomeSays, Says}
+use Rattle.record_editing.specs.declared.terms.Terms.{Terms}
 use Rattle.pruned_rules.specs.Pruned.{kept_edits}
 use Rattle.edit_release.specs.Edits.{IsEditOf, Written}
 use Rattle.edit_release.specs.Guarantee.{HasValuesOrStop, IsGuaranteed, IsGuaranteedEnd, usable_edits}

@@ -8,8 +8,8 @@ use Rattle.back_subst.specs.declared.gift.Gift.{Gift}
 use Rattle.donor_book.specs.declared.claim.Entry.{Entry}
 use Rattle.edit_report.specs.declared.end.RowEnd.{RowEnd}
 use Rattle.record_text.specs.Sheets.{SheetParts}
-use Rattle.record_workers.specs.Said.{IsCorrected}
-use Rattle.record_workers.specs.declared.terms.Terms.{Terms}
+use Rattle.record_ends.specs.Said.{IsCorrected}
+use Rattle.record_editing.specs.declared.terms.Terms.{Terms}
 use Rattle.edit_release.specs.Guarantee.{IsGuaranteed}
 
 -- these values are a record of the survey, and a correction of the record that was read of which no other weighs less
