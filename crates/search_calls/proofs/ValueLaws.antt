@@ -22,5 +22,7 @@ values-held (v ∷ row) none (suc f) below = values-held row (later (is_bad v) n
     later false h = h
 
 -- the edits hold at a point with codes exactly where it meets them
-pub meets-same : (survey : SurveyParts) (edits : EditsParts) (row : List Value) → ((p : Point) → (HasCodesFrom 0 survey.fields p × AllHold (map (λ (e : ℕ × LineParts). e.1) edits.lines) p) ↔ IsConsistent survey p) → (p : Point) → Meets (case_of survey edits row) p ↔ IsConsistent survey p
+pub meets-same : (survey : SurveyParts) (edits : EditsParts) (row : List Value)
+    → ((p : Point) → (HasCodesFrom 0 survey.fields p × AllHold (map (λ (e : ℕ × LineParts). e.1) edits.lines) p) ↔ IsConsistent survey p)
+    → (p : Point) → Meets (case_of survey edits row) p ↔ IsConsistent survey p
 meets-same survey edits row same p = (λ m. (same p).0 (m.codes, m.edits), λ h. let both = (same p).1 h in record { codes = both.0; edits = both.1 })

@@ -13,4 +13,5 @@ loop-i-preserved c =
     (subst (λ (b : BoxFrom). b.code_box.shape ≡ domains c.args.shape) c.index-boxes-i.is here)
 
 pub returns : goal.returns
-returns c = λ _. subst (λ (bs : List BoxFrom). AreBoxesOver (domains c.args.shape) bs) (take_all c.loop-i.i c.args.boxes.now (omega (arith, c.loop-i-test.false))) c.loop-i.invariant
+returns c = λ _. subst (λ (bs : List BoxFrom). AreBoxesOver (domains c.args.shape) bs)
+    (take_all c.loop-i.i c.args.boxes.now (omega (arith, c.loop-i-test.false))) c.loop-i.invariant

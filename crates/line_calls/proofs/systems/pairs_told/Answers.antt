@@ -7,4 +7,5 @@ use Rattle.line_calls.proofs.systems.pairs_told.Goals as goal
 
 pub pairs-count-requires : goal.pairs-count-requires
 pairs-count-requires c =
-    OneShape-have c.system.result.now.edits.shape c.lines.result.now (subst (λ (ls : List Derived). HaveShape c.system.result.now.edits.shape (lines_of ls)) (sym c.lines.ensures.lines) c.lines.ensures.over)
+    OneShape-have c.system.result.now.edits.shape c.lines.result.now
+    (subst (λ (ls : List Derived). HaveShape c.system.result.now.edits.shape (lines_of ls)) (sym c.lines.ensures.lines) c.lines.ensures.over)
