@@ -1,11 +1,11 @@
 -- Words ask for one command at most.
-use Rattle.std.proofs.Common.{◌≡◌, ◌∙◌, ◌≤◌, ℕ, Option, Some, None, List, ap, subst, sym}
-use Rattle.std.specs.Prelude.{⊤, IfNone, IfSome}
-use Rattle.clap.specs.Words.{App, Row, matches_of}
+use Rattle.std.proofs.Common.{◌≡◌, ◌≢◌, ◌∙◌, ◌≤◌, ℕ, Option, Some, None, List, [], ◌∷◌, ap, subst, sym}
+use Rattle.std.specs.Prelude.{IfNone, IfSome}
+use Rattle.clap.specs.Words.{App, Row, fault_of, matches_of}
 use Rattle.clap.specs.declared.parser.matches.ArgMatches.{ArgMatches}
-use Rattle.command_words.specs.Asked.{CheckAsked, EditAsked, GivesCheck, GivesEdit, GivesRules, IsCommand, RulesAsked}
+use Rattle.command_words.specs.Asked.{CheckAsked, EditAsked, GivesCheck, GivesEdit, GivesMake, GivesRules, IsCommand, MakeAsked, RulesAsked}
 use Rattle.command_words.specs.Options.{GivesNumber}
-use Rattle.command_words.specs.inner.Found.{rows_in}
+use Rattle.command_words.specs.inner.Found.{Takes, rows_in}
 
 -- ---- what is found
 
@@ -67,37 +67,44 @@ rules_of r = record { rules = r }
 pub one_rules : (found : List Row) (a b : RulesAsked) → GivesRules found a → GivesRules found b → a ≡ b
 one_rules found a b p q = ap rules_of (one_text _ _ _ p.rules q.rules)
 
+-- a survey that is made in these files, from this start, with so many records
+abbrev pub make_of : List ℕ → List ℕ → ℕ → ℕ → MakeAsked
+make_of r c start rows = record { rules = r; records = c; start = start; rows = rows }
+
+same_make : (r c r' c' : List ℕ) (s n s' n' : ℕ) → r ≡ r' → c ≡ c' → s ≡ s' → n ≡ n' → make_of r c s n ≡ make_of r' c' s' n'
+same_make r c r' c' s n s' n' er ec es en = cc
+
+-- and one survey that is made
+pub one_make : (found : List Row) (a b : MakeAsked) → GivesMake found a → GivesMake found b → a ≡ b
+one_make found a b p q =
+    same_make _ _ _ _ _ _ _ _ (one_text _ _ _ p.rules q.rules) (one_text _ _ _ p.records q.records)
+    (one_number _ _ _ _ _ _ p.start q.start) (one_number _ _ _ _ _ _ p.rows q.rows)
+
 -- ---- a command and what is found for it
 
-module _ (made command : App) (words : List (List ℕ)) (same : made ≡ command) where
-  -- where nothing is found for it, the words ask for nothing
-  pub not_asked : (found : Option ArgMatches) (Holds : List Row → Type 0) → found ≡ None → IfNone found (¬ IsCommand made words (λ rows. ⊤))
-      → ¬ IsCommand command words Holds
-  not_asked None Holds e none is =
-      subst (λ (app : App). ¬ IsCommand app words (λ rows. ⊤)) same none (record { others = is.others; named = is.named; taken = is.taken; found = tt })
-  not_asked (Some m) Holds e none is = absurd cc
+module _ (command : App) (words : List (List ℕ)) (Holds : List Row → Type 0) where
+  -- words that do not begin with its name do not ask for it
+  pub not_named : ((others : List (List ℕ)) → words ≢ command.top.name ∷ others) → ¬ IsCommand command words Holds
+  not_named unnamed is = unnamed is.others is.named
 
-  -- and where something is, it is what the words say
-  pub is_found : (found : Option ArgMatches) (m : ArgMatches) → found ≡ Some m
-      → IfSome found (λ n. IsCommand made words (λ rows. rows ≡ rows_in n)) → IsCommand command words (λ rows. rows ≡ rows_in m)
-  is_found None m e some = absurd cc
-  is_found (Some n) m e some =
-      let is : n ≡ m = cc in
-      subst (λ (app : App). IsCommand app words (λ rows. rows ≡ rows_in m)) same
-      (subst (λ (k : ArgMatches). IsCommand made words (λ rows. rows ≡ rows_in k)) is some)
+  module _ (others : List (List ℕ)) (named : words ≡ command.top.name ∷ others) where
+    same_others : (is : IsCommand command words Holds) → is.others ≡ others
+    same_others is = let this = is.named in let that = named in cc
 
-module _ (command : App) (words : List (List ℕ)) (found : List Row) (is : IsCommand command words (λ rows. rows ≡ found)) (Holds : List Row → Type 0) where
-  -- what holds of what was found holds of what the words say
-  pub asked_by : Holds found → IsCommand command words Holds
-  asked_by holds = record { others = is.others; named = is.named; taken = is.taken; found = subst Holds (sym is.found) holds }
+    -- nor do words that `clap` refuses
+    pub not_taken : (made : App) → made ≡ command → fault_of made others ≢ [] → ¬ IsCommand command words Holds
+    not_taken made same refused is =
+        let taken = subst (λ (more : List (List ℕ)). fault_of command more ≡ []) (same_others is) is.taken in
+        refused (subst (λ (app : App). fault_of app others ≡ []) (sym same) taken)
 
-  -- and the other way round
-  pub found_by : IsCommand command words Holds → Holds found
-  found_by other =
-      let this = is.named in
-      let that = other.named in
-      let same : other.others ≡ is.others = cc in
-      subst Holds (ap (matches_of command) same ∙ is.found) other.found
+    module _ (found : ArgMatches) (takes : Takes command others found) where
+      -- what holds of what was found holds of what the words say
+      pub asked_by : Holds (rows_in found) → IsCommand command words Holds
+      asked_by holds = record { others = others; named = named; taken = takes.taken; found = subst Holds (sym takes.rows) holds }
+
+      -- and the other way round
+      pub found_by : IsCommand command words Holds → Holds (rows_in found)
+      found_by is = subst Holds (ap (matches_of command) (same_others is) ∙ takes.rows) is.found
 
 -- ---- answers
 

@@ -1,5 +1,5 @@
 -- What is found for options, and how it is told.
-use Rattle.std.proofs.Common.{◌≡◌, ◌∙◌, ◌↔◌, ◌≢◌, ◌||◌, ◌&&◌, Bool, true, false, not, IsTrue, Bor, Option, Some, None, List, [], ◌∷◌, ℕ, String, Global, ap, map, refl, string_bytes, sym}
+use Rattle.std.proofs.Common.{◌≡◌, ◌↔◌, ◌≢◌, ◌||◌, ◌&&◌, Bool, true, false, not, IsTrue, Bor, Option, Some, None, List, [], ◌∷◌, ℕ, refl, sym}
 use Rattle.std.proofs.lemmas.Slice.Eq.{bytes_eq-Decides}
 use Rattle.std.specs.List.{AllByRecursion, list_any}
 use Rattle.std.specs.Prelude.{IfNone, IfSome, option_map}
@@ -16,19 +16,7 @@ pub no_text : (given : Option (Bor (List ℕ))) (text : Option (List ℕ)) → o
 no_text None text e = sym e
 no_text (Some t) text e = tt
 
--- ---- the name of a command
-
--- the words begin with the name that the first of them has
-pub named_by : (words : List (String Global)) (first : String Global) (others : List (String Global)) (name : List ℕ)
-    → words ≡ first ∷ others → string_bytes first ≡ name → map string_bytes words ≡ name ∷ map string_bytes others
-named_by words first others name apart is = ap (map string_bytes) apart ∙ ap (λ (word : List ℕ). word ∷ map string_bytes others) is
-
-pub not_other : (a b : List ℕ) (differs : Bool) → differs ≡ not (bytes_eq a b) → differs ≡ false → a ≡ b
-not_other a b differs e same = (bytes_eq-Decides a b).0 (true_unless (bytes_eq a b) (sym e ∙ same))
-  where
-    true_unless : (t : Bool) → not t ≡ false → t ≡ true
-    true_unless true h = refl
-    true_unless false h = sym h
+-- ---- the kind of a command
 
 pub both_left : (a b : Bool) → (a && b) ≡ true → a ≡ true
 both_left true b e = refl

@@ -1,5 +1,5 @@
 -- What the words of the command line ask for.
-use Rattle.std.specs.Prelude.{◌≡◌, ℕ, List, [], ◌∷◌, Some, codes, map, string_bytes, String}
+use Rattle.std.specs.Prelude.{◌≡◌, ◌≢◌, ℕ, List, [], ◌∷◌, Some, codes, map, string_bytes, String}
 use Rattle.std.specs.declared.alloc.Global.{Global}
 use Rattle.clap.specs.Words.{App, Row, fault_of, first_of, matches_of}
 use Rattle.command_words.specs.Options.{AreApart, GivesNumber, command_with, may_stand, must_stand}
@@ -108,6 +108,33 @@ pub record GivesRules (found : List Row) (asked : RulesAsked) : Type 0 where
 abbrev pub IsRules : List (List ℕ) → RulesAsked → Type 0
 IsRules words asked = IsCommand rules_command words (λ found. GivesRules found asked)
 
+-- ---- make
+
+-- the files that the command `make` names, the number that its records follow from, and how many records there are
+pub record MakeAsked : Type 0 where
+  pub rules : List ℕ
+  pub records : List ℕ
+  pub start : ℕ
+  pub rows : ℕ
+
+-- the options of the command: two that name files and have to stand, and two that give numbers
+abbrev pub make_command : App
+make_command = command_with (codes "make") (
+    must_stand (codes "rules") ∷ must_stand (codes "records") ∷ may_stand (codes "start") ∷ may_stand (codes "rows") ∷ [])
+
+-- what is found are two names of files, which differ; a number to start from, up to 4,294,967,295, or 1; and 1 to 200,000
+-- records, or 100
+pub record GivesMake (found : List Row) (asked : MakeAsked) : Type 0 where
+  pub rules : first_of (codes "rules") found ≡ Some asked.rules
+  pub records : first_of (codes "records") found ≡ Some asked.records
+  pub start : GivesNumber 1 0 4294967295 (first_of (codes "start") found) asked.start
+  pub rows : GivesNumber 100 1 200000 (first_of (codes "rows") found) asked.rows
+  pub apart : asked.rules ≢ asked.records
+
+-- the words ask that a survey is made: they are the command, and what is found gives its files and numbers
+abbrev pub IsMake : List (List ℕ) → MakeAsked → Type 0
+IsMake words asked = IsCommand make_command words (λ found. GivesMake found asked)
+
 -- ---- any words
 
 -- the words ask for none of these
@@ -115,6 +142,7 @@ pub record IsNoCommand (words : List (String Global)) : Type 0 where
   pub no_edit : (asked : EditAsked) → ¬ IsEdit (map string_bytes words) asked
   pub no_check : (asked : CheckAsked) → ¬ IsCheck (map string_bytes words) asked
   pub no_rules : (asked : RulesAsked) → ¬ IsRules (map string_bytes words) asked
+  pub no_make : (asked : MakeAsked) → ¬ IsMake (map string_bytes words) asked
 
 -- whatever edit the words ask for, the claim holds of it
 abbrev pub ForEdit : List (String Global) → (EditAsked → Type 0) → Type 0
@@ -127,3 +155,7 @@ ForCheck words P = (asked : CheckAsked) → IsCheck (map string_bytes words) ask
 -- whatever the words ask about rules, the claim holds of it
 abbrev pub ForRules : List (String Global) → (RulesAsked → Type 0) → Type 0
 ForRules words P = (asked : RulesAsked) → IsRules (map string_bytes words) asked → P asked
+
+-- whatever survey the words ask for, the claim holds of it
+abbrev pub ForMake : List (String Global) → (MakeAsked → Type 0) → Type 0
+ForMake words P = (asked : MakeAsked) → IsMake (map string_bytes words) asked → P asked

@@ -4,7 +4,7 @@ ghost use Rattle.command_words.specs.Asked.{CheckAsked, GivesCheck, IsCheck, che
 ghost use Rattle.command_words.specs.Options.{AreApart};
 ghost use Rattle.command_words.specs.inner.Found.{rows_in};
 
-use crate::options::{command_named, differs_from, found_in, required, text_in};
+use crate::options::{command_named, differs_from, found_in, required, text_in, words_behind};
 use clap::{ArgMatches, Command};
 use foundation::OutOfMemory;
 use std::alloc::Global;
@@ -44,7 +44,10 @@ pub fn check_asked<'a>(
         (λ one. (other : CheckAsked) → IsCheck (map string_bytes words.entry.now) other → other ≡ one)) }
     ensures none { IfOk result (λ asked. IfNone asked ((one : CheckAsked) → ¬ IsCheck (map string_bytes words.entry.now) one)) }
 {
-    let Some(found) = found_in(command(alloc)?, words)? else {
+    let Some(others) = words_behind("check", words) else {
+        return Ok(None);
+    };
+    let Some(found) = found_in(command(alloc)?, others)? else {
         return Ok(None);
     };
     Ok(check_of(&found))

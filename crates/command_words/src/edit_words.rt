@@ -5,7 +5,7 @@ ghost use Rattle.command_words.specs.Options.{AreApart};
 ghost use Rattle.command_words.specs.inner.Found.{rows_in};
 
 use crate::options::{
-    command_named, differs_from, found_in, number_in, optional, required, text_in,
+    command_named, differs_from, found_in, number_in, optional, required, text_in, words_behind,
 };
 use clap::{ArgMatches, Command};
 use foundation::OutOfMemory;
@@ -103,7 +103,10 @@ pub fn edit_asked<'a>(
         (λ one. (other : EditAsked) → IsEdit (map string_bytes words.entry.now) other → other ≡ one)) }
     ensures none { IfOk result (λ asked. IfNone asked ((one : EditAsked) → ¬ IsEdit (map string_bytes words.entry.now) one)) }
 {
-    let Some(found) = found_in(command(alloc)?, words)? else {
+    let Some(others) = words_behind("edit", words) else {
+        return Ok(None);
+    };
+    let Some(found) = found_in(command(alloc)?, others)? else {
         return Ok(None);
     };
     Ok(edit_of(&found))

@@ -1,10 +1,9 @@
-ghost use Rattle.std.specs.Prelude.{◌≡◌, ◌≢◌, ◌↔◌, ⊤, [], ℕ, true, false, Some, None, IfOk, IfSome, IfNone, IsTrue, map, string_bytes};
+ghost use Rattle.std.specs.Prelude.{◌≡◌, ◌≢◌, ◌↔◌, ◌∷◌, [], ℕ, List, true, false, Some, None, IfOk, IfSome, IfNone, IsTrue, map, string_bytes};
 ghost use Rattle.std.specs.List.{AllByRecursion, list_any};
 ghost use Rattle.std.specs.Str.{bytes_eq};
-ghost use Rattle.clap.specs.Words.{app_of, first_of, is_simple_and_free, rule_of};
-ghost use Rattle.command_words.specs.Asked.{IsCommand};
+ghost use Rattle.clap.specs.Words.{app_of, fault_of, first_of, is_simple_and_free, rule_of};
 ghost use Rattle.command_words.specs.Options.{GivesNumber, IsNumberText, command_with, may_stand, must_stand};
-ghost use Rattle.command_words.specs.inner.Found.{rows_in};
+ghost use Rattle.command_words.specs.inner.Found.{Takes, rows_in};
 
 use clap::error::ErrorKind;
 use clap::{Arg, ArgAction, ArgMatches, Command};
@@ -39,24 +38,29 @@ pub(crate) fn required<'a>(alloc: Global, name: &'a str) -> Arg<'a>
     optional(alloc, name).required(true)
 }
 
-/// What is found in the words for the command: the first has to be its name, and `clap` has to take the others.
+/// The words behind the name of a command, where the first word is that name. No memory.
+pub(crate) fn words_behind<'a>(name: &str, words: &'a [String]) -> Option<&'a [String]>
+    ensures some { IfSome result (λ others. map string_bytes words.entry.now ≡ name.now ∷ map string_bytes others.now) }
+    ensures none { IfNone result ((others : List (List ℕ)) → map string_bytes words.entry.now ≢ name.now ∷ others) }
+{
+    let (first, others) = words.split_first()?;
+    if first.as_str() == name {
+        Some(others)
+    } else {
+        None
+    }
+}
+
+/// What is found in the words behind the name of the command, where `clap` takes them.
 pub(crate) fn found_in<'a>(
     command: Command<'a>,
     words: &'a [String],
 ) -> Result<Option<ArgMatches<'a>>, OutOfMemory>
     requires { is_simple_and_free (app_of command) ≡ true }
-    ensures some { IfOk result (λ found. IfSome found
-        (λ m. IsCommand (app_of command.entry) (map string_bytes words.entry.now) (λ rows. rows ≡ rows_in m))) }
-    ensures none { IfOk result (λ found. IfNone found
-        (¬ IsCommand (app_of command.entry) (map string_bytes words.entry.now) (λ rows. ⊤))) }
+    ensures some { IfOk result (λ found. IfSome found (Takes (app_of command.entry) (map string_bytes words.entry.now))) }
+    ensures none { IfOk result (λ found. IfNone found (fault_of (app_of command.entry) (map string_bytes words.entry.now) ≢ [])) }
 {
-    let Some((first, others)) = words.split_first() else {
-        return Ok(None);
-    };
-    if first.as_str() != command.get_name() {
-        return Ok(None);
-    }
-    match command.try_get_matches_from(others) {
+    match command.try_get_matches_from(words) {
         Ok(found) => Ok(Some(found)),
         Err(error) => match error.kind() {
             ErrorKind::OutOfMemory => Err(OutOfMemory),

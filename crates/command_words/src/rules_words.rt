@@ -3,7 +3,7 @@ ghost use Rattle.clap.specs.Words.{app_of};
 ghost use Rattle.command_words.specs.Asked.{GivesRules, IsRules, RulesAsked, rules_command};
 ghost use Rattle.command_words.specs.inner.Found.{rows_in};
 
-use crate::options::{command_named, found_in, required, text_in};
+use crate::options::{command_named, found_in, required, text_in, words_behind};
 use clap::{ArgMatches, Command};
 use foundation::OutOfMemory;
 use std::alloc::Global;
@@ -36,7 +36,10 @@ pub fn rules_asked<'a>(
         (λ one. (other : RulesAsked) → IsRules (map string_bytes words.entry.now) other → other ≡ one)) }
     ensures none { IfOk result (λ asked. IfNone asked ((one : RulesAsked) → ¬ IsRules (map string_bytes words.entry.now) one)) }
 {
-    let Some(found) = found_in(command(alloc)?, words)? else {
+    let Some(others) = words_behind("rules", words) else {
+        return Ok(None);
+    };
+    let Some(found) = found_in(command(alloc)?, others)? else {
         return Ok(None);
     };
     Ok(rules_of(&found))

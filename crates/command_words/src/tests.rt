@@ -1,5 +1,5 @@
 //! Words that ask for a command, and words that ask for none. What is expected was worked out by hand.
-use crate::{check_asked, edit_asked, rules_asked};
+use crate::{check_asked, edit_asked, make_asked, rules_asked};
 use std::alloc::Global;
 use std::test::Fail;
 
@@ -236,6 +236,52 @@ const COMMANDS: &[(&str, &str)] = &[
     ("help", "none"),
 ];
 
+/// Words, and the survey that they ask for: its two files, the number that its records follow from, and how many there are.
+const SURVEYS: &[(&str, &str)] = &[
+    ("make --rules r --records c", "make r c 1 100"),
+    ("make --records c --rules r", "make r c 1 100"),
+    ("make --rules r --records c --start 0", "make r c 0 100"),
+    (
+        "make --rules r --records c --start 4294967295",
+        "make r c 4294967295 100",
+    ),
+    ("make --rules r --records c --start 4294967296", "none"),
+    ("make --rules r --records c --start 9999999999", "none"),
+    ("make --rules r --records c --start 00000000001", "none"),
+    ("make --rules r --records c --start -1", "none"),
+    ("make --rules r --records c --start=+1", "none"),
+    ("make --rules r --records c --rows 0", "none"),
+    ("make --rules r --records c --rows 1", "make r c 1 1"),
+    (
+        "make --rules r --records c --rows 200000",
+        "make r c 1 200000",
+    ),
+    ("make --rules r --records c --rows 200001", "none"),
+    ("make --rules r --records c --rows 4294967297", "none"),
+    (
+        "make --rows=0000000009 --start 007 --rules=a --records= --",
+        "make a  7 9",
+    ),
+    ("make --rules r --records c --rows 3 --rows 3", "none"),
+    ("make --rules r --records c --rows", "none"),
+    ("make --rules r --records c --workers 2", "none"),
+    ("make --rules r --records c --released d", "none"),
+    ("make --rules r --records r", "none"),
+    ("make --rules r --records=r", "none"),
+    ("make --rules r", "none"),
+    ("make --records c", "none"),
+    ("make", "none"),
+    ("Make --rules r --records c", "none"),
+    ("make make --rules r --records c", "none"),
+    ("make --rules r --records c --help", "none"),
+    ("", "none"),
+    (
+        "edit --rules r --records c --released d --reasons w --proof p",
+        "none",
+    ),
+    ("rules --rules r", "none"),
+];
+
 // The words between the blanks of a line.
 fn words(alloc: Global, line: &str) -> Result<Vec<String>, Fail> {
     let mut words = Vec::new(alloc);
@@ -323,6 +369,28 @@ fn first_wrong_number(alloc: Global, lines: &[(&str, &str)]) -> Result<Option<us
     Ok(None)
 }
 
+// The files and the numbers of the survey that the words ask for.
+fn make_told(alloc: Global, words: &[String]) -> Result<String, Fail> {
+    let Some(asked) = make_asked(alloc, words)? else {
+        return Ok(String::from_str(alloc, "none")?);
+    };
+    let (rules, records) = (asked.rules, asked.records);
+    let (start, rows) = (asked.start, asked.rows);
+    Ok(format!(in alloc; "make {rules} {records} {start} {rows}")?)
+}
+
+// The place of the first line of which another survey is asked for.
+fn first_wrong_survey(alloc: Global, lines: &[(&str, &str)]) -> Result<Option<usize>, Fail> {
+    for (place, (line, expected)) in lines.iter().enumerate() {
+        let words = words(alloc, line)?;
+        let told = make_told(alloc, &words)?;
+        if told.as_str() != *expected {
+            return Ok(Some(place));
+        }
+    }
+    Ok(None)
+}
+
 #[test]
 fn numbers_are_those_given_or_the_usual_ones(rt: HostRuntime) -> Result<(), Fail> {
     assert_eq!(rt; first_wrong_number(rt.alloc(), NUMBERS)?, None);
@@ -341,5 +409,17 @@ fn no_words_ask_for_nothing(rt: HostRuntime) -> Result<(), Fail> {
     assert!(rt; edit_asked(alloc, &[])?.is_none());
     assert!(rt; check_asked(alloc, &[])?.is_none());
     assert!(rt; rules_asked(alloc, &[])?.is_none());
+    Ok(())
+}
+
+#[test]
+fn words_ask_for_a_survey_or_none(rt: HostRuntime) -> Result<(), Fail> {
+    assert_eq!(rt; first_wrong_survey(rt.alloc(), SURVEYS)?, None);
+    Ok(())
+}
+
+#[test]
+fn no_words_ask_for_no_survey(rt: HostRuntime) -> Result<(), Fail> {
+    assert!(rt; make_asked(rt.alloc(), &[])?.is_none());
     Ok(())
 }

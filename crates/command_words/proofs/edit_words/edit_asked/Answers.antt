@@ -1,7 +1,7 @@
 use Rattle.std.proofs.Common.{◌∙◌, ap}
 use Rattle.clap.specs.Words.{is_simple_and_free}
 use Rattle.command_words.specs.Asked.{GivesEdit, edit_command}
-use Rattle.command_words.proofs.AskedLaws.{asked_by, found_by, if_none, if_some, is_found, not_asked, one_edit}
+use Rattle.command_words.proofs.AskedLaws.{asked_by, found_by, if_none, if_some, not_named, not_taken, one_edit}
 use Rattle.command_words.proofs.CommandLaws.{edit_simple}
 use Rattle.command_words.proofs.edit_words.edit_asked.Goals as goal
 
@@ -9,22 +9,26 @@ pub found_in-requires : goal.found_in-requires
 found_in-requires c = ap is_simple_and_free c.in_ok-command.ensures ∙ edit_simple
 
 pub returns-in_default-clause-none : goal.returns-in_default-clause-none
-returns-in_default-clause-none c =
-    λ asked. not_asked _ edit_command _ c.in_ok-command.ensures _ (λ rows. GivesEdit rows asked) c.in_default.is c.in_ok-found.ensures.none
+returns-in_default-clause-none c = λ asked. not_named edit_command _ (λ rows. GivesEdit rows asked) c.in_default.ensures.none
+
+pub returns-in_default-2-clause-none : goal.returns-in_default-2-clause-none
+returns-in_default-2-clause-none c =
+    λ asked. not_taken edit_command _ (λ rows. GivesEdit rows asked) _ c.in-Some.ensures.some _ c.in_ok-command.ensures
+    (rw c.in_default-2.is at c.in_ok-found.ensures.none)
 
 pub returns-clause-some : goal.returns-clause-some
 returns-clause-some c =
-    let is = is_found _ edit_command _ c.in_ok-command.ensures _ c.in-Some.found c.in-Some.is c.in_ok-found.ensures.some in
-    if_some c.edit_of.result (λ asked gives. asked_by edit_command _ _ is (λ rows. GivesEdit rows asked) gives) c.edit_of.ensures.some
+    let takes = rw c.in_ok-command.ensures at (rw c.in-Some-2.is at c.in_ok-found.ensures.some) in
+    if_some c.edit_of.result (λ asked gives. asked_by edit_command _ (λ rows. GivesEdit rows asked) _ c.in-Some.ensures.some _ takes gives) c.edit_of.ensures.some
 
 pub returns-clause-only : goal.returns-clause-only
 returns-clause-only c =
-    let is = is_found _ edit_command _ c.in_ok-command.ensures _ c.in-Some.found c.in-Some.is c.in_ok-found.ensures.some in
+    let takes = rw c.in_ok-command.ensures at (rw c.in-Some-2.is at c.in_ok-found.ensures.some) in
     if_some c.edit_of.result
-    (λ asked gives other asks. one_edit _ other asked (found_by edit_command _ _ is (λ rows. GivesEdit rows other) asks) gives) c.edit_of.ensures.some
+    (λ asked gives other asks. one_edit _ other asked (found_by edit_command _ (λ rows. GivesEdit rows other) _ c.in-Some.ensures.some _ takes asks) gives) c.edit_of.ensures.some
 
 pub returns-clause-none : goal.returns-clause-none
 returns-clause-none c =
-    let is = is_found _ edit_command _ c.in_ok-command.ensures _ c.in-Some.found c.in-Some.is c.in_ok-found.ensures.some in
-    if_none c.edit_of.result (λ ungiven asked asks. ungiven asked (found_by edit_command _ _ is (λ rows. GivesEdit rows asked) asks))
+    let takes = rw c.in_ok-command.ensures at (rw c.in-Some-2.is at c.in_ok-found.ensures.some) in
+    if_none c.edit_of.result (λ ungiven asked asks. ungiven asked (found_by edit_command _ (λ rows. GivesEdit rows asked) _ c.in-Some.ensures.some _ takes asks))
     c.edit_of.ensures.none

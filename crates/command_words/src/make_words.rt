@@ -1,0 +1,104 @@
+ghost use Rattle.std.specs.Prelude.{◌≡◌, IfOk, IfSome, IfNone, map, string_bytes};
+ghost use Rattle.clap.specs.Words.{app_of};
+ghost use Rattle.command_words.specs.Asked.{GivesMake, IsMake, MakeAsked, make_command};
+ghost use Rattle.command_words.specs.inner.Found.{rows_in};
+
+use crate::options::{
+    command_named, found_in, number_in, optional, required, text_in, words_behind,
+};
+use clap::{ArgMatches, Command};
+use foundation::OutOfMemory;
+use std::alloc::Global;
+use std::marker::Model;
+
+/// The number that the records follow from where none is given, the least that can be given, and the most.
+const START: u64 = 1;
+
+const LEAST_START: u64 = 0;
+
+const MOST_START: u64 = 4_294_967_295;
+
+/// How many records are made where no number is given, the least that can be given, and the most.
+const ROWS: u64 = 100;
+
+const LEAST_ROWS: u64 = 1;
+
+const MOST_ROWS: u64 = 200_000;
+
+/// What the command `make` was asked for. The two names differ.
+#[derive(Debug, Drop)]
+pub struct MakeWords<'a> {
+    /// The file that the rules go to.
+    pub rules: &'a str,
+    /// The file that the records go to.
+    pub records: &'a str,
+    /// The number that the records follow from.
+    pub start: u32,
+    /// How many records are made, from 1 to 200,000.
+    pub rows: u32,
+}
+
+impl<'a> Model for MakeWords<'a> {
+    ghost use Rattle.std.specs.Prelude.{◌≢◌};
+    ghost use Rattle.command_words.specs.Asked.{MakeAsked};
+
+    ghost Value = { MakeAsked };
+
+    ghost view = { λ w. record { rules = w.rules.now; records = w.records.now; start = w.start; rows = w.rows } };
+
+    ghost invariant = { λ w. w.rules.now ≢ w.records.now };
+}
+
+/// Reads the words after the program's name as the command `make` with the options `--rules` and `--records`, each with a
+/// file's name, and `--start` and `--rows`, each with a number of 1 to 10 digits, which may be left out: the records follow
+/// from 1 then, and there are 100. The options stand as `clap` takes them, and the two names differ. What is asked for is
+/// all that the words can be read as, and there is None exactly where they are no such command.
+pub fn make_asked<'a>(
+    alloc: Global,
+    words: &'a [String],
+) -> Result<Option<MakeWords<'a>>, OutOfMemory>
+    ensures some { IfOk result (λ asked. IfSome asked (IsMake (map string_bytes words.entry.now))) }
+    ensures only { IfOk result (λ asked. IfSome asked
+        (λ one. (other : MakeAsked) → IsMake (map string_bytes words.entry.now) other → other ≡ one)) }
+    ensures none { IfOk result (λ asked. IfNone asked ((one : MakeAsked) → ¬ IsMake (map string_bytes words.entry.now) one)) }
+{
+    let Some(others) = words_behind("make", words) else {
+        return Ok(None);
+    };
+    let Some(found) = found_in(command(alloc)?, others)? else {
+        return Ok(None);
+    };
+    Ok(make_of(&found))
+}
+
+// The command and its options.
+fn command<'a>(alloc: Global) -> Result<Command<'a>, OutOfMemory>
+    ensures { IfOk result (λ command. app_of command ≡ make_command) }
+{
+    let command = command_named(alloc, "make")
+        .arg(required(alloc, "rules"))?
+        .arg(required(alloc, "records"))?
+        .arg(optional(alloc, "start"))?
+        .arg(optional(alloc, "rows"))?;
+    Ok(command)
+}
+
+// What is to be made by what was found for the options.
+fn make_of<'a>(found: &ArgMatches<'a>) -> Option<MakeWords<'a>>
+    ensures some { IfSome result (GivesMake (rows_in found.now)) }
+    ensures none { IfNone result ((asked : MakeAsked) → ¬ GivesMake (rows_in found.now) asked) }
+{
+    let rules = text_in(found, "rules")?;
+    let records = text_in(found, "records")?;
+    let start = number_in(found, "start", START, LEAST_START, MOST_START)?;
+    let rows = number_in(found, "rows", ROWS, LEAST_ROWS, MOST_ROWS)?;
+    if rules == records {
+        return None;
+    }
+    Some(MakeWords {
+        rules,
+        records,
+        start: start as u32,
+        rows: rows as u32,
+    })
+}
