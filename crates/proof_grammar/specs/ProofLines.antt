@@ -110,9 +110,6 @@ row_lines_in shared row = outcome_lines row.outcome row.gift
 abbrev pub leaf_lines : Leaf → List Line
 leaf_lines leaf = leaf_lines_in None leaf
 
-abbrev pub change_lines : List Bool → ℕ → List Leaf → List Line
-change_lines path weight leaves = change_lines_in None path weight leaves
-
 abbrev pub row_lines : RowProof → List Line
 row_lines row = row_lines_in None row
 
