@@ -2,7 +2,7 @@
 ghost use Rattle.std.specs.Prelude.{◌≡◌, ◌<◌, ◌+◌, ◌^◌, IfOk, None, Some, if◌then◌else◌, length, option_map};
 ghost use Rattle.std.specs.List.{flat_map};
 ghost use Rattle.bound_cert.specs.declared.outcome.Outcome.TheVariants.{Change};
-ghost use Rattle.proof_grammar.specs.ProofLines.{change_lines, leaf_lines, row_lines};
+ghost use Rattle.proof_grammar.specs.ProofLines.{change_lines_in, leaf_lines, row_lines};
 ghost use Rattle.cert_check.specs.inner.Checks.{FitsFiles, IsChecking, files_in, rules_in};
 ghost use Rattle.cert_check.specs.inner.RowFaults.{FindsInCert, FindsInChange, FindsSaid, IsAmong, IsWithin};
 
@@ -61,9 +61,9 @@ fn change_fault(
 ) -> Result<Option<RowFault>, OutOfMemory>
     requires checking { IsChecking checking.now }
     requires files { FitsFiles checking.now files.now }
-    requires few { length (change_lines path.now weight cert.now.leaves) < 2 ^ 64 }
+    requires few { length (change_lines_in None path.now weight cert.now.leaves) < 2 ^ 64 }
     ensures found { IfOk result (FindsSaid (rules_in checking.now) (files_in files.now) (Change path.now weight cert.now) None) }
-    ensures within { IfOk result (IsWithin (length (change_lines path.now weight cert.now.leaves))) }
+    ensures within { IfOk result (IsWithin (length (change_lines_in None path.now weight cert.now.leaves))) }
 {
     match tree_of_change(alloc, checking, files, path, weight, cert)? {
         Some(offset) => Ok(Some(RowFault {
@@ -120,9 +120,9 @@ fn tree_of_change(
 ) -> Result<Option<u64>, OutOfMemory>
     requires checking { IsChecking checking.now }
     requires files { FitsFiles checking.now files.now }
-    requires few { length (change_lines path.now weight cert.now.leaves) < 2 ^ 64 }
+    requires few { length (change_lines_in None path.now weight cert.now.leaves) < 2 ^ 64 }
     ensures found { IfOk result (FindsInChange (rules_in checking.now) (files_in files.now) path.now weight cert.now.leaves) }
-    ensures within { IfOk result (IsAmong (length (change_lines path.now weight cert.now.leaves))) }
+    ensures within { IfOk result (IsAmong (length (change_lines_in None path.now weight cert.now.leaves))) }
 {
     if weight == 0 {
         Ok(None)
