@@ -1,4 +1,4 @@
-use Rattle.std.proofs.Common.{◌≡◌, ◌<◌, ◌==◌, ℕ, not, Bool, true, false, List, [], ◌∷◌, All, Some, get_or, length, map, sym, ap}
+use Rattle.std.proofs.Common.{◌≡◌, ◌<◌, ◌==◌, ℕ, not, Bool, true, false, List, [], All, Some, get_or, length, map, sym, ap}
 use Rattle.std.proofs.Common.{◌∙◌, subst, arith}
 use Rattle.std.specs.Borrow.{Bor}
 use Rattle.std.specs.Fn.{Shared}
@@ -23,7 +23,7 @@ use Rattle.edit_paths.proofs.FieldPlaces.{place-of}
 use Rattle.edit_paths.proofs.KeptLines.{kept-number}
 use Rattle.back_subst.specs.Gifts.{path_of}
 use Rattle.donor_measure.specs.Yardsticks.{yardsticks_of}
-use Rattle.donor_search.specs.CleanRows.{IsCleanRow, donors_of, row_at}
+use Rattle.donor_search.specs.CleanRows.{IsCleanRow, row_at}
 use Rattle.donor_search.specs.Rankings.{ranking_of}
 use Rattle.donor_search.proofs.RankedLaws.{ranking-donors}
 use Rattle.record_pieces.specs.Needs.{IsRankingFor, IsRankingOf, Ranks}

@@ -1,12 +1,16 @@
 use Rattle.std.proofs.Common.{◌≡◌, ◌∙◌, refl, subst, sym}
 use Rattle.std.specs.List.{AllZip}
-use Rattle.record_pieces.specs.Rests.{ArePiecesIn, rows_in}
+use Rattle.record_pieces.specs.Rests.{ArePiecesIn, IsRest, rows_in}
 use Rattle.record_pieces.specs.declared.rest.Rest.{Rest}
 use Rattle.record_ends.specs.Givings.{IsEndIn, SaysIn}
 use Rattle.record_editing.specs.declared.terms.Terms.{Terms}
 use Rattle.record_editing.specs.inner.Givings.{AreDonationsIn}
 use Rattle.record_editing.proofs.DonationLaws.{donations-are, ends-become, ends-say}
 use Rattle.record_editing.proofs.records.edit_by.Goals as goal
+
+pub give_all-requires-clause-rest : goal.give_all-requires-clause-rest
+give_all-requires-clause-rest g c κs within =
+    subst (λ (r : Rest g.row.F.Denot). IsRest g.F.Fn r) (sym c.in_ok-pieces.ensures.rest) c.in_ok-shared.ensures.shared.rest
 
 pub returns : goal.returns
 returns g c =
