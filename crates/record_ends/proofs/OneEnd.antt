@@ -20,20 +20,18 @@ use Rattle.bound_cert.specs.declared.outcome.Outcome.TheVariants as outcome
 use Rattle.bound_cert.proofs.Letters.{filter-agree}
 use Rattle.edit_paths.specs.Cases.{IsCase, case_of}
 use Rattle.edit_paths.proofs.CaseSystems.{start_over}
-use Rattle.back_subst.specs.Gifts.{changed_fields, how_of, hows_of, path_of}
-use Rattle.back_subst.specs.GiveFaults.{AllHoldAt, AreAllComputed, AreComputed, StopsAtLine, StopsAtRule, StopsThere}
+use Rattle.back_subst.specs.Gifts.{how_of, hows_of, path_of}
+use Rattle.back_subst.specs.GiveFaults.{AreAllComputed, AreComputed, StopsThere}
 use Rattle.back_subst.specs.Given.{AreGiven, IsImputed, giving_order, target_of}
 use Rattle.back_subst.specs.declared.gift.Gift.{Gift}
 use Rattle.back_subst.specs.declared.gift.GiveFault.{GiveFault}
 use Rattle.back_subst.specs.declared.gift.GiveFault.TheVariants.{Bound, Test}
-use Rattle.back_subst.specs.declared.gift.How.{How}
 use Rattle.back_subst.specs.inner.Systems.{start_lines}
 use Rattle.back_subst.proofs.FaultLaws.{no-fault, one-gift, only-fault}
 use Rattle.back_subst.proofs.GivenAlike.{first-all}
 use Rattle.back_subst.proofs.StartLaws.{order-changed, order-there, past-end, row-size}
 use Rattle.donor_search.specs.CleanRows.{row_at}
-use Rattle.edit_report.specs.declared.end.RowEnd.{RowEnd}
-use Rattle.record_ends.specs.Ends.{ComesOf, IsEndOf, IsGiftOf, StopsAt, StopsGiving}
+use Rattle.record_ends.specs.Ends.{ComesOf, IsGiftOf, StopsAt, StopsGiving}
 use Rattle.record_ends.specs.Laws.{OneEndLaw}
 
 -- A record has one end for a donor.
