@@ -8,8 +8,6 @@ mod edit_words;
 mod make_words;
 mod options;
 mod rules_words;
-#[cfg(test)]
-mod tests;
 
 pub use check_words::{CheckWords, check_asked};
 pub use edit_words::{EditWords, edit_asked};

@@ -1,0 +1,377 @@
+What words ask for: the command, its files in the order of its options, and its numbers; or nothing.
+
+Further words of an edit of five files: how many workers it has, its budget, its limit and how many donors a record ranks.
+
+  $ words edit --rules r --records c --released d --reasons w --proof p
+  edit r c d w p 1 1000000 1 5
+  $ words edit --rules r --records c --released d --reasons w --proof p --workers 0
+  nothing
+  $ words edit --rules r --records c --released d --reasons w --proof p --workers 1
+  edit r c d w p 1 1000000 1 5
+  $ words edit --rules r --records c --released d --reasons w --proof p --workers 2
+  edit r c d w p 2 1000000 1 5
+  $ words edit --rules r --records c --released d --reasons w --proof p --workers 64
+  edit r c d w p 64 1000000 1 5
+  $ words edit --rules r --records c --released d --reasons w --proof p --workers 65
+  nothing
+  $ words edit --rules r --records c --released d --reasons w --proof p --workers 4294967297
+  nothing
+  $ words edit --rules r --records c --released d --reasons w --proof p --workers 3 --workers 3
+  nothing
+  $ words edit --rules r --records c --released d --reasons w --proof p --budget 1
+  edit r c d w p 1 1 1 5
+  $ words edit --rules r --records c --released d --reasons w --proof p --budget 1000000000
+  edit r c d w p 1 1000000000 1 5
+  $ words edit --rules r --records c --released d --reasons w --proof p --budget 1000000001
+  nothing
+  $ words edit --rules r --records c --released d --reasons w --proof p --limit 0
+  nothing
+  $ words edit --rules r --records c --released d --reasons w --proof p --limit 1
+  edit r c d w p 1 1000000 1 5
+  $ words edit --rules r --records c --released d --reasons w --proof p --limit 1000
+  edit r c d w p 1 1000000 1000 5
+  $ words edit --rules r --records c --released d --reasons w --proof p --limit 1001
+  nothing
+  $ words edit --rules r --records c --released d --reasons w --proof p --near 0
+  nothing
+  $ words edit --rules r --records c --released d --reasons w --proof p --near 1
+  edit r c d w p 1 1000000 1 1
+  $ words edit --rules r --records c --released d --reasons w --proof p --near 64
+  edit r c d w p 1 1000000 1 64
+  $ words edit --rules r --records c --released d --reasons w --proof p --near 65
+  nothing
+  $ words edit --rules r --records c --released d --reasons w --proof p --budget 3 --near 2
+  edit r c d w p 1 3 1 2
+  $ words edit --rules r --records c --released d --reasons w --proof p --near 9 --workers 008 --limit 2 --budget 7
+  edit r c d w p 8 7 2 9
+  $ words edit --rules r --records c --released d --reasons w --proof p --near 64 --limit 1000 --budget 1000000000
+  edit r c d w p 1 1000000000 1000 64
+
+Ten digits, eleven, and one more than 32 bits hold.
+
+  $ words edit --rules r --records c --released d --reasons w --proof p --limit 007
+  edit r c d w p 1 1000000 7 5
+  $ words edit --rules r --records c --released d --reasons w --proof p --near 0000000064
+  edit r c d w p 1 1000000 1 64
+  $ words edit --rules r --records c --released d --reasons w --proof p --near 00000000064
+  nothing
+  $ words edit --rules r --records c --released d --reasons w --proof p --budget 01000000000
+  nothing
+  $ words edit --rules r --records c --released d --reasons w --proof p --limit 4294967297
+  nothing
+
+No digits alone.
+
+  $ words edit --rules r --records c --released d --reasons w --proof p --budget +5
+  nothing
+  $ words edit --rules r --records c --released d --reasons w --proof p --budget=+5
+  nothing
+  $ words edit --rules r --records c --released d --reasons w --proof p --limit -1
+  nothing
+  $ words edit --rules r --records c --released d --reasons w --proof p --limit=-1
+  nothing
+  $ words edit --rules r --records c --released d --reasons w --proof p --near 5.
+  nothing
+  $ words edit --rules r --records c --released d --reasons w --proof p --near 0x5
+  nothing
+  $ words edit --rules r --records c --released d --reasons w --proof p --near ''
+  nothing
+  $ words edit --rules r --records c --released d --reasons w --proof p --near=
+  nothing
+  $ words edit --rules r --records c --released d --reasons w --proof p --near -
+  nothing
+  $ words edit --rules r --records c --released d --reasons w --proof p --near=5=5
+  nothing
+
+The value behind the option's name.
+
+  $ words edit --rules r --records c --released d --reasons w --proof p --near=64
+  edit r c d w p 1 1000000 1 64
+  $ words edit --rules r --records c --released d --reasons w --proof p --limit=007 --workers 2
+  edit r c d w p 2 1000000 7 5
+  $ words edit --rules r --records c --released d --reasons w --proof p --budget=3 --
+  edit r c d w p 1 3 1 5
+  $ words edit --rules r --records c --released d --reasons w --proof p --
+  edit r c d w p 1 1000000 1 5
+
+An option for a value, again, unknown, and without a value.
+
+  $ words edit --rules r --records c --released d --reasons w --proof p --near --limit
+  nothing
+  $ words edit --rules r --records c --released d --reasons w --proof p --near 5 --near 5
+  nothing
+  $ words edit --rules r --records c --released d --reasons w --proof p --near=5 --near=5
+  nothing
+  $ words edit --rules r --records c --released d --reasons w --proof p --near 5 --near=6
+  nothing
+  $ words edit --rules r --records c --released d --reasons w --proof p --limit 2 --budget 4 --limit 3
+  nothing
+  $ words edit --rules r --records c --released d --reasons w --proof p --far 5
+  nothing
+  $ words edit --rules r --records c --released d --reasons w --proof p --Near 5
+  nothing
+  $ words edit --rules r --records c --released d --reasons w --proof p near 5
+  nothing
+  $ words edit --rules r --records c --released d --reasons w --proof p --limit
+  nothing
+  $ words edit --rules r --records c --released d --reasons w --proof p --limit 2 --near
+  nothing
+  $ words edit --rules r --records c --released d --reasons w --proof p --nea 5
+  nothing
+  $ words edit --rules r --records c --released d --reasons w --proof p -n 5
+  nothing
+  $ words edit --rules r --records c --released d --reasons w --proof p -near 5
+  nothing
+
+Behind two dashes there is nothing to be named.
+
+  $ words edit --rules r --records c --released d --reasons w --proof p --near --
+  nothing
+  $ words edit --rules r --records c --released d --reasons w --proof p --near -- 5
+  nothing
+  $ words edit --rules r --records c --released d --reasons w --proof p -- --near 5
+  nothing
+  $ words edit --rules r --records c --released d --reasons w --proof p -- --
+  nothing
+
+Words, and what they ask for.
+
+  $ words edit --proof p --near 9 --reasons w --released d --records c --limit 3 --rules r
+  edit r c d w p 1 1000000 3 9
+  $ words edit --rules edit --records a-b --released 5 --reasons r. --proof é
+  edit edit a-b 5 r. \xc3\xa9 1 1000000 1 5 (esc)
+
+A file that is not named.
+
+  $ words edit --records c --released d --reasons w --proof p
+  nothing
+  $ words edit --rules r --released d --reasons w --proof p
+  nothing
+  $ words edit --rules r --records c --reasons w --proof p
+  nothing
+  $ words edit --rules r --records c --released d --proof p
+  nothing
+  $ words edit --rules r --records c --released d --reasons w
+  nothing
+
+Two files of the same name.
+
+  $ words edit --rules r --records r --released d --reasons w --proof p
+  nothing
+  $ words edit --rules r --records c --released d --reasons w --proof r
+  nothing
+  $ words edit --rules r --records c --released c --reasons w --proof p
+  nothing
+  $ words edit --rules r --records c --released d --reasons w --proof w
+  nothing
+
+An empty name is a name, but not twice.
+
+  $ words edit --rules '' --records c --released d --reasons w --proof p
+  edit  c d w p 1 1000000 1 5
+  $ words edit --rules r --records= --released d --reasons w --proof p --near 9
+  edit r  d w p 1 1000000 1 9
+  $ words edit --rules= --records '' --released d --reasons w --proof p
+  nothing
+
+A name that begins with a dash.
+
+  $ words edit --rules r --records -c --released d --reasons w --proof p
+  nothing
+  $ words edit --rules r --records=-c --released - --reasons=--near --proof=5
+  edit r -c - --near 5 1 1000000 1 5
+
+The same name in two ways.
+
+  $ words edit --rules r --records c --released d --reasons=r --proof p
+  nothing
+
+No command, or behind its options.
+
+  $ words ''
+  nothing
+  $ words edit
+  nothing
+  $ words Edit --rules r --records c --released d --reasons w --proof p
+  nothing
+  $ words --rules r --records c --released d --reasons w --proof p edit
+  nothing
+  $ words edit edit --rules r --records c --released d --reasons w --proof p
+  nothing
+
+A check takes four of the files, and no number.
+
+  $ words check --rules r --records c --released d --proof p
+  check r c d p
+  $ words check --proof p --released d --records c --rules r
+  check r c d p
+  $ words check --rules r --records c --released d --reasons w --proof p
+  nothing
+  $ words check --rules r --records c --released d --proof p --near 5
+  nothing
+  $ words check --rules r --records c --released d
+  nothing
+  $ words check --rules=a=b --proof=é --records c --released d --
+  check a=b c d \xc3\xa9 (esc)
+  $ words check --rules r --records c --released d --proof p --help
+  nothing
+  $ words check --rules r --records c --released r --proof p
+  nothing
+  $ words check --rules r --records c --released d --proof p --proof p
+  nothing
+
+The command of the rules takes one.
+
+  $ words rules --rules r
+  rules r
+  $ words rules --rules rules
+  rules rules
+  $ words rules --rules r --limit 1
+  nothing
+  $ words rules --rules r --rules r
+  nothing
+  $ words rules --records r
+  nothing
+  $ words rules --rules r r
+  nothing
+  $ words rules --rules
+  nothing
+  $ words rules --rules ''
+  rules 
+  $ words rules --rules=
+  rules 
+  $ words rules --rules -
+  rules -
+  $ words rules --rules=r
+  rules r
+  $ words rules --rules=-x
+  rules -x
+  $ words rules --rules=--
+  rules --
+  $ words rules --rules -x
+  nothing
+  $ words rules --rules --x
+  nothing
+  $ words rules --rules --rules
+  nothing
+  $ words rules --rules r --
+  rules r
+  $ words rules --rules=r --
+  rules r
+  $ words rules --rules r -- r
+  nothing
+  $ words rules --rules r -- --
+  nothing
+  $ words rules --rules r -
+  nothing
+  $ words rules --rules r ''
+  nothing
+  $ words rules --rules --
+  nothing
+  $ words rules --rules -- r
+  nothing
+  $ words rules -- --rules r
+  nothing
+  $ words rules r --rules r
+  nothing
+  $ words rules --rules r --rules=r
+  nothing
+  $ words rules --=r
+  nothing
+  $ words rules --rule r
+  nothing
+  $ words rules --Rules r
+  nothing
+  $ words rules -rules r
+  nothing
+  $ words rules --
+  nothing
+  $ words rules
+  nothing
+
+Help and the version are no commands.
+
+  $ words rules --rules r --help
+  nothing
+  $ words rules --help
+  nothing
+  $ words rules -h
+  nothing
+  $ words rules --version
+  nothing
+  $ words rules -V
+  nothing
+  $ words rules help
+  nothing
+  $ words edit --help
+  nothing
+  $ words --help
+  nothing
+  $ words -h
+  nothing
+  $ words --version
+  nothing
+  $ words help
+  nothing
+
+Words of a survey that is made.
+
+  $ words make --rules r --records c
+  make r c 1 100
+  $ words make --records c --rules r
+  make r c 1 100
+  $ words make --rules r --records c --start 0
+  make r c 0 100
+  $ words make --rules r --records c --start 4294967295
+  make r c 4294967295 100
+  $ words make --rules r --records c --start 4294967296
+  nothing
+  $ words make --rules r --records c --start 9999999999
+  nothing
+  $ words make --rules r --records c --start 00000000001
+  nothing
+  $ words make --rules r --records c --start -1
+  nothing
+  $ words make --rules r --records c --start=+1
+  nothing
+  $ words make --rules r --records c --rows 0
+  nothing
+  $ words make --rules r --records c --rows 1
+  make r c 1 1
+  $ words make --rules r --records c --rows 200000
+  make r c 1 200000
+  $ words make --rules r --records c --rows 200001
+  nothing
+  $ words make --rules r --records c --rows 4294967297
+  nothing
+  $ words make --rows=0000000009 --start 007 --rules=a --records= --
+  make a  7 9
+  $ words make --rules r --records c --rows 3 --rows 3
+  nothing
+  $ words make --rules r --records c --rows
+  nothing
+  $ words make --rules r --records c --workers 2
+  nothing
+  $ words make --rules r --records c --released d
+  nothing
+  $ words make --rules r --records r
+  nothing
+  $ words make --rules r --records=r
+  nothing
+  $ words make --rules r
+  nothing
+  $ words make --records c
+  nothing
+  $ words make
+  nothing
+  $ words Make --rules r --records c
+  nothing
+  $ words make make --rules r --records c
+  nothing
+  $ words make --rules r --records c --help
+  nothing
+
+No words at all.
+
+  $ words
+  nothing
