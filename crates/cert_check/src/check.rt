@@ -6,7 +6,7 @@ ghost use Rattle.cert_check.specs.Shown.{Shows};
 use crate::fault::{CheckFault, Why};
 use crate::said_check::{Audit, check_said, rejected};
 use edit_model::Survey;
-use proof_text::{ProofFault, read_proof};
+use proof_text::{ProofFault, open_proof};
 use record_text::Sheet;
 use std::alloc::Global;
 
@@ -37,7 +37,7 @@ pub fn check_all(
         records,
         released,
     };
-    match read_proof(alloc, proof) {
+    match open_proof(alloc, proof) {
         Ok(said) => check_said(alloc, &audit, &said, proof.len()),
         Err(ProofFault::At { line }) => Err(rejected(line, Why::Grammar)),
         Err(ProofFault::OutOfMemory) => Err(CheckFault::OutOfMemory),
