@@ -6,7 +6,7 @@ ghost use Rattle.cert_check.specs.Shown.{Shows};
 use crate::fault::{CheckFault, Why};
 use crate::said_check::{Audit, check_said, rejected};
 use edit_model::Survey;
-use proof_text::{ProofFault, read_proof};
+use proof_text::{ProofFault, open_proof};
 use record_text::Sheet;
 use std::alloc::Global;
 
@@ -16,7 +16,8 @@ use std::alloc::Global;
 /// change was found, and no other, claims a donor once: it ranks clean records, each once and no more than may be
 /// ranked, and is given the first of them that was given less often than the limit before, or nobody where there is
 /// none. Which donors it ranks, and that the nearest come first, is not checked. Rejected comes with the first condition
-/// that fails and its line in the proof. The time is in proportion to the files and to the rules.
+/// that fails and its line in the proof. The time is in proportion to the files and to the rules. The proof's trees are
+/// read one at a time, and none is held.
 pub fn check_all(
     alloc: Global,
     rules: &Survey,
@@ -37,7 +38,7 @@ pub fn check_all(
         records,
         released,
     };
-    match read_proof(alloc, proof) {
+    match open_proof(alloc, proof) {
         Ok(said) => check_said(alloc, &audit, &said, proof.len()),
         Err(ProofFault::At { line }) => Err(rejected(line, Why::Grammar)),
         Err(ProofFault::OutOfMemory) => Err(CheckFault::OutOfMemory),

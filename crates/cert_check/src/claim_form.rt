@@ -7,12 +7,11 @@ ghost use Rattle.bound_cert.specs.Claims.{claims_donor};
 ghost use Rattle.cert_check.specs.Claims.{IsClaim};
 ghost use Rattle.cert_check.specs.inner.ClaimChecks.{AreCleanFlags, IsFormedCount, OfCleanFlags};
 
-use crate::said::claims_donor;
-use bound_cert::RowProof;
+use crate::places::claims_donor;
 use donor_book::Entry;
 use edit_model::{Survey, is_clean};
 use foundation::OutOfMemory;
-use proof_text::Proof;
+use proof_text::{ProofFile, RowPlace};
 use record_text::Sheet;
 use std::alloc::Global;
 
@@ -33,11 +32,11 @@ pub(crate) fn clean_flags(
 }
 
 /// How many claims stand before the first that is not in form. No memory.
-pub(crate) fn formed_count(said: &Proof, clean: &[bool]) -> usize
+pub(crate) fn formed_count(said: &ProofFile, clean: &[bool]) -> usize
     ensures most { result ≤ length said.now.claims }
     ensures count { OfCleanFlags clean.now (λ survey rows. IsFormedCount survey rows said.now result) }
 {
-    let claims = said.claims.as_slice();
+    let claims = said.claims();
     for (place, claim) in claims.iter().enumerate() {
         if !is_claim(said, clean, claim) {
             return place;
@@ -48,21 +47,21 @@ pub(crate) fn formed_count(said: &Proof, clean: &[bool]) -> usize
 
 // Whether a claim is in form: its record claims a donor, and ranks no more donors than may be ranked, each once. The
 // length is looked at first, so that no long ranking is searched.
-fn is_claim(said: &Proof, clean: &[bool], claim: &Entry) -> bool
+fn is_claim(said: &ProofFile, clean: &[bool], claim: &Entry) -> bool
     ensures { OfCleanFlags clean.now (λ survey rows. Decides result (IsClaim survey rows said.now claim.now)) }
 {
     let ranking = claim.ranking.as_slice();
-    row_claims(said.rows.as_slice(), claim.row_no)
-        && (ranking.len() <= said.near as usize
+    row_claims(said.rows(), claim.row_no)
+        && (ranking.len() <= said.near() as usize
             && (are_distinct(ranking) && are_clean(clean, ranking)))
 }
 
 // Whether the record of this number is there, and claims a donor.
-fn row_claims(saids: &[RowProof], row_no: u32) -> bool
+fn row_claims(saids: &[RowPlace], row_no: u32) -> bool
     ensures { Decides result (IsSomeAnd (slice_get saids.now row_no) (λ said. claims_donor said.outcome ≡ true)) }
 {
     match saids.get(row_no as usize) {
-        Some(said) => claims_donor(said),
+        Some(place) => claims_donor(place),
         None => false,
     }
 }

@@ -4,40 +4,39 @@ ghost use Rattle.std.specs.Bool.{Decides};
 ghost use Rattle.cert_check.specs.Claims.{AllClaim};
 ghost use Rattle.cert_check.specs.inner.ClaimChecks.{AllMarked, AreMarked};
 
-use crate::said::claims_donor;
-use bound_cert::RowProof;
+use crate::places::claims_donor;
 use foundation::OutOfMemory;
-use proof_text::Proof;
+use proof_text::{ProofFile, RowPlace};
 use std::alloc::Global;
 
 /// Whether each record that claims a donor has a claim. The claims are of records that are there.
-pub(crate) fn all_claim(alloc: Global, said: &Proof) -> Result<bool, OutOfMemory>
+pub(crate) fn all_claim(alloc: Global, said: &ProofFile) -> Result<bool, OutOfMemory>
     requires there { All (λ entry. entry.row_no < length said.now.rows) said.now.claims }
     ensures { IfOk result (λ b. Decides b (AllClaim said.now)) }
 {
     let claimed = claimed_rows(alloc, said)?;
-    Ok(are_marked(said.rows.as_slice(), &claimed))
+    Ok(are_marked(said.rows(), &claimed))
 }
 
 // For each record whether it has a claim.
-fn claimed_rows(alloc: Global, said: &Proof) -> Result<Vec<bool>, OutOfMemory>
+fn claimed_rows(alloc: Global, said: &ProofFile) -> Result<Vec<bool>, OutOfMemory>
     requires there { All (λ entry. entry.row_no < length said.now.rows) said.now.claims }
     ensures { IfOk result (λ marks. AreMarked said.now.claims (length said.now.rows) marks.items) }
 {
-    let mut marks = vec![in alloc; false; said.rows.len()]?;
-    for claim in said.claims.as_slice() {
+    let mut marks = vec![in alloc; false; said.rows().len()]?;
+    for claim in said.claims() {
         marks[claim.row_no as usize] = true;
     }
     Ok(marks)
 }
 
 // Whether each record that claims a donor is marked.
-fn are_marked(saids: &[RowProof], marks: &[bool]) -> bool
+fn are_marked(saids: &[RowPlace], marks: &[bool]) -> bool
     requires { length marks.now ≡ length saids.now }
     ensures { Decides result (AllMarked saids.now marks.now) }
 {
-    for (row_no, said) in saids.iter().enumerate() {
-        if claims_donor(said) && !marks[row_no] {
+    for (row_no, place) in saids.iter().enumerate() {
+        if claims_donor(place) && !marks[row_no] {
             return false;
         }
     }

@@ -11,7 +11,7 @@ use crate::line_counts::claims_line;
 use donor_book::first_illegal;
 use edit_model::Survey;
 use foundation::OutOfMemory;
-use proof_text::Proof;
+use proof_text::ProofFile;
 use record_text::Sheet;
 use std::alloc::Global;
 
@@ -21,7 +21,7 @@ pub(crate) fn claims_fault(
     alloc: Global,
     survey: &Survey,
     records: &Sheet,
-    said: &Proof,
+    said: &ProofFile,
 ) -> Result<Option<u64>, OutOfMemory>
     requires rows { AllByRecursion (IsRow survey.now.fields) records.now.rows }
     requires one_each { length said.now.rows ≡ length records.now.rows }
@@ -29,12 +29,12 @@ pub(crate) fn claims_fault(
     ensures { IfOk result (FindsClaims survey.now records.now.rows said.now) }
 {
     if let Some(place) = wrong_claim(alloc, survey, records, said)? {
-        return Ok(Some(claims_line(said) + 1 + place as u64));
+        return Ok(Some(claims_line(alloc, said)? + 1 + place as u64));
     }
     if all_claim(alloc, said)? {
         Ok(None)
     } else {
-        Ok(Some(claims_line(said)))
+        Ok(Some(claims_line(alloc, said)?))
     }
 }
 
@@ -44,20 +44,20 @@ fn wrong_claim(
     alloc: Global,
     survey: &Survey,
     records: &Sheet,
-    said: &Proof,
+    said: &ProofFile,
 ) -> Result<Option<usize>, OutOfMemory>
     requires rows { AllByRecursion (IsRow survey.now.fields) records.now.rows }
     requires one_each { length said.now.rows ≡ length records.now.rows }
     ensures { IfOk result (FindsClaim survey.now records.now.rows said.now) }
 {
-    let claims = said.claims.as_slice();
+    let claims = said.claims();
     if claims.is_empty() {
         return Ok(None);
     }
     let clean = clean_flags(alloc, survey, records)?;
     let formed = formed_count(said, &clean);
     let count = records.len();
-    match first_illegal(alloc, &claims[..formed], said.limit, count, count)? {
+    match first_illegal(alloc, &claims[..formed], said.limit(), count, count)? {
         Some(place) => Ok(Some(place)),
         None if formed < claims.len() => Ok(Some(formed)),
         None => Ok(None),

@@ -16,7 +16,7 @@ use derivation::{Step, StepsFault, check_steps, record_without_values};
 use edit_line::Line;
 use edit_model::{FieldSet, Row, Survey};
 use foundation::{OutOfMemory, Sequence};
-use proof_text::Proof;
+use proof_text::ProofFile;
 use std::alloc::Global;
 
 /// The first line of the proof at which what it says of the lines of the rules is not right. The lines are lent
@@ -25,7 +25,7 @@ pub(crate) fn drop_fault(
     alloc: Global,
     survey: &Survey,
     lines: &mut Vec<Line>,
-    proof: &Proof,
+    proof: &ProofFile,
 ) -> Result<Option<u64>, OutOfMemory>
     requires counted { IsCounted proof.now }
     requires lines { lines.old.items ≡ normal_lines_of survey.now }
@@ -34,7 +34,7 @@ pub(crate) fn drop_fault(
     ensures found { IfOk result (λ found. found ≡ drop_fault survey.now proof.now) }
     ensures lines { OnOk result (lines.new.items ≡ lines.old.items) }
 {
-    match verdicts_fault(alloc, survey, lines, proof.verdicts.as_slice())? {
+    match verdicts_fault(alloc, survey, lines, proof.verdicts())? {
         Some(offset) => Ok(Some(4 + offset)),
         None => Ok(None),
     }

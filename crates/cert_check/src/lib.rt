@@ -14,6 +14,7 @@ mod fault;
 mod head;
 mod line_counts;
 mod new_values;
+mod places;
 mod released_file;
 mod released_row;
 mod row_check;

@@ -1,5 +1,5 @@
 //! How many lines the parts of a proof take, and the numbers of some of its lines.
-ghost use Rattle.std.specs.Prelude.{◌≡◌, ◌<◌, ◌^◌, length};
+ghost use Rattle.std.specs.Prelude.{◌≡◌, ◌<◌, ◌^◌, IfOk, length};
 ghost use Rattle.std.specs.List.{flat_map};
 ghost use Rattle.cert_check.specs.Places.{claims_line, records_line, table_line};
 ghost use Rattle.cert_check.specs.inner.Counts.{AreCounted, IsCounted};
@@ -7,8 +7,9 @@ ghost use Rattle.proof_grammar.specs.ProofLines.{has_table, leaf_lines, row_line
 
 use bound_cert::{Leaf, LeafWhy, Outcome, RowProof};
 use derivation::Step;
-use foundation::Sequence;
-use proof_text::Proof;
+use foundation::{OutOfMemory, Sequence};
+use proof_text::{ProofFile, RowPlace};
+use std::alloc::Global;
 
 /// How many lines the leaves take. No memory.
 pub(crate) fn leaves_line_count(leaves: &[Leaf]) -> u64
@@ -47,16 +48,17 @@ pub(crate) fn row_line_count(said: &RowProof) -> u64
     }
 }
 
-// How many lines what is said of the records takes.
-fn rows_line_count(rows: &[RowProof]) -> u64
+// How many lines what is said of the records takes. Each row is read at its place, and let go.
+fn rows_line_count(alloc: Global, rows: &[RowPlace]) -> Result<u64, OutOfMemory>
     requires { length (flat_map row_lines rows.now) < 2 ^ 64 }
-    ensures { result ≡ length (flat_map row_lines rows.now) }
+    ensures { IfOk result (λ count. count ≡ length (flat_map row_lines rows.now)) }
 {
     let mut count = 0;
-    for row in rows {
-        count += row_line_count(row);
+    for place in rows {
+        let row = place.read(alloc)?;
+        count += row_line_count(&row);
     }
-    count
+    Ok(count)
 }
 
 /// How many lines a verdict takes. No memory.
@@ -83,37 +85,38 @@ fn verdicts_line_count(verdicts: &[Option<Sequence<Step>>]) -> u64
 }
 
 // How many lines the table takes.
-fn table_line_count(proof: &Proof) -> u64
+fn table_line_count(proof: &ProofFile) -> u64
     requires { length (table_lines (has_table proof.now.version) proof.now.table) < 2 ^ 64 }
     ensures { result ≡ length (table_lines (has_table proof.now.version) proof.now.table) }
 {
-    if proof.version == 2 {
-        1 + proof.table.as_slice().len() as u64
+    if proof.version() == 2 {
+        1 + proof.table().len() as u64
     } else {
         0
     }
 }
 
 /// The number of the line that counts the steps of the table, from 1, where there is one. No memory.
-pub(crate) fn table_line(proof: &Proof) -> u64
+pub(crate) fn table_line(proof: &ProofFile) -> u64
     requires { IsCounted proof.now }
     ensures { result ≡ table_line proof.now }
 {
-    4 + verdicts_line_count(proof.verdicts.as_slice())
+    4 + verdicts_line_count(proof.verdicts())
 }
 
 /// The number of the line that counts the records, from 1. No memory.
-pub(crate) fn records_line(proof: &Proof) -> u64
+pub(crate) fn records_line(proof: &ProofFile) -> u64
     requires { IsCounted proof.now }
     ensures { result ≡ records_line proof.now }
 {
     table_line(proof) + table_line_count(proof)
 }
 
-/// The number of the line that counts the claims, from 1. No memory.
-pub(crate) fn claims_line(proof: &Proof) -> u64
+/// The number of the line that counts the claims, from 1. Each row is read once more, so it is asked for only where some claim is
+/// at fault.
+pub(crate) fn claims_line(alloc: Global, proof: &ProofFile) -> Result<u64, OutOfMemory>
     requires { IsCounted proof.now }
-    ensures { result ≡ claims_line proof.now }
+    ensures { IfOk result (λ line. line ≡ claims_line proof.now) }
 {
-    records_line(proof) + 1 + rows_line_count(proof.rows.as_slice())
+    Ok(records_line(proof) + 1 + rows_line_count(alloc, proof.rows())?)
 }

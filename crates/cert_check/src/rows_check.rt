@@ -1,7 +1,7 @@
 //! Whether what a proof says of all records is valid.
 ghost use Rattle.std.specs.Prelude.{◌≡◌, ◌<◌, ◌^◌, All, IfOk, drop, length, option_map};
 ghost use Rattle.std.specs.List.{AllByRecursion, flat_map};
-ghost use Rattle.cert_check.specs.Releases.{behind, is_released, next_texts};
+ghost use Rattle.cert_check.specs.Releases.{behind, next_texts};
 ghost use Rattle.cert_check.specs.inner.Checks.{IsChecking, files_in, rules_in};
 ghost use Rattle.cert_check.specs.inner.Finds.{FindsAmong, files_at};
 ghost use Rattle.edit_model.specs.Rows.{IsRow};
@@ -9,18 +9,19 @@ ghost use Rattle.proof_grammar.specs.ProofLines.{row_lines};
 
 use crate::checking::{Checking, RowAt};
 use crate::line_counts::row_line_count;
+use crate::places::is_released;
 use crate::row_check::{RowFault, row_fault};
-use bound_cert::{Outcome, RowProof};
 use foundation::OutOfMemory;
+use proof_text::RowPlace;
 use record_text::{Sheet, Texts};
 use std::alloc::Global;
 
-/// The first fault of what is said of the records, if there is one. The released rows are those of the records that
+/// The first fault of what is said of the records, if there is one. Each row is read at its place, and let go. The released rows are those of the records that
 /// are released, in order.
 pub(crate) fn rows_fault(
     alloc: Global,
     checking: &Checking,
-    saids: &[RowProof],
+    saids: &[RowPlace],
     records: &Sheet,
     released: &Sheet,
 ) -> Result<Option<RowFault>, OutOfMemory>
@@ -37,23 +38,24 @@ pub(crate) fn rows_fault(
     let mut offset = 0;
     let mut next = 0;
     for row_no in 0..records.len() {
-        let said = &saids[row_no as usize];
-        let files = files_at(said, records, row_no, released, next);
-        if let Some(fault) = row_fault(alloc, checking, &files, said)? {
+        let place = &saids[row_no as usize];
+        let files = files_at(place, records, row_no, released, next);
+        let said = place.read(alloc)?;
+        if let Some(fault) = row_fault(alloc, checking, &files, &said)? {
             return Ok(Some(RowFault {
                 offset: offset + fault.offset,
                 why: fault.why,
             }));
         }
-        offset += row_line_count(said);
-        next = behind(said, released, next);
+        offset += row_line_count(&said);
+        next = behind(place, released, next);
     }
     Ok(None)
 }
 
 // The record of this number, with the next released row if it is released.
 fn files_at<'a>(
-    said: &RowProof,
+    place: &RowPlace,
     records: &'a Sheet,
     row_no: u32,
     released: &'a Sheet,
@@ -61,20 +63,20 @@ fn files_at<'a>(
 ) -> RowAt<'a>
     requires rows { row_no < length records.now.rows }
     requires row_texts { row_no < length records.now.row_texts }
-    ensures { files_in result ≡ files_at said.now records.now row_no (drop next released.now.row_texts) }
+    ensures { files_in result ≡ files_at place.now records.now row_no (drop next released.now.row_texts) }
 {
     RowAt {
         reads: records.raw(row_no),
         row: records.row(row_no),
-        texts: texts_at(said, released, next),
+        texts: texts_at(place, released, next),
     }
 }
 
 // The released texts at the next place, if the record is released.
-fn texts_at<'a>(said: &RowProof, released: &'a Sheet, next: u32) -> Option<&'a Texts>
-    ensures { option_map (λ t. t.now) result ≡ next_texts said.now (drop next released.now.row_texts) }
+fn texts_at<'a>(place: &RowPlace, released: &'a Sheet, next: u32) -> Option<&'a Texts>
+    ensures { option_map (λ t. t.now) result ≡ next_texts place.now (drop next released.now.row_texts) }
 {
-    if is_released(said) && next < released.len() {
+    if is_released(place) && next < released.len() {
         Some(released.raw(next))
     } else {
         None
@@ -82,22 +84,12 @@ fn texts_at<'a>(said: &RowProof, released: &'a Sheet, next: u32) -> Option<&'a T
 }
 
 // The place of the next released row behind a record.
-fn behind(said: &RowProof, released: &Sheet, next: u32) -> u32
-    ensures { drop result released.now.row_texts ≡ behind said.now (drop next released.now.row_texts) }
+fn behind(place: &RowPlace, released: &Sheet, next: u32) -> u32
+    ensures { drop result released.now.row_texts ≡ behind place.now (drop next released.now.row_texts) }
 {
-    if is_released(said) && next < released.len() {
+    if is_released(place) && next < released.len() {
         next + 1
     } else {
         next
-    }
-}
-
-/// Whether a record is released. No memory.
-pub(crate) fn is_released(said: &RowProof) -> bool
-    ensures { result ≡ is_released said.now }
-{
-    match &said.outcome {
-        Outcome::Change { .. } => said.gift.is_none(),
-        Outcome::Budget { .. } | Outcome::Overflow { .. } | Outcome::Contradictory { .. } => false,
     }
 }

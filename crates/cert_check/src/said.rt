@@ -1,10 +1,9 @@
 //! What a proof says of a record, but for its tree and the released row.
 ghost use Rattle.std.specs.Prelude.{◌≡◌};
-ghost use Rattle.bound_cert.specs.Claims.{claims_donor};
 ghost use Rattle.edit_model.specs.Rows.{IsRow};
 ghost use Rattle.cert_check.specs.RowChecks.{event_exists, gift_exists, fits_change, place_exists};
 
-use bound_cert::{Event, GiftFault, Outcome, Path, RowProof};
+use bound_cert::{Event, GiftFault, Path};
 use edit_line::Place;
 use edit_model::{Row, Survey};
 
@@ -47,15 +46,5 @@ fn place_exists(survey: &Survey, place: Place) -> bool
     match place {
         Place::Field(field) => (field as usize) < survey.fields().len(),
         Place::Constant => true,
-    }
-}
-
-/// Whether the record claims a donor. No memory.
-pub(crate) fn claims_donor(said: &RowProof) -> bool
-    ensures { result ≡ claims_donor said.now.outcome }
-{
-    match &said.outcome {
-        Outcome::Change { weight, .. } => *weight != 0,
-        Outcome::Budget { .. } | Outcome::Overflow { .. } | Outcome::Contradictory { .. } => false,
     }
 }

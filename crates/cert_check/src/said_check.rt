@@ -19,14 +19,14 @@ use crate::dropped::{drop_fault, kept_flags};
 use crate::fault::{CheckFault, Why};
 use crate::head::head_fault;
 use crate::line_counts::records_line;
+use crate::places::is_released;
 use crate::released_file::released_rows;
-use crate::rows_check::{is_released, rows_fault};
+use crate::rows_check::rows_fault;
 use crate::table::table_fault;
-use bound_cert::RowProof;
 use edit_line::Line;
 use edit_model::Survey;
 use edit_normal::lines_of_rules;
-use proof_text::Proof;
+use proof_text::{ProofFile, RowPlace};
 use record_text::Sheet;
 use std::alloc::Global;
 
@@ -43,7 +43,7 @@ pub(crate) struct Audit<'a> {
 pub(crate) fn check_said(
     alloc: Global,
     audit: &Audit,
-    said: &Proof,
+    said: &ProofFile,
     bytes: usize,
 ) -> Result<u32, CheckFault>
     requires sheet { IsOfSheet audit.now }
@@ -59,7 +59,7 @@ pub(crate) fn check_said(
     if let Some(line) = drop_fault(alloc, audit.rules, &mut lines, said)? {
         return Err(rejected(line, Why::Drop));
     }
-    let mut usable = kept_flags(alloc, said.verdicts.as_slice())?;
+    let mut usable = kept_flags(alloc, said.verdicts())?;
     if let Some(line) = table_fault(alloc, audit.rules, &mut lines, &mut usable, said)? {
         return Err(rejected(line, Why::Table));
     }
@@ -73,7 +73,7 @@ fn check_records(
     audit: &Audit,
     lines: &[Line],
     usable: &[bool],
-    said: &Proof,
+    said: &ProofFile,
 ) -> Result<u32, CheckFault>
     requires sheet { IsOfSheet audit.now }
     requires counted { IsCounted said.now }
@@ -85,7 +85,7 @@ fn check_records(
     requires table { table_fault audit.now.rules.now said.now ≡ None }
     ensures { (bytes : List ℕ) → Spells bytes said.now → Answers (audit_in audit.now bytes) result }
 {
-    let saids = said.rows.as_slice();
+    let saids = said.rows();
     let count = released_count(saids);
     let Some(released) = released_rows(alloc, audit.records.header(), audit.released, count)? else {
         return Err(rejected(0, Why::RowText));
@@ -95,7 +95,7 @@ fn check_records(
         given: lines,
         usable,
         columns: audit.records.columns(),
-        budget: said.budget,
+        budget: said.budget(),
     };
     if let Some(fault) = rows_fault(alloc, &checking, saids, audit.records, &released)? {
         return Err(rejected(records_line(said) + 1 + fault.offset, fault.why));
@@ -114,13 +114,13 @@ pub(crate) fn rejected(line: u64, why: Why) -> CheckFault
 }
 
 // How many records are released.
-fn released_count(saids: &[RowProof]) -> u32
+fn released_count(saids: &[RowPlace]) -> u32
     requires { length saids.now ≤ 200000 }
     ensures { result ≡ length (filter is_released saids.now) }
 {
     let mut count = 0;
-    for said in saids {
-        if is_released(said) {
+    for place in saids {
+        if is_released(place) {
             count += 1;
         }
     }

@@ -13,7 +13,7 @@ use derivation::{StepsFault, line_list};
 use edit_line::Line;
 use edit_model::Survey;
 use foundation::OutOfMemory;
-use proof_text::Proof;
+use proof_text::ProofFile;
 use std::alloc::Global;
 
 /// The first line of the proof at which a step of its table gives no line. Where there is none, the lines of the
@@ -23,7 +23,7 @@ pub(crate) fn table_fault(
     survey: &Survey,
     lines: &mut Vec<Line>,
     usable: &mut Vec<bool>,
-    proof: &Proof,
+    proof: &ProofFile,
 ) -> Result<Option<u64>, OutOfMemory>
     requires plain { IsPlain proof.now }
     requires counted { IsCounted proof.now }
@@ -36,7 +36,7 @@ pub(crate) fn table_fault(
     ensures usable { result ≡ Ok None → usable.new.items ≡ kept_flags proof.now ++ map (λ line. true) (shared_lines survey.now proof.now) }
     ensures over { result ≡ Ok None → AreOver (shape_of survey.now.fields) lines.new.items }
 {
-    match line_list(alloc, survey, lines, usable, proof.table.as_slice()) {
+    match line_list(alloc, survey, lines, usable, proof.table()) {
         Ok(shared) => {
             put_behind(lines, usable, shared)?;
             Ok(None)

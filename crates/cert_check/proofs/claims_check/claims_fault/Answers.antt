@@ -6,12 +6,12 @@ use Rattle.cert_check.proofs.claims_check.claims_fault.Goals as goal
 pub overflow_add-result : goal.overflow_add-result
 overflow_add-result c =
     let wrong = rw c.in-Some.is at c.in_ok-place.ensures in
-    omega (arith, all-lines c.args.said.now, c.requires.counted, c.claims_line.ensures, wrong.there)
+    omega (arith, all-lines c.args.said.now, c.requires.counted, c.in_ok-claims_line.ensures, wrong.there)
 
 pub overflow_add-result-in-Some : goal.overflow_add-result-in-Some
 overflow_add-result-in-Some c =
     let wrong = rw c.in-Some.is at c.in_ok-place.ensures in
-    omega (arith, all-lines c.args.said.now, c.requires.counted, c.claims_line.ensures, wrong.there)
+    omega (arith, all-lines c.args.said.now, c.requires.counted, c.in_ok-claims_line.ensures, wrong.there)
 
 pub all_claim-requires : goal.all_claim-requires
 all_claim-requires c =

@@ -6,8 +6,8 @@ use Rattle.cert_check.proofs.LineNumbers.{all-lines}
 use Rattle.cert_check.proofs.line_counts.claims_line.Goals as goal
 
 pub rows_line_count-requires : goal.rows_line_count-requires
-rows_line_count-requires c = rw c.as_slice.ensures (omega (arith, all-lines c.args.proof.now, c.requires))
+rows_line_count-requires c = rw c.rows.ensures (omega (arith, all-lines c.args.proof.now, c.requires))
 
 pub overflow_add-result-2 : goal.overflow_add-result-2
 overflow_add-result-2 c =
-    omega (arith, all-lines c.args.proof.now, c.requires, c.records_line.ensures, c.rows_line_count.ensures, ap (λ (rows : List RowProof). length (flat_map row_lines rows)) c.as_slice.ensures)
+    omega (arith, all-lines c.args.proof.now, c.requires, c.records_line.ensures, c.in_ok-rows_line_count.ensures, ap (λ (rows : List RowProof). length (flat_map row_lines rows)) c.rows.ensures)
