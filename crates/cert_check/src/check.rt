@@ -16,7 +16,8 @@ use std::alloc::Global;
 /// change was found, and no other, claims a donor once: it ranks clean records, each once and no more than may be
 /// ranked, and is given the first of them that was given less often than the limit before, or nobody where there is
 /// none. Which donors it ranks, and that the nearest come first, is not checked. Rejected comes with the first condition
-/// that fails and its line in the proof. The time is in proportion to the files and to the rules.
+/// that fails and its line in the proof. The time is in proportion to the files and to the rules. The proof's trees are
+/// read one at a time, and none is held.
 pub fn check_all(
     alloc: Global,
     rules: &Survey,
