@@ -15,8 +15,8 @@ use Rattle.edit_paths.specs.Outcomes.{outcome_of}
 use Rattle.back_subst.specs.declared.gift.Gift.{Gift}
 use Rattle.edit_report.specs.declared.end.RowEnd.{RowEnd}
 use Rattle.donor_search.specs.CleanRows.{row_at}
-use Rattle.record_workers.specs.Ends.{ComesOf, IsEndOf}
-use Rattle.record_workers.specs.Said.{OutcomeSays, Says}
+use Rattle.record_ends.specs.Ends.{ComesOf, IsEndOf}
+use Rattle.record_ends.specs.Said.{OutcomeSays, Says}
 use Rattle.edit_release.specs.Releases.{AllGiven}
 use Rattle.edit_commands.specs.Edits.{IsStatusOf}
 use Rattle.edit_commands.specs.Laws.{IsInReach, WholeLaw}

@@ -4,8 +4,8 @@ use Rattle.edit_model.specs.Parts.{SurveyParts}
 use Rattle.command_words.specs.Asked.{EditAsked}
 use Rattle.donor_book.specs.declared.claim.Entry.{Entry}
 use Rattle.record_text.specs.Sheets.{SheetParts}
-use Rattle.record_workers.specs.Donations.{AreInRowOrder}
-use Rattle.record_workers.specs.declared.terms.Terms.{Terms}
+use Rattle.record_pieces.specs.Needs.{AreInRowOrder}
+use Rattle.record_editing.specs.declared.terms.Terms.{Terms}
 use Rattle.edit_report.specs.declared.end.RowEnd.{RowEnd}
 use Rattle.edit_release.specs.Edits.{IsEditOf, Written}
 use Rattle.edit_release.specs.Releases.{AllGiven}

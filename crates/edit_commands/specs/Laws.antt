@@ -12,8 +12,8 @@ use Rattle.edit_paths.specs.Cases.{case_of}
 use Rattle.edit_paths.specs.Outcomes.{outcome_of, total_work}
 use Rattle.record_text.specs.Sheets.{SheetParts}
 use Rattle.donor_search.specs.CleanRows.{row_at}
-use Rattle.record_workers.specs.Ends.{StopsGiving}
-use Rattle.record_workers.specs.declared.terms.Terms.{Terms}
+use Rattle.record_ends.specs.Ends.{StopsGiving}
+use Rattle.record_editing.specs.declared.terms.Terms.{Terms}
 use Rattle.pruned_rules.specs.Pruned.{kept_edits}
 use Rattle.edit_release.specs.Edits.{Written}
 use Rattle.edit_commands.specs.Edits.{IsEditWith}

@@ -12,7 +12,7 @@ ghost use Rattle.edit_commands.specs.inner.EditParts.{EditEnds, edit_end, edit_s
 ghost use Rattle.edit_commands.specs.inner.Parts.{AreCallsOf, faults_after};
 ghost use Rattle.edit_release.specs.Releases.{IsReleaseOf};
 ghost use Rattle.record_text.specs.Sheets.{IsSheet};
-ghost use Rattle.record_workers.specs.Donations.{AreTerms};
+ghost use Rattle.record_editing.specs.Donations.{AreTerms};
 
 use crate::reading::{fetch_sheet, fetch_survey};
 use crate::refusal::Refusal;
@@ -25,8 +25,9 @@ use edit_desk::{Desk, Printer};
 use edit_model::{Survey, Value};
 use edit_release::{Release, edit_sheet};
 use foundation::OutOfMemory;
+use record_editing::Terms;
 use record_text::Sheet;
-use record_workers::{Gate, Terms};
+use record_workers::Gate;
 use std::alloc::Global;
 use std::sync::Wait;
 use std::thread::Threads;

@@ -27,9 +27,10 @@ use Rattle.donor_search.proofs.PlaceLaws.{each-place}
 use Rattle.donor_search.proofs.RankedLaws.{ranking-donors, ranking-few, ranking-once}
 use Rattle.edit_report.specs.Ends.{path_found}
 use Rattle.edit_report.specs.declared.end.RowEnd.{RowEnd}
-use Rattle.record_workers.specs.Donations.{AreDonations, IsRanked, IsRankingOf, claimers_of, end_claims, rows_claimed}
-use Rattle.record_workers.specs.declared.terms.Terms.{Terms}
-use Rattle.record_workers.proofs.NeedLaws.{in-other-order}
+use Rattle.record_editing.specs.Donations.{AreDonations, IsRanked, claimers_of, end_claims}
+use Rattle.record_pieces.specs.Needs.{IsRankingOf, rows_claimed}
+use Rattle.record_editing.specs.declared.terms.Terms.{Terms}
+use Rattle.record_pieces.proofs.NeedLaws.{in-other-order}
 use Rattle.proof_grammar.specs.declared.proof.Proof.{Proof}
 use Rattle.cert_check.specs.Claims.{AllClaim, AreValidClaims, IsClaim, IsDonor}
 use Rattle.edit_release.specs.Edits.{proof_of, said, said_of}

@@ -35,7 +35,7 @@ use Rattle.back_subst.specs.declared.gift.Gift.{Gift}
 use Rattle.cert_check.proofs.SharedRowLaws.{AreCleanLeaves, HasCleanLeaf}
 use Rattle.proof_text.specs.Sizes.{AreCoherentLeaves, AreCoherentSteps, IsCoherentOutcome, IsCoherentRow, IsCoherentReason, IsCoherentStep, IsMultiplier}
 use Rattle.edit_report.specs.declared.end.RowEnd.{RowEnd}
-use Rattle.record_workers.specs.Ends.{ComesOf, IsEndOf}
+use Rattle.record_ends.specs.Ends.{ComesOf, IsEndOf}
 use Rattle.pruned_rules.specs.Pruned.{kept_edits}
 use Rattle.edit_release.specs.Edits.{said, said_of}
 use Rattle.edit_release.proofs.OutcomeLaws.{change-clean}

@@ -25,7 +25,7 @@ use Rattle.cert_check.specs.Dropped.{drop_fault, dropped_fault, fault_by, or_lat
 use Rattle.edit_release.specs.Edits.{proof_of, refutation_by}
 use Rattle.edit_release.proofs.CoherentLaws.{valid-coherent}
 use Rattle.edit_release.proofs.SaidLaws.{flags-said}
-use Rattle.record_workers.specs.declared.terms.Terms.{Terms}
+use Rattle.record_editing.specs.declared.terms.Terms.{Terms}
 use Rattle.donor_book.specs.declared.claim.Entry.{Entry}
 
 -- steps that refute have no fault

@@ -30,7 +30,7 @@ use Rattle.edit_paths.specs.Outcomes.{outcome_of}
 use Rattle.edit_paths.specs.ReachedPaths.{reached_paths}
 use Rattle.edit_paths.proofs.CaseSystems.{system-over}
 use Rattle.edit_paths.proofs.ReachedLaws.{reached-are}
-use Rattle.record_workers.proofs.OverflowLaws.{step-shown, stops-from, test-shown}
+use Rattle.record_ends.proofs.OverflowLaws.{step-shown, stops-from, test-shown}
 use Rattle.cert_check.specs.RowChecks.{event_exists, place_exists}
 
 -- The numbers that the event of an overflow names are there.

@@ -18,7 +18,7 @@ use Rattle.bound_cert.specs.declared.outcome.GiftFault.TheVariants as gift
 use Rattle.back_subst.specs.Given.{giving_order}
 use Rattle.back_subst.proofs.OrderLaws.{has-filtered}
 use Rattle.back_subst.proofs.WalkLaws.{has-reverse}
-use Rattle.record_workers.specs.Ends.{StopsAt}
+use Rattle.record_ends.specs.Ends.{StopsAt}
 use Rattle.cert_check.specs.RowChecks.{gift_exists}
 
 -- A giving stops at a field or a rule that is there.

@@ -31,8 +31,8 @@ use Rattle.edit_report.specs.Reasons.{reasons_text_of}
 use Rattle.edit_report.specs.Released.{released_rows, released_text_of}
 use Rattle.edit_report.specs.Summaries.{summary_lines}
 use Rattle.edit_report.specs.declared.end.RowEnd.{RowEnd}
-use Rattle.record_workers.specs.Ends.{ComesOf, IsEndOf}
-use Rattle.record_workers.specs.Said.{Says}
+use Rattle.record_ends.specs.Ends.{ComesOf, IsEndOf}
+use Rattle.record_ends.specs.Said.{Says}
 use Rattle.cert_check.specs.Releases.{Audit, IsValidRelease, audit_of, head_fault, is_released, limits_fit}
 use Rattle.cert_check.specs.RowChecks.{AreReleasedTexts, RowFiles, RowRules}
 use Rattle.cert_check.proofs.SharedReleaseLaws.{own_rules, stays-valid}
@@ -50,9 +50,10 @@ use Rattle.edit_release.proofs.RowsLaws.{IsValidEnd, each-follows, end-released,
 use Rattle.edit_release.proofs.SaidLaws.{IsReleasedSaid, flags-said, rules-are, said-valid, tree-shown}
 use Rattle.edit_release.proofs.TreeLaws.{has-trees, lines-many}
 use Rattle.donor_search.specs.CleanRows.{row_at}
-use Rattle.record_workers.specs.declared.terms.Terms.{Terms}
+use Rattle.record_editing.specs.declared.terms.Terms.{Terms}
 use Rattle.donor_book.specs.declared.claim.Entry.{Entry}
-use Rattle.record_workers.specs.Donations.{AreDonations, AreInRowOrder, AreTerms}
+use Rattle.record_editing.specs.Donations.{AreDonations, AreTerms}
+use Rattle.record_pieces.specs.Needs.{AreInRowOrder}
 use Rattle.edit_release.proofs.ClaimLaws.{claims-valid}
 
 -- ---- the head of the proof

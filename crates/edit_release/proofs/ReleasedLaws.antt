@@ -28,8 +28,8 @@ use Rattle.edit_report.specs.Ends.{path_found}
 use Rattle.edit_report.specs.Released.{released_rows, released_text_of, released_texts, row_with, text_by, value_text, texts_from}
 use Rattle.edit_report.specs.declared.end.RowEnd.{RowEnd}
 use Rattle.edit_report.proofs.LineLaws.{released-count}
-use Rattle.record_workers.specs.Ends.{ComesOf, IsEndOf, IsGiftOf}
-use Rattle.record_workers.specs.Said.{IsCorrected}
+use Rattle.record_ends.specs.Ends.{ComesOf, IsEndOf, IsGiftOf}
+use Rattle.record_ends.specs.Said.{IsCorrected}
 use Rattle.cert_check.specs.Released.{IsGivenText, IsReleasedAs, IsValueOf}
 use Rattle.cert_check.specs.Releases.{AreReleased, audit_of, is_released}
 use Rattle.pruned_rules.specs.Pruned.{kept_edits}
@@ -38,7 +38,7 @@ use Rattle.edit_release.proofs.ColumnTexts.{changed-text, same-elsewhere}
 use Rattle.edit_release.proofs.GivenValues.{field-ordered, given-text, none-differs, other-value, values-from}
 use Rattle.edit_release.proofs.ReadBackLaws.{sheet_header_kept, written-read}
 use Rattle.donor_search.specs.CleanRows.{row_at}
-use Rattle.record_workers.specs.declared.terms.Terms.{Terms}
+use Rattle.record_editing.specs.declared.terms.Terms.{Terms}
 use Rattle.donor_book.specs.declared.claim.Entry.{Entry}
 use Rattle.edit_model.proofs.CleanLaws.{held-clean}
 

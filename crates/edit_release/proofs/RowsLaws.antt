@@ -16,8 +16,8 @@ use Rattle.record_text.specs.Values.{AreRows, AreValues}
 use Rattle.edit_report.specs.Ends.{path_found}
 use Rattle.edit_report.specs.Released.{released_rows, released_texts, released_of, row_with}
 use Rattle.edit_report.specs.declared.end.RowEnd.{RowEnd}
-use Rattle.record_workers.specs.Ends.{ComesOf, IsEndOf}
-use Rattle.record_workers.specs.Said.{OutcomeSays, Says}
+use Rattle.record_ends.specs.Ends.{ComesOf, IsEndOf}
+use Rattle.record_ends.specs.Said.{OutcomeSays, Says}
 use Rattle.cert_check.specs.Releases.{AreValidRows, behind, files_of, is_released}
 use Rattle.cert_check.specs.RowChecks.{AreReleasedTexts, IsValidRow, RowFiles, RowRules}
 use Rattle.edit_release.specs.Edits.{said, said_of}

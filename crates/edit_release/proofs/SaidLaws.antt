@@ -15,7 +15,7 @@ use Rattle.edit_paths.proofs.CertificateTrees.{change-tree, contradiction-tree}
 use Rattle.back_subst.specs.declared.gift.Gift.{Gift}
 use Rattle.record_text.specs.Sheets.{SheetParts}
 use Rattle.edit_report.specs.declared.end.RowEnd.{RowEnd}
-use Rattle.record_workers.specs.Ends.{ComesOf, IsEndOf}
+use Rattle.record_ends.specs.Ends.{ComesOf, IsEndOf}
 use Rattle.cert_check.specs.Releases.{audit_of}
 use Rattle.cert_check.specs.RowChecks.{AreReleasedTexts, IsValidGift, IsValidRow, RowFiles, RowRules}
 use Rattle.cert_check.proofs.SharedReleaseLaws.{own_rules}
@@ -30,7 +30,7 @@ use Rattle.edit_release.proofs.EventLaws.{event-there}
 use Rattle.edit_release.proofs.GiftFaults.{stop-there}
 use Rattle.edit_release.proofs.OutcomeLaws.{change-is, work-within}
 use Rattle.donor_search.specs.CleanRows.{row_at}
-use Rattle.record_workers.specs.declared.terms.Terms.{Terms}
+use Rattle.record_editing.specs.declared.terms.Terms.{Terms}
 use Rattle.donor_book.specs.declared.claim.Entry.{Entry}
 
 -- What the proof of an edit says of a record is right.

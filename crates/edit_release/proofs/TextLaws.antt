@@ -22,7 +22,7 @@ use Rattle.back_subst.specs.declared.gift.How.{How}
 use Rattle.record_text.specs.Sheets.{SheetParts}
 use Rattle.edit_report.specs.Ends.{AreEnds, IsEnd, IsGift, changed_fields, path_found}
 use Rattle.edit_report.specs.declared.end.RowEnd.{RowEnd}
-use Rattle.record_workers.specs.Ends.{ComesOf, IsEndOf, IsGiftOf}
+use Rattle.record_ends.specs.Ends.{ComesOf, IsEndOf, IsGiftOf}
 use Rattle.donor_search.specs.CleanRows.{row_at}
 
 module _ (survey : SurveyParts) (row : List Value) (path : List Bool) (donor : Option (List Value)) (gift : Gift) (is : IsGiftOf survey row path donor gift) where

@@ -23,7 +23,7 @@ use Rattle.edit_report.specs.declared.end.RowEnd.{RowEnd}
 use Rattle.redundancy.proofs.BaseLaws.{verdicts-count}
 use Rattle.pruned_rules.specs.Pruned.{rule_flags, rule_verdicts}
 use Rattle.pruned_rules.specs.declared.pruned.TheConstants.{PRUNING_BUDGET}
-use Rattle.record_workers.specs.declared.terms.Terms.{Terms}
+use Rattle.record_editing.specs.declared.terms.Terms.{Terms}
 use Rattle.donor_book.specs.declared.claim.Entry.{Entry}
 use Rattle.edit_release.specs.Edits.{proof_of, refutation_by, said, said_of, written_proof}
 use Rattle.edit_release.specs.Guarantee.{HasTree, HasTrees, table_premises}

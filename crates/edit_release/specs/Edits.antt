@@ -17,9 +17,9 @@ use Rattle.edit_report.specs.Released.{released_text_of}
 use Rattle.edit_report.specs.Summaries.{summary_lines}
 use Rattle.edit_report.specs.declared.end.RowEnd.{RowEnd}
 use Rattle.donor_book.specs.declared.claim.Entry.{Entry}
-use Rattle.record_workers.specs.Donations.{AreDonations}
-use Rattle.record_workers.specs.Ends.{IsEndOf}
-use Rattle.record_workers.specs.declared.terms.Terms.{Terms}
+use Rattle.record_ends.specs.Ends.{IsEndOf}
+use Rattle.record_editing.specs.Donations.{AreDonations}
+use Rattle.record_editing.specs.declared.terms.Terms.{Terms}
 use Rattle.redundancy.specs.declared.verdict.Verdict.{Verdict}
 use Rattle.redundancy.specs.declared.verdict.Verdict.TheVariants.{Dropped, Kept}
 use Rattle.pruned_rules.specs.Pruned.{kept_edits, rule_flags, rule_verdicts}

@@ -17,8 +17,8 @@ use Rattle.donor_book.specs.Entries.{IsLegalHistory}
 use Rattle.donor_book.specs.declared.claim.Entry.{Entry}
 use Rattle.record_text.specs.Sheets.{SheetParts}
 use Rattle.edit_report.specs.declared.end.RowEnd.{RowEnd}
-use Rattle.record_workers.specs.Said.{Says}
-use Rattle.record_workers.specs.declared.terms.Terms.{Terms}
+use Rattle.record_ends.specs.Said.{Says}
+use Rattle.record_editing.specs.declared.terms.Terms.{Terms}
 use Rattle.derivation.specs.LineLists.{AllFollowFrom, AreLinesOf, no_record}
 use Rattle.derivation.specs.Premises.{Premises}
 use Rattle.derivation.specs.Refutations.{AllFollow}

@@ -10,8 +10,8 @@ use Rattle.proof_grammar.specs.declared.proof.Proof.{Proof}
 use Rattle.cert_check.specs.Dropped.{kept_flags}
 use Rattle.donor_book.specs.declared.claim.Entry.{Entry}
 use Rattle.record_text.specs.Sheets.{SheetParts}
-use Rattle.record_workers.specs.Donations.{AreInRowOrder}
-use Rattle.record_workers.specs.declared.terms.Terms.{Terms}
+use Rattle.record_pieces.specs.Needs.{AreInRowOrder}
+use Rattle.record_editing.specs.declared.terms.Terms.{Terms}
 use Rattle.edit_release.specs.Edits.{IsEditOf, Written, said}
 use Rattle.edit_release.specs.Guarantee.{HasTrees, IsGuaranteed}
 use Rattle.edit_release.specs.declared.release.Release.{Release}

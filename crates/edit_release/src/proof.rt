@@ -9,7 +9,7 @@ use donor_book::Entry;
 use edit_report::RowEnd;
 use foundation::{OutOfMemory, Sequence};
 use proof_text::Proof;
-use record_workers::Terms;
+use record_editing::Terms;
 use redundancy::Verdict;
 use std::alloc::Global;
 

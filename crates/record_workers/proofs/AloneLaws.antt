@@ -1,13 +1,12 @@
 use Rattle.std.proofs.Common.{◌≡◌, ℕ, suc, ◌+◌, ◌<◌, ◌≤◌, cond, eqb, List, [], ◌∷◌, All, Some, length, get_or, map, inl, inr, ⊎_elim, refl, sym, ap, ◌∙◌, subst}
 use Rattle.std.proofs.Common.{arith}
 use Rattle.std.specs.Prelude.{slice_get}
-use Rattle.std.specs.List.{AllByRecursion, range_with_len, sum_by}
-use Rattle.std.specs.List.Sorted.{IsNonDecreasing, IsPermutation, IsStrictlyIncreasing}
+use Rattle.std.specs.List.{range_with_len, sum_by}
+use Rattle.std.specs.List.Sorted.{IsNonDecreasing, IsStrictlyIncreasing}
 use Rattle.std.proofs.lemmas.Bool.{cases_lt}
 use Rattle.std.proofs.lemmas.List.{length-map}
 use Rattle.std.proofs.lemmas.List.Elements.{All-head}
 use Rattle.std.proofs.lemmas.List.Kept.{AllPairs-from_increasing}
-use Rattle.std.proofs.lemmas.List.Sorted.{IsPermutation-sym}
 use Rattle.std.proofs.lemmas.List.Sums.{sum_by-cons}
 use Rattle.std.proofs.lemmas.Option.{same_Some}
 use Rattle.edit_line.specs.Reductions.{IsIn}
@@ -19,10 +18,9 @@ use Rattle.donor_book.specs.declared.claim.Entry.{Entry}
 use Rattle.donor_book.specs.declared.claim.Won.{Won}
 use Rattle.donor_book.specs.declared.rule.Placed.{Placed}
 use Rattle.ticket_row.specs.Tickets.{times}
-use Rattle.record_workers.specs.Needs.{Need, need_in}
+use Rattle.record_pieces.specs.Needs.{Need, need_in}
+use Rattle.record_pieces.specs.declared.piece.Piece.{Piece}
 use Rattle.record_workers.specs.Workers.{AreClaimed}
-use Rattle.record_workers.specs.declared.piece.Piece.{Piece}
-use Rattle.record_workers.proofs.NeedLaws.{in-other-order}
 use Rattle.record_workers.proofs.RangeLaws.{one_at, sorted-range}
 
 -- With one worker the claims are in row order.
@@ -34,57 +32,6 @@ pub rising-sorted : (xs : List ℕ) → IsStrictlyIncreasing xs → IsNonDecreas
 rising-sorted xs up i j d le lt =
     ⊎_elim (λ (less : i < j). let below = AllPairs-from_increasing xs up i j d less lt in omega (arith, below))
     (λ (ge : j ≤ i). let same : i ≡ j = omega (arith, le, ge) in let equal = ap (λ k. get_or xs k d) same in omega (arith, equal)) (cases_lt i j)
-
--- numbers that rise, by recursion
-abbrev Rises : List ℕ → Type 0
-Rises [] = Unit {0}
-Rises (x ∷ xs) = AllByRecursion (λ y. x < y) xs × Rises xs
-
-above : (x : ℕ) (xs : List ℕ) → ((j : ℕ) → j < length xs → x < get_or xs j 0) → AllByRecursion (λ y. x < y) xs
-above x [] all = tt
-above x (y ∷ ys) all = (all 0 (omega arith), above x ys (λ j lt. all (suc j) (omega (arith, lt))))
-
-rises : (xs : List ℕ) → ((i j : ℕ) → i < j → j < length xs → get_or xs i 0 < get_or xs j 0) → Rises xs
-rises [] all = tt
-rises (x ∷ xs) all = (
-  above x xs (λ j lt. all 0 (suc j) (omega arith) (omega (arith, lt))),
-  rises xs
-      (λ i j less lt. all (suc i) (suc j) (omega (arith, less)) (omega (arith, lt))),
-)
-
-is-above : (x y : ℕ) (ys : List ℕ) → AllByRecursion (λ z. x < z) ys → IsIn y ys → x < y
-is-above x y [] all there = absurd there
-is-above x y (z ∷ ys) all (inl same) = omega (arith, all.0, same)
-is-above x y (z ∷ ys) all (inr there) = is-above x y ys all.1 there
-
-not-first : (x z : ℕ) (xs : List ℕ) → x < z → IsIn z (x ∷ xs) → IsIn z xs
-not-first x z xs lt (inl same) = absurd (omega (arith, lt, same))
-not-first x z xs lt (inr there) = there
-
-at-least : (x z : ℕ) (xs : List ℕ) → AllByRecursion (λ y. x < y) xs → IsIn z (x ∷ xs) → x ≤ z
-at-least x z xs all (inl same) = omega (arith, same)
-at-least x z xs all (inr there) = let lt = is-above x z xs all there in omega (arith, lt)
-
--- two rising lists with the same elements are the same
-same-rising : (xs ys : List ℕ) → Rises xs → Rises ys → ((x : ℕ) → IsIn x xs → IsIn x ys) → ((y : ℕ) → IsIn y ys → IsIn y xs) → xs ≡ ys
-same-rising [] [] up-xs up-ys to back = refl
-same-rising [] (y ∷ ys) up-xs up-ys to back = absurd (back y (inl refl))
-same-rising (x ∷ xs) [] up-xs up-ys to back = absurd (to x (inl refl))
-same-rising (x ∷ xs) (y ∷ ys) up-xs up-ys to back =
-    let low = at-least y x ys up-ys.0 (to x (inl refl)) in
-    let high = at-least x y xs up-xs.0 (back y (inl refl)) in
-    let first : x ≡ y = omega (arith, low, high) in
-    let rest = same-rising xs ys up-xs.1 up-ys.1
-    (λ z there. not-first y z ys (let lt = is-above x z xs up-xs.0 there in omega (arith, lt, first)) (to z (inr there)))
-    (λ z there. not-first x z xs (let lt = is-above y z ys up-ys.0 there in omega (arith, lt, first)) (back z (inr there))) in
-    λ i. first i ∷ rest i
-
--- so a rising list is the other in order
-pub in-order : (xs ys : List ℕ) → IsStrictlyIncreasing xs → IsStrictlyIncreasing ys → IsPermutation xs ys → ys ≡ xs
-in-order xs ys up-xs up-ys same =
-    same-rising ys xs (rises ys (λ i j less lt. AllPairs-from_increasing ys up-ys i j 0 less lt))
-    (rises xs (λ i j less lt. AllPairs-from_increasing xs up-xs i j 0 less lt))
-    (λ y there. in-other-order xs ys y same there) (λ x there. in-other-order ys xs x (IsPermutation-sym xs ys same) there)
 
 -- ---- the claims of one pass
 

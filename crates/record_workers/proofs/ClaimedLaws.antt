@@ -10,12 +10,14 @@ use Rattle.edit_line.proofs.Members.{all-in, in-all, in-either, in-left, in-map,
 use Rattle.donor_book.specs.Claims.{claim_of}
 use Rattle.donor_book.specs.Passes.{PassState, StartsWith}
 use Rattle.donor_book.specs.declared.claim.Won.{Won}
-use Rattle.record_workers.specs.Needs.{Need, needs_of}
-use Rattle.record_workers.specs.Rests.{rows_of}
+use Rattle.record_pieces.specs.Needs.{Need, needs_of}
+use Rattle.record_pieces.specs.Rests.{IsPieceIn, rows_in, rows_of}
+use Rattle.record_pieces.specs.declared.piece.Piece.{Piece}
+use Rattle.record_pieces.specs.declared.rest.Rest.{Rest}
+use Rattle.record_pieces.proofs.NeedLaws.{need-from, need-in, place-in}
+use Rattle.record_pieces.proofs.RankingLaws.{piece-clean}
 use Rattle.record_workers.specs.Workers.{AreClaimed, HasSeen, needs_in}
-use Rattle.record_workers.specs.declared.piece.Piece.{Piece}
-use Rattle.record_workers.specs.inner.Searches.{HasAsked, HasClaimed, IsDrawnNext}
-use Rattle.record_workers.proofs.NeedLaws.{need-from, need-in, place-in}
+use Rattle.record_workers.specs.inner.Draws.{HasAsked, HasClaimed, IsDrawnNext, RanksDonors}
 
 -- The claims of a worker, after one record more.
 
@@ -152,3 +154,14 @@ module _ (pieces : List Piece) (piece : Piece) (old new : PassState) (claimed : 
       by : (o : Option (List ℕ)) → piece.ranking ≡ o → HasAsked piece.row_no o old new → AreClaimed more new
       by None is asked = claimed-none is asked
       by (Some ranking) is asked = by-claim ranking is asked
+
+-- ---- what is claimed
+
+-- the donors that a piece ranks are records
+pub piece-donors : {F : Type 0} (rest : Rest F) (piece : Piece) (donors : ℕ) → IsPieceIn rest piece → donors ≡ length (rows_in rest)
+    → RanksDonors donors piece.ranking
+piece-donors rest piece donors is as_many = by piece.ranking refl
+  where
+    by : (o : Option (List ℕ)) → piece.ranking ≡ o → RanksDonors donors o
+    by None there = tt
+    by (Some ranking) there = λ k d lt. (let here = piece-clean rest piece is ranking there k d lt in omega (arith, here.0, as_many))

@@ -18,13 +18,14 @@ use Rattle.donor_book.specs.Passes.{AreCollected, IsWhole, PassState, StartsWith
 use Rattle.donor_book.specs.declared.claim.Entry.{Entry}
 use Rattle.donor_book.specs.declared.claim.Won.{Won}
 use Rattle.donor_book.specs.declared.rule.Placed.{Placed}
-use Rattle.record_workers.specs.Needs.{Need, need_in, needs_of}
-use Rattle.record_workers.specs.Rests.{rows_of}
+use Rattle.record_pieces.specs.Needs.{Need, need_in, needs_of}
+use Rattle.record_pieces.specs.Rests.{rows_of}
+use Rattle.record_pieces.specs.declared.piece.Piece.{Piece}
+use Rattle.record_pieces.proofs.NeedLaws.{in-other-order, need-from, need-in, piece-at, place-in}
 use Rattle.record_workers.specs.Workers.{AreClaimed, HasSeen, needs_in}
-use Rattle.record_workers.specs.inner.Gatherings.{entry_by, passes_of, pieces_of, ranking_at, ranking_or, seats_of}
-use Rattle.record_workers.specs.declared.piece.Piece.{Piece}
 use Rattle.record_workers.specs.declared.worker.Worker.{Worker}
-use Rattle.record_workers.proofs.NeedLaws.{in-other-order, need-from, need-in, needs-apart, piece-at, place-in, rows-apart, some-counts}
+use Rattle.record_workers.specs.inner.Gatherings.{entry_by, passes_of, pieces_of, ranking_at, ranking_or, seats_of}
+use Rattle.record_workers.proofs.ApartLaws.{needs-apart, rows-apart, some-counts}
 use Rattle.record_workers.proofs.OrderLaws.{AreApart, Lacks, same-by-key, same-elements}
 use Rattle.record_workers.proofs.RangeLaws.{one-other, sorted-range}
 

@@ -1,9 +1,9 @@
 use Rattle.std.proofs.Common.{◌≡◌, ℕ, ◌++◌, Bool, true, List, [], ◌∷◌}
 use Rattle.std.specs.List.{All}
 use Rattle.std.proofs.lemmas.List.Elements.{All-push, All-weaker}
-use Rattle.record_workers.specs.Workers.{KeepsFor}
-use Rattle.record_workers.specs.declared.piece.Piece.{Piece}
-use Rattle.record_workers.specs.declared.rest.Rest.{Rest}
+use Rattle.record_pieces.specs.Rests.{KeepsFor}
+use Rattle.record_pieces.specs.declared.piece.Piece.{Piece}
+use Rattle.record_pieces.specs.declared.rest.Rest.{Rest}
 
 -- What is kept of the changes that were found.
 

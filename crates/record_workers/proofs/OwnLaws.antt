@@ -14,14 +14,15 @@ use Rattle.donor_book.specs.Passes.{AreCollected, IsWhole, PassState, StartsWith
 use Rattle.donor_book.specs.declared.claim.Entry.{Entry}
 use Rattle.donor_book.specs.declared.claim.Won.{Won}
 use Rattle.donor_book.specs.declared.rule.Placed.{Placed}
-use Rattle.record_workers.specs.Needs.{Need, need_in, needs_of}
-use Rattle.record_workers.specs.Rests.{rows_of}
+use Rattle.record_pieces.specs.Needs.{Need, need_in, needs_of}
+use Rattle.record_pieces.specs.Rests.{rows_of}
+use Rattle.record_pieces.specs.declared.piece.Piece.{Piece}
+use Rattle.record_pieces.proofs.NeedLaws.{need-from, place-in}
 use Rattle.record_workers.specs.Workers.{AreClaimed, HasSeen, needs_in}
-use Rattle.record_workers.specs.declared.piece.Piece.{Piece}
 use Rattle.record_workers.specs.declared.worker.Worker.{Worker}
 use Rattle.record_workers.specs.inner.Gatherings.{passes_of, pieces_of, seats_of}
+use Rattle.record_workers.proofs.ApartLaws.{needs-apart}
 use Rattle.record_workers.proofs.GatherLaws.{FoundDrawn, claim-at, found-in, placed-of}
-use Rattle.record_workers.proofs.NeedLaws.{need-from, needs-apart, place-in}
 use Rattle.record_workers.proofs.OrderLaws.{AreApart, same-by-key}
 use Rattle.record_workers.proofs.RangeLaws.{one-same, times-cons}
 

@@ -1,4 +1,4 @@
-use Rattle.std.proofs.Common.{◌≡◌, ℕ, ◌<◌, true, List, [], ◌∷◌, All, length, map, inl, inr, refl, sym, ap, ◌∙◌, subst, arith}
+use Rattle.std.proofs.Common.{◌≡◌, ℕ, ◌<◌, true, List, [], ◌∷◌, All, length, map, inl, inr, refl, sym, ◌∙◌, subst, arith}
 use Rattle.std.specs.List.{Any, range_with_len}
 use Rattle.std.specs.List.Sorted.{IsNonDecreasing, IsNonDecreasingBy, IsPermutation, IsStrictlyIncreasing}
 use Rattle.std.proofs.lemmas.List.{get_or-map, length-map}
@@ -10,14 +10,14 @@ use Rattle.ticket_row.specs.Tickets.{DrawnBelow, SeatState}
 use Rattle.donor_book.specs.Passes.{AreCollected, IsWhole, PassState}
 use Rattle.donor_book.specs.declared.claim.Entry.{Entry}
 use Rattle.donor_book.specs.declared.claim.Won.{Won}
-use Rattle.record_workers.specs.Donations.{AreInRowOrder, rows_claimed}
-use Rattle.record_workers.specs.Needs.{AnswersNeeds, Need, need_in}
-use Rattle.record_workers.specs.Rests.{ArePiecesIn, IsPieceIn, rows_in, rows_of}
-use Rattle.record_workers.specs.Workers.{AreClaimed, HasRun}
-use Rattle.record_workers.specs.declared.piece.Piece.{Piece}
-use Rattle.record_workers.specs.declared.rest.Shared.{Shared}
+use Rattle.record_pieces.specs.Needs.{AnswersNeeds, AreInRowOrder}
+use Rattle.record_pieces.specs.Rests.{ArePiecesIn, IsPieceIn, rows_in, rows_of}
+use Rattle.record_pieces.specs.declared.piece.Piece.{Piece}
+use Rattle.record_pieces.proofs.NeedLaws.{rows-asked}
+use Rattle.record_workers.specs.Workers.{AreClaimed}
+use Rattle.record_workers.specs.declared.shared.Shared.{Shared}
 use Rattle.record_workers.specs.declared.worker.Worker.{Worker}
-use Rattle.record_workers.specs.inner.Gatherings.{entry_by, passes_of, pieces_of, seats_of}
+use Rattle.record_workers.specs.inner.Gatherings.{HasRun, entry_by, passes_of, pieces_of, seats_of}
 use Rattle.record_workers.proofs.AloneLaws.{alone-rising}
 use Rattle.record_workers.proofs.GatherLaws.{FoundDrawn, all-rows, history-ranked, needs-claimed}
 
@@ -31,11 +31,6 @@ all-map {X} {Y} P f xs each = all-in P (map f xs) (by xs each)
     by [] each y there = absurd there
     by (x ∷ xs) each y (inl same) = subst P (sym same) (each x (inl refl))
     by (x ∷ xs) each y (inr there) = by xs (λ z there. each z (inr there)) y there
-
--- the rows of claims, by what they ask for
-pub rows-asked : (history : List Entry) → map (λ (need : Need). need.row_no) (map need_in history) ≡ rows_claimed history
-rows-asked [] = refl
-rows-asked (e ∷ history) = ap (λ (ns : List ℕ). e.row_no ∷ ns) (rows-asked history)
 
 -- pieces that do not fall by their rows have rows that do not fall
 rows-sorted : (pieces : List Piece) → IsNonDecreasingBy (λ (p : Piece). p.row_no) pieces → IsNonDecreasing (rows_of pieces)

@@ -1,5 +1,5 @@
 -- Workers that draw the records and claim donors side by side.
-use Rattle.std.specs.Prelude.{◌≡◌, ◌⊎◌, ◌++◌, ℕ, Bool, true, List, [], ◌∷◌, IsSome, length, map}
+use Rattle.std.specs.Prelude.{◌≡◌, ◌⊎◌, ◌++◌, ℕ, Bool, List, [], ◌∷◌, IsSome, length, map}
 use Rattle.std.specs.Borrow.{Bor}
 use Rattle.std.specs.Fn as closures
 use Rattle.std.specs.List.{All}
@@ -10,14 +10,12 @@ use Rattle.ticket_row.specs.Tickets as tickets
 use Rattle.donor_book.specs.Claims.{claim_of}
 use Rattle.donor_book.specs.Passes as passes
 use Rattle.donor_book.specs.declared.rule.Placed.{Placed}
-use Rattle.donor_search.specs.CleanRows.{row_at}
-use Rattle.localise_tree.specs.KeptFields.{KeepsChange}
 use Rattle.shared_edits.specs.Pools.{IsReaderOf, Walked, keeps_fields}
-use Rattle.record_workers.specs.Needs.{Need, need_in, needs_of}
-use Rattle.record_workers.specs.Rests.{IsPieceIn, IsRest, case_in, rows_in, rows_of}
-use Rattle.record_workers.specs.declared.piece.Piece.{Piece}
-use Rattle.record_workers.specs.declared.rest.Rest.{Rest}
-use Rattle.record_workers.specs.declared.rest.Shared.{Shared}
+use Rattle.record_pieces.specs.Needs.{Need, need_in, needs_of}
+use Rattle.record_pieces.specs.Rests.{IsPieceIn, IsRest, KeepsFor, rows_in, rows_of}
+use Rattle.record_pieces.specs.declared.piece.Piece.{Piece}
+use Rattle.record_pieces.specs.declared.rest.Rest.{Rest}
+use Rattle.record_workers.specs.declared.shared.Shared.{Shared}
 use Rattle.record_workers.specs.declared.worker.Worker.{Worker}
 
 -- what workers share: a ticket for each record, and a book in which the records both claim and are the donors
@@ -54,10 +52,6 @@ pub record AreClaimed (pieces : List Piece) (p : passes.PassState) : Type 0 wher
 
 -- ---- the systems that it keeps
 
--- where the outcome of a piece is a change, the system of the numerical fields that are changed is kept
-abbrev pub KeepsFor : {F : Type 0} → Rest F → (ℕ → Bool) → Piece → Type 0
-KeepsFor rest keeps piece = KeepsChange keeps (case_in rest (row_at (rows_in rest) piece.row_no)) piece.outcome
-
 -- the sets of fields whose systems a source over the pool keeps, by what a reader has walked
 abbrev pub kept_by : {F : Type 0} → Rest F → List Walked → ℕ → Bool
 kept_by rest reader fields = keeps_fields rest.pool fields reader
@@ -81,9 +75,3 @@ FoundAll worker = rows_of worker.pieces.items ≡ worker.seat.drawn
 -- of the last row that its seat drew it found nothing
 abbrev pub MissesLast : Worker → Type 0
 MissesLast worker = (row_no : ℕ) × (worker.seat.drawn ≡ rows_of worker.pieces.items ++ row_no ∷ [])
-
--- a worker has drawn records until none was left
-pub record HasRun {F : Type 0} (shared : Shared F) (worker : Worker) : Type 0 where
-  pub worked : HasWorked shared worker
-  pub found : FoundAll worker
-  pub ended : worker.seat.ended ≡ true

@@ -1,3 +1,2 @@
-pub mod Donors
+pub mod Draws
 pub mod Gatherings
-pub mod Searches

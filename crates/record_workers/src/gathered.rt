@@ -1,20 +1,20 @@
 //! All workers, side by side.
 ghost use Rattle.std.specs.Prelude.{◌≡◌, ◌<◌, IfOk, length};
 ghost use Rattle.std.specs.List.{All};
-ghost use Rattle.record_workers.specs.Donations.{AreInRowOrder};
-ghost use Rattle.record_workers.specs.Needs.{AnswersNeeds};
-ghost use Rattle.record_workers.specs.Rests.{ArePiecesIn};
-ghost use Rattle.record_workers.specs.Workers.{HasRun, IsReady, IsShared};
+ghost use Rattle.record_pieces.specs.Needs.{AnswersNeeds, AreInRowOrder};
+ghost use Rattle.record_pieces.specs.Rests.{ArePiecesIn};
+ghost use Rattle.record_workers.specs.Workers.{IsReady, IsShared};
+ghost use Rattle.record_workers.specs.inner.Gatherings.{HasRun};
 
 use crate::gate::Gate;
 use crate::history::entries_of;
 use crate::parts::{Parts, parts_of};
-use crate::piece::Piece;
-use crate::rest::{Rest, Shared};
+use crate::shared::Shared;
 use crate::worker::Worker;
 use donor_book::Entry;
 use edit_model::Value;
 use foundation::OutOfMemory;
+use record_pieces::{Piece, Rest};
 use std::alloc::Global;
 use std::sync::Wait;
 use std::thread;

@@ -2,9 +2,9 @@
 ghost use Rattle.std.specs.Prelude.{◌≡◌, IfOk, map, slice_get};
 ghost use Rattle.record_workers.specs.inner.Gatherings.{entry_by, ranking_at};
 
-use crate::piece::Piece;
 use donor_book::{Entry, Won};
 use foundation::{OutOfMemory, Sequence};
+use record_pieces::Piece;
 use std::alloc::Global;
 
 /// The claims that were answered so, each with the ranking that its record's piece has. The pieces are in row order.

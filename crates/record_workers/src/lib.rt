@@ -1,30 +1,19 @@
-//! What becomes of the records of a sheet: for each the least set of fields to change, its donor, and the values that
-//! these fields are given, or why there are none. Begin with [`edit_records`], which lets workers draw the records side
-//! by side ([`Worker`], [`run_all`]) and then gives values ([`give_all`]); what becomes of a record is in
-//! `specs/Ends.antt`, and who claims which donor in `specs/Donations.antt`.
+//! Workers that draw the records of a sheet side by side: each searches a record and claims a donor for it, before it
+//! draws the next. Begin with [`shared_by`], which makes workers ready, and [`run_all`], which lets them run; what one of
+//! them does is in `specs/Workers.antt`.
 #![tactic(auto)]
 
-mod edited;
-mod ends;
 mod gate;
 mod gathered;
 mod history;
 mod parts;
-mod piece;
-mod records;
-mod rest;
-mod row_ends;
-mod search;
+mod ready;
+mod shared;
 mod source;
-mod terms;
 mod worker;
 
-pub use edited::Edited;
-pub use ends::give_all;
 pub use gate::{Gate, NoGate};
 pub use gathered::{Gathered, run_all};
-pub use piece::Piece;
-pub use records::edit_records;
-pub use rest::{Rest, Shared};
-pub use terms::Terms;
+pub use ready::shared_by;
+pub use shared::Shared;
 pub use worker::Worker;

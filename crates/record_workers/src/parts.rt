@@ -1,10 +1,10 @@
 ghost use Rattle.std.specs.Prelude.{◌≡◌, IfOk};
 ghost use Rattle.record_workers.specs.inner.Gatherings.{passes_of, pieces_of, seats_of};
 
-use crate::piece::Piece;
 use crate::worker::Worker;
 use donor_book::Pass;
 use foundation::OutOfMemory;
+use record_pieces::Piece;
 use std::alloc::Global;
 use ticket_row::Seat;
 

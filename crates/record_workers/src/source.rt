@@ -1,16 +1,14 @@
 //! What a worker finds of one record, with the systems of the pool.
 ghost use Rattle.std.specs.Prelude.{◌≡◌, ◌<◌, ℕ, IfOk, None, Option, Some, length, true};
 ghost use Rattle.shared_edits.specs.Pools.{IsReaderOf, PoolParts, keeps_fields};
-ghost use Rattle.record_workers.specs.Rests.{IsPieceIn, IsRest, rows_in};
-ghost use Rattle.record_workers.specs.Workers.{KeepsFor, kept_by};
+ghost use Rattle.record_pieces.specs.Rests.{IsPieceIn, IsRest, KeepsFor, rows_in};
+ghost use Rattle.record_workers.specs.Workers.{kept_by};
 
-use crate::piece::Piece;
-use crate::rest::Rest;
-use crate::search::piece_of;
 use edit_line::Edits;
 use edit_model::{FieldSet, Value};
 use foundation::{OutOfMemory, Steps};
 use linear_elim::{Held, System, SystemFault, Systems};
+use record_pieces::{Piece, Rest, piece_of};
 use shared_edits::{PoolSource, Reader};
 use std::alloc::Global;
 use std::marker::{Brand, PhantomData};

@@ -1,17 +1,17 @@
 //! One worker, which draws records until none is left.
 ghost use Rattle.std.specs.Prelude.{◌≡◌, ◌⊎◌, ◌<◌, OnErr, OnOk, length, true};
 ghost use Rattle.donor_book.specs.Passes.{ArePlaced};
-ghost use Rattle.record_workers.specs.Rests.{rows_in, rows_of};
+ghost use Rattle.record_pieces.specs.Rests.{rows_in, rows_of};
 ghost use Rattle.record_workers.specs.Workers.{FoundAll, HasWorked, IsReady, IsShared, MissesLast};
-ghost use Rattle.record_workers.specs.inner.Searches.{HasAsked, IsDrawnNext, RanksDonors};
+ghost use Rattle.record_workers.specs.inner.Draws.{HasAsked, IsDrawnNext, RanksDonors};
 
 use crate::gate::Gate;
-use crate::piece::Piece;
-use crate::rest::Shared;
+use crate::shared::Shared;
 use crate::source::find_piece;
 use donor_book::{Pass, SharedBook};
 use edit_model::Value;
 use foundation::{OutOfMemory, Steps};
+use record_pieces::Piece;
 use shared_edits::Reader;
 use std::alloc::Global;
 use std::marker::Brand;

@@ -1,12 +1,14 @@
 -- What some workers have, all together.
-use Rattle.std.specs.Prelude.{◌≡◌, ℕ, List, [], Option, Some, None, map, slice_get}
+use Rattle.std.specs.Prelude.{◌≡◌, ℕ, true, List, [], Option, Some, None, map, slice_get}
 use Rattle.std.specs.List.{flat_map}
 use Rattle.ticket_row.specs.Tickets as tickets
 use Rattle.donor_book.specs.Entries.{entry_of}
 use Rattle.donor_book.specs.Passes as passes
 use Rattle.donor_book.specs.declared.claim.Entry.{Entry}
 use Rattle.donor_book.specs.declared.claim.Won.{Won}
-use Rattle.record_workers.specs.declared.piece.Piece.{Piece}
+use Rattle.record_pieces.specs.declared.piece.Piece.{Piece}
+use Rattle.record_workers.specs.Workers.{FoundAll, HasWorked}
+use Rattle.record_workers.specs.declared.shared.Shared.{Shared}
 use Rattle.record_workers.specs.declared.worker.Worker.{Worker}
 
 -- their seats, their passes, and their pieces
@@ -42,3 +44,9 @@ pub record IsReadyAt (row : tickets.Row) (book : passes.BookName) (worker : Work
   pub pass : passes.IsFresh book worker.pass
   pub reader : worker.reader ≡ []
   pub pieces : worker.pieces.items ≡ []
+
+-- a worker has drawn records until none was left
+pub record HasRun {F : Type 0} (shared : Shared F) (worker : Worker) : Type 0 where
+  pub worked : HasWorked shared worker
+  pub found : FoundAll worker
+  pub ended : worker.seat.ended ≡ true

@@ -3,7 +3,7 @@ use Rattle.std.specs.List.{AllZip}
 use Rattle.std.proofs.lemmas.Result.{IfOk-weaker}
 use Rattle.edit_line.specs.EditSets.{EditsParts}
 use Rattle.record_text.proofs.SheetLaws.{rows_are_records}
-use Rattle.record_workers.specs.Said.{Says}
+use Rattle.record_ends.specs.Said.{Says}
 use Rattle.edit_release.specs.Releases.{IsReleaseOf}
 use Rattle.edit_release.proofs.edit.edit_sheet.Goals as goal
 

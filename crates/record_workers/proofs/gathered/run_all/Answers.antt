@@ -5,7 +5,7 @@ use Rattle.std.proofs.lemmas.List.Sorted.{IsNonDecreasingBy-from_sort_by_key}
 use Rattle.ticket_row.specs.Tickets.{DrawnBelow, SeatState}
 use Rattle.donor_book.specs.Passes.{AreCollected, IsWhole, PassState}
 use Rattle.donor_book.specs.declared.claim.Entry.{Entry}
-use Rattle.record_workers.specs.declared.piece.Piece.{Piece}
+use Rattle.record_pieces.specs.declared.piece.Piece.{Piece}
 use Rattle.record_workers.specs.inner.Gatherings.{entry_by}
 use Rattle.record_workers.proofs.RunLaws.{alone-in-order, needs-answered, passes-shared, pieces-are, seats-shared, some-ended}
 use Rattle.record_workers.proofs.gathered.run_all.Goals as goal

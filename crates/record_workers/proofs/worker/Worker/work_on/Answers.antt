@@ -1,11 +1,10 @@
 use Rattle.std.proofs.Common.{◌≡◌, ◌∙◌, ◌++◌, List, [], ◌∷◌, ap, subst, sym}
 use Rattle.std.specs.List.{All}
 use Rattle.std.proofs.lemmas.List.Elements.{All-push}
-use Rattle.record_workers.specs.Rests.{IsPieceIn}
-use Rattle.record_workers.specs.Workers.{AreClaimed, KeepsFor, kept_by}
-use Rattle.record_workers.specs.declared.piece.Piece.{Piece}
-use Rattle.record_workers.proofs.ClaimLaws.{piece-donors}
-use Rattle.record_workers.proofs.ClaimedLaws.{claimed-more}
+use Rattle.record_pieces.specs.Rests.{IsPieceIn, KeepsFor}
+use Rattle.record_pieces.specs.declared.piece.Piece.{Piece}
+use Rattle.record_workers.specs.Workers.{AreClaimed, kept_by}
+use Rattle.record_workers.proofs.ClaimedLaws.{claimed-more, piece-donors}
 use Rattle.record_workers.proofs.KeepLaws.{keeps-later, keeps-more}
 use Rattle.record_workers.proofs.worker.Worker.work_on.Goals as goal
 

@@ -1,0 +1,195 @@
+use Rattle.std.proofs.Common.{◌≡◌, ℕ, zero, suc, ◌+◌, ◌<◌, ◌++◌, Bool, true, false, List, [], ◌∷◌, All, Option, Some, None, IsSomeAnd, length, map, inl, inr}
+use Rattle.std.proofs.Common.{refl, sym, ap, ◌∙◌, subst, arith}
+use Rattle.std.specs.Prelude.{slice_get}
+use Rattle.std.specs.List.{AllByRecursion, AllZip, range_with_len}
+use Rattle.std.specs.List.Sorted.{IsPermutation}
+use Rattle.std.proofs.lemmas.List.{map-append}
+use Rattle.std.proofs.lemmas.List.Elements.{All-head, All-tail}
+use Rattle.std.proofs.lemmas.List.Sorted.{IsPermutation-map}
+use Rattle.edit_model.specs.Parts.{SurveyParts}
+use Rattle.edit_model.specs.declared.value.Value.{Value}
+use Rattle.edit_line.specs.Reductions.{IsIn}
+use Rattle.edit_line.proofs.Members.{in-all, in-map}
+use Rattle.bound_cert.specs.Claims.{claims_donor}
+use Rattle.donor_book.specs.Entries.{IsLegalHistory}
+use Rattle.donor_book.specs.declared.claim.Entry.{Entry}
+use Rattle.donor_search.specs.CleanRows.{row_at}
+use Rattle.donor_search.specs.Places.{place_if, places_from}
+use Rattle.edit_report.specs.Ends.{path_found}
+use Rattle.edit_report.specs.declared.end.RowEnd.{RowEnd}
+use Rattle.bound_cert.specs.declared.outcome.Outcome.{Outcome}
+use Rattle.bound_cert.specs.declared.outcome.Outcome.TheVariants as outcome
+use Rattle.record_pieces.specs.Needs.{AnswersNeeds, IsRankingFor, IsRankingOf, Need, Ranks, need_in, needs_by, needs_of, rows_claimed}
+use Rattle.record_pieces.specs.Rests.{ArePiecesIn, IsPieceIn, rows_in, rows_of}
+use Rattle.record_pieces.specs.declared.piece.Piece.{Piece}
+use Rattle.record_pieces.specs.declared.rest.Rest.{Rest}
+use Rattle.record_pieces.proofs.NeedLaws.{in-other-order, need-from, piece-at, rows-asked}
+use Rattle.record_ends.specs.Givings.{EndsBy, IsEndIn, SaysIn, donor_in}
+use Rattle.record_editing.specs.Donations.{AreDonations, IsRanked, claimers_of, end_claims}
+use Rattle.record_editing.specs.declared.terms.Terms.{Terms}
+
+-- The claims of all records, by their ends.
+
+-- ---- two lists side by side
+
+-- what stands beside an element
+zip-get : {X Y : Type 0} (R : X → Y → Type 0) (xs : List X) (ys : List Y) → AllZip R xs ys → (k : ℕ) (x : X) → slice_get xs k ≡ Some x → (y : Y)
+    × (slice_get ys k ≡ Some y) × R x y
+zip-get R [] ys each k x at = absurd (cc)
+zip-get R (a ∷ xs) [] each k x at = absurd each
+zip-get R (a ∷ xs) (b ∷ ys) each zero x at = let same : a ≡ x = cc in (b, refl, subst (λ z. R z b) same each.0)
+zip-get R (a ∷ xs) (b ∷ ys) each (suc k) x at = zip-get R xs ys each.1 k x at
+
+-- and what it stands beside
+zip-got : {X Y : Type 0} (R : X → Y → Type 0) (xs : List X) (ys : List Y) → AllZip R xs ys → (k : ℕ) (y : Y) → slice_get ys k ≡ Some y → (x : X)
+    × (slice_get xs k ≡ Some x) × R x y
+zip-got R [] [] each k y at = absurd (cc)
+zip-got R [] (b ∷ ys) each k y at = absurd each
+zip-got R (a ∷ xs) [] each k y at = absurd each
+zip-got R (a ∷ xs) (b ∷ ys) each zero y at = let same : b ≡ y = cc in (a, refl, subst (R a) same each.0)
+zip-got R (a ∷ xs) (b ∷ ys) each (suc k) y at = zip-got R xs ys each.1 k y at
+
+-- the row of the piece at a place
+row-at : (k n : ℕ) (pieces : List Piece) → rows_of pieces ≡ range_with_len k n → (i : ℕ) (p : Piece) → slice_get pieces i ≡ Some p → p.row_no ≡ k + i
+row-at k n [] rows i p at = absurd (cc)
+row-at k zero (first ∷ pieces) rows i p at = absurd (cc)
+row-at k (suc n) (first ∷ pieces) rows zero p at = let own : first.row_no ≡ k = cc in let same : first ≡ p = cc in
+    omega (arith, own, ap (λ (q : Piece). q.row_no) same)
+row-at k (suc n) (first ∷ pieces) rows (suc i) p at =
+    let rest : rows_of pieces ≡ range_with_len (k + 1) n = cc in
+    let later = row-at (k + 1) n pieces rest i p at in omega (arith, later)
+
+-- what holds beside the pieces of all rows holds beside the rows
+rows-beside : (R : List Value → RowEnd → Type 0) (whole : List (List Value)) (k : ℕ) (rows : List (List Value))
+    → ((j : ℕ) → j < length rows → row_at whole (k + j) ≡ row_at rows j)
+    → (pieces : List Piece) → rows_of pieces ≡ range_with_len k (length rows) → (ends : List RowEnd)
+    → AllZip (λ (p : Piece) (end : RowEnd). R (row_at whole p.row_no) end) pieces ends → AllZip R rows ends
+rows-beside R whole k [] stands [] are [] each = tt
+rows-beside R whole k [] stands [] are (e ∷ ends) each = absurd each
+rows-beside R whole k [] stands (p ∷ pieces) are ends each = absurd (cc)
+rows-beside R whole k (row ∷ rows) stands [] are ends each = absurd (cc)
+rows-beside R whole k (row ∷ rows) stands (p ∷ pieces) are [] each = absurd each
+rows-beside R whole k (row ∷ rows) stands (p ∷ pieces) are (e ∷ ends) each =
+    let own : p.row_no ≡ k + 0 = (let same : p.row_no ≡ k = cc in omega (arith, same)) in
+    let rest : rows_of pieces ≡ range_with_len (k + 1) (length rows) = cc in
+    let here : row_at whole p.row_no ≡ row = ap (row_at whole) own ∙ stands 0 (omega arith) in (
+      subst (λ (r : List Value). R r e) here each.0,
+      rows-beside R whole (k + 1) rows
+          (λ j lt. (let next : (k + 1) + j ≡ k + suc j = omega arith in ap (row_at whole) next ∙ stands (suc j) (omega (arith, lt)))) pieces rest ends each.1,
+    )
+
+-- what holds beside each element holds if it follows from what does
+zip-weaker : {X Y : Type 0} (R S : X → Y → Type 0) (xs : List X) (ys : List Y) → ((x : X) (y : Y) → R x y → S x y) → AllZip R xs ys → AllZip S xs ys
+zip-weaker R S [] [] turn each = tt
+zip-weaker R S [] (y ∷ ys) turn each = absurd each
+zip-weaker R S (x ∷ xs) [] turn each = absurd each
+zip-weaker R S (x ∷ xs) (y ∷ ys) turn each = (turn x y each.0, zip-weaker R S xs ys turn each.1)
+
+-- ---- the rankings of the records that claim
+
+-- a record ranks donors by the path that was found for it where it claims one
+ranks-by : (survey : SurveyParts) (rows : List (List Value)) (near : ℕ) (row : List Value) (found : Outcome) (ranking : Option (List ℕ))
+    → IsRankingFor survey rows near row found ranking → Ranks (claims_donor found) survey rows near row (path_found found) ranking
+ranks-by survey rows near row (outcome.Change path weight cert) ranking ranks = ranks
+ranks-by survey rows near row (outcome.Budget path work) ranking none = none
+ranks-by survey rows near row (outcome.Overflow path event) ranking none = none
+ranks-by survey rows near row (outcome.Contradictory cert) ranking none = none
+
+-- ---- the claims, by the ends
+
+module _ {F : Type 0} (rest : Rest F) (pieces : List Piece) (are : ArePiecesIn rest pieces) (ends : List RowEnd) where
+  -- what holds of the ends of pieces holds of the ends of the records
+  ends-beside : (R : List Value → RowEnd → Type 0) → AllZip (λ (p : Piece) (end : RowEnd). R (row_at (rows_in rest) p.row_no) end) pieces ends
+      → AllZip R (rows_in rest) ends
+  ends-beside R each = rows-beside R (rows_in rest) 0 (rows_in rest)
+      (λ j lt. (let same : 0 + j ≡ j = omega arith in ap (row_at (rows_in rest)) same)) pieces are.rows ends each
+
+  module _ (limit : ℕ) (history : List Entry) (answers : AnswersNeeds limit pieces history) (each : AllZip (EndsBy rest history) pieces ends) where
+    -- what becomes of the records, in order
+    pub ends-become : AllZip (IsEndIn rest) (rows_in rest) ends
+    ends-become = ends-beside (IsEndIn rest)
+        (zip-weaker (EndsBy rest history) (λ (p : Piece) (end : RowEnd). IsEndIn rest (row_at (rows_in rest) p.row_no) end) pieces ends
+        (λ p end by. by.becomes) each)
+
+    -- and what their ends say of them
+    pub ends-say : AllZip (SaysIn rest) (rows_in rest) ends
+    ends-say = ends-beside (SaysIn rest)
+        (zip-weaker (EndsBy rest history) (λ (p : Piece) (end : RowEnd). SaysIn rest (row_at (rows_in rest) p.row_no) end) pieces ends
+        (λ p end by. by.says) each)
+
+    -- the records that need a donor are those that claim one
+    needs-claim : (k n : ℕ) (ps : List Piece) (es : List RowEnd) → rows_of ps ≡ range_with_len k n → All (IsPieceIn rest) ps
+        → AllZip (EndsBy rest history) ps es
+        → map (λ (need : Need). need.row_no) (needs_of ps) ≡ places_from end_claims k es
+    needs-claim k n [] [] rows all zip = refl
+    needs-claim k n [] (e ∷ es) rows all zip = absurd zip
+    needs-claim k n (p ∷ ps) [] rows all zip = absurd zip
+    needs-claim k zero (p ∷ ps) (e ∷ es) rows all zip = absurd (cc)
+    needs-claim k (suc n) (p ∷ ps) (e ∷ es) rows all zip =
+        let own : p.row_no ≡ k = cc in
+        let next : k + 1 ≡ suc k = omega arith in
+        let later : rows_of ps ≡ range_with_len (k + 1) n = cc in
+        let rest_is = needs-claim (suc k) n ps es (subst (λ (m : ℕ). rows_of ps ≡ range_with_len m n) next later) (All-tail (IsPieceIn rest) p ps all) zip.1 in
+        let is = All-head (IsPieceIn rest) p ps all in
+        let ranks = ranks-by rest.survey (rows_in rest) rest.near (row_at (rows_in rest) p.row_no) p.outcome p.ranking is.ranking in
+        let first = here (claims_donor p.outcome) p.ranking own ranks in
+        let same : claims_donor p.outcome ≡ end_claims e = ap claims_donor (sym zip.0.outcome) in
+        map-append (λ (need : Need). need.row_no) (needs_by p.row_no p.ranking) (needs_of ps)
+        ∙ ap (λ (ns : List ℕ). ns ++ map (λ (need : Need). need.row_no) (needs_of ps)) (first ∙ ap (λ (b : Bool). place_if b k) same)
+        ∙ ap (λ (ns : List ℕ). place_if (end_claims e) k ++ ns) rest_is
+      where
+        here : (b : Bool) (ranking : Option (List ℕ)) → p.row_no ≡ k
+            → Ranks b rest.survey (rows_in rest) rest.near (row_at (rows_in rest) p.row_no) (path_found p.outcome) ranking
+            → map (λ (need : Need). need.row_no) (needs_by p.row_no ranking) ≡ place_if b k
+        here true None own ranks = absurd ranks
+        here true (Some r) own ranks = ap (λ (m : ℕ). m ∷ []) own
+        here false None own ranks = refl
+        here false (Some r) own ranks = absurd (cc)
+
+    claimers : IsPermutation (claimers_of ends) (rows_claimed history)
+    claimers = subst (λ (ns : List ℕ). IsPermutation ns (rows_claimed history)) (needs-claim 0 (length (rows_in rest)) pieces ends are.rows are.each each)
+        (subst (λ (ns : List ℕ). IsPermutation (map (λ (need : Need). need.row_no) (needs_of pieces)) ns) (rows-asked history)
+        (IsPermutation-map (λ (need : Need). need.row_no) (needs_of pieces) (map need_in history) answers.needs))
+
+    -- each claim has the ranking of its record
+    ranked-one : (e : Entry) → IsIn e history → IsRanked rest.survey (rows_in rest) rest.near ends e
+    ranked-one e there =
+        let (p, in_pieces, row, ranking) = need-from (need_in e) pieces
+        (in-other-order (needs_of pieces) (map need_in history) (need_in e) answers.needs (in-map need_in e history there)) in
+        let at = piece-at 0 (length (rows_in rest)) pieces are.rows p in_pieces e.row_no (omega (arith, row)) in
+        let (end, stands, becomes) = zip-get (EndsBy rest history) pieces ends each e.row_no p at in
+        let is = in-all (IsPieceIn rest) p pieces are.each in_pieces in
+        let of = by p (claims_donor p.outcome)
+        (ranks-by rest.survey (rows_in rest) rest.near (row_at (rows_in rest) p.row_no) p.outcome (Some e.ranking)
+        (subst (IsRankingFor rest.survey (rows_in rest) rest.near (row_at (rows_in rest) p.row_no) p.outcome) ranking is.ranking)) in
+        let mine = subst (λ (n : ℕ). IsRankingOf rest.survey (rows_in rest) rest.near (row_at (rows_in rest) n) (path_found p.outcome) e.ranking) row of in
+        let told = subst (λ (o : Outcome). IsRankingOf rest.survey (rows_in rest) rest.near (row_at (rows_in rest) e.row_no)
+        (path_found o) e.ranking) (sym becomes.outcome) mine in
+        subst (λ (o : Option RowEnd). IsSomeAnd o
+        (λ (end : RowEnd). IsRankingOf rest.survey (rows_in rest) rest.near (row_at (rows_in rest) e.row_no)
+        (path_found end.proof.outcome) e.ranking)) (sym stands) told
+      where
+        by : (p : Piece) (b : Bool) → Ranks b rest.survey (rows_in rest) rest.near (row_at (rows_in rest) p.row_no) (path_found p.outcome) (Some e.ranking)
+            → IsRankingOf rest.survey (rows_in rest) rest.near (row_at (rows_in rest) p.row_no) (path_found p.outcome) e.ranking
+        by p true ranks = ranks
+        by p false none = absurd (cc)
+
+    ranked-all : (es : List Entry) → ((e : Entry) → IsIn e es → IsRanked rest.survey (rows_in rest) rest.near ends e)
+        → AllByRecursion (IsRanked rest.survey (rows_in rest) rest.near ends) es
+    ranked-all [] one = tt
+    ranked-all (e ∷ es) one = (one e (inl refl), ranked-all es (λ x there. one x (inr there)))
+
+    given : (i : ℕ) (end : RowEnd) → slice_get ends i ≡ Some end → end.donor ≡ donor_in history i
+    given i end at =
+        let (p, stands, becomes) = zip-got (EndsBy rest history) pieces ends each i end at in
+        let row = row-at 0 (length (rows_in rest)) pieces are.rows i p stands in
+        becomes.given ∙ ap (donor_in history) (let same : p.row_no ≡ i = omega (arith, row) in same)
+
+    -- the claims are the donations of the records that ended so
+    pub donations-are : (terms : Terms) → terms.limit ≡ limit → terms.near ≡ rest.near → AreDonations rest.survey (rows_in rest) terms ends history
+    donations-are terms limit_is near_is = record {
+      legal = subst (λ (n : ℕ). IsLegalHistory n history) (sym limit_is) answers.legal;
+      claimers = claimers;
+      ranked = subst (λ (n : ℕ). AllByRecursion (IsRanked rest.survey (rows_in rest) n ends) history) (sym near_is) (ranked-all history ranked-one);
+      given = given;
+    }

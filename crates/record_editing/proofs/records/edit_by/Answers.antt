@@ -1,0 +1,36 @@
+use Rattle.std.proofs.Common.{◌≡◌, ◌∙◌, refl, subst, sym}
+use Rattle.std.specs.List.{AllZip}
+use Rattle.record_pieces.specs.Rests.{ArePiecesIn, IsRest, rows_in}
+use Rattle.record_pieces.specs.declared.rest.Rest.{Rest}
+use Rattle.record_ends.specs.Givings.{IsEndIn, SaysIn}
+use Rattle.record_editing.specs.declared.terms.Terms.{Terms}
+use Rattle.record_editing.specs.inner.Givings.{AreDonationsIn}
+use Rattle.record_editing.proofs.DonationLaws.{donations-are, ends-become, ends-say}
+use Rattle.record_editing.proofs.records.edit_by.Goals as goal
+
+pub give_all-requires-clause-rest : goal.give_all-requires-clause-rest
+give_all-requires-clause-rest g c κs within =
+    subst (λ (r : Rest g.row.F.Denot). IsRest g.F.Fn r) (sym c.in_ok-pieces.ensures.rest) c.in_ok-shared.ensures.shared.rest
+
+pub returns : goal.returns
+returns g c =
+    let gathered = c.in_ok-pieces.field-0 in
+    let rest = gathered.rest in
+    let pieces = gathered.pieces.items in
+    let history = gathered.history.items in
+    let ends = c.in_ok-ends.ends.items in
+    let was : rest ≡ c.in_ok-shared.shared.rest = c.in_ok-pieces.ensures.rest in
+    let same : rest ≡ c.args.rest = was ∙ c.in_ok-shared.ensures.rest in
+    let are = subst (λ (r : Rest g.row.F.Denot). ArePiecesIn r pieces) (sym was) c.in_ok-pieces.ensures.pieces in
+    let limit = c.in_ok-shared.shared.book.terms.limit in
+    let answers = c.in_ok-pieces.ensures.history in
+    let each = rw c.deref.ensures.value at c.in_ok-ends.ensures in
+    let terms : Terms = record { budget = rest.budget; limit = c.args.limit; near = rest.near } in
+    let donations = donations-are rest pieces are ends limit history answers each terms (sym c.in_ok-shared.ensures.limit) refl in
+    record {
+      rest = same;
+      ends = subst (λ (r : Rest g.row.F.Denot). AllZip (IsEndIn r) (rows_in r) ends) same (ends-become rest pieces are ends limit history answers each);
+      say = subst (λ (r : Rest g.row.F.Denot). AllZip (SaysIn r) (rows_in r) ends) same (ends-say rest pieces are ends limit history answers each);
+      donations = subst (λ (r : Rest g.row.F.Denot). AreDonationsIn r c.args.limit ends history) same donations;
+      order = λ one. c.in_ok-pieces.ensures.order (c.in_ok-shared.ensures.workers ∙ one);
+    }

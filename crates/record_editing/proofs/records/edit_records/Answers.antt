@@ -1,0 +1,7 @@
+use Rattle.record_editing.proofs.records.edit_records.Goals as goal
+
+pub returns-clause-ends : goal.returns-clause-ends
+returns-clause-ends g c = rw (← c.in_ok-edits.ensures.ok) c.edit_by.ensures.ends
+
+pub returns-clause-say : goal.returns-clause-say
+returns-clause-say g c = rw (← c.in_ok-edits.ensures.ok) c.edit_by.ensures.say

@@ -1,0 +1,2 @@
+pub mod Donations
+pub mod inner

@@ -1,0 +1,113 @@
+//! What becomes of all records, by workers that run side by side.
+ghost use Rattle.std.specs.Prelude.{◌≡◌, ◌≤◌, IfOk};
+ghost use Rattle.std.specs.List.{AllByRecursion, AllZip};
+ghost use Rattle.edit_line.specs.EditSets.{SayTheRules};
+ghost use Rattle.edit_line.specs.Shapes.{shape_of};
+ghost use Rattle.edit_model.specs.PlainNumbers.{HasPlain};
+ghost use Rattle.edit_model.specs.Rows.{IsRow};
+ghost use Rattle.donor_measure.specs.Measures.{Measures};
+ghost use Rattle.donor_measure.specs.Yardsticks.{yardsticks_of};
+ghost use Rattle.record_pieces.specs.Needs.{AreInRowOrder};
+ghost use Rattle.record_pieces.specs.Rests.{IsRest, rows_in};
+ghost use Rattle.record_ends.specs.Ends.{IsEndOf};
+ghost use Rattle.record_ends.specs.Givings.{IsEndIn, SaysIn};
+ghost use Rattle.record_ends.specs.Said.{Says};
+ghost use Rattle.record_editing.specs.Donations.{AreDonations};
+ghost use Rattle.record_editing.specs.inner.Givings.{AreDonationsIn};
+
+use crate::edited::Edited;
+use crate::terms::Terms;
+use donor_measure::Measure;
+use donor_search::Deck;
+use edit_line::Edits;
+use edit_model::{Survey, Value};
+use foundation::OutOfMemory;
+use record_ends::give_all;
+use record_pieces::Rest;
+use record_text::Sheet;
+use record_workers::{Gate, Gathered, run_all, shared_by};
+use shared_edits::Pool;
+use std::alloc::Global;
+use std::sync::{Arc, Wait};
+use std::thread::Threads;
+
+/// What becomes of each record of a sheet, in order: the outcome of its search by the edits, and the values of its
+/// changed fields, for which it claims a donor among the clean records. From 1 to 64 workers draw the records side by
+/// side. The edits are over the survey's fields, and they say of a point with codes of these what the rules say. The
+/// measure is one of the survey, and the numbers of the records have numerators below 10^21 and denominators of at most
+/// 10^6.
+pub fn edit_records<
+    R: Threads + Wait + Sync,
+    F: Fn(u32, &Value, &Value) -> u64 + Send + Sync,
+    G: Gate,
+>(
+    rt: &R,
+    alloc: Global,
+    survey: Survey,
+    edits: Edits,
+    sheet: Sheet,
+    measure: Measure<F>,
+    terms: Terms,
+    workers: u32,
+    gate: &G,
+) -> Result<Edited<F>, OutOfMemory>
+    requires over { edits.shape ≡ shape_of survey.fields }
+    requires same { SayTheRules survey edits }
+    requires rows { AllByRecursion (IsRow survey.fields) sheet.rows }
+    requires plain { AllByRecursion HasPlain sheet.rows }
+    requires measures { Measures F.Fn measure.closure measure.yardsticks }
+    requires yardsticks { measure.yardsticks ≡ yardsticks_of survey.fields }
+    requires workers { (1 ≤ workers) × (workers ≤ 64) }
+    ensures survey { IfOk result (λ edited. edited.rest.survey ≡ survey) }
+    ensures sheet { IfOk result (λ edited. edited.rest.sheet ≡ sheet) }
+    ensures ends { IfOk result (λ edited. AllZip (IsEndOf survey edits terms.budget sheet.rows) sheet.rows edited.ends.items) }
+    ensures say { IfOk result (λ edited. AllZip (Says survey edits terms.budget) sheet.rows edited.ends.items) }
+    ensures donations { IfOk result (λ edited. AreDonations survey sheet.rows terms edited.ends.items edited.history.items) }
+    ensures order { IfOk result (λ edited. workers ≡ 1 → AreInRowOrder edited.history.items) }
+{
+    let deck = Deck::new(alloc, &survey, &sheet)?;
+    let edits = Arc::new(alloc, edits)?;
+    let pool = Pool::new(alloc, Arc::try_clone(&edits)?)?;
+    let rest = Rest {
+        survey,
+        edits,
+        sheet,
+        deck,
+        measure,
+        near: terms.near,
+        budget: terms.budget,
+        pool,
+    };
+    edit_by(rt, alloc, rest, terms.limit, workers, gate)
+}
+
+// What becomes of each record, where a donor is given at most as often as this limit says.
+fn edit_by<R: Threads + Wait + Sync, F: Fn(u32, &Value, &Value) -> u64 + Send + Sync, G: Gate>(
+    rt: &R,
+    alloc: Global,
+    rest: Rest<F>,
+    limit: u32,
+    workers: u32,
+    gate: &G,
+) -> Result<Edited<F>, OutOfMemory>
+    requires rest { IsRest F.Fn rest }
+    requires workers { (1 ≤ workers) × (workers ≤ 64) }
+    ensures rest { IfOk result (λ edited. edited.rest ≡ rest) }
+    ensures ends { IfOk result (λ edited. AllZip (IsEndIn rest) (rows_in rest) edited.ends.items) }
+    ensures say { IfOk result (λ edited. AllZip (SaysIn rest) (rows_in rest) edited.ends.items) }
+    ensures donations { IfOk result (λ edited. AreDonationsIn rest limit edited.ends.items edited.history.items) }
+    ensures order { IfOk result (λ edited. workers ≡ 1 → AreInRowOrder edited.history.items) }
+{
+    let (shared, ready) = shared_by(alloc, rest, limit, workers)?;
+    let Gathered {
+        pieces,
+        history,
+        rest,
+    } = run_all(rt, alloc, shared, ready, gate)?;
+    let ends = give_all(rt, alloc, &rest, pieces, &history)?;
+    Ok(Edited {
+        ends,
+        history,
+        rest,
+    })
+}

@@ -1,0 +1,6 @@
+pub mod CollectedLaws
+pub mod CorrectedLaws
+pub mod DonorLaws
+pub mod EndLaws
+pub mod GivenLaws
+pub mod OverflowLaws

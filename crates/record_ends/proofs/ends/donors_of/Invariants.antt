@@ -1,0 +1,12 @@
+use Rattle.std.proofs.Common.{◌≡◌, None, length, replicate, take}
+use Rattle.record_ends.specs.inner.Donors.{ListsDonors}
+use Rattle.record_ends.proofs.ends.donors_of.Given as goal
+
+abbrev pub invariant-loop : goal.invariant-loop
+invariant-loop l = l.donors.items ≡ replicate l.counter None
+
+abbrev pub invariant-loop-entry : goal.invariant-loop-entry
+invariant-loop-entry l = record {
+  as_many : length l.donors.items ≡ l.rows;
+  lists : ListsDonors (take l.entry-index l.history) l.rows l.donors.items;
+}

@@ -1,0 +1,4 @@
+pub mod Ends
+pub mod Givings
+pub mod Said
+pub mod inner

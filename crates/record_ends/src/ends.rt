@@ -1,0 +1,67 @@
+//! What becomes of all records.
+ghost use Rattle.std.specs.Prelude.{◌≡◌, ◌<◌, ℕ, IfOk, length, map, nat_eq};
+ghost use Rattle.std.specs.List.{All, AllZip, IsDistinct};
+ghost use Rattle.donor_book.specs.Entries.{wins_of};
+ghost use Rattle.record_pieces.specs.Needs.{AnswersNeeds};
+ghost use Rattle.record_pieces.specs.Rests.{ArePiecesIn, IsPieceIn, IsRest};
+ghost use Rattle.record_ends.specs.Givings.{EndsBy, EndsIn};
+ghost use Rattle.record_ends.specs.inner.Donors.{HasCleanDonor, ListsDonors, donor_at};
+
+use crate::row_ends::end_of;
+use donor_book::Entry;
+use edit_model::Value;
+use edit_report::RowEnd;
+use foundation::OutOfMemory;
+use rayon::prelude::*;
+use record_pieces::{Piece, Rest};
+use std::alloc::Global;
+use std::thread::Threads;
+
+/// What becomes of each record, in order, by what was found of it and the donor that it was given in this history. The
+/// records are given values side by side.
+pub fn give_all<R: Threads + Sync, F: Fn(u32, &Value, &Value) -> u64 + Send + Sync>(
+    rt: &R,
+    alloc: Global,
+    rest: &Rest<F>,
+    pieces: Vec<Piece>,
+    history: &[Entry],
+) -> Result<Vec<RowEnd>, OutOfMemory>
+    requires rest { IsRest F.Fn rest.now }
+    requires pieces { ArePiecesIn rest.now pieces.items }
+    requires history { (limit : ℕ) × AnswersNeeds limit pieces.items history.now }
+    ensures { IfOk result (λ ends. AllZip (EndsBy rest.now history.now) pieces.items ends.items) }
+{
+    let donors = donors_of(alloc, pieces.len(), history)?;
+    let given = &donors;
+    pieces
+        .into_par_iter()
+        .with_min_len(1)
+        .map(
+            |piece: Piece| -> Result<RowEnd, OutOfMemory>
+                requires { IsRest F.Fn rest.now × IsPieceIn rest.now piece × (piece.row_no < length given.now.items)
+                    × HasCleanDonor rest.now given.now.items piece.row_no }
+                ensures { IfOk result (EndsIn rest.entry.now piece (donor_at given.entry.now.items piece.row_no)) }
+            {
+                let donor = given[piece.row_no as usize];
+                end_of(alloc, rest, piece, donor)
+            },
+        )
+        .collect::<Result<Vec<RowEnd>, OutOfMemory>>(rt, alloc)?
+}
+
+// The donor that each of so many records was given in a history.
+fn donors_of(alloc: Global, rows: usize, history: &[Entry]) -> Result<Vec<Option<u32>>, OutOfMemory>
+    requires within { All (λ entry. entry.row_no < rows) history.now }
+    requires once { IsDistinct nat_eq (map (λ w. w.row_no) (wins_of history.now)) }
+    ensures as_many { IfOk result (λ donors. length donors.items ≡ rows) }
+    ensures each { IfOk result (λ donors. ListsDonors history.now rows donors.items) }
+{
+    let mut donors = Vec::with_capacity(alloc, rows)?;
+    for _ in 0..rows {
+        donors.push(None)?;
+    }
+    for entry in history {
+        donors[entry.row_no as usize] = entry.reply;
+    }
+    Ok(donors)
+}

@@ -1,0 +1,80 @@
+//! Workers that have done nothing yet, and what they share.
+ghost use Rattle.std.specs.Prelude.{◌≡◌, ◌≤◌, IfOk, length};
+ghost use Rattle.std.specs.List.{All};
+ghost use Rattle.ticket_row.specs.Tickets.{IsFresh, Row};
+ghost use Rattle.donor_book.specs.Passes.{BookName};
+ghost use Rattle.record_pieces.specs.Rests.{IsRest};
+ghost use Rattle.record_workers.specs.Workers.{IsReady, IsShared};
+ghost use Rattle.record_workers.specs.inner.Gatherings.{IsFreshPass, IsReadyAt};
+
+use crate::shared::Shared;
+use crate::worker::Worker;
+use donor_book::{Pass, SharedBook};
+use edit_model::Value;
+use foundation::OutOfMemory;
+use record_pieces::Rest;
+use shared_edits::Pool;
+use std::alloc::Global;
+use ticket_row::{Seat, Tickets};
+
+/// What so many workers share, where a donor is given at most as often as the limit says, and these workers, which have
+/// done nothing yet. They are from 1 to 64.
+pub fn shared_by<F: Fn(u32, &Value, &Value) -> u64>(
+    alloc: Global,
+    rest: Rest<F>,
+    limit: u32,
+    workers: u32,
+) -> Result<(Shared<F>, Vec<Worker>), OutOfMemory>
+    requires rest { IsRest F.Fn rest }
+    requires workers { (1 ≤ workers) × (workers ≤ 64) }
+    ensures rest { IfOk result (λ made. made.0.rest ≡ rest) }
+    ensures limit { IfOk result (λ made. made.0.book.terms.limit ≡ limit) }
+    ensures shared { IfOk result (λ made. IsShared F.Fn made.0) }
+    ensures ready { IfOk result (λ made. All (IsReady made.0) made.1.items) }
+    ensures workers { IfOk result (λ made. length made.1.items ≡ workers) }
+    ensures seats { IfOk result (λ made. made.0.tickets.seats ≡ workers) }
+    ensures passes { IfOk result (λ made. made.0.book.terms.passes ≡ workers) }
+{
+    let rows = rest.sheet.len();
+    let (tickets, seats) = Tickets::new(alloc, rows, workers)?;
+    let (book, passes) = SharedBook::share(alloc, rows, limit, rows, workers)?;
+    let ready = workers_at(alloc, &rest.pool, seats, passes, workers)?;
+    let shared = Shared {
+        rest,
+        tickets,
+        book,
+    };
+    Ok((shared, ready))
+}
+
+// A worker for each of the seats and passes, which has done nothing yet.
+fn workers_at(
+    alloc: Global,
+    pool: &Pool,
+    seats: Vec<Seat>,
+    passes: Vec<Pass>,
+    count: u32,
+) -> Result<Vec<Worker>, OutOfMemory>
+    requires seats { length seats.items ≡ count }
+    requires passes { length passes.items ≡ count }
+    ensures as_many { IfOk result (λ workers. length workers.items ≡ count) }
+    ensures ready { IfOk result (λ workers. (row : Row) (book : BookName) → All (IsFresh row) seats.items
+        → All (IsFreshPass book) passes.items → All (IsReadyAt row book) workers.items) }
+{
+    let mut seats = seats;
+    let mut passes = passes;
+    let mut workers = Vec::with_capacity(alloc, count as usize)?;
+    for number in 0..count {
+        let (Some(seat), Some(pass)) = (seats.pop(), passes.pop()) else {
+            unreachable!()
+        };
+        workers.push(Worker {
+            number,
+            seat,
+            pass,
+            reader: pool.reader(alloc)?,
+            pieces: Vec::new(alloc),
+        })?;
+    }
+    Ok(workers)
+}
