@@ -25,8 +25,8 @@ use Rattle.edit_line.proofs.ShapeLaws.{same_codes, same_fields}
 use Rattle.linear_elim.specs.Systems.{system}
 use Rattle.linear_elim.proofs.PointLaws.{number-no_code}
 use Rattle.linear_elim.proofs.SystemLaws.{HaveShape-system}
-use Rattle.back_subst.specs.GiveFaults.{AllHoldAt, AreComputed, AreGivenFirst, IsFirstOut, StopsThere, StopsAtLine, StopsAtRule}
-use Rattle.back_subst.specs.Given.{IsGiven, giving_order, number_in, target_of}
+use Rattle.back_subst.specs.GiveFaults.{AllHoldAt, AreAllComputed, AreComputed, AreGivenFirst, IsFirstOut, StopsThere, StopsAtLine, StopsAtRule}
+use Rattle.back_subst.specs.Given.{IsGiven, IsImputed, giving_order, number_in, target_of}
 use Rattle.back_subst.specs.NumberWalk.{FoundBounds, bound_at, bounds_from, is_bounding, nearest_found, no_bounds, number_result, with_bound}
 use Rattle.back_subst.specs.declared.gift.GiveFault.{GiveFault}
 use Rattle.back_subst.specs.declared.gift.GiveFault.TheVariants.{Bound, OutOfMemory, Test}
@@ -176,14 +176,18 @@ module _ (survey : SurveyParts) (edits : EditsParts) (row : List Value) (changed
   IsWhole : List Value → Type 0
   IsWhole new = IsGivenTo (giving_order survey.fields changed) [] new
 
-  rule-whole : (rule : ℕ) (s : StopsAtRule survey edits row changed donor rule) → IsGivenTo (giving_order survey.fields changed) [] s.new
-  rule-whole rule s = record {
+  all-given : (new : List Value) → IsImputed survey row changed donor new → AreAllComputed survey edits changed donor new
+      → IsGivenTo (giving_order survey.fields changed) [] new
+  all-given new imputed computed = record {
     order_is = sym (append-nil order);
-    fits = s.imputed.fits;
-    keeps = s.imputed.keeps;
-    first = first-all survey (start_lines edits) (target_of donor) s.new order s.imputed.given;
-    computed = computed-inner edits (target_of donor) s.new order [] s.computed;
+    fits = imputed.fits;
+    keeps = imputed.keeps;
+    first = first-all survey (start_lines edits) (target_of donor) new order imputed.given;
+    computed = computed-inner edits (target_of donor) new order [] computed;
   }
+
+  rule-whole : (rule : ℕ) (s : StopsAtRule survey edits row changed donor rule) → IsGivenTo (giving_order survey.fields changed) [] s.new
+  rule-whole rule s = all-given s.new s.imputed s.computed
 
   line-not_whole : (f line : ℕ) → StopsAtLine survey edits row changed donor f line → (new : List Value) → IsGivenTo (giving_order survey.fields changed) [] new → ⊥
   line-not_whole f line s new whole =
@@ -218,6 +222,11 @@ module _ (survey : SurveyParts) (edits : EditsParts) (row : List Value) (changed
   one-whole a b first second =
       let same = alike order [] a b first second in
       same_lists b a same.0 (λ k d below. get_or_default b k d Bad below ∙ same.1 k refl ∙ get_or_default a k Bad d (omega (arith, below, same.0)))
+
+  -- so one record alone is given
+  pub one-gift : (a b : List Value) → IsImputed survey row changed donor a → AreAllComputed survey edits changed donor a
+      → IsImputed survey row changed donor b → AreAllComputed survey edits changed donor b → b ≡ a
+  one-gift a b first first_computed second second_computed = one-whole a b (all-given a first first_computed) (all-given b second second_computed)
 
   one-rule : (new : List Value) (r q : ℕ) → IsFirstOut survey new r → IsFirstOut survey new q → r ≡ q
   one-rule new r q first second = by (nat_lt r q) refl (nat_lt q r) refl

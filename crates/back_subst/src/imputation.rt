@@ -48,6 +48,7 @@ pub fn give<S: Systems, L: Ledger>(
     ensures imputed { IfOk result (λ gift. IsImputed survey.now row.now changed (option_copied donor.entry) gift.row) }
     ensures how { IfOk result (λ gift. gift.how ≡ hows_of survey.now changed (option_copied donor.entry) gift.row) }
     ensures consistent { IfOk result (λ gift. (p : Point) × Completes survey.now gift.row [] p) }
+    ensures computed { IfOk result (λ gift. AreAllComputed survey.now (arc_value edits.now) changed (option_copied donor.entry) gift.row) }
     ensures tested { IfOk result (λ gift. AllHoldAt survey.now gift.row) }
     ensures differs { IfOk result (λ gift. IsNeeded survey.now row.now changed
         → DiffersThroughout survey.now row.now changed gift.row) }

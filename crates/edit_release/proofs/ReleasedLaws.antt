@@ -131,9 +131,9 @@ are-released survey bytes sheet terms ends history proof is each told = record {
 
 -- ---- a released row
 
-module _ (survey : SurveyParts) (columns : List ℕ) (reads : List (List ℕ)) (row : List Value) (path : List Bool) (weight : ℕ) (donor : Option (List Value)) (gift : Gift) (well : IsWellFormed survey) (is_row : IsRow survey.fields row)
+module _ (survey : SurveyParts) (edits : EditsParts) (columns : List ℕ) (reads : List (List ℕ)) (row : List Value) (path : List Bool) (weight : ℕ) (donor : Option (List Value)) (gift : Gift) (well : IsWellFormed survey) (is_row : IsRow survey.fields row)
     (one_each : length columns ≡ length survey.fields) (distinct : AllPairs (λ (c : ℕ) (d : ℕ). c ≢ d) columns) (within : All (λ (c : ℕ). c < length reads) columns)
-    (given : IsGiftOf survey row path donor gift) (corrected : IsCorrected survey row gift.row path weight) where
+    (given : IsGiftOf survey edits row path donor gift) (corrected : IsCorrected survey row gift.row path weight) where
   abbrev texts : List (List ℕ)
   texts = released_texts survey.fields columns path gift.row reads
 

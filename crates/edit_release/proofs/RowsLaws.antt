@@ -99,9 +99,9 @@ pub end-released : (r : RowRules) (edits : EditsParts) (budget : ℕ) (reads : L
     → AreReleasedTexts r (files_with r.survey.fields r.columns reads row (path_found outcome) gift) (path_found (said_of outcome fault).outcome)
 end-released r edits budget reads row well is_row one_each distinct within donor outcome fault None follows says some = absurd (cc some)
 end-released r edits budget reads row well is_row one_each distinct within donor (Change path zero cert) None (Some gift) follows says some =
-    (gift.row, clean-released r.survey r.columns reads row path 0 donor gift well is_row one_each distinct within follows says refl)
+    (gift.row, clean-released r.survey edits r.columns reads row path 0 donor gift well is_row one_each distinct within follows says refl)
 end-released r edits budget reads row well is_row one_each distinct within donor (Change path (suc w) cert) None (Some gift) follows says some =
-    (gift.row, row-released r.survey r.columns reads row path (suc w) donor gift well is_row one_each distinct within follows says)
+    (gift.row, row-released r.survey edits r.columns reads row path (suc w) donor gift well is_row one_each distinct within follows says)
 end-released r edits budget reads row well is_row one_each distinct within donor (Change path w cert) (Some fault) (Some gift) follows says some = absurd follows
 end-released r edits budget reads row well is_row one_each distinct within donor (Budget path work) None (Some gift) follows says some = absurd follows
 end-released r edits budget reads row well is_row one_each distinct within donor (Budget path work) (Some fault) (Some gift) follows says some = absurd follows

@@ -25,7 +25,7 @@ use Rattle.edit_report.specs.declared.end.RowEnd.{RowEnd}
 use Rattle.record_ends.specs.Ends.{ComesOf, IsEndOf, IsGiftOf}
 use Rattle.donor_search.specs.CleanRows.{row_at}
 
-module _ (survey : SurveyParts) (row : List Value) (path : List Bool) (donor : Option (List Value)) (gift : Gift) (is : IsGiftOf survey row path donor gift) where
+module _ (survey : SurveyParts) (edits : EditsParts) (row : List Value) (path : List Bool) (donor : Option (List Value)) (gift : Gift) (is : IsGiftOf survey edits row path donor gift) where
   -- the path says something of all fields
   whole : length path ≡ length survey.fields
   whole = ap (λ (p : List Bool). length p) (sym is.fields) ∙ length-map (path_order survey.fields) (has_number is.changed) ∙ order-length survey.fields
@@ -50,7 +50,7 @@ module _ (survey : SurveyParts) (row : List Value) (path : List Bool) (donor : O
 
 -- what follows on an outcome can be told
 follows-tellable : (survey : SurveyParts) (edits : EditsParts) (row : List Value) (donor : Option (List Value)) (o : Outcome) (stop : Option GiftFault) (gift : Option Gift) → ComesOf survey edits row donor o stop gift → IfSome gift (IsGift survey.fields (path_found o))
-follows-tellable survey edits row donor (Change path weight cert) None (Some gift) follows = gift-tellable survey row path donor gift follows
+follows-tellable survey edits row donor (Change path weight cert) None (Some gift) follows = gift-tellable survey edits row path donor gift follows
 follows-tellable survey edits row donor (Change path weight cert) (Some stop) (Some gift) follows = absurd follows
 follows-tellable survey edits row donor (Budget path work) None (Some gift) follows = absurd follows
 follows-tellable survey edits row donor (Budget path work) (Some stop) (Some gift) follows = absurd follows

@@ -10,18 +10,20 @@ use Rattle.bound_cert.specs.declared.outcome.Outcome.TheVariants.{Change}
 use Rattle.edit_paths.specs.Cases.{case_of}
 use Rattle.edit_paths.specs.Outcomes.{outcome_of}
 use Rattle.back_subst.specs.Gifts.{hows_of, path_of}
-use Rattle.back_subst.specs.GiveFaults.{AllHoldAt, StopsAtLine, StopsAtRule}
+use Rattle.back_subst.specs.GiveFaults.{AllHoldAt, AreAllComputed, StopsAtLine, StopsAtRule}
 use Rattle.back_subst.specs.Given.{IsImputed}
 use Rattle.back_subst.specs.declared.gift.Gift.{Gift}
 use Rattle.donor_search.specs.CleanRows.{row_at}
 use Rattle.edit_report.specs.declared.end.RowEnd.{RowEnd}
 
--- the fields that the path changes are given values, and it is told how each was found; every rule holds at the record that is
--- given, and no number of its sums leaves the range
-pub record IsGiftOf (survey : SurveyParts) (row : List Value) (path : List Bool) (donor : Option (List Value)) (gift : Gift) : Type 0 where
+-- the fields that the path changes are given values, each number by the formulas, and it is told how each was found; every rule
+-- holds at the record that is given, and no number of its sums leaves the range
+pub record IsGiftOf (survey : SurveyParts) (edits : EditsParts) (row : List Value) (path : List Bool)
+    (donor : Option (List Value)) (gift : Gift) : Type 0 where
   pub changed : ℕ
   pub fields : path_of survey.fields changed ≡ path
   pub imputed : IsImputed survey row changed donor gift.row
+  pub computed : AreAllComputed survey edits changed donor gift.row
   pub how : gift.how ≡ hows_of survey changed donor gift.row
   pub tested : AllHoldAt survey gift.row
 
@@ -40,7 +42,7 @@ pub record StopsGiving (survey : SurveyParts) (edits : EditsParts) (row : List V
 -- what follows on an outcome, with the donor's values if there is one: on a change values, or the fault at which the giving
 -- stops; on any other outcome neither
 abbrev pub ComesOf : SurveyParts → EditsParts → List Value → Option (List Value) → Outcome → Option GiftFault → Option Gift → Type 0
-ComesOf survey edits row donor (Change path weight cert) None (Some gift) = IsGiftOf survey row path donor gift
+ComesOf survey edits row donor (Change path weight cert) None (Some gift) = IsGiftOf survey edits row path donor gift
 ComesOf survey edits row donor (Change path weight cert) (Some stop) None = StopsGiving survey edits row path donor stop
 ComesOf survey edits row donor (Change path weight cert) None None = ⊥
 ComesOf survey edits row donor (Change path weight cert) (Some stop) (Some gift) = ⊥
