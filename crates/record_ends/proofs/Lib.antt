@@ -3,4 +3,5 @@ pub mod CorrectedLaws
 pub mod DonorLaws
 pub mod EndLaws
 pub mod GivenLaws
+pub mod OneEnd
 pub mod OverflowLaws
