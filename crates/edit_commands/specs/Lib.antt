@@ -3,6 +3,7 @@ pub mod EditRun
 pub mod Edits
 pub mod Faults
 pub mod Laws
+pub mod MakeRun
 pub mod Readings
 pub mod RulesRun
 pub mod Run
