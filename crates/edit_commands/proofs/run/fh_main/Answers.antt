@@ -46,6 +46,12 @@ returns-in-Ok-Rules-clause-rules_due g c = λ asked is. rw ((rw c.in-Ok-Rules.fi
 pub returns-in-Ok-Make-clause-unasked : goal.returns-in-Ok-Make-clause-unasked
 returns-in-Ok-Make-clause-unasked g c = λ none. absurd (none.no_make c.in-Ok-Make.make (rw c.in-Ok-Make.field-0-is at c.in-Ok-Make.ensures).0)
 
+pub returns-in-Ok-Make-clause-made : goal.returns-in-Ok-Make-clause-made
+returns-in-Ok-Make-clause-made g c = λ done asked is. rw ((rw c.in-Ok-Make.field-0-is at c.in-Ok-Make.ensures).1 asked is) (c.run_make.ensures.made done)
+
+pub returns-in-Ok-Make-clause-make_stopped : goal.returns-in-Ok-Make-clause-make_stopped
+returns-in-Ok-Make-clause-make_stopped g c = λ not asked is. rw ((rw c.in-Ok-Make.field-0-is at c.in-Ok-Make.ensures).1 asked is) (c.run_make.ensures.stopped not)
+
 -- ---- words that are no command
 
 pub returns-in-Ok-Nothing-clause-unasked : goal.returns-in-Ok-Nothing-clause-unasked
