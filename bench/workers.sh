@@ -1,15 +1,16 @@
 #!/bin/bash
 # Times `edit` by 1, 2, 4 and 8 workers, over records of a business survey of 16 fields and 30 rules.
 #
-# usage: [ONE_IN=K] [WORKERS='1 2 4'] bench/workers.sh [ROWS..]     (default: 20000 and 50000 records, one in 4 wrong)
+# usage: [WORKERS='1 2 4'] bench/workers.sh [ROWS..]     (default: 20000 and 50000 records, at most 200000)
 #
 # The workers draw the records side by side, search them, rank donors and claim them; then values are given side by side. What
 # is read, pruned, written and printed is one thread's work, and so is the index of the donors. Each line has the workers; the
 # seconds of the clock, the best of three runs; how many times as fast as one worker that is; the seconds of all processors;
 # and what share of one worker's time is left to one thread, by the seconds that more workers did not save: of t seconds by one
 # worker and u by n of them, (n u - t) / (n - 1) would be one thread's. More workers than the machine has free processors save
-# nothing, and a machine with other work says little. The line `clean` is the same file without an error: what is read, tested
-# and written, mostly one thread's.
+# nothing, and a machine with other work says little. The records are those that `make` makes: in about one of four a number is
+# wrong. The line `clean` is as many records of the same survey without an error: what is read, tested and written, mostly one
+# thread's.
 #
 # Whatever the workers, the first line of the summary is the same, where no number leaves 128 bits while values are given; the
 # script says whether it was.
@@ -35,7 +36,7 @@ best() {
 
 for rows in "${@:-20000 50000}"; do
     for count in $rows; do
-        python3 "$yardstick/business_survey.py" --rules "$work/rules" --records "$work/records" --rows "$count" --one-in "${ONE_IN:-4}"
+        "$program" make --rules "$work/rules" --records "$work/records" --rows "$count" >"$work/made"
         : >"$work/summaries"
         one=
         for workers in ${WORKERS:-1 2 4 8}; do

@@ -1,5 +1,5 @@
 -- The calls of the parts of a run, one after the other.
-use Rattle.std.proofs.Common.{◌≡◌, ◌⊎◌, ◌∙◌, ◌+◌, ℕ, zero, suc, List, [], ◌∷◌, ◌++◌, Option, Result, Ok, Err, IfErr, ap, append_assoc, arith, inl, inr, length, refl, subst, sym, take, take_all}
+use Rattle.std.proofs.Common.{◌≡◌, ◌⊎◌, ◌∙◌, ◌+◌, ℕ, zero, suc, List, [], ◌∷◌, ◌++◌, Option, Result, Ok, Err, IfErr, ap, append-nil, append_assoc, arith, inl, inr, length, refl, subst, sym, take, take_all}
 use Rattle.std.specs.Prelude.{⊤}
 use Rattle.std.proofs.Math.Seq.{take-append-add}
 use Rattle.edit_commands.specs.inner.Refused.{check_fault}
@@ -9,9 +9,9 @@ use Rattle.record_text.specs.declared.fault.SheetFault.{SheetFault}
 use Rattle.record_text.specs.declared.fault.SheetFault.TheVariants as sheet
 use Rattle.cert_check.specs.declared.fault.CheckFault.{CheckFault}
 use Rattle.cert_check.specs.declared.fault.CheckFault.TheVariants as check
-use Rattle.edit_commands.specs.Faults.{sheet_refusal}
+use Rattle.edit_commands.specs.Faults.{IsOfStores, sheet_refusal}
 use Rattle.edit_commands.specs.Run.{AreCallsTo, CallsEndAt}
-use Rattle.edit_commands.specs.inner.Parts.{AreCallsOf, IsOfFetch, IsOfRecords, IsOfRules, IsOfStores, faults_after}
+use Rattle.edit_commands.specs.inner.Parts.{AreCallsOf, IsOfFetch, IsOfRecords, IsOfRules, faults_after}
 use Rattle.edit_commands.specs.declared.fault.Fault.{Fault}
 use Rattle.edit_commands.specs.declared.fault.Fault.TheVariants as fault
 use Rattle.edit_commands.proofs.ToldLaws.{less-told, then-told}
@@ -83,6 +83,13 @@ module _ (before order rest calls : List Asked) where
 pub behind-calls : (a b c : Option (List Asked)) (before order rest : List Asked) (f : Fault) → IsOfCall f → PutsOnRecord a b (λ calls. calls ≡ before) → PutsOnRecord b c (AreCallsTo order f) → PutsOnRecord a c (AreCallsTo (before ++ (order ++ rest)) f)
 behind-calls a b c before order rest f kind p q =
     then-calls a b c (AreCallsTo (before ++ (order ++ rest)) f) (λ x y e h. subst (λ (l : List Asked). AreCallsTo (before ++ (order ++ rest)) f (l ++ y)) (sym e) (calls-between before order rest y f kind h)) p q
+
+-- the same, where the later part stores, and may have met no fault
+pub calls-then : {A : Type 0} (a b c : Option (List Asked)) (before order : List Asked) (r : Result A Fault) → IfErr r IsOfStores
+    → PutsOnRecord a b (λ calls. calls ≡ before) → PutsOnRecord b c (AreCallsOf order r) → PutsOnRecord a c (AreCallsOf (before ++ order) r)
+calls-then a b c before order (Ok done) kind p q = all-calls a b c before order p q
+calls-then a b c before order (Err f) kind p q =
+    subst (λ (l : List Asked). PutsOnRecord a c (AreCallsTo (before ++ l) f)) (append-nil order) (behind-calls a b c before order [] f (of-stores f kind) p q)
 
 -- the calls up to a refusal of the rules, which are fetched first
 pub rules-calls : (name : List ℕ) (rest calls : List Asked) (f : Fault) → IsOfRules name f → AreCallsTo (fetched name ∷ []) f calls → AreCallsTo (fetched name ∷ rest) f calls

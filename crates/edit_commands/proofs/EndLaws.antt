@@ -12,11 +12,10 @@ use Rattle.edit_desk.specs.Desk.{Files, raised}
 use Rattle.command_words.specs.Asked.{EditAsked}
 use Rattle.edit_commands.specs.EditRun.{IsMade, Leaves, edit_files}
 use Rattle.edit_commands.specs.Edits.{HasReleased, IsStatusOf, terms_asked}
-use Rattle.edit_commands.specs.Faults.{fault_status}
+use Rattle.edit_commands.specs.Faults.{IsOfStores, fault_status}
 use Rattle.edit_commands.specs.Readings.{HoldsRecords, HoldsRules}
 use Rattle.edit_commands.specs.Run.{IsFaultless, LeavesOf, Run, faults_by}
 use Rattle.edit_commands.specs.inner.EditParts.{edit_status}
-use Rattle.edit_commands.specs.inner.Parts.{IsOfStores}
 use Rattle.edit_commands.specs.declared.fault.Fault.{Fault}
 use Rattle.edit_commands.specs.declared.fault.Fault.TheVariants as fault
 use Rattle.edit_commands.specs.declared.status.Status.{Status}

@@ -3,9 +3,9 @@ use Rattle.std.proofs.Common.{◌≡◌, ◌⊎◌, ℕ, List, inl, inr, refl, s
 use Rattle.edit_model.specs.Parts.{SurveyParts}
 use Rattle.record_text.specs.Sheets.{SheetParts}
 use Rattle.edit_desk.specs.Desk.{Files, IsLonger}
-use Rattle.edit_commands.specs.Faults.{fault_status}
+use Rattle.edit_commands.specs.Faults.{IsOfStores, fault_status}
 use Rattle.edit_commands.specs.Readings.{AnswersDue, HoldsRecords, HoldsRules, IsInputDue, RefusesInput, WithSheet}
-use Rattle.edit_commands.specs.inner.Parts.{IsOfRecords, IsOfRules, IsOfStores, RefusesRecords, RefusesRules}
+use Rattle.edit_commands.specs.inner.Parts.{IsOfRecords, IsOfRules, RefusesRecords, RefusesRules}
 use Rattle.edit_commands.specs.declared.fault.Fault.{Fault}
 use Rattle.edit_commands.specs.declared.fault.Fault.TheVariants as fault
 use Rattle.edit_commands.specs.declared.status.Status.{Status}

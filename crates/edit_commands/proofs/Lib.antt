@@ -4,6 +4,7 @@ pub mod EndLaws
 pub mod FieldFaults
 pub mod HeldLaws
 pub mod InputLaws
+pub mod MakeLaws
 pub mod ReadingLaws
 pub mod RulesLaws
 pub mod RunLaws

@@ -3,10 +3,11 @@ use Rattle.std.proofs.Common.{◌≡◌, ◌∙◌, ℕ, suc, List, [], ◌∷�
 use Rattle.edit_desk.specs.Desk.{Files, SameElsewhere, Told}
 use Rattle.edit_release.specs.Edits.{Written}
 use Rattle.command_words.specs.Asked.{EditAsked, names_in}
+use Rattle.edit_commands.specs.Faults.{IsOfStores}
 use Rattle.edit_commands.specs.EditRun.{AreWritten, edit_files}
 use Rattle.command_words.specs.Options.{AreApart}
 use Rattle.edit_commands.specs.Run.{AreStored, IsCutOff, LeavesOf}
-use Rattle.edit_commands.specs.inner.Parts.{IsOfStores, StoresOf}
+use Rattle.edit_commands.specs.inner.Parts.{StoresOf}
 use Rattle.edit_commands.specs.declared.fault.Fault.{Fault}
 use Rattle.edit_commands.specs.declared.fault.Fault.TheVariants as fault
 use Rattle.edit_commands.proofs.CallLaws.{some-first}

@@ -68,6 +68,12 @@ IsOfRulesCommand (TooLong name) = ⊤
 IsOfRulesCommand OutOfMemory = ⊤
 IsOfRulesCommand fault = ⊥
 
+-- a fault that stores may meet, and the command `make` may be refused for: it reads no file
+abbrev pub IsOfStores : Fault → Type 0
+IsOfStores (Write name) = ⊤
+IsOfStores OutOfMemory = ⊤
+IsOfStores fault = ⊥
+
 -- the refusal for records of these fields that were not read
 abbrev pub sheet_refusal : List Field → SheetFault → Fault
 sheet_refusal fields sheet.NoHeader = Records records.NoHeader

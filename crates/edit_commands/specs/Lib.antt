@@ -4,6 +4,7 @@ pub mod Edits
 pub mod Faults
 pub mod Laws
 pub mod Limits
+pub mod MakeRun
 pub mod Readings
 pub mod RulesRun
 pub mod Run

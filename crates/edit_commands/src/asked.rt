@@ -2,7 +2,9 @@
 ghost use Rattle.std.specs.Prelude.{IfOk};
 ghost use Rattle.edit_commands.specs.inner.Asks.{Asks};
 
-use command_words::{CheckWords, EditWords, RulesWords, check_asked, edit_asked, rules_asked};
+use command_words::{
+    CheckWords, EditWords, MakeWords, RulesWords, check_asked, edit_asked, make_asked, rules_asked,
+};
 use foundation::OutOfMemory;
 use std::alloc::Global;
 
@@ -12,6 +14,7 @@ pub(crate) enum Asked<'a> {
     Edit(EditWords<'a>),
     Check(CheckWords<'a>),
     Rules(RulesWords<'a>),
+    Make(MakeWords<'a>),
     Nothing,
 }
 
@@ -30,7 +33,12 @@ pub(crate) fn read_words<'a>(alloc: Global, words: &'a [String]) -> Result<Asked
         Err(OutOfMemory) => return Err(OutOfMemory),
     }
     match rules_asked(alloc, words) {
-        Ok(Some(rules)) => Ok(Asked::Rules(rules)),
+        Ok(Some(rules)) => return Ok(Asked::Rules(rules)),
+        Ok(None) => {}
+        Err(OutOfMemory) => return Err(OutOfMemory),
+    }
+    match make_asked(alloc, words) {
+        Ok(Some(make)) => Ok(Asked::Make(make)),
         Ok(None) => Ok(Asked::Nothing),
         Err(OutOfMemory) => Err(OutOfMemory),
     }

@@ -1,5 +1,5 @@
 //! The commands of the program, over any desk and any printer: an edit of the records, a check of what was released of
-//! them, and which rules follow from the others. Begin with [`fh_main`].
+//! them, which rules follow from the others, and a survey that is made to try them on. Begin with [`fh_main`].
 #![tactic(auto)]
 
 mod asked;
@@ -7,6 +7,7 @@ mod check_run;
 mod edit_run;
 mod fault;
 mod laws;
+mod make_run;
 mod reading;
 mod refusal;
 mod rules_run;

@@ -1,8 +1,9 @@
 ghost use Rattle.std.specs.Prelude.{◌≡◌, ◌≢◌, IfSome};
-ghost use Rattle.command_words.specs.Asked.{ForCheck, ForEdit, ForRules, IsNoCommand};
+ghost use Rattle.command_words.specs.Asked.{ForCheck, ForEdit, ForMake, ForRules, IsNoCommand};
 ghost use Rattle.edit_commands.specs.CheckRun.{IsCheckComplete, IsCheckStopped, IsChecked};
 ghost use Rattle.edit_commands.specs.EditRun.{IsEditComplete, IsEditStopped, IsEdited};
 ghost use Rattle.edit_commands.specs.Edits.{HasReleased};
+ghost use Rattle.edit_commands.specs.MakeRun.{IsMakeComplete, IsMakeStopped, IsSurveyMade};
 ghost use Rattle.edit_commands.specs.Readings.{AnswersDue, IsCheckDue, IsDue, IsRulesDue};
 ghost use Rattle.edit_commands.specs.RulesRun.{IsRuled, IsRulesComplete, IsRulesStopped};
 ghost use Rattle.edit_commands.specs.Run.{IsRefused, ran, word_refusals};
@@ -11,6 +12,7 @@ use crate::asked::{Asked, read_words};
 use crate::check_run::run_check;
 use crate::edit_run::run_edit;
 use crate::fault::{OUT_OF_MEMORY, USAGE};
+use crate::make_run::run_make;
 use crate::rules_run::run_rules;
 use crate::status::Status;
 use crate::telling::refuse;
@@ -26,7 +28,8 @@ use std::thread::Threads;
 /// prints a summary; as many workers as the words ask for draw the records side by side, and the gate is told of each
 /// draw. `check` fetches and reads the rules, then the records, fetches the released file, then the proof, and prints
 /// whether they are a valid release. `rules` fetches and reads the rules, and prints what becomes of each of their
-/// lines. The first refusal in this order ends the call, and is printed.
+/// lines. `make` stores the rules of a survey that is made up, then records of it, and prints how many there are. The
+/// first refusal in this order ends the call, and is printed.
 pub fn fh_main<R: Threads + Wait + Sync, D: Desk, P: Printer, G: Gate>(
     rt: &R,
     alloc: Global,
@@ -78,11 +81,22 @@ pub fn fh_main<R: Threads + Wait + Sync, D: Desk, P: Printer, G: Gate>(
 
     // Rules that are too long or have no reading are told exactly where they are so.
     ensures rules_due { ForRules words.now (λ ask. IfSome (D.files desk.old) (λ files. AnswersDue (IsRulesDue ask files) result)) }
+
+    // A survey that is made: what stands in the two files, and what was printed, where `make` ends with 0.
+    ensures made { result ≡ Status.Done → ForMake words.now (λ ask. IsSurveyMade ask (ran D.Desk P.Printer desk printer)) }
+
+    // Where it ends otherwise: the fault that ended it, where it ended, what is left and what was printed.
+    ensures make_stopped { result ≢ Status.Done → ForMake words.now
+        (λ ask. IsMakeStopped ask result (ran D.Desk P.Printer desk printer)) }
+
+    // Where no fault is met, `make` is done, but for want of memory.
+    ensures make_complete { ForMake words.now (λ ask. IsMakeComplete result (ran D.Desk P.Printer desk printer)) }
 {
     match read_words(alloc, words) {
         Ok(Asked::Edit(edit)) => run_edit(rt, alloc, &edit, desk, printer, gate),
         Ok(Asked::Check(check)) => run_check(alloc, &check, desk, printer),
         Ok(Asked::Rules(rules)) => run_rules(alloc, &rules, desk, printer),
+        Ok(Asked::Make(make)) => run_make(alloc, &make, desk, printer),
         Ok(Asked::Nothing) => refuse(printer, USAGE, Status::Usage),
         Err(OutOfMemory) => refuse(printer, OUT_OF_MEMORY, Status::OutOfMemory),
     }

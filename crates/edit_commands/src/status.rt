@@ -3,7 +3,7 @@ ghost use Rattle.std.specs.Prelude.{◌≡◌};
 /// How a run of the program ended.
 #[derive(Clone, Copy, Debug, PartialEq, Eq)]
 pub enum Status {
-    /// Every record was released, or the files are a valid release, or all lines were printed.
+    /// Every record was released, or the files are a valid release, or all lines were printed, or a survey was stored.
     Done,
     /// Some record is unresolved, and was left out.
     SomeUnresolved,

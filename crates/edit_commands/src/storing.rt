@@ -1,8 +1,9 @@
 //! The files of a run as they are stored.
 ghost use Rattle.std.specs.Prelude.{◌≡◌, ◌∷◌, [], IfErr};
 ghost use Rattle.edit_desk.specs.Desk.{PutsOnRecord, Told, stored};
+ghost use Rattle.edit_commands.specs.Faults.{IsOfStores};
 ghost use Rattle.edit_commands.specs.inner.EditParts.{release_files};
-ghost use Rattle.edit_commands.specs.inner.Parts.{AreCallsOf, IsOfStores, StoresOf, faults_after, store_calls};
+ghost use Rattle.edit_commands.specs.inner.Parts.{AreCallsOf, StoresOf, faults_after, store_calls};
 
 use crate::fault::{Fault, FileName};
 use crate::refusal::Refusal;
@@ -30,8 +31,8 @@ pub(crate) fn store_release<'a, D: Desk>(
     Ok(())
 }
 
-// Puts the bytes under the name.
-fn store_file<'a, D: Desk>(
+/// Puts the bytes under the name.
+pub(crate) fn store_file<'a, D: Desk>(
     alloc: Global,
     name: &'a str,
     bytes: &[u8],

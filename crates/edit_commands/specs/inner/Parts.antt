@@ -66,12 +66,6 @@ RefusesRecords name fields files fault = RefusesLong most_bytes files fault
 
 -- ---- the stores
 
--- a refusal that stores may end with
-abbrev pub IsOfStores : Fault → Type 0
-IsOfStores (fault.Write name) = ⊤
-IsOfStores fault.OutOfMemory = ⊤
-IsOfStores fault = ⊥
-
 -- what stores do to the files
 abbrev pub StoresOf : {A : Type 0} → List (List ℕ × List ℕ) → Result A Fault → Files → Files → Type 0
 StoresOf files (Ok done) before after = AreStored files before after

@@ -1,6 +1,7 @@
 use Rattle.std.proofs.Common.{inl, refl}
 use Rattle.edit_commands.specs.CheckRun.{check_refusals}
 use Rattle.edit_commands.specs.EditRun.{edit_refusals}
+use Rattle.edit_commands.specs.MakeRun.{make_refusals}
 use Rattle.edit_commands.specs.RulesRun.{rules_refusals}
 use Rattle.edit_commands.specs.Run.{word_refusals}
 use Rattle.edit_commands.specs.declared.fault.Fault.TheVariants as fault
@@ -40,6 +41,17 @@ returns-in-Ok-Rules-clause-unasked g c = λ none. absurd (none.no_rules c.in-Ok-
 pub returns-in-Ok-Rules-clause-rules_due : goal.returns-in-Ok-Rules-clause-rules_due
 returns-in-Ok-Rules-clause-rules_due g c = λ asked is. rw ((rw c.in-Ok-Rules.field-0-is at c.in-Ok-Rules.ensures).1 asked is) c.run_rules.ensures.due
 
+-- ---- a survey that is made
+
+pub returns-in-Ok-Make-clause-unasked : goal.returns-in-Ok-Make-clause-unasked
+returns-in-Ok-Make-clause-unasked g c = λ none. absurd (none.no_make c.in-Ok-Make.make (rw c.in-Ok-Make.field-0-is at c.in-Ok-Make.ensures).0)
+
+pub returns-in-Ok-Make-clause-made : goal.returns-in-Ok-Make-clause-made
+returns-in-Ok-Make-clause-made g c = λ done asked is. rw ((rw c.in-Ok-Make.field-0-is at c.in-Ok-Make.ensures).1 asked is) (c.run_make.ensures.made done)
+
+pub returns-in-Ok-Make-clause-make_stopped : goal.returns-in-Ok-Make-clause-make_stopped
+returns-in-Ok-Make-clause-make_stopped g c = λ not asked is. rw ((rw c.in-Ok-Make.field-0-is at c.in-Ok-Make.ensures).1 asked is) (c.run_make.ensures.stopped not)
+
 -- ---- words that are no command
 
 pub returns-in-Ok-Nothing-clause-unasked : goal.returns-in-Ok-Nothing-clause-unasked
@@ -74,6 +86,12 @@ returns-in-Ok-Nothing-clause-rules_complete g c = λ asked is. absurd ((rw c.in-
 pub returns-in-Ok-Nothing-clause-rules_due : goal.returns-in-Ok-Nothing-clause-rules_due
 returns-in-Ok-Nothing-clause-rules_due g c = λ asked is. absurd ((rw c.in-Ok-Nothing.field-0-is at c.in-Ok-Nothing.ensures).no_rules asked is)
 
+pub returns-in-Ok-Nothing-clause-make_stopped : goal.returns-in-Ok-Nothing-clause-make_stopped
+returns-in-Ok-Nothing-clause-make_stopped g c = λ not asked is. absurd ((rw c.in-Ok-Nothing.field-0-is at c.in-Ok-Nothing.ensures).no_make asked is)
+
+pub returns-in-Ok-Nothing-clause-make_complete : goal.returns-in-Ok-Nothing-clause-make_complete
+returns-in-Ok-Nothing-clause-make_complete g c = λ asked is. absurd ((rw c.in-Ok-Nothing.field-0-is at c.in-Ok-Nothing.ensures).no_make asked is)
+
 -- ---- words for which there was no memory
 
 pub returns-in-Err-clause-unasked : goal.returns-in-Err-clause-unasked
@@ -95,3 +113,8 @@ pub returns-in-Err-clause-rules_stopped : goal.returns-in-Err-clause-rules_stopp
 returns-in-Err-clause-rules_stopped g c = λ not asked is. inl (
     untouched-refused (rules_refusals asked) fault.OutOfMemory c.refuse-in-Err.result _ (record { files = refl; calls = refl; faults = refl })
     c.refuse-in-Err.ensures.printed c.refuse-in-Err.ensures.status tt (λ files. tt) (0, refl) (λ files. refl) (λ count. refl))
+
+pub returns-in-Err-clause-make_stopped : goal.returns-in-Err-clause-make_stopped
+returns-in-Err-clause-make_stopped g c = λ not asked is. inl (
+    untouched-refused (make_refusals asked) fault.OutOfMemory c.refuse-in-Err.result _ (record { files = refl; calls = refl; faults = refl })
+    c.refuse-in-Err.ensures.printed c.refuse-in-Err.ensures.status tt (λ files. tt) (0, refl) (λ files. (0, refl)) (λ count. refl))

@@ -1,0 +1,101 @@
+//! A run of `make`.
+ghost use Rattle.std.specs.Prelude.{◌≡◌, ◌≢◌, ◌∷◌, [], IfErr, IfOk};
+ghost use Rattle.edit_desk.specs.Desk.{PutsOnRecord, Told, stored};
+ghost use Rattle.edit_language.specs.Printing.{printed};
+ghost use Rattle.survey_maker.specs.RecordFiles.{record_file};
+ghost use Rattle.survey_maker.specs.SurveyMade.{survey_made};
+ghost use Rattle.edit_commands.specs.Faults.{IsOfStores};
+ghost use Rattle.edit_commands.specs.MakeRun.{IsMakeComplete, IsMakeStopped, IsSurveyMade, made_text, make_calls};
+ghost use Rattle.edit_commands.specs.Run.{ran};
+ghost use Rattle.edit_commands.specs.inner.MakeParts.{MakeEnds};
+ghost use Rattle.edit_commands.specs.inner.Parts.{AreCallsOf, StoresOf, faults_after};
+
+use crate::refusal::Refusal;
+use crate::status::Status;
+use crate::storing::store_file;
+use crate::telling::{refuse, tell};
+use command_words::MakeWords;
+use edit_desk::{Desk, Printer};
+use foundation::OutOfMemory;
+use std::alloc::Global;
+use survey_maker::{records_text, rules_text};
+
+// What is stored and printed of a survey that is made.
+#[derive(Drop)]
+struct SurveyTexts {
+    rules: Vec<u8>,
+    records: Vec<u8>,
+    line: Vec<u8>,
+}
+
+/// Stores the survey that the words ask for, and prints how many records it has, or why the run is refused.
+pub(crate) fn run_make<D: Desk, P: Printer>(
+    alloc: Global,
+    asked: &MakeWords,
+    desk: &mut D,
+    printer: &mut P,
+) -> Status
+    ensures command { result ≢ Status.Usage }
+    ensures made { result ≡ Status.Done → IsSurveyMade asked.now (ran D.Desk P.Printer desk printer) }
+    ensures stopped { result ≢ Status.Done → IsMakeStopped asked.now result (ran D.Desk P.Printer desk printer) }
+    ensures complete { IsMakeComplete result (ran D.Desk P.Printer desk printer) }
+{
+    match make(alloc, asked, desk) {
+        Ok(made) => tell(printer, &made.line, Status::Done),
+        Err(refusal) => refuse(printer, refusal.line(), refusal.status()),
+    }
+}
+
+// Does on the desk all that the command does there, up to the first fault.
+fn make<'a, D: Desk>(
+    alloc: Global,
+    asked: &MakeWords<'a>,
+    desk: &mut D,
+) -> Result<SurveyTexts, Refusal<'a>>
+    ensures kind { IfErr result IsOfStores }
+    ensures line { IfOk result (λ made. made.line.items ≡ made_text asked.now.rows) }
+    ensures files { Told (D.files desk.old) (D.files desk.new) (MakeEnds asked.now result) }
+    ensures asked { PutsOnRecord (D.calls desk.old) (D.calls desk.new) (AreCallsOf (make_calls asked.now) result) }
+    ensures faults { D.faults desk.new ≡ faults_after result (D.faults desk.old) }
+{
+    let Ok(made) = survey_of(alloc, asked.start, asked.rows) else {
+        return Err(Refusal::out_of_memory());
+    };
+    store_survey(alloc, asked.rules, asked.records, &made, desk)?;
+    Ok(made)
+}
+
+// The texts of so many records from this start, and of their rules.
+fn survey_of(alloc: Global, start: u32, rows: u32) -> Result<SurveyTexts, OutOfMemory>
+    ensures rules { IfOk result (λ made. made.rules.items ≡ printed survey_made) }
+    ensures records { IfOk result (λ made. made.records.items ≡ record_file start rows) }
+    ensures line { IfOk result (λ made. made.line.items ≡ made_text rows) }
+{
+    let rules = rules_text(alloc)?;
+    let records = records_text(alloc, start, rows)?;
+    let line = format!(in alloc; "made rows {rows}")?.into_bytes();
+    Ok(SurveyTexts {
+        rules,
+        records,
+        line,
+    })
+}
+
+// Stores the rules under one name, and then the records under another.
+fn store_survey<'a, D: Desk>(
+    alloc: Global,
+    rules: &'a str,
+    records: &'a str,
+    made: &SurveyTexts,
+    desk: &mut D,
+) -> Result<(), Refusal<'a>>
+    ensures kind { IfErr result IsOfStores }
+    ensures files { Told (D.files desk.old) (D.files desk.new)
+        (StoresOf ((rules.entry.now, made.now.rules.items) ∷ (records.entry.now, made.now.records.items) ∷ []) result) }
+    ensures asked { PutsOnRecord (D.calls desk.old) (D.calls desk.new)
+        (AreCallsOf (stored rules.entry.now ∷ stored records.entry.now ∷ []) result) }
+    ensures faults { D.faults desk.new ≡ faults_after result (D.faults desk.old) }
+{
+    store_file(alloc, rules, &made.rules, desk)?;
+    store_file(alloc, records, &made.records, desk)
+}
