@@ -30,16 +30,16 @@ written_in r = record {
   summary = map (λ line. line.items) r.summary;
 }
 
--- the proof tells of the edit of a sheet on these terms, over the lines of the rules that are kept: it has one spelling; the terms; which
--- lines are kept, with steps that refute the negation of each other line; what was found of each record, in which lines of its table
--- are named, with a tree for each; and the claims
-pub record Tells (survey : SurveyParts) (sheet : SheetParts) (terms : Terms) (kept : List Bool)
+-- the proof tells of the edit of a sheet on these terms, where the lines of the rules are kept by these flags: it has one spelling;
+-- the terms; which lines are kept, with steps that refute the negation of each other line; what was found of each record, in which
+-- lines of its table are named, with a tree for each; and the claims
+pub record Tells (survey : SurveyParts) (sheet : SheetParts) (terms : Terms) (flags : List Bool)
     (ends : List RowEnd) (history : List Entry) (told : Proof) : Type 0 where
   pub plain : IsPlain told
   pub limit : told.limit ≡ terms.limit
   pub near : told.near ≡ terms.near
   pub budget : told.budget ≡ terms.budget
-  pub kept : kept_flags told ≡ kept
+  pub kept : kept_flags told ≡ flags
   pub refuted : drop_fault survey told ≡ None
   pub rows : told.rows ≡ shared_rows (length told.verdicts) [] (map said ends)
   pub trees : HasTrees survey sheet.rows told

@@ -27,7 +27,7 @@ ranking-requires-clause-row g c =
     let below : c.args.row_no < length c.args.sheet.now.rows = omega (arith, c.if-row_no-len.false, c.len.ensures.rows) in
     let is = row-is c.args.survey.now.fields c.args.sheet.now.rows c.args.row_no c.row-row.result.now c.requires.rows below c.row-row.ensures in
     let has : HasPlain c.row-row.result.now = subst (λ (r : List Value). HasPlain r) (sym c.row-row.ensures)
-        (All-from_recursion HasPlain c.args.sheet.now.rows c.requires.plain c.args.row_no [] below) in
+    (All-from_recursion HasPlain c.args.sheet.now.rows c.requires.plain c.args.row_no [] below) in
     subst (λ (ys : List Yardstick). HasMeasurable ys c.kept_set.result c.row-row.result.now) (sym c.new-measure.ensures.yardsticks)
     (has_kept c.args.survey.now.fields c.row-row.result.now c.kept_set.result is has (λ f within at. c.kept_set.ensures.held f at))
 
