@@ -30,7 +30,7 @@ module _ (asked : CheckAsked) (files : Files) where
   -- a status that is due of a check is due of these, or they were read
   due-or-read : (s : Status) → IsCheckDue asked files s → IsDueOrRead asked.rules asked.records files s
   due-or-read status.TooLong (inl due) = inl due
-  due-or-read status.TooLong (inr (name, most, (survey, hr, (sheet, hs, which)), long)) = inr (survey, hr, (sheet, hs, tt))
+  due-or-read status.TooLong (inr (name, (most, (survey, hr, (sheet, hs, which)), long))) = inr (survey, hr, (sheet, hs, tt))
   due-or-read status.Rejected (audit, held, none) = inr (audit.survey, held.rules, (audit.sheet, held.records, tt))
   due-or-read s due = inl due
 
@@ -77,8 +77,8 @@ module _ (asked : CheckAsked) (files : Files) where
   module _ (audit : Audit) (held : HoldsRelease files asked audit) where
     not-long : IsCheckDue asked files status.TooLong → ⊥
     not-long (inl due) = read-not-due asked.rules asked.records files audit.survey audit.sheet held.rules held.records status.TooLong due
-    not-long (inr (name, most, (survey, hr, (sheet, hs, inl (same, is))), long)) = not_longer files asked.released most_bytes held.released (moved same is long)
-    not-long (inr (name, most, (survey, hr, (sheet, hs, inr (same, is, bytes, there))), long)) = not_longer files asked.proof most_proof_bytes held.proof (moved same is long)
+    not-long (inr (name, (most, (survey, hr, (sheet, hs, inl (same, is))), long))) = not_longer files asked.released most_bytes held.released (moved same is long)
+    not-long (inr (name, (most, (survey, hr, (sheet, hs, inr (same, is, bytes, there))), long))) = not_longer files asked.proof most_proof_bytes held.proof (moved same is long)
 
     -- none is due of a valid one
     pub valid-due : IsValidRelease audit → (answer : Status) → AnswersDue (IsCheckDue asked files) answer

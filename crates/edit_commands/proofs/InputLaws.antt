@@ -80,8 +80,8 @@ module _ (rules records : List ℕ) (files : Files) where
     -- they are refused for what their reading says
     pub records-refuse : (f : Fault) → IsOfRecords records f → RefusesRecords records survey.fields files f → RefusesInput rules records files f
     records-refuse (fault.Records what) kind why = (survey, hr, why)
-    records-refuse (fault.Read name) kind why = inr (kind, survey, hr, tt)
-    records-refuse (fault.TooLong name) kind why = (inr (kind, survey, hr, tt), why)
+    records-refuse (fault.Read name) kind why = inr (kind, (survey, hr, tt))
+    records-refuse (fault.TooLong name) kind why = (inr (kind, (survey, hr, tt)), why)
     records-refuse fault.OutOfMemory kind why = tt
     records-refuse f kind why = absurd kind
 
@@ -107,7 +107,7 @@ module _ (rules records : List ℕ) (files : Files) where
   read-beside (fault.Records what) survey s hr hs (other, held, unread) =
       not_unread_records files records survey other s (one_survey files rules survey other hr held) hs (weaker files records most_bytes (λ bytes none. none.unread) unread)
   read-beside (fault.TooLong name) survey s hr hs (inl same, long) = not_longer files rules most_bytes hr (subst (λ (n : List ℕ). IsLonger files n most_bytes) same long)
-  read-beside (fault.TooLong name) survey s hr hs (inr (same, other, held, done), long) = not_longer files records most_bytes hs (subst (λ (n : List ℕ). IsLonger files n most_bytes) same long)
+  read-beside (fault.TooLong name) survey s hr hs (inr (same, (other, held, done)), long) = not_longer files records most_bytes hs (subst (λ (n : List ℕ). IsLonger files n most_bytes) same long)
   read-beside (fault.Read name) survey s hr hs why = tt
   read-beside (fault.Write name) survey s hr hs why = tt
   read-beside fault.OutOfMemory survey s hr hs why = tt
