@@ -16,8 +16,8 @@ use proof_text::RowPlace;
 use record_text::{Sheet, Texts};
 use std::alloc::Global;
 
-/// The first fault of what is said of the records, if there is one. Each row is read at its place, and let go. The released rows are those of the records that
-/// are released, in order.
+/// The first fault of what is said of the records, if there is one. Each row is read at its place, and let go. The
+/// released rows are those of the records that are released, in order.
 pub(crate) fn rows_fault(
     alloc: Global,
     checking: &Checking,

@@ -12,7 +12,7 @@ use Rattle.cert_check.specs.declared.fault.Why.{Why}
 use Rattle.command_words.specs.Asked.{CheckAsked}
 use Rattle.edit_commands.specs.CheckRun.{valid_text}
 use Rattle.edit_commands.specs.Faults.{IsOfCheck, fault_status}
-use Rattle.edit_commands.specs.Readings.{AnswersDue, HoldsBytes, HoldsRecords, HoldsRelease, HoldsRules, IsCheckDue, IsOutput, RefusesCheck}
+use Rattle.edit_commands.specs.Readings.{AnswersDue, HoldsBytes, HoldsRecords, HoldsRelease, HoldsRules, IsCheckDue, IsReleaseFile, RefusesCheck}
 use Rattle.edit_commands.specs.inner.CheckParts.{Accepts}
 use Rattle.edit_commands.specs.inner.Parts.{IsOfFetch, RefusesLong}
 use Rattle.edit_commands.specs.declared.fault.Fault.{Fault}
@@ -51,9 +51,9 @@ module _ (asked : CheckAsked) (files : Files) where
     fetch-due name most fault.OutOfMemory kind why none = λ other due. inr (inr refl)
     fetch-due name most f kind why none = absurd kind
 
-    fetch-refuse : (name : List ℕ) (most : ℕ) (f : Fault) → IsOutput asked files name most → IsOfFetch name f → RefusesLong most files f → RefusesCheck asked files f
-    fetch-refuse name most (fault.Read n) there kind why = inr (most, subst (λ (m : List ℕ). IsOutput asked files m most) (sym kind) there)
-    fetch-refuse name most (fault.TooLong n) there kind why = inr (most, subst (λ (m : List ℕ). IsOutput asked files m most) (sym kind) there, why)
+    fetch-refuse : (name : List ℕ) (most : ℕ) (f : Fault) → IsReleaseFile asked files name most → IsOfFetch name f → RefusesLong most files f → RefusesCheck asked files f
+    fetch-refuse name most (fault.Read n) there kind why = inr (most, subst (λ (m : List ℕ). IsReleaseFile asked files m most) (sym kind) there)
+    fetch-refuse name most (fault.TooLong n) there kind why = inr (most, subst (λ (m : List ℕ). IsReleaseFile asked files m most) (sym kind) there, why)
     fetch-refuse name most fault.OutOfMemory there kind why = tt
     fetch-refuse name most f there kind why = absurd kind
 

@@ -83,8 +83,8 @@ WithSheet files rules records P =
     WithRules files rules (λ survey. (sheet : SheetParts) × HoldsRecords files records survey.fields sheet × P survey sheet)
 
 -- the file of this name is fetched where these two are: it is the rules, or it is the records and the rules were read
-abbrev pub IsInput : List ℕ → List ℕ → Files → List ℕ → Type 0
-IsInput rules records files name = (name ≡ rules) ⊎ ((name ≡ records) × WithRules files rules (λ survey. ⊤))
+abbrev pub IsInputFile : List ℕ → List ℕ → Files → List ℕ → Type 0
+IsInputFile rules records files name = (name ≡ rules) ⊎ ((name ≡ records) × WithRules files rules (λ survey. ⊤))
 
 -- why the rules and the records, in files of these names, are refused; a file that could not be read is one of them, in their order;
 -- one that could not be written, and want of memory, say nothing of them
@@ -92,8 +92,8 @@ abbrev pub RefusesInput : List ℕ → List ℕ → Files → Fault → Type 0
 RefusesInput rules records files (fault.Rules line kind) = HoldsText files rules (AreNoRules line kind)
 RefusesInput rules records files (fault.Records what) =
     WithRules files rules (λ survey. HoldsText files records (AreNoRecords survey.fields what))
-RefusesInput rules records files (fault.TooLong name) = IsInput rules records files name × IsLonger files name most_bytes
-RefusesInput rules records files (fault.Read name) = IsInput rules records files name
+RefusesInput rules records files (fault.TooLong name) = IsInputFile rules records files name × IsLonger files name most_bytes
+RefusesInput rules records files (fault.Read name) = IsInputFile rules records files name
 RefusesInput rules records files (fault.Write name) = ⊤
 RefusesInput rules records files fault.OutOfMemory = ⊤
 RefusesInput rules records files fault.Usage = ⊥
@@ -105,14 +105,14 @@ Refuses asked files fault = RefusesInput asked.names.rules asked.names.records f
 
 -- the file of this name is fetched behind rules and records that were read: it is the released file, with this limit, or it is the
 -- proof, with its own, behind a released file within the limit
-abbrev pub IsOutput : CheckAsked → Files → List ℕ → ℕ → Type 0
-IsOutput asked files name most = WithSheet files asked.rules asked.records (λ survey sheet.
+abbrev pub IsReleaseFile : CheckAsked → Files → List ℕ → ℕ → Type 0
+IsReleaseFile asked files name most = WithSheet files asked.rules asked.records (λ survey sheet.
     ((name ≡ asked.released) × (most ≡ most_bytes))
     ⊎ ((name ≡ asked.proof) × (most ≡ most_proof_bytes) × (bytes : List ℕ) × HoldsBytes files asked.released most_bytes bytes))
 
 -- such a file is too long
 abbrev pub IsTooLong : CheckAsked → Files → List ℕ → Type 0
-IsTooLong asked files name = (most : ℕ) × IsOutput asked files name most × IsLonger files name most
+IsTooLong asked files name = (most : ℕ) × IsReleaseFile asked files name most × IsLonger files name most
 
 -- why the files of a check are refused: the rules or the records are, or another file could not be read or is too long, or they are no
 -- valid release
@@ -120,7 +120,7 @@ abbrev pub RefusesCheck : CheckAsked → Files → Fault → Type 0
 RefusesCheck asked files (fault.TooLong name) =
     RefusesInput asked.rules asked.records files (fault.TooLong name) ⊎ IsTooLong asked files name
 RefusesCheck asked files (fault.Read name) =
-    RefusesInput asked.rules asked.records files (fault.Read name) ⊎ ((most : ℕ) × IsOutput asked files name most)
+    RefusesInput asked.rules asked.records files (fault.Read name) ⊎ ((most : ℕ) × IsReleaseFile asked files name most)
 RefusesCheck asked files (fault.Rejected line why) =
     (audit : Audit) × HoldsRelease files asked audit × ¬ IsValidRelease audit × IsFirstFailure audit line why
 RefusesCheck asked files fault = RefusesInput asked.rules asked.records files fault
