@@ -1,6 +1,6 @@
 -- What the files of a check show, and which status is due of them.
 use Rattle.std.proofs.Common.{◌≡◌, ◌⊎◌, ℕ, List, Vec, Global, Option, IfSome, Result, Ok, Err, IfOk, IfErr, length, inl, inr, refl, subst, sym}
-use Rattle.edit_commands.specs.inner.Refused.{check_fault}
+use Rattle.run_parts.specs.Refused.{check_fault}
 use Rattle.edit_model.specs.Parts.{SurveyParts}
 use Rattle.record_text.specs.Sheets.{SheetParts}
 use Rattle.edit_desk.specs.Desk.{Files, IsLonger}
@@ -11,18 +11,18 @@ use Rattle.cert_check.specs.declared.fault.CheckFault.TheVariants as check
 use Rattle.cert_check.specs.declared.fault.Why.{Why}
 use Rattle.command_words.specs.Asked.{CheckAsked}
 use Rattle.edit_commands.specs.CheckRun.{valid_text}
-use Rattle.edit_commands.specs.Faults.{IsOfCheck, fault_status}
-use Rattle.edit_commands.specs.Readings.{AnswersDue, HoldsBytes, HoldsRecords, HoldsRelease, HoldsRules, IsCheckDue, IsReleaseFile, RefusesCheck}
+use Rattle.run_parts.specs.Faults.{IsOfCheck, fault_status}
+use Rattle.run_parts.specs.Readings.{AnswersDue, HoldsBytes, HoldsRecords, HoldsRelease, HoldsRules, IsCheckDue, IsReleaseFile, RefusesCheck}
 use Rattle.edit_commands.specs.inner.CheckParts.{Accepts}
-use Rattle.edit_commands.specs.inner.Parts.{IsOfFetch, RefusesLong}
-use Rattle.edit_commands.specs.declared.fault.Fault.{Fault}
-use Rattle.edit_commands.specs.declared.fault.Fault.TheVariants as fault
-use Rattle.edit_commands.specs.declared.status.Status.{Status}
-use Rattle.edit_commands.specs.declared.status.Status.TheVariants as status
-use Rattle.edit_commands.proofs.HeldLaws.{not_longer, one_audit}
+use Rattle.run_parts.specs.Parts.{IsOfFetch, RefusesLong}
+use Rattle.run_parts.specs.declared.fault.Fault.{Fault}
+use Rattle.run_parts.specs.declared.fault.Fault.TheVariants as fault
+use Rattle.run_parts.specs.declared.status.Status.{Status}
+use Rattle.run_parts.specs.declared.status.Status.TheVariants as status
+use Rattle.run_parts.proofs.HeldLaws.{not_longer, one_audit}
 use Rattle.edit_commands.proofs.InputLaws.{IsBeside, IsDueOrRead, read-beside, read-not-due}
-use Rattle.edit_commands.proofs.ToldLaws.{each-told, four-told}
-use Rattle.edit_commands.specs.Limits.{most_bytes, most_proof_bytes}
+use Rattle.run_parts.proofs.ToldLaws.{each-told, four-told}
+use Rattle.run_parts.specs.Limits.{most_bytes, most_proof_bytes}
 
 module _ (asked : CheckAsked) (files : Files) where
   -- ---- the rules and the records

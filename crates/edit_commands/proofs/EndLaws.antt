@@ -12,14 +12,14 @@ use Rattle.edit_desk.specs.Desk.{Files, raised}
 use Rattle.command_words.specs.Asked.{EditAsked}
 use Rattle.edit_commands.specs.EditRun.{IsMade, Leaves, edit_files}
 use Rattle.edit_commands.specs.Edits.{HasReleased, IsStatusOf, terms_asked}
-use Rattle.edit_commands.specs.Faults.{IsOfStores, fault_status}
-use Rattle.edit_commands.specs.Readings.{HoldsRecords, HoldsRules}
-use Rattle.edit_commands.specs.Run.{IsFaultless, LeavesOf, Run, faults_by}
+use Rattle.run_parts.specs.Faults.{IsOfStores, fault_status}
+use Rattle.run_parts.specs.Readings.{HoldsRecords, HoldsRules}
+use Rattle.run_parts.specs.Run.{IsFaultless, LeavesOf, Run, faults_by}
 use Rattle.edit_commands.specs.inner.EditParts.{edit_status}
-use Rattle.edit_commands.specs.declared.fault.Fault.{Fault}
-use Rattle.edit_commands.specs.declared.fault.Fault.TheVariants as fault
-use Rattle.edit_commands.specs.declared.status.Status.{Status}
-use Rattle.edit_commands.specs.declared.status.Status.TheVariants as status
+use Rattle.run_parts.specs.declared.fault.Fault.{Fault}
+use Rattle.run_parts.specs.declared.fault.Fault.TheVariants as fault
+use Rattle.run_parts.specs.declared.status.Status.{Status}
+use Rattle.run_parts.specs.declared.status.Status.TheVariants as status
 use Rattle.edit_commands.proofs.InputLaws.{IsBeside}
 
 -- ---- the status of an edit

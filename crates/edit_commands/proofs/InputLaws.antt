@@ -3,15 +3,15 @@ use Rattle.std.proofs.Common.{◌≡◌, ◌⊎◌, ℕ, List, inl, inr, refl, s
 use Rattle.edit_model.specs.Parts.{SurveyParts}
 use Rattle.record_text.specs.Sheets.{SheetParts}
 use Rattle.edit_desk.specs.Desk.{Files, IsLonger}
-use Rattle.edit_commands.specs.Faults.{IsOfStores, fault_status}
-use Rattle.edit_commands.specs.Readings.{AnswersDue, HoldsRecords, HoldsRules, IsInputDue, RefusesInput, WithSheet}
-use Rattle.edit_commands.specs.inner.Parts.{IsOfRecords, IsOfRules, RefusesRecords, RefusesRules}
-use Rattle.edit_commands.specs.declared.fault.Fault.{Fault}
-use Rattle.edit_commands.specs.declared.fault.Fault.TheVariants as fault
-use Rattle.edit_commands.specs.declared.status.Status.{Status}
-use Rattle.edit_commands.specs.declared.status.Status.TheVariants as status
-use Rattle.edit_commands.proofs.HeldLaws.{not_longer, not_unread, not_unread_records, one_survey, weaker}
-use Rattle.edit_commands.specs.Limits.{most_bytes}
+use Rattle.run_parts.specs.Faults.{IsOfStores, fault_status}
+use Rattle.run_parts.specs.Readings.{AnswersDue, HoldsRecords, HoldsRules, IsInputDue, RefusesInput, WithSheet}
+use Rattle.run_parts.specs.Parts.{IsOfRecords, IsOfRules, RefusesRecords, RefusesRules}
+use Rattle.run_parts.specs.declared.fault.Fault.{Fault}
+use Rattle.run_parts.specs.declared.fault.Fault.TheVariants as fault
+use Rattle.run_parts.specs.declared.status.Status.{Status}
+use Rattle.run_parts.specs.declared.status.Status.TheVariants as status
+use Rattle.run_parts.proofs.HeldLaws.{not_longer, not_unread, not_unread_records, one_survey, weaker}
+use Rattle.run_parts.specs.Limits.{most_bytes}
 
 -- a fault that says nothing of the files
 abbrev pub IsBeside : Fault → Type 0

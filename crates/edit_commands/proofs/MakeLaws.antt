@@ -2,14 +2,14 @@
 use Rattle.std.proofs.Common.{◌≡◌, ◌≢◌, ◌∙◌, List, ℕ, [], ◌∷◌, ap, inl, inr, sym}
 use Rattle.edit_desk.specs.Desk.{Files, PutsOnRecord, Told}
 use Rattle.command_words.specs.Asked.{MakeAsked}
-use Rattle.edit_commands.specs.Faults.{IsOfStores, fault_status}
+use Rattle.run_parts.specs.Faults.{IsOfStores, fault_status}
 use Rattle.edit_commands.specs.MakeRun.{AreMade, IsMakeComplete, IsMakeStopped, IsMakeStored, IsSurveyMade, made_text, make_calls, make_files}
-use Rattle.edit_commands.specs.Run.{AreStored, Run, faults_by}
-use Rattle.edit_commands.specs.inner.Parts.{IsTelling}
-use Rattle.edit_commands.specs.declared.fault.Fault.{Fault}
-use Rattle.edit_commands.specs.declared.fault.Fault.TheVariants as fault
-use Rattle.edit_commands.specs.declared.status.Status.{Status}
-use Rattle.edit_commands.specs.declared.status.Status.TheVariants as status
+use Rattle.run_parts.specs.Run.{AreStored, Run, faults_by}
+use Rattle.run_parts.specs.Parts.{IsTelling}
+use Rattle.run_parts.specs.declared.fault.Fault.{Fault}
+use Rattle.run_parts.specs.declared.fault.Fault.TheVariants as fault
+use Rattle.run_parts.specs.declared.status.Status.{Status}
+use Rattle.run_parts.specs.declared.status.Status.TheVariants as status
 use Rattle.edit_commands.proofs.EndLaws.{memory-left, raised-more}
 use Rattle.edit_commands.proofs.InputLaws.{IsBeside}
 

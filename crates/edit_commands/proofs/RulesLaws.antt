@@ -3,16 +3,16 @@ use Rattle.std.proofs.Common.{ℕ, List, inl, inr, refl, subst}
 use Rattle.edit_model.specs.Parts.{SurveyParts}
 use Rattle.edit_desk.specs.Desk.{Files, IsLonger}
 use Rattle.command_words.specs.Asked.{RulesAsked}
-use Rattle.edit_commands.specs.Faults.{IsOfRulesCommand, fault_status}
-use Rattle.edit_commands.specs.Readings.{AnswersDue, HoldsRules, IsRulesDue, RefusesRulesCommand}
-use Rattle.edit_commands.specs.inner.Parts.{IsOfRules, RefusesRules}
-use Rattle.edit_commands.specs.declared.fault.Fault.{Fault}
-use Rattle.edit_commands.specs.declared.fault.Fault.TheVariants as fault
-use Rattle.edit_commands.specs.declared.status.Status.{Status}
-use Rattle.edit_commands.specs.declared.status.Status.TheVariants as status
-use Rattle.edit_commands.proofs.HeldLaws.{not_longer, not_unread, weaker}
+use Rattle.run_parts.specs.Faults.{IsOfRulesCommand, fault_status}
+use Rattle.run_parts.specs.Readings.{AnswersDue, HoldsRules, IsRulesDue, RefusesRulesCommand}
+use Rattle.run_parts.specs.Parts.{IsOfRules, RefusesRules}
+use Rattle.run_parts.specs.declared.fault.Fault.{Fault}
+use Rattle.run_parts.specs.declared.fault.Fault.TheVariants as fault
+use Rattle.run_parts.specs.declared.status.Status.{Status}
+use Rattle.run_parts.specs.declared.status.Status.TheVariants as status
+use Rattle.run_parts.proofs.HeldLaws.{not_longer, not_unread, weaker}
 use Rattle.edit_commands.proofs.InputLaws.{IsBeside}
-use Rattle.edit_commands.specs.Limits.{most_bytes}
+use Rattle.run_parts.specs.Limits.{most_bytes}
 
 -- a refusal of the rules is one of the command
 pub rules-kind : (name : List ℕ) (f : Fault) → IsOfRules name f → IsOfRulesCommand f

@@ -7,21 +7,21 @@ use Rattle.command_words.specs.Asked.{CheckAsked, EditAsked, RulesAsked}
 use Rattle.edit_commands.specs.CheckRun.{IsCheckComplete, IsCheckStopped, IsChecked, IsRead, check_calls}
 use Rattle.edit_commands.specs.EditRun.{AreWritten, IsEditComplete, IsEditStopped, IsEdited, IsMade, IsStored, edit_calls}
 use Rattle.edit_commands.specs.Edits.{HasReleased}
-use Rattle.edit_commands.specs.Faults.{fault_status}
-use Rattle.edit_commands.specs.Readings.{Refuses, RefusesCheck, RefusesRulesCommand}
+use Rattle.run_parts.specs.Faults.{fault_status}
+use Rattle.run_parts.specs.Readings.{Refuses, RefusesCheck, RefusesRulesCommand}
 use Rattle.edit_commands.specs.RulesRun.{IsReport, IsReported, IsRuled, IsRulesComplete, IsRulesStopped, rules_calls}
-use Rattle.edit_commands.specs.Run.{Run, faults_by}
+use Rattle.run_parts.specs.Run.{Run, faults_by}
 use Rattle.edit_commands.specs.inner.CheckParts.{Accepts}
 use Rattle.edit_commands.specs.inner.EditParts.{edit_status}
-use Rattle.edit_commands.specs.inner.Parts.{IsTelling}
-use Rattle.edit_commands.specs.declared.fault.Fault.{Fault}
-use Rattle.edit_commands.specs.declared.status.Status.{Status}
-use Rattle.edit_commands.specs.declared.status.Status.TheVariants as status
+use Rattle.run_parts.specs.Parts.{IsTelling}
+use Rattle.run_parts.specs.declared.fault.Fault.{Fault}
+use Rattle.run_parts.specs.declared.status.Status.{Status}
+use Rattle.run_parts.specs.declared.status.Status.TheVariants as status
 use Rattle.edit_commands.proofs.AuditLaws.{valid-beside}
 use Rattle.edit_commands.proofs.EndLaws.{has-released, memory-left}
 use Rattle.edit_commands.proofs.InputLaws.{read-beside}
 use Rattle.edit_commands.proofs.RulesLaws.{rules-beside}
-use Rattle.edit_commands.proofs.ToldLaws.{each-told, from-told, same-told}
+use Rattle.run_parts.proofs.ToldLaws.{each-told, from-told, same-told}
 
 -- ---- edits
 

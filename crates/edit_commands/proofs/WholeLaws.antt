@@ -21,8 +21,8 @@ use Rattle.record_ends.specs.Said.{OutcomeSays, Says}
 use Rattle.edit_release.specs.Releases.{AllGiven}
 use Rattle.edit_commands.specs.Edits.{IsStatusOf}
 use Rattle.edit_commands.specs.Laws.{IsInReach, WholeLaw}
-use Rattle.edit_commands.specs.declared.status.Status.{Status}
-use Rattle.edit_commands.specs.declared.status.Status.TheVariants.{Done}
+use Rattle.run_parts.specs.declared.status.Status.{Status}
+use Rattle.run_parts.specs.declared.status.Status.TheVariants.{Done}
 
 module _ (survey : SurveyParts) (budget : ℕ) (all : List (List Value)) (p : Point) (correction : IsCorrection survey p) where
   given : (row : List Value) (end : RowEnd) → IsInReach survey budget all row end → (o : Outcome) → end.proof.outcome ≡ o → (stop : Option GiftFault) (gift : Option Gift) → o ≡ outcome_of (case_of survey (kept_edits survey) row) budget

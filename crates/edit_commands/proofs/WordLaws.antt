@@ -1,10 +1,10 @@
 -- Runs that are refused before anything is asked of the desk.
 use Rattle.std.proofs.Common.{◌≡◌, ◌∙◌, ℕ, List, [], ◌++◌, Option, Some, None, IfSome, append-nil, subst, sym}
 use Rattle.edit_desk.specs.Desk.{Asked, Files, PutsOnRecord, Told}
-use Rattle.edit_commands.specs.Faults.{fault_status, fault_text}
-use Rattle.edit_commands.specs.Run.{AreCallsTo, IsLinePrinted, IsRefused, Refusals, Run, faults_by}
-use Rattle.edit_commands.specs.declared.fault.Fault.{Fault}
-use Rattle.edit_commands.specs.declared.status.Status.{Status}
+use Rattle.run_parts.specs.Faults.{fault_status, fault_text}
+use Rattle.run_parts.specs.Run.{AreCallsTo, IsLinePrinted, IsRefused, Refusals, Run, faults_by}
+use Rattle.run_parts.specs.declared.fault.Fault.{Fault}
+use Rattle.run_parts.specs.declared.status.Status.{Status}
 
 module _ {A : Type 0} where
   -- what is told of something that did not change

@@ -4,11 +4,11 @@ use Rattle.edit_desk.specs.Desk.{Asked, Files, PutsOnRecord, Told, fetched}
 use Rattle.cert_check.specs.Releases.{Audit, IsReleasedCount, IsValidRelease}
 use Rattle.cert_check.specs.Shown.{Shows}
 use Rattle.command_words.specs.Asked.{CheckAsked}
-use Rattle.edit_commands.specs.Faults.{IsOfCheck}
-use Rattle.edit_commands.specs.Readings.{HoldsRelease, RefusesCheck}
-use Rattle.edit_commands.specs.Run.{AreTold, AreUntold, IsFaultless, IsRefused, LeavesAll, Refusals, Run}
-use Rattle.edit_commands.specs.declared.status.Status.{Status}
-use Rattle.edit_commands.specs.declared.status.Status.TheVariants as status
+use Rattle.run_parts.specs.Faults.{IsOfCheck}
+use Rattle.run_parts.specs.Readings.{HoldsRelease, RefusesCheck}
+use Rattle.run_parts.specs.Run.{AreTold, AreUntold, IsFaultless, IsRefused, LeavesAll, Refusals, Run}
+use Rattle.run_parts.specs.declared.status.Status.{Status}
+use Rattle.run_parts.specs.declared.status.Status.TheVariants as status
 
 -- all calls of a check, in order
 abbrev pub check_calls : CheckAsked → List Asked

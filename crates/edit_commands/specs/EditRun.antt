@@ -6,13 +6,13 @@ use Rattle.record_text.specs.Sheets.{SheetParts}
 use Rattle.edit_release.specs.Edits.{Written}
 use Rattle.command_words.specs.Asked.{EditAsked}
 use Rattle.edit_commands.specs.Edits.{HasReleased, IsEditWith, terms_asked}
-use Rattle.edit_commands.specs.Faults.{IsOfEdit}
-use Rattle.edit_commands.specs.Readings.{HoldsRecords, HoldsRules, Refuses}
-use Rattle.edit_commands.specs.Run.{AreTold, AreUntold, IsFaultless, IsRefused, LeavesOf, Refusals, Run}
-use Rattle.edit_commands.specs.declared.fault.Fault.{Fault}
-use Rattle.edit_commands.specs.declared.fault.Fault.TheVariants as fault
-use Rattle.edit_commands.specs.declared.status.Status.{Status}
-use Rattle.edit_commands.specs.declared.status.Status.TheVariants as status
+use Rattle.run_parts.specs.Faults.{IsOfEdit}
+use Rattle.run_parts.specs.Readings.{HoldsRecords, HoldsRules, Refuses}
+use Rattle.run_parts.specs.Run.{AreTold, AreUntold, IsFaultless, IsRefused, LeavesOf, Refusals, Run}
+use Rattle.run_parts.specs.declared.fault.Fault.{Fault}
+use Rattle.run_parts.specs.declared.fault.Fault.TheVariants as fault
+use Rattle.run_parts.specs.declared.status.Status.{Status}
+use Rattle.run_parts.specs.declared.status.Status.TheVariants as status
 
 -- all calls of an edit, in order
 abbrev pub edit_calls : EditAsked → List Asked

@@ -9,8 +9,8 @@ use Rattle.record_editing.specs.declared.terms.Terms.{Terms}
 use Rattle.edit_report.specs.declared.end.RowEnd.{RowEnd}
 use Rattle.edit_release.specs.Edits.{IsEditOf, Written}
 use Rattle.edit_release.specs.Releases.{AllGiven}
-use Rattle.edit_commands.specs.declared.status.Status.{Status}
-use Rattle.edit_commands.specs.declared.status.Status.TheVariants.{Done, SomeUnresolved}
+use Rattle.run_parts.specs.declared.status.Status.{Status}
+use Rattle.run_parts.specs.declared.status.Status.TheVariants.{Done, SomeUnresolved}
 
 -- how an edit ends whose records end so: all are released, or some is left out
 abbrev pub IsStatusOf : List RowEnd → Status → Type 0

@@ -19,8 +19,8 @@ use Rattle.record_editing.specs.declared.terms.Terms.{Terms}
 use Rattle.pruned_rules.specs.Pruned.{kept_edits}
 use Rattle.edit_release.specs.Edits.{Written}
 use Rattle.edit_commands.specs.Edits.{IsEditWith}
-use Rattle.edit_commands.specs.declared.status.Status.{Status}
-use Rattle.edit_commands.specs.declared.status.Status.TheVariants.{Done}
+use Rattle.run_parts.specs.declared.status.Status.{Status}
+use Rattle.run_parts.specs.declared.status.Status.TheVariants.{Done}
 
 -- nothing stands in the way of the correction of a record among the rows of a sheet, which ended so: its search needs no more than the
 -- budget, and no number of the search leaves the range, nor one of the values at the fields that it found, with the donor that the

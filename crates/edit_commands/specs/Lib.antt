@@ -1,11 +1,7 @@
 pub mod CheckRun
 pub mod EditRun
 pub mod Edits
-pub mod Faults
 pub mod Laws
-pub mod Limits
 pub mod MakeRun
-pub mod Readings
 pub mod RulesRun
-pub mod Run
 pub mod inner

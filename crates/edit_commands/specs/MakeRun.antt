@@ -5,10 +5,10 @@ use Rattle.edit_language.specs.Printing.{printed}
 use Rattle.survey_maker.specs.RecordFiles.{record_file}
 use Rattle.survey_maker.specs.SurveyMade.{survey_made}
 use Rattle.command_words.specs.Asked.{MakeAsked}
-use Rattle.edit_commands.specs.Faults.{IsOfStores}
-use Rattle.edit_commands.specs.Run.{AreTold, AreUntold, IsFaultless, IsRefused, LeavesOf, Refusals, Run}
-use Rattle.edit_commands.specs.declared.status.Status.{Status}
-use Rattle.edit_commands.specs.declared.status.Status.TheVariants as status
+use Rattle.run_parts.specs.Faults.{IsOfStores}
+use Rattle.run_parts.specs.Run.{AreTold, AreUntold, IsFaultless, IsRefused, LeavesOf, Refusals, Run}
+use Rattle.run_parts.specs.declared.status.Status.{Status}
+use Rattle.run_parts.specs.declared.status.Status.TheVariants as status
 
 -- all calls of the command, in order
 abbrev pub make_calls : MakeAsked → List Asked

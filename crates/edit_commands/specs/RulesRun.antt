@@ -8,11 +8,11 @@ use Rattle.redundancy.specs.Verdicts.{AreEqualities, AreNeeded, AreRefuted}
 use Rattle.pruned_rules.specs.Pruned.{rule_verdicts, rule_flags}
 use Rattle.rule_report.specs.Reports.{reports_from}
 use Rattle.command_words.specs.Asked.{RulesAsked}
-use Rattle.edit_commands.specs.Faults.{IsOfRulesCommand}
-use Rattle.edit_commands.specs.Readings.{HoldsRules, RefusesRulesCommand}
-use Rattle.edit_commands.specs.Run.{AreTold, AreUntold, IsFaultless, IsRefused, LeavesAll, Refusals, Run}
-use Rattle.edit_commands.specs.declared.status.Status.{Status}
-use Rattle.edit_commands.specs.declared.status.Status.TheVariants as status
+use Rattle.run_parts.specs.Faults.{IsOfRulesCommand}
+use Rattle.run_parts.specs.Readings.{HoldsRules, RefusesRulesCommand}
+use Rattle.run_parts.specs.Run.{AreTold, AreUntold, IsFaultless, IsRefused, LeavesAll, Refusals, Run}
+use Rattle.run_parts.specs.declared.status.Status.{Status}
+use Rattle.run_parts.specs.declared.status.Status.TheVariants as status
 
 -- all calls of the command
 abbrev pub rules_calls : RulesAsked → List Asked

@@ -2,21 +2,20 @@
 ghost use Rattle.std.specs.Prelude.{◌≡◌, ◌≢◌, IfErr, IfOk, IfSome};
 ghost use Rattle.edit_desk.specs.Desk.{PutsOnRecord};
 ghost use Rattle.edit_commands.specs.CheckRun.{IsCheckComplete, IsCheckStopped, IsChecked, check_calls, valid_text};
-ghost use Rattle.edit_commands.specs.Faults.{IsOfCheck};
-ghost use Rattle.edit_commands.specs.Readings.{AnswersDue, IsCheckDue, RefusesCheck};
-ghost use Rattle.edit_commands.specs.Run.{ran};
-ghost use Rattle.edit_commands.specs.declared.fault.Fault.TheVariants as faults;
+ghost use Rattle.run_parts.specs.Faults.{IsOfCheck};
+ghost use Rattle.run_parts.specs.Readings.{AnswersDue, IsCheckDue, RefusesCheck};
+ghost use Rattle.run_parts.specs.Run.{ran};
+ghost use Rattle.run_parts.specs.declared.fault.Fault.TheVariants as faults;
 ghost use Rattle.edit_commands.specs.inner.CheckParts.{Accepts};
-ghost use Rattle.edit_commands.specs.inner.Parts.{AreCallsOf, done_end, faults_after};
+ghost use Rattle.run_parts.specs.Parts.{AreCallsOf, done_end, faults_after};
 
-use crate::fault::Fault;
-use crate::reading::{MOST_BYTES, MOST_PROOF_BYTES, fetch_file, fetch_sheet, fetch_survey};
-use crate::refusal::Refusal;
-use crate::status::Status;
-use crate::telling::{refuse, tell};
 use cert_check::check_all;
 use command_words::CheckWords;
 use edit_desk::{Desk, Printer};
+use run_parts::{
+    Fault, MOST_BYTES, MOST_PROOF_BYTES, Refusal, Status, fetch_file, fetch_sheet, fetch_survey,
+    refuse, tell,
+};
 use std::alloc::Global;
 
 /// Checks what the words ask for, and prints that it is a valid release, or why the run is refused.

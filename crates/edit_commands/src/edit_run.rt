@@ -5,20 +5,15 @@ ghost use Rattle.edit_desk.specs.Desk.{PutsOnRecord, Told};
 ghost use Rattle.edit_model.specs.PlainNumbers.{HasPlain};
 ghost use Rattle.edit_commands.specs.EditRun.{IsEditComplete, IsEditStopped, IsEdited, edit_calls};
 ghost use Rattle.edit_commands.specs.Edits.{HasReleased, terms_asked};
-ghost use Rattle.edit_commands.specs.Faults.{IsOfEdit};
-ghost use Rattle.edit_commands.specs.Readings.{AnswersDue, IsDue, Refuses};
-ghost use Rattle.edit_commands.specs.Run.{ran};
-ghost use Rattle.edit_commands.specs.inner.EditParts.{EditEnds, edit_end, edit_status};
-ghost use Rattle.edit_commands.specs.inner.Parts.{AreCallsOf, faults_after};
+ghost use Rattle.run_parts.specs.Faults.{IsOfEdit, IsOfStores};
+ghost use Rattle.run_parts.specs.Readings.{AnswersDue, IsDue, Refuses};
+ghost use Rattle.run_parts.specs.Run.{ran};
+ghost use Rattle.edit_commands.specs.inner.EditParts.{EditEnds, edit_end, edit_status, release_files};
+ghost use Rattle.run_parts.specs.Parts.{AreCallsOf, StoresOf, faults_after, store_calls};
 ghost use Rattle.edit_release.specs.Releases.{IsReleaseOf};
 ghost use Rattle.record_text.specs.Sheets.{IsSheet};
 ghost use Rattle.record_editing.specs.Donations.{AreTerms};
 
-use crate::reading::{fetch_sheet, fetch_survey};
-use crate::refusal::Refusal;
-use crate::status::Status;
-use crate::storing::store_release;
-use crate::telling::{refuse, tell_all};
 use command_words::EditWords;
 use donor_measure::{Measure, Yardsticks};
 use edit_desk::{Desk, Printer};
@@ -28,6 +23,7 @@ use foundation::OutOfMemory;
 use record_editing::Terms;
 use record_text::Sheet;
 use record_workers::Gate;
+use run_parts::{Refusal, Status, fetch_sheet, fetch_survey, refuse, store_file, tell_all};
 use std::alloc::Global;
 use std::sync::Wait;
 use std::thread::Threads;
@@ -86,6 +82,25 @@ fn edit<'a, R: Threads + Wait + Sync, D: Desk, G: Gate>(
     };
     store_release(alloc, asked, &release, desk)?;
     Ok(release)
+}
+
+// Stores the proof, the reasons, and then the released file.
+fn store_release<'a, D: Desk>(
+    alloc: Global,
+    asked: &EditWords<'a>,
+    release: &Release,
+    desk: &mut D,
+) -> Result<(), Refusal<'a>>
+    ensures kind { IfErr result IsOfStores }
+    ensures files { Told (D.files desk.old) (D.files desk.new) (StoresOf (release_files asked.now release.now) result) }
+    ensures asked { PutsOnRecord (D.calls desk.old) (D.calls desk.new)
+        (AreCallsOf (store_calls (release_files asked.now release.now)) result) }
+    ensures faults { D.faults desk.new ≡ faults_after result (D.faults desk.old) }
+{
+    store_file(alloc, asked.proof, &release.proof, desk)?;
+    store_file(alloc, asked.reasons, &release.reasons, desk)?;
+    store_file(alloc, asked.released, &release.released, desk)?;
+    Ok(())
 }
 
 // On what terms the records are edited.

@@ -5,18 +5,10 @@
 mod asked;
 mod check_run;
 mod edit_run;
-mod fault;
 mod laws;
 mod make_run;
-mod reading;
-mod refusal;
 mod rules_run;
 mod run;
-mod status;
-mod storing;
-mod telling;
 
 pub use laws::edit_laws;
 pub use run::fh_main;
-pub use status::Status;
-pub use telling::refuse_words;

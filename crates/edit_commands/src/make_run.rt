@@ -4,19 +4,16 @@ ghost use Rattle.edit_desk.specs.Desk.{PutsOnRecord, Told, stored};
 ghost use Rattle.edit_language.specs.Printing.{printed};
 ghost use Rattle.survey_maker.specs.RecordFiles.{record_file};
 ghost use Rattle.survey_maker.specs.SurveyMade.{survey_made};
-ghost use Rattle.edit_commands.specs.Faults.{IsOfStores};
+ghost use Rattle.run_parts.specs.Faults.{IsOfStores};
 ghost use Rattle.edit_commands.specs.MakeRun.{IsMakeComplete, IsMakeStopped, IsSurveyMade, made_text, make_calls};
-ghost use Rattle.edit_commands.specs.Run.{ran};
+ghost use Rattle.run_parts.specs.Run.{ran};
 ghost use Rattle.edit_commands.specs.inner.MakeParts.{MakeEnds};
-ghost use Rattle.edit_commands.specs.inner.Parts.{AreCallsOf, StoresOf, faults_after};
+ghost use Rattle.run_parts.specs.Parts.{AreCallsOf, StoresOf, faults_after};
 
-use crate::refusal::Refusal;
-use crate::status::Status;
-use crate::storing::store_file;
-use crate::telling::{refuse, tell};
 use command_words::MakeWords;
 use edit_desk::{Desk, Printer};
 use foundation::OutOfMemory;
+use run_parts::{Refusal, Status, refuse, store_file, tell};
 use std::alloc::Global;
 use survey_maker::{records_text, rules_text};
 

@@ -1,26 +1,23 @@
 //! A run of `rules`.
 ghost use Rattle.std.specs.Prelude.{◌≡◌, ◌≢◌, IfErr, IfOk, IfSome};
 ghost use Rattle.edit_desk.specs.Desk.{PutsOnRecord};
-ghost use Rattle.edit_commands.specs.Faults.{IsOfRulesCommand};
-ghost use Rattle.edit_commands.specs.Readings.{AnswersDue, IsRulesDue, RefusesRulesCommand};
+ghost use Rattle.run_parts.specs.Faults.{IsOfRulesCommand};
+ghost use Rattle.run_parts.specs.Readings.{AnswersDue, IsRulesDue, RefusesRulesCommand};
 ghost use Rattle.edit_commands.specs.RulesRun.{IsReport, IsRuled, IsRulesComplete, IsRulesStopped, report_of, rules_calls};
-ghost use Rattle.edit_commands.specs.Run.{ran};
-ghost use Rattle.edit_commands.specs.inner.Parts.{AreCallsOf, done_end, faults_after, texts_in};
+ghost use Rattle.run_parts.specs.Run.{ran};
+ghost use Rattle.run_parts.specs.Parts.{AreCallsOf, done_end, faults_after, texts_in};
 ghost use Rattle.derivation.specs.Refutations.{AllFollow};
 ghost use Rattle.edit_normal.specs.RuleLines.{normal_lines_of};
 ghost use Rattle.redundancy.specs.Verdicts.{AreEqualities, AreNeeded, AreRefuted};
 ghost use Rattle.pruned_rules.specs.Pruned.{rule_flags, rule_verdicts};
 
-use crate::reading::fetch_survey;
-use crate::refusal::Refusal;
-use crate::status::Status;
-use crate::telling::{refuse, tell_all};
 use command_words::RulesWords;
 use edit_desk::{Desk, Printer};
 use edit_model::Survey;
 use foundation::OutOfMemory;
 use pruned_rules::prune_rules;
 use rule_report::report;
+use run_parts::{Refusal, Status, fetch_survey, refuse, tell_all};
 use std::alloc::Global;
 
 /// Prints what becomes of each line of the rules that the words name, or why the run is refused.

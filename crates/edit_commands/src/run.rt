@@ -4,21 +4,19 @@ ghost use Rattle.edit_commands.specs.CheckRun.{IsCheckComplete, IsCheckStopped, 
 ghost use Rattle.edit_commands.specs.EditRun.{IsEditComplete, IsEditStopped, IsEdited};
 ghost use Rattle.edit_commands.specs.Edits.{HasReleased};
 ghost use Rattle.edit_commands.specs.MakeRun.{IsMakeComplete, IsMakeStopped, IsSurveyMade};
-ghost use Rattle.edit_commands.specs.Readings.{AnswersDue, IsCheckDue, IsDue, IsRulesDue};
+ghost use Rattle.run_parts.specs.Readings.{AnswersDue, IsCheckDue, IsDue, IsRulesDue};
 ghost use Rattle.edit_commands.specs.RulesRun.{IsRuled, IsRulesComplete, IsRulesStopped};
-ghost use Rattle.edit_commands.specs.Run.{IsRefused, ran, word_refusals};
+ghost use Rattle.run_parts.specs.Run.{IsRefused, ran, word_refusals};
 
 use crate::asked::{Asked, read_words};
 use crate::check_run::run_check;
 use crate::edit_run::run_edit;
-use crate::fault::{OUT_OF_MEMORY, USAGE};
 use crate::make_run::run_make;
 use crate::rules_run::run_rules;
-use crate::status::Status;
-use crate::telling::refuse;
 use edit_desk::{Desk, Printer};
 use foundation::OutOfMemory;
 use record_workers::Gate;
+use run_parts::{OUT_OF_MEMORY, Status, USAGE, refuse};
 use std::alloc::Global;
 use std::sync::Wait;
 use std::thread::Threads;

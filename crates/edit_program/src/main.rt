@@ -4,9 +4,10 @@
 
 mod words;
 
-use edit_commands::{Status, fh_main, refuse_words};
+use edit_commands::fh_main;
 use edit_desk::{FileDesk, OutPrinter};
 use record_workers::NoGate;
+use run_parts::{Status, refuse_words};
 use std::process::ExitCode;
 
 fn main(rt: HostRuntime) -> ExitCode {

@@ -1,7 +1,7 @@
 //! The words after the program's name.
 ghost use Rattle.std.specs.Prelude.{◌≡◌, ◌⊎◌, IfErr};
 
-use edit_commands::Status;
+use run_parts::Status;
 use std::env;
 use std::io::ErrorKind;
 use std::rt::Env;

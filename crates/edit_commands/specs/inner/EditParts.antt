@@ -5,10 +5,10 @@ use Rattle.edit_release.specs.Releases.{written_in}
 use Rattle.edit_release.specs.declared.release.Release.{Release}
 use Rattle.command_words.specs.Asked.{EditAsked}
 use Rattle.edit_commands.specs.EditRun.{AreWritten, IsMade, Leaves, edit_files}
-use Rattle.edit_commands.specs.Faults.{fault_status}
-use Rattle.edit_commands.specs.declared.fault.Fault.{Fault}
-use Rattle.edit_commands.specs.declared.status.Status.{Status}
-use Rattle.edit_commands.specs.declared.status.Status.TheVariants as status
+use Rattle.run_parts.specs.Faults.{fault_status}
+use Rattle.run_parts.specs.declared.fault.Fault.{Fault}
+use Rattle.run_parts.specs.declared.status.Status.{Status}
+use Rattle.run_parts.specs.declared.status.Status.TheVariants as status
 
 -- the status of an edit that did all on the desk
 abbrev pub edit_status : Release → Status

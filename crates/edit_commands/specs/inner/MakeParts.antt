@@ -3,8 +3,8 @@ use Rattle.std.specs.Prelude.{Result, Ok, Err}
 use Rattle.edit_desk.specs.Desk.{Files}
 use Rattle.command_words.specs.Asked.{MakeAsked}
 use Rattle.edit_commands.specs.MakeRun.{AreMade, make_files}
-use Rattle.edit_commands.specs.Run.{LeavesOf}
-use Rattle.edit_commands.specs.declared.fault.Fault.{Fault}
+use Rattle.run_parts.specs.Run.{LeavesOf}
+use Rattle.run_parts.specs.declared.fault.Fault.{Fault}
 
 -- what the command leaves of the files
 abbrev pub MakeEnds : {A : Type 0} → MakeAsked → Result A Fault → Files → Files → Type 0

@@ -4,16 +4,16 @@ use Rattle.cert_check.specs.Releases.{Audit, audit_of}
 use Rattle.cert_check.specs.declared.fault.CheckFault.{CheckFault}
 use Rattle.command_words.specs.Asked.{CheckAsked}
 use Rattle.edit_commands.specs.CheckRun.{check_calls}
-use Rattle.edit_commands.specs.Faults.{fault_status}
-use Rattle.edit_commands.specs.Readings.{AnswersDue, IsCheckDue, RefusesCheck}
-use Rattle.edit_commands.specs.Run.{AreCallsTo}
+use Rattle.run_parts.specs.Faults.{fault_status}
+use Rattle.run_parts.specs.Readings.{AnswersDue, IsCheckDue, RefusesCheck}
+use Rattle.run_parts.specs.Run.{AreCallsTo}
 use Rattle.edit_commands.specs.inner.CheckParts.{Accepts}
-use Rattle.edit_commands.specs.inner.Parts.{AreCallsOf, done_end}
+use Rattle.run_parts.specs.Parts.{AreCallsOf, done_end}
 use Rattle.command_words.proofs.AskedLaws.{check_of}
 use Rattle.edit_commands.proofs.AuditLaws.{accepted, check-due, check-refuse, input-check-due, memory-kind, memory-refused, proof-due, proof-refuse, released-due, released-refuse, told-held, valid-due}
-use Rattle.edit_commands.proofs.CallLaws.{all-calls, memory-calls, memory-faults, told-calls, behind-calls, less-calls, of-fetch, records-calls, rules-calls, then-calls}
+use Rattle.run_parts.proofs.CallLaws.{all-calls, memory-calls, memory-faults, told-calls, behind-calls, less-calls, of-fetch, records-calls, rules-calls, then-calls}
 use Rattle.edit_commands.proofs.InputLaws.{records-due}
-use Rattle.edit_commands.proofs.ToldLaws.{both-told, each-told, four-told, handed, three-told}
+use Rattle.run_parts.proofs.ToldLaws.{both-told, each-told, four-told, handed, three-told}
 use Rattle.edit_commands.proofs.check_run.check.Goals as goal
 
 pub returns-in_err-survey-clause-asked : goal.returns-in_err-survey-clause-asked

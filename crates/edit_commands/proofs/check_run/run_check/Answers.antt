@@ -1,7 +1,7 @@
 use Rattle.std.proofs.Common.{◌∙◌, inl, refl}
-use Rattle.edit_commands.specs.Run.{LeavesAll}
+use Rattle.run_parts.specs.Run.{LeavesAll}
 use Rattle.edit_commands.proofs.RunLaws.{check-refused, checked-by, unchecked-by}
-use Rattle.edit_commands.proofs.ToldLaws.{same-told}
+use Rattle.run_parts.proofs.ToldLaws.{same-told}
 use Rattle.edit_commands.proofs.check_run.run_check.Goals as goal
 
 pub returns-in-Ok-clause-checked : goal.returns-in-Ok-clause-checked

@@ -5,18 +5,18 @@ use Rattle.command_words.specs.Asked.{EditAsked}
 use Rattle.command_words.specs.declared.edit_words.EditWords.TheInside.{Inside}
 use Rattle.edit_commands.specs.Edits.{terms_asked}
 use Rattle.edit_commands.specs.EditRun.{AreWritten, IsMade, Leaves, edit_calls, edit_files}
-use Rattle.edit_commands.specs.Faults.{fault_status}
-use Rattle.edit_commands.specs.Readings.{AnswersDue, IsDue, Refuses}
-use Rattle.edit_commands.specs.Run.{AreCallsTo}
-use Rattle.edit_commands.specs.declared.fault.Fault.TheVariants as fault
+use Rattle.run_parts.specs.Faults.{fault_status}
+use Rattle.run_parts.specs.Readings.{AnswersDue, IsDue, Refuses}
+use Rattle.run_parts.specs.Run.{AreCallsTo}
+use Rattle.run_parts.specs.declared.fault.Fault.TheVariants as fault
 use Rattle.edit_commands.specs.inner.EditParts.{edit_status}
-use Rattle.edit_commands.specs.inner.Parts.{store_calls}
+use Rattle.run_parts.specs.Parts.{store_calls}
 use Rattle.command_words.proofs.AskedLaws.{edit_of}
-use Rattle.edit_commands.proofs.CallLaws.{all-calls, behind-calls, less-calls, of-stores, records-calls, rules-calls, then-calls}
+use Rattle.run_parts.proofs.CallLaws.{all-calls, behind-calls, less-calls, of-stores, records-calls, rules-calls, then-calls}
 use Rattle.edit_commands.proofs.EndLaws.{made, stores-leave}
 use Rattle.edit_commands.proofs.InputLaws.{read-due, records-due, stores-refuse}
-use Rattle.edit_commands.proofs.StoreLaws.{all-written}
-use Rattle.edit_commands.proofs.ToldLaws.{both-told, each-told, from-told, handed}
+use Rattle.edit_commands.proofs.WrittenLaws.{all-written}
+use Rattle.run_parts.proofs.ToldLaws.{both-told, each-told, from-told, handed}
 use Rattle.edit_commands.proofs.edit_run.edit.Goals as goal
 
 -- what these words ask for

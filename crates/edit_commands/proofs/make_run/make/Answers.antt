@@ -2,10 +2,10 @@ use Rattle.std.proofs.Common.{[], append-nil, refl, subst, sym}
 use Rattle.edit_desk.specs.Desk.{PutsOnRecord, Told}
 use Rattle.command_words.specs.Asked.{MakeAsked}
 use Rattle.edit_commands.specs.MakeRun.{AreMade, make_calls, make_files}
-use Rattle.edit_commands.specs.Run.{AreCallsTo, LeavesOf}
+use Rattle.run_parts.specs.Run.{AreCallsTo, LeavesOf}
 use Rattle.command_words.proofs.AskedLaws.{make_of}
 use Rattle.edit_commands.proofs.MakeLaws.{all-made}
-use Rattle.edit_commands.proofs.ToldLaws.{handed, less-told}
+use Rattle.run_parts.proofs.ToldLaws.{handed, less-told}
 use Rattle.edit_commands.proofs.WordLaws.{told-same}
 use Rattle.edit_commands.proofs.make_run.make.Goals as goal
 

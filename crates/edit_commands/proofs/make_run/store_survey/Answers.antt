@@ -1,8 +1,8 @@
 use Rattle.std.proofs.Common.{[], ◌∷◌, List}
 use Rattle.edit_desk.specs.Desk.{Asked, stored}
-use Rattle.edit_commands.proofs.CallLaws.{calls-between, calls-then, less-calls, of-stores}
-use Rattle.edit_commands.proofs.StoreLaws.{Texts, stores-first, stores-then}
-use Rattle.edit_commands.proofs.ToldLaws.{handed}
+use Rattle.run_parts.proofs.CallLaws.{calls-between, calls-then, less-calls, of-stores}
+use Rattle.run_parts.proofs.StoreLaws.{Texts, stores-first, stores-then}
+use Rattle.run_parts.proofs.ToldLaws.{handed}
 use Rattle.edit_commands.proofs.make_run.store_survey.Goals as goal
 
 pub returns-in_err-store_file-clause-files : goal.returns-in_err-store_file-clause-files

@@ -1,15 +1,15 @@
 use Rattle.std.proofs.Common.{IfSome, subst}
 use Rattle.edit_desk.specs.Desk.{PutsOnRecord}
 use Rattle.command_words.specs.Asked.{RulesAsked}
-use Rattle.edit_commands.specs.Readings.{AnswersDue, IsRulesDue}
-use Rattle.edit_commands.specs.Run.{AreCallsTo}
+use Rattle.run_parts.specs.Readings.{AnswersDue, IsRulesDue}
+use Rattle.run_parts.specs.Run.{AreCallsTo}
 use Rattle.edit_commands.specs.RulesRun.{rules_calls}
-use Rattle.edit_commands.specs.declared.fault.Fault.TheVariants as fault
-use Rattle.edit_commands.specs.declared.status.Status.TheVariants as status
+use Rattle.run_parts.specs.declared.fault.Fault.TheVariants as fault
+use Rattle.run_parts.specs.declared.status.Status.TheVariants as status
 use Rattle.command_words.proofs.AskedLaws.{rules_of}
-use Rattle.edit_commands.proofs.CallLaws.{less-calls}
+use Rattle.run_parts.proofs.CallLaws.{less-calls}
 use Rattle.edit_commands.proofs.RulesLaws.{read-rules-due}
-use Rattle.edit_commands.proofs.ToldLaws.{each-told}
+use Rattle.run_parts.proofs.ToldLaws.{each-told}
 use Rattle.edit_commands.proofs.rules_run.rules.Goals as goal
 
 pub returns-in_default-clause-asked : goal.returns-in_default-clause-asked

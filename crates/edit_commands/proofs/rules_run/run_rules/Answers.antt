@@ -1,8 +1,8 @@
 use Rattle.std.proofs.Common.{◌∙◌, inl, refl}
-use Rattle.edit_commands.specs.Run.{LeavesAll}
-use Rattle.edit_commands.specs.inner.Parts.{texts_in}
+use Rattle.run_parts.specs.Run.{LeavesAll}
+use Rattle.run_parts.specs.Parts.{texts_in}
 use Rattle.edit_commands.proofs.RunLaws.{ruled-by, rules-refused, unruled-by}
-use Rattle.edit_commands.proofs.ToldLaws.{same-told}
+use Rattle.run_parts.proofs.ToldLaws.{same-told}
 use Rattle.edit_commands.proofs.rules_run.run_rules.Goals as goal
 
 pub returns-in-Ok-clause-ruled : goal.returns-in-Ok-clause-ruled

@@ -3,8 +3,8 @@ use Rattle.edit_commands.specs.CheckRun.{check_refusals}
 use Rattle.edit_commands.specs.EditRun.{edit_refusals}
 use Rattle.edit_commands.specs.MakeRun.{make_refusals}
 use Rattle.edit_commands.specs.RulesRun.{rules_refusals}
-use Rattle.edit_commands.specs.Run.{word_refusals}
-use Rattle.edit_commands.specs.declared.fault.Fault.TheVariants as fault
+use Rattle.run_parts.specs.Run.{word_refusals}
+use Rattle.run_parts.specs.declared.fault.Fault.TheVariants as fault
 use Rattle.edit_commands.proofs.WordLaws.{untouched-refused}
 use Rattle.edit_commands.proofs.run.fh_main.Goals as goal
 

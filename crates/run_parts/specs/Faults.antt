@@ -1,0 +1,85 @@
+-- Why a run is refused: what each refusal ends it with, what is printed of it, and what each error of a call below is refused as.
+use Rattle.std.specs.Prelude.{⊤, ℕ, ◌+◌, ◌++◌, List, codes}
+use Rattle.std.specs.Fmt.{decimal}
+use Rattle.edit_report.specs.Reasons.{name_of}
+use Rattle.edit_language.specs.Faults.{kind_name, kind_number}
+use Rattle.edit_language.specs.declared.fault.RulesFault.TheVariants as rules
+use Rattle.edit_model.specs.declared.field.Field.{Field}
+use Rattle.record_text.specs.declared.fault.SheetFault.{SheetFault}
+use Rattle.record_text.specs.declared.fault.SheetFault.TheVariants as sheet
+use Rattle.cert_check.specs.Texts.{why_text}
+use Rattle.cert_check.specs.declared.fault.CheckFault.TheVariants as check
+use Rattle.run_parts.specs.declared.fault.Fault.{Fault}
+use Rattle.run_parts.specs.declared.fault.Fault.TheVariants.{Usage, Rules, Records, Read, Write, TooLong, Rejected, OutOfMemory}
+use Rattle.run_parts.specs.declared.fault.RecordsFault.{RecordsFault}
+use Rattle.run_parts.specs.declared.fault.RecordsFault.TheVariants as records
+use Rattle.run_parts.specs.declared.status.Status.{Status}
+use Rattle.run_parts.specs.declared.status.Status.TheVariants as status
+
+-- the status of a run that is refused
+abbrev pub fault_status : Fault → Status
+fault_status Usage = status.Usage
+fault_status (Rules line kind) = status.Rules
+fault_status (Records fault) = status.Records
+fault_status (Read name) = status.ReadFault
+fault_status (Write name) = status.WriteFault
+fault_status (TooLong name) = status.TooLong
+fault_status (Rejected line why) = status.Rejected
+fault_status OutOfMemory = status.OutOfMemory
+
+-- what is wrong with the records: the kind's number and name, and the field by its name, or the row, counted from 1
+abbrev pub records_fault_text : RecordsFault → List ℕ
+records_fault_text records.NoHeader = codes "kind 11 NoHeader"
+records_fault_text (records.NoColumn field) = codes "kind 12 NoColumn field " ++ field
+records_fault_text (records.DoubleColumn field) = codes "kind 13 DoubleColumn field " ++ field
+records_fault_text (records.RowLength row_no) = codes "kind 14 RowLength row " ++ decimal (row_no + 1)
+records_fault_text records.TooManyRows = codes "kind 15 TooManyRows"
+records_fault_text records.TooManyColumns = codes "kind 16 TooManyColumns"
+
+-- the line that is printed of a run that is refused, without its line feed; lines of a file are counted from 1
+abbrev pub fault_text : Fault → List ℕ
+fault_text Usage = codes "fault: usage"
+fault_text (Rules line kind) =
+    codes "fault: rules line " ++ decimal line ++ codes " kind " ++ decimal (kind_number kind) ++ codes " " ++ kind_name kind
+fault_text (Records fault) = codes "fault: records " ++ records_fault_text fault
+fault_text (Read name) = codes "fault: read " ++ name
+fault_text (Write name) = codes "fault: write " ++ name
+fault_text (TooLong name) = codes "fault: too long " ++ name
+fault_text (Rejected line why) = codes "fault: proof line " ++ (decimal line ++ (codes " " ++ why_text why))
+fault_text OutOfMemory = codes "fault: out of memory"
+
+-- a fault that an edit may be refused for
+abbrev pub IsOfEdit : Fault → Type 0
+IsOfEdit Usage = ⊥
+IsOfEdit (Rejected line why) = ⊥
+IsOfEdit fault = ⊤
+
+-- a fault that a check may be refused for: it writes nothing
+abbrev pub IsOfCheck : Fault → Type 0
+IsOfCheck Usage = ⊥
+IsOfCheck (Write name) = ⊥
+IsOfCheck fault = ⊤
+
+-- a fault that the command `rules` may be refused for: it fetches the rules, and nothing else
+abbrev pub IsOfRulesCommand : Fault → Type 0
+IsOfRulesCommand (Rules line kind) = ⊤
+IsOfRulesCommand (Read name) = ⊤
+IsOfRulesCommand (TooLong name) = ⊤
+IsOfRulesCommand OutOfMemory = ⊤
+IsOfRulesCommand fault = ⊥
+
+-- a fault that stores may meet, and the command `make` may be refused for: it reads no file
+abbrev pub IsOfStores : Fault → Type 0
+IsOfStores (Write name) = ⊤
+IsOfStores OutOfMemory = ⊤
+IsOfStores fault = ⊥
+
+-- the refusal for records of these fields that were not read
+abbrev pub sheet_refusal : List Field → SheetFault → Fault
+sheet_refusal fields sheet.NoHeader = Records records.NoHeader
+sheet_refusal fields sheet.TooManyColumns = Records records.TooManyColumns
+sheet_refusal fields (sheet.NoColumn number) = Records (records.NoColumn (name_of fields number))
+sheet_refusal fields (sheet.DoubleColumn number) = Records (records.DoubleColumn (name_of fields number))
+sheet_refusal fields sheet.TooManyRows = Records records.TooManyRows
+sheet_refusal fields (sheet.RowLength row_no) = Records (records.RowLength row_no)
+sheet_refusal fields sheet.OutOfMemory = OutOfMemory

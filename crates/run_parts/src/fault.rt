@@ -1,0 +1,233 @@
+ghost use Rattle.std.specs.Prelude.{◌≡◌, ◌<◌, ◌++◌, IfOk, length};
+ghost use Rattle.run_parts.specs.Refused.{IsOfFields, check_fault, rules_fault};
+ghost use Rattle.edit_report.specs.Reasons.{name_of};
+ghost use Rattle.run_parts.specs.declared.fault.Fault.TheVariants as faults;
+ghost use Rattle.run_parts.specs.Faults.{fault_status, fault_text, sheet_refusal};
+
+use crate::status::Status;
+use cert_check::{CheckFault, Why};
+use edit_language::{RulesFault, RulesKind};
+use edit_model::{Field, Name};
+use foundation::OutOfMemory;
+use record_text::SheetFault;
+use std::alloc::Global;
+use std::marker::Model;
+
+/// What is printed where the words are no command. It takes no memory.
+pub const USAGE: &[u8] = b"fault: usage";
+
+/// What is printed where memory was refused. It takes none.
+pub const OUT_OF_MEMORY: &[u8] = b"fault: out of memory";
+
+/// The name of a file, as the command line gives it.
+#[derive(Debug, Drop)]
+pub struct FileName<'a> {
+    text: &'a str,
+}
+
+impl<'a> Model for FileName<'a> {
+    ghost use Rattle.std.specs.Prelude.{ℕ, List};
+
+    ghost Value = { List ℕ };
+
+    ghost view = { λ n. n.text.now };
+}
+
+impl<'a> FileName<'a> {
+    /// The name of this text. No memory.
+    pub fn new(text: &'a str) -> Self
+        ensures { result ≡ text.now }
+    {
+        FileName { text }
+    }
+
+    /// The text. No memory.
+    pub fn as_bytes(&self) -> &[u8]
+        ensures { result.now ≡ self.now }
+    {
+        self.text.as_bytes()
+    }
+}
+
+/// Why the record file has no reading.
+#[derive(Debug, Drop)]
+pub enum RecordsFault {
+    /// There is no record at all.
+    NoHeader,
+    /// The field of this name stands in no column.
+    NoColumn { field: Name },
+    /// The field of this name stands in several columns.
+    DoubleColumn { field: Name },
+    /// The row of this number, from 0, has another number of fields than the header.
+    RowLength { row_no: u32 },
+    /// There are too many rows.
+    TooManyRows,
+    /// The header has too many columns.
+    TooManyColumns,
+}
+
+/// Why a run ended before all was done.
+#[derive(Debug, Drop)]
+pub enum Fault<'a> {
+    /// The words are no command.
+    Usage,
+    /// The rule file has no reading: its first faulty line, from 1, and the least kind of fault of that line.
+    Rules { line: u32, kind: RulesKind },
+    /// The record file has no reading.
+    Records { fault: RecordsFault },
+    /// The file could not be read.
+    Read { name: FileName<'a> },
+    /// The file could not be written.
+    Write { name: FileName<'a> },
+    /// The file has more bytes than its limit.
+    TooLong { name: FileName<'a> },
+    /// The files are no valid release: the line of the proof, from 1 or 0 for none, and which condition fails.
+    Rejected { line: u64, why: Why },
+    /// Memory was refused.
+    OutOfMemory,
+}
+
+impl<'a> Fault<'a> {
+    /// The refusal for records of these fields that were not read.
+    pub fn of_records(fields: &[Field], fault: SheetFault) -> Self
+        requires { IsOfFields fields.now fault }
+        ensures { result ≡ sheet_refusal fields.now fault }
+    {
+        let fault = match fault {
+            SheetFault::NoHeader => RecordsFault::NoHeader,
+            SheetFault::TooManyColumns => RecordsFault::TooManyColumns,
+            SheetFault::NoColumn { field } => RecordsFault::NoColumn {
+                field: name_of(fields, field),
+            },
+            SheetFault::DoubleColumn { field } => RecordsFault::DoubleColumn {
+                field: name_of(fields, field),
+            },
+            SheetFault::TooManyRows => RecordsFault::TooManyRows,
+            SheetFault::RowLength { row_no } => RecordsFault::RowLength { row_no },
+            SheetFault::OutOfMemory => return Fault::OutOfMemory,
+        };
+        Fault::Records { fault }
+    }
+
+    /// How a run that is refused ends.
+    pub fn status(&self) -> Status
+        ensures { result ≡ fault_status self.now }
+    {
+        match self {
+            Fault::Usage => Status::Usage,
+            Fault::Rules { .. } => Status::Rules,
+            Fault::Records { .. } => Status::Records,
+            Fault::Read { .. } => Status::ReadFault,
+            Fault::Write { .. } => Status::WriteFault,
+            Fault::TooLong { .. } => Status::TooLong,
+            Fault::Rejected { .. } => Status::Rejected,
+            Fault::OutOfMemory => Status::OutOfMemory,
+        }
+    }
+
+    /// The line that is printed of a run that is refused, without its line feed.
+    pub fn line(&self, alloc: Global) -> Result<Vec<u8>, OutOfMemory>
+        ensures { IfOk result (λ line. line.items ≡ fault_text self.now) }
+    {
+        match self {
+            Fault::Usage => Ok(USAGE.to_vec(alloc)?),
+            Fault::Rules { line, kind } => rules_line(alloc, *line, *kind),
+            Fault::Records { fault } => fault.line(alloc),
+            Fault::Read { name } => joined(alloc, b"fault: read ", name.as_bytes()),
+            Fault::Write { name } => joined(alloc, b"fault: write ", name.as_bytes()),
+            Fault::TooLong { name } => joined(alloc, b"fault: too long ", name.as_bytes()),
+            Fault::Rejected { line, why } => rejected_line(alloc, *line, *why),
+            Fault::OutOfMemory => Ok(OUT_OF_MEMORY.to_vec(alloc)?),
+        }
+    }
+}
+
+impl From<RulesFault> for Fault<'_> {
+    ghost use Rattle.std.specs.Prelude.{◌≡◌};
+
+    ghost from_gives = { λ error fault. fault ≡ rules_fault error };
+
+    fn from(error: RulesFault) -> Self {
+        match error {
+            RulesFault::At { line, kind } => Fault::Rules { line, kind },
+            RulesFault::OutOfMemory => Fault::OutOfMemory,
+        }
+    }
+}
+
+impl From<CheckFault> for Fault<'_> {
+    ghost use Rattle.std.specs.Prelude.{◌≡◌};
+
+    ghost from_gives = { λ error fault. fault ≡ check_fault error };
+
+    fn from(error: CheckFault) -> Self {
+        match error {
+            CheckFault::Rejected { line, why } => Fault::Rejected { line, why },
+            CheckFault::OutOfMemory => Fault::OutOfMemory,
+        }
+    }
+}
+
+impl RecordsFault {
+    // The line that is printed of a record file without a reading.
+    fn line(&self, alloc: Global) -> Result<Vec<u8>, OutOfMemory>
+        ensures { IfOk result (λ line. line.items ≡ fault_text (faults.Records self.now)) }
+    {
+        match self {
+            RecordsFault::NoHeader => Ok(b"fault: records kind 11 NoHeader".to_vec(alloc)?),
+            RecordsFault::NoColumn { field } => joined(
+                alloc,
+                b"fault: records kind 12 NoColumn field ",
+                field.as_bytes(),
+            ),
+            RecordsFault::DoubleColumn { field } => joined(
+                alloc,
+                b"fault: records kind 13 DoubleColumn field ",
+                field.as_bytes(),
+            ),
+            RecordsFault::RowLength { row_no } => {
+                let number = u64::from(*row_no) + 1;
+                Ok(format!(in alloc; "fault: records kind 14 RowLength row {number}")?.into_bytes())
+            }
+            RecordsFault::TooManyRows => Ok(b"fault: records kind 15 TooManyRows".to_vec(alloc)?),
+            RecordsFault::TooManyColumns => Ok(b"fault: records kind 16 TooManyColumns".to_vec(
+                alloc,
+            )?),
+        }
+    }
+}
+
+// The line that is printed of a rule file without a reading.
+fn rules_line(alloc: Global, line: u32, kind: RulesKind) -> Result<Vec<u8>, OutOfMemory>
+    ensures { IfOk result (λ text. text.items ≡ fault_text (faults.Rules line kind)) }
+{
+    let fault = RulesFault::At { line, kind };
+    Ok(format!(in alloc; "fault: rules {fault}")?.into_bytes())
+}
+
+// The line that is printed of files that are no valid release.
+fn rejected_line(alloc: Global, line: u64, why: Why) -> Result<Vec<u8>, OutOfMemory>
+    ensures { IfOk result (λ text. text.items ≡ fault_text (faults.Rejected line why)) }
+{
+    Ok(format!(in alloc; "fault: proof line {line} {why}")?.into_bytes())
+}
+
+// A copy of the name of the field of this number, from 0.
+fn name_of(fields: &[Field], number: u32) -> Name
+    requires { number < length fields.now }
+    ensures { result ≡ name_of fields.now number }
+{
+    let Some(name) = Name::new(fields[number as usize].name.as_bytes()) else {
+        unreachable!()
+    };
+    name
+}
+
+// The two texts, one after the other.
+fn joined(alloc: Global, first: &[u8], second: &[u8]) -> Result<Vec<u8>, OutOfMemory>
+    ensures { IfOk result (λ all. all.items ≡ first.now ++ second.now) }
+{
+    let mut all = first.to_vec(alloc)?;
+    all.extend_from_slice(second)?;
+    Ok(all)
+}

@@ -1,0 +1,18 @@
+//! What the runs of all commands share: how they end, why they are refused and what is printed of that; files that are
+//! fetched and read, and files that are stored; lines that are printed. A run is over any desk and any printer: what is
+//! seen of them, and what a refused run leaves, is defined in `specs/Run.antt`.
+#![tactic(auto)]
+
+mod fault;
+mod reading;
+mod refusal;
+mod status;
+mod storing;
+mod telling;
+
+pub use fault::{Fault, FileName, OUT_OF_MEMORY, RecordsFault, USAGE};
+pub use reading::{MOST_BYTES, MOST_PROOF_BYTES, fetch_file, fetch_sheet, fetch_survey};
+pub use refusal::Refusal;
+pub use status::Status;
+pub use storing::store_file;
+pub use telling::{refuse, refuse_words, tell, tell_all};

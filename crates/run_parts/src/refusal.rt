@@ -1,0 +1,80 @@
+ghost use Rattle.std.specs.Prelude.{◌≡◌, ◌⊎◌, IfOk};
+ghost use Rattle.run_parts.specs.Faults.{fault_status, fault_text};
+ghost use Rattle.run_parts.specs.declared.fault.Fault.TheVariants as faults;
+
+use crate::fault::{Fault, OUT_OF_MEMORY};
+use crate::status::Status;
+use foundation::OutOfMemory;
+use std::alloc::Global;
+use std::marker::Model;
+
+/// A fault that ends a run, with the line that is printed of it. The line is made before the call that may meet
+/// the fault, so that a file that could not be read or written is told without memory.
+#[derive(Debug, Drop)]
+pub struct Refusal<'a> {
+    fault: Fault<'a>,
+    line: Option<Vec<u8>>,
+}
+
+impl<'a> Model for Refusal<'a> {
+    ghost use Rattle.std.specs.Prelude.{◌≡◌, IfNone, IfSome};
+    ghost use Rattle.run_parts.specs.Faults.{fault_text};
+    ghost use Rattle.run_parts.specs.declared.fault.Fault.{Fault as Told};
+    ghost use Rattle.run_parts.specs.declared.fault.Fault.TheVariants as faults;
+
+    ghost Value = { Told };
+
+    ghost view = { λ r. r.fault };
+
+    ghost invariant = { λ r. IfSome r.line (λ line. line.items ≡ fault_text r.fault) × IfNone r.line (r.fault ≡ faults.OutOfMemory) };
+}
+
+impl<'a> Refusal<'a> {
+    /// The refusal for a fault.
+    pub fn new(alloc: Global, fault: Fault<'a>) -> Result<Refusal<'a>, OutOfMemory>
+        ensures { IfOk result (λ refusal. refusal ≡ fault.entry) }
+    {
+        let line = fault.line(alloc)?;
+        Ok(Refusal {
+            fault,
+            line: Some(line),
+        })
+    }
+
+    /// The refusal for a fault, or for want of memory.
+    pub fn of(alloc: Global, fault: Fault<'a>) -> Refusal<'a>
+        ensures { (result ≡ fault.entry) ⊎ (result ≡ faults.OutOfMemory) }
+    {
+        match Refusal::new(alloc, fault) {
+            Ok(refusal) => refusal,
+            Err(OutOfMemory) => Refusal::out_of_memory(),
+        }
+    }
+
+    /// The refusal for want of memory. No memory.
+    pub fn out_of_memory() -> Refusal<'a>
+        ensures { result ≡ faults.OutOfMemory }
+    {
+        Refusal {
+            fault: Fault::OutOfMemory,
+            line: None,
+        }
+    }
+
+    /// How the run ends. No memory.
+    pub fn status(&self) -> Status
+        ensures { result ≡ fault_status self.now }
+    {
+        self.fault.status()
+    }
+
+    /// What is printed of it. No memory.
+    pub fn line(&self) -> &[u8]
+        ensures { result.now ≡ fault_text self.now }
+    {
+        match &self.line {
+            Some(line) => line.as_slice(),
+            None => OUT_OF_MEMORY,
+        }
+    }
+}
