@@ -41,3 +41,13 @@ A record file has at most 200,000 records. One with a record more has no reading
   longest
   records
   rules
+
+200,000 records are read: all are clean.
+
+  $ yes 1 | head -n 200001 >records
+  $ sed -i -e '1c\A' records
+  $ forxainde edit --rules rules --records records --released released --reasons reasons --proof proof
+  records 200000 clean 200000 changed 0 unresolved 0 weight 0
+  claims 0 given 0
+  $ cat reasons
+  record,cause,field,before,after,donor,detail
