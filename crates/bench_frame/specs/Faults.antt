@@ -1,4 +1,6 @@
 use Rattle.std.specs.Prelude.{ℕ, List, codes}
+use Rattle.edit_desk.specs.declared.words.WordsFault.{WordsFault}
+use Rattle.edit_desk.specs.declared.words.WordsFault.TheVariants as words
 use Rattle.bench_frame.specs.declared.fault.Fault.{Fault}
 use Rattle.bench_frame.specs.declared.fault.Fault.TheVariants.{FileUnread, OutOfMemory, Overflow, Records, Rules, Unread, Usage}
 
@@ -23,3 +25,8 @@ text_of usage Overflow = codes "a number of a combination is out of range"
 text_of usage FileUnread = codes "the file could not be read"
 text_of usage Unread = codes "a file could not be read"
 text_of usage OutOfMemory = codes "out of memory"
+
+-- the fault of a bench that has no words: words that are no texts are not in form
+abbrev pub fault_of : WordsFault → Fault
+fault_of words.NotText = Usage
+fault_of words.OutOfMemory = OutOfMemory

@@ -1,6 +1,7 @@
 ghost use Rattle.std.specs.Prelude.{◌≡◌};
 ghost use Rattle.bench_frame.specs.Faults.{status_of, text_of};
 
+use edit_desk::WordsFault;
 use foundation::OutOfMemory;
 use std::alloc::{AllocError, AllocFailed};
 
@@ -49,6 +50,20 @@ impl Fault {
             Fault::FileUnread => "the file could not be read",
             Fault::Unread => "a file could not be read",
             Fault::OutOfMemory => "out of memory",
+        }
+    }
+}
+
+impl From<WordsFault> for Fault {
+    ghost use Rattle.std.specs.Prelude.{◌≡◌};
+    ghost use Rattle.bench_frame.specs.Faults.{fault_of};
+
+    ghost from_gives = { λ cause fault. fault ≡ fault_of cause };
+
+    fn from(cause: WordsFault) -> Self {
+        match cause {
+            WordsFault::NotText => Fault::Usage,
+            WordsFault::OutOfMemory => Fault::OutOfMemory,
         }
     }
 }

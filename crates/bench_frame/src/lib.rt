@@ -8,4 +8,4 @@ mod words;
 
 pub use fault::Fault;
 pub use leaving::{Ending, ending_of, leave};
-pub use words::{after_program_name, number_in, words_of};
+pub use words::{after_program_name, number_in};

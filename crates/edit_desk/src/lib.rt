@@ -1,5 +1,5 @@
 //! Where files come from and go to, and where lines are printed: a trait for each, one of each in memory,
-//! and those of the system. Begin with [`Desk`] and [`Printer`].
+//! and those of the system; and the words that the system hands to a program. Begin with [`Desk`] and [`Printer`].
 #![tactic(auto)]
 
 mod calls;
@@ -11,6 +11,7 @@ mod printer;
 mod standard_output;
 #[cfg(test)]
 mod tests;
+mod words;
 mod writing;
 
 pub use calls::{Desk, FetchError, StoreError};
@@ -19,3 +20,4 @@ pub use memory::{Call, Failure, MemoryDesk};
 pub use page::MemoryPrinter;
 pub use printer::{PrintFailed, Printer};
 pub use standard_output::OutPrinter;
+pub use words::{WordsFault, after_program_name, words_of};
