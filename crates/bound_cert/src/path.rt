@@ -1,4 +1,5 @@
 ghost use Rattle.std.specs.Prelude.{◌≡◌, ◌≤◌, ◌++◌, OnOk, length, map};
+ghost use Rattle.std.specs.Io.{StartsWith};
 ghost use Rattle.edit_model.specs.Rows.{IsRow};
 ghost use Rattle.derivation.specs.Premises.{HasKept};
 ghost use Rattle.bound_cert.specs.Paths.{keeps_bad, kept_set, letter, path_text, path_weight};
@@ -65,9 +66,11 @@ impl Path {
         kept_set(survey, row, self.letters())
     }
 
-    /// Appends its letters, K for a kept field and C for a changed one, or `-` where it has none.
+    /// Appends its letters, K for a kept field and C for a changed one, or `-` where it has none. Where memory is refused,
+    /// some may stand behind what stood before.
     pub fn write(&self, text: &mut Vec<u8>) -> Result<(), OutOfMemory>
-        ensures { OnOk result (text.new.items ≡ text.old.items ++ path_text self.now) }
+        ensures text { OnOk result (text.new.items ≡ text.old.items ++ path_text self.now) }
+        ensures begins { StartsWith text.new.items text.old.items }
     {
         if self.letters().is_empty() {
             text.push(b'-')?;
@@ -79,7 +82,8 @@ impl Path {
 
 // Appends the letters.
 fn write_letters(text: &mut Vec<u8>, letters: &[bool]) -> Result<(), OutOfMemory>
-    ensures { OnOk result (text.new.items ≡ text.old.items ++ map letter letters.now) }
+    ensures text { OnOk result (text.new.items ≡ text.old.items ++ map letter letters.now) }
+    ensures begins { StartsWith text.new.items text.old.items }
 {
     for changed in letters {
         text.push(letter(*changed))?;
