@@ -1,6 +1,7 @@
 //! The lines of steps.
 ghost use Rattle.std.specs.Prelude.{◌≡◌, ◌∷◌, ◌++◌, [], Some, codes, length, map, OnOk};
 ghost use Rattle.std.specs.Fmt.{decimal, signed_decimal};
+ghost use Rattle.std.specs.Io.{StartsWith};
 ghost use Rattle.derivation.specs.declared.step.Step.TheVariants as step;
 ghost use Rattle.bound_cert.specs.Paths.{named};
 ghost use Rattle.proof_grammar.specs.Limits.{IsLong};
@@ -68,10 +69,12 @@ fn write_given(text: &mut Vec<u8>, count: u64, place: u64) -> Result<(), OutOfMe
     Ok(())
 }
 
-/// Appends the words of a step, as in a proof file without a table.
+/// Appends the words of a step, as in a proof file without a table. Where memory is refused, some may stand
+/// behind what stood before.
 pub fn write_step(text: &mut Vec<u8>, step: &Step) -> Result<(), OutOfMemory>
     ensures text { OnOk result (text.new.items ≡ text.old.items ++ words_text (step_line step.now)) }
     ensures sized { OnOk result (IsSizedStep step.now) }
+    ensures begins { StartsWith text.new.items text.old.items }
 {
     match step {
         Step::Given(place) => {
@@ -96,6 +99,7 @@ pub fn write_step(text: &mut Vec<u8>, step: &Step) -> Result<(), OutOfMemory>
 fn write_cover(text: &mut Vec<u8>, field: u32, parts: &[u64]) -> Result<(), OutOfMemory>
     ensures text { OnOk result (text.new.items ≡ text.old.items ++ words_text (codes "cover" ∷ named field ∷ map named parts.now)) }
     ensures sized { OnOk result (IsSizedStep (step.Cover field parts.now)) }
+    ensures begins { StartsWith text.new.items text.old.items }
 {
     text.extend_from_slice(b"cover")?;
     write_named(text, field as u64)?;
@@ -114,6 +118,7 @@ fn write_combine(
 ) -> Result<(), OutOfMemory>
     ensures text { OnOk result (text.new.items ≡ text.old.items ++ words_text (combine_line a m b n g)) }
     ensures sized { OnOk result (IsSizedStep (step.Combine a m b n g)) }
+    ensures begins { StartsWith text.new.items text.old.items }
 {
     text.extend_from_slice(b"combine")?;
     write_multiple(text, a, m)?;
@@ -126,6 +131,7 @@ fn write_combine(
 fn write_multiple(text: &mut Vec<u8>, place: u64, factor: i128) -> Result<(), OutOfMemory>
     ensures text { OnOk result (text.new.items ≡ text.old.items ++ (32 ∷ named place) ++ (32 ∷ signed_decimal factor)) }
     ensures sized { OnOk result (IsLong place × IsWide factor) }
+    ensures begins { StartsWith text.new.items text.old.items }
 {
     write_named(text, place)?;
     write_signed(text, factor)

@@ -1,6 +1,7 @@
 //! Words, each behind a space.
 ghost use Rattle.std.specs.Prelude.{◌≡◌, ◌∷◌, ◌++◌, [], IfSome, OnOk};
 ghost use Rattle.std.specs.Fmt.{decimal, signed_decimal};
+ghost use Rattle.std.specs.Io.{StartsWith};
 ghost use Rattle.std.specs.List.{AllByRecursion, flat_map};
 ghost use Rattle.bound_cert.specs.Paths.{named, path_text};
 ghost use Rattle.proof_grammar.specs.Limits.{IsLong, IsPlace, IsShort};
@@ -27,6 +28,7 @@ pub(super) fn write_number(text: &mut Vec<u8>, number: u64) -> Result<(), OutOfM
 pub(super) fn write_signed(text: &mut Vec<u8>, number: i128) -> Result<(), OutOfMemory>
     ensures text { OnOk result (text.new.items ≡ text.old.items ++ 32 ∷ signed_decimal number) }
     ensures sized { OnOk result (IsWide number) }
+    ensures begins { StartsWith text.new.items text.old.items }
 {
     let mut buffer = Buffer::new();
     text.push(b' ')?;
@@ -48,6 +50,7 @@ pub(super) fn write_count(text: &mut Vec<u8>, count: usize) -> Result<(), OutOfM
 pub(super) fn write_named(text: &mut Vec<u8>, number: u64) -> Result<(), OutOfMemory>
     ensures text { OnOk result (text.new.items ≡ text.old.items ++ 32 ∷ named number) }
     ensures sized { OnOk result (IsLong number) }
+    ensures begins { StartsWith text.new.items text.old.items }
 {
     let mut buffer = Buffer::new();
     text.push(b' ')?;
@@ -73,6 +76,7 @@ pub(super) fn write_named_or_0(text: &mut Vec<u8>, number: Option<u32>) -> Resul
 pub(super) fn write_all_named(text: &mut Vec<u8>, numbers: &[u64]) -> Result<(), OutOfMemory>
     ensures text { OnOk result (text.new.items ≡ text.old.items ++ flat_map (λ n. 32 ∷ named n) numbers.now) }
     ensures sized { OnOk result (AllByRecursion IsLong numbers.now) }
+    ensures begins { StartsWith text.new.items text.old.items }
 {
     for number in numbers {
         write_named(text, *number)?;
