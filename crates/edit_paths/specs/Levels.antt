@@ -1,4 +1,5 @@
 use Rattle.std.specs.Prelude.{List, [], ◌∷◌, map}
+use Rattle.std.specs.Arc.{arc_value}
 use Rattle.std.specs.List.{fold}
 use Rattle.edit_line.specs.declared.derived.Derived.{Derived}
 use Rattle.linear_elim.specs.Helds.{system_held}
@@ -12,8 +13,8 @@ use Rattle.edit_paths.specs.declared.making.Making.{Making}
 
 -- how the elements of the list were made
 abbrev pub makings_of : Level → List Making
-makings_of (Lines held) = map (λ (d : Derived). line_by d.origin) (system_held held).lines
-makings_of (Boxes field boxes) = map (λ (b : BoxFrom). box_by field b.origin) boxes
+makings_of (Lines held) = map (λ (d : Derived). line_by d.origin) (system_held (arc_value held)).lines
+makings_of (Boxes field boxes) = map (λ (b : BoxFrom). box_by field b.origin) (arc_value boxes)
 
 -- the history of the lists, each derived from the one before it
 abbrev pub history_of : List Level → History

@@ -11,16 +11,17 @@ use edit_line::Origin;
 use foundation::{OutOfMemory, Sequence};
 use linear_elim::Held;
 use std::alloc::Global;
+use std::sync::Arc;
 
-/// A list of lines or boxes that was derived from the list before it.
+/// A list of lines or boxes that was derived from the list before it. It is shared with who made it.
 #[derive(Drop)]
 pub enum Level {
     /// The lines of a system.
-    Lines(Held),
+    Lines(Arc<Held>),
     /// The boxes after this field was treated, or, with field 0, those of the lines that fail.
     Boxes {
         field: u32,
-        boxes: Sequence<BoxFrom>,
+        boxes: Arc<Sequence<BoxFrom>>,
     },
 }
 

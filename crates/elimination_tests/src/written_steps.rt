@@ -82,7 +82,7 @@ fn boxes(alloc: Global, survey: &Survey, field: u32, origins: Vec<BoxOrigin>) ->
     }
     Ok(Level::Boxes {
         field,
-        boxes: Sequence::from_vec(boxes),
+        boxes: Arc::new(alloc, Sequence::from_vec(boxes))?,
     })
 }
 
@@ -96,7 +96,7 @@ fn levels(alloc: Global, survey: &Survey) -> Result<Vec<Level>, Fail>
     let cover = vec![in alloc; BoxOrigin::Fixed(0), BoxOrigin::Cover(parts)]?;
     let unchanged = vec![in alloc; BoxOrigin::Unchanged(1)]?;
     Ok(vec![in alloc;
-        Level::Lines(given),
+        Level::Lines(Arc::new(alloc, given)?),
         boxes(alloc, survey, 0, failing)?,
         boxes(alloc, survey, 1, cover)?,
         boxes(alloc, survey, 2, unchanged)?,

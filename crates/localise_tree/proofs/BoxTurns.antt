@@ -1,4 +1,4 @@
-use Rattle.std.proofs.Common.{◌≡◌, ◌++◌, ◌-◌, ℕ, ◌<◌, ◌≤◌, Bool, false, List, [], ◌∷◌, length, slice_index_or, refl, sym, ap, subst, ◌∙◌, inl, arith}
+use Rattle.std.proofs.Common.{◌≡◌, ◌++◌, ◌-◌, ℕ, ◌<◌, ◌≤◌, Bool, false, List, [], ◌∷◌, length, map, slice_index_or, refl, sym, ap, subst, ◌∙◌, inl, arith}
 use Rattle.std.proofs.lemmas.List.{length-take-le}
 use Rattle.std.proofs.lemmas.List.Sums.{fold-append}
 use Rattle.edit_model.specs.Corrections.{path_order}
@@ -7,17 +7,15 @@ use Rattle.edit_line.specs.CodeFields.{TakesCodes}
 use Rattle.edit_line.specs.Reductions.{IsIn}
 use Rattle.edit_line.specs.Shapes.{shape_of}
 use Rattle.edit_line.proofs.Members.{in-right}
-use Rattle.categ_combine.specs.BoxLists.{AreBoxesOver}
 use Rattle.categ_combine.specs.declared.box_from.BoxFrom.{BoxFrom}
 use Rattle.bound_cert.specs.Paths.{changes}
 use Rattle.edit_paths.specs.Cases.{SearchCase, IsCase}
-use Rattle.edit_paths.specs.Histories.{History, with_boxes}
-use Rattle.edit_paths.specs.Levels.{history_of}
+use Rattle.edit_paths.specs.Histories.{History, box_by, with_boxes}
+use Rattle.edit_paths.specs.Levels.{history_of, makings_of}
 use Rattle.edit_paths.specs.PathHistories.{box_history, line_history}
 use Rattle.edit_paths.specs.Paths.{before_last, field_count, number_count, treated_codes}
-use Rattle.edit_paths.specs.States.{boxes_after, boxes_along, first_boxes}
+use Rattle.edit_paths.specs.States.{boxes_after, boxes_along}
 use Rattle.edit_paths.specs.declared.levels.Level.{Level}
-use Rattle.edit_paths.specs.declared.levels.Level.TheVariants.{Boxes}
 use Rattle.edit_paths.proofs.ChildLaws.{changes-next, child-boxes, child-codes}
 use Rattle.edit_paths.proofs.ClosedPaths.{treated-code}
 use Rattle.edit_paths.proofs.FieldPlaces.{fields-placed}
@@ -29,25 +27,20 @@ use Rattle.localise_tree.proofs.ProblemLaws.{placed-at}
 
 -- The lists of boxes of a path, from those of the path before its last letter.
 
--- the last list, where it is one of boxes
-pub boxes-last : (before levels : List Level) (field : ℕ) (boxes : List BoxFrom) → levels ≡ before ++ Boxes field boxes ∷ [] → boxes_in levels ≡ boxes
-boxes-last before levels field boxes is = ap (λ (ls : List Level). boxes_in ls) is ∙ fold-append (λ (bs : List BoxFrom) (level : Level). own_boxes level) [] before (Boxes field boxes ∷ [])
-
-module _ (c : SearchCase) (path : List Bool) (before levels : List Level) (field : ℕ) (boxes : List BoxFrom) (push : levels ≡ before ++ Boxes field boxes ∷ []) (over : AreBoxesOver (shape_of c.survey.fields) boxes) where
+module _ (c : SearchCase) (path : List Bool) (before levels : List Level) (level : Level) (field : ℕ) (boxes : List BoxFrom) (push : levels ≡ before ++ level ∷ [])
+    (made : makings_of level ≡ map (λ (b : BoxFrom). box_by field b.origin) boxes) (own : own_boxes level ≡ boxes) where
   -- with boxes behind the others
   box-lists : (history : History) → history_of before ≡ history → with_boxes history field boxes ≡ box_history c path → boxes ≡ boxes_along c path → HasBoxLists c path levels
   box-lists history is lists along = record {
-    lists = ap (λ (ls : List Level). history_of ls) push ∙ history-last before (Boxes field boxes) ∙ ap (λ (h : History). with_boxes h field boxes) is ∙ lists;
-    along = boxes-last before levels field boxes push ∙ along;
-    over = subst (λ (bs : List BoxFrom). AreBoxesOver (shape_of c.survey.fields) bs) (sym (boxes-last before levels field boxes push)) over;
+    lists = ap (λ (ls : List Level). history_of ls) push ∙ history-last before level ∙ ap (λ (h : History). makings_of level ∷ h) is ∙ ap (λ ms. ms ∷ history) made ∙ lists;
+    along = ap (λ (ls : List Level). boxes_in ls) push ∙ fold-append (λ (bs : List BoxFrom) (l : Level). own_boxes l) [] before (level ∷ []) ∙ own ∙ along;
   }
 
   -- the record's boxes behind the lines of a path that says something of no categorical field
-  pub first-lists : length path ≤ number_count c → history_of before ≡ line_history c path → field ≡ 0 → boxes ≡ first_boxes c path → HasBoxLists c path levels
-  first-lists few lines none first =
+  pub first-lists : length path ≤ number_count c → history_of before ≡ line_history c path → field ≡ 0 → boxes ≡ boxes_along c path → HasBoxLists c path levels
+  first-lists few lines none along =
       box-lists (line_history c path) lists_are
-      (ap (λ f. with_boxes (line_history c path) f boxes) none ∙ ap (λ (bs : List BoxFrom). with_boxes (line_history c path) 0 bs) first ∙ sym (box_history-first c path few))
-      (first ∙ sym (boxes-first c path few))
+      (ap (λ f. with_boxes (line_history c path) f boxes) none ∙ ap (λ (bs : List BoxFrom). with_boxes (line_history c path) 0 bs) (along ∙ boxes-first c path few) ∙ sym (box_history-first c path few)) along
     where
       lists_are : history_of before ≡ line_history c path
       lists_are = lines
@@ -82,7 +75,7 @@ module _ (c : SearchCase) (letters : List Bool) (many : number_count c < length 
       (treated-code c is (path ++ b ∷ []) f (subst (λ (fs : List ℕ). IsIn f fs) (sym (child-codes c path b short enough ∙ ap (λ g. treated_codes c path ++ g ∷ []) field-is)) (in-right f (treated_codes c path) (f ∷ []) (inl refl)))).0
 
   -- the boxes after the last letter
-  last-along : (boxes : List BoxFrom) → boxes ≡ boxes_along c (before_last letters)
+  pub last-along : (boxes : List BoxFrom) → boxes ≡ boxes_along c (before_last letters)
       → boxes_by c (slice_index_or letters (length letters - 1) false) boxes (slice_index_or (path_order c.survey.fields) (length letters - 1) 0) ≡ boxes_along c letters
   last-along boxes are =
       ap (λ (x : Bool). boxes_by c x boxes f) (sym changed)
@@ -95,11 +88,10 @@ module _ (c : SearchCase) (letters : List Bool) (many : number_count c < length 
       changed = changes-next c path b short f (placed-at c 0 (length letters - 1) (path_order c.survey.fields) (fields-placed c) (omega (arith, short, long, order-length c.survey.fields)) ∙ omega (arith, long))
 
   -- the lists with them behind the others
-  pub last-lists : (before levels : List Level) (field : ℕ) (boxes last : List BoxFrom) → HasBoxLists c (before_last letters) before → last ≡ boxes_in before → field ≡ slice_index_or (path_order c.survey.fields) (length letters - 1) 0
-      → boxes ≡ boxes_by c (slice_index_or letters (length letters - 1) false) last field → levels ≡ before ++ Boxes field boxes ∷ [] → AreBoxesOver (shape_of c.survey.fields) boxes → HasBoxLists c letters levels
-  last-lists before levels field boxes last has last_is field_is made push over =
-      let along : boxes ≡ boxes_along c letters = made ∙ ap (λ g. boxes_by c b last g) field_is ∙ last-along last (last_is ∙ has.along) in
-      box-lists c letters before levels field boxes push over (box_history c path) has.lists
+  pub last-lists : (before levels : List Level) (level : Level) (field : ℕ) (boxes : List BoxFrom) → HasBoxLists c (before_last letters) before → levels ≡ before ++ level ∷ [] → makings_of level ≡ map (λ (b : BoxFrom). box_by field b.origin) boxes
+      → own_boxes level ≡ boxes → field ≡ slice_index_or (path_order c.survey.fields) (length letters - 1) 0 → boxes ≡ boxes_along c letters → HasBoxLists c letters levels
+  last-lists before levels level field boxes has push made own field_is along =
+      box-lists c letters before levels level field boxes push made own (box_history c path) has.lists
       (ap (λ g. with_boxes (box_history c path) g boxes) (field_is ∙ sym field-is)
       ∙ ap (λ (bs : List BoxFrom). with_boxes (box_history c path) (slice_index_or (path_order c.survey.fields) (length path) 0) bs) (along ∙ ap (λ (p : List Bool). boxes_along c p) split)
       ∙ sym (box_history-next c path b short enough)

@@ -32,6 +32,7 @@ use Rattle.edit_model.specs.FieldSets.{set_of}
 use Rattle.edit_paths.specs.Paths.{before_last, changed_numbers, field_count, last_letter, number_count, treated_codes}
 use Rattle.edit_paths.specs.States.{IsOpen, boxes_after, boxes_along, first_boxes, first_failing, lines_along, or_empty, state_of, state_with_boxes, state_with_system, whole_state}
 use Rattle.edit_paths.specs.Works.{pairs_next, work_of}
+use Rattle.edit_paths.specs.declared.state.PathState.{PathState}
 use Rattle.edit_paths.specs.declared.state.PathState.TheVariants.{ClosedBad, Open}
 use Rattle.edit_paths.proofs.ChildLaws.{changes-next, child-boxes, child-numbers-same, child-work}
 use Rattle.edit_paths.proofs.FieldPlaces.{fields-placed}
@@ -42,7 +43,7 @@ use Rattle.localise_tree.specs.KeptFields.{KeepsChanged}
 use Rattle.localise_tree.specs.declared.looks.Basis.{Basis}
 use Rattle.localise_tree.specs.declared.looks.Basis.TheVariants.{Boxes, Lines}
 use Rattle.localise_tree.specs.declared.looks.Look.{Look}
-use Rattle.localise_tree.specs.inner.Bases.{IsBasis}
+use Rattle.localise_tree.specs.inner.Bases.{IsBasis, has_basis}
 use Rattle.localise_tree.specs.inner.Nodes.{IsLook, TellsLook}
 use Rattle.localise_tree.specs.inner.Tries.{AreBoxes, IsChanged, IsKept}
 use Rattle.localise_tree.proofs.LastLetters.{split-last}
@@ -264,7 +265,7 @@ module _ (c : SearchCase) (is : IsCase c) (letters : List Bool) (more : number_c
     is-look look told = record {
       work = told.work ∙ sym changed-count;
       state = told.state ∙ ap (λ (bs : List BoxFrom). whole_state c bs) (sym changed-along) ∙ sym changed-state;
-      basis = λ is_open. boxes-basis c letters (covered_from (shape_of c.survey.fields) boxes f) look.basis (omega (arith, more)) told.basis (sym changed-along);
+      basis = λ made. boxes-basis c letters (covered_from (shape_of c.survey.fields) boxes f) look.basis (omega (arith, more)) told.basis (sym changed-along);
     }
 
     pub changed-passed : {E : Type 0} (most : ℕ) (r : Result (Option Look) E) → IfOk r (λ told. IfNone told (most < 1 + cover_count (shape_of c.survey.fields) (sets_of boxes) f)) → IfOk r (λ told. IfNone told (most < work_of c letters))
@@ -302,12 +303,12 @@ module _ (c : SearchCase) (is : IsCase c) (letters : List Bool) (more : number_c
               work = one ∙ sym counts-one;
               state = h.1 ∙ ap (λ (bs : List BoxFrom). whole_state c bs) along ∙ ap (λ (p : List Bool). whole_state c (boxes_along c p)) split
                   ∙ sym (ap (λ (p : List Bool). state_of c p) split ∙ child-state c before b enough short reached (held-is ∙ ap (λ (v : Value). is_bad v) own));
-              basis = λ is_open. boxes-basis c letters (fixed_from (shape_of c.survey.fields) boxes f k) look.basis (omega (arith, more)) h.0 along;
+              basis = λ made. boxes-basis c letters (fixed_from (shape_of c.survey.fields) boxes f k) look.basis (omega (arith, more)) h.0 along;
             }
         by Bad own h = record {
           work = one ∙ sym counts-one;
           state = h ∙ sym (ap (λ (p : List Bool). state_of c p) split ∙ child-bad c before b enough short reached (held-is ∙ ap (λ (v : Value). is_bad v) own));
-          basis = λ is_open. absurd (cc (sym h ∙ is_open));
+          basis = λ made. absurd (cc (sym (ap (λ (s : PathState). has_basis s) h) ∙ made));
         }
         by (Number x) own h = absurd (no-number c is f x (subst (λ (g : ℕ). has_field (code_fields (shape_of c.survey.fields)) g ≡ true) (sym next_is) (next-code c before b enough short reached)) own)
 

@@ -1,21 +1,23 @@
-use Rattle.std.proofs.Common.{◌≡◌, ◌&&◌, ◌||◌, ◌++◌, ℕ, zero, suc, ◌+◌, ◌<◌, Bool, true, false, if◌then◌else◌, cond, List, [], ◌∷◌, Some, None, length, slice_index_or, take, refl, sym, ap, ◌∙◌, subst, arith, Vec}
+use Rattle.std.proofs.Common.{◌≡◌, ◌&&◌, ◌||◌, ◌++◌, ℕ, zero, suc, ◌+◌, ◌<◌, Bool, true, false, cond, List, [], ◌∷◌, Option, Some, None, inl, inr, length, slice_index_or, take, refl, sym, ap, ◌∙◌, subst, arith, Vec}
 use Rattle.std.specs.Cmp.Lexicographic.{slice_cmp}
 use Rattle.std.specs.List.{AllByRecursion}
 use Rattle.std.specs.Ordering.{bool_cmp, is_eq}
 use Rattle.std.specs.declared.alloc.Global.{Global}
-use Rattle.std.proofs.lemmas.List.{map-append, take_more}
+use Rattle.std.proofs.lemmas.List.{get_or-map, get_or_append_left, get_or_push, length-append, length-map, length-take-le, map-append, take_more}
 use Rattle.edit_model.specs.Corrections.{is_first}
+use Rattle.edit_line.specs.Reductions.{IsIn}
 use Rattle.edit_line.proofs.SetLaws.{both_true}
 use Rattle.edit_paths.specs.Cases.{SearchCase}
 use Rattle.edit_paths.specs.Certificates.{has_path}
 use Rattle.edit_paths.specs.States.{state_of}
-use Rattle.edit_paths.specs.declared.state.PathState.{PathState}
 use Rattle.edit_paths.proofs.PathOrder.{first-equal}
-use Rattle.localise_tree.specs.inner.Knowns.{Known, Knows, known_at}
+use Rattle.localise_tree.specs.inner.Bases.{IsKnownBasis}
+use Rattle.localise_tree.specs.inner.Knowns.{ArePlaces, IsFound, IsPlaceOf, Places, place_at}
 use Rattle.localise_tree.specs.inner.Takens.{IsTaken, taken_paths}
 use Rattle.localise_tree.specs.declared.best_first.Taken.{Taken}
+use Rattle.localise_tree.proofs.NumberPathLaws.{in-index}
 
--- What became of the paths that were taken, by their letters.
+-- The places of the paths that were taken, by their letters.
 
 -- the order of letters tells paths apart
 same-letters : (a b : List Bool) → is_eq (slice_cmp bool_cmp a b) ≡ (is_first a b && is_first b a)
@@ -40,47 +42,83 @@ has-last (p ∷ paths) path q = ap (λ b. (is_first p q && is_first q p) || b) (
     or_assoc false b d = refl
 
 -- one path more
-module _ (c : SearchCase) (paths : List (List Bool)) (path : List Bool) (state : PathState) (is : state ≡ state_of c path) where
-  known-with : (q : List Bool) → cond (is_eq (slice_cmp bool_cmp path q)) (Some state) (if has_path paths q then Some (state_of c q) else None) ≡ (if has_path (paths ++ path ∷ []) q then Some (state_of c q) else None)
-  known-with q =
-      ap (λ b. cond b (Some state) (if has_path paths q then Some (state_of c q) else None)) (same-letters path q)
-      ∙ by (is_first path q && is_first q path) (has_path paths q) refl
-      ∙ ap (λ b. if b then Some (state_of c q) else None) (sym (has-last paths path q))
-    where
-      by : (b h : Bool) → (is_first path q && is_first q path) ≡ b → cond b (Some state) (if h then Some (state_of c q) else None) ≡ (if h || b then Some (state_of c q) else None)
-      by false true e = refl
-      by false false e = refl
-      by true h e =
-          let (one, two) = both_true (is_first path q) (is_first q path) e in
-          ap (λ s. Some s) (is ∙ ap (λ (p : List Bool). state_of c p) (first-equal path q one two)) ∙ known h
-        where
-          known : (h : Bool) → Some (state_of c q) ≡ (if h || true then Some (state_of c q) else None)
-          known true = refl
-          known false = refl
+module _ (paths : List (List Bool)) (path q : List Bool) (place : ℕ) (last : length paths ≡ place) where
+  longer_by_one : length (paths ++ path ∷ []) ≡ place + 1
+  longer_by_one = length-append paths (path ∷ []) ∙ omega (arith, last)
 
-  pub knows-more : (known new : Known) (letters : Vec Bool Global) → letters.items ≡ path → Knows c paths known
-      → ((q : Vec Bool Global) → known_at new q ≡ cond (is_eq (slice_cmp bool_cmp letters.items q.items)) (Some state) (known_at known q)) → Knows c (paths ++ path ∷ []) new
-  knows-more known new letters same knows with q =
-      with q
-      ∙ ap (λ (p : List Bool). cond (is_eq (slice_cmp bool_cmp p q.items)) (Some state) (known_at known q)) same
-      ∙ ap (λ o. cond (is_eq (slice_cmp bool_cmp path q.items)) (Some state) o) (knows q)
-      ∙ known-with q.items
+  place-other : (old : Option ℕ) → (is_first path q && is_first q path) ≡ false → IsPlaceOf paths q old → IsPlaceOf (paths ++ path ∷ []) q old
+  place-other (Some i) other (below, at) = (omega (arith, longer_by_one, below, last), get_or_append_left paths (path ∷ []) [] i below ∙ at)
+  place-other None other absent = has-last paths path q ∙ ap (λ b. b || (is_first path q && is_first q path)) absent ∙ other
+
+  place-with : (old : Option ℕ) → IsPlaceOf paths q old → IsPlaceOf (paths ++ path ∷ []) q (cond (is_eq (slice_cmp bool_cmp path q)) (Some place) old)
+  place-with old was = subst (λ b. IsPlaceOf (paths ++ path ∷ []) q (cond b (Some place) old)) (sym (same-letters path q)) (by (is_first path q && is_first q path) refl)
+    where
+      by : (b : Bool) → (is_first path q && is_first q path) ≡ b → IsPlaceOf (paths ++ path ∷ []) q (cond b (Some place) old)
+      by false other = place-other old other was
+      by true same =
+          let (one, two) = both_true (is_first path q) (is_first q path) same in
+          (omega (arith, longer_by_one), get_or_push paths path [] place last ∙ first-equal path q one two)
 
 -- ---- the paths that were taken
 
-taken-at : (c : SearchCase) (taken : List Taken) (i : ℕ) (t : Taken) → i < length taken → t ≡ slice_index_or taken i t → AllByRecursion (IsTaken c) taken → IsTaken c t
-taken-at c [] i t below is are = absurd (omega arith)
-taken-at c (x ∷ taken) zero t below is are = subst (λ (y : Taken). IsTaken c y) (sym is) are.0
-taken-at c (x ∷ taken) (suc i) t below is are = taken-at c taken i t (omega arith) is are.1
-
-pub knows-next : (c : SearchCase) (taken : List Taken) (i : ℕ) (t : Taken) (known new : Known) (letters : Vec Bool Global) → i < length taken → t ≡ slice_index_or taken i t → letters.items ≡ t.path
-    → AllByRecursion (IsTaken c) taken → Knows c (taken_paths (take i taken)) known
-    → ((q : Vec Bool Global) → known_at new q ≡ cond (is_eq (slice_cmp bool_cmp letters.items q.items)) (Some t.state) (known_at known q)) → Knows c (taken_paths (take (i + 1) taken)) new
-knows-next c taken i t known new letters below is same are knows with =
-    subst (λ (ps : List (List Bool)). Knows c ps new) (sym paths) (knows-more c (taken_paths (take i taken)) t.path t.state (taken-at c taken i t below is are) known new letters same knows with)
+pub places-next : (taken : List Taken) (i : ℕ) (t : Taken) (places new : Places) (letters : Vec Bool Global) → i < length taken → t ≡ slice_index_or taken i t → letters.items ≡ t.path → ArePlaces (taken_paths (take i taken)) places
+    → ((q : Vec Bool Global) → place_at new q ≡ cond (is_eq (slice_cmp bool_cmp letters.items q.items)) (Some i) (place_at places q)) → ArePlaces (taken_paths (take (i + 1) taken)) new
+places-next taken i t places new letters below is same are with q =
+    subst (λ (ps : List (List Bool)). IsPlaceOf ps q.items (place_at new q)) (sym paths)
+    (subst (λ o. IsPlaceOf (taken_paths (take i taken) ++ t.path ∷ []) q.items o) (sym (with q ∙ ap (λ (p : List Bool). cond (is_eq (slice_cmp bool_cmp p q.items)) (Some i) (place_at places q)) same))
+    (place-with (taken_paths (take i taken)) t.path q.items i (length-map (take i taken) (λ (u : Taken). u.path) ∙ length-take-le i taken (omega (arith, below))) (place_at places q) (are q)))
   where
     paths : taken_paths (take (i + 1) taken) ≡ taken_paths (take i taken) ++ t.path ∷ []
     paths =
         ap (λ (ts : List Taken). taken_paths ts) (take_more taken i t below)
         ∙ map-append (λ (u : Taken). u.path) (take i taken) (slice_index_or taken i t ∷ [])
         ∙ ap (λ (u : Taken). taken_paths (take i taken) ++ u.path ∷ []) (sym is)
+
+-- a place is one of the taken paths
+pub place-below : (taken : List Taken) (letters : List Bool) (place : ℕ) (o : Option ℕ) → o ≡ Some place → IsPlaceOf (taken_paths taken) letters o → place < length taken
+place-below taken letters place o is at = let (below, same) = subst (λ p. IsPlaceOf (taken_paths taken) letters p) is at in omega (arith, below, length-map taken (λ (u : Taken). u.path))
+
+-- and has the letters
+pub place-found : (taken : List Taken) (letters : List Bool) (place : ℕ) (o : Option ℕ) (t : Taken) → o ≡ Some place → IsPlaceOf (taken_paths taken) letters o → t ≡ slice_index_or taken place t → IsFound taken letters t
+place-found taken letters place o t is at found =
+    let (below, same) = subst (λ p. IsPlaceOf (taken_paths taken) letters p) is at in
+    let within = place-below taken letters place o is at in
+    record { there = subst (λ (u : Taken). IsIn u taken) (sym found) (in-index taken place t within); path = sym (get_or-map (λ (u : Taken). u.path) taken place t [] within ∙ ap (λ (u : Taken). u.path) (sym found)) ∙ same }
+
+-- ---- what is known of a path that was taken
+
+-- a path is the same as itself
+same-path : (path : List Bool) → is_first path path ≡ true
+same-path [] = refl
+same-path (true ∷ path) = same-path path
+same-path (false ∷ path) = same-path path
+
+module _ (taken : List Taken) (letters : List Bool) (one : Taken) (found : IsFound taken letters one) where
+  pub found-has : has_path (taken_paths taken) letters ≡ true
+  found-has = subst (λ (p : List Bool). has_path (taken_paths taken) p ≡ true) found.path (among taken found.there)
+    where
+      among : (ts : List Taken) → IsIn one ts → has_path (taken_paths ts) one.path ≡ true
+      among [] there = absurd there
+      among (t ∷ ts) (inl same) =
+          ap (λ (u : Taken). (is_first u.path one.path && is_first one.path u.path) || has_path (taken_paths ts) one.path) (sym same)
+          ∙ ap (λ b. (b && b) || has_path (taken_paths ts) one.path) (same-path one.path)
+      among (t ∷ ts) (inr later) = ap (λ b. (is_first t.path one.path && is_first one.path t.path) || b) (among ts later) ∙ or_true (is_first t.path one.path && is_first one.path t.path)
+        where
+          or_true : (b : Bool) → (b || true) ≡ true
+          or_true true = refl
+          or_true false = refl
+
+  module _ (c : SearchCase) (are : AllByRecursion (IsTaken c) taken) where
+    found-taken : IsTaken c one
+    found-taken = among taken found.there are
+      where
+        among : (ts : List Taken) → IsIn one ts → AllByRecursion (IsTaken c) ts → IsTaken c one
+        among [] there each = absurd there
+        among (t ∷ ts) (inl same) each = subst (λ (u : Taken). IsTaken c u) (sym same) each.0
+        among (t ∷ ts) (inr later) each = among ts later each.1
+
+    pub found-state : state_of c letters ≡ one.state
+    found-state = sym (found-taken.state ∙ ap (λ (p : List Bool). state_of c p) found.path)
+
+    pub found-basis : IsKnownBasis c letters one.basis
+    found-basis = subst (λ (p : List Bool). IsKnownBasis c p one.basis) found.path found-taken.basis

@@ -1,8 +1,7 @@
-use Rattle.std.proofs.Common.{◌≡◌, ◌≢◌, ◌++◌, ◌-◌, ◌<◌, ◌≤◌, ◌==◌, ℕ, zero, suc, nat_lt, Bool, true, false, if◌then◌else◌, List, [], ◌∷◌, Option, Some, None, Result, Ok, Err, Vec, length, refl, take, sym, ap, ◌∙◌, arith}
+use Rattle.std.proofs.Common.{◌≡◌, ◌≢◌, ◌++◌, ◌-◌, ◌<◌, ◌≤◌, ◌==◌, ℕ, zero, suc, nat_lt, Bool, true, false, if◌then◌else◌, List, [], ◌∷◌, Option, Some, None, Result, Ok, Err, length, refl, take, sym, ap, subst, ◌∙◌, arith}
 use Rattle.std.specs.List.{fold, position}
 use Rattle.std.proofs.Math.Seq.{take-append_seam}
 use Rattle.std.proofs.lemmas.Bool.Decides.{Decides-eqb}
-use Rattle.std.specs.declared.alloc.Global.{Global}
 use Rattle.edit_line.specs.Boxes.{are_whole}
 use Rattle.edit_line.specs.Shapes.{shape_of}
 use Rattle.edit_line.specs.Sums.{fails_at}
@@ -18,29 +17,22 @@ use Rattle.bound_cert.specs.declared.outcome.Event.TheVariants as event
 use Rattle.edit_paths.specs.Cases.{SearchCase}
 use Rattle.edit_paths.specs.Certificates.{has_path, leaf, leaves_by, leaves_from}
 use Rattle.edit_paths.specs.PathStates.{is_open}
-use Rattle.edit_paths.specs.Paths.{changed_numbers, field_count, number_count, treated_codes}
+use Rattle.edit_paths.specs.Paths.{before_last, changed_numbers, field_count, number_count, treated_codes}
 use Rattle.edit_paths.specs.ReachedPaths.{changed_next, kept_next}
 use Rattle.edit_paths.specs.States.{asks_kept, boxes_after, closed_by, first_failing, first_whole, state_of, state_with_boxes, state_with_system, step_event}
 use Rattle.edit_paths.specs.declared.levels.Level.{Level}
 use Rattle.edit_paths.specs.declared.state.PathState.{PathState}
 use Rattle.edit_paths.specs.declared.state.PathState.TheVariants.{ClosedBad, ClosedBox, ClosedLine, Open, Overflows}
+use Rattle.edit_paths.proofs.ChildLaws.{child-before}
 use Rattle.edit_paths.proofs.LetterLaws.{longer}
-use Rattle.localise_tree.specs.inner.Histories.{HasLists, LeadTo}
-use Rattle.localise_tree.specs.inner.Knowns.{Known, Knows, known_at}
+use Rattle.localise_tree.specs.declared.looks.Basis.{Basis}
+use Rattle.localise_tree.specs.inner.Bases.{IsKnownBasis}
+use Rattle.localise_tree.specs.inner.Histories.{HasLists, HasListsBefore, LeadTo}
 
 -- The leaves of a tree from a path on, by what is known of the path.
 
--- a path that was taken has its state
-known-path : (has : Bool) (state s : PathState) → Some s ≡ (if has then Some state else None) → (has ≡ true) × (state ≡ s)
-known-path true state s is = (refl, sym (cc))
-known-path false state s is = absurd (cc)
-
-unknown-path : (has : Bool) (state : PathState) → None ≡ (if has then Some state else None) → has ≡ false
-unknown-path true state is = absurd (cc)
-unknown-path false state is = refl
-
 module _ (c : SearchCase) (taken : List (List Bool)) (path : List Bool) where
-  leaves-unknown : (left : ℕ) → has_path taken path ≡ false → leaves_from c taken left path ≡ leaf path why.Bound
+  pub leaves-unknown : (left : ℕ) → has_path taken path ≡ false → leaves_from c taken left path ≡ leaf path why.Bound
   leaves-unknown zero other = ap (λ b. if b then leaves_by c path [] (state_of c path) else leaf path why.Bound) other
   leaves-unknown (suc left) other = ap (λ b. if b then leaves_by c path (leaves_from c taken left (kept_next path) ++ leaves_from c taken left (changed_next path)) (state_of c path) else leaf path why.Bound) other
 
@@ -66,32 +58,22 @@ module _ (c : SearchCase) (taken : List (List Bool)) (path : List Bool) where
       ∙ ap (λ b. if b then leaves_by c path (leaves_from c taken next (kept_next path) ++ leaves_from c taken next (changed_next path)) (state_of c path) else leaf path why.Bound) has
       ∙ ap (λ t. leaves_by c path (leaves_from c taken next (kept_next path) ++ leaves_from c taken next (changed_next path)) t) is
 
--- ---- by what is known of the letters
-
-module _ (c : SearchCase) (paths : List (List Bool)) (known : Known) (letters : Vec Bool Global) (knows : Knows c paths known) where
-  -- of a path that was not taken
-  pub leaves-absent : (left : ℕ) → None ≡ known_at known letters → leaf letters.items why.Bound ≡ leaves_from c paths left letters.items
-  leaves-absent left absent = sym (leaves-unknown c paths letters.items left (unknown-path (has_path paths letters.items) (state_of c letters.items) (absent ∙ knows letters)))
-
   -- of a path that is not gone on with
-  pub leaves-last : (left : ℕ) (s : PathState) → Some s ≡ known_at known letters → (is_open s ≡ true → left ≡ 0) → leaves_by c letters.items [] s ≡ leaves_from c paths left letters.items
-  leaves-last left s there end =
-      let (has, is) = known-path (has_path paths letters.items) (state_of c letters.items) s (there ∙ knows letters) in
-      sym (leaves-ended c paths letters.items left s has is (λ stays. end (ap (λ (t : PathState). is_open t) stays)))
+  pub leaves-last : (left : ℕ) (s : PathState) → has_path taken path ≡ true → state_of c path ≡ s → (is_open s ≡ true → left ≡ 0) → leaves_by c path [] s ≡ leaves_from c taken left path
+  leaves-last left s has is end = sym (leaves-ended left s has is (λ stays. end (ap (λ (t : PathState). is_open t) stays)))
 
   -- of an open path, those of both paths with one letter more
-  pub leaves-both : (first second : List Bool) (s : PathState) → Some s ≡ known_at known letters → is_open s ≡ true → length letters.items < field_count c → first ≡ letters.items ++ false ∷ [] → second ≡ letters.items ++ true ∷ []
-      → leaves_from c paths (field_count c - length first) first ++ leaves_from c paths (field_count c - length second) second ≡ leaves_from c paths (field_count c - length letters.items) letters.items
-  leaves-both first second s there stays few kept changed =
-      let (has, is) = known-path (has_path paths letters.items) (state_of c letters.items) s (there ∙ knows letters) in
-      ap (λ (p : List Bool). leaves_from c paths (field_count c - length p) p ++ leaves_from c paths (field_count c - length second) second) kept
-      ∙ ap (λ (p : List Bool). leaves_from c paths (field_count c - length (letters.items ++ false ∷ [])) (letters.items ++ false ∷ []) ++ leaves_from c paths (field_count c - length p) p) changed
-      ∙ ap (λ n. leaves_from c paths n (letters.items ++ false ∷ []) ++ leaves_from c paths (field_count c - length (letters.items ++ true ∷ [])) (letters.items ++ true ∷ [])) (less false)
-      ∙ ap (λ n. leaves_from c paths (field_count c - length letters.items - 1) (letters.items ++ false ∷ []) ++ leaves_from c paths n (letters.items ++ true ∷ [])) (less true)
-      ∙ sym (leaves-below c paths letters.items (field_count c - length letters.items) (field_count c - length letters.items - 1) has (is ∙ open_is s stays) (omega (arith, few)))
+  pub leaves-both : (first second : List Bool) (s : PathState) → has_path taken path ≡ true → state_of c path ≡ s → is_open s ≡ true → length path < field_count c → first ≡ path ++ false ∷ [] → second ≡ path ++ true ∷ []
+      → leaves_from c taken (field_count c - length first) first ++ leaves_from c taken (field_count c - length second) second ≡ leaves_from c taken (field_count c - length path) path
+  leaves-both first second s has is stays few kept changed =
+      ap (λ (p : List Bool). leaves_from c taken (field_count c - length p) p ++ leaves_from c taken (field_count c - length second) second) kept
+      ∙ ap (λ (p : List Bool). leaves_from c taken (field_count c - length (path ++ false ∷ [])) (path ++ false ∷ []) ++ leaves_from c taken (field_count c - length p) p) changed
+      ∙ ap (λ n. leaves_from c taken n (path ++ false ∷ []) ++ leaves_from c taken (field_count c - length (path ++ true ∷ [])) (path ++ true ∷ [])) (less false)
+      ∙ ap (λ n. leaves_from c taken (field_count c - length path - 1) (path ++ false ∷ []) ++ leaves_from c taken n (path ++ true ∷ [])) (less true)
+      ∙ sym (leaves-below (field_count c - length path) (field_count c - length path - 1) has (is ∙ open_is s stays) (omega (arith, few)))
     where
-      less : (b : Bool) → field_count c - length (letters.items ++ b ∷ []) ≡ field_count c - length letters.items - 1
-      less b = omega (arith, longer letters.items b, few)
+      less : (b : Bool) → field_count c - length (path ++ b ∷ []) ≡ field_count c - length path - 1
+      less b = omega (arith, longer path b, few)
 
       open_is : (s : PathState) → is_open s ≡ true → s ≡ Open
       open_is Open h = refl
@@ -104,6 +86,24 @@ module _ (c : SearchCase) (paths : List (List Bool)) (known : Known) (letters : 
 pub popped : (letters before after : List Bool) (b : Bool) (n : ℕ) → n ≡ length before → before ≡ letters ++ b ∷ [] → after ≡ take (n - 1) before → after ≡ letters
 popped letters before after b n count pushed rest =
     rest ∙ ap (λ (p : List Bool). take (n - 1) p) pushed ∙ ap (λ m. take m (letters ++ b ∷ [])) (omega (arith, count, ap (λ (p : List Bool). length p) pushed, longer letters b)) ∙ take-append_seam letters (b ∷ [])
+
+-- ---- what the paths with one letter more have of the path
+
+module _ (c : SearchCase) (letters more : List Bool) (b : Bool) (short : length letters < field_count c) (pushed : more ≡ letters ++ b ∷ []) where
+  before-more : letters ≡ before_last more
+  before-more = sym (ap (λ (p : List Bool). before_last p) pushed ∙ child-before c letters b short)
+
+  pub more-fits : length more ≤ field_count c
+  more-fits = omega (arith, short, ap (λ (p : List Bool). length p) pushed, longer letters b)
+
+  pub basis-before : (basis : Option Basis) → IsKnownBasis c letters basis → IsKnownBasis c (before_last more) basis
+  basis-before basis known = subst (λ (p : List Bool). IsKnownBasis c p basis) before-more known
+
+  pub lists-before : (levels after : List Level) → HasLists c letters levels → after ≡ levels → HasListsBefore c more after
+  lists-before levels after lists same = record {
+    first = λ none. absurd (omega (arith, none, ap (λ (p : List Bool). length p) pushed, longer letters b));
+    later = λ some. subst (λ (ls : List Level). HasLists c (before_last more) ls) (sym same) (subst (λ (p : List Bool). HasLists c p levels) before-more lists);
+  }
 
 -- ---- which lists lead to what closes a path
 
@@ -173,7 +173,3 @@ module _ (c : SearchCase) (path : List Bool) where
       by : (b : Bool) → nat_lt (number_count c) (length path) ≡ b → LeadTo c path state levels
       by true e = let long : number_count c < length path = grind (arith, e) in record { line = λ i s. absurd (line-short i (is ∙ s) long); box = λ i s. (lists.boxes long).lists }
       by false e = let short : length path ≤ number_count c = grind (arith, e) in record { line = λ i s. lists.lines short; box = λ i s. absurd (box-long i (is ∙ s) short) }
-
--- of a path that was taken
-pub known-leads : (c : SearchCase) (paths : List (List Bool)) (known : Known) (letters : Vec Bool Global) (s : PathState) (levels : List Level) → Knows c paths known → Some s ≡ known_at known letters → HasLists c letters.items levels → LeadTo c letters.items s levels
-known-leads c paths known letters s levels knows there lists = leads-to c letters.items s levels (known-path (has_path paths letters.items) (state_of c letters.items) s (there ∙ knows letters)).1 lists

@@ -12,6 +12,7 @@ pub mod LeafLaws
 pub mod ModelLaws
 pub mod NextFields
 pub mod NumberPathLaws
+pub mod OverPaths
 pub mod PlaceLaws
 pub mod ProblemLaws
 pub mod RowCodes

@@ -1,4 +1,4 @@
-use Rattle.std.proofs.Common.{◌≡◌, ℕ, ◌+◌, ◌-◌, ◌<◌, ◌≤◌, ◌++◌, Bool, true, false, if◌then◌else◌, nat_lt, List, [], ◌∷◌, Option, Some, None, IfNone, refl, sym, ap, ◌∙◌, subst, arith}
+use Rattle.std.proofs.Common.{◌≡◌, ℕ, ◌+◌, ◌-◌, ◌<◌, ◌≤◌, ◌++◌, Bool, true, false, if◌then◌else◌, nat_lt, List, [], ◌∷◌, Option, Some, None, IfNone, IfSome, refl, sym, ap, ◌∙◌, subst, arith}
 use Rattle.std.specs.List.{AllByRecursion, fold}
 use Rattle.std.proofs.lemmas.List.Sums.{sum_by-append, sum_by-cons}
 use Rattle.bound_cert.specs.Paths.{path_weight}
@@ -18,10 +18,14 @@ use Rattle.edit_paths.specs.declared.state.PathState.{PathState}
 use Rattle.edit_paths.specs.declared.state.PathState.TheVariants.{ClosedBad, ClosedBox, ClosedLine, Open, Overflows}
 use Rattle.localise_tree.specs.KeptFields.{KeepsChange}
 use Rattle.localise_tree.specs.KeptFields.{KeepsChanged}
-use Rattle.localise_tree.specs.inner.Nodes.{AreKept, IsNode, paths_of}
+use Rattle.localise_tree.specs.inner.Bases.{IsBasis, IsKnownBasis, IsPathSystem, IsSame, SharesBasis}
+use Rattle.localise_tree.specs.inner.Nodes.{AreKept, IsLook, IsNode, paths_of}
 use Rattle.localise_tree.specs.inner.Takens.{IsTaken, taken_paths}
 use Rattle.localise_tree.specs.declared.best_first.Taken.{Taken}
 use Rattle.localise_tree.specs.declared.ends.Node.{Node}
+use Rattle.localise_tree.specs.declared.looks.Basis.{Basis}
+use Rattle.localise_tree.specs.declared.looks.Basis.TheVariants.{Boxes, Lines}
+use Rattle.localise_tree.specs.declared.looks.Look.{Look}
 use Rattle.localise_tree.proofs.SearchLoop.{IsSearching, left, searching-ends, searching-less, searching-turn}
 
 -- The loop of the search, over nodes and taken paths with their states.
@@ -48,6 +52,20 @@ module _ (c : SearchCase) (budget spent : ℕ) (taken : List (List Bool)) (path 
     where
       under : nat_lt budget (work_of_all c taken + work_of c path) ≡ false
       under = ap (λ (n : ℕ). nat_lt budget (n + work_of c path)) (sym spent_is) ∙ grind (arith, fits)
+
+-- ---- the basis that is kept
+
+-- the same basis is as right
+same-basis : (c : SearchCase) (path : List Bool) (first second : Basis) → IsSame first second → IsBasis c path first → IsBasis c path second
+same-basis c path (Lines a) (Lines b) same is = (is.0, subst (λ h. IsPathSystem c path h) (sym same) is.1)
+same-basis c path (Boxes a) (Boxes b) same is = (is.0, same ∙ is.1)
+same-basis c path (Lines a) (Boxes b) same is = absurd same
+same-basis c path (Boxes a) (Lines b) same is = absurd same
+
+-- what is kept of a look is the path's basis
+pub kept-basis : (c : SearchCase) (path : List Bool) (look : Look) (before after : ℕ) (kept : Option Basis) → IsLook c path look → IfSome kept (SharesBasis look before after) → IsKnownBasis c path kept
+kept-basis c path look before after None is shares = tt
+kept-basis c path look before after (Some basis) is shares = same-basis c path look.basis basis shares.same (is.basis shares.own)
 
 -- ---- one turn
 
@@ -93,16 +111,17 @@ module _ (c : SearchCase) (budget spent : ℕ) (taken : List Taken) (ends rest :
       pub run-less : left c (paths_of new) < left c (paths_of ends)
       run-less = searching-less c budget (taken_paths taken) (paths_of ends) (paths_of rest) node.path running.searching (ap (λ (ns : List Node). paths_of ns) is) (paths_of new) led
 
-      pub run-turn : end ≡ None → AllByRecursion (IsNode c) new → (after : List Taken) → after ≡ taken ++ record { path = node.path; state = state } ∷ [] → IsRunning c budget (spent + work) after new
-      run-turn none nodes after more = record {
+      pub run-turn : end ≡ None → AllByRecursion (IsNode c) new → (basis : Option Basis) → IsKnownBasis c node.path basis → (after : List Taken) → after ≡ taken ++ record { path = node.path; state = state; basis = basis } ∷ []
+          → IsRunning c budget (spent + work) after new
+      run-turn none nodes basis known after more = record {
         searching =
             searching-turn c budget (taken_paths taken) (paths_of ends) (paths_of rest) node.path running.searching (ap (λ (ns : List Node). paths_of ns) is) (paths_of new) led (taken_paths after) (sym ends-so ∙ none)
-            (ap (λ (ts : List Taken). taken_paths ts) more ∙ taken-more taken (record { path = node.path; state = state }));
+            (ap (λ (ts : List Taken). taken_paths ts) more ∙ taken-more taken (record { path = node.path; state = state; basis = basis }));
         nodes = nodes;
-        taken_are = subst (λ (ts : List Taken). AllByRecursion (IsTaken c) ts) (sym more) (are-more c taken (record { path = node.path; state = state }) running.taken_are state_is);
+        taken_are = subst (λ (ts : List Taken). AllByRecursion (IsTaken c) ts) (sym more) (are-more c taken (record { path = node.path; state = state; basis = basis }) running.taken_are (record { state = state_is; basis = known }));
         spent_is =
             ap (λ (n : ℕ). n + work) running.spent_is ∙ ap (λ (n : ℕ). work_of_all c (taken_paths taken) + n) work_is ∙ sym (work-one c (taken_paths taken) node.path)
-            ∙ ap (λ (ps : List (List Bool)). work_of_all c ps) (sym (ap (λ (ts : List Taken). taken_paths ts) more ∙ taken-more taken (record { path = node.path; state = state })));
+            ∙ ap (λ (ps : List (List Bool)). work_of_all c ps) (sym (ap (λ (ts : List Taken). taken_paths ts) more ∙ taken-more taken (record { path = node.path; state = state; basis = basis })));
         within = omega (arith, fits, running.within);
       }
 

@@ -16,7 +16,7 @@ ghost use Rattle.localise_tree.specs.inner.Takens.{IsTaken, taken_for, taken_pat
 use crate::all_kept::unchanged;
 use crate::certificates::certificate;
 use crate::ends::{Node, first_end, lead_on, take_first};
-use crate::looks::look_into;
+use crate::looks::{Basis, look_into};
 use crate::problem::{Problem, field_count};
 use bound_cert::{Cert, Outcome, Path};
 use edit_line::Edits;
@@ -28,11 +28,16 @@ use std::alloc::Global;
 use std::sync::Arc;
 use std::sync::ledger::Ledger;
 
-/// A path that was taken, and what became of it.
+/// The most boxes that are kept of the paths that were taken for a record. Those of further paths are made again where
+/// the certificate needs them, so that the memory for a record stays bounded.
+const MOST_KEPT_BOXES: usize = 100_000;
+
+/// A path that was taken, what became of it, and its basis, if that was kept.
 #[derive(Drop)]
 pub(crate) struct Taken {
     pub(crate) path: Path,
     pub(crate) state: PathState,
+    pub(crate) basis: Option<Basis>,
 }
 
 /// What is found of the record: the reached paths are taken by weight, and then letter by letter; the first
@@ -115,6 +120,7 @@ fn search<S: Systems, L: Ledger>(
 {
     let mut taken = Vec::new(alloc);
     let mut spent = 0;
+    let mut room = MOST_KEPT_BOXES;
     let mut ends = first_end(alloc, source, problem, steps)?;
     while let Some(node) = take_first(&mut ends) {
         let Some(look) = look_into(alloc, source, problem, &node, budget - spent, steps)? else {
@@ -128,10 +134,12 @@ fn search<S: Systems, L: Ledger>(
         if let Some(outcome) = end_by(alloc, source, problem, &taken, &node, state, steps)? {
             return Ok(outcome);
         }
+        let basis = look.kept_basis(&mut room)?;
         lead_on(alloc, problem, &mut ends, &node, look)?;
         taken.push(Taken {
             path: node.into_path(),
             state,
+            basis,
         })?;
     }
     Ok(Outcome::Contradictory {

@@ -1,24 +1,26 @@
 //! The certificate of an outcome: the leaves of the tree of the paths that were taken.
 ghost use Rattle.std.specs.Prelude.{◌≡◌, ◌≤◌, ◌++◌, ℕ, IfOk, OnOk, length, true};
 ghost use Rattle.std.specs.List.{AllByRecursion};
+ghost use Rattle.std.specs.Option.{option_copied};
 ghost use Rattle.edit_line.specs.EditSets.{EditsParts};
 ghost use Rattle.edit_paths.specs.Certificates.{certificate_of, leaf};
-ghost use Rattle.edit_paths.specs.Paths.{field_count};
+ghost use Rattle.edit_paths.specs.Paths.{before_last, field_count};
+ghost use Rattle.localise_tree.specs.inner.Bases.{IsKnownBasis};
 ghost use Rattle.localise_tree.specs.inner.Histories.{AddsClosed, HasListsBefore};
-ghost use Rattle.localise_tree.specs.inner.Knowns.{AddsTree};
+ghost use Rattle.localise_tree.specs.inner.Knowns.{IsKnown};
 ghost use Rattle.localise_tree.specs.inner.Problems.{IsProblem, case_in, edits_in};
-ghost use Rattle.localise_tree.specs.inner.Takens.{IsTaken, taken_paths};
+ghost use Rattle.localise_tree.specs.inner.Takens.{IsTaken, leaves_below, taken_paths};
 
 use crate::best_first::Taken;
-use crate::histories::push_lists;
-use crate::known::known_states;
+use crate::histories::{Bases, push_lists};
+use crate::known::{Known, places_of, taken_path};
+use crate::looks::Basis;
 use crate::problem::{Problem, field_count};
 use bound_cert::{Cert, Leaf, LeafWhy, Path};
 use edit_paths::{Level, PathState, write_steps};
 use foundation::{OutOfMemory, Sequence, Steps};
 use linear_elim::Systems;
 use std::alloc::Global;
-use std::collections::BTreeMap;
 use std::sync::ledger::Ledger;
 
 /// The certificate, where these paths were taken before the outcome: the leaves of their tree, letter by
@@ -37,7 +39,10 @@ pub(crate) fn certificate<S: Systems, L: Ledger>(
     ensures serves { (e : EditsParts) → S.serves source.old e → S.serves source.new e }
     ensures keeps { (f : ℕ) → S.keeps source.old f ≡ true → S.keeps source.new f ≡ true }
 {
-    let known = known_states(alloc, taken)?;
+    let known = Known {
+        taken,
+        places: places_of(alloc, taken)?,
+    };
     let mut letters = Vec::new(alloc);
     let mut levels = Vec::new(alloc);
     let mut leaves = Vec::new(alloc);
@@ -46,6 +51,7 @@ pub(crate) fn certificate<S: Systems, L: Ledger>(
         source,
         problem,
         &known,
+        None,
         &mut letters,
         &mut levels,
         &mut leaves,
@@ -62,7 +68,8 @@ fn push_leaves<S: Systems, L: Ledger>(
     alloc: Global,
     source: &mut S,
     problem: &Problem,
-    known: &BTreeMap<Vec<bool>, PathState>,
+    known: &Known,
+    parent: Option<&Basis>,
     letters: &mut Vec<bool>,
     levels: &mut Vec<Level>,
     leaves: &mut Vec<Leaf>,
@@ -70,36 +77,40 @@ fn push_leaves<S: Systems, L: Ledger>(
 ) -> Result<(), OutOfMemory>
     requires problem { IsProblem problem.now }
     requires served { S.serves source.old (edits_in problem.now) }
+    requires known { IsKnown known.now }
+    requires taken { AllByRecursion (IsTaken (case_in problem.now)) known.now.taken.now }
     requires fit { length letters.old.items ≤ field_count (case_in problem.now) }
+    requires parent { IsKnownBasis (case_in problem.now) (before_last letters.old.items) (option_copied parent) }
     requires before { HasListsBefore (case_in problem.now) letters.old.items levels.old.items }
     ensures letters { OnOk result (letters.new.items ≡ letters.old.items) }
     ensures levels { OnOk result (levels.new.items ≡ levels.old.items) }
     ensures leaves { OnOk result
-        (AddsTree (case_in problem.now) known.now letters.old.items leaves.old.items leaves.new.items) }
+        (leaves.new.items ≡ leaves.old.items ++ leaves_below (case_in problem.now) (taken_paths known.now.taken.now) letters.old.items) }
     ensures serves { (e : EditsParts) → S.serves source.old e → S.serves source.new e }
     ensures keeps { (f : ℕ) → S.keeps source.old f ≡ true → S.keeps source.new f ≡ true }
 {
-    let Some(state) = known.get(&*letters).copied() else {
+    let Some(taken) = taken_path(known, letters) else {
         push_leaf(alloc, letters, LeafWhy::Bound, leaves)?;
         return Ok(());
     };
     let before = levels.len();
-    push_lists(alloc, source, problem, letters, levels, steps)?;
-    if state.is_open() && letters.len() < field_count(problem) {
+    let own = taken.basis.as_ref();
+    push_lists(alloc, source, problem, letters, Bases { own, parent }, levels, steps)?;
+    if taken.state.is_open() && letters.len() < field_count(problem) {
         letters.push(false)?;
         push_leaves(
-            alloc, source, problem, known, letters, levels, leaves, steps,
+            alloc, source, problem, known, own, letters, levels, leaves, steps,
         )?;
         letters.pop();
         letters.push(true)?;
         push_leaves(
-            alloc, source, problem, known, letters, levels, leaves, steps,
+            alloc, source, problem, known, own, letters, levels, leaves, steps,
         )?;
         letters.pop();
         levels.truncate(before);
         return Ok(());
     }
-    push_closed(alloc, state, letters, levels, leaves)?;
+    push_closed(alloc, taken.state, letters, levels, leaves)?;
     levels.truncate(before);
     Ok(())
 }

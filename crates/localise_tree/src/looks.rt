@@ -1,9 +1,9 @@
-ghost use Rattle.std.specs.Prelude.{◌≡◌, ℕ, ◌<◌, IfOk, IfNone, true};
+ghost use Rattle.std.specs.Prelude.{◌≡◌, ℕ, ◌<◌, ◌+◌, IfOk, IfNone, IfSome, true};
 ghost use Rattle.edit_line.specs.EditSets.{EditsParts};
 ghost use Rattle.edit_paths.specs.Paths.{before_last};
 ghost use Rattle.edit_paths.specs.Works.{work_of};
 ghost use Rattle.localise_tree.specs.KeptFields.{KeepsChanged};
-ghost use Rattle.localise_tree.specs.inner.Bases.{IsSame};
+ghost use Rattle.localise_tree.specs.inner.Bases.{IsSame, SharesBasis, box_count, has_basis};
 ghost use Rattle.localise_tree.specs.inner.Nodes.{IsNode, KeepsOpen, TellsLook};
 ghost use Rattle.localise_tree.specs.inner.Problems.{IsProblem, case_in, edits_in};
 
@@ -19,8 +19,8 @@ use std::alloc::Global;
 use std::sync::Arc;
 use std::sync::ledger::Ledger;
 
-/// What the paths with one letter more are looked into from: the lines of an open path's system, or, where it
-/// says something of all numerical fields, its boxes.
+/// What the paths with one letter more are looked into from, and its proof is written from: the lines of a path's
+/// system, or, where it says something of all numerical fields, its boxes.
 #[derive(Drop)]
 pub(crate) enum Basis {
     Lines(Arc<Held>),
@@ -37,14 +37,46 @@ impl Basis {
             Basis::Boxes(boxes) => Ok(Basis::Boxes(Arc::try_clone(boxes)?)),
         }
     }
+
+    // How many boxes it has. No memory.
+    fn box_count(&self) -> usize
+        ensures { result ≡ box_count self.now }
+    {
+        match self {
+            Basis::Lines(_) => 0,
+            Basis::Boxes(boxes) => boxes.as_slice().len(),
+        }
+    }
 }
 
-/// What a look into a path tells: its work, what becomes of it, and its basis, which counts where it is open.
+/// What a look into a path tells: its work, what becomes of it, and its basis, where one is made.
 #[derive(Drop)]
 pub(crate) struct Look {
     pub(crate) work: u64,
     pub(crate) state: PathState,
     pub(crate) basis: Basis,
+}
+
+impl Look {
+    /// Its basis, shared, if it is the path's own and has no more boxes than there is room for; its boxes take their
+    /// room.
+    pub(crate) fn kept_basis(&self, room: &mut usize) -> Result<Option<Basis>, OutOfMemory>
+        ensures { IfOk result (λ kept. IfSome kept (SharesBasis self.now room.old room.new)) }
+    {
+        let boxes = self.basis.box_count();
+        if !has_basis(self.state) || boxes > *room {
+            return Ok(None);
+        }
+        *room -= boxes;
+        Ok(Some(self.basis.share()?))
+    }
+}
+
+// Whether a look into a path of this state has the path's own basis.
+fn has_basis(state: PathState) -> bool
+    ensures { result ≡ has_basis state }
+{
+    !matches!(state, PathState::ClosedBad | PathState::Overflows(_))
 }
 
 /// Looks into the path, unless its work is more than `most`.

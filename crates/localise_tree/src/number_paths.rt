@@ -16,7 +16,7 @@ ghost use Rattle.edit_paths.specs.Works.{work_of};
 ghost use Rattle.edit_paths.specs.declared.state.PathState.{PathState as State};
 ghost use Rattle.edit_paths.specs.declared.state.PathState.TheVariants.{Open};
 ghost use Rattle.localise_tree.specs.KeptFields.{KeepsChanged};
-ghost use Rattle.localise_tree.specs.inner.Bases.{IsBasis, IsPathSystem, path_system};
+ghost use Rattle.localise_tree.specs.inner.Bases.{IsBasis, IsPathSystem, has_basis, path_system};
 ghost use Rattle.localise_tree.specs.inner.Nodes.{KeepsOpen, TellsLook};
 ghost use Rattle.localise_tree.specs.inner.Problems.{IsProblem, case_in, edits_in};
 ghost use Rattle.localise_tree.specs.inner.Tries.{or_next};
@@ -125,7 +125,7 @@ fn looked_at<S: Systems, L: Ledger>(
     requires before { KeepsChanged (S.keeps source.old) (case_in problem.now) (before_last path.now) }
     ensures work { IfOk result (λ look. look.work ≡ work) }
     ensures state { IfOk result (λ look. look.state ≡ state_of (case_in problem.now) path.now) }
-    ensures basis { IfOk result (λ look. look.state ≡ Open → IsBasis (case_in problem.now) path.now look.basis) }
+    ensures basis { IfOk result (λ look. has_basis look.state ≡ true → IsBasis (case_in problem.now) path.now look.basis) }
     ensures kept { IfOk result (λ look. look.state ≡ Open → KeepsChanged (S.keeps source.new) (case_in problem.now) path.now) }
     ensures serves { (e : EditsParts) → S.serves source.old e → S.serves source.new e }
     ensures keeps { (f : ℕ) → S.keeps source.old f ≡ true → S.keeps source.new f ≡ true }
@@ -223,15 +223,15 @@ fn changed_system<S: Systems, L: Ledger>(
     source.system_after(alloc, before, field, steps)
 }
 
-// The system, owned once more: its lines are not copied.
-fn share(system: &Arc<Held>) -> Result<Arc<Held>, OutOfMemory>
+/// The system, owned once more: its lines are not copied.
+pub(crate) fn share(system: &Arc<Held>) -> Result<Arc<Held>, OutOfMemory>
     ensures { IfOk result (λ other. arc_value other ≡ arc_value system.now) }
 {
     Ok(Arc::try_clone(system)?)
 }
 
-// The system, to be shared.
-fn alone(alloc: Global, held: Held) -> Result<Arc<Held>, OutOfMemory>
+/// The system, to be shared.
+pub(crate) fn alone(alloc: Global, held: Held) -> Result<Arc<Held>, OutOfMemory>
     ensures { IfOk result (λ system. arc_value system ≡ held) }
 {
     Ok(Arc::new(alloc, held)?)
@@ -251,7 +251,7 @@ fn tried(
     requires system { IsPathSystem (case_in problem.now) path.now (arc_value system) }
     ensures work { IfOk result (λ look. look.work ≡ work) }
     ensures state { IfOk result (λ look. look.state ≡ state_of (case_in problem.now) path.now) }
-    ensures basis { IfOk result (λ look. look.state ≡ Open → IsBasis (case_in problem.now) path.now look.basis) }
+    ensures basis { IfOk result (λ look. has_basis look.state ≡ true → IsBasis (case_in problem.now) path.now look.basis) }
 {
     let lines = system.system().lines();
     if path.letters().len() < number_count(problem) {

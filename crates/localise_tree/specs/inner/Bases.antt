@@ -1,4 +1,4 @@
-use Rattle.std.specs.Prelude.{◌≡◌, ◌<◌, ◌≤◌, Bool, List, Ok, Result, length}
+use Rattle.std.specs.Prelude.{◌≡◌, ℕ, ◌+◌, ◌<◌, ◌≤◌, Bool, false, true, List, Ok, Option, IfSome, Result, length}
 use Rattle.std.specs.Arc.{arc_value}
 use Rattle.edit_model.specs.FieldSets.{set_of}
 use Rattle.edit_line.specs.EditSets.{edits_of}
@@ -10,7 +10,10 @@ use Rattle.linear_elim.specs.declared.held.Held.{Held}
 use Rattle.edit_paths.specs.Cases.{SearchCase}
 use Rattle.edit_paths.specs.Paths.{before_last, changed_numbers, number_count}
 use Rattle.edit_paths.specs.States.{boxes_along}
+use Rattle.edit_paths.specs.declared.state.PathState.{PathState}
+use Rattle.edit_paths.specs.declared.state.PathState.TheVariants.{ClosedBad, Overflows}
 use Rattle.localise_tree.specs.declared.looks.Basis.{Basis}
+use Rattle.localise_tree.specs.declared.looks.Look.{Look}
 use Rattle.localise_tree.specs.declared.looks.Basis.TheVariants.{Boxes, Lines}
 
 -- the system of the numerical fields that the path changes
@@ -33,8 +36,30 @@ abbrev pub IsBasisBefore : SearchCase → List Bool → Basis → Type 0
 IsBasisBefore c path (Lines system) = (length path ≤ number_count c) × IsPathSystem c (before_last path) (arc_value system)
 IsBasisBefore c path (Boxes boxes) = (number_count c < length path) × (arc_value boxes ≡ boxes_along c (before_last path))
 
+-- whether a look into a path of this state has the path's own basis: none is made where it keeps a field without a value, or where
+-- a number leaves the range
+abbrev pub has_basis : PathState → Bool
+has_basis ClosedBad = false
+has_basis (Overflows e) = false
+has_basis _ = true
+
+-- the basis, if there is one, is right for the path
+abbrev pub IsKnownBasis : SearchCase → List Bool → Option Basis → Type 0
+IsKnownBasis c path basis = IfSome basis (IsBasis c path)
+
+-- how many boxes the basis has
+abbrev pub box_count : Basis → ℕ
+box_count (Lines system) = 0
+box_count (Boxes boxes) = length (arc_value boxes)
+
 -- both bases have the same lines, or the same boxes
 abbrev pub IsSame : Basis → Basis → Type 0
 IsSame (Lines first) (Lines second) = arc_value second ≡ arc_value first
 IsSame (Boxes first) (Boxes second) = arc_value second ≡ arc_value first
 IsSame _ _ = ⊥
+
+-- the basis is that of the look, where it is the path's own, and its boxes took their room
+pub record SharesBasis (look : Look) (before after : ℕ) (basis : Basis) : Type 0 where
+  pub own : has_basis look.state ≡ true
+  pub same : IsSame look.basis basis
+  pub room : after + box_count basis ≡ before

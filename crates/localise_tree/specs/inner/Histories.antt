@@ -1,11 +1,11 @@
 use Rattle.std.specs.Prelude.{◌≡◌, ◌++◌, ◌<◌, ◌≤◌, ℕ, Bool, List, [], Result, Ok, Err, if◌then◌else◌, length}
+use Rattle.std.specs.Arc.{arc_value}
 use Rattle.std.specs.List.{fold}
 use Rattle.edit_model.specs.RowPoints.{code_in}
 use Rattle.edit_model.specs.Rows.{value_of}
 use Rattle.edit_line.specs.Shapes.{shape_of}
 use Rattle.edit_line.specs.declared.derived.Derived.{Derived}
 use Rattle.linear_elim.specs.Systems.{SystemOverflow}
-use Rattle.categ_combine.specs.BoxLists.{AreBoxesOver}
 use Rattle.categ_combine.specs.Covers.{covered_from}
 use Rattle.categ_combine.specs.Fixing.{fixed_from}
 use Rattle.categ_combine.specs.declared.box_from.BoxFrom.{BoxFrom}
@@ -38,7 +38,7 @@ boxes_by c changed boxes f =
 -- the boxes of a list, none of a list of lines
 abbrev pub own_boxes : Level → List BoxFrom
 own_boxes (Lines held) = []
-own_boxes (Boxes field boxes) = boxes
+own_boxes (Boxes field boxes) = arc_value boxes
 
 -- the boxes of the last of the lists
 abbrev pub boxes_in : List Level → List BoxFrom
@@ -48,7 +48,6 @@ boxes_in levels = fold (λ (before : List BoxFrom) level. own_boxes level) [] le
 pub record HasBoxLists (c : SearchCase) (path : List Bool) (levels : List Level) : Type 0 where
   pub lists : history_of levels ≡ box_history c path
   pub along : boxes_in levels ≡ boxes_along c path
-  pub over : AreBoxesOver (shape_of c.survey.fields) (boxes_in levels)
 
 -- the lists lead to the path's system, or, where it says something of categorical fields, to its boxes
 pub record HasLists (c : SearchCase) (path : List Bool) (levels : List Level) : Type 0 where

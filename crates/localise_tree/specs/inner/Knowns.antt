@@ -1,29 +1,36 @@
-use Rattle.std.specs.Prelude.{◌≡◌, ◌++◌, Bool, List, Option, Some, None, Vec, if◌then◌else◌}
+use Rattle.std.specs.Prelude.{◌≡◌, ◌<◌, ℕ, Bool, false, List, [], Option, Some, None, Vec, length, slice_index_or}
 use Rattle.std.specs.BTreeMap.{BTreeMap, get}
 use Rattle.std.specs.Cmp.Lexicographic.{slice_cmp}
 use Rattle.std.specs.Ordering.{bool_cmp}
 use Rattle.std.specs.declared.alloc.Global.{Global}
-use Rattle.bound_cert.specs.declared.cert.Leaf.{Leaf}
-use Rattle.edit_paths.specs.Cases.{SearchCase}
+use Rattle.edit_line.specs.Reductions.{IsIn}
 use Rattle.edit_paths.specs.Certificates.{has_path}
-use Rattle.edit_paths.specs.States.{state_of}
-use Rattle.edit_paths.specs.declared.state.PathState.{PathState}
-use Rattle.localise_tree.specs.inner.Takens.{leaves_below}
+use Rattle.localise_tree.specs.declared.best_first.Taken.{Taken}
+use Rattle.localise_tree.specs.declared.known.Known.{Known}
+use Rattle.localise_tree.specs.inner.Takens.{taken_paths}
 
--- what became of paths, by their letters
-abbrev pub Known : Type 0
-Known = BTreeMap (Vec Bool Global) PathState
+-- places of paths, by their letters
+abbrev pub Places : Type 0
+Places = BTreeMap (Vec Bool Global) ℕ
 
--- what became of the path of these letters, if that is known
-abbrev pub known_at : Known → Vec Bool Global → Option PathState
-known_at known letters = get (λ x y. slice_cmp bool_cmp x.items y.items) known letters
+-- the place of the path of these letters, if it has one
+abbrev pub place_at : Places → Vec Bool Global → Option ℕ
+place_at places letters = get (λ x y. slice_cmp bool_cmp x.items y.items) places letters
 
--- the states of these paths are known, and of no other
-abbrev pub Knows : SearchCase → List (List Bool) → Known → Type 0
-Knows c paths known = (letters : Vec Bool Global)
-    → known_at known letters ≡ (if has_path paths letters.items then Some (state_of c letters.items) else None)
+-- the path stands at this place of the paths; where it has no place, it is none of them
+abbrev pub IsPlaceOf : List (List Bool) → List Bool → Option ℕ → Type 0
+IsPlaceOf paths path (Some place) = (place < length paths) × (slice_index_or paths place [] ≡ path)
+IsPlaceOf paths path None = has_path paths path ≡ false
 
--- the leaves of the tree of the known paths, from this path on, are appended
-abbrev pub AddsTree : SearchCase → Known → List Bool → List Leaf → List Leaf → Type 0
-AddsTree c known path before after =
-    (paths : List (List Bool)) → Knows c paths known → after ≡ before ++ leaves_below c paths path
+-- of each path the place among these paths, if it is one of them
+abbrev pub ArePlaces : List (List Bool) → Places → Type 0
+ArePlaces paths places = (letters : Vec Bool Global) → IsPlaceOf paths letters.items (place_at places letters)
+
+-- the places are those of the taken paths
+abbrev pub IsKnown : Known → Type 0
+IsKnown known = ArePlaces (taken_paths known.taken.now) known.places
+
+-- it was taken, and has these letters
+pub record IsFound (taken : List Taken) (letters : List Bool) (one : Taken) : Type 0 where
+  pub there : IsIn one taken
+  pub path : one.path ≡ letters

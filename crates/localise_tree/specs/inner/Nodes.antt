@@ -1,4 +1,4 @@
-use Rattle.std.specs.Prelude.{◌≡◌, ◌*◌, ◌<◌, ◌≤◌, ◌==◌, ◌&&◌, ◌||◌, ℕ, Bool, List, [], ◌∷◌, Option, IfSome, length, map, nat_lt, slice_index_or}
+use Rattle.std.specs.Prelude.{◌≡◌, ◌*◌, ◌<◌, ◌≤◌, ◌==◌, ◌&&◌, ◌||◌, ℕ, Bool, true, List, [], ◌∷◌, Option, IfSome, length, map, nat_lt, slice_index_or}
 use Rattle.std.specs.Arc.{arc_value}
 use Rattle.std.specs.List.{AllByRecursion}
 use Rattle.edit_model.specs.Corrections.{is_first, path_order}
@@ -17,7 +17,7 @@ use Rattle.localise_tree.specs.declared.ends.Node.{Node}
 use Rattle.localise_tree.specs.declared.looks.Basis.{Basis}
 use Rattle.localise_tree.specs.declared.looks.Basis.TheVariants.{Boxes, Lines}
 use Rattle.localise_tree.specs.declared.looks.Look.{Look}
-use Rattle.localise_tree.specs.inner.Bases.{IsBasis, IsBasisBefore}
+use Rattle.localise_tree.specs.inner.Bases.{IsBasis, IsBasisBefore, has_basis}
 
 -- ---- ends
 
@@ -61,11 +61,11 @@ IsFirstEnd held ends = (before : Basis) × (ends ≡ record { path = []; weight 
 
 -- ---- looks
 
--- the work and the state of the path, and its basis where it is open
+-- the work and the state of the path, and its basis where one is made
 pub record IsLook (c : SearchCase) (path : List Bool) (look : Look) : Type 0 where
   pub work : look.work ≡ work_of c path
   pub state : look.state ≡ state_of c path
-  pub basis : look.state ≡ Open → IsBasis c path look.basis
+  pub basis : has_basis look.state ≡ true → IsBasis c path look.basis
 
 -- the look, if there is one, is right, and its work no more than may be done
 abbrev pub TellsLook : SearchCase → List Bool → ℕ → Option Look → Type 0

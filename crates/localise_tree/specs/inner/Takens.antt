@@ -5,10 +5,12 @@ use Rattle.edit_paths.specs.Certificates.{leaves_from}
 use Rattle.edit_paths.specs.Paths.{field_count}
 use Rattle.edit_paths.specs.States.{state_of}
 use Rattle.localise_tree.specs.declared.best_first.Taken.{Taken}
+use Rattle.localise_tree.specs.inner.Bases.{IsKnownBasis}
 
--- what became of a path that was taken is its state
-abbrev pub IsTaken : SearchCase → Taken → Type 0
-IsTaken c taken = taken.state ≡ state_of c taken.path
+-- what became of a path that was taken is its state, and what is kept of it is its basis
+pub record IsTaken (c : SearchCase) (taken : Taken) : Type 0 where
+  pub state : taken.state ≡ state_of c taken.path
+  pub basis : IsKnownBasis c taken.path taken.basis
 
 -- the paths that were taken
 abbrev pub taken_paths : List Taken → List (List Bool)

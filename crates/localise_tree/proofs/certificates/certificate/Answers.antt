@@ -3,14 +3,14 @@ use Rattle.bound_cert.specs.declared.cert.Leaf.{Leaf}
 use Rattle.edit_paths.specs.Certificates.{leaves_from}
 use Rattle.edit_paths.specs.Paths.{field_count}
 use Rattle.localise_tree.specs.inner.Problems.{case_in}
-use Rattle.localise_tree.specs.inner.Takens.{taken_paths}
+use Rattle.localise_tree.specs.inner.Takens.{leaves_below, taken_paths}
 use Rattle.localise_tree.proofs.certificates.certificate.Goals as goal
 
 pub returns-clause-leaves : goal.returns-clause-leaves
 returns-clause-leaves g c =
     let all : field_count (case_in c.args.problem.now) - 0 ≡ field_count (case_in c.args.problem.now) = omega arith in
     c.from_vec.ensures
-    ∙ c.in_ok-push_leaves.ensures.leaves (taken_paths c.args.taken.now) (c.in_ok-known.ensures (case_in c.args.problem.now) c.requires.taken)
-    ∙ ap (λ (ls : List Leaf). ls ++ leaves_from (case_in c.args.problem.now) (taken_paths c.args.taken.now) (field_count (case_in c.args.problem.now) - length c.new-letters.result.items) c.new-letters.result.items) c.new-leaves.ensures.items
-    ∙ ap (λ (p : List Bool). leaves_from (case_in c.args.problem.now) (taken_paths c.args.taken.now) (field_count (case_in c.args.problem.now) - length p) p) c.new-letters.ensures.items
+    ∙ c.in_ok-push_leaves.ensures.leaves
+    ∙ ap (λ (ls : List Leaf). ls ++ leaves_below (case_in c.args.problem.now) (taken_paths c.args.taken.now) c.new-letters.result.items) c.new-leaves.ensures.items
+    ∙ ap (λ (p : List Bool). leaves_below (case_in c.args.problem.now) (taken_paths c.args.taken.now) p) c.new-letters.ensures.items
     ∙ ap (λ n. leaves_from (case_in c.args.problem.now) (taken_paths c.args.taken.now) n []) all
