@@ -95,7 +95,15 @@ fn push_leaves<S: Systems, L: Ledger>(
     };
     let before = levels.len();
     let own = taken.basis.as_ref();
-    push_lists(alloc, source, problem, letters, Bases { own, parent }, levels, steps)?;
+    push_lists(
+        alloc,
+        source,
+        problem,
+        letters,
+        Bases { own, parent },
+        levels,
+        steps,
+    )?;
     if taken.state.is_open() && letters.len() < field_count(problem) {
         letters.push(false)?;
         push_leaves(

@@ -2,9 +2,8 @@ use Rattle.std.proofs.Common.{Bool, List, [], append_assoc, ap, arith, false, le
 use Rattle.std.specs.Option.{option_copied}
 use Rattle.bound_cert.specs.declared.cert.Leaf.{Leaf}
 use Rattle.bound_cert.specs.declared.cert.LeafWhy.TheVariants as why
-use Rattle.edit_paths.specs.Certificates.{has_path, leaf, leaves_by}
+use Rattle.edit_paths.specs.Certificates.{leaf, leaves_by}
 use Rattle.edit_paths.specs.Paths.{before_last, field_count}
-use Rattle.edit_paths.specs.States.{state_of}
 use Rattle.edit_paths.specs.declared.levels.Level.{Level}
 use Rattle.localise_tree.specs.inner.Bases.{IsKnownBasis}
 use Rattle.localise_tree.specs.inner.Histories.{HasLists, HasListsBefore, LeadTo}

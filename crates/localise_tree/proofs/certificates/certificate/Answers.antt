@@ -1,4 +1,4 @@
-use Rattle.std.proofs.Common.{Bool, List, [], ap, arith, length, ◌++◌, ◌-◌, ◌∙◌, ◌≡◌}
+use Rattle.std.proofs.Common.{Bool, List, [], ap, arith, ◌++◌, ◌-◌, ◌∙◌, ◌≡◌}
 use Rattle.bound_cert.specs.declared.cert.Leaf.{Leaf}
 use Rattle.edit_paths.specs.Certificates.{leaves_from}
 use Rattle.edit_paths.specs.Paths.{field_count}

@@ -1,4 +1,4 @@
-use Rattle.std.proofs.Common.{List, Bool, ◌<◌, ℕ, length, rules, sym, subst, ◌∙◌}
+use Rattle.std.proofs.Common.{rules, sym, subst, ◌∙◌}
 use Rattle.localise_tree.specs.declared.best_first.Taken.{Taken}
 use Rattle.localise_tree.specs.inner.Knowns.{IsFound, IsPlaceOf, place_at}
 use Rattle.localise_tree.specs.inner.Takens.{taken_paths}
