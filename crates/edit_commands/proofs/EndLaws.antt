@@ -3,6 +3,7 @@ use Rattle.std.proofs.Common.{◌≡◌, ◌∙◌, ◌+◌, ◌-◌, ◌^◌, �
 use Rattle.std.specs.Prelude.{if◌then◌else◌}
 use Rattle.std.proofs.Math.Nat.{min-eq_left}
 use Rattle.edit_model.specs.Parts.{SurveyParts}
+use Rattle.edit_model.specs.Surveys.{IsWellFormed}
 use Rattle.record_text.specs.Sheets.{SheetParts}
 use Rattle.edit_report.specs.declared.end.RowEnd.{RowEnd}
 use Rattle.edit_release.specs.Edits.{Written}
@@ -11,7 +12,7 @@ use Rattle.edit_release.specs.declared.release.Release.{Release}
 use Rattle.edit_desk.specs.Desk.{Files, raised}
 use Rattle.command_words.specs.Asked.{EditAsked}
 use Rattle.edit_commands.specs.EditRun.{IsMade, Leaves, edit_files}
-use Rattle.edit_commands.specs.Edits.{HasReleased, IsStatusOf, terms_asked}
+use Rattle.edit_commands.specs.Edits.{HasReleased, IsEditWith, IsStatusOf, terms_asked}
 use Rattle.run_parts.specs.Faults.{IsOfStores, fault_status}
 use Rattle.run_parts.specs.Readings.{HoldsRecords, HoldsRules}
 use Rattle.run_parts.specs.Run.{IsFaultless, LeavesOf, Run, faults_by}
@@ -21,6 +22,7 @@ use Rattle.run_parts.specs.declared.fault.Fault.TheVariants as fault
 use Rattle.run_parts.specs.declared.status.Status.{Status}
 use Rattle.run_parts.specs.declared.status.Status.TheVariants as status
 use Rattle.edit_commands.proofs.InputLaws.{IsBeside}
+use Rattle.edit_commands.proofs.WholeLaws.{whole-released}
 
 -- ---- the status of an edit
 
@@ -37,15 +39,20 @@ shown-by true ends h = inl (refl, h.0 refl)
 shown-by false ends h = inr (refl, λ all. let t = h.1 all in absurd cc)
 
 -- what is to be made of the files that were read
-pub made : (asked : EditAsked) (files : Files) (survey : SurveyParts) (s : SheetParts) (release : Release) → HoldsRules files asked.names.rules survey → HoldsRecords files asked.names.records survey.fields s
+pub made : (asked : EditAsked) (files : Files) (survey : SurveyParts) (s : SheetParts) (release : Release) → IsWellFormed survey → HoldsRules files asked.names.rules survey → HoldsRecords files asked.names.records survey.fields s
     → IsReleaseOf survey s (terms_asked asked) asked.workers release → IsMade asked (edit_status release) files (written_in release)
-made asked files survey s release hr hs h = record {
-  survey = survey;
-  sheet = s;
-  rules = hr;
-  records = hs;
-  edit = record { ends = h.ends; history = h.history; edit = h.edit; order = h.order; ended = shown-by release.whole h.ends h.whole };
-}
+made asked files survey s release formed hr hs h =
+    let edit : IsEditWith survey s (terms_asked asked) asked.workers (edit_status release) (written_in release) =
+    record { ends = h.ends; history = h.history; edit = h.edit; order = h.order; ended = shown-by release.whole h.ends h.whole } in
+    record {
+      survey = survey;
+      sheet = s;
+      rules = hr;
+      formed = formed;
+      records = hs;
+      edit = edit;
+      whole = whole-released survey s (terms_asked asked) asked.workers (edit_status release) (written_in release) edit;
+    }
 
 -- ---- what an edit leaves
 

@@ -2,6 +2,7 @@ pub mod AuditLaws
 pub mod EndLaws
 pub mod InputLaws
 pub mod MakeLaws
+pub mod OneMade
 pub mod RulesLaws
 pub mod RunLaws
 pub mod WholeLaws

@@ -20,7 +20,8 @@ use Rattle.record_ends.specs.Ends.{ComesOf, IsEndOf, StopsGiving}
 use Rattle.record_ends.specs.Said.{OutcomeSays, Says}
 use Rattle.edit_release.specs.Releases.{AllGiven}
 use Rattle.edit_commands.specs.Edits.{IsStatusOf}
-use Rattle.edit_commands.specs.Laws.{IsInReach, WholeLaw}
+use Rattle.edit_commands.specs.Laws.{WholeLaw}
+use Rattle.edit_commands.specs.Reach.{IsInReach}
 use Rattle.run_parts.specs.declared.status.Status.{Status}
 use Rattle.run_parts.specs.declared.status.Status.TheVariants.{Done}
 
@@ -47,4 +48,4 @@ by-status ends answer (inl (done, all)) given = done
 by-status ends answer (inr (some, not)) given = absurd (not given)
 
 pub whole-released : WholeLaw
-whole-released survey s terms workers answer written p edit correction reach = by-status edit.ends answer edit.ended (all-given survey terms.budget s.rows p correction s.rows edit.ends reach edit.edit.each (edit-says survey s terms edit.ends edit.history written edit.edit))
+whole-released survey s terms workers answer written edit p correction reach = by-status edit.ends answer edit.ended (all-given survey terms.budget s.rows p correction s.rows edit.ends reach edit.edit.each (edit-says survey s terms edit.ends edit.history written edit.edit))

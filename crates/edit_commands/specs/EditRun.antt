@@ -2,11 +2,13 @@
 use Rattle.std.specs.Prelude.{◌≡◌, ◌≢◌, ◌⊎◌, ℕ, List, [], ◌∷◌, Some, IfSome}
 use Rattle.edit_desk.specs.Desk.{Asked, Files, PutsOnRecord, Told, fetched, stored}
 use Rattle.edit_model.specs.Parts.{SurveyParts}
+use Rattle.edit_model.specs.Surveys.{IsWellFormed}
 use Rattle.record_text.specs.Sheets.{SheetParts}
 use Rattle.edit_release.specs.Edits.{Written}
 use Rattle.command_words.specs.Asked.{EditAsked}
 use Rattle.edit_commands.specs.Edits.{HasReleased, IsEditWith, terms_asked}
 use Rattle.run_parts.specs.Faults.{IsOfEdit}
+use Rattle.edit_commands.specs.Reach.{IsDoneInReach}
 use Rattle.run_parts.specs.Readings.{HoldsRecords, HoldsRules, Refuses}
 use Rattle.run_parts.specs.Run.{AreTold, AreUntold, IsFaultless, IsRefused, LeavesOf, Refusals, Run}
 use Rattle.run_parts.specs.declared.fault.Fault.{Fault}
@@ -25,14 +27,17 @@ abbrev pub edit_files : EditAsked → Written → List (List ℕ × List ℕ)
 edit_files asked written =
     (asked.names.proof, written.proof) ∷ (asked.names.reasons, written.reasons) ∷ (asked.names.released, written.released) ∷ []
 
--- this is to be written and printed of the files that the desk held: the rules and the records were read, and it is
--- their edit by as many workers as were asked for
+-- this is to be written and printed of the files that the desk held: the rules were read as a well-formed survey, and the records, and
+-- it is their edit by as many workers as were asked for; where some point is consistent, and nothing stands in the way of any of these
+-- records, all are released
 pub record IsMade (asked : EditAsked) (answer : Status) (files : Files) (written : Written) : Type 0 where
   pub survey : SurveyParts
   pub sheet : SheetParts
   pub rules : HoldsRules files asked.names.rules survey
+  pub formed : IsWellFormed survey
   pub records : HoldsRecords files asked.names.records survey.fields sheet
   pub edit : IsEditWith survey sheet (terms_asked asked) asked.workers answer written
+  pub whole : IsDoneInReach survey asked.budget sheet.rows edit.ends answer
 
 -- the three files of an edit stand there, and every other one is as it was
 pub record AreWritten (asked : EditAsked) (written : Written) (before after : Files) : Type 0 where

@@ -3,5 +3,6 @@ pub mod EditRun
 pub mod Edits
 pub mod Laws
 pub mod MakeRun
+pub mod Reach
 pub mod RulesRun
 pub mod inner

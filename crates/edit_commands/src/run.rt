@@ -42,7 +42,8 @@ pub fn fh_main<R: Threads + Wait + Sync, D: Desk, P: Printer, G: Gate>(
     ensures usage { result ≡ Status.Usage → IsNoCommand words.now }
     ensures unasked { IsNoCommand words.now → IsRefused word_refusals result (ran D.Desk P.Printer desk printer) }
 
-    // The release guarantee: what stands in the three files, and what was printed, where an edit ends with 0 or 1.
+    // The release guarantee: what stands in the three files, and what was printed, where an edit ends with 0 or 1; and that it
+    // is 0 where nothing stands in the way of any record.
     ensures edited { HasReleased result → ForEdit words.now (λ ask. IsEdited ask result (ran D.Desk P.Printer desk printer)) }
 
     // Where it ends otherwise: the fault that ended it, where it ended, what is left and what was printed.

@@ -7,6 +7,7 @@ pub mod EventLaws
 pub mod GiftFaults
 pub mod GivenValues
 pub mod GuaranteeLaws
+pub mod OneEdit
 pub mod OutcomeLaws
 pub mod ReadBackLaws
 pub mod ReleaseLaws

@@ -102,7 +102,7 @@ returns-in_err-store_release-clause-files g c =
     rw (handed c.from_residual-in_err-store_release.result _ c.from_residual-in_err-store_release.ensures.1)
     (subst (λ (a : EditAsked). Told before (g.D.Desk.files c.store_release.new.desk) (Leaves a f)) c.asked.view_is
     (from-told before _ (λ old new is h. stores-leave asked f (edit_status release) (written_in release) old new c.in_err-store_release.ensures.kind is h)
-    (both-told before (λ o hr hs. made asked o survey sheet release hr hs edit)
+    (both-told before (λ o hr hs. made asked o survey sheet release c.in_ok-survey.ensures.well_formed hr hs edit)
     c.in_ok-survey.ensures.read (rw c.in_ok-survey.ensures.unchanged at c.in_ok-sheet.ensures.read))
     (rw (← c.asked.view_is, c.in_ok-sheet.ensures.unchanged, c.in_ok-survey.ensures.unchanged) at c.in_err-store_release.ensures.files)))
 
@@ -143,7 +143,7 @@ returns-clause-files g c =
     subst (λ (a : EditAsked). Told before (g.D.Desk.files c.store_release.new.desk) (λ old new. IsMade a answer old written × AreWritten a written old new))
     c.asked.view_is
     (from-told before _ (λ old new is h. (is, all-written asked written old new c.asked.invariant.0 h))
-    (both-told before (λ o hr hs. made asked o survey sheet release hr hs edit)
+    (both-told before (λ o hr hs. made asked o survey sheet release c.in_ok-survey.ensures.well_formed hr hs edit)
     c.in_ok-survey.ensures.read (rw c.in_ok-survey.ensures.unchanged at c.in_ok-sheet.ensures.read))
     (rw (← c.asked.view_is, c.in_ok-sheet.ensures.unchanged, c.in_ok-survey.ensures.unchanged) at c.in_ok-store_release.ensures.files))
 
