@@ -28,9 +28,9 @@ use std::alloc::Global;
 use std::sync::Arc;
 use std::sync::ledger::Ledger;
 
-/// The most boxes that are kept of the paths that were taken for a record. Those of further paths are made again where
-/// the certificate needs them, so that the memory for a record stays bounded.
-const MOST_KEPT_BOXES: usize = 100_000;
+/// The most lines and boxes that are kept of the paths that were taken for a record. Those of further paths are made again
+/// where the certificate needs them, so that the memory for a record stays bounded.
+const MOST_KEPT: usize = 100_000;
 
 /// A path that was taken, what became of it, and its basis, if that was kept.
 #[derive(Drop)]
@@ -120,7 +120,7 @@ fn search<S: Systems, L: Ledger>(
 {
     let mut taken = Vec::new(alloc);
     let mut spent = 0;
-    let mut room = MOST_KEPT_BOXES;
+    let mut room = MOST_KEPT;
     let mut ends = first_end(alloc, source, problem, steps)?;
     while let Some(node) = take_first(&mut ends) {
         let Some(look) = look_into(alloc, source, problem, &node, budget - spent, steps)? else {

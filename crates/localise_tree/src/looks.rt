@@ -3,7 +3,7 @@ ghost use Rattle.edit_line.specs.EditSets.{EditsParts};
 ghost use Rattle.edit_paths.specs.Paths.{before_last};
 ghost use Rattle.edit_paths.specs.Works.{work_of};
 ghost use Rattle.localise_tree.specs.KeptFields.{KeepsChanged};
-ghost use Rattle.localise_tree.specs.inner.Bases.{IsSame, SharesBasis, box_count, has_basis};
+ghost use Rattle.localise_tree.specs.inner.Bases.{IsSame, SharesBasis, has_basis, size_of};
 ghost use Rattle.localise_tree.specs.inner.Nodes.{IsNode, KeepsOpen, TellsLook};
 ghost use Rattle.localise_tree.specs.inner.Problems.{IsProblem, case_in, edits_in};
 
@@ -38,12 +38,12 @@ impl Basis {
         }
     }
 
-    // How many boxes it has. No memory.
-    fn box_count(&self) -> usize
-        ensures { result ≡ box_count self.now }
+    // How many lines or boxes it has. No memory.
+    fn size(&self) -> usize
+        ensures { result ≡ size_of self.now }
     {
         match self {
-            Basis::Lines(_) => 0,
+            Basis::Lines(system) => system.system().lines().len(),
             Basis::Boxes(boxes) => boxes.as_slice().len(),
         }
     }
@@ -58,16 +58,16 @@ pub(crate) struct Look {
 }
 
 impl Look {
-    /// Its basis, shared, if it is the path's own and has no more boxes than there is room for; its boxes take their
-    /// room.
+    /// Its basis, shared, if it is the path's own and has no more lines or boxes than there is room for; these take
+    /// their room.
     pub(crate) fn kept_basis(&self, room: &mut usize) -> Result<Option<Basis>, OutOfMemory>
         ensures { IfOk result (λ kept. IfSome kept (SharesBasis self.now room.old room.new)) }
     {
-        let boxes = self.basis.box_count();
-        if !has_basis(self.state) || boxes > *room {
+        let size = self.basis.size();
+        if !has_basis(self.state) || size > *room {
             return Ok(None);
         }
-        *room -= boxes;
+        *room -= size;
         Ok(Some(self.basis.share()?))
     }
 }

@@ -47,10 +47,10 @@ has_basis _ = true
 abbrev pub IsKnownBasis : SearchCase → List Bool → Option Basis → Type 0
 IsKnownBasis c path basis = IfSome basis (IsBasis c path)
 
--- how many boxes the basis has
-abbrev pub box_count : Basis → ℕ
-box_count (Lines system) = 0
-box_count (Boxes boxes) = length (arc_value boxes)
+-- how many lines or boxes the basis has
+abbrev pub size_of : Basis → ℕ
+size_of (Lines system) = length (system_held (arc_value system)).lines
+size_of (Boxes boxes) = length (arc_value boxes)
 
 -- both bases have the same lines, or the same boxes
 abbrev pub IsSame : Basis → Basis → Type 0
@@ -58,8 +58,8 @@ IsSame (Lines first) (Lines second) = arc_value second ≡ arc_value first
 IsSame (Boxes first) (Boxes second) = arc_value second ≡ arc_value first
 IsSame _ _ = ⊥
 
--- the basis is that of the look, where it is the path's own, and its boxes took their room
+-- the basis is that of the look, where it is the path's own, and its lines or boxes took their room
 pub record SharesBasis (look : Look) (before after : ℕ) (basis : Basis) : Type 0 where
   pub own : has_basis look.state ≡ true
   pub same : IsSame look.basis basis
-  pub room : after + box_count basis ≡ before
+  pub room : after + size_of basis ≡ before
