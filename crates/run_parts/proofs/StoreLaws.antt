@@ -1,5 +1,5 @@
 -- What stores, one after the other, leave of the files.
-use Rattle.std.proofs.Common.{◌≡◌, ◌∙◌, ℕ, suc, List, [], ◌∷◌, ◌++◌, Option, Result, Ok, Err, IfErr, ap, append_assoc, refl, subst, sym, take}
+use Rattle.std.proofs.Common.{◌∙◌, ℕ, suc, List, [], ◌∷◌, ◌++◌, Option, Result, Ok, Err, IfErr, ap, append_assoc, refl, subst, sym, take}
 use Rattle.edit_desk.specs.Desk.{Files, SameElsewhere, Told}
 use Rattle.run_parts.specs.Faults.{IsOfStores}
 use Rattle.run_parts.specs.Run.{AreStored, IsCutOff, LeavesOf}

@@ -3,12 +3,10 @@ use Rattle.std.specs.Prelude.{⊤, ℕ, ◌+◌, ◌++◌, List, codes}
 use Rattle.std.specs.Fmt.{decimal}
 use Rattle.edit_report.specs.Reasons.{name_of}
 use Rattle.edit_language.specs.Faults.{kind_name, kind_number}
-use Rattle.edit_language.specs.declared.fault.RulesFault.TheVariants as rules
 use Rattle.edit_model.specs.declared.field.Field.{Field}
 use Rattle.record_text.specs.declared.fault.SheetFault.{SheetFault}
 use Rattle.record_text.specs.declared.fault.SheetFault.TheVariants as sheet
 use Rattle.cert_check.specs.Texts.{why_text}
-use Rattle.cert_check.specs.declared.fault.CheckFault.TheVariants as check
 use Rattle.run_parts.specs.declared.fault.Fault.{Fault}
 use Rattle.run_parts.specs.declared.fault.Fault.TheVariants.{Usage, Rules, Records, Read, Write, TooLong, Rejected, OutOfMemory}
 use Rattle.run_parts.specs.declared.fault.RecordsFault.{RecordsFault}
