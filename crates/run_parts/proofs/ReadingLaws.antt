@@ -1,5 +1,5 @@
 -- Why a file of records that was fetched and not read is refused.
-use Rattle.std.proofs.Common.{◌≡◌, ◌≢◌, ◌⊎◌, ℕ, List, Option, IfSome, inl, inr, refl, subst, sym}
+use Rattle.std.proofs.Common.{◌≡◌, ◌≢◌, ◌⊎◌, ℕ, List, Option, inl, inr, refl, subst, sym}
 use Rattle.edit_model.specs.declared.field.Field.{Field}
 use Rattle.record_text.specs.Sheets.{IsSheet, IsSheetFault, SheetParts}
 use Rattle.record_text.specs.declared.fault.SheetFault.{SheetFault}
@@ -12,11 +12,10 @@ use Rattle.run_parts.specs.declared.fault.Fault.{Fault}
 use Rattle.run_parts.specs.declared.fault.Fault.TheVariants as fault
 use Rattle.run_parts.specs.declared.fault.RecordsFault.{RecordsFault}
 use Rattle.run_parts.proofs.HeldLaws.{holds}
-use Rattle.run_parts.proofs.ToldLaws.{each-told}
 use Rattle.run_parts.specs.Limits.{most_bytes}
 
 -- records that were not read are refused
-module _ (files : Files) (name bytes : List ℕ) (fields : List Field) (held : HoldsBytes files name most_bytes bytes) where
+module _ (files : Option Files) (name bytes : List ℕ) (fields : List Field) (held : HoldsBytes files name most_bytes bytes) where
   refused-as : (told : SheetFault) (what : RecordsFault) → sheet_refusal fields told ≡ fault.Records what → IsSheetFault fields bytes told → ((t : SheetParts) → ¬ IsSheet fields bytes t) → RefusesRecords name fields files (fault.Records what)
   refused-as told what shown is none = holds (AreNoRecords fields what) files name most_bytes bytes held (record { unread = none; found = told; first = is; told = shown })
 
@@ -30,8 +29,8 @@ module _ (files : Files) (name bytes : List ℕ) (fields : List Field) (held : H
   records-unread (sheet.RowLength n) is none = refused-as (sheet.RowLength n) _ refl (is (λ e. cc e)) (none (λ e. cc e))
 
 -- unless for want of memory
-pub records-refused : (files : Option Files) (name bytes : List ℕ) (fields : List Field) (told : SheetFault) (f : Fault) → IfSome files (λ o. HoldsBytes o name most_bytes bytes)
+pub records-refused : (files : Option Files) (name bytes : List ℕ) (fields : List Field) (told : SheetFault) (f : Fault) → HoldsBytes files name most_bytes bytes
     → (told ≢ sheet.OutOfMemory → IsSheetFault fields bytes told) → (told ≢ sheet.OutOfMemory → (t : SheetParts) → ¬ IsSheet fields bytes t) → (f ≡ sheet_refusal fields told) ⊎ (f ≡ fault.OutOfMemory)
-    → IfSome files (λ o. RefusesRecords name fields o f)
-records-refused files name bytes fields told f held is none (inl same) = each-told files (λ o h. subst (RefusesRecords name fields o) (sym same) (records-unread o name bytes fields h told is none)) held
-records-refused files name bytes fields told f held is none (inr memory) = each-told files (λ o h. subst (RefusesRecords name fields o) (sym memory) tt) held
+    → RefusesRecords name fields files f
+records-refused files name bytes fields told f held is none (inl same) = subst (RefusesRecords name fields files) (sym same) (records-unread files name bytes fields held told is none)
+records-refused files name bytes fields told f held is none (inr memory) = subst (RefusesRecords name fields files) (sym memory) tt

@@ -4,6 +4,11 @@ use Rattle.std.specs.Result.{IsErrAnd}
 use Rattle.edit_desk.specs.Desk.{Told}
 
 module _ {A : Type 0} where
+  -- what is so of something, told or not, is so of it where it is told
+  pub where-told : (a : Option A) (P : Option A → Type 0) → P a → IfSome a (λ x. P (Some x))
+  where-told None P p = tt
+  where-told (Some x) P p = p
+
   -- where something is told, less is said of it
   pub each-told : (a : Option A) {P Q : A → Type 0} → ((x : A) → P x → Q x) → IfSome a P → IfSome a Q
   each-told None less p = tt
@@ -17,10 +22,6 @@ module _ {A : Type 0} where
   pub three-told : (a : Option A) {P Q R S : A → Type 0} → ((x : A) → P x → Q x → R x → S x) → IfSome a P → IfSome a Q → IfSome a R → IfSome a S
   three-told None less p q r = tt
   three-told (Some x) less p q r = less x p q r
-
-  pub four-told : (a : Option A) {P Q R S T : A → Type 0} → ((x : A) → P x → Q x → R x → S x → T x) → IfSome a P → IfSome a Q → IfSome a R → IfSome a S → IfSome a T
-  four-told None less p q r s = tt
-  four-told (Some x) less p q r s = less x p q r s
 
   -- what two steps give
   pub then-told : (a b c : Option A) {P Q R : A → A → Type 0} → ((x y z : A) → P x y → Q y z → R x z) → Told a b P → Told b c Q → Told a c R

@@ -3,11 +3,11 @@ use Rattle.std.specs.Prelude.{◌≡◌, ◌⊎◌, ⊤, ℕ, List, ◌++◌, Op
 use Rattle.std.specs.declared.alloc.Global.{Global}
 use Rattle.std.specs.Borrow.{MutBor}
 use denote.Triple.Both.{Both}
-use Rattle.edit_desk.specs.Desk.{Asked, Files, IsLonger, Told, raised, stored}
+use Rattle.edit_desk.specs.Desk.{Asked, Files, Told, raised, stored}
 use Rattle.edit_desk.specs.declared.printer.Printer as printer
 use Rattle.edit_model.specs.declared.field.Field.{Field}
 use Rattle.run_parts.specs.Faults.{fault_status}
-use Rattle.run_parts.specs.Readings.{AreNoRecords, AreNoRules, HoldsText}
+use Rattle.run_parts.specs.Readings.{AreNoRecords, AreNoRules, HoldsLonger, HoldsText}
 use Rattle.run_parts.specs.Run.{AreCallsTo, AreCutShort, AreStored, LeavesOf, bytes_of_lines, faults_by}
 use Rattle.run_parts.specs.declared.fault.Fault.{Fault}
 use Rattle.run_parts.specs.declared.fault.Fault.TheVariants as fault
@@ -50,17 +50,17 @@ IsOfRecords name (fault.Records what) = ⊤
 IsOfRecords name fault = IsOfFetch name fault
 
 -- why a file is refused: it is too long
-abbrev pub RefusesLong : ℕ → Files → Fault → Type 0
-RefusesLong most files (fault.TooLong name) = IsLonger files name most
+abbrev pub RefusesLong : ℕ → Option Files → Fault → Type 0
+RefusesLong most files (fault.TooLong name) = HoldsLonger files name most
 RefusesLong most files fault = ⊤
 
 -- why a file of rules is refused: it holds no rules, or is too long
-abbrev pub RefusesRules : List ℕ → Files → Fault → Type 0
+abbrev pub RefusesRules : List ℕ → Option Files → Fault → Type 0
 RefusesRules name files (fault.Rules line kind) = HoldsText files name (AreNoRules line kind)
 RefusesRules name files fault = RefusesLong most_bytes files fault
 
 -- why a file of records is refused: it holds no records of these fields, or is too long
-abbrev pub RefusesRecords : List ℕ → List Field → Files → Fault → Type 0
+abbrev pub RefusesRecords : List ℕ → List Field → Option Files → Fault → Type 0
 RefusesRecords name fields files (fault.Records what) = HoldsText files name (AreNoRecords fields what)
 RefusesRecords name fields files fault = RefusesLong most_bytes files fault
 

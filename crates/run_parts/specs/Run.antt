@@ -1,5 +1,5 @@
 -- What a run asks of the desk, leaves on it, and prints.
-use Rattle.std.specs.Prelude.{◌≡◌, ◌⊎◌, ⊤, ◌<◌, ◌^◌, ◌-◌, ℕ, List, [], ◌∷◌, ◌++◌, Option, Result, Some, IfSome, take}
+use Rattle.std.specs.Prelude.{◌≡◌, ◌⊎◌, ⊤, ◌<◌, ◌^◌, ◌-◌, ℕ, List, [], ◌∷◌, ◌++◌, Option, Result, Some, take}
 use Rattle.std.specs.Borrow.{MutBor}
 use denote.Triple.Both.{Both}
 use Rattle.edit_desk.specs.Desk.{Asked, Files, HoldsPrefix, PutsOnRecord, SameElsewhere, Told, failing, fetched, raised, stored}
@@ -146,11 +146,11 @@ pub record AreUntold (texts : List (List ℕ)) (run : Run) : Type 0 where
 
 -- ---- refused runs
 
--- what a command says of its refusals: the faults that it may meet, which of them the files that the desk held call for,
--- the calls that it makes in order, and what a refusal leaves of the files
+-- what a command says of its refusals: the faults that it may meet, which of them the files that the desk held call for, told or
+-- not, the calls that it makes in order, and what a refusal leaves of the files
 pub record Refusals : Type 1 where
   pub meets : Fault → Type 0
-  pub refuses : Files → Fault → Type 0
+  pub refuses : Option Files → Fault → Type 0
   pub order : List Asked
   pub leaves : Fault → Files → Files → Type 0
 
@@ -160,7 +160,7 @@ pub record IsRefused (command : Refusals) (answer : Status) (run : Run) : Type 0
   pub fault : Fault
   pub status : answer ≡ fault_status fault
   pub kind : command.meets fault
-  pub cause : IfSome run.before.files (λ files. command.refuses files fault)
+  pub cause : command.refuses run.before.files fault
   pub calls : PutsOnRecord run.before.calls run.after.calls (AreCallsTo command.order fault)
   pub files : Told run.before.files run.after.files (command.leaves fault)
   pub faults : run.after.faults ≡ faults_by fault run.before.faults

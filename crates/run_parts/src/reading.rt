@@ -1,5 +1,5 @@
 //! The files of a run as they are fetched and read.
-ghost use Rattle.std.specs.Prelude.{◌≡◌, ◌≤◌, ◌∷◌, [], ℕ, List, IfErr, IfOk, IfSome, length};
+ghost use Rattle.std.specs.Prelude.{◌≡◌, ◌≤◌, ◌∷◌, [], ℕ, List, IfErr, IfOk, length};
 ghost use Rattle.std.specs.List.{AllByRecursion};
 ghost use Rattle.edit_desk.specs.Desk.{PutsOnRecord, fetched};
 ghost use Rattle.edit_model.specs.PlainNumbers.{HasPlain};
@@ -30,10 +30,10 @@ pub fn fetch_survey<'a, D: Desk>(
     name: &'a str,
     desk: &mut D,
 ) -> Result<Survey, Refusal<'a>>
-    ensures read { IfOk result (λ survey. IfSome (D.files desk.old) (λ files. HoldsRules files name.now survey)) }
+    ensures read { IfOk result (λ survey. HoldsRules (D.files desk.old) name.now survey) }
     ensures well_formed { IfOk result (λ survey. IsWellFormed survey) }
     ensures kind { IfErr result (IsOfRules name.now) }
-    ensures cause { IfErr result (λ fault. IfSome (D.files desk.old) (λ files. RefusesRules name.now files fault)) }
+    ensures cause { IfErr result (λ fault. RefusesRules name.now (D.files desk.old) fault) }
     ensures asked { PutsOnRecord (D.calls desk.old) (D.calls desk.new) (AreCallsOf (fetched name.now ∷ []) result) }
     ensures faults { D.faults desk.new ≡ faults_after result (D.faults desk.old) }
     ensures unchanged { D.files desk.new ≡ D.files desk.old }
@@ -52,11 +52,11 @@ pub fn fetch_sheet<'a, D: Desk>(
     survey: &Survey,
     desk: &mut D,
 ) -> Result<Sheet, Refusal<'a>>
-    ensures read { IfOk result (λ sheet. IfSome (D.files desk.old) (λ files. HoldsRecords files name.now survey.now.fields sheet)) }
+    ensures read { IfOk result (λ sheet. HoldsRecords (D.files desk.old) name.now survey.now.fields sheet) }
     ensures sheet { IfOk result (λ sheet. (bytes : List ℕ) × IsSheet survey.now.fields bytes sheet) }
     ensures plain { IfOk result (λ sheet. AllByRecursion HasPlain sheet.rows) }
     ensures kind { IfErr result (IsOfRecords name.now) }
-    ensures cause { IfErr result (λ fault. IfSome (D.files desk.old) (λ files. RefusesRecords name.now survey.now.fields files fault)) }
+    ensures cause { IfErr result (λ fault. RefusesRecords name.now survey.now.fields (D.files desk.old) fault) }
     ensures asked { PutsOnRecord (D.calls desk.old) (D.calls desk.new) (AreCallsOf (fetched name.now ∷ []) result) }
     ensures faults { D.faults desk.new ≡ faults_after result (D.faults desk.old) }
     ensures unchanged { D.files desk.new ≡ D.files desk.old }
@@ -75,10 +75,10 @@ pub fn fetch_file<'a, D: Desk>(
     most: u64,
     desk: &mut D,
 ) -> Result<Vec<u8>, Refusal<'a>>
-    ensures bytes { IfOk result (λ bytes. IfSome (D.files desk.old) (λ files. HoldsBytes files name.now most bytes.items)) }
+    ensures bytes { IfOk result (λ bytes. HoldsBytes (D.files desk.old) name.now most bytes.items) }
     ensures short { IfOk result (λ bytes. length bytes.items ≤ most) }
     ensures kind { IfErr result (IsOfFetch name.now) }
-    ensures cause { IfErr result (λ fault. IfSome (D.files desk.old) (λ files. RefusesLong most files fault)) }
+    ensures cause { IfErr result (λ fault. RefusesLong most (D.files desk.old) fault) }
     ensures asked { PutsOnRecord (D.calls desk.old) (D.calls desk.new) (AreCallsOf (fetched name.now ∷ []) result) }
     ensures faults { D.faults desk.new ≡ faults_after result (D.faults desk.old) }
     ensures unchanged { D.files desk.new ≡ D.files desk.old }
