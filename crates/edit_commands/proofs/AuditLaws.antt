@@ -1,5 +1,5 @@
 -- What the files of a check show, and which status is due of them.
-use Rattle.std.proofs.Common.{◌≡◌, ◌⊎◌, ℕ, List, Vec, Global, Option, IfSome, Result, Ok, Err, IfOk, IfErr, length, inl, inr, refl, subst, sym}
+use Rattle.std.proofs.Common.{◌≡◌, ◌⊎◌, ℕ, List, Vec, Global, Option, Some, Result, Ok, Err, IfOk, IfErr, length, inl, inr, refl, subst, sym}
 use Rattle.run_parts.specs.Refused.{check_fault}
 use Rattle.edit_model.specs.Parts.{SurveyParts}
 use Rattle.record_text.specs.Sheets.{SheetParts}
@@ -21,7 +21,7 @@ use Rattle.run_parts.specs.declared.status.Status.{Status}
 use Rattle.run_parts.specs.declared.status.Status.TheVariants as status
 use Rattle.run_parts.proofs.HeldLaws.{not_longer, one_audit}
 use Rattle.edit_commands.proofs.InputLaws.{IsBeside, IsDueOrRead, read-beside, read-not-due}
-use Rattle.run_parts.proofs.ToldLaws.{each-told, four-told}
+use Rattle.run_parts.proofs.ToldLaws.{each-told, where-told}
 use Rattle.run_parts.specs.Limits.{most_bytes, most_proof_bytes}
 
 module _ (asked : CheckAsked) (files : Files) where
@@ -39,42 +39,30 @@ module _ (asked : CheckAsked) (files : Files) where
 
   -- ---- a released file or a proof that is too long
 
-  module _ (survey : SurveyParts) (s : SheetParts) (hr : HoldsRules files asked.rules survey) (hs : HoldsRecords files asked.records survey.fields s) where
-    long-due : ((audit : Audit) → HoldsRelease files asked audit → ⊥) → AnswersDue (IsCheckDue asked files) status.TooLong
+  module _ (survey : SurveyParts) (s : SheetParts) (hr : HoldsRules (Some files) asked.rules survey) (hs : HoldsRecords (Some files) asked.records survey.fields s) where
+    long-due : ((audit : Audit) → HoldsRelease (Some files) asked audit → ⊥) → AnswersDue (IsCheckDue asked files) status.TooLong
     long-due none status.TooLong due = inl refl
     long-due none status.Rejected (audit, held, invalid) = absurd (none audit held)
     long-due none other due = absurd (read-not-due asked.rules asked.records files survey s hr hs other due)
 
-    fetch-due : (name : List ℕ) (most : ℕ) (f : Fault) → IsOfFetch name f → RefusesLong most files f → (IsLonger files name most → (audit : Audit) → HoldsRelease files asked audit → ⊥) → AnswersDue (IsCheckDue asked files) (fault_status f)
+    fetch-due : (name : List ℕ) (most : ℕ) (f : Fault) → IsOfFetch name f → RefusesLong most (Some files) f → (IsLonger files name most → (audit : Audit) → HoldsRelease (Some files) asked audit → ⊥) → AnswersDue (IsCheckDue asked files) (fault_status f)
     fetch-due name most (fault.Read n) kind why none = λ other due. inr (inl refl)
     fetch-due name most (fault.TooLong n) kind why none = long-due (none (subst (λ (m : List ℕ). IsLonger files m most) kind why))
     fetch-due name most fault.OutOfMemory kind why none = λ other due. inr (inr refl)
     fetch-due name most f kind why none = absurd kind
 
-    fetch-refuse : (name : List ℕ) (most : ℕ) (f : Fault) → IsReleaseFile asked files name most → IsOfFetch name f → RefusesLong most files f → RefusesCheck asked files f
-    fetch-refuse name most (fault.Read n) there kind why = inr (most, subst (λ (m : List ℕ). IsReleaseFile asked files m most) (sym kind) there)
-    fetch-refuse name most (fault.TooLong n) there kind why = inr (most, subst (λ (m : List ℕ). IsReleaseFile asked files m most) (sym kind) there, why)
-    fetch-refuse name most fault.OutOfMemory there kind why = tt
-    fetch-refuse name most f there kind why = absurd kind
-
-    pub released-due : (f : Fault) → IsOfFetch asked.released f → RefusesLong most_bytes files f → AnswersDue (IsCheckDue asked files) (fault_status f)
+    pub released-due : (f : Fault) → IsOfFetch asked.released f → RefusesLong most_bytes (Some files) f → AnswersDue (IsCheckDue asked files) (fault_status f)
     released-due f kind why = fetch-due asked.released most_bytes f kind why (λ long audit held. not_longer files asked.released most_bytes held.released long)
 
-    pub released-refuse : (f : Fault) → IsOfFetch asked.released f → RefusesLong most_bytes files f → RefusesCheck asked files f
-    released-refuse f kind why = fetch-refuse asked.released most_bytes f (survey, hr, (s, hs, inl (refl, refl))) kind why
-
-    pub proof-due : (f : Fault) → IsOfFetch asked.proof f → RefusesLong most_proof_bytes files f → AnswersDue (IsCheckDue asked files) (fault_status f)
+    pub proof-due : (f : Fault) → IsOfFetch asked.proof f → RefusesLong most_proof_bytes (Some files) f → AnswersDue (IsCheckDue asked files) (fault_status f)
     proof-due f kind why = fetch-due asked.proof most_proof_bytes f kind why (λ long audit held. not_longer files asked.proof most_proof_bytes held.proof long)
-
-    pub proof-refuse : (released : List ℕ) (f : Fault) → HoldsBytes files asked.released most_bytes released → IsOfFetch asked.proof f → RefusesLong most_proof_bytes files f → RefusesCheck asked files f
-    proof-refuse released f held kind why = fetch-refuse asked.proof most_proof_bytes f (survey, hr, (s, hs, inr (refl, refl, released, held))) kind why
 
   -- ---- a release
 
   moved : {name other : List ℕ} {most more : ℕ} → name ≡ other → most ≡ more → IsLonger files name most → IsLonger files other more
   moved {name} {other} {most} {more} same is long = subst (λ (m : ℕ). IsLonger files other m) is (subst (λ (n : List ℕ). IsLonger files n most) same long)
 
-  module _ (audit : Audit) (held : HoldsRelease files asked audit) where
+  module _ (audit : Audit) (held : HoldsRelease (Some files) asked audit) where
     not-long : IsCheckDue asked files status.TooLong → ⊥
     not-long (inl due) = read-not-due asked.rules asked.records files audit.survey audit.sheet held.rules held.records status.TooLong due
     not-long (inr (name, (most, (survey, hr, (sheet, hs, inl (same, is))), long))) = not_longer files asked.released most_bytes held.released (moved same is long)
@@ -97,46 +85,65 @@ module _ (asked : CheckAsked) (files : Files) where
       as-told-due (check.Rejected line why) same = rejected-due
       as-told-due check.OutOfMemory same = λ s due. inr (inr refl)
 
-      as-told-refuse : (t : CheckFault) → t ≡ told → RefusesCheck asked files (check_fault t)
-      as-told-refuse (check.Rejected line why) same = (audit, held, none line why (sym same), first line why (sym same))
-      as-told-refuse check.OutOfMemory same = tt
-
       pub check-due : (f : Fault) → (f ≡ check_fault told) ⊎ (f ≡ fault.OutOfMemory) → AnswersDue (IsCheckDue asked files) (fault_status f)
       check-due f (inl same) = rw same (as-told-due told refl)
       check-due f (inr memory) = rw memory (λ s due. inr (inr refl))
 
-      pub check-refuse : (f : Fault) → (f ≡ check_fault told) ⊎ (f ≡ fault.OutOfMemory) → RefusesCheck asked files f
-      check-refuse f (inl same) = rw same (as-told-refuse told refl)
-      check-refuse f (inr memory) = rw memory tt
-
     -- a valid one is refused for no fault but one that says nothing of the files
-    pub valid-beside : (f : Fault) → IsValidRelease audit → RefusesCheck asked files f → IsBeside f
+    pub valid-beside : (f : Fault) → IsValidRelease audit → RefusesCheck asked (Some files) f → IsBeside f
     valid-beside (fault.TooLong name) valid (inl why) = read-beside asked.rules asked.records files (fault.TooLong name) audit.survey audit.sheet held.rules held.records why
     valid-beside (fault.TooLong name) valid (inr long) = not-long (inr (name, long))
     valid-beside (fault.Read name) valid why = tt
     valid-beside (fault.Rejected line why) valid (other, there, invalid, first) = invalid (subst IsValidRelease (one_audit files asked audit other held there) valid)
     valid-beside f valid why = read-beside asked.rules asked.records files f audit.survey audit.sheet held.rules held.records why
 
--- ---- the same, where the files are told
+-- ---- refusals, of files that are told or not
 
 module _ (asked : CheckAsked) (files : Option Files) where
-  -- what was fetched and read is a release
-  pub told-held : (audit : Audit) → IfSome files (λ o. HoldsRules o asked.rules audit.survey) → IfSome files (λ o. HoldsRecords o asked.records audit.survey.fields audit.sheet)
-      → IfSome files (λ o. HoldsBytes o asked.released most_bytes audit.released) → IfSome files (λ o. HoldsBytes o asked.proof most_proof_bytes audit.proof) → IfSome files (λ o. HoldsRelease o asked audit)
-  told-held audit hr hs hb hp = four-told files (λ o rules records released proof. record { rules = rules; records = records; released = released; proof = proof }) hr hs hb hp
+  -- ---- a released file or a proof that was not read
 
-  module _ (audit : Audit) (held : IfSome files (λ o. HoldsRelease o asked audit)) where
+  module _ (survey : SurveyParts) (s : SheetParts) (hr : HoldsRules files asked.rules survey) (hs : HoldsRecords files asked.records survey.fields s) where
+    fetch-refuse : (name : List ℕ) (most : ℕ) (f : Fault) → IsReleaseFile asked files name most → IsOfFetch name f → RefusesLong most files f → RefusesCheck asked files f
+    fetch-refuse name most (fault.Read n) there kind why = inr (most, subst (λ (m : List ℕ). IsReleaseFile asked files m most) (sym kind) there)
+    fetch-refuse name most (fault.TooLong n) there kind why = inr (most, subst (λ (m : List ℕ). IsReleaseFile asked files m most) (sym kind) there, why)
+    fetch-refuse name most fault.OutOfMemory there kind why = tt
+    fetch-refuse name most f there kind why = absurd kind
+
+    pub released-refuse : (f : Fault) → IsOfFetch asked.released f → RefusesLong most_bytes files f → RefusesCheck asked files f
+    released-refuse f kind why = fetch-refuse asked.released most_bytes f (survey, hr, (s, hs, inl (refl, refl))) kind why
+
+    pub proof-refuse : (released : List ℕ) (f : Fault) → HoldsBytes files asked.released most_bytes released → IsOfFetch asked.proof f → RefusesLong most_proof_bytes files f → RefusesCheck asked files f
+    proof-refuse released f held kind why = fetch-refuse asked.proof most_proof_bytes f (survey, hr, (s, hs, inr (refl, refl, released, held))) kind why
+
+  -- ---- a release
+
+  -- what was fetched and read is one
+  pub all-held : (audit : Audit) → HoldsRules files asked.rules audit.survey → HoldsRecords files asked.records audit.survey.fields audit.sheet
+      → HoldsBytes files asked.released most_bytes audit.released → HoldsBytes files asked.proof most_proof_bytes audit.proof → HoldsRelease files asked audit
+  all-held audit rules records released proof = record { rules = rules; records = records; released = released; proof = proof }
+
+  module _ (audit : Audit) (held : HoldsRelease files asked audit) where
+    -- what the check of a release found of it
+    module _ (told : CheckFault) (first : (line : ℕ) (why : Why) → told ≡ check.Rejected line why → IsFirstFailure audit line why) (none : (line : ℕ) (why : Why) → told ≡ check.Rejected line why → ¬ IsValidRelease audit) where
+      as-told-refuse : (t : CheckFault) → t ≡ told → RefusesCheck asked files (check_fault t)
+      as-told-refuse (check.Rejected line why) same = (audit, held, none line why (sym same), first line why (sym same))
+      as-told-refuse check.OutOfMemory same = tt
+
+      pub check-refuse : (f : Fault) → (f ≡ check_fault told) ⊎ (f ≡ fault.OutOfMemory) → RefusesCheck asked files f
+      check-refuse f (inl same) = rw same (as-told-refuse told refl)
+      check-refuse f (inr memory) = rw memory tt
+
+    -- or memory was refused
+    pub memory-refused : (r : Result (Vec ℕ Global) Fault) → IfErr r (λ f. f ≡ fault.OutOfMemory) → IfErr r (λ f. RefusesCheck asked files f)
+    memory-refused (Ok line) memory = tt
+    memory-refused (Err f) memory = rw memory tt
+
     -- a valid one is accepted
     pub accepted : (total given : ℕ) (r : Result (Vec ℕ Global) Fault) → IsValidRelease audit → Shows audit → length audit.sheet.rows ≡ total → IsReleasedCount audit given → IfOk r (λ line. line.items ≡ valid_text total given)
         → IfOk r (λ line. Accepts asked files line.items)
     accepted total given (Ok line) valid shows many count is =
-        (total, given, is, each-told files (λ o h. record { audit = audit; held = h; valid = valid; shown = shows; records = many; released = count }) held)
+        (total, given, is, each-told files (λ o h. record { audit = audit; held = h; valid = valid; shown = shows; records = many; released = count }) (where-told files (λ o. HoldsRelease o asked audit) held))
     accepted total given (Err f) valid shows many count is = tt
-
-    -- or memory was refused
-    pub memory-refused : (r : Result (Vec ℕ Global) Fault) → IfErr r (λ f. f ≡ fault.OutOfMemory) → IfErr r (λ f. IfSome files (λ o. RefusesCheck asked o f))
-    memory-refused (Ok line) memory = tt
-    memory-refused (Err f) memory = each-told files (λ o h. rw memory tt) held
 
 -- want of memory is a fault of a check
 pub memory-kind : (r : Result (Vec ℕ Global) Fault) → IfErr r (λ f. f ≡ fault.OutOfMemory) → IfErr r IsOfCheck

@@ -1,5 +1,5 @@
 -- How an edit and whole runs end.
-use Rattle.std.proofs.Common.{◌≡◌, ◌∙◌, ◌+◌, ◌-◌, ◌^◌, ◌<◌, ℕ, Bool, true, false, IsTrue, List, arith, inl, inr, refl, sym, ◌↔◌}
+use Rattle.std.proofs.Common.{◌≡◌, ◌∙◌, ◌+◌, ◌-◌, ◌^◌, ◌<◌, ℕ, Bool, true, false, IsTrue, List, Some, arith, inl, inr, refl, sym, ◌↔◌}
 use Rattle.std.specs.Prelude.{if◌then◌else◌}
 use Rattle.std.proofs.Math.Nat.{min-eq_left}
 use Rattle.edit_model.specs.Parts.{SurveyParts}
@@ -39,7 +39,7 @@ shown-by true ends h = inl (refl, h.0 refl)
 shown-by false ends h = inr (refl, λ all. let t = h.1 all in absurd cc)
 
 -- what is to be made of the files that were read
-pub made : (asked : EditAsked) (files : Files) (survey : SurveyParts) (s : SheetParts) (release : Release) → IsWellFormed survey → HoldsRules files asked.names.rules survey → HoldsRecords files asked.names.records survey.fields s
+pub made : (asked : EditAsked) (files : Files) (survey : SurveyParts) (s : SheetParts) (release : Release) → IsWellFormed survey → HoldsRules (Some files) asked.names.rules survey → HoldsRecords (Some files) asked.names.records survey.fields s
     → IsReleaseOf survey s (terms_asked asked) asked.workers release → IsMade asked (edit_status release) files (written_in release)
 made asked files survey s release formed hr hs h =
     let edit : IsEditWith survey s (terms_asked asked) asked.workers (edit_status release) (written_in release) =

@@ -1,5 +1,5 @@
 -- What the reading of the rules and of the records shows of the files, and which status is due.
-use Rattle.std.proofs.Common.{◌≡◌, ◌⊎◌, ℕ, List, inl, inr, refl, subst}
+use Rattle.std.proofs.Common.{◌≡◌, ◌⊎◌, ℕ, List, Option, Some, inl, inr, refl, subst}
 use Rattle.edit_model.specs.Parts.{SurveyParts}
 use Rattle.record_text.specs.Sheets.{SheetParts}
 use Rattle.edit_desk.specs.Desk.{Files, IsLonger}
@@ -23,7 +23,7 @@ IsBeside f = ⊥
 module _ (rules records : List ℕ) (files : Files) where
   -- both were read
   abbrev pub BothRead : Type 0
-  BothRead = WithSheet files rules records (λ survey s. Unit {0})
+  BothRead = WithSheet (Some files) rules records (λ survey s. Unit {0})
 
   -- a status is due of the rules and the records, or they were read
   abbrev pub IsDueOrRead : Status → Type 0
@@ -31,7 +31,7 @@ module _ (rules records : List ℕ) (files : Files) where
 
   -- ---- no status is due of what was read
 
-  module _ (survey : SurveyParts) (s : SheetParts) (hr : HoldsRules files rules survey) (hs : HoldsRecords files records survey.fields s) where
+  module _ (survey : SurveyParts) (s : SheetParts) (hr : HoldsRules (Some files) rules survey) (hs : HoldsRecords (Some files) records survey.fields s) where
     pub read-not-due : (due : Status) → IsInputDue rules records files due → ⊥
     read-not-due status.TooLong (inl long) = not_longer files rules most_bytes hr long
     read-not-due status.TooLong (inr (other, held, long)) = not_longer files records most_bytes hs long
@@ -69,23 +69,36 @@ module _ (rules records : List ℕ) (files : Files) where
 
   -- ---- refusals of the records
 
-  module _ (survey : SurveyParts) (hr : HoldsRules files rules survey) where
-    pub records-due : (f : Fault) → IsOfRecords records f → RefusesRecords records survey.fields files f → AnswersDue IsDueOrRead (fault_status f)
-    records-due (fault.Records what) kind why = answered status.Records (survey, hr, weaker files records most_bytes (λ bytes no. no.unread) why)
+  module _ (survey : SurveyParts) (hr : HoldsRules (Some files) rules survey) where
+    pub records-due : (f : Fault) → IsOfRecords records f → RefusesRecords records survey.fields (Some files) f → AnswersDue IsDueOrRead (fault_status f)
+    records-due (fault.Records what) kind why = answered status.Records (survey, hr, weaker (Some files) records most_bytes (λ bytes no. no.unread) why)
     records-due (fault.Read name) kind why = λ s due. inr (inl refl)
     records-due (fault.TooLong name) kind why = answered status.TooLong (inr (survey, hr, subst (λ (n : List ℕ). IsLonger files n most_bytes) kind why))
     records-due fault.OutOfMemory kind why = λ s due. inr (inr refl)
     records-due f kind why = absurd kind
 
-    -- they are refused for what their reading says
-    pub records-refuse : (f : Fault) → IsOfRecords records f → RefusesRecords records survey.fields files f → RefusesInput rules records files f
-    records-refuse (fault.Records what) kind why = (survey, hr, why)
-    records-refuse (fault.Read name) kind why = inr (kind, (survey, hr, tt))
-    records-refuse (fault.TooLong name) kind why = (inr (kind, (survey, hr, tt)), why)
-    records-refuse fault.OutOfMemory kind why = tt
-    records-refuse f kind why = absurd kind
+  -- files that were read are refused for no fault but one that says nothing of them
+  pub read-beside : (f : Fault) (survey : SurveyParts) (s : SheetParts) → HoldsRules (Some files) rules survey → HoldsRecords (Some files) records survey.fields s → RefusesInput rules records (Some files) f → IsBeside f
+  read-beside (fault.Rules line k) survey s hr hs why = not_unread files rules survey hr (weaker (Some files) rules most_bytes (λ bytes no. no.unread) why)
+  read-beside (fault.Records what) survey s hr hs (other, held, unread) =
+      not_unread_records files records survey other s (one_survey files rules survey other hr held) hs (weaker (Some files) records most_bytes (λ bytes none. none.unread) unread)
+  read-beside (fault.TooLong name) survey s hr hs (inl same, long) = not_longer files rules most_bytes hr (subst (λ (n : List ℕ). IsLonger files n most_bytes) same long)
+  read-beside (fault.TooLong name) survey s hr hs (inr (same, (other, held, done)), long) = not_longer files records most_bytes hs (subst (λ (n : List ℕ). IsLonger files n most_bytes) same long)
+  read-beside (fault.Read name) survey s hr hs why = tt
+  read-beside (fault.Write name) survey s hr hs why = tt
+  read-beside fault.OutOfMemory survey s hr hs why = tt
+  read-beside f survey s hr hs why = why
 
-  -- ---- other refusals
+-- ---- refusals, of files that are told or not
+
+module _ (rules records : List ℕ) (files : Option Files) where
+  -- records are refused for what their reading says, where the rules were read
+  pub records-refuse : (survey : SurveyParts) → HoldsRules files rules survey → (f : Fault) → IsOfRecords records f → RefusesRecords records survey.fields files f → RefusesInput rules records files f
+  records-refuse survey hr (fault.Records what) kind why = (survey, hr, why)
+  records-refuse survey hr (fault.Read name) kind why = inr (kind, (survey, hr, tt))
+  records-refuse survey hr (fault.TooLong name) kind why = (inr (kind, (survey, hr, tt)), why)
+  records-refuse survey hr fault.OutOfMemory kind why = tt
+  records-refuse survey hr f kind why = absurd kind
 
   -- the rules are refused for what their reading says
   pub rules-refuse-input : (f : Fault) → IsOfRules rules f → RefusesRules rules files f → RefusesInput rules records files f
@@ -100,15 +113,3 @@ module _ (rules records : List ℕ) (files : Files) where
   stores-refuse (fault.Write name) kind = tt
   stores-refuse fault.OutOfMemory kind = tt
   stores-refuse f kind = absurd kind
-
-  -- files that were read are refused for no fault but one that says nothing of them
-  pub read-beside : (f : Fault) (survey : SurveyParts) (s : SheetParts) → HoldsRules files rules survey → HoldsRecords files records survey.fields s → RefusesInput rules records files f → IsBeside f
-  read-beside (fault.Rules line k) survey s hr hs why = not_unread files rules survey hr (weaker files rules most_bytes (λ bytes no. no.unread) why)
-  read-beside (fault.Records what) survey s hr hs (other, held, unread) =
-      not_unread_records files records survey other s (one_survey files rules survey other hr held) hs (weaker files records most_bytes (λ bytes none. none.unread) unread)
-  read-beside (fault.TooLong name) survey s hr hs (inl same, long) = not_longer files rules most_bytes hr (subst (λ (n : List ℕ). IsLonger files n most_bytes) same long)
-  read-beside (fault.TooLong name) survey s hr hs (inr (same, (other, held, done)), long) = not_longer files records most_bytes hs (subst (λ (n : List ℕ). IsLonger files n most_bytes) same long)
-  read-beside (fault.Read name) survey s hr hs why = tt
-  read-beside (fault.Write name) survey s hr hs why = tt
-  read-beside fault.OutOfMemory survey s hr hs why = tt
-  read-beside f survey s hr hs why = why

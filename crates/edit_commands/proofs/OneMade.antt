@@ -1,5 +1,5 @@
 -- The files, the words and the claims of donors settle an edit.
-use Rattle.std.proofs.Common.{◌≡◌, ◌∙◌, List, inl, inr, subst, sym}
+use Rattle.std.proofs.Common.{◌≡◌, ◌∙◌, List, Some, inl, inr, subst, sym}
 use Rattle.edit_model.specs.Parts.{SurveyParts}
 use Rattle.donor_book.specs.declared.claim.Entry.{Entry}
 use Rattle.record_text.specs.Sheets.{SheetParts}
@@ -23,7 +23,7 @@ pub one-made : OneMadeLaw
 one-made asked files answer other written again made too same =
     let terms = terms_asked asked in
     let survey = one_survey files asked.names.rules made.survey too.survey made.rules too.rules in
-    let records = subst (λ (s : SurveyParts). HoldsRecords files asked.names.records s.fields made.sheet) survey made.records in
+    let records = subst (λ (s : SurveyParts). HoldsRecords (Some files) asked.names.records s.fields made.sheet) survey made.records in
     let sheet = one_sheet files asked.names.records too.survey.fields made.sheet too.sheet records too.records in
     let ends = made.edit.ends in
     let of_survey = subst (λ (s : SurveyParts). IsEditOf s made.sheet terms ends made.edit.history written) survey made.edit.edit in

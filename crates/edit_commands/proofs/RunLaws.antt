@@ -21,7 +21,7 @@ use Rattle.edit_commands.proofs.AuditLaws.{valid-beside}
 use Rattle.edit_commands.proofs.EndLaws.{has-released, memory-left}
 use Rattle.edit_commands.proofs.InputLaws.{read-beside}
 use Rattle.edit_commands.proofs.RulesLaws.{rules-beside}
-use Rattle.run_parts.proofs.ToldLaws.{each-told, from-told, same-told}
+use Rattle.run_parts.proofs.ToldLaws.{each-told, from-told, same-told, where-told}
 
 -- ---- edits
 
@@ -65,9 +65,10 @@ module _ (asked : EditAsked) (run : Run) where
         )
 
   -- a refusal of files that have readings, in a run without a fault, is want of memory
-  pub edit-refused : (f : Fault) (answer : Status) → answer ≡ fault_status f → IfSome run.before.files (λ o. Refuses asked o f) → run.after.faults ≡ faults_by f run.before.faults → IsEditComplete asked answer run
+  pub edit-refused : (f : Fault) (answer : Status) → answer ≡ fault_status f → Refuses asked run.before.files f → run.after.faults ≡ faults_by f run.before.faults → IsEditComplete asked answer run
   edit-refused f answer is cause faults =
-      each-told run.before.files (λ o why survey s hr hs none. inr (is ∙ memory-left run f (read-beside asked.names.rules asked.names.records o f survey s hr hs why) faults none)) cause
+      each-told run.before.files (λ o why survey s hr hs none. inr (is ∙ memory-left run f (read-beside asked.names.rules asked.names.records o f survey s hr hs why) faults none))
+      (where-told run.before.files (λ o. Refuses asked o f) cause)
 
 -- ---- checks
 
@@ -94,9 +95,10 @@ module _ (asked : CheckAsked) (run : Run) where
         by (inr (is, printed, told)) = inr (is, record { records = accepts.0; released = accepts.1; read = read; untold = rw (← accepts.2) (record { printed = printed; unprinted = told }) })
 
   -- a refusal of a valid release, in a run without a fault, is want of memory
-  pub check-refused : (f : Fault) (answer : Status) → answer ≡ fault_status f → IfSome run.before.files (λ o. RefusesCheck asked o f) → run.after.faults ≡ faults_by f run.before.faults → IsCheckComplete asked answer run
+  pub check-refused : (f : Fault) (answer : Status) → answer ≡ fault_status f → RefusesCheck asked run.before.files f → run.after.faults ≡ faults_by f run.before.faults → IsCheckComplete asked answer run
   check-refused f answer is cause faults =
-      each-told run.before.files (λ o why audit held valid none. inr (is ∙ memory-left run f (valid-beside asked o audit held f valid why) faults none)) cause
+      each-told run.before.files (λ o why audit held valid none. inr (is ∙ memory-left run f (valid-beside asked o audit held f valid why) faults none))
+      (where-told run.before.files (λ o. RefusesCheck asked o f) cause)
 
 -- ---- the command `rules`
 
@@ -123,6 +125,7 @@ module _ (asked : RulesAsked) (run : Run) where
         by (inr (is, printed, told)) = inr (is, record { texts = texts; reported = reported; untold = record { printed = printed; unprinted = told } })
 
   -- a refusal of rules that have a reading, in a run without a fault, is want of memory
-  pub rules-refused : (f : Fault) (answer : Status) → answer ≡ fault_status f → IfSome run.before.files (λ o. RefusesRulesCommand asked o f) → run.after.faults ≡ faults_by f run.before.faults → IsRulesComplete asked answer run
+  pub rules-refused : (f : Fault) (answer : Status) → answer ≡ fault_status f → RefusesRulesCommand asked run.before.files f → run.after.faults ≡ faults_by f run.before.faults → IsRulesComplete asked answer run
   rules-refused f answer is cause faults =
-      each-told run.before.files (λ o why survey held none. inr (is ∙ memory-left run f (rules-beside asked o survey held f why) faults none)) cause
+      each-told run.before.files (λ o why survey held none. inr (is ∙ memory-left run f (rules-beside asked o survey held f why) faults none))
+      (where-told run.before.files (λ o. RefusesRulesCommand asked o f) cause)

@@ -1,6 +1,6 @@
 -- Runs that are refused before anything is asked of the desk.
-use Rattle.std.proofs.Common.{◌≡◌, ◌∙◌, ℕ, List, [], ◌++◌, Option, Some, None, IfSome, append-nil, subst, sym}
-use Rattle.edit_desk.specs.Desk.{Asked, Files, PutsOnRecord, Told}
+use Rattle.std.proofs.Common.{◌≡◌, ◌∙◌, ℕ, [], Option, Some, None, append-nil, subst, sym}
+use Rattle.edit_desk.specs.Desk.{Files, Told}
 use Rattle.run_parts.specs.Faults.{fault_status, fault_text}
 use Rattle.run_parts.specs.Run.{AreCallsTo, IsLinePrinted, IsRefused, Refusals, Run, faults_by}
 use Rattle.run_parts.specs.declared.fault.Fault.{Fault}
@@ -15,11 +15,6 @@ module _ {A : Type 0} where
   pub told-same : (old new : Option A) (P : A → A → Type 0) → new ≡ old → ((x : A) → P x x) → Told old new P
   told-same old new P same each = subst (λ (now : Option A). Told old now P) (sym same) (told-once old P each)
 
-  -- what holds of everything holds of what is told
-  pub if-told : (a : Option A) (P : A → Type 0) → ((x : A) → P x) → IfSome a P
-  if-told None P each = tt
-  if-told (Some x) P each = each x
-
 -- the desk was asked for nothing
 pub record IsUntouched (run : Run) : Type 0 where
   pub files : run.after.files ≡ run.before.files
@@ -28,14 +23,14 @@ pub record IsUntouched (run : Run) : Type 0 where
 
 -- such a run is refused by its command for any fault that it may meet there
 pub untouched-refused : (command : Refusals) (fault : Fault) (answer : Status) (run : Run) → IsUntouched run → IsLinePrinted (fault_text fault) run
-    → answer ≡ fault_status fault → command.meets fault → ((files : Files) → command.refuses files fault)
+    → answer ≡ fault_status fault → command.meets fault → ((files : Option Files) → command.refuses files fault)
     → AreCallsTo command.order fault [] → ((files : Files) → command.leaves fault files files)
     → ((count : ℕ) → faults_by fault count ≡ count) → IsRefused command answer run
 untouched-refused command fault answer run untouched printed ended met called none left counted = record {
   fault = fault;
   status = ended;
   kind = met;
-  cause = if-told run.before.files (λ files. command.refuses files fault) called;
+  cause = called run.before.files;
   calls = told-same run.before.calls run.after.calls _ untouched.calls (λ calls. ([], sym (append-nil calls), none));
   files = told-same run.before.files run.after.files (command.leaves fault) untouched.files left;
   faults = untouched.faults ∙ sym (counted run.before.faults);

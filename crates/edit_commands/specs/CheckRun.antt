@@ -1,5 +1,5 @@
 -- What a run of a check does.
-use Rattle.std.specs.Prelude.{◌≡◌, ◌⊎◌, ℕ, List, [], ◌∷◌, ◌++◌, codes, decimal, IfSome, length}
+use Rattle.std.specs.Prelude.{◌≡◌, ◌⊎◌, ℕ, List, [], ◌∷◌, ◌++◌, codes, decimal, Some, IfSome, length}
 use Rattle.edit_desk.specs.Desk.{Asked, Files, PutsOnRecord, Told, fetched}
 use Rattle.cert_check.specs.Releases.{Audit, IsReleasedCount, IsValidRelease}
 use Rattle.cert_check.specs.Shown.{Shows}
@@ -17,7 +17,7 @@ check_calls asked = fetched asked.rules ∷ fetched asked.records ∷ fetched as
 -- the files that the desk held are a valid release of `total` records, `given` of them released; and this is what it shows
 pub record IsAccepted (asked : CheckAsked) (files : Files) (total given : ℕ) : Type 0 where
   pub audit : Audit
-  pub held : HoldsRelease files asked audit
+  pub held : HoldsRelease (Some files) asked audit
   pub valid : IsValidRelease audit
   pub shown : Shows audit
   pub records : length audit.sheet.rows ≡ total
@@ -59,5 +59,5 @@ IsCheckStopped asked answer run =
 -- where the files that the desk held are a valid release, and no fault is met, the check is done, but for want of memory
 abbrev pub IsCheckComplete : CheckAsked → Status → Run → Type 0
 IsCheckComplete asked answer run = IfSome run.before.files (λ files. (audit : Audit)
-    → HoldsRelease files asked audit → IsValidRelease audit → IsFaultless run
+    → HoldsRelease (Some files) asked audit → IsValidRelease audit → IsFaultless run
     → (answer ≡ status.Done) ⊎ (answer ≡ status.OutOfMemory))

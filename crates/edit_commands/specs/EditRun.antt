@@ -33,9 +33,9 @@ edit_files asked written =
 pub record IsMade (asked : EditAsked) (answer : Status) (files : Files) (written : Written) : Type 0 where
   pub survey : SurveyParts
   pub sheet : SheetParts
-  pub rules : HoldsRules files asked.names.rules survey
+  pub rules : HoldsRules (Some files) asked.names.rules survey
   pub formed : IsWellFormed survey
-  pub records : HoldsRecords files asked.names.records survey.fields sheet
+  pub records : HoldsRecords (Some files) asked.names.records survey.fields sheet
   pub edit : IsEditWith survey sheet (terms_asked asked) asked.workers answer written
   pub whole : IsDoneInReach survey asked.budget sheet.rows edit.ends answer
 
@@ -90,5 +90,6 @@ IsEditStopped asked answer run =
 -- where both files that the desk held have readings, and no fault is met, the edit is done, but for want of memory
 abbrev pub IsEditComplete : EditAsked → Status → Run → Type 0
 IsEditComplete asked answer run = IfSome run.before.files (λ files. (survey : SurveyParts) (sheet : SheetParts)
-    → HoldsRules files asked.names.rules survey → HoldsRecords files asked.names.records survey.fields sheet → IsFaultless run
+    → HoldsRules (Some files) asked.names.rules survey → HoldsRecords (Some files) asked.names.records survey.fields sheet
+    → IsFaultless run
     → HasReleased answer ⊎ (answer ≡ status.OutOfMemory))

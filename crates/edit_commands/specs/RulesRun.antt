@@ -1,5 +1,5 @@
 -- What a run of the command `rules` does.
-use Rattle.std.specs.Prelude.{◌≡◌, ◌⊎◌, ℕ, List, [], ◌∷◌, IfSome}
+use Rattle.std.specs.Prelude.{◌≡◌, ◌⊎◌, ℕ, List, [], ◌∷◌, Some, IfSome}
 use Rattle.edit_desk.specs.Desk.{Asked, Files, PutsOnRecord, Told, fetched}
 use Rattle.edit_model.specs.Parts.{SurveyParts}
 use Rattle.edit_normal.specs.RuleLines.{normal_lines_of}
@@ -27,7 +27,7 @@ report_of survey = reports_from survey.fields 1 (normal_lines_of survey) (rule_v
 -- the rules that the desk held read as a survey; these are the lines to be printed of it; and what they say is so
 pub record IsReport (asked : RulesAsked) (files : Files) (texts : List (List ℕ)) : Type 0 where
   pub survey : SurveyParts
-  pub held : HoldsRules files asked.rules survey
+  pub held : HoldsRules (Some files) asked.rules survey
   pub listed : texts ≡ report_of survey
   pub dropped : AllFollow (normal_lines_of survey) (rule_flags survey)
   pub needed : AreNeeded survey.fields (normal_lines_of survey) (rule_verdicts survey)
@@ -67,5 +67,5 @@ IsRulesStopped asked answer run =
 -- where the rules that the desk held have a reading, and no fault is met, the command is done, but for want of memory
 abbrev pub IsRulesComplete : RulesAsked → Status → Run → Type 0
 IsRulesComplete asked answer run = IfSome run.before.files (λ files. (survey : SurveyParts)
-    → HoldsRules files asked.rules survey → IsFaultless run
+    → HoldsRules (Some files) asked.rules survey → IsFaultless run
     → (answer ≡ status.Done) ⊎ (answer ≡ status.OutOfMemory))

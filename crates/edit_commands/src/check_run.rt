@@ -45,7 +45,7 @@ fn check<'a, D: Desk>(
 ) -> Result<Vec<u8>, Refusal<'a>>
     ensures kind { IfErr result IsOfCheck }
     ensures accepted { IfOk result (λ line. Accepts asked.now (D.files desk.old) line.items) }
-    ensures cause { IfErr result (λ fault. IfSome (D.files desk.old) (λ files. RefusesCheck asked.now files fault)) }
+    ensures cause { IfErr result (λ fault. RefusesCheck asked.now (D.files desk.old) fault) }
     ensures due { IfSome (D.files desk.old) (λ files. AnswersDue (IsCheckDue asked.now files) (done_end result)) }
     ensures asked { PutsOnRecord (D.calls desk.old) (D.calls desk.new) (AreCallsOf (check_calls asked.now) result) }
     ensures faults { D.faults desk.new ≡ faults_after result (D.faults desk.old) }

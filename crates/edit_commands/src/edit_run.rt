@@ -69,7 +69,7 @@ fn edit<'a, R: Threads + Wait + Sync, D: Desk, G: Gate>(
     gate: &G,
 ) -> Result<Release, Refusal<'a>>
     ensures kind { IfErr result IsOfEdit }
-    ensures cause { IfErr result (λ fault. IfSome (D.files desk.old) (λ files. Refuses asked.now files fault)) }
+    ensures cause { IfErr result (λ fault. Refuses asked.now (D.files desk.old) fault) }
     ensures due { IfSome (D.files desk.old) (λ files. AnswersDue (IsDue asked.now files) (edit_end result)) }
     ensures files { Told (D.files desk.old) (D.files desk.new) (EditEnds asked.now result) }
     ensures asked { PutsOnRecord (D.calls desk.old) (D.calls desk.new) (AreCallsOf (edit_calls asked.now) result) }

@@ -47,7 +47,7 @@ fn rules<'a, D: Desk>(
 ) -> Result<Vec<Vec<u8>>, Refusal<'a>>
     ensures kind { IfErr result IsOfRulesCommand }
     ensures reported { IfOk result (λ lines. IfSome (D.files desk.old) (λ files. IsReport asked.now files (texts_in lines.items))) }
-    ensures cause { IfErr result (λ fault. IfSome (D.files desk.old) (λ files. RefusesRulesCommand asked.now files fault)) }
+    ensures cause { IfErr result (λ fault. RefusesRulesCommand asked.now (D.files desk.old) fault) }
     ensures due { IfSome (D.files desk.old) (λ files. AnswersDue (IsRulesDue asked.now files) (done_end result)) }
     ensures asked { PutsOnRecord (D.calls desk.old) (D.calls desk.new) (AreCallsOf (rules_calls asked.now) result) }
     ensures faults { D.faults desk.new ≡ faults_after result (D.faults desk.old) }

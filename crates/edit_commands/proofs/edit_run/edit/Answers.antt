@@ -1,4 +1,4 @@
-use Rattle.std.proofs.Common.{◌≡◌, ◌∙◌, ◌∷◌, [], ◌++◌, List, IfSome, inl, subst, sym}
+use Rattle.std.proofs.Common.{◌≡◌, ◌∷◌, [], ◌++◌, List, IfSome, inl, subst, sym}
 use Rattle.edit_desk.specs.Desk.{Asked, PutsOnRecord, Told, fetched, stored}
 use Rattle.edit_release.specs.Releases.{IsReleaseOf, written_in}
 use Rattle.command_words.specs.Asked.{EditAsked}
@@ -6,17 +6,17 @@ use Rattle.command_words.specs.declared.edit_words.EditWords.TheInside.{Inside}
 use Rattle.edit_commands.specs.Edits.{terms_asked}
 use Rattle.edit_commands.specs.EditRun.{AreWritten, IsMade, Leaves, edit_calls, edit_files}
 use Rattle.run_parts.specs.Faults.{fault_status}
-use Rattle.run_parts.specs.Readings.{AnswersDue, IsDue, Refuses}
+use Rattle.run_parts.specs.Readings.{AnswersDue, HoldsRecords, HoldsRules, IsDue, Refuses}
 use Rattle.run_parts.specs.Run.{AreCallsTo}
 use Rattle.run_parts.specs.declared.fault.Fault.TheVariants as fault
 use Rattle.edit_commands.specs.inner.EditParts.{edit_status}
-use Rattle.run_parts.specs.Parts.{store_calls}
+use Rattle.run_parts.specs.Parts.{RefusesRecords, store_calls}
 use Rattle.command_words.proofs.AskedLaws.{edit_of}
 use Rattle.run_parts.proofs.CallLaws.{all-calls, behind-calls, less-calls, of-stores, records-calls, rules-calls, then-calls}
 use Rattle.edit_commands.proofs.EndLaws.{made, stores-leave}
 use Rattle.edit_commands.proofs.InputLaws.{read-due, records-due, stores-refuse}
 use Rattle.edit_commands.proofs.WrittenLaws.{all-written}
-use Rattle.run_parts.proofs.ToldLaws.{both-told, each-told, from-told, handed}
+use Rattle.run_parts.proofs.ToldLaws.{both-told, from-told, handed, where-told}
 use Rattle.edit_commands.proofs.edit_run.edit.Goals as goal
 
 -- what these words ask for
@@ -48,7 +48,8 @@ returns-in_err-sheet-clause-due g c =
     rw (handed c.from_residual-in_err-sheet.result _ c.from_residual-in_err-sheet.ensures.1)
     (subst (λ (a : EditAsked). IfSome before (λ o. AnswersDue (IsDue a o) (fault_status f))) c.asked.view_is
     (both-told before (λ o hr why s due. records-due w.rules.now w.records.now o c.in_ok-survey.survey hr f c.in_err-sheet.ensures.kind why s (inl due))
-    c.in_ok-survey.ensures.read (rw c.in_ok-survey.ensures.unchanged at c.in_err-sheet.ensures.cause)))
+    (where-told before (λ o. HoldsRules o w.rules.now c.in_ok-survey.survey) c.in_ok-survey.ensures.read)
+    (where-told before (λ o. RefusesRecords w.records.now c.in_ok-survey.survey.fields o f) (rw c.in_ok-survey.ensures.unchanged at c.in_err-sheet.ensures.cause))))
 
 pub returns-in_err-sheet-clause-asked : goal.returns-in_err-sheet-clause-asked
 returns-in_err-sheet-clause-asked g c =
@@ -77,8 +78,7 @@ returns-in_err-store_release-clause-cause g c =
     let w = c.asked.inside in
     let before = g.D.Desk.files c.args.desk.now in
     rw (handed c.from_residual-in_err-store_release.result _ c.from_residual-in_err-store_release.ensures.1)
-    (subst (λ (a : EditAsked). IfSome before (λ o. Refuses a o f)) c.asked.view_is
-    (each-told before (λ o hr. stores-refuse w.rules.now w.records.now o f c.in_err-store_release.ensures.kind) c.in_ok-survey.ensures.read))
+    (subst (λ (a : EditAsked). Refuses a before f) c.asked.view_is (stores-refuse w.rules.now w.records.now before f c.in_err-store_release.ensures.kind))
 
 pub returns-in_err-store_release-clause-due : goal.returns-in_err-store_release-clause-due
 returns-in_err-store_release-clause-due g c =
@@ -88,7 +88,8 @@ returns-in_err-store_release-clause-due g c =
     rw (handed c.from_residual-in_err-store_release.result _ c.from_residual-in_err-store_release.ensures.1)
     (subst (λ (a : EditAsked). IfSome before (λ o. AnswersDue (IsDue a o) (fault_status f))) c.asked.view_is
     (both-told before (λ o hr hs. read-due w.rules.now w.records.now o c.in_ok-survey.survey c.in_ok-sheet.sheet hr hs (fault_status f))
-    c.in_ok-survey.ensures.read (rw c.in_ok-survey.ensures.unchanged at c.in_ok-sheet.ensures.read)))
+    (where-told before (λ o. HoldsRules o w.rules.now c.in_ok-survey.survey) c.in_ok-survey.ensures.read)
+    (where-told before (λ o. HoldsRecords o w.records.now c.in_ok-survey.survey.fields c.in_ok-sheet.sheet) (rw c.in_ok-survey.ensures.unchanged at c.in_ok-sheet.ensures.read))))
 
 pub returns-in_err-store_release-clause-files : goal.returns-in_err-store_release-clause-files
 returns-in_err-store_release-clause-files g c =
@@ -103,7 +104,8 @@ returns-in_err-store_release-clause-files g c =
     (subst (λ (a : EditAsked). Told before (g.D.Desk.files c.store_release.new.desk) (Leaves a f)) c.asked.view_is
     (from-told before _ (λ old new is h. stores-leave asked f (edit_status release) (written_in release) old new c.in_err-store_release.ensures.kind is h)
     (both-told before (λ o hr hs. made asked o survey sheet release c.in_ok-survey.ensures.well_formed hr hs edit)
-    c.in_ok-survey.ensures.read (rw c.in_ok-survey.ensures.unchanged at c.in_ok-sheet.ensures.read))
+    (where-told before (λ o. HoldsRules o asked.names.rules survey) c.in_ok-survey.ensures.read)
+    (where-told before (λ o. HoldsRecords o asked.names.records survey.fields sheet) (rw c.in_ok-survey.ensures.unchanged at c.in_ok-sheet.ensures.read)))
     (rw (← c.asked.view_is, c.in_ok-sheet.ensures.unchanged, c.in_ok-survey.ensures.unchanged) at c.in_err-store_release.ensures.files)))
 
 pub returns-in_err-store_release-clause-asked : goal.returns-in_err-store_release-clause-asked
@@ -128,7 +130,8 @@ returns-clause-due g c =
     let answer = edit_status c.in-Ok.release in
     subst (λ (a : EditAsked). IfSome before (λ o. AnswersDue (IsDue a o) answer)) c.asked.view_is
     (both-told before (λ o hr hs. read-due w.rules.now w.records.now o c.in_ok-survey.survey c.in_ok-sheet.sheet hr hs answer)
-    c.in_ok-survey.ensures.read (rw c.in_ok-survey.ensures.unchanged at c.in_ok-sheet.ensures.read))
+    (where-told before (λ o. HoldsRules o w.rules.now c.in_ok-survey.survey) c.in_ok-survey.ensures.read)
+    (where-told before (λ o. HoldsRecords o w.records.now c.in_ok-survey.survey.fields c.in_ok-sheet.sheet) (rw c.in_ok-survey.ensures.unchanged at c.in_ok-sheet.ensures.read)))
 
 pub returns-clause-files : goal.returns-clause-files
 returns-clause-files g c =
@@ -144,7 +147,8 @@ returns-clause-files g c =
     c.asked.view_is
     (from-told before _ (λ old new is h. (is, all-written asked written old new c.asked.invariant.0 h))
     (both-told before (λ o hr hs. made asked o survey sheet release c.in_ok-survey.ensures.well_formed hr hs edit)
-    c.in_ok-survey.ensures.read (rw c.in_ok-survey.ensures.unchanged at c.in_ok-sheet.ensures.read))
+    (where-told before (λ o. HoldsRules o asked.names.rules survey) c.in_ok-survey.ensures.read)
+    (where-told before (λ o. HoldsRecords o asked.names.records survey.fields sheet) (rw c.in_ok-survey.ensures.unchanged at c.in_ok-sheet.ensures.read)))
     (rw (← c.asked.view_is, c.in_ok-sheet.ensures.unchanged, c.in_ok-survey.ensures.unchanged) at c.in_ok-store_release.ensures.files))
 
 pub returns-clause-asked : goal.returns-clause-asked

@@ -1,6 +1,5 @@
 use Rattle.std.proofs.Common.{◌∙◌, inl}
 use Rattle.edit_commands.proofs.MakeLaws.{made-by, make-refused, unmade-by}
-use Rattle.edit_commands.proofs.WordLaws.{if-told}
 use Rattle.edit_commands.proofs.make_run.run_make.Goals as goal
 
 pub returns-in-Ok-clause-made : goal.returns-in-Ok-clause-made
@@ -18,7 +17,7 @@ returns-in-Err-clause-stopped g c = λ not. inl (record {
   fault = c.in-Err.refusal;
   status = c.refuse.ensures.status ∙ c.status.ensures;
   kind = c.in-Err.ensures.kind;
-  cause = if-told (g.D.Desk.files c.args.desk.now) _ (λ files. tt);
+  cause = tt;
   calls = c.in-Err.ensures.asked;
   files = c.in-Err.ensures.files;
   faults = c.in-Err.ensures.faults;

@@ -1,7 +1,7 @@
 use Rattle.std.proofs.Common.{IfSome, subst}
 use Rattle.edit_desk.specs.Desk.{PutsOnRecord}
 use Rattle.command_words.specs.Asked.{RulesAsked}
-use Rattle.run_parts.specs.Readings.{AnswersDue, IsRulesDue}
+use Rattle.run_parts.specs.Readings.{AnswersDue, HoldsRules, IsRulesDue}
 use Rattle.run_parts.specs.Run.{AreCallsTo}
 use Rattle.edit_commands.specs.RulesRun.{rules_calls}
 use Rattle.run_parts.specs.declared.fault.Fault.TheVariants as fault
@@ -9,7 +9,7 @@ use Rattle.run_parts.specs.declared.status.Status.TheVariants as status
 use Rattle.command_words.proofs.AskedLaws.{rules_of}
 use Rattle.run_parts.proofs.CallLaws.{less-calls}
 use Rattle.edit_commands.proofs.RulesLaws.{read-rules-due}
-use Rattle.run_parts.proofs.ToldLaws.{each-told}
+use Rattle.run_parts.proofs.ToldLaws.{each-told, where-told}
 use Rattle.edit_commands.proofs.rules_run.rules.Goals as goal
 
 pub returns-in_default-clause-asked : goal.returns-in_default-clause-asked
@@ -21,4 +21,5 @@ returns-in_default-clause-asked g c =
 pub returns-clause-due : goal.returns-clause-due
 returns-clause-due g c =
     subst (λ (a : RulesAsked). IfSome (g.D.Desk.files c.args.desk.now) (λ o. AnswersDue (IsRulesDue a o) status.Done)) c.asked.view_is
-    (each-told (g.D.Desk.files c.args.desk.now) (λ o held. read-rules-due (rules_of c.asked.inside.rules.now) o c.in_ok-survey.survey held status.Done) c.in_ok-survey.ensures.read)
+    (each-told (g.D.Desk.files c.args.desk.now) (λ o held. read-rules-due (rules_of c.asked.inside.rules.now) o c.in_ok-survey.survey held status.Done)
+    (where-told (g.D.Desk.files c.args.desk.now) (λ o. HoldsRules o c.asked.inside.rules.now c.in_ok-survey.survey) c.in_ok-survey.ensures.read))
