@@ -1,5 +1,6 @@
 use Rattle.std.proofs.Common.{◌≡◌, int_div, FitsSigned, rules}
 use Rattle.std.proofs.lemmas.Int.{to_z-of_z}
+use Rattle.std.proofs.lemmas.Result.{IfOk-from_err}
 use mir.Syntax.{w128}
 use Rattle.fraction128.specs.Divisor.{int_gcd}
 use Rattle.fraction128.proofs.RangeLaws.{FitsSigned-in_range, OnErr-always}
@@ -21,6 +22,18 @@ module _ (c : After-of-parts) where
       let x_fits = FitsSigned-in_range c.args.self.denominator c.args.self.denominator_in_range in
       let y_fits = FitsSigned-in_range c.args.other.denominator c.args.other.denominator_in_range in
       simp to_z-of_z at c.of-parts.ensures.second
+
+pub returns-in_err-numerator-clause-value : goal.returns-in_err-numerator-clause-value
+returns-in_err-numerator-clause-value c = IfOk-from_err _ _ c.from_residual.ensures.0
+
+pub returns-in_err-numerator-clause-fits : goal.returns-in_err-numerator-clause-fits
+returns-in_err-numerator-clause-fits c = IfOk-from_err _ _ c.from_residual.ensures.0
+
+pub returns-in_err-denominator-clause-value : goal.returns-in_err-denominator-clause-value
+returns-in_err-denominator-clause-value c = IfOk-from_err _ _ c.from_residual-in_err-denominator.ensures.0
+
+pub returns-in_err-denominator-clause-fits : goal.returns-in_err-denominator-clause-fits
+returns-in_err-denominator-clause-fits c = IfOk-from_err _ _ c.from_residual-in_err-denominator.ensures.0
 
 pub returns-in_err-numerator-clause-overflow : goal.returns-in_err-numerator-clause-overflow
 returns-in_err-numerator-clause-overflow c =
