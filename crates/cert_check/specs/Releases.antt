@@ -1,6 +1,7 @@
 -- A valid release: a proof file and a released file that are right for rules and records.
 use Rattle.std.specs.Prelude.{◌≡◌, ◌⊎◌, ℕ, ◌+◌, ◌==◌, ◌&&◌, nat_le, not, Bool, false, if◌then◌else◌, List, [], ◌∷◌, Option, Some, None, Result, Err, is_none, length}
 use Rattle.std.specs.List.{AllByRecursion, filter}
+use Rattle.foundation.specs.Limits.{most_gifts, most_near, most_work}
 use Rattle.edit_model.specs.Parts.{SurveyParts}
 use Rattle.edit_model.specs.declared.value.Value.{Value}
 use Rattle.edit_normal.specs.RuleLines.{normal_lines_of}
@@ -48,7 +49,7 @@ is_allowed most n = nat_le 1 n && nat_le n most
 
 -- a donor may be given 1 to 1,000 times, a record ranks 1 to 64 donors, and a search may take work of 1 to 1,000,000,000
 abbrev pub limits_fit : Proof → Bool
-limits_fit p = is_allowed 1000 p.limit && (is_allowed 64 p.near && is_allowed 1000000000 p.budget)
+limits_fit p = is_allowed most_gifts p.limit && (is_allowed most_near p.near && is_allowed most_work p.budget)
 
 -- the first line of a proof that does not fit these numbers of lines of the rules and of records: the limits, or either count
 abbrev pub head_fault_of : ℕ → ℕ → Proof → Option ℕ

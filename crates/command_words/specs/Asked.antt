@@ -1,6 +1,7 @@
 -- What the words of the command line ask for.
 use Rattle.std.specs.Prelude.{◌≡◌, ◌≢◌, ℕ, List, [], ◌∷◌, Some, codes, map, string_bytes, String}
 use Rattle.std.specs.declared.alloc.Global.{Global}
+use Rattle.foundation.specs.Limits.{most_workers, most_work, most_gifts, most_near, most_records}
 use Rattle.clap.specs.Words.{App, Row, fault_of, first_of, matches_of}
 use Rattle.command_words.specs.Options.{AreApart, GivesNumber, command_with, may_stand, must_stand}
 
@@ -50,10 +51,10 @@ pub record GivesEdit (found : List Row) (asked : EditAsked) : Type 0 where
   pub released : first_of (codes "released") found ≡ Some asked.names.released
   pub reasons : first_of (codes "reasons") found ≡ Some asked.names.reasons
   pub proof : first_of (codes "proof") found ≡ Some asked.names.proof
-  pub workers : GivesNumber 1 1 64 (first_of (codes "workers") found) asked.workers
-  pub budget : GivesNumber 1000000 1 1000000000 (first_of (codes "budget") found) asked.budget
-  pub limit : GivesNumber 1 1 1000 (first_of (codes "limit") found) asked.limit
-  pub near : GivesNumber 5 1 64 (first_of (codes "near") found) asked.near
+  pub workers : GivesNumber 1 1 most_workers (first_of (codes "workers") found) asked.workers
+  pub budget : GivesNumber 1000000 1 most_work (first_of (codes "budget") found) asked.budget
+  pub limit : GivesNumber 1 1 most_gifts (first_of (codes "limit") found) asked.limit
+  pub near : GivesNumber 5 1 most_near (first_of (codes "near") found) asked.near
   pub apart : AreApart (names_in asked.names)
 
 -- the words ask for an edit: they are the command, and what is found gives it
@@ -128,7 +129,7 @@ pub record GivesMake (found : List Row) (asked : MakeAsked) : Type 0 where
   pub rules : first_of (codes "rules") found ≡ Some asked.rules
   pub records : first_of (codes "records") found ≡ Some asked.records
   pub start : GivesNumber 1 0 4294967295 (first_of (codes "start") found) asked.start
-  pub rows : GivesNumber 100 1 200000 (first_of (codes "rows") found) asked.rows
+  pub rows : GivesNumber 100 1 most_records (first_of (codes "rows") found) asked.rows
   pub apart : asked.rules ≢ asked.records
 
 -- the words ask that a survey is made: they are the command, and what is found gives its files and numbers

@@ -11,6 +11,10 @@ pub record Page : Type 0 where
   pub room : ℕ
   pub faults : ℕ
 
+-- how many bytes a printer in memory has room for: 1 MiB
+abbrev pub printer_room : ℕ
+printer_room = 1048576
+
 -- the next line is the one that is to fail
 abbrev pub IsDue : Page → Type 0
 IsDue page = page.fail_at ≡ Some (page.lines + 1)

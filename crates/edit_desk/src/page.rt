@@ -1,6 +1,6 @@
 ghost use Rattle.std.specs.Prelude.{◌≡◌, ◌↔◌, ◌⊎◌, ◌≤◌, ◌-◌, ◌+◌, ◌++◌, [], Some, None, IfOk, IsErr, IsTrue, length, take, vec_capacity};
 ghost use Rattle.edit_desk.specs.Desk.{raised};
-ghost use Rattle.edit_desk.specs.Page.{IsDue, IsTooMuch, free};
+ghost use Rattle.edit_desk.specs.Page.{IsDue, IsTooMuch, free, printer_room};
 ghost use Rattle.edit_desk.specs.Printer.{Prints, after_line, line_of};
 
 use crate::count::raise;
@@ -40,7 +40,7 @@ impl MemoryPrinter {
     /// A printer with nothing printed and room for 1 MiB, whose line of the number `fail_at`, counted from 1,
     /// is to fail.
     pub fn new(alloc: Global, fail_at: Option<u64>) -> Result<MemoryPrinter, OutOfMemory>
-        ensures { IfOk result (λ printer. printer ≡ record { text = []; lines = 0; fail_at = fail_at; room = ROOM; faults = 0 }) }
+        ensures { IfOk result (λ printer. printer ≡ record { text = []; lines = 0; fail_at = fail_at; room = printer_room; faults = 0 }) }
     {
         let text = Vec::with_capacity(alloc, ROOM)?;
         Ok(MemoryPrinter {

@@ -3,6 +3,7 @@ use Rattle.std.specs.Prelude.{ℕ, ◌==◌, ◌&&◌, ◌||◌, ◌^◌, ◌++�
 use Rattle.std.specs.Fmt.{decimal}
 use Rattle.std.specs.List.{list_all, list_any}
 use Rattle.std.specs.Str.{bytes_eq}
+use Rattle.foundation.specs.Limits.{most_fields, most_codes, most_rules, most_weight, most_scale, most_factor}
 use Rattle.edit_model.specs.Corrections.{is_numerical}
 use Rattle.edit_model.specs.Parts.{SurveyParts}
 use Rattle.edit_model.specs.declared.field.Field.{Field}
@@ -125,7 +126,7 @@ is_outside limit (Some numeral.OutOfRange) = true
 
 -- a factor is at most 10^9, a constant at most 10^15
 abbrev pub is_large_term : TermText → Bool
-is_large_term (term.Product factor times field) = is_above (10 ^ 9) factor
+is_large_term (term.Product factor times field) = is_above most_factor factor
 is_large_term (term.Field field) = false
 is_large_term (term.Constant number) = is_above (10 ^ 15) number
 
@@ -134,7 +135,7 @@ is_large_sum s = list_any (λ (t : SignedTerm). is_large_term t.term) (terms_of 
 
 -- whether the factors of the field with this name, added up, are above 10^9 in absolute value
 abbrev pub is_large_factor : SumText → SumText → List ℕ → Bool
-is_large_factor left right name = nat_lt (10 ^ 9) (unsigned_abs (moved_factor left right name))
+is_large_factor left right name = nat_lt most_factor (unsigned_abs (moved_factor left right name))
 
 abbrev pub has_large_factor : List Field → SumText → SumText → Bool
 has_large_factor fields left right = list_any (λ (f : Field). is_large_factor left right f.name) fields
@@ -189,16 +190,16 @@ has_code_twice (statement.Rule r) = list_any has_double_code (tests_in (statemen
 -- whether a weight, a scale, or a number of a test is out of its limits
 abbrev pub is_out_of_range : List Field → Written → Bool
 is_out_of_range fields (statement.Declaration (declaration.Number name weight scale)) =
-    is_outside 1000 weight || is_outside (10 ^ 12) scale
-is_out_of_range fields (statement.Declaration (declaration.Code name weight list)) = is_outside 1000 weight
+    is_outside most_weight weight || is_outside most_scale scale
+is_out_of_range fields (statement.Declaration (declaration.Code name weight list)) = is_outside most_weight weight
 is_out_of_range fields (statement.Rule r) = list_any (is_large_test fields) (tests_in (statement.Rule r))
 
 -- whether the statement declares the 65th field or more than 64 codes, or is the 501st rule
 abbrev pub is_too_many : SurveyParts → Written → Bool
-is_too_many before (statement.Declaration (declaration.Number name weight scale)) = nat_le 64 (length before.fields)
+is_too_many before (statement.Declaration (declaration.Number name weight scale)) = nat_le most_fields (length before.fields)
 is_too_many before (statement.Declaration (declaration.Code name weight list)) =
-    nat_le 64 (length before.fields) || nat_lt 64 (length (listed list))
-is_too_many before (statement.Rule r) = nat_le 500 (length before.rules)
+    nat_le most_fields (length before.fields) || nat_lt most_codes (length (listed list))
+is_too_many before (statement.Rule r) = nat_le most_rules (length before.rules)
 
 -- whether a number test stands among the conditions where it may not
 abbrev pub has_wrong_form : Written → Bool

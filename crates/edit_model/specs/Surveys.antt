@@ -1,6 +1,7 @@
 use Rattle.std.specs.Prelude.{◌≡◌, ◌≢◌, ℕ, ◌<◌, ◌≤◌, ◌^◌, ◌==◌, ◌&&◌, ◌||◌, ◌⊎◌, Bool, false, List, [], ◌∷◌, length, map, All, AllPairs, IsTrue, IsSomeAnd, nat_le, slice_get, codes, pos, unsigned_abs}
 use Rattle.std.specs.List.{list_all}
 use Rattle.std.specs.List.Sorted.{IsStrictlyIncreasing}
+use Rattle.foundation.specs.Limits.{most_fields, most_codes, most_rules, most_letters, most_weight, most_scale, most_factor}
 use Rattle.edit_model.specs.Parts.{SurveyParts}
 use Rattle.edit_model.specs.declared.field.Field.{Field}
 use Rattle.edit_model.specs.declared.field.Kind.{Kind}
@@ -31,7 +32,7 @@ reserved_words = codes "number" ∷ codes "code" ∷ codes "weight" ∷ codes "s
 
 -- 1 to 32 bytes in the form of a name, and no word of the rule language
 pub record IsName (name : List ℕ) : Type 0 where
-  pub size : (1 ≤ length name) × (length name ≤ 32)
+  pub size : (1 ≤ length name) × (length name ≤ most_letters)
   pub form : IsTrue (has_name_form name)
   pub free : All (λ word. name ≢ word) reserved_words
 
@@ -41,21 +42,21 @@ has_code_form bs = list_all (λ c. is_letter c || (is_digit c || ((c == 95) || (
 
 -- 1 to 32 bytes in the form of a code
 abbrev pub IsCode : List ℕ → Type 0
-IsCode bs = IsTrue (has_code_form bs) × (1 ≤ length bs) × (length bs ≤ 32)
+IsCode bs = IsTrue (has_code_form bs) × (1 ≤ length bs) × (length bs ≤ most_letters)
 
 -- 1 to 64 codes, no two of them equal
 abbrev pub AreCodes : List (List ℕ) → Type 0
-AreCodes codes = (1 ≤ length codes) × (length codes ≤ 64) × All IsCode codes × AllPairs (λ a b. a ≢ b) codes
+AreCodes codes = (1 ≤ length codes) × (length codes ≤ most_codes) × All IsCode codes × AllPairs (λ a b. a ≢ b) codes
 
 -- a scale within its limits, or codes
 abbrev pub IsKind : Kind → Type 0
-IsKind (kind.Number scale) = (1 ≤ scale) × (scale ≤ 10 ^ 12)
+IsKind (kind.Number scale) = (1 ≤ scale) × (scale ≤ most_scale)
 IsKind (kind.Code codes) = AreCodes codes
 
 -- a name, a weight and a kind within the limits
 pub record IsField (f : Field) : Type 0 where
   pub name : IsName f.name
-  pub weight : (1 ≤ f.weight) × (f.weight ≤ 1000)
+  pub weight : (1 ≤ f.weight) × (f.weight ≤ most_weight)
   pub fits : IsKind f.kind
 
 -- the set of codes, as bits, is inside the field's codes and not empty
@@ -71,7 +72,7 @@ IsNumber (kind.Code codes) = ⊥
 -- a numerical field of the survey, with a factor within the limits
 pub record IsTerm (fields : List Field) (t : Term) : Type 0 where
   pub numerical : IsSomeAnd (slice_get fields t.field) (λ f. IsNumber f.kind)
-  pub factor : (t.factor ≢ pos 0) × (unsigned_abs t.factor ≤ 10 ^ 9)
+  pub factor : (t.factor ≢ pos 0) × (unsigned_abs t.factor ≤ most_factor)
 
 -- a linear test of terms in rising field order and a constant within its limit, or a test on a field's own codes
 abbrev pub IsTest : List Field → Test → Type 0
@@ -101,8 +102,8 @@ pub record IsRule (fields : List Field) (r : Rule) : Type 0 where
 
 -- a well-formed survey: its limits are kept, its names differ, and its fields and rules are in form
 pub record IsWellFormed (survey : SurveyParts) : Type 0 where
-  pub few_fields : length survey.fields ≤ 64
-  pub few_rules : length survey.rules ≤ 500
+  pub few_fields : length survey.fields ≤ most_fields
+  pub few_rules : length survey.rules ≤ most_rules
   pub names : AllPairs (λ (f : Field) (g : Field). f.name ≢ g.name) survey.fields
   pub fields : All IsField survey.fields
   pub rules : All (IsRule survey.fields) survey.rules

@@ -2,6 +2,7 @@
 use Rattle.std.specs.Prelude.{◌≡◌, ℕ, ◌≤◌, Bool, List, Some, IsSomeAnd, slice_get}
 use Rattle.std.specs.List.{AllByRecursion}
 use Rattle.std.specs.List.Sorted.{IsPermutation}
+use Rattle.foundation.specs.Limits.{most_work, most_gifts, most_near}
 use Rattle.edit_model.specs.Parts.{SurveyParts}
 use Rattle.edit_model.specs.declared.value.Value.{Value}
 use Rattle.bound_cert.specs.Claims.{claims_donor}
@@ -18,9 +19,9 @@ use Rattle.record_editing.specs.declared.terms.Terms.{Terms}
 -- the work of a search is at most from 1 to 1,000,000,000, a donor is given at most 1 to 1,000 times, and a record ranks at
 -- most 1 to 64 donors
 pub record AreTerms (terms : Terms) : Type 0 where
-  pub budget : (1 ≤ terms.budget) × (terms.budget ≤ 1000000000)
-  pub limit : (1 ≤ terms.limit) × (terms.limit ≤ 1000)
-  pub near : (1 ≤ terms.near) × (terms.near ≤ 64)
+  pub budget : (1 ≤ terms.budget) × (terms.budget ≤ most_work)
+  pub limit : (1 ≤ terms.limit) × (terms.limit ≤ most_gifts)
+  pub near : (1 ≤ terms.near) × (terms.near ≤ most_near)
 
 -- ---- who claims
 

@@ -1,5 +1,6 @@
 use Rattle.std.specs.Prelude.{ℕ, suc, ◌==◌, nat_lt, if◌then◌else◌, List, [], ◌∷◌, length, Option, Some, None}
 use Rattle.std.specs.Option.{option_or}
+use Rattle.foundation.specs.Limits.{most_columns, most_records}
 use Rattle.edit_model.specs.declared.field.Field.{Field}
 use Rattle.record_text.specs.Columns.{columns_of}
 use Rattle.record_text.specs.Trimming.{header_of}
@@ -21,7 +22,7 @@ column_fault i (field ∷ fields) header = option_or (field_fault i (columns_of 
 abbrev pub row_fault : ℕ → ℕ → List (List (List ℕ)) → Option SheetFault
 row_fault i width [] = None
 row_fault i width (raw ∷ row_texts) =
-    if i == 200000 then Some TooManyRows
+    if i == most_records then Some TooManyRows
     else if length raw == width then row_fault (suc i) width row_texts
     else Some (RowLength i)
 
@@ -30,5 +31,5 @@ row_fault i width (raw ∷ row_texts) =
 abbrev pub sheet_fault : List Field → List (List (List ℕ)) → Option SheetFault
 sheet_fault fields [] = Some NoHeader
 sheet_fault fields (first ∷ row_texts) =
-    if nat_lt 256 (length first) then Some TooManyColumns
+    if nat_lt most_columns (length first) then Some TooManyColumns
     else option_or (column_fault 0 fields (header_of first)) (row_fault 0 (length first) row_texts)

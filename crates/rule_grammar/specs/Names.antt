@@ -1,5 +1,6 @@
 -- The names that a statement gives to fields and codes.
 use Rattle.std.specs.Prelude.{ℕ, ◌≤◌, List, ◌∷◌, length, All, IsTrue}
+use Rattle.foundation.specs.Limits.{most_letters}
 use Rattle.edit_model.specs.Surveys.{IsName, has_code_form}
 use Rattle.rule_grammar.specs.declared.statement.Declaration.TheVariants as declaration
 use Rattle.rule_grammar.specs.declared.statement.Statement.{Statement as Written}
@@ -7,7 +8,7 @@ use Rattle.rule_grammar.specs.declared.statement.Statement.TheVariants as statem
 
 -- 1 to 32 letters, digits, `_`, `-` and `.`
 abbrev pub IsCodeText : List ℕ → Type 0
-IsCodeText code = IsTrue (has_code_form code) × (1 ≤ length code) × (length code ≤ 32)
+IsCodeText code = IsTrue (has_code_form code) × (1 ≤ length code) × (length code ≤ most_letters)
 
 -- what a declaration names has the form of a name, and its codes that of codes
 abbrev pub GivesNames : Written → Type 0

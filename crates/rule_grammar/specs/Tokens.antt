@@ -3,6 +3,7 @@ use Rattle.std.specs.Prelude.{ℕ, zero, suc, ◌==◌, ◌||◌, ◌+◌, ◌^�
 use Rattle.std.specs.List.{prefix_len}
 use Rattle.std.specs.Str.{bytes_eq}
 use Rattle.std.specs.Str.Parse.{digits_value}
+use Rattle.foundation.specs.Limits.{most_letters}
 use Rattle.edit_model.specs.Surveys.{is_letter, is_digit}
 use Rattle.edit_model.specs.declared.rule.Compare.{Compare as Comparison}
 use Rattle.edit_model.specs.declared.rule.Compare.TheVariants.{Ge, Gt, Le, Lt, Eq}
@@ -52,7 +53,7 @@ word_token word =
 
 -- how many bytes `inside` takes in a row at the front, at most 32
 abbrev pub run_len : (ℕ → Bool) → List ℕ → ℕ
-run_len inside text = min 32 (prefix_len inside text)
+run_len inside text = min most_letters (prefix_len inside text)
 
 -- the token that is made of the run at the front
 abbrev pub front_run : (ℕ → Bool) → (List ℕ → Token) → List ℕ → Front

@@ -1,6 +1,7 @@
 -- The rows of a released file. Private contracts alone cite this page.
 use Rattle.std.specs.Prelude.{◌≡◌, ℕ, ◌≤◌, List, ◌∷◌, length}
 use Rattle.std.specs.List.{AllByRecursion}
+use Rattle.foundation.specs.Limits.{most_columns, most_records}
 use Rattle.record_text.specs.Sheets.{AreRecordsOf}
 use Rattle.record_text.specs.Trimming.{header_of}
 
@@ -14,5 +15,5 @@ pub record AreRowsOf (header : List (List ℕ)) (bytes : List ℕ) (count : ℕ)
 
 -- a record file may have such a header, and this number of rows
 pub record AreInLimits (header : List (List ℕ)) (count : ℕ) : Type 0 where
-  pub width : length header ≤ 256
-  pub few : count ≤ 200000
+  pub width : length header ≤ most_columns
+  pub few : count ≤ most_records

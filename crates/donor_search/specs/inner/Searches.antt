@@ -1,7 +1,8 @@
 -- A search for the nearest donors of a record.
-use Rattle.std.specs.Prelude.{◌≡◌, ℕ, ◌<◌, ◌≤◌, ◌^◌, All, true, List, Option, Some, None, length, map}
+use Rattle.std.specs.Prelude.{◌≡◌, ℕ, ◌<◌, ◌≤◌, All, true, List, Option, Some, None, length, map}
 use Rattle.std.specs.Borrow.{Bor}
 use Rattle.std.specs.Fn.{Shared}
+use Rattle.foundation.specs.Limits.{most_weight, most_scale}
 use Rattle.edit_model.specs.FieldSets.{has_number}
 use Rattle.edit_model.specs.declared.value.Value.{Value}
 use Rattle.donor_measure.specs.Measures.{HasMeasurable, Measures}
@@ -54,5 +55,5 @@ pub record IsAxis (yardsticks : List Yardstick) (kept : ℕ) (axis : Axis) : Typ
   pub field : axis.field < length yardsticks
   pub has : has_number kept axis.field ≡ true
   pub yardstick : yardstick_at yardsticks axis.field ≡ record { weight = axis.weight; scale = Some axis.scale }
-  pub scale : (1 ≤ axis.scale) × (axis.scale ≤ 10 ^ 12)
-  pub weight : axis.weight ≤ 1000
+  pub scale : (1 ≤ axis.scale) × (axis.scale ≤ most_scale)
+  pub weight : axis.weight ≤ most_weight

@@ -1,7 +1,8 @@
 -- The order in which the reader tries a statement for faults: by kind, the least first.
-use Rattle.std.specs.Prelude.{◌≡◌, ◌≤◌, ◌^◌, ◌||◌, not, Bool, true, Option, Some, None, List, [], ◌∷◌, length, nat_le, nat_lt, if◌then◌else◌}
+use Rattle.std.specs.Prelude.{◌≡◌, ◌≤◌, ◌||◌, not, Bool, true, Option, Some, None, List, [], ◌∷◌, length, nat_le, nat_lt, if◌then◌else◌}
 use Rattle.std.specs.List.{list_all, list_any}
 use Rattle.std.specs.Str.{bytes_eq}
+use Rattle.foundation.specs.Limits.{most_fields, most_codes, most_rules, most_weight, most_scale}
 use Rattle.edit_model.specs.Parts.{SurveyParts, survey_of}
 use Rattle.edit_model.specs.declared.field.Field.{Field}
 use Rattle.edit_model.specs.declared.rule.Rule.{Rule}
@@ -35,13 +36,13 @@ first_true (test ∷ tests) = if test.0 then Some test.1 else first_true tests
 abbrev pub declaration_fault : SurveyParts → Declared → Option RulesKind
 declaration_fault survey (declaration.Number name weight scale) = first_true (
     (list_any (λ (f : Field). bytes_eq f.name name) survey.fields, DoubleField)
-    ∷ (is_outside 1000 weight || is_outside (10 ^ 12) scale, NumberRange)
-    ∷ (nat_le 64 (length survey.fields), TooMany) ∷ [])
+    ∷ (is_outside most_weight weight || is_outside most_scale scale, NumberRange)
+    ∷ (nat_le most_fields (length survey.fields), TooMany) ∷ [])
 declaration_fault survey (declaration.Code name weight list) = first_true (
     (list_any (λ (f : Field). bytes_eq f.name name) survey.fields, DoubleField)
     ∷ (has_double (listed list), DoubleCode)
-    ∷ (is_outside 1000 weight, NumberRange)
-    ∷ (nat_le 64 (length survey.fields) || nat_lt 64 (length (listed list)), TooMany) ∷ [])
+    ∷ (is_outside most_weight weight, NumberRange)
+    ∷ (nat_le most_fields (length survey.fields) || nat_lt most_codes (length (listed list)), TooMany) ∷ [])
 
 -- this is found of the declaration behind these fields, whatever the rules before it are
 abbrev pub IsDeclarationFault : List Field → Declared → Option RulesKind → Type 0
@@ -54,7 +55,7 @@ rule_fault survey r = first_true (
     ∷ (not (list_all (has_known_codes survey.fields) (tests_of r)), UnknownCode)
     ∷ (list_any has_double_code (tests_of r), DoubleCode)
     ∷ (list_any (is_large_test survey.fields) (tests_of r), NumberRange)
-    ∷ (nat_le 500 (length survey.rules), TooMany)
+    ∷ (nat_le most_rules (length survey.rules), TooMany)
     ∷ (not (has_rule_form r), ConditionForm) ∷ [])
 
 -- the kind that is found for the statement after these lines, None where none is
