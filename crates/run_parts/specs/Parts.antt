@@ -49,10 +49,12 @@ abbrev pub IsOfRecords : List ℕ → Fault → Type 0
 IsOfRecords name (fault.Records what) = ⊤
 IsOfRecords name fault = IsOfFetch name fault
 
--- why a file is refused: it is too long
+-- why the fetch of a file is refused: it is too long; or it could not be read, or memory was refused, of which a file tells nothing
 abbrev pub RefusesLong : ℕ → Option Files → Fault → Type 0
 RefusesLong most files (fault.TooLong name) = HoldsLonger files name most
-RefusesLong most files fault = ⊤
+RefusesLong most files (fault.Read name) = ⊤
+RefusesLong most files fault.OutOfMemory = ⊤
+RefusesLong most files fault = ⊥
 
 -- why a file of rules is refused: it holds no rules, or is too long
 abbrev pub RefusesRules : List ℕ → Option Files → Fault → Type 0
