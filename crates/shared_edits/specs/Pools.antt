@@ -46,15 +46,17 @@ Knows pool fields reader = Any (Carries pool fields) reader
 abbrev pub lines_walked : List Walked → ℕ
 lines_walked reader = sum_by (λ (w : Walked). length (system_of w).lines) reader
 
--- the most systems that a reader walks, and the most lines of theirs with those that it would publish
-abbrev pub most_walked : ℕ
-most_walked = 4096
-abbrev pub most_lines_walked : ℕ
-most_lines_walked = 200000
+-- a reader that has walked so many systems publishes none
+abbrev pub most_systems : ℕ
+most_systems = 4096
+
+-- nor one with which the walked systems would have more lines than these
+abbrev pub most_lines : ℕ
+most_lines = 200000
 
 -- the reader has walked so much that it publishes no system of so many lines
 abbrev pub IsFull : ℕ → List Walked → Type 0
-IsFull count reader = (most_walked ≤ length reader) ⊎ (most_lines_walked < lines_walked reader + count)
+IsFull count reader = (most_systems ≤ length reader) ⊎ (most_lines < lines_walked reader + count)
 
 -- how many lines there are, none where a number leaves the range
 abbrev pub line_count : Result (List Derived) SystemOverflow → ℕ
@@ -69,4 +71,4 @@ carries fields w = w.fits && nat_eq (system_of w).fields fields
 abbrev pub keeps_fields : PoolParts → ℕ → List Walked → Bool
 keeps_fields pool fields reader =
     list_any (carries fields) reader
-    || (nat_le most_walked (length reader) || nat_lt most_lines_walked (lines_walked reader + line_count (system_at pool.edits fields)))
+    || (nat_le most_systems (length reader) || nat_lt most_lines (lines_walked reader + line_count (system_at pool.edits fields)))

@@ -3,6 +3,7 @@ ghost use Rattle.std.specs.HashMap as table;
 ghost use Rattle.std.specs.HashSet as set;
 ghost use Rattle.std.specs.List.{sum_by};
 ghost use Rattle.shared_edits.specs.declared.entry.Entry.{Entry};
+ghost use Rattle.shared_edits.specs.Pools.{most_lines, most_systems};
 ghost use Rattle.shared_edits.specs.inner.Entries.{has_own, place_of};
 ghost use Rattle.shared_edits.specs.inner.Tables.{HasOwn, HasPlaces};
 
@@ -12,6 +13,12 @@ use foundation::OutOfMemory;
 use std::alloc::Global;
 use std::collections::{HashMap, HashSet};
 use std::marker::Model;
+
+// A reader with so many entries publishes no system.
+const MOST_SYSTEMS: usize = 4096;
+
+// Nor one with which its entries would have more lines than these.
+const MOST_LINES: u64 = 200_000;
 
 /// The indexes at which a reader looks, and the entries that it walks, at most.
 pub(crate) const MOST_WALKED: usize = 4160;
@@ -86,9 +93,9 @@ impl WalkedEntries {
     /// Whether a reader with these entries publishes no system of so many lines: they are 4,096, or have more than 200,000
     /// lines with these.
     pub(crate) fn is_full(&self, count: u64) -> bool
-        ensures { result ≡ (nat_le 4096 (length self.now) || nat_lt 200000 (sum_by (λ e. e.lines) self.now + count)) }
+        ensures { result ≡ (nat_le most_systems (length self.now) || nat_lt most_lines (sum_by (λ e. e.lines) self.now + count)) }
     {
-        self.entries.len() >= 4096 || self.lines.saturating_add(count) > 200000
+        self.entries.len() >= MOST_SYSTEMS || self.lines.saturating_add(count) > MOST_LINES
     }
 
     /// One entry more. No memory.
