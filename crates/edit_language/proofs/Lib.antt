@@ -14,5 +14,6 @@ pub mod PrintingStatements
 pub mod PrintingSteps
 pub mod PrintingSums
 pub mod PrintingTests
+mod SumLaws
 pub mod SurveyLaws
 mod TestLaws

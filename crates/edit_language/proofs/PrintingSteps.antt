@@ -1,13 +1,36 @@
 -- One more code in a printed list.
-use Rattle.std.proofs.Common.{◌≡◌, ◌∙◌, refl, sym, ap, ℕ, suc, ◌+◌, ◌<◌, Bool, true, false, cond, eqb, List, [], ◌∷◌, ◌++◌, length, take, get_or, append_assoc, arith}
+use Rattle.std.proofs.Common.{◌≡◌, ◌∙◌, refl, sym, ap, ℕ, suc, ◌+◌, ◌<◌, ◌≤◌, Bool, true, false, cond, eqb, arith}
+use Rattle.std.proofs.Common.{List, [], ◌∷◌, ◌++◌, length, take, get_or, append_assoc}
 use Rattle.std.proofs.lemmas.Bool.{ne_eqb}
 use Rattle.std.proofs.lemmas.Bool.Decides.{nat_tests}
-use Rattle.std.proofs.lemmas.List.{append-nil, length-append, take_more, length-take}
+use Rattle.std.proofs.lemmas.List.{append-nil, flat_map_more, length-append, take_all, take_more, length-take}
 use Rattle.std.proofs.lemmas.List.Concat.{flat_map-append}
 use Rattle.std.specs.Prelude.{codes}
 use Rattle.std.specs.Int.{bit_at}
 use Rattle.std.specs.List.{flat_map}
 use Rattle.edit_language.specs.Printing.{codes_of_set, comma_list}
+
+-- what the elements of a list up to a place give, and what the element there gives
+pub text_more_at : {X : Type 0} (f : X → List ℕ) (before : List ℕ) (xs : List X) (i : ℕ) (d : X) (now next : List ℕ) → i < length xs
+    → now ≡ before ++ flat_map f (take i xs) → next ≡ now ++ f (get_or xs i d) → next ≡ before ++ flat_map f (take (i + 1) xs)
+text_more_at f before xs i d now next within e step = rw (step, e, take_more xs i d within) (flat_map_more f before (take i xs) (get_or xs i d))
+
+pub text_more : {X : Type 0} (f : X → List ℕ) (before : List ℕ) (xs : List X) (i : ℕ) (x : X) (now next : List ℕ) → i < length xs → x ≡ get_or xs i x
+    → now ≡ before ++ flat_map f (take i xs) → next ≡ now ++ f x → next ≡ before ++ flat_map f (take (i + 1) xs)
+text_more f before xs i x now next within here e step = text_more_at f before xs i x now next within e (step ∙ ap (λ (y : _). now ++ f y) here)
+
+-- a line more, with its line feed
+pub line_more : {X : Type 0} (f : X → List ℕ) (before : List ℕ) (xs : List X) (i : ℕ) (x : X) (now line next : List ℕ) → i < length xs → x ≡ get_or xs i x
+    → now ≡ before ++ flat_map (λ (y : X). f y ++ 10 ∷ []) (take i xs) → line ≡ now ++ f x → next ≡ line ++ 10 ∷ []
+    → next ≡ before ++ flat_map (λ (y : X). f y ++ 10 ∷ []) (take (i + 1) xs)
+line_more {X} f before xs i x now line next within here e written ended =
+    text_more (λ (y : X). f y ++ 10 ∷ []) before xs i x now next within here e
+    (ended ∙ ap (λ (t : List ℕ). t ++ 10 ∷ []) written ∙ append_assoc now (f x) (10 ∷ []))
+
+-- what all elements give
+pub text_all : {X : Type 0} (f : X → List ℕ) (before : List ℕ) (xs : List X) (i : ℕ) (now : List ℕ) → length xs ≤ i
+    → now ≡ before ++ flat_map f (take i xs) → now ≡ before ++ flat_map f xs
+text_all f before xs i now past e = e ∙ ap (λ (ys : _). before ++ flat_map f ys) (take_all i xs past)
 
 -- what stands before a code: a comma and a space, but nothing before the first
 abbrev pub comma_before : Bool → List ℕ
