@@ -178,3 +178,133 @@ A refusal that can't be printed keeps its status.
   $ fail line 1
   $ forxainde rules --rules rules
   [3]
+
+So does that of each call that fails, one after the other. What is stored is the same as with a printer that works.
+
+  $ cat >rules <<EOF
+  > number A
+  > A >= 0
+  > EOF
+  $ cat >records <<EOF
+  > A
+  > 4
+  > EOF
+  $ cat >released <<EOF
+  > A
+  > 4
+  > EOF
+  $ cat >proof <<EOF
+  > fh-proof 1
+  > limit 1 near 5 budget 1000000
+  > lines 1
+  > keep
+  > records 1
+  > clean
+  > claims 0
+  > end
+  > EOF
+  $ fail call 1 keep 0
+  $ fail line 1
+  $ forxainde edit --rules rules --records records --released released --reasons reasons --proof proof
+  [5]
+  $ fail call 2 keep 0
+  $ fail line 1
+  $ forxainde edit --rules rules --records records --released released --reasons reasons --proof proof
+  [5]
+  $ fail call 1 keep 0
+  $ fail line 1
+  $ forxainde check --rules rules --records records --released released --proof proof
+  [5]
+  $ fail call 2 keep 0
+  $ fail line 1
+  $ forxainde check --rules rules --records records --released released --proof proof
+  [5]
+  $ fail call 3 keep 0
+  $ fail line 1
+  $ forxainde check --rules rules --records records --released released --proof proof
+  [5]
+  $ fail call 4 keep 0
+  $ fail line 1
+  $ forxainde check --rules rules --records records --released released --proof proof
+  [5]
+  $ fail call 1 keep 0
+  $ fail line 1
+  $ forxainde rules --rules rules
+  [5]
+  $ forxainde check --rules rules --records records --released released --proof proof
+  valid records 1 released 1
+  $ rm released
+  $ fail call 4 keep 3
+  $ fail line 1
+  $ forxainde edit --rules rules --records records --released released --reasons reasons --proof proof
+  [6]
+  $ cat reasons
+  rec (no-eol)
+  $ cat released
+  cat: released: no such file
+  [1]
+  $ fail call 5 keep 3
+  $ fail line 1
+  $ forxainde edit --rules rules --records records --released released --reasons reasons --proof proof
+  [6]
+  $ cat released
+  A
+  4 (no-eol)
+  $ fail call 1 keep 0
+  $ fail line 1
+  $ forxainde make --rules some.rules --records some.records --rows 1
+  [6]
+  $ fail call 2 keep 0
+  $ fail line 1
+  $ forxainde make --rules some.rules --records some.records --rows 1
+  [6]
+  $ calls
+  store some.rules
+  store some.records failed
+
+A refusal has one line: where a second one would fail, there is none.
+
+  $ fail line 2
+  $ forxainde
+  fault: usage
+  [2]
+  $ cat >rules <<EOF
+  > A >= 0
+  > EOF
+  $ fail line 2
+  $ forxainde edit --rules rules --records records --released released --reasons reasons --proof proof
+  fault: rules line 1 kind 3 UnknownField
+  [3]
+  $ calls
+  fetch rules
+  $ fail line 1
+  $ forxainde edit --rules rules --records records --released released --reasons reasons --proof proof
+  [3]
+  $ calls
+  fetch rules
+  $ cat >rules <<EOF
+  > number A
+  > number B
+  > EOF
+  $ fail line 2
+  $ forxainde edit --rules rules --records records --released released --reasons reasons --proof proof
+  fault: records kind 12 NoColumn field B
+  [4]
+  $ fail line 1
+  $ forxainde check --rules rules --records records --released released --proof proof
+  [4]
+  $ calls
+  fetch rules
+  fetch records
+  $ fail line 2
+  $ forxainde rules --rules none.rules
+  fault: read none.rules
+  [5]
+  $ fail line 2
+  $ forxainde make --rules some.rules --records some.records --rows 1
+  made rows 1
+
+Of rules that make no lines nothing is printed, so that no line of them can fail.
+
+  $ fail line 1
+  $ forxainde rules --rules rules

@@ -398,3 +398,60 @@ With one rule less there is no fault: a survey of 500 rules has no record here, 
   claims 0 given 0
   $ cat released
   A
+
+501 rules with spaces. Where the line of the last one has a fault of a lesser kind, that is told, and one on a line before it, whatever
+its kind; but not what stands behind it. In a comment there is no fault, and the line is no rule.
+
+  $ yes 'A >= 0' | head -n 502 >rules
+  $ sed -i -e '1c\number A' rules
+  $ forxainde rules --rules rules
+  fault: rules line 502 kind 8 TooMany
+  [3]
+  $ sed -i -e '502c\A >= 0 \x00' rules
+  $ forxainde rules --rules rules
+  fault: rules line 502 kind 1 BadByte
+  [3]
+  $ sed -i -e '502c\A >=' rules
+  $ forxainde rules --rules rules
+  fault: rules line 502 kind 2 Syntax
+  [3]
+  $ sed -i -e '502c\B >= 0' rules
+  $ forxainde rules --rules rules
+  fault: rules line 502 kind 3 UnknownField
+  [3]
+  $ sed -i -e '502c\0.5 A >= 0' rules
+  $ forxainde rules --rules rules
+  fault: rules line 502 kind 7 NumberRange
+  [3]
+  $ sed -i -e '502c\if A > 1 then A > 2' rules
+  $ forxainde rules --rules rules
+  fault: rules line 502 kind 8 TooMany
+  [3]
+  $ sed -i -e '2c\A >= 1 1' rules
+  $ forxainde rules --rules rules
+  fault: rules line 2 kind 2 Syntax
+  [3]
+  $ sed -i -e '2c\A >= 0' -e '502c\A >= 0' -e '502a\\x00' rules
+  $ forxainde rules --rules rules
+  fault: rules line 502 kind 8 TooMany
+  [3]
+  $ sed -i -e '502c\# A >= 0 \x00' -e '503c\# \x00\xff' rules
+  $ forxainde edit --rules rules --records records --released released --reasons reasons --proof proof
+  records 0 clean 0 changed 0 unresolved 0 weight 0
+  claims 0 given 0
+
+A list of 65 codes of which two are the same; and 65 in a rule, whose field has only two.
+
+  $ cat >rules <<EOF
+  > code B in {a,b,c,d,e,f,g,h,i,j,k,l,m,n,o,p,q,r,s,t,u,v,w,x,y,z,0,1,2,3,4,5,6,7,8,9,A,B,C,D,E,F,G,H,I,J,K,L,M,N,O,P,Q,R,S,T,U,V,W,X,Y,Z,_,-,a}
+  > EOF
+  $ forxainde rules --rules rules
+  fault: rules line 1 kind 6 DoubleCode
+  [3]
+  $ cat >rules <<EOF
+  > code B in {x, y}
+  > B in {a,b,c,d,e,f,g,h,i,j,k,l,m,n,o,p,q,r,s,t,u,v,w,x,y,z,0,1,2,3,4,5,6,7,8,9,A,B,C,D,E,F,G,H,I,J,K,L,M,N,O,P,Q,R,S,T,U,V,W,X,Y,Z,_,-,.}
+  > EOF
+  $ forxainde rules --rules rules
+  fault: rules line 2 kind 5 UnknownCode
+  [3]
