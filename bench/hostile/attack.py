@@ -2,7 +2,7 @@
 
 Usage: attack.py PROGRAM EXAMPLES SEED [GROUP..]
 
-The groups are words, little_memory, random_files, cut_files, changed_files, proofs, limits and hard_files; all of them where none is named.
+The groups are words, little_memory, memory_a_byte, random_files, cut_files, changed_files, proofs, limits and hard_files; all of them where none is named.
 """
 import os
 import pathlib
@@ -29,6 +29,11 @@ SECONDS_A_BYTE = 1 / (4 << 20)
 # Each wrong value costs a step of the search and a leaf of the certificate, however few bytes it has.
 SECONDS_A_WRONG_VALUE = 5e-6
 
+# The most memory that a run takes for a byte of the files that it reads, beyond what one takes that reads next to nothing; and pages that
+# are counted by the kernel a little late.
+MOST_BYTES_A_BYTE = 32
+MEMORY_SLACK = 1 << 20
+
 # What stands in the files that are written, before a run.
 BEFORE = b"what stood here before\n"
 WRITTEN = ("proof", "reasons", "released")
@@ -49,6 +54,13 @@ def processor_seconds():
     """The seconds of the processor that all runs so far took."""
     used = resource.getrusage(resource.RUSAGE_CHILDREN)
     return used.ru_utime + used.ru_stime
+
+
+# Prints the status of a run, what it printed, and the most memory that it had. It is a program of its own, since the kernel counts for a
+# run what the program had that began it.
+MEASURE = """import resource, subprocess, sys
+run = subprocess.run(sys.argv[1:], stdout=subprocess.PIPE, stderr=subprocess.DEVNULL)
+print(run.returncode, resource.getrusage(resource.RUSAGE_CHILDREN).ru_maxrss * 1024, run.stdout[:60])"""
 
 
 class Failed(Exception):
@@ -84,6 +96,17 @@ class Attack:
             time.sleep(0.002)
         run.wait()
         return most
+
+    def resident(self, words, expected):
+        """The most memory, in bytes, that a run with these words has at a time, and its first line; expected are the statuses that are right."""
+        run = subprocess.run([sys.executable, "-c", MEASURE, self.program, *words], stdout=subprocess.PIPE, cwd=self.folder, check=True)
+        status, most, printed = run.stdout.decode().split(" ", 2)
+        self.count += 1
+        self.checks += words[:1] == ["check"]
+        self.seen[int(status)] = self.seen.get(int(status), 0) + 1
+        if int(status) not in expected:
+            raise Failed(f"{self.group}: status {status} in place of one of {sorted(expected)}; it printed {printed}")
+        return int(most), f"status {status}"
 
     def least_memory(self):
         """Memory, in bytes, within which the program can at least be loaded and say that it was given no words."""
@@ -439,6 +462,74 @@ def little_memory(attack, examples, dice):
     attack.end()
 
 
+def memory_a_byte(attack, examples, dice):
+    """The most memory of runs on files that promise more than they have, and on large ones, for each byte that is read."""
+    attack.begin("memory a byte")
+    plain, one = b"number A\nA >= 0\n", b"A\n1\n"
+    attack.files(plain, one, {0})
+    fixed = {words[0]: attack.resident(words, {0})[0] for words in (EDIT, CHECK, RULES)}
+    print("memory a byte: fixed " + ", ".join(f"{command} {memory >> 10} KiB" for command, memory in fixed.items()), flush=True)
+
+    past = []
+
+    def measured(name, words, status, files):
+        for file, text in files.items():
+            (attack.folder / file).write_bytes(text)
+        read = sum(attack.size(file) for file in (CHECKED if words == CHECK else CHECKED[:2] if words == EDIT else CHECKED[:1]))
+        most, said = attack.resident(words, status)
+        taken = max(most - fixed[words[0]], 0)
+        print(f"memory a byte: {words[0]}, {name}: {read} bytes, {most} at most, {taken / read:.2f} a byte; {said}", flush=True)
+        if taken > read * MOST_BYTES_A_BYTE + MEMORY_SLACK:
+            past.append(f"{words[0]}, {name}")
+
+    size = MOST_BYTES - 4096
+    long_rules = {
+        "a line of additions": plain + b"1" + b"+1" * (size // 2) + b" >= 0\n",
+        "a line of terms": plain + b"A" + b"+A" * (size // 2) + b" >= 0\n",
+        "a line of digits": plain + b"A >= " + b"9" * size + b"\n",
+        "a line of conditions": plain + b"if A >= 0" + b" and A >= 0" * (size // 11) + b" then A >= 0\n",
+        "a list of codes": b"code C in {c" + b",c" * (size // 2) + b"}\n",
+        "a long name": b"number " + b"N" * size + b"\n",
+        "a comment": plain + b"#" * size + b"\n",
+        "a list of names": b"".join(b"number N%d\n" % number for number in range(size // 16)),
+        "empty lines": plain + b"\n" * size,
+    }
+    for name, text in long_rules.items():
+        measured(name, RULES, {0, 3, 7}, {"rules": text})
+        measured(name, EDIT, {0, 3, 7}, {"rules": text, "records": one})
+    columns = 200000
+    long_records = {
+        "a header of commas": b"A" + b"," * size + b"\n",
+        "a header of one name": b"N" * size + b"\n",
+        "a header of names": b",".join(b"N%d" % number for number in range(size // 10)) + b"\n",
+        "a header of quoted names": b",".join(b'"N"' for _ in range(size // 4)) + b"\n",
+        "a header of 200,000 columns": b"A" + b"," * (columns - 1) + b"\n",
+        "a record of 200,000 columns": b"A\n1" + b"," * (columns - 1) + b"\n",
+        "a record of commas": b"A\n1" + b"," * size + b"\n",
+        "a quoted field": b'A,B\n1,"' + b"x" * size + b'"\n',
+        "a quoted field that does not end": b'A\n"' + b"x" * size,
+        "a quoted field of quotes": b'A\n"' + b'""' * (size // 2) + b'"\n',
+        "a quoted field of line ends": b'A,B\n1,"' + b"\n" * size + b'"\n',
+        "a field of digits": b"A\n" + b"9" * size + b"\n",
+        "empty lines": b"A\n" + b"\n" * size,
+        "byte order marks": b"\xef\xbb\xbf" * (size // 3) + b"A\n1\n",
+    }
+    for name, text in long_records.items():
+        measured(name, EDIT, {0, 4, 7}, {"rules": plain, "records": text})
+    attack.files(b"number A\nnumber B\ncode C in {x, y}\nA + B = 10\n", b"A,B,C\n3,4,x\n", {0})
+    for count in (b"4000000000", b"%d" % (2 ** 64 - 1)):
+        for proof, old in ((SUM_PROOF, b"lines 1"), (SUM_PROOF, b"records 1"), (SUM_PROOF, b"claims 1"), (SUM_PROOF, b"change 1 KCK 3"),
+                           (SUM_PROOF, b"line KK 1"), (SUM_PROOF, b"keep"), (TABLE_PROOF, b"table 1")):
+            promise = b"drop " + count if old == b"keep" else old.rsplit(b" ", 1)[0] + b" " + count
+            measured(f"a proof that has `{promise.decode()}`", CHECK, {9}, {"proof": proof.replace(old, promise)})
+    for proof, expected in large_proofs(MOST_BYTES // 4):
+        middle = proof[len(proof) // 2:len(proof) // 2 + 24]
+        measured(f"a proof with {middle} in its middle", CHECK, expected | {7}, {"proof": proof})
+    attack.end()
+    if past:
+        raise Failed(f"{attack.group}: more than {MOST_BYTES_A_BYTE} bytes a byte: {'; '.join(past)}")
+
+
 def words(attack, examples, dice):
     attack.begin("words and names")
     attack.files(b"number A\n", b"A\n1\n", {0})
@@ -473,7 +564,7 @@ def words(attack, examples, dice):
 
 def main():
     program, examples, seed = sys.argv[1], pathlib.Path(sys.argv[2]), int(sys.argv[3])
-    groups = (words, little_memory, random_files, cut_files, changed_files, proofs, limits, hard_files)
+    groups = (words, little_memory, memory_a_byte, random_files, cut_files, changed_files, proofs, limits, hard_files)
     named = [group for group in groups if group.__name__ in sys.argv[4:]]
     with tempfile.TemporaryDirectory() as folder:
         attack = Attack(program, folder)
