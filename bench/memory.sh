@@ -1,12 +1,12 @@
 #!/bin/bash
 # Refuses memory to the built program: each request in turn, and then all that goes past a limit, which is set ever lower.
 #
-# usage: bench/memory.sh [JOB..]      (default: tie, donor and nearest; needs gcc)
+# usage: bench/memory.sh [JOB..]      (default: tie, donor, nearest and workers; needs gcc)
 #
 # The jobs are edits of worked cases: `tie`, a record of two fields whose sum is to be 10; `donor`, three records of which the second is given the
-# third field of the first, and the third nothing; and `nearest`, a record of a trade survey whose donor's values are not allowed. A
-# library that is loaded before the program's own makes its N-th request for memory fail (`malloc` and `realloc`, where they are
-# called from the program itself and not from the system's library), for N from 1 up to the first run that makes no N-th request. Then
+# number of the first, and the third nothing; `nearest`, a record of a trade survey whose donor's values are not allowed; and `workers`, two
+# records by two workers. A library that is loaded before the system's makes the program's N-th request for memory fail (`malloc` and `realloc`,
+# where they are called from the program itself), for N from 1 up to where the runs make no N-th request. Then
 # `ulimit -v` is set 64 KiB lower each time, from what the whole run maps down to where the program can't be loaded.
 #
 # Each run has to end with status 7, or as the job does that is refused nothing; and of proof, reasons and released the first some have to

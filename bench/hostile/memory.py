@@ -21,7 +21,11 @@ JOBS = {
     "donor": ("number A\nnumber B\nA >= 1\nB >= 1\nB <= 9\n", "A,B\n5,4\n5,\n6,\n", ["--near", "1"], "A,B\n5,4\n5,4\n6,1\n"),
     "nearest": ("number Turnover weight 2\nnumber Costs\nnumber Profit\nTurnover >= 0\nCosts >= 0\nTurnover - Costs - Profit = 0\n10 Profit <= 6 Turnover\n",
                 "Turnover,Costs,Profit\n200,120,80\n100,,400\n", [], "Turnover,Costs,Profit\n200,120,80\n100,40,60\n"),
+    "workers": ("number A\nnumber B\nA >= 1\nB >= 1\nB <= 9\n", "A,B\n5,4\n5,\n", ["--near", "1", "--workers", "2"], "A,B\n5,4\n5,4\n"),
 }
+
+# Of several workers the requests of a run come in no fixed number. So many runs in a row that make none of this number are taken as the end.
+LAST_RUNS = 3
 
 
 class Job:
@@ -61,14 +65,13 @@ class Job:
 
     def each_request(self, library):
         """Refuses each request in turn."""
-        seen, mark, number = collections.Counter(), self.folder / "refused", 0
-        while True:
+        seen, mark, number, unrefused = collections.Counter(), self.folder / "refused", 0, 0
+        while unrefused < LAST_RUNS:
             number += 1
             mark.unlink(missing_ok=True)
             run = self.run(LD_PRELOAD=library, REFUSE=str(number), REFUSED=str(mark))
             seen[run.returncode, self.standing(run, f"request {number}")] += 1
-            if not mark.exists():
-                break
+            unrefused = 0 if mark.exists() else unrefused + 1
         self.tell("each request refused", number, seen)
 
     def each_limit(self):
