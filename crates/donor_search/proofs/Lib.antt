@@ -2,6 +2,7 @@ pub mod CleanLaws
 pub mod DonorLaws
 pub mod GapLaws
 pub mod OrderLaws
+pub mod PassingLaws
 pub mod PlaceLaws
 pub mod ProfileLaws
 pub mod RankedLaws

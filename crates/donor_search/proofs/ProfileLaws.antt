@@ -119,3 +119,15 @@ told-distance ys kept a b fit first second = told_few 0 ys kept a b fit (from_ze
 
     from_zero : (r : List Value) → HasMeasurable ys kept r → (k : ℕ) → k < length ys → has_number kept (0 + k) ≡ true → IsMeasurable (yardstick_at ys k).scale (value_of r (0 + k))
     from_zero r each k below has = subst (λ n. IsMeasurable (yardstick_at ys k).scale (value_of r n)) (sym (zero_is k)) (each k below (ap (has_number kept) (sym (zero_is k)) ∙ has))
+
+module _ (ys : List Yardstick) (kept : ℕ) (row other : List Value) (owns : List Weighed) (marks : List ℕ) (own_is : owns ≡ weighed_from 0 ys kept row) (marks_is : marks ≡ marks_of ys other) where
+  -- a record has as many marks as a donor
+  pub as_many_marks : length owns ≡ length marks
+  as_many_marks = ap (λ (ws : List Weighed). length ws) own_is ∙ weighed_long 0 ys kept row ∙ sym (ap (λ (ms : List ℕ). length ms) marks_is ∙ marks_long 0 ys other)
+
+  -- what marks tell to be far is far
+  pub farther_told : (most : ℕ) → All IsYardstick ys → HasMeasurable ys kept row → HasMeasurable ys kept other → most < told owns marks → most < distance ys kept row other
+  farther_told most fit first second more =
+      let told_is : told owns marks ≡ told (weighed_from 0 ys kept row) (marks_of ys other) = ap (λ (ws : List Weighed). told ws marks) own_is ∙ ap (λ (ms : List ℕ). told (weighed_from 0 ys kept row) ms) marks_is in
+      let far = told-distance ys kept row other fit first second in
+      omega (arith, more, far, told_is)

@@ -1,6 +1,6 @@
 use Rattle.std.proofs.Common.{◌≡◌, ◌⊎◌, inl, inr, ℕ, zero, suc, ◌+◌, ◌-◌, ◌<◌, ◌≤◌, ◌==◌, ◌&&◌, Bool, true, false, cond, nat_le, nat_lt, Some, List, [], ◌∷◌, ◌++◌, drop, get_or, length, length-append, map, take, slice_get, refl, sym, ap, ◌∙◌, subst, append-nil, append_assoc, arith}
 use Rattle.std.specs.List.{AllByRecursion, count_by, sum_by, take-map}
-use Rattle.std.proofs.lemmas.List.{length-map, length-take}
+use Rattle.std.proofs.lemmas.List.{drop-drop, get_or-drop, get_or-take, length-drop, length-map, length-take, take-take}
 use Rattle.std.proofs.lemmas.List.Sums.{sum_by-append, sum_by-cons, sum_by-drop_more, sum_by-take-drop, sum_by_more, sum_by_push}
 use Rattle.donor_search.specs.Rankings.{IsInOrder, in_order, is_nearer, placed}
 use Rattle.donor_search.specs.declared.candidate.Candidate.{Candidate}
@@ -55,26 +55,30 @@ ones (x ∷ xs) = sum_by-cons (λ y. 1) x xs ∙ (let rest = ones xs in omega (a
 -- ---- the walk
 
 module _ (far gap : ℕ → ℕ) (near : ℕ) where
-  -- the donors in the span were asked, and the nearest candidates are the first of them; no gap of these is more than that of one that
-  -- is left, and where there are as many as wanted one of them is at least so far
-  pub record Walked (donors : List ℕ) (span : Span) (nearest : List Candidate) : Type 0 where
+  -- all donors in the span were seen, and those that were asked are some of them; no gap of these is more than that of a donor that is
+  -- left, and where there are as many as wanted one of them is at least so far; no more steps were counted than donors were asked
+  pub record Walked (donors : List ℕ) (span : Span) (nearest : List Candidate) (before now : ℕ) : Type 0 where
+    pub seen : List ℕ
     pub asked : List ℕ
     pub reach : ℕ
-    pub ranked : nearest ≡ take near (in_order is_before (map (candidate_of far) asked))
-    pub all : (f : ℕ → ℕ) → sum_by f asked + (sum_by f (take span.low donors) + sum_by f (drop span.high donors)) ≡ sum_by f donors
-    pub count : span.low + length asked ≡ span.high
+    pub ranked : nearest ≡ take near (in_order is_before (map (candidate_of far) seen))
+    pub all : (f : ℕ → ℕ) → sum_by f seen + (sum_by f (take span.low donors) + sum_by f (drop span.high donors)) ≡ sum_by f donors
+    pub some : (f : ℕ → ℕ) → sum_by f asked ≤ sum_by f seen
+    pub most : now ≤ before + length asked
     pub within : AllByRecursion (λ d. gap d ≤ reach) asked
     pub beyond : (i : ℕ) → i < length donors → IsOutside span i → reach ≤ gap (get_or donors i 0)
     pub reaches : IsOpenOrReaches near reach nearest
 
   -- before a step none was asked
-  pub walked_none : (donors : List ℕ) (span : Span) → span.low ≡ span.high → Walked donors span []
-  walked_none donors span none = record {
+  pub walked_none : (donors : List ℕ) (span : Span) (before : ℕ) → span.low ≡ span.high → Walked donors span [] before before
+  walked_none donors span before none = record {
+    seen = [];
     asked = [];
     reach = 0;
     ranked = none_taken near;
     all = λ f. let e = ap (λ n. sum_by f (drop n donors)) none in omega (arith, e, sum_by-take-drop f donors span.low);
-    count = omega (arith, none);
+    some = λ f. omega arith;
+    most = omega arith;
     within = tt;
     beyond = λ i below outside. omega arith;
     reaches = λ some. inl some;
@@ -85,24 +89,29 @@ module _ (far gap : ℕ → ℕ) (near : ℕ) where
       none_taken (suc n) = refl
 
   -- a step
-  pub walked_more : (donors : List ℕ) (old new : Span) (place : ℕ) (nearest after : List Candidate) → Walked donors old nearest
+  pub walked_more : (donors : List ℕ) (old new : Span) (place : ℕ) (nearest after : List Candidate) (before mid now : ℕ) → Walked donors old nearest before mid → now ≤ mid + 1
       → place < length donors → old.low ≤ old.high → IsWider old place new
       → ((i : ℕ) → i < length donors → IsOutside old i → gap (get_or donors place 0) ≤ gap (get_or donors i 0))
       → gap (get_or donors place 0) ≤ far (get_or donors place 0)
       → length nearest ≤ near → IsOpenOrReaches near (gap (get_or donors place 0)) nearest
       → after ≡ take near (placed is_before (candidate_of far (get_or donors place 0)) nearest)
-      → Walked donors new after
-  walked_more donors old new place nearest after walked below rising wider next least few room put = record {
+      → Walked donors new after before now
+  walked_more donors old new place nearest after before mid now walked one below rising wider next least few room put = record {
+    seen = seen ++ donor ∷ [];
     asked = asked ++ donor ∷ [];
     reach = gap donor;
-    ranked = put ∙ order_more is_before near (map (candidate_of far) asked) nearest (candidate_of far donor) walked.ranked ∙ ap (λ cs. take near (in_order is_before cs)) (sym (map_push (candidate_of far) asked donor));
+    ranked = put ∙ order_more is_before near (map (candidate_of far) seen) nearest (candidate_of far donor) walked.ranked ∙ ap (λ cs. take near (in_order is_before cs)) (sym (map_push (candidate_of far) seen donor));
     all = λ f. all_more_by f wider;
-    count = count_by_wider wider;
+    some = λ f. let m = walked.some f in omega (arith, m, sum_by_push f seen donor, sum_by_push f asked donor);
+    most = let l = length-append asked (donor ∷ []) in omega (arith, l, walked.most, one);
     within = all_push (λ d. gap d ≤ gap donor) asked donor (all_more (λ d. gap d ≤ walked.reach) (λ d. gap d ≤ gap donor) asked (λ d le. let b = walked.beyond place below (outside wider) in omega (arith, le, b)) walked.within) (omega arith);
     beyond = λ i within out. next i within (still wider i out);
     reaches = reaches_more (gap donor) near (candidate_of far donor) nearest after least few room put;
   }
     where
+      seen : List ℕ
+      seen = walked.seen
+
       asked : List ℕ
       asked = walked.asked
 
@@ -119,20 +128,16 @@ module _ (far gap : ℕ → ℕ) (near : ℕ) where
       still (inr high) i (inl less) = inl (omega (arith, high.1, less))
       still (inr high) i (inr least) = inr (omega (arith, high.0, high.2, least))
 
-      count_by_wider : IsWider old place new → new.low + length (asked ++ donor ∷ []) ≡ new.high
-      count_by_wider (inl low) = let l = length-append asked (donor ∷ []) in omega (arith, l, walked.count, low.0, low.1, low.2)
-      count_by_wider (inr high) = let l = length-append asked (donor ∷ []) in omega (arith, l, walked.count, high.0, high.1, high.2)
-
-      all_more_by : (f : ℕ → ℕ) → IsWider old place new → sum_by f (asked ++ donor ∷ []) + (sum_by f (take new.low donors) + sum_by f (drop new.high donors)) ≡ sum_by f donors
+      all_more_by : (f : ℕ → ℕ) → IsWider old place new → sum_by f (seen ++ donor ∷ []) + (sum_by f (take new.low donors) + sum_by f (drop new.high donors)) ≡ sum_by f donors
       all_more_by f (inl low) =
-          let p = sum_by_push f asked donor in
+          let p = sum_by_push f seen donor in
           let m = sum_by_more f donors place 0 below in
           let a = ap (λ n. sum_by f (take n donors)) low.0 in
           let b = ap (λ n. sum_by f (take n donors)) low.1 in
           let d = ap (λ n. sum_by f (drop n donors)) low.2 in
           omega (arith, p, m, a, b, d, walked.all f)
       all_more_by f (inr high) =
-          let p = sum_by_push f asked donor in
+          let p = sum_by_push f seen donor in
           let m = sum_by-drop_more f donors place 0 below in
           let a = ap (λ n. sum_by f (take n donors)) high.1 in
           let b = ap (λ n. sum_by f (drop n donors)) high.0 in
@@ -149,10 +154,69 @@ module _ (far gap : ℕ → ℕ) (near : ℕ) where
       (all.0 ∙ order_more is_before near (map (candidate_of far) xs) nearest (candidate_of far d) is ∙ ap (λ cs. take near (in_order is_before cs)) (sym (map_push (candidate_of far) xs d))) all.1
       ∙ ap (λ es. take near (in_order is_before (map (candidate_of far) es))) (append_assoc xs (d ∷ []) ds)
 
-  module _ (donors all_donors : List ℕ) (span : Span) (nearest : List Candidate) (walked : Walked donors span nearest) (same : HaveSame all_donors donors) where
-    asked : List ℕ
-    asked = walked.asked
+  -- donors beside the span that have no place among the nearest are passed over
+  pub walked_past : (donors : List ℕ) (old new : Span) (nearest : List Candidate) (before now : ℕ) → Walked donors old nearest before now → new.low ≤ old.low → old.low ≤ old.high → old.high ≤ new.high
+      → ((i : ℕ) → i < length donors → IsOutside old i → new.low ≤ i → i < new.high → nearest ≡ take near (placed is_before (candidate_of far (get_or donors i 0)) nearest))
+      → Walked donors new nearest before now
+  walked_past donors old new nearest before now walked lower rising higher closed = record {
+    seen = walked.seen ++ passed;
+    asked = walked.asked;
+    reach = walked.reach;
+    ranked = rest_far walked.seen passed nearest walked.ranked all_closed;
+    all = all_past;
+    some = λ f. let m = walked.some f in omega (arith, m, sum_by-append f walked.seen passed);
+    most = walked.most;
+    within = walked.within;
+    beyond = λ i below outside. walked.beyond i below (still i outside);
+    reaches = walked.reaches;
+  }
+    where
+      under : List ℕ
+      under = drop new.low (take old.low donors)
 
+      over : List ℕ
+      over = take (new.high - old.high) (drop old.high donors)
+
+      passed : List ℕ
+      passed = under ++ over
+
+      IsPassed : ℕ → Type 0
+      IsPassed d = nearest ≡ take near (placed is_before (candidate_of far d) nearest)
+
+      still : (i : ℕ) → IsOutside new i → IsOutside old i
+      still i (inl less) = inl (omega (arith, lower, less))
+      still i (inr least) = inr (omega (arith, higher, least))
+
+      under_at : (i : ℕ) → i < length (take old.low donors) → new.low ≤ i → IsPassed (get_or (take old.low donors) i 0)
+      under_at i below least =
+          let l = length-take old.low donors in
+          let less : i < old.low = omega (arith, below, l) in
+          let within : i < length donors = omega (arith, below, l) in
+          subst IsPassed (sym (get_or-take old.low donors i 0 less)) (closed i within (inl less) least (omega (arith, less, higher, rising)))
+
+      over_at : (i : ℕ) → i < length (drop old.high donors) → i < new.high - old.high → IsPassed (get_or (drop old.high donors) i 0)
+      over_at i below less =
+          let l = length-drop old.high donors in
+          subst IsPassed (sym (get_or-drop old.high donors i 0)) (closed (old.high + i) (omega (arith, below, l)) (inr (omega arith)) (omega (arith, lower, rising)) (omega (arith, less)))
+
+      all_closed : AllByRecursion IsPassed passed
+      all_closed = all_append IsPassed under over (all_back IsPassed new.low (take old.low donors) under_at) (all_front IsPassed (new.high - old.high) (drop old.high donors) over_at)
+
+      there : (m n : ℕ) → m ≤ n → m + (n - m) ≡ n
+      there m n le = omega (arith, le)
+
+      all_past : (f : ℕ → ℕ) → sum_by f (walked.seen ++ passed) + (sum_by f (take new.low donors) + sum_by f (drop new.high donors)) ≡ sum_by f donors
+      all_past f =
+          let a = sum_by-append f walked.seen passed in
+          let b = sum_by-append f under over in
+          let u = sum_by-take-drop f (take old.low donors) new.low in
+          let t = ap (sum_by f) (take-take new.low old.low donors lower) in
+          let o = sum_by-take-drop f (drop old.high donors) (new.high - old.high) in
+          let d = ap (sum_by f) (drop-drop (new.high - old.high) old.high donors) in
+          let h = ap (λ n. sum_by f (drop n donors)) (there old.high new.high higher) in
+          omega (arith, a, b, u, t, o, d, h, walked.all f)
+
+  module _ (donors all_donors : List ℕ) (span : Span) (nearest : List Candidate) (before now : ℕ) (walked : Walked donors span nearest before now) (same : HaveSame all_donors donors) where
     -- where no donor that is left has a place among the nearest, these are the ranking
     pub walked_all : ((i : ℕ) → i < length donors → IsOutside span i → nearest ≡ take near (placed is_before (candidate_of far (get_or donors i 0)) nearest))
         → nearest ≡ map (candidate_of far) (take near (in_order (is_nearer far) all_donors))
@@ -161,32 +225,43 @@ module _ (far gap : ℕ → ℕ) (near : ℕ) where
         let all = all_append (λ d. nearest ≡ take near (placed is_before (candidate_of far d) nearest)) (take span.low donors) (drop span.high donors)
         (all_front (λ d. nearest ≡ take near (placed is_before (candidate_of far d) nearest)) span.low donors (λ i below less. closed i below (inl less)))
         (all_back (λ d. nearest ≡ take near (placed is_before (candidate_of far d) nearest)) span.high donors (λ i below least. closed i below (inr least))) in
-        let joined : HaveSame (walked.asked ++ others) all_donors = λ f.
-        sum_by-append f walked.asked others ∙ ap (λ n. sum_by f walked.asked + n) (sum_by-append f (take span.low donors) (drop span.high donors)) ∙ walked.all f ∙ sym (same f) in
-        rest_far walked.asked others nearest walked.ranked all
-        ∙ ap (take near) (order-map far (walked.asked ++ others) [])
-        ∙ take-map (candidate_of far) near (in_order (is_nearer far) (walked.asked ++ others))
-        ∙ ap (λ ds. map (candidate_of far) (take near ds)) (order_same far (walked.asked ++ others) all_donors joined)
+        let joined : HaveSame (walked.seen ++ others) all_donors = λ f.
+        sum_by-append f walked.seen others ∙ ap (λ n. sum_by f walked.seen + n) (sum_by-append f (take span.low donors) (drop span.high donors)) ∙ walked.all f ∙ sym (same f) in
+        rest_far walked.seen others nearest walked.ranked all
+        ∙ ap (take near) (order-map far (walked.seen ++ others) [])
+        ∙ take-map (candidate_of far) near (in_order (is_nearer far) (walked.seen ++ others))
+        ∙ ap (λ ds. map (candidate_of far) (take near ds)) (order_same far (walked.seen ++ others) all_donors joined)
+
+    -- no more were asked than stand in the span
+    pub asked_within : span.low ≤ span.high → span.high ≤ length donors → length walked.asked + span.low ≤ span.high
+    asked_within rising within =
+        let a = walked.all (λ x. 1) in
+        let m = walked.some (λ x. 1) in
+        let t = length-take span.low donors in
+        let d = length-drop span.high donors in
+        omega (arith, rising, within, a, m, t, d, ones walked.asked, ones (take span.low donors), ones (drop span.high donors), ones donors)
 
     -- no more were asked than there are
     pub asked_all : length walked.asked ≤ length all_donors
     asked_all =
         let a = walked.all (λ x. 1) in
-        omega (arith, a, ones walked.asked, ones donors, ones all_donors, same (λ x. 1))
+        let m = walked.some (λ x. 1) in
+        omega (arith, a, m, ones walked.asked, ones donors, ones all_donors, same (λ x. 1))
 
     -- and where there are as many as wanted, no more than those of which the gap is at most the distance of the last
     pub asked_few : (ranking : List ℕ) → nearest ≡ map (candidate_of far) ranking → 1 ≤ near → length ranking ≡ near
         → length walked.asked ≤ count_by (λ d. nat_le (gap d) (far (get_or ranking (near - 1) 0))) all_donors
     asked_few ranking is some full =
         let l : length nearest ≡ near = ap (λ (cs : List Candidate). length cs) is ∙ length-map ranking (candidate_of far) ∙ full in
-        let order = nearest_order near (map (candidate_of far) walked.asked) nearest walked.ranked in
+        let order = nearest_order near (map (candidate_of far) walked.seen) nearest walked.ranked in
         let last : Some (candidate_of far (get_or ranking (near - 1) 0)) ≡ slice_get nearest (length nearest - 1) =
         get_map (candidate_of far) ranking (near - 1) (omega (arith, some, full)) ∙ ap (λ (cs : List Candidate). slice_get cs (near - 1)) (sym is) ∙ ap (λ n. slice_get nearest (n - 1)) (sym l) in
         let most = last_reaches walked.reach nearest (candidate_of far (get_or ranking (near - 1) 0)) order last (reached l (walked.reaches some)) in
         let p = λ (d : ℕ). nat_le (gap d) (far (get_or ranking (near - 1) 0)) in
         let c = count_all p walked.asked (all_more (λ d. gap d ≤ walked.reach) (λ d. p d ≡ true) walked.asked (λ d le. at_most (gap d) walked.reach (far (get_or ranking (near - 1) 0)) le most) walked.within) in
         let a = walked.all (λ d. cond (p d) 1 0) in
-        omega (arith, a, c, same (λ d. cond (p d) 1 0))
+        let m = walked.some (λ d. cond (p d) 1 0) in
+        omega (arith, a, m, c, same (λ d. cond (p d) 1 0))
       where
         reached : length nearest ≡ near → (length nearest < near) ⊎ Reaches walked.reach nearest → Reaches walked.reach nearest
         reached l (inl less) = absurd (omega (arith, l, less))

@@ -8,9 +8,9 @@ use Rattle.donor_search.specs.declared.candidate.Candidate.{Candidate}
 use Rattle.donor_search.specs.declared.slot.Slot.{Slot}
 use Rattle.donor_search.specs.declared.span.Span.{Span}
 use Rattle.donor_search.specs.inner.Candidates.{IsClosedAt, IsOpenOrReaches, candidate_of, is_before}
-use Rattle.donor_search.specs.inner.Spans.{IsNext, IsOutside, IsSpan, IsWider, bucket_at, bucket_gap_at}
+use Rattle.donor_search.specs.inner.Spans.{IsNext, IsOutside, IsPast, IsSpan, IsWider, bucket_at, bucket_gap_at}
 use Rattle.donor_search.proofs.GapLaws.{AreWalked, gap_rises, get_mapped}
-use Rattle.donor_search.proofs.WalkLaws.{Walked, ones, asked_all, asked_few, walked_all, walked_more}
+use Rattle.donor_search.proofs.WalkLaws.{Walked, ones, asked_all, asked_few, asked_within, walked_all, walked_more, walked_past}
 
 -- The steps of the walk, by slots.
 
@@ -37,10 +37,18 @@ pub span_grows : (old new : Span) (place most : ℕ) → old.low ≤ old.high �
 span_grows old new place most rising less (inl low) = omega (arith, rising, less, low.0, low.1, low.2)
 span_grows old new place most rising less (inr high) = omega (arith, rising, less, high.0, high.1, high.2)
 
--- with one place
-pub span_one : (old new : Span) (place before mid now : ℕ) → IsWider old place new → mid + old.low ≤ before + old.high → now ≤ mid + 1 → now + new.low ≤ before + new.high
-span_one old new place before mid now (inl low) most one = omega (arith, most, one, low.0, low.1, low.2)
-span_one old new place before mid now (inr high) most one = omega (arith, most, one, high.0, high.1, high.2)
+-- a span that is wider on both sides
+pub span_past : (slots : List Slot) (bucket : ℕ) (old new : Span) → IsSpan slots bucket old → new.low ≤ old.low → old.high ≤ new.high → new.high ≤ length slots → IsSpan slots bucket new
+span_past slots bucket old new is lower higher within = record {
+  rising = omega (arith, lower, higher, is.rising);
+  within = within;
+  below = λ i less. is.below i (omega (arith, lower, less));
+  above = λ i least more. is.above i (omega (arith, higher, least)) more;
+}
+
+-- and of more places
+pub span_longer : (old new : Span) (most : ℕ) → old.high - old.low < new.high - new.low → new.high ≤ most → most - (new.high - new.low) < most - (old.high - old.low)
+span_longer old new most more within = omega (arith, more, within)
 
 module _ (far gap : ℕ → ℕ) (near : ℕ) (axis : Axis) (bucket : ℕ) (donors : List ℕ) (slots : List Slot) (are : AreWalked far gap axis bucket donors slots) where
   below_names : (i : ℕ) → i < length (map (λ (s : Slot). s.donor) slots) → i < length slots
@@ -54,40 +62,40 @@ module _ (far gap : ℕ → ℕ) (near : ℕ) (axis : Axis) (bucket : ℕ) (dono
   next_least span place next i below outside =
       subst (λ n. bucket_gap_at axis bucket (bucket_at slots place) ≤ n) (sym (are.gaps i below)) (gap_rises axis bucket (bucket_at slots place) (bucket_at slots i) (next.near i below outside))
 
-  pub step_walked : (old new : Span) (place donor : ℕ) (nearest after : List Candidate) → Walked far gap near (map (λ (s : Slot). s.donor) slots) old nearest → old.low ≤ old.high
+  pub step_walked : (old new : Span) (place donor : ℕ) (nearest after : List Candidate) (before mid now : ℕ) → Walked far gap near (map (λ (s : Slot). s.donor) slots) old nearest before mid → now ≤ mid + 1 → old.low ≤ old.high
       → IsNext slots bucket old place → IsWider old place new → length nearest ≤ near → IsOpenOrReaches near (bucket_gap_at axis bucket (bucket_at slots place)) nearest
       → donor ≡ (get_or slots place (record { bucket = 0; donor = 0 })).donor → after ≡ take near (placed is_before (candidate_of far donor) nearest)
-      → Walked far gap near (map (λ (s : Slot). s.donor) slots) new after
-  step_walked old new place donor nearest after walked rising next wider few room donor_is put =
+      → Walked far gap near (map (λ (s : Slot). s.donor) slots) new after before now
+  step_walked old new place donor nearest after before mid now walked one rising next wider few room donor_is put =
       let here : get_or (map (λ (s : Slot). s.donor) slots) place 0 ≡ donor = get_mapped slots place (record { bucket = 0; donor = 0 }) next.within ∙ sym donor_is in
-      walked_more far gap near (map (λ (s : Slot). s.donor) slots) old new place nearest after walked (names_below place next.within) rising wider
+      walked_more far gap near (map (λ (s : Slot). s.donor) slots) old new place nearest after before mid now walked one (names_below place next.within) rising wider
       (λ i below outside. subst (λ n. n ≤ gap (get_or (map (λ (s : Slot). s.donor) slots) i 0)) (sym (are.gaps place next.within)) (next_least old place next i (below_names i below) outside))
       (are.short (get_or (map (λ (s : Slot). s.donor) slots) place 0)) few
       (subst (λ n. IsOpenOrReaches near n nearest) (sym (are.gaps place next.within)) room)
       (put ∙ ap (λ d. take near (placed is_before (candidate_of far d) nearest)) (sym here))
 
-  module _ (span : Span) (nearest : List Candidate) (walked : Walked far gap near (map (λ (s : Slot). s.donor) slots) span nearest) where
+  module _ (span : Span) (nearest : List Candidate) (before now : ℕ) (walked : Walked far gap near (map (λ (s : Slot). s.donor) slots) span nearest before now) where
     -- the walk ends since all that are left are too far
     pub stopped_all : (place : ℕ) → IsNext slots bucket span place → IsClosedAt near (bucket_gap_at axis bucket (bucket_at slots place)) nearest → nearest ≡ map (candidate_of far) (take near (in_order (is_nearer far) donors))
-    stopped_all place next closed = walked_all far gap near (map (λ (s : Slot). s.donor) slots) donors span nearest walked are.same
+    stopped_all place next closed = walked_all far gap near (map (λ (s : Slot). s.donor) slots) donors span nearest before now walked are.same
         (λ i below outside. closed (candidate_of far (get_or (map (λ (s : Slot). s.donor) slots) i 0))
         (let n = next_least span place next i (below_names i below) outside in let s = are.short (get_or (map (λ (s : Slot). s.donor) slots) i 0) in omega (arith, n, s)))
 
     -- or since none is left
     pub whole_all : IsSpan slots bucket span → length slots ≤ span.high - span.low → nearest ≡ map (candidate_of far) (take near (in_order (is_nearer far) donors))
-    whole_all is whole = walked_all far gap near (map (λ (s : Slot). s.donor) slots) donors span nearest walked are.same
+    whole_all is whole = walked_all far gap near (map (λ (s : Slot). s.donor) slots) donors span nearest before now walked are.same
         (λ i below outside. absurd (none i (below_names i below) outside))
       where
         none : (i : ℕ) → i < length slots → IsOutside span i → ⊥
         none i below (inl less) = absurd (omega (arith, is.rising, is.within, whole, less))
         none i below (inr least) = absurd (omega (arith, is.rising, is.within, whole, below, least))
 
-    pub steps_all : (before now : ℕ) → now + span.low ≤ before + span.high → now ≤ before + length donors
-    steps_all before now most = let a = asked_all far gap near (map (λ (s : Slot). s.donor) slots) donors span nearest walked are.same in omega (arith, a, most, walked.count)
+    pub steps_all : now ≤ before + length donors
+    steps_all = let a = asked_all far gap near (map (λ (s : Slot). s.donor) slots) donors span nearest before now walked are.same in omega (arith, a, walked.most)
 
-    pub steps_few : (before now : ℕ) (ranking : List ℕ) → now + span.low ≤ before + span.high → nearest ≡ map (candidate_of far) ranking
+    pub steps_few : (ranking : List ℕ) → nearest ≡ map (candidate_of far) ranking
         → now ≤ before + (if nat_lt 0 near && (length ranking == near) then count_by (λ d. nat_le (gap d) (far (get_or ranking (near - 1) 0))) donors else length donors)
-    steps_few before now ranking most is = by (nat_lt 0 near && (length ranking == near)) refl
+    steps_few ranking is = by (nat_lt 0 near && (length ranking == near)) refl
       where
         full : (n l : ℕ) → (nat_lt 0 n && (l == n)) ≡ true → (1 ≤ n) × (l ≡ n)
         full n l at = (grind (arith, at), grind (arith, at))
@@ -96,13 +104,21 @@ module _ (far gap : ℕ → ℕ) (near : ℕ) (axis : Axis) (bucket : ℕ) (dono
             → now ≤ before + (if b then count_by (λ d. nat_le (gap d) (far (get_or ranking (near - 1) 0))) donors else length donors)
         by true at =
             let both = full near (length ranking) at in
-            let a = asked_few far gap near (map (λ (s : Slot). s.donor) slots) donors span nearest walked are.same ranking is both.0 both.1 in
-            omega (arith, a, most, walked.count)
-        by false at = steps_all before now most
+            let a = asked_few far gap near (map (λ (s : Slot). s.donor) slots) donors span nearest before now walked are.same ranking is both.0 both.1 in
+            omega (arith, a, walked.most)
+        by false at = steps_all
 
-  -- a step more, where not all were walked over
-  pub steps_more : (span : Span) (before mid now : ℕ) → span.high - span.low < length slots → now ≤ mid + 1 → mid + span.low ≤ before + span.high → span.low ≤ span.high → now ≤ before + length donors
-  steps_more span before mid now less one most rising =
-      let e = are.same (λ x. 1) in
-      let l = length-map slots (λ (s : Slot). s.donor) in
-      omega (arith, less, one, most, rising, e, ones donors, ones (map (λ (s : Slot). s.donor) slots), l)
+    -- a step more, where not all were walked over
+    pub steps_more : (later : ℕ) → IsSpan slots bucket span → span.high - span.low < length slots → later ≤ now + 1 → later ≤ before + length donors
+    steps_more later is less one =
+        let e = are.same (λ x. 1) in
+        let l = length-map slots (λ (s : Slot). s.donor) in
+        let a = asked_within far gap near (map (λ (s : Slot). s.donor) slots) donors span nearest before now walked are.same is.rising (omega (arith, l, is.within)) in
+        omega (arith, less, one, walked.most, a, e, ones donors, ones (map (λ (s : Slot). s.donor) slots), l)
+
+    -- donors beside the span that have no place among the nearest are passed over
+    pub past_walked : (new : Span) → IsPast far near slots span nearest new → span.low ≤ span.high → Walked far gap near (map (λ (s : Slot). s.donor) slots) new nearest before now
+    past_walked new past rising =
+        walked_past far gap near (map (λ (s : Slot). s.donor) slots) span new nearest before now walked past.lower rising past.higher
+        (λ i below outside least less. subst (λ d. nearest ≡ take near (placed is_before (candidate_of far d) nearest))
+        (sym (get_mapped slots i (record { bucket = 0; donor = 0 }) (below_names i below))) (past.closed i outside least less))

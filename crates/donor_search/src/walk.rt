@@ -6,6 +6,7 @@ ghost use Rattle.donor_search.specs.inner.Searches.{AreRanked, IsAxis, IsSearch,
 
 use crate::axis::Axis;
 use crate::candidate::{Candidate, is_closed_at};
+use crate::passing::past;
 use crate::profile::Profile;
 use crate::search::{Search, marks_in_walk, rank};
 use crate::span::Span;
@@ -15,7 +16,8 @@ use foundation::{OutOfMemory, Steps};
 use std::alloc::Global;
 use std::sync::ledger::Ledger;
 
-/// The nearest donors, found from the record's bucket at a field outward. The walk ends where the gap of buckets alone is more
+/// The nearest donors, found from the record's bucket at a field outward. Where the next ones are farther than the last of `near`, as
+/// their marks tell, they are passed over together. The walk ends where the gap of buckets alone is more
 /// than the distance of the last of `near`.
 pub(crate) fn walk<F: Fn(u32, &Value, &Value) -> u64, L: Ledger>(
     alloc: Global,
@@ -41,6 +43,11 @@ pub(crate) fn walk<F: Fn(u32, &Value, &Value) -> u64, L: Ledger>(
         let slot = slots[place];
         if is_closed_at(&nearest, search.near, axis.gap(bucket, slot.bucket)) {
             return Ok(nearest);
+        }
+        let wider = past(search, profile, axis.field, span, place, &nearest);
+        if wider.len() > span.len() {
+            span = wider;
+            continue;
         }
         let marks = marks_in_walk(search, axis.field, place, slot.donor);
         rank(&mut nearest, slot.donor, marks, search, profile, steps)?;

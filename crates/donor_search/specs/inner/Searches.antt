@@ -10,11 +10,12 @@ use Rattle.donor_measure.specs.Yardsticks.{yardstick_at}
 use Rattle.donor_measure.specs.declared.yardstick.Yardstick.{Yardstick}
 use Rattle.donor_search.specs.Asked.{index_field, gap_to, most_asked}
 use Rattle.donor_search.specs.CleanRows.{IsRankable}
-use Rattle.donor_search.specs.Decks.{IsDeckOf}
+use Rattle.donor_search.specs.Decks.{IsDeckOf, slots_at}
 use Rattle.donor_search.specs.Rankings.{distance_to, ranking_of}
 use Rattle.donor_search.specs.declared.candidate.Candidate.{Candidate}
 use Rattle.donor_search.specs.declared.axis.Axis.{Axis}
 use Rattle.donor_search.specs.declared.search.Search.{Search}
+use Rattle.donor_search.specs.declared.slot.Slot.{Slot}
 use Rattle.donor_search.specs.inner.Candidates.{candidate_of}
 
 -- the yardsticks that are measured by
@@ -57,3 +58,7 @@ pub record IsAxis (yardsticks : List Yardstick) (kept : ℕ) (axis : Axis) : Typ
   pub yardstick : yardstick_at yardsticks axis.field ≡ record { weight = axis.weight; scale = Some axis.scale }
   pub scale : (1 ≤ axis.scale) × (axis.scale ≤ most_scale)
   pub weight : axis.weight ≤ most_weight
+
+-- each donor of a field's slots can be measured
+abbrev pub HasSlots : {F : Type 0} → Search F → ℕ → Type 0
+HasSlots s field = All (λ (x : Slot). IsRankable (yardsticks_in s) s.sheet.now.rows s.kept x.donor) (slots_at s.deck.now.index field)

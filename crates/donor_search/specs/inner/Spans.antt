@@ -1,9 +1,13 @@
 -- The part of the slots of a field that was walked over.
-use Rattle.std.specs.Prelude.{◌≡◌, ◌⊎◌, ℕ, ◌+◌, ◌-◌, ◌*◌, ◌<◌, ◌≤◌, List, length, min, slice_index_or}
+use Rattle.std.specs.Prelude.{◌≡◌, ◌⊎◌, ℕ, ◌+◌, ◌-◌, ◌*◌, ◌<◌, ◌≤◌, List, length, min, slice_index_or, take}
 use Rattle.std.specs.Int.{abs_diff}
+use Rattle.donor_search.specs.Decks.{slot_at}
+use Rattle.donor_search.specs.Rankings.{placed}
 use Rattle.donor_search.specs.declared.axis.Axis.{Axis}
+use Rattle.donor_search.specs.declared.candidate.Candidate.{Candidate}
 use Rattle.donor_search.specs.declared.slot.Slot.{Slot}
 use Rattle.donor_search.specs.declared.span.Span.{Span}
+use Rattle.donor_search.specs.inner.Candidates.{candidate_of, is_before}
 
 -- the bucket of the slot at a place
 abbrev pub bucket_at : List Slot → ℕ → ℕ
@@ -35,3 +39,15 @@ IsWider old place new = ((place + 1 ≡ old.low) × (new.low ≡ place) × (new.
 -- the gap of two buckets at a field
 abbrev pub bucket_gap_at : Axis → ℕ → ℕ → ℕ
 bucket_gap_at axis a b = axis.weight * min 1000 (abs_diff a b - 1)
+
+-- the span has places more, and no donor of these has a place among the nearest
+pub record IsPast (far : ℕ → ℕ) (near : ℕ) (slots : List Slot) (old : Span) (nearest : List Candidate) (new : Span) : Type 0 where
+  pub lower : new.low ≤ old.low
+  pub higher : old.high ≤ new.high
+  pub within : new.high ≤ length slots
+  pub closed : (i : ℕ) → IsOutside old i → new.low ≤ i → i < new.high
+      → nearest ≡ take near (placed is_before (candidate_of far (slot_at slots i).donor) nearest)
+
+-- the donors at the places from `low` up to `high`, without that, are farther than this
+abbrev pub AreFarther : (ℕ → ℕ) → ℕ → List Slot → ℕ → ℕ → Type 0
+AreFarther far most slots low high = (i : ℕ) → low ≤ i → i < high → most < far (slot_at slots i).donor

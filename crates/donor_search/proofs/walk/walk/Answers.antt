@@ -6,7 +6,8 @@ use Rattle.donor_search.specs.CleanRows.{IsRankable, row_at}
 use Rattle.donor_search.specs.declared.axis.Axis.{Axis}
 use Rattle.donor_search.specs.declared.candidate.Candidate.{Candidate}
 use Rattle.donor_search.specs.declared.slot.Slot.{Slot}
-use Rattle.donor_search.specs.inner.Spans.{bucket_at, bucket_gap_at}
+use Rattle.donor_search.specs.Decks.{slots_at}
+use Rattle.donor_search.specs.inner.Spans.{IsPast, bucket_at, bucket_gap_at}
 use Rattle.donor_search.specs.inner.Candidates.{IsClosedAt, IsOpenOrReaches, candidate_of, is_before}
 use Rattle.donor_search.specs.inner.Searches.{far_in, gap_in, most_in, ranking_in, yardsticks_in}
 use Rattle.donor_search.specs.Rankings.{IsInOrder, in_order, placed}
@@ -14,7 +15,7 @@ use Rattle.donor_search.proofs.GapLaws.{AreWalked, slots_rankable, slots_walked}
 use Rattle.donor_search.proofs.OrderLaws.{nearest_order}
 use Rattle.donor_search.proofs.RankingLaws.{few_taken}
 use Rattle.donor_search.proofs.WalkLaws.{Walked, walked_none}
-use Rattle.donor_search.proofs.WalkSteps.{span_grows, span_one, span_wider, step_walked, steps_all, steps_few, steps_more, stopped_all, whole_all}
+use Rattle.donor_search.proofs.WalkSteps.{past_walked, span_grows, span_longer, span_past, span_wider, step_walked, steps_all, steps_few, steps_more, stopped_all, whole_all}
 use Rattle.donor_search.proofs.walk.walk.Goals as goal
 
 pub loop-slots-init : goal.loop-slots-init
@@ -24,10 +25,9 @@ loop-slots-init g c =
     let size : length c.new-nearest.result.items ≡ 0 = ap (λ (cs : List Candidate). length cs) none in
     record {
       span = c.at-span.ensures.span;
-      walked = subst (λ (cs : List Candidate). Walked (far_in s) (gap_in s c.args.axis.field) s.near (map (λ (x : Slot). x.donor) c.slots-slots.result.now) c.at-span.result cs) (sym none)
-          (walked_none (far_in s) (gap_in s c.args.axis.field) s.near (map (λ (x : Slot). x.donor) c.slots-slots.result.now) c.at-span.result c.at-span.ensures.none);
+      walked = subst (λ (cs : List Candidate). Walked (far_in s) (gap_in s c.args.axis.field) s.near (map (λ (x : Slot). x.donor) c.slots-slots.result.now) c.at-span.result cs c.args.steps.now c.args.steps.now) (sym none)
+          (walked_none (far_in s) (gap_in s c.args.axis.field) s.near (map (λ (x : Slot). x.donor) c.slots-slots.result.now) c.at-span.result c.args.steps.now c.at-span.ensures.none);
       few = omega (arith, size);
-      most = omega (arith, c.at-span.ensures.none);
     }
 
 pub len-requires : goal.len-requires
@@ -44,7 +44,7 @@ pub is_closed_at-requires-clause-order : goal.is_closed_at-requires-clause-order
 is_closed_at-requires-clause-order g c =
     let s = c.args.search.now in
     let walked = c.loop-slots.invariant.walked in
-    subst (λ (cs : List Candidate). IsInOrder is_before cs) (sym c.deref.ensures.value) (nearest_order s.near (map (candidate_of (far_in s)) walked.asked) c.loop-slots.nearest.items walked.ranked)
+    subst (λ (cs : List Candidate). IsInOrder is_before cs) (sym c.deref.ensures.value) (nearest_order s.near (map (candidate_of (far_in s)) walked.seen) c.loop-slots.nearest.items walked.ranked)
 
 pub returns-then-is_closed_at-clause-ranked : goal.returns-then-is_closed_at-clause-ranked
 returns-then-is_closed_at-clause-ranked g c =
@@ -57,7 +57,7 @@ returns-then-is_closed_at-clause-ranked g c =
     let are : AreWalked far gap axis bucket s.deck.now.donors slots = slots_walked g.F.Fn s axis slots c.bucket_no-bucket.result c.value.result.now c.requires.search c.requires.profile.fit c.requires.axis c.slots-slots.ensures c.value.ensures c.bucket_no-bucket.ensures.is in
     let inv = c.loop-slots.invariant in
     let closed = subst (λ (cs : List Candidate). IsClosedAt s.near c.gap.result cs) c.deref.ensures.value (c.is_closed_at.ensures.closed (search rules)) in
-    stopped_all far gap s.near axis bucket s.deck.now.donors slots are c.loop-slots.span c.loop-slots.nearest.items inv.walked c.next-place.result c.next-place.ensures
+    stopped_all far gap s.near axis bucket s.deck.now.donors slots are c.loop-slots.span c.loop-slots.nearest.items c.args.steps.now c.loop-slots.steps inv.walked c.next-place.result c.next-place.ensures
     (subst (λ n. IsClosedAt s.near n c.loop-slots.nearest.items) c.gap.ensures closed)
 
 pub returns-then-is_closed_at-clause-steps : goal.returns-then-is_closed_at-clause-steps
@@ -71,10 +71,10 @@ returns-then-is_closed_at-clause-steps g c =
     let are : AreWalked far gap axis bucket s.deck.now.donors slots = slots_walked g.F.Fn s axis slots c.bucket_no-bucket.result c.value.result.now c.requires.search c.requires.profile.fit c.requires.axis c.slots-slots.ensures c.value.ensures c.bucket_no-bucket.ensures.is in
     let inv = c.loop-slots.invariant in
     let closed = subst (λ (cs : List Candidate). IsClosedAt s.near c.gap.result cs) c.deref.ensures.value (c.is_closed_at.ensures.closed (search rules)) in
-    let ranked = stopped_all far gap s.near axis bucket s.deck.now.donors slots are c.loop-slots.span c.loop-slots.nearest.items inv.walked c.next-place.result c.next-place.ensures
+    let ranked = stopped_all far gap s.near axis bucket s.deck.now.donors slots are c.loop-slots.span c.loop-slots.nearest.items c.args.steps.now c.loop-slots.steps inv.walked c.next-place.result c.next-place.ensures
     (subst (λ n. IsClosedAt s.near n c.loop-slots.nearest.items) c.gap.ensures closed) in
     subst (λ (o : Option ℕ). c.loop-slots.steps ≤ c.args.steps.now + most_asked (yardsticks_in s) s.sheet.now.rows s.deck.now.donors s.row.now s.kept s.near o (ranking_in s)) (sym c.requires.first)
-    (steps_few far gap s.near axis bucket s.deck.now.donors slots are c.loop-slots.span c.loop-slots.nearest.items inv.walked c.args.steps.now c.loop-slots.steps (ranking_in s) inv.most ranked)
+    (steps_few far gap s.near axis bucket s.deck.now.donors slots are c.loop-slots.span c.loop-slots.nearest.items c.args.steps.now c.loop-slots.steps inv.walked (ranking_in s) ranked)
 
 pub returns-then-is_closed_at-clause-most : goal.returns-then-is_closed_at-clause-most
 returns-then-is_closed_at-clause-most g c =
@@ -86,7 +86,38 @@ returns-then-is_closed_at-clause-most g c =
     let gap : ℕ → ℕ = gap_in s axis.field in
     let are : AreWalked far gap axis bucket s.deck.now.donors slots = slots_walked g.F.Fn s axis slots c.bucket_no-bucket.result c.value.result.now c.requires.search c.requires.profile.fit c.requires.axis c.slots-slots.ensures c.value.ensures c.bucket_no-bucket.ensures.is in
     let inv = c.loop-slots.invariant in
-    steps_all far gap s.near axis bucket s.deck.now.donors slots are c.loop-slots.span c.loop-slots.nearest.items inv.walked c.args.steps.now c.loop-slots.steps inv.most
+    steps_all far gap s.near axis bucket s.deck.now.donors slots are c.loop-slots.span c.loop-slots.nearest.items c.args.steps.now c.loop-slots.steps inv.walked
+
+pub past-wider-requires-clause-field : goal.past-wider-requires-clause-field
+past-wider-requires-clause-field g c =
+    let s = c.args.search.now in
+    slots_rankable g.F.Fn s c.args.axis (slots_at s.deck.now.index c.args.axis.field) c.requires.search c.requires.axis refl
+
+pub past-wider-requires-clause-order : goal.past-wider-requires-clause-order
+past-wider-requires-clause-order g c =
+    let s = c.args.search.now in
+    subst (λ (cs : List Candidate). IsInOrder is_before cs) (sym c.deref-in-loop-slots.ensures.value)
+    (nearest_order s.near (map (candidate_of (far_in s)) c.loop-slots.invariant.walked.seen) c.loop-slots.nearest.items c.loop-slots.invariant.walked.ranked)
+
+pub loop-slots-preserved-then-len : goal.loop-slots-preserved-then-len
+loop-slots-preserved-then-len g c =
+    let s = c.args.search.now in
+    let axis = c.args.axis in
+    let slots = c.slots-slots.result.now in
+    let bucket = c.bucket_no-bucket.result in
+    let far : ℕ → ℕ = far_in s in
+    let gap : ℕ → ℕ = gap_in s axis.field in
+    let are : AreWalked far gap axis bucket s.deck.now.donors slots = slots_walked g.F.Fn s axis slots c.bucket_no-bucket.result c.value.result.now c.requires.search c.requires.profile.fit c.requires.axis c.slots-slots.ensures c.value.ensures c.bucket_no-bucket.ensures.is in
+    let inv = c.loop-slots.invariant in
+    let there : IsPast far s.near (slots_at s.deck.now.index axis.field) c.loop-slots.span c.loop-slots.nearest.items c.past-wider.result =
+    subst (λ (cs : List Candidate). IsPast far s.near (slots_at s.deck.now.index axis.field) c.loop-slots.span cs c.past-wider.result) c.deref-in-loop-slots.ensures.value c.past-wider.ensures in
+    let is : IsPast far s.near slots c.loop-slots.span c.loop-slots.nearest.items c.past-wider.result =
+    subst (λ (ss : List Slot). IsPast far s.near ss c.loop-slots.span c.loop-slots.nearest.items c.past-wider.result) (sym c.slots-slots.ensures) there in
+    record {
+      span = span_past slots bucket c.loop-slots.span c.past-wider.result inv.span is.lower is.higher is.within;
+      walked = past_walked far gap s.near axis bucket s.deck.now.donors slots are c.loop-slots.span c.loop-slots.nearest.items c.args.steps.now c.loop-slots.steps inv.walked c.past-wider.result is inv.span.rising;
+      few = inv.few;
+    }
 
 pub rank-requires-clause-donor : goal.rank-requires-clause-donor
 rank-requires-clause-donor g c =
@@ -104,7 +135,7 @@ rank-requires-clause-few g c = c.loop-slots.invariant.few
 pub rank-requires-clause-order : goal.rank-requires-clause-order
 rank-requires-clause-order g c =
     let s = c.args.search.now in
-    nearest_order s.near (map (candidate_of (far_in s)) c.loop-slots.invariant.walked.asked) c.loop-slots.nearest.items c.loop-slots.invariant.walked.ranked
+    nearest_order s.near (map (candidate_of (far_in s)) c.loop-slots.invariant.walked.seen) c.loop-slots.nearest.items c.loop-slots.invariant.walked.ranked
 
 pub returns-in_err-rank-clause-most : goal.returns-in_err-rank-clause-most
 returns-in_err-rank-clause-most g c =
@@ -117,7 +148,7 @@ returns-in_err-rank-clause-most g c =
     let are : AreWalked far gap axis bucket s.deck.now.donors slots = slots_walked g.F.Fn s axis slots c.bucket_no-bucket.result c.value.result.now c.requires.search c.requires.profile.fit c.requires.axis c.slots-slots.ensures c.value.ensures c.bucket_no-bucket.ensures.is in
     let inv = c.loop-slots.invariant in
     let less : c.loop-slots.span.high - c.loop-slots.span.low < length slots = omega (arith, c.len.ensures, c.loop-slots-test.true) in
-    steps_more far gap s.near axis bucket s.deck.now.donors slots are c.loop-slots.span c.args.steps.now c.loop-slots.steps c.rank.new.steps less c.rank.ensures.steps inv.most inv.span.rising
+    steps_more far gap s.near axis bucket s.deck.now.donors slots are c.loop-slots.span c.loop-slots.nearest.items c.args.steps.now c.loop-slots.steps inv.walked c.rank.new.steps inv.span less c.rank.ensures.steps
 
 pub with-span-requires-clause-rising : goal.with-span-requires-clause-rising
 with-span-requires-clause-rising g c = c.loop-slots.invariant.span.rising
@@ -141,10 +172,9 @@ loop-slots-preserved g c =
     let room = subst (λ (cs : List Candidate). IsOpenOrReaches s.near c.gap.result cs) c.deref.ensures.value (c.is_closed_at.ensures.reaches (search rules)) in
     record {
       span = span_wider slots bucket c.loop-slots.span c.with-span.result place inv.span c.next-place.ensures.within c.with-span.ensures;
-      walked = step_walked far gap s.near axis bucket s.deck.now.donors slots are c.loop-slots.span c.with-span.result place _ c.loop-slots.nearest.items c.rank.new.best.items inv.walked inv.span.rising
+      walked = step_walked far gap s.near axis bucket s.deck.now.donors slots are c.loop-slots.span c.with-span.result place _ c.loop-slots.nearest.items c.rank.new.best.items c.args.steps.now c.loop-slots.steps c.rank.new.steps inv.walked c.rank.ensures.steps inv.span.rising
           c.next-place.ensures c.with-span.ensures inv.few (subst (λ n. IsOpenOrReaches s.near n c.loop-slots.nearest.items) c.gap.ensures room) refl c.in_ok-rank.ensures.ranks;
       few = few_taken s.near _ c.rank.new.best.items c.in_ok-rank.ensures.ranks;
-      most = span_one c.loop-slots.span c.with-span.result place c.args.steps.now c.loop-slots.steps c.rank.new.steps c.with-span.ensures inv.most c.rank.ensures.steps;
     }
 
 pub returns-clause-ranked : goal.returns-clause-ranked
@@ -158,7 +188,7 @@ returns-clause-ranked g c =
     let are : AreWalked far gap axis bucket s.deck.now.donors slots = slots_walked g.F.Fn s axis slots c.bucket_no-bucket.result c.value.result.now c.requires.search c.requires.profile.fit c.requires.axis c.slots-slots.ensures c.value.ensures c.bucket_no-bucket.ensures.is in
     let inv = c.loop-slots.invariant in
     let whole : length slots ≤ c.loop-slots.span.high - c.loop-slots.span.low = omega (arith, c.len.ensures, c.loop-slots-test.false) in
-    whole_all far gap s.near axis bucket s.deck.now.donors slots are c.loop-slots.span c.loop-slots.nearest.items inv.walked inv.span whole
+    whole_all far gap s.near axis bucket s.deck.now.donors slots are c.loop-slots.span c.loop-slots.nearest.items c.args.steps.now c.loop-slots.steps inv.walked inv.span whole
 
 pub returns-clause-steps : goal.returns-clause-steps
 returns-clause-steps g c =
@@ -171,9 +201,9 @@ returns-clause-steps g c =
     let are : AreWalked far gap axis bucket s.deck.now.donors slots = slots_walked g.F.Fn s axis slots c.bucket_no-bucket.result c.value.result.now c.requires.search c.requires.profile.fit c.requires.axis c.slots-slots.ensures c.value.ensures c.bucket_no-bucket.ensures.is in
     let inv = c.loop-slots.invariant in
     let whole : length slots ≤ c.loop-slots.span.high - c.loop-slots.span.low = omega (arith, c.len.ensures, c.loop-slots-test.false) in
-    let ranked = whole_all far gap s.near axis bucket s.deck.now.donors slots are c.loop-slots.span c.loop-slots.nearest.items inv.walked inv.span whole in
+    let ranked = whole_all far gap s.near axis bucket s.deck.now.donors slots are c.loop-slots.span c.loop-slots.nearest.items c.args.steps.now c.loop-slots.steps inv.walked inv.span whole in
     subst (λ (o : Option ℕ). c.loop-slots.steps ≤ c.args.steps.now + most_asked (yardsticks_in s) s.sheet.now.rows s.deck.now.donors s.row.now s.kept s.near o (ranking_in s)) (sym c.requires.first)
-    (steps_few far gap s.near axis bucket s.deck.now.donors slots are c.loop-slots.span c.loop-slots.nearest.items inv.walked c.args.steps.now c.loop-slots.steps (ranking_in s) inv.most ranked)
+    (steps_few far gap s.near axis bucket s.deck.now.donors slots are c.loop-slots.span c.loop-slots.nearest.items c.args.steps.now c.loop-slots.steps inv.walked (ranking_in s) ranked)
 
 pub returns-clause-most : goal.returns-clause-most
 returns-clause-most g c =
@@ -185,4 +215,4 @@ returns-clause-most g c =
     let gap : ℕ → ℕ = gap_in s axis.field in
     let are : AreWalked far gap axis bucket s.deck.now.donors slots = slots_walked g.F.Fn s axis slots c.bucket_no-bucket.result c.value.result.now c.requires.search c.requires.profile.fit c.requires.axis c.slots-slots.ensures c.value.ensures c.bucket_no-bucket.ensures.is in
     let inv = c.loop-slots.invariant in
-    steps_all far gap s.near axis bucket s.deck.now.donors slots are c.loop-slots.span c.loop-slots.nearest.items inv.walked c.args.steps.now c.loop-slots.steps inv.most
+    steps_all far gap s.near axis bucket s.deck.now.donors slots are c.loop-slots.span c.loop-slots.nearest.items c.args.steps.now c.loop-slots.steps inv.walked

@@ -1,4 +1,4 @@
-use Rattle.std.proofs.Common.{◌≤◌, ◌+◌, ◌-◌, ◌≡◌, length, map}
+use Rattle.std.proofs.Common.{◌≤◌, ◌-◌, length, map}
 use Rattle.donor_search.specs.declared.slot.Slot.{Slot}
 use Rattle.donor_search.specs.inner.Searches.{far_in, gap_in}
 use Rattle.donor_search.specs.inner.Spans.{IsSpan}
@@ -8,9 +8,8 @@ use Rattle.donor_search.proofs.walk.walk.Given as goal
 abbrev pub invariant-loop-slots : goal.invariant-loop-slots
 invariant-loop-slots g l = record {
   span : IsSpan l.slots l.bucket l.span;
-  walked : Walked (far_in l.search) (gap_in l.search l.axis.field) l.search.near (map (λ (s : Slot). s.donor) l.slots) l.span l.nearest.items;
+  walked : Walked (far_in l.search) (gap_in l.search l.axis.field) l.search.near (map (λ (s : Slot). s.donor) l.slots) l.span l.nearest.items l.fn.steps l.steps;
   few : length l.nearest.items ≤ l.search.near;
-  most : l.steps + l.span.low ≤ l.fn.steps + l.span.high;
 }
 
 abbrev pub decreases-loop-slots : goal.decreases-loop-slots
