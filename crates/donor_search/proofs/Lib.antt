@@ -5,6 +5,7 @@ pub mod OrderLaws
 pub mod PassingLaws
 pub mod PlaceLaws
 pub mod ProfileLaws
+pub mod RangeLaws
 pub mod RankedLaws
 pub mod RankingLaws
 pub mod ReachLaws

@@ -1,4 +1,4 @@
-use Rattle.std.proofs.Common.{◌≡◌, ◌⊎◌, inl, inr, ℕ, ◌+◌, ◌-◌, ◌<◌, ◌≤◌, Bool, true, false, List, nat_lt, refl, sym, subst, arith, take, length}
+use Rattle.std.proofs.Common.{◌≡◌, inl, inr, ℕ, ◌+◌, ◌-◌, ◌<◌, ◌≤◌, Bool, true, false, List, nat_lt, refl, subst, arith, take, length}
 use Rattle.donor_search.specs.Decks.{slot_at}
 use Rattle.donor_search.specs.Rankings.{placed}
 use Rattle.donor_search.specs.declared.candidate.Candidate.{Candidate}

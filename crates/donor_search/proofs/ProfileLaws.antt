@@ -1,5 +1,4 @@
-use Rattle.std.proofs.Common.{◌≡◌, ◌∙◌, ℕ, zero, suc, ◌+◌, ◌-◌, ◌*◌, ◌<◌, ◌≤◌, Bool, true, false, All, List, [], ◌∷◌, ◌++◌, drop, get_or, length, length-append, take, min, refl, ap, sym, subst, arith, if◌then◌else◌, cond}
-use Rattle.std.specs.Int.{abs_diff}
+use Rattle.std.proofs.Common.{◌≡◌, ◌∙◌, ℕ, zero, suc, ◌+◌, ◌*◌, ◌<◌, ◌≤◌, Bool, true, false, All, List, [], ◌∷◌, ◌++◌, drop, get_or, length, length-append, take, refl, ap, sym, subst, arith, if◌then◌else◌}
 use Rattle.std.specs.List.{flat_map}
 use Rattle.std.proofs.Math.Nat.{mul-le-mul_right}
 use Rattle.std.proofs.Math.Seq.{drop-append-add, take-append_seam}
@@ -10,10 +9,9 @@ use Rattle.edit_model.specs.declared.value.Value.{Value}
 use Rattle.donor_measure.specs.Buckets.{mark_of, marks_from, marks_of}
 use Rattle.donor_measure.specs.Distances.{distance, distance_from, value_distance}
 use Rattle.donor_measure.specs.Measures.{HasMeasurable, IsMeasurable}
-use Rattle.donor_measure.specs.Yardsticks.{IsScale, IsYardstick, yardstick_at}
+use Rattle.donor_measure.specs.Yardsticks.{IsYardstick, yardstick_at}
 use Rattle.donor_measure.specs.declared.yardstick.Yardstick.{Yardstick}
 use Rattle.donor_measure.proofs.MarkLaws.{marks_few}
-use Rattle.donor_search.specs.CleanRows.{row_at}
 use Rattle.donor_search.specs.declared.profile.Weighed.{Weighed}
 use Rattle.donor_search.specs.inner.Profiles.{told, told_by, weighed_at, weighed_from}
 

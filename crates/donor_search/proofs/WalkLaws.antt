@@ -1,11 +1,11 @@
-use Rattle.std.proofs.Common.{◌≡◌, ◌⊎◌, inl, inr, ℕ, zero, suc, ◌+◌, ◌-◌, ◌<◌, ◌≤◌, ◌==◌, ◌&&◌, Bool, true, false, cond, nat_le, nat_lt, Some, List, [], ◌∷◌, ◌++◌, drop, get_or, length, length-append, map, take, slice_get, refl, sym, ap, ◌∙◌, subst, append-nil, append_assoc, arith}
+use Rattle.std.proofs.Common.{◌≡◌, ◌⊎◌, inl, inr, ℕ, zero, suc, ◌+◌, ◌-◌, ◌<◌, ◌≤◌, Bool, true, cond, nat_le, Some, List, [], ◌∷◌, ◌++◌, drop, get_or, length, length-append, map, take, slice_get, refl, sym, ap, ◌∙◌, subst, append-nil, append_assoc, arith}
 use Rattle.std.specs.List.{AllByRecursion, count_by, sum_by, take-map}
 use Rattle.std.proofs.lemmas.List.{drop-drop, get_or-drop, get_or-take, length-drop, length-map, length-take, take-take}
 use Rattle.std.proofs.lemmas.List.Sums.{sum_by-append, sum_by-cons, sum_by-drop_more, sum_by-take-drop, sum_by_more, sum_by_push}
-use Rattle.donor_search.specs.Rankings.{IsInOrder, in_order, is_nearer, placed}
+use Rattle.donor_search.specs.Rankings.{in_order, is_nearer, placed}
 use Rattle.donor_search.specs.declared.candidate.Candidate.{Candidate}
 use Rattle.donor_search.specs.declared.span.Span.{Span}
-use Rattle.donor_search.specs.inner.Candidates.{IsClosedAt, IsOpenOrReaches, Reaches, candidate_of, is_before}
+use Rattle.donor_search.specs.inner.Candidates.{IsOpenOrReaches, Reaches, candidate_of, is_before}
 use Rattle.donor_search.specs.inner.Spans.{IsOutside, IsWider}
 use Rattle.donor_search.proofs.OrderLaws.{all_more, nearest_order}
 use Rattle.donor_search.proofs.RankingLaws.{order-map, order_more}

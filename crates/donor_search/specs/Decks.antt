@@ -1,6 +1,6 @@
 -- What contracts see of a deck: its donors, and what it keeps to find the near ones.
-use Rattle.std.specs.Prelude.{◌≡◌, ℕ, ◌<◌, List, [], Option, Some, None, length, map, slice_index_or}
-use Rattle.std.specs.List.{AllByRecursion, flat_map}
+use Rattle.std.specs.Prelude.{◌≡◌, ℕ, ◌+◌, ◌*◌, ◌<◌, ◌≤◌, List, [], ◌∷◌, Option, Some, None, drop, length, map, slice_index_or, take}
+use Rattle.std.specs.List.{flat_map}
 use Rattle.std.specs.List.Sorted.{IsNonDecreasingBy, IsPermutation, IsStrictlyIncreasing}
 use Rattle.edit_model.specs.Rows.{value_of}
 use Rattle.edit_model.specs.declared.value.Value.{Value}
@@ -8,16 +8,18 @@ use Rattle.donor_measure.specs.Buckets.{bucket_no, marks_of}
 use Rattle.donor_measure.specs.Yardsticks.{yardstick_at}
 use Rattle.donor_measure.specs.declared.yardstick.Yardstick.{Yardstick}
 use Rattle.donor_search.specs.CleanRows.{row_at}
+use Rattle.donor_search.specs.declared.ranges.MarkRange.{MarkRange}
 use Rattle.donor_search.specs.declared.slot.Slot.{Slot}
 
 -- the donors of a deck; of each field its slots; the marks of all rows; and a field, with the marks of the donors in the order of
--- its slots
+-- its slots, and the ranges of these marks in blocks of donors
 pub record DeckParts : Type 0 where
   pub donors : List ℕ
   pub index : List (List Slot)
   pub marks : List ℕ
   pub first : ℕ
   pub walk_marks : List ℕ
+  pub ranges : List MarkRange
 
 -- a donor with its bucket at a field of this scale
 abbrev pub slot_of : ℕ → List (List Value) → ℕ → ℕ → Slot
@@ -41,8 +43,27 @@ slot_at slots place = slice_index_or slots place (record { bucket = 0; donor = 0
 abbrev pub slot_marks : List Yardstick → List (List Value) → Slot → List ℕ
 slot_marks yardsticks rows slot = marks_of yardsticks (row_at rows slot.donor)
 
+-- the range at a place
+abbrev pub range_at : List MarkRange → ℕ → MarkRange
+range_at ranges place = slice_index_or ranges place (record { low = 0; high = 0 })
+
+-- the ranges of a block, one at each field
+abbrev pub block_ranges : ℕ → List MarkRange → ℕ → List MarkRange
+block_ranges count ranges block = take count (drop (block * count) ranges)
+
+-- a mark is neither below the least nor above the greatest of a range
+abbrev pub IsWithin : MarkRange → ℕ → Type 0
+IsWithin range mark = (range.low ≤ mark) × (mark ≤ range.high)
+
+-- each range has a mark, which is within it
+abbrev pub AreWithin : List MarkRange → List ℕ → Type 0
+AreWithin [] marks = Unit {0}
+AreWithin (range ∷ ranges) [] = ⊥
+AreWithin (range ∷ ranges) (mark ∷ marks) = IsWithin range mark × AreWithin ranges marks
+
 -- a deck is one of these rows and yardsticks: its donors rise, and it has their slots at each numerical field, the marks of all rows,
--- and those of the donors in the order of the slots of one field
+-- those of the donors in the order of the slots of one field, and ranges at each field for each whole block of 32 of these donors,
+-- within which their marks are
 pub record IsDeckOf (yardsticks : List Yardstick) (rows : List (List Value)) (deck : DeckParts) : Type 0 where
   pub rising : IsStrictlyIncreasing deck.donors
   pub fields : length deck.index ≡ length yardsticks
@@ -50,3 +71,8 @@ pub record IsDeckOf (yardsticks : List Yardstick) (rows : List (List Value)) (de
       → AreSlots (yardstick_at yardsticks f).scale rows f deck.donors (slots_at deck.index f)
   pub marks : deck.marks ≡ flat_map (marks_of yardsticks) rows
   pub walk_marks : deck.walk_marks ≡ flat_map (slot_marks yardsticks rows) (slots_at deck.index deck.first)
+  pub blocks : (block : ℕ) → block * 32 + 32 ≤ length (slots_at deck.index deck.first)
+      → block * length yardsticks + length yardsticks ≤ length deck.ranges
+  pub ranges : (block j : ℕ) → block * 32 + 32 ≤ length (slots_at deck.index deck.first) → j < 32
+      → AreWithin (block_ranges (length yardsticks) deck.ranges block)
+      (slot_marks yardsticks rows (slot_at (slots_at deck.index deck.first) (block * 32 + j)))

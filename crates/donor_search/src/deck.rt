@@ -11,6 +11,7 @@ ghost use Rattle.donor_search.specs.declared.slot.Slot.{Slot as AnySlot};
 ghost use Rattle.donor_search.specs.Places.{place_if};
 
 use crate::index::{marks_of_rows, marks_of_slots, slots_of};
+use crate::ranges::{MarkRange, ranges_of};
 use crate::slot::Slot;
 use donor_measure::Yardsticks;
 use edit_model::{Survey, is_clean};
@@ -20,7 +21,7 @@ use std::alloc::Global;
 use std::marker::Model;
 
 /// The donors of a sheet: the numbers of its clean rows, in rising order. Beside them it keeps, for each numerical field, the
-/// donors in the order of their buckets there, and marks, which tell donors that are far away. Contracts see the lists.
+/// donors in the order of their buckets there, and marks with their ranges, which tell donors that are far away. Contracts see the lists.
 #[derive(Debug, Drop)]
 pub struct Deck {
     rows: Vec<u32>,
@@ -28,6 +29,7 @@ pub struct Deck {
     marks: Vec<u32>,
     first: u32,
     walk_marks: Vec<u32>,
+    ranges: Vec<MarkRange>,
 }
 
 impl Model for Deck {
@@ -42,6 +44,7 @@ impl Model for Deck {
       marks = d.marks.items;
       first = d.first;
       walk_marks = d.walk_marks.items;
+      ranges = d.ranges.items;
     } };
 
     ghost invariant = { λ d. IsStrictlyIncreasing d.rows.items };
@@ -64,13 +67,16 @@ impl Deck {
         let index = index_of(alloc, survey, sheet, &rows)?;
         let marks = marks_of_rows(alloc, survey, sheet)?;
         let first = first_number(survey);
-        let walk_marks = marks_of_slots(alloc, survey, sheet, slots_in(&index, first))?;
+        let slots = slots_in(&index, first);
+        let walk_marks = marks_of_slots(alloc, survey, sheet, slots)?;
+        let ranges = ranges_of(alloc, &walk_marks, survey.fields().len(), slots.len())?;
         Ok(Deck {
             rows,
             index,
             marks,
             first,
             walk_marks,
+            ranges,
         })
     }
 
@@ -110,6 +116,14 @@ impl Deck {
         ensures { result.now ≡ self.now.walk_marks }
     {
         self.walk_marks.as_slice()
+    }
+
+    // The ranges of these marks in each whole block of donors.
+    #[inline(always)]
+    pub(crate) fn ranges(&self) -> &[MarkRange]
+        ensures { result.now ≡ self.now.ranges }
+    {
+        self.ranges.as_slice()
     }
 }
 

@@ -1,5 +1,5 @@
 //! What a deck keeps beside its donors.
-ghost use Rattle.std.specs.Prelude.{◌≡◌, ◌++◌, ◌<◌, ◌≤◌, ◌^◌, All, IfOk, OnOk, length, map};
+ghost use Rattle.std.specs.Prelude.{◌≡◌, ◌++◌, ◌+◌, ◌*◌, ◌<◌, ◌≤◌, ◌^◌, All, IfOk, OnOk, length, map};
 ghost use Rattle.std.specs.List.{AllByRecursion, flat_map};
 ghost use Rattle.std.specs.List.Sorted.{IsNonDecreasingBy, IsPermutation};
 ghost use Rattle.edit_model.specs.PlainNumbers.{HasPlain};
@@ -138,7 +138,8 @@ pub(crate) fn marks_of_slots(
 ) -> Result<Vec<u32>, OutOfMemory>
     requires rows { AllByRecursion (IsRow survey.now.fields) sheet.now.rows }
     requires donors { All (λ (s : AnySlot). s.donor < length sheet.now.rows) slots.now }
-    ensures { IfOk result (λ marks. AllByRecursion HasPlain sheet.now.rows
+    ensures size { IfOk result (λ marks. length marks.items ≡ length slots.now * length survey.now.fields) }
+    ensures marks { IfOk result (λ marks. AllByRecursion HasPlain sheet.now.rows
         → marks.items ≡ flat_map (slot_marks (yardsticks_of survey.now.fields) sheet.now.rows) slots.now) }
 {
     let yardsticks = Yardsticks::of(survey);
@@ -152,7 +153,8 @@ pub(crate) fn marks_of_slots(
 // Puts the marks of a row last.
 fn push_marks(marks: &mut Vec<u32>, yardsticks: &Yardsticks, row: &Row) -> Result<(), OutOfMemory>
     requires { length yardsticks.now ≡ length row.now }
-    ensures { HasPlain row.now → OnOk result (marks.new.items ≡ marks.old.items ++ marks_of yardsticks.now row.now) }
+    ensures size { OnOk result (length marks.new.items ≡ length marks.old.items + length yardsticks.now) }
+    ensures marks { HasPlain row.now → OnOk result (marks.new.items ≡ marks.old.items ++ marks_of yardsticks.now row.now) }
 {
     for field in 0..yardsticks.count() {
         marks.push(mark_of(yardsticks.at(field).scale, row.value(field)))?;

@@ -3,9 +3,10 @@ ghost use Rattle.std.specs.Prelude.{◌≡◌, ◌<◌, ◌≤◌, ◌*◌, ◌-
 ghost use Rattle.std.specs.Int.{abs_diff};
 ghost use Rattle.donor_measure.specs.Measures.{HasMeasurable};
 ghost use Rattle.donor_measure.specs.Yardsticks.{yardstick_at};
-ghost use Rattle.donor_search.specs.inner.Profiles.{IsProfile, told, told_by, weighed_at, weighed_from};
+ghost use Rattle.donor_search.specs.inner.Profiles.{IsProfile, told, told_by, told_by_range, told_by_ranges, weighed_at, weighed_from};
 ghost use Rattle.donor_search.specs.declared.profile.Weighed.{Weighed as AnyWeighed};
 
+use crate::ranges::MarkRange;
 use donor_measure::{Yardsticks, mark_of};
 use edit_model::{FieldSet, Row};
 use std::marker::Model;
@@ -62,6 +63,44 @@ fn told_by(own: &Weighed, mark: u32) -> u32
     ensures few { result ≤ 1000 * 1000 }
 {
     own.weight * own.mark.abs_diff(mark).saturating_sub(1).min(1000)
+}
+
+/// Whether the ranges of a block tell that each of its donors is farther from a record than `most`.
+#[inline(always)]
+pub(crate) fn are_farther(own: &[Weighed], ranges: &[MarkRange], most: u64) -> bool
+    requires equal { length own.now ≡ length ranges.now }
+    requires few { length own.now ≤ 64 }
+    requires weights { All (λ (w : AnyWeighed). w.weight ≤ 1000) own.now }
+    ensures { result ≡ true → most < told_by_ranges own.now ranges.now }
+{
+    u64::from(told_by_ranges(own, ranges)) > most
+}
+
+// What the ranges of a block tell at least of how far its donors are.
+#[inline(always)]
+fn told_by_ranges(own: &[Weighed], ranges: &[MarkRange]) -> u32
+    requires equal { length own.now ≡ length ranges.now }
+    requires few { length own.now ≤ 64 }
+    requires weights { All (λ (w : AnyWeighed). w.weight ≤ 1000) own.now }
+    ensures { result ≡ told_by_ranges own.now ranges.now }
+{
+    let mut sum = 0;
+    for i in 0..own.len() {
+        sum += told_by_range(&own[i], &ranges[i]);
+    }
+    sum
+}
+
+// What a mark and a range tell at least of how far two values are apart.
+#[inline(always)]
+fn told_by_range(own: &Weighed, range: &MarkRange) -> u32
+    requires { own.now.weight ≤ 1000 }
+    ensures told { result ≡ told_by_range own.now range.now }
+    ensures few { result ≤ 1000 * 1000 }
+{
+    let under = range.low.saturating_sub(own.mark);
+    let over = own.mark.saturating_sub(range.high);
+    own.weight * under.max(over).saturating_sub(1).min(1000)
 }
 
 /// A record's marks at all fields, with their weights. Contracts see them as a list, in declared order.

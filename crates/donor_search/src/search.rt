@@ -3,7 +3,7 @@ ghost use Rattle.std.specs.Prelude.{◌≡◌, ◌+◌, ◌*◌, ◌<◌, ◌≤
 ghost use Rattle.donor_measure.specs.Buckets.{marks_of};
 ghost use Rattle.donor_search.specs.CleanRows.{IsRankable, row_at};
 ghost use Rattle.donor_search.specs.inner.Candidates.{IsClosedAt, Ranks, is_before};
-ghost use Rattle.donor_search.specs.Decks.{IsDeckOf, slot_at, slot_marks, slots_at};
+ghost use Rattle.donor_search.specs.Decks.{IsDeckOf, block_ranges, slot_at, slot_marks, slots_at};
 ghost use Rattle.donor_search.specs.inner.Profiles.{IsProfile};
 ghost use Rattle.donor_search.specs.inner.Searches.{IsSearch, far_in, yardsticks_in};
 ghost use Rattle.donor_search.specs.Rankings.{IsInOrder};
@@ -11,6 +11,7 @@ ghost use Rattle.donor_search.specs.Rankings.{IsInOrder};
 use crate::candidate::{Candidate, farthest, put};
 use crate::deck::Deck;
 use crate::profile::{Profile, is_farther};
+use crate::ranges::MarkRange;
 use donor_measure::Measure;
 use edit_model::{FieldSet, Row, Value};
 use foundation::{OutOfMemory, Steps};
@@ -134,4 +135,17 @@ fn marks_at_place<'a, F>(search: &Search<'a, F>, place: usize) -> &'a [u32]
     let count = search.measure.yardsticks.count() as usize;
     let start = place * count;
     &marks[start..start + count]
+}
+
+/// The ranges of the marks of a block of donors in the walk by the first numerical field.
+#[inline(always)]
+pub(crate) fn block_at<'a, F>(search: &Search<'a, F>, block: usize) -> &'a [MarkRange]
+    requires deck { IsDeckOf (yardsticks_in search.now) search.now.sheet.now.rows search.now.deck.now }
+    requires block { block * 32 + 32 ≤ length (slots_at search.now.deck.now.index search.now.deck.now.first) }
+    ensures { result.now ≡ block_ranges (length (yardsticks_in search.now)) search.now.deck.now.ranges block }
+{
+    let all = search.deck.ranges();
+    let count = search.measure.yardsticks.count() as usize;
+    let start = block * count;
+    &all[start..start + count]
 }

@@ -1,5 +1,5 @@
 -- What a record is compared by with donors that may be far.
-use Rattle.std.specs.Prelude.{◌≡◌, All, ℕ, suc, ◌+◌, ◌-◌, ◌*◌, if◌then◌else◌, List, [], ◌∷◌, min}
+use Rattle.std.specs.Prelude.{◌≡◌, All, ℕ, suc, ◌+◌, ◌-◌, ◌*◌, if◌then◌else◌, List, [], ◌∷◌, max, min}
 use Rattle.std.specs.Int.{abs_diff}
 use Rattle.edit_model.specs.FieldSets.{has_number}
 use Rattle.edit_model.specs.Rows.{value_of}
@@ -8,6 +8,7 @@ use Rattle.donor_measure.specs.Buckets.{mark_of}
 use Rattle.donor_measure.specs.Yardsticks.{IsYardstick}
 use Rattle.donor_measure.specs.declared.yardstick.Yardstick.{Yardstick}
 use Rattle.donor_search.specs.declared.profile.Weighed.{Weighed}
+use Rattle.donor_search.specs.declared.ranges.MarkRange.{MarkRange}
 
 -- the mark of a record at a field with the field's weight; 0 and 0 where the field is not kept
 abbrev pub weighed_at : Yardstick → ℕ → ℕ → List Value → Weighed
@@ -35,3 +36,13 @@ abbrev pub told : List Weighed → List ℕ → ℕ
 told [] marks = 0
 told (own ∷ owns) [] = 0
 told (own ∷ owns) (mark ∷ marks) = told_by own mark + told owns marks
+
+-- what a mark and a range tell at least of how far two values are apart
+abbrev pub told_by_range : Weighed → MarkRange → ℕ
+told_by_range own range = own.weight * min 1000 (max (range.low - own.mark) (own.mark - range.high) - 1)
+
+-- what the ranges of a block tell at least of how far each of its donors is from a record
+abbrev pub told_by_ranges : List Weighed → List MarkRange → ℕ
+told_by_ranges [] ranges = 0
+told_by_ranges (own ∷ owns) [] = 0
+told_by_ranges (own ∷ owns) (range ∷ ranges) = told_by_range own range + told_by_ranges owns ranges

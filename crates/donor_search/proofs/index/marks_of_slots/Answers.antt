@@ -1,4 +1,4 @@
-use Rattle.std.proofs.Common.{◌<◌, ◌≡◌, ◌∙◌, ℕ, List, get_or, length, ap, sym}
+use Rattle.std.proofs.Common.{◌<◌, ◌∙◌, ℕ, List, length, ap, sym}
 use Rattle.edit_model.specs.declared.value.Value.{Value}
 use Rattle.edit_model.proofs.RowLaws.{row-length}
 use Rattle.donor_measure.specs.declared.yardstick.Yardstick.{Yardstick}

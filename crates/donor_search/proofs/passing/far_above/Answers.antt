@@ -1,7 +1,7 @@
-use Rattle.std.proofs.Common.{◌≡◌, ◌+◌, ◌<◌, ◌≤◌, arith, rules}
+use Rattle.std.proofs.Common.{arith, rules}
 use Rattle.donor_search.specs.Decks.{slots_at}
 use Rattle.donor_search.specs.inner.Searches.{far_in}
-use Rattle.donor_search.proofs.PassingLaws.{farther_above, farther_none}
+use Rattle.donor_search.proofs.PassingLaws.{farther_above}
 use Rattle.donor_search.proofs.passing.far_above.Goals as goal
 
 pub loop-place-preserved : goal.loop-place-preserved
@@ -14,3 +14,6 @@ loop-place-preserved g c =
       within = inv.within;
       farther = farther_above (far_in s) c.args.most (slots_at s.deck.now.index c.args.field) c.args.start c.loop-place.place inv.farther (c.is_far.ensures (search rules));
     }
+
+pub returns-then-is_block_far-clause-farther : goal.returns-then-is_block_far-clause-farther
+returns-then-is_block_far-clause-farther g c i least less = c.is_block_far.ensures.farther (search rules) i (omega (arith, least)) less

@@ -1,7 +1,7 @@
-use Rattle.std.proofs.Common.{◌≡◌, ◌+◌, ◌<◌, ◌≤◌, arith, rules}
+use Rattle.std.proofs.Common.{arith, rules}
 use Rattle.donor_search.specs.Decks.{slots_at}
 use Rattle.donor_search.specs.inner.Searches.{far_in}
-use Rattle.donor_search.proofs.PassingLaws.{farther_below, farther_none}
+use Rattle.donor_search.proofs.PassingLaws.{farther_below}
 use Rattle.donor_search.proofs.passing.far_below.Goals as goal
 
 pub loop-place-preserved : goal.loop-place-preserved

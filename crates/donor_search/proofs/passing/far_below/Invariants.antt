@@ -1,4 +1,4 @@
-use Rattle.std.proofs.Common.{◌≤◌, length}
+use Rattle.std.proofs.Common.{◌≤◌}
 use Rattle.donor_search.specs.Decks.{slots_at}
 use Rattle.donor_search.specs.inner.Searches.{far_in}
 use Rattle.donor_search.specs.inner.Spans.{AreFarther}

@@ -1,4 +1,4 @@
-use Rattle.std.proofs.Common.{◌≡◌, ◌∙◌, ◌<◌, ◌≤◌, List, ℕ, length, ap, arith}
+use Rattle.std.proofs.Common.{◌≡◌, ◌∙◌, List, ap}
 use Rattle.donor_measure.specs.Buckets.{marks_of}
 use Rattle.donor_search.specs.CleanRows.{row_at}
 use Rattle.donor_search.specs.Decks.{slot_at, slots_at}

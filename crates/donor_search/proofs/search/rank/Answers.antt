@@ -1,11 +1,7 @@
-use Rattle.std.proofs.Common.{◌≡◌, ◌∙◌, ◌<◌, ◌≤◌, ◌+◌, List, ℕ, length, ap, sym, subst, arith, rules}
-use Rattle.edit_model.specs.declared.value.Value.{Value}
-use Rattle.donor_measure.specs.Buckets.{marks_of}
+use Rattle.std.proofs.Common.{◌∙◌, List, subst, arith, rules}
 use Rattle.donor_search.specs.CleanRows.{row_at}
 use Rattle.donor_search.specs.declared.candidate.Candidate.{Candidate}
-use Rattle.donor_search.specs.declared.profile.Weighed.{Weighed}
 use Rattle.donor_search.specs.inner.Candidates.{Ranks, candidate_of}
-use Rattle.donor_search.specs.inner.Profiles.{told, weighed_from}
 use Rattle.donor_search.specs.inner.Searches.{far_in, yardsticks_in}
 use Rattle.donor_search.proofs.ProfileLaws.{as_many_marks, farther_told}
 use Rattle.donor_search.proofs.search.rank.Goals as goal

@@ -1,21 +1,17 @@
-use Rattle.std.proofs.Common.{◌≡◌, ◌≤◌, ◌<◌, ◌+◌, ◌-◌, ℕ, List, arith, rules, ap, get_or, length, map, refl, sym, ◌∙◌, subst, take, Option, Some, [], false}
-use Rattle.std.proofs.lemmas.List.{length-take}
-use Rattle.edit_model.specs.declared.value.Value.{Value}
+use Rattle.std.proofs.Common.{◌≡◌, ◌≤◌, ◌<◌, ◌+◌, ◌-◌, ℕ, List, arith, rules, ap, length, map, refl, sym, subst, Option, []}
 use Rattle.donor_search.specs.Asked.{most_asked}
-use Rattle.donor_search.specs.CleanRows.{IsRankable, row_at}
-use Rattle.donor_search.specs.declared.axis.Axis.{Axis}
 use Rattle.donor_search.specs.declared.candidate.Candidate.{Candidate}
 use Rattle.donor_search.specs.declared.slot.Slot.{Slot}
 use Rattle.donor_search.specs.Decks.{slots_at}
-use Rattle.donor_search.specs.inner.Spans.{IsPast, bucket_at, bucket_gap_at}
+use Rattle.donor_search.specs.inner.Spans.{IsPast}
 use Rattle.donor_search.specs.inner.Candidates.{IsClosedAt, IsOpenOrReaches, candidate_of, is_before}
-use Rattle.donor_search.specs.inner.Searches.{far_in, gap_in, most_in, ranking_in, yardsticks_in}
-use Rattle.donor_search.specs.Rankings.{IsInOrder, in_order, placed}
+use Rattle.donor_search.specs.inner.Searches.{far_in, gap_in, ranking_in, yardsticks_in}
+use Rattle.donor_search.specs.Rankings.{IsInOrder}
 use Rattle.donor_search.proofs.GapLaws.{AreWalked, slots_rankable, slots_walked}
 use Rattle.donor_search.proofs.OrderLaws.{nearest_order}
 use Rattle.donor_search.proofs.RankingLaws.{few_taken}
 use Rattle.donor_search.proofs.WalkLaws.{Walked, walked_none}
-use Rattle.donor_search.proofs.WalkSteps.{past_walked, span_grows, span_longer, span_past, span_wider, step_walked, steps_all, steps_few, steps_more, stopped_all, whole_all}
+use Rattle.donor_search.proofs.WalkSteps.{past_walked, span_grows, span_past, span_wider, step_walked, steps_all, steps_few, steps_more, stopped_all, whole_all}
 use Rattle.donor_search.proofs.walk.walk.Goals as goal
 
 pub loop-slots-init : goal.loop-slots-init

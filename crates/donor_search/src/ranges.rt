@@ -1,0 +1,77 @@
+//! The least and the greatest marks of donors that follow one another in the walk, so that many are told to be far at once.
+ghost use Rattle.std.specs.Prelude.{◌≡◌, ◌+◌, ◌*◌, ◌<◌, ◌≤◌, ℕ, IfOk, OnOk, length, slice_index_or};
+ghost use Rattle.donor_search.specs.Decks.{IsWithin, range_at};
+
+use foundation::OutOfMemory;
+use std::alloc::Global;
+
+/// How many donors a block has.
+pub(crate) const BLOCK: usize = 32;
+
+/// The least and the greatest mark at a field in a block of donors.
+#[derive(Clone, Copy, Debug, PartialEq, Eq)]
+pub struct MarkRange {
+    pub low: u32,
+    pub high: u32,
+}
+
+/// The ranges of the marks at each field in each whole block of donors, one block after the other. The marks are those of the
+/// donors, one donor after the other.
+pub(crate) fn ranges_of(
+    alloc: Global,
+    marks: &[u32],
+    count: usize,
+    donors: usize,
+) -> Result<Vec<MarkRange>, OutOfMemory>
+    requires { donors * count ≤ length marks.now }
+    ensures size { IfOk result (λ ranges. (block : ℕ) → block * 32 + 32 ≤ donors → block * count + count ≤ length ranges.items) }
+    ensures within { IfOk result (λ ranges. (block j field : ℕ) → block * 32 + 32 ≤ donors → j < 32 → field < count
+        → IsWithin (range_at ranges.items (block * count + field)) (slice_index_or marks.now ((block * 32 + j) * count + field) 0)) }
+{
+    let mut ranges = Vec::new(alloc);
+    let mut block = 0;
+    while donors - block * BLOCK >= BLOCK {
+        push_ranges(&mut ranges, marks, count, block * BLOCK)?;
+        block += 1;
+    }
+    Ok(ranges)
+}
+
+// Puts the ranges of the block that begins with this donor last.
+fn push_ranges(
+    ranges: &mut Vec<MarkRange>,
+    marks: &[u32],
+    count: usize,
+    start: usize,
+) -> Result<(), OutOfMemory>
+    requires { (start + 32) * count ≤ length marks.now }
+    ensures size { OnOk result (length ranges.new.items ≡ length ranges.old.items + count) }
+    ensures kept { OnOk result ((i : ℕ) → i < length ranges.old.items → range_at ranges.new.items i ≡ range_at ranges.old.items i) }
+    ensures within { OnOk result ((j field : ℕ) → j < 32 → field < count
+        → IsWithin (range_at ranges.new.items (length ranges.old.items + field)) (slice_index_or marks.now ((start + j) * count + field) 0)) }
+{
+    for field in 0..count {
+        ranges.push(range_of(marks, count, start, field))?;
+    }
+    Ok(())
+}
+
+// The range of the marks at a field in the block that begins with this donor.
+fn range_of(marks: &[u32], count: usize, start: usize, field: usize) -> MarkRange
+    requires marks { (start + 32) * count ≤ length marks.now }
+    requires field { field < count }
+    ensures { (j : ℕ) → j < 32 → IsWithin result (slice_index_or marks.now ((start + j) * count + field) 0) }
+{
+    let mut range = MarkRange {
+        low: u32::MAX,
+        high: 0,
+    };
+    for j in 0..BLOCK {
+        let mark = marks[(start + j) * count + field];
+        range = MarkRange {
+            low: range.low.min(mark),
+            high: range.high.max(mark),
+        };
+    }
+    range
+}
