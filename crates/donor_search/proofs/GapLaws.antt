@@ -1,21 +1,19 @@
-use Rattle.std.proofs.Common.{◌≡◌, ℕ, zero, suc, ◌+◌, ◌-◌, ◌*◌, ◌<◌, ◌≤◌, Bool, true, false, All, Option, Some, None, List, [], ◌∷◌, get_or, length, map, min, refl, sym, ap, ◌∙◌, subst, arith, if◌then◌else◌}
+use Rattle.std.proofs.Common.{◌≡◌, ℕ, zero, suc, ◌+◌, ◌-◌, ◌*◌, ◌<◌, ◌≤◌, true, All, Option, Some, None, List, [], ◌∷◌, get_or, length, map, min, refl, sym, ap, ◌∙◌, subst, arith, if◌then◌else◌}
 use Rattle.std.specs.Borrow.{Bor}
 use Rattle.std.specs.Fn.{Shared}
 use Rattle.std.specs.Int.{abs_diff}
 use Rattle.std.specs.List.{sum_by}
-use Rattle.std.specs.List.Sorted.{IsNonDecreasingBy, IsPermutation}
-use Rattle.std.proofs.lemmas.List.{length-map}
-use Rattle.std.proofs.lemmas.List.Elements.{All-map, All-tail}
-use Rattle.std.proofs.lemmas.List.Sorted.{All-permutation, IsPermutation-map, length_permutation, sum_by-IsPermutation}
+use Rattle.std.proofs.lemmas.List.Elements.{All-map}
+use Rattle.std.proofs.lemmas.List.Sorted.{All-permutation, IsPermutation-map, sum_by-IsPermutation}
 use Rattle.edit_model.specs.FieldSets.{has_number}
 use Rattle.edit_model.specs.PlainNumbers.{IsPlainValue}
 use Rattle.edit_model.specs.Rows.{value_of}
 use Rattle.edit_model.specs.declared.value.Value.{Value}
 use Rattle.edit_model.specs.declared.value.Value.TheVariants.{Bad, Code, Number}
 use Rattle.donor_measure.specs.Buckets.{bucket_no}
-use Rattle.donor_measure.specs.Distances.{bucket_gap, distance, distance_at, distance_from, field_distance, value_distance}
+use Rattle.donor_measure.specs.Distances.{distance, distance_at, distance_from, field_distance, value_distance}
 use Rattle.donor_measure.specs.Measures.{HasMeasurable, IsMeasurable}
-use Rattle.donor_measure.specs.Yardsticks.{IsScale, IsYardstick, yardstick_at}
+use Rattle.donor_measure.specs.Yardsticks.{IsYardstick, yardstick_at}
 use Rattle.donor_measure.specs.declared.yardstick.Yardstick.{Yardstick}
 use Rattle.donor_measure.proofs.BucketLaws.{gap_few}
 use Rattle.donor_measure.proofs.MarkLaws.{gap_by_buckets}

@@ -1,4 +1,4 @@
-use Rattle.std.proofs.Common.{inr, arith, rules, ◌≤◌, ◌<◌, nat_lt, false, ◌≡◌, ℕ}
+use Rattle.std.proofs.Common.{inr, arith, ◌≤◌, nat_lt, false, ◌≡◌, ℕ}
 use Rattle.donor_search.proofs.ReachLaws.{reaches_less}
 use Rattle.donor_search.proofs.candidate.is_closed_at.Goals as goal
 

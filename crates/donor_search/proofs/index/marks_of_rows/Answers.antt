@@ -1,4 +1,4 @@
-use Rattle.std.proofs.Common.{◌<◌, ◌≡◌, ◌∙◌, List, length, ap, subst, sym, arith, rules}
+use Rattle.std.proofs.Common.{◌<◌, ◌∙◌, List, length, ap, sym, rules}
 use Rattle.edit_model.specs.declared.value.Value.{Value}
 use Rattle.edit_model.proofs.RowLaws.{row-length}
 use Rattle.donor_measure.specs.declared.yardstick.Yardstick.{Yardstick}

@@ -2,9 +2,7 @@ use Rattle.std.proofs.Common.{◌≡◌, ◌≤◌, ◌+◌, ◌∙◌, ℕ, Lis
 use Rattle.std.specs.Prelude.{nat_eq}
 use Rattle.std.specs.Result.{IfOk}
 use Rattle.std.specs.List.{All, AllByRecursion, Contains, IsDistinct}
-use Rattle.std.specs.List.Sorted.{IsStrictlyIncreasing}
 use Rattle.donor_search.specs.Asked.{index_field, most_asked}
-use Rattle.donor_search.specs.inner.Candidates.{candidate_of}
 use Rattle.donor_search.specs.Rankings.{IsAmongFirst, IsInOrder, distance_to, is_nearer, ranking_of}
 use Rattle.donor_search.specs.declared.candidate.Candidate.{Candidate}
 use Rattle.donor_search.proofs.OrderLaws.{if_ok_then, ranking_nearest, ranking_order}

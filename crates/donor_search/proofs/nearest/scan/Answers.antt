@@ -1,4 +1,4 @@
-use Rattle.std.proofs.Common.{◌≡◌, ◌∙◌, ◌≤◌, ℕ, List, [], ap, arith, get_or, map, refl, sym, take}
+use Rattle.std.proofs.Common.{◌∙◌, ℕ, List, [], ap, arith, get_or, map, refl, take}
 use Rattle.std.specs.List.{take-map}
 use Rattle.std.proofs.lemmas.List.{take_all}
 use Rattle.donor_search.specs.inner.Candidates.{candidate_of, is_before}

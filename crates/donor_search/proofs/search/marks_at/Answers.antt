@@ -1,4 +1,4 @@
-use Rattle.std.proofs.Common.{◌≡◌, ◌∙◌, ◌<◌, ◌≤◌, ◌+◌, ◌-◌, ◌*◌, List, [], ℕ, length, take, drop, ap, sym, subst, arith}
+use Rattle.std.proofs.Common.{◌≡◌, ◌∙◌, ◌≤◌, ◌+◌, ◌-◌, ◌*◌, List, [], ℕ, length, take, drop, ap, sym, subst, arith}
 use Rattle.donor_search.proofs.ProfileLaws.{marks_long, row_within, table_at, table_long}
 use Rattle.donor_measure.specs.Buckets.{marks_of}
 use Rattle.donor_search.specs.inner.Searches.{yardsticks_in}

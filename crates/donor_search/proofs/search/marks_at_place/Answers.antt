@@ -1,4 +1,4 @@
-use Rattle.std.proofs.Common.{◌≡◌, ◌∙◌, ◌<◌, ◌≤◌, ◌+◌, ◌-◌, ◌*◌, List, ℕ, length, take, drop, ap, sym, subst, arith}
+use Rattle.std.proofs.Common.{◌≡◌, ◌∙◌, ◌≤◌, ◌+◌, ◌-◌, ◌*◌, List, ℕ, length, take, drop, ap, sym, subst, arith}
 use Rattle.donor_search.proofs.ProfileLaws.{marks_long, row_within, table_at, table_long}
 use Rattle.donor_search.specs.CleanRows.{row_at}
 use Rattle.donor_search.specs.Decks.{slot_marks, slots_at}

@@ -1,4 +1,4 @@
-use Rattle.std.proofs.Common.{All, List, ◌≤◌, ◌≡◌, ◌∙◌, ap, take, subst, sym, arith}
+use Rattle.std.proofs.Common.{All, List, ◌≤◌, ◌∙◌, ap, take, subst, sym}
 use Rattle.donor_search.specs.declared.profile.Weighed.{Weighed}
 use Rattle.donor_search.proofs.ProfileLaws.{weights_fit}
 use Rattle.donor_search.proofs.profile.Profile.of.Goals as goal

@@ -1,4 +1,4 @@
-use Rattle.std.proofs.Common.{ltb, ltb-true, arith, rules, ◌<◌, ◌≤◌, false, ◌≡◌, ℕ}
+use Rattle.std.proofs.Common.{ltb, ltb-true, arith, rules, ◌≤◌, false, ◌≡◌, ℕ}
 use Rattle.std.proofs.lemmas.List.Sorted.{IsPartitionPoint-from_clause, IsPartitionedBy-ltb}
 use Rattle.donor_search.proofs.span.Span.at.Goals as goal
 
