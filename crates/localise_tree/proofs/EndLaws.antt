@@ -17,11 +17,11 @@ use Rattle.edit_paths.specs.declared.state.PathState.{PathState}
 use Rattle.edit_paths.specs.declared.state.PathState.TheVariants.{ClosedBad, ClosedBox, ClosedLine, Open, Overflows}
 use Rattle.edit_paths.proofs.ChildLaws.{child-before, child-weight}
 use Rattle.edit_paths.proofs.LetterLaws.{longer}
-use Rattle.localise_tree.specs.KeptFields.{KeepsChanged}
+use Rattle.path_walk.specs.Bases.{IsBasis, IsBasisBefore, IsPathSystem}
+use Rattle.path_walk.specs.KeptFields.{KeepsChanged}
+use Rattle.path_walk.specs.declared.looks.Basis.{Basis}
+use Rattle.path_walk.specs.declared.looks.Basis.TheVariants.{Boxes, Lines}
 use Rattle.localise_tree.specs.declared.ends.Node.{Node}
-use Rattle.localise_tree.specs.declared.looks.Basis.{Basis}
-use Rattle.localise_tree.specs.declared.looks.Basis.TheVariants.{Boxes, Lines}
-use Rattle.localise_tree.specs.inner.Bases.{IsBasis, IsBasisBefore, IsPathSystem}
 use Rattle.localise_tree.specs.inner.Nodes.{AreKept, IsFirstEnd, IsNode, IsOfSystem, before, paths_of}
 
 -- The ends of a search: nodes whose paths are reached.

@@ -23,7 +23,8 @@ use Rattle.edit_paths.specs.Works.{pairs_next, work_of, work_of_all}
 use Rattle.edit_paths.specs.declared.state.PathState.{PathState}
 use Rattle.edit_paths.proofs.PathOrder.{before-equal}
 use Rattle.edit_paths.proofs.ReachedLaws.{search-start}
-use Rattle.localise_tree.specs.KeptFields.{KeepsChange, KeepsChanged}
+use Rattle.path_walk.specs.KeptFields.{KeepsChanged}
+use Rattle.localise_tree.specs.KeptFields.{KeepsChange}
 use Rattle.localise_tree.specs.inner.AllKept.{all_kept, kept_path}
 use Rattle.localise_tree.proofs.HoldingLaws.{filter-none, kept-letter, kept-numbers}
 use Rattle.localise_tree.proofs.SearchLaws.{state-end, work-one}

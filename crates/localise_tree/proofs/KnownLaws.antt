@@ -11,11 +11,11 @@ use Rattle.edit_paths.specs.Cases.{SearchCase}
 use Rattle.edit_paths.specs.Certificates.{has_path}
 use Rattle.edit_paths.specs.States.{state_of}
 use Rattle.edit_paths.proofs.PathOrder.{first-equal}
-use Rattle.localise_tree.specs.inner.Bases.{IsKnownBasis}
+use Rattle.path_walk.specs.Bases.{IsKnownBasis}
+use Rattle.path_walk.proofs.NumberPathLaws.{in-index}
+use Rattle.localise_tree.specs.declared.best_first.Taken.{Taken}
 use Rattle.localise_tree.specs.inner.Knowns.{ArePlaces, IsFound, IsPlaceOf, Places, place_at}
 use Rattle.localise_tree.specs.inner.Takens.{IsTaken, taken_paths}
-use Rattle.localise_tree.specs.declared.best_first.Taken.{Taken}
-use Rattle.localise_tree.proofs.NumberPathLaws.{in-index}
 
 -- The places of the paths that were taken, by their letters.
 

@@ -16,16 +16,17 @@ use Rattle.edit_paths.specs.Walks.{next_paths}
 use Rattle.edit_paths.specs.Works.{work_of, work_of_all}
 use Rattle.edit_paths.specs.declared.state.PathState.{PathState}
 use Rattle.edit_paths.specs.declared.state.PathState.TheVariants.{ClosedBad, ClosedBox, ClosedLine, Open, Overflows}
+use Rattle.path_walk.specs.Bases.{IsBasis, IsKnownBasis, IsPathSystem, IsSame, SharesBasis}
+use Rattle.path_walk.specs.KeptFields.{KeepsChanged}
+use Rattle.path_walk.specs.Looks.{IsLook}
+use Rattle.path_walk.specs.declared.looks.Basis.{Basis}
+use Rattle.path_walk.specs.declared.looks.Basis.TheVariants.{Boxes, Lines}
+use Rattle.path_walk.specs.declared.looks.Look.{Look}
 use Rattle.localise_tree.specs.KeptFields.{KeepsChange}
-use Rattle.localise_tree.specs.KeptFields.{KeepsChanged}
-use Rattle.localise_tree.specs.inner.Bases.{IsBasis, IsKnownBasis, IsPathSystem, IsSame, SharesBasis}
-use Rattle.localise_tree.specs.inner.Nodes.{AreKept, IsLook, IsNode, paths_of}
-use Rattle.localise_tree.specs.inner.Takens.{IsTaken, taken_paths}
 use Rattle.localise_tree.specs.declared.best_first.Taken.{Taken}
 use Rattle.localise_tree.specs.declared.ends.Node.{Node}
-use Rattle.localise_tree.specs.declared.looks.Basis.{Basis}
-use Rattle.localise_tree.specs.declared.looks.Basis.TheVariants.{Boxes, Lines}
-use Rattle.localise_tree.specs.declared.looks.Look.{Look}
+use Rattle.localise_tree.specs.inner.Nodes.{AreKept, IsNode, paths_of}
+use Rattle.localise_tree.specs.inner.Takens.{IsTaken, taken_paths}
 use Rattle.localise_tree.proofs.SearchLoop.{IsSearching, left, searching-ends, searching-less, searching-turn}
 
 -- The loop of the search, over nodes and taken paths with their states.

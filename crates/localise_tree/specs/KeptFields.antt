@@ -1,14 +1,9 @@
-use Rattle.std.specs.Prelude.{◌≡◌, ℕ, Bool, true, List}
-use Rattle.edit_model.specs.FieldSets.{set_of}
+use Rattle.std.specs.Prelude.{◌≡◌, ℕ, Bool, List}
 use Rattle.bound_cert.specs.declared.cert.Cert.{Cert}
 use Rattle.bound_cert.specs.declared.outcome.Outcome.{Outcome}
 use Rattle.bound_cert.specs.declared.outcome.Outcome.TheVariants as outcome
 use Rattle.edit_paths.specs.Cases.{SearchCase}
-use Rattle.edit_paths.specs.Paths.{changed_numbers}
-
--- the source keeps the system of the numerical fields that the path changes
-abbrev pub KeepsChanged : (ℕ → Bool) → SearchCase → List Bool → Type 0
-KeepsChanged keeps c path = keeps (set_of (changed_numbers c path)) ≡ true
+use Rattle.path_walk.specs.KeptFields.{KeepsChanged}
 
 -- at a change, the source keeps the system of the numerical fields that are changed
 abbrev pub KeepsChange : (ℕ → Bool) → SearchCase → Outcome → Type 0

@@ -8,22 +8,21 @@ ghost use Rattle.edit_paths.specs.Cases.{case_of};
 ghost use Rattle.edit_paths.specs.Certificates.{certificate_of};
 ghost use Rattle.edit_paths.specs.Outcomes.{end_by, outcome_of};
 ghost use Rattle.edit_paths.specs.Answers.{Certifies, ChoosesFirst, ChoosesLeast, FindsChange, IsBudgetEnough, NoneMeets, ShowsContradiction};
+ghost use Rattle.path_walk.specs.Problems.{IsProblem, case_in, edits_in};
 ghost use Rattle.localise_tree.specs.KeptFields.{KeepsChange};
 ghost use Rattle.localise_tree.specs.inner.Nodes.{IsNode};
-ghost use Rattle.localise_tree.specs.inner.Problems.{IsProblem, case_in, edits_in};
 ghost use Rattle.localise_tree.specs.inner.Takens.{IsTaken, taken_for, taken_paths};
 
 use crate::all_kept::unchanged;
 use crate::certificates::certificate;
 use crate::ends::{Node, first_end, lead_on, take_first};
-use crate::looks::{Basis, look_into};
-use crate::problem::{Problem, field_count};
 use bound_cert::{Cert, Outcome, Path};
 use edit_line::Edits;
 use edit_model::{Row, Survey};
 use edit_paths::{PathState, case_known};
 use foundation::{OutOfMemory, Steps};
 use linear_elim::Systems;
+use path_walk::{Basis, Problem, field_count, look_into};
 use std::alloc::Global;
 use std::sync::Arc;
 use std::sync::ledger::Ledger;
@@ -123,7 +122,16 @@ fn search<S: Systems, L: Ledger>(
     let mut room = MOST_KEPT;
     let mut ends = first_end(alloc, source, problem, steps)?;
     while let Some(node) = take_first(&mut ends) {
-        let Some(look) = look_into(alloc, source, problem, &node, budget - spent, steps)? else {
+        let Some(look) = look_into(
+            alloc,
+            source,
+            problem,
+            &node.path,
+            &node.before,
+            budget - spent,
+            steps,
+        )?
+        else {
             return Ok(Outcome::Budget {
                 path: node.into_path(),
                 work: spent,

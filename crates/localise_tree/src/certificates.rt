@@ -5,21 +5,19 @@ ghost use Rattle.std.specs.Option.{option_copied};
 ghost use Rattle.edit_line.specs.EditSets.{EditsParts};
 ghost use Rattle.edit_paths.specs.Certificates.{certificate_of, leaf};
 ghost use Rattle.edit_paths.specs.Paths.{before_last, field_count};
-ghost use Rattle.localise_tree.specs.inner.Bases.{IsKnownBasis};
-ghost use Rattle.localise_tree.specs.inner.Histories.{AddsClosed, HasListsBefore};
+ghost use Rattle.path_walk.specs.Bases.{IsKnownBasis};
+ghost use Rattle.path_walk.specs.Lists.{HasListsBefore};
+ghost use Rattle.path_walk.specs.Problems.{IsProblem, case_in, edits_in};
 ghost use Rattle.localise_tree.specs.inner.Knowns.{IsKnown};
-ghost use Rattle.localise_tree.specs.inner.Problems.{IsProblem, case_in, edits_in};
-ghost use Rattle.localise_tree.specs.inner.Takens.{IsTaken, leaves_below, taken_paths};
+ghost use Rattle.localise_tree.specs.inner.Takens.{AddsClosed, IsTaken, leaves_below, taken_paths};
 
 use crate::best_first::Taken;
-use crate::histories::{Bases, push_lists};
 use crate::known::{Known, places_of, taken_path};
-use crate::looks::Basis;
-use crate::problem::{Problem, field_count};
 use bound_cert::{Cert, Leaf, LeafWhy, Path};
 use edit_paths::{Level, PathState, write_steps};
 use foundation::{OutOfMemory, Sequence, Steps};
 use linear_elim::Systems;
+use path_walk::{Bases, Basis, Problem, field_count, push_lists};
 use std::alloc::Global;
 use std::sync::ledger::Ledger;
 

@@ -7,12 +7,7 @@
 mod all_kept;
 mod best_first;
 mod certificates;
-mod code_paths;
 mod ends;
-mod histories;
 mod known;
-mod looks;
-mod number_paths;
-mod problem;
 
 pub use best_first::localise;

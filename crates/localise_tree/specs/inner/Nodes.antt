@@ -1,4 +1,4 @@
-use Rattle.std.specs.Prelude.{◌≡◌, ◌*◌, ◌<◌, ◌≤◌, ◌==◌, ◌&&◌, ◌||◌, ℕ, Bool, true, List, [], ◌∷◌, Option, IfSome, length, map, nat_lt, slice_index_or}
+use Rattle.std.specs.Prelude.{◌≡◌, ◌*◌, ◌<◌, ◌≤◌, ◌==◌, ◌&&◌, ◌||◌, ℕ, Bool, List, [], ◌∷◌, length, map, nat_lt, slice_index_or}
 use Rattle.std.specs.Arc.{arc_value}
 use Rattle.std.specs.List.{AllByRecursion}
 use Rattle.edit_model.specs.Corrections.{is_first, path_order}
@@ -8,18 +8,14 @@ use Rattle.linear_elim.specs.declared.held.Held.{Held}
 use Rattle.bound_cert.specs.Paths.{path_weight}
 use Rattle.edit_paths.specs.Cases.{SearchCase}
 use Rattle.edit_paths.specs.Paths.{before_last, field_count}
-use Rattle.edit_paths.specs.States.{IsOpen, state_of}
-use Rattle.edit_paths.specs.Works.{work_of}
+use Rattle.edit_paths.specs.States.{IsOpen}
 use Rattle.edit_paths.specs.declared.state.PathState.{PathState}
 use Rattle.edit_paths.specs.declared.state.PathState.TheVariants.{Open}
-use Rattle.localise_tree.specs.KeptFields.{KeepsChanged}
+use Rattle.path_walk.specs.Bases.{IsBasisBefore}
+use Rattle.path_walk.specs.KeptFields.{KeepsChanged}
+use Rattle.path_walk.specs.declared.looks.Basis.{Basis}
+use Rattle.path_walk.specs.declared.looks.Basis.TheVariants.{Boxes, Lines}
 use Rattle.localise_tree.specs.declared.ends.Node.{Node}
-use Rattle.localise_tree.specs.declared.looks.Basis.{Basis}
-use Rattle.localise_tree.specs.declared.looks.Basis.TheVariants.{Boxes, Lines}
-use Rattle.localise_tree.specs.declared.looks.Look.{Look}
-use Rattle.localise_tree.specs.inner.Bases.{IsBasis, IsBasisBefore, has_basis}
-
--- ---- ends
 
 -- a reached path with its weight, and the basis of the path before
 pub record IsNode (c : SearchCase) (node : Node) : Type 0 where
@@ -58,19 +54,3 @@ IsOfSystem held (Boxes boxes) = ⊥
 -- the empty path alone, with this system
 abbrev pub IsFirstEnd : Held → List Node → Type 0
 IsFirstEnd held ends = (before : Basis) × (ends ≡ record { path = []; weight = 0; before = before } ∷ []) × IsOfSystem held before
-
--- ---- looks
-
--- the work and the state of the path, and its basis where one is made
-pub record IsLook (c : SearchCase) (path : List Bool) (look : Look) : Type 0 where
-  pub work : look.work ≡ work_of c path
-  pub state : look.state ≡ state_of c path
-  pub basis : has_basis look.state ≡ true → IsBasis c path look.basis
-
--- the look, if there is one, is right, and its work no more than may be done
-abbrev pub TellsLook : SearchCase → List Bool → ℕ → Option Look → Type 0
-TellsLook c path most told = IfSome told (λ (look : Look). IsLook c path look × (look.work ≤ most))
-
--- where the path is open, the source keeps the system of the numerical fields that it changes
-abbrev pub KeepsOpen : (ℕ → Bool) → SearchCase → List Bool → Option Look → Type 0
-KeepsOpen keeps c path told = IfSome told (λ (look : Look). look.state ≡ Open → KeepsChanged keeps c path)

@@ -1,11 +1,14 @@
-use Rattle.std.specs.Prelude.{◌≡◌, ◌-◌, ℕ, Bool, List, [], if◌then◌else◌, length, map, nat_lt}
+use Rattle.std.specs.Prelude.{◌≡◌, ◌++◌, ◌-◌, ℕ, Bool, List, [], if◌then◌else◌, length, map, nat_lt}
 use Rattle.bound_cert.specs.declared.cert.Leaf.{Leaf}
 use Rattle.edit_paths.specs.Cases.{SearchCase}
-use Rattle.edit_paths.specs.Certificates.{leaves_from}
+use Rattle.edit_paths.specs.Certificates.{leaves_by, leaves_from}
 use Rattle.edit_paths.specs.Paths.{field_count}
 use Rattle.edit_paths.specs.States.{state_of}
+use Rattle.edit_paths.specs.declared.levels.Level.{Level}
+use Rattle.edit_paths.specs.declared.state.PathState.{PathState}
+use Rattle.path_walk.specs.Bases.{IsKnownBasis}
+use Rattle.path_walk.specs.inner.Histories.{LeadTo}
 use Rattle.localise_tree.specs.declared.best_first.Taken.{Taken}
-use Rattle.localise_tree.specs.inner.Bases.{IsKnownBasis}
 
 -- what became of a path that was taken is its state, and what is kept of it is its basis
 pub record IsTaken (c : SearchCase) (taken : Taken) : Type 0 where
@@ -23,3 +26,7 @@ taken_for weight taken = if nat_lt 0 weight then taken else []
 -- the leaves of the tree of the taken paths, from this path on
 abbrev pub leaves_below : SearchCase → List (List Bool) → List Bool → List Leaf
 leaves_below c taken path = leaves_from c taken (field_count c - length path) path
+
+-- the leaf of a closed path, by its state, is appended, where the lists lead to what closes it
+abbrev pub AddsClosed : List Bool → PathState → List Level → List Leaf → List Leaf → Type 0
+AddsClosed path state levels before after = (c : SearchCase) → LeadTo c path state levels → after ≡ before ++ leaves_by c path [] state

@@ -1,14 +1,15 @@
 use Rattle.std.proofs.Common.{◌≡◌, ◌≤◌, ◌-◌, ◌++◌, [], ◌∷◌, Bool, List, Option, IfSome, ap, ◌∙◌, subst}
 use Rattle.bound_cert.specs.declared.outcome.Outcome.TheVariants as outcome
 use Rattle.edit_paths.specs.declared.state.PathState.TheVariants.{Open}
-use Rattle.localise_tree.specs.KeptFields.{KeepsChanged}
-use Rattle.localise_tree.specs.inner.Nodes.{AreKept, IsLook}
-use Rattle.localise_tree.specs.inner.Problems.{case_in}
-use Rattle.localise_tree.specs.inner.Takens.{taken_paths}
+use Rattle.path_walk.specs.KeptFields.{KeepsChanged}
+use Rattle.path_walk.specs.Looks.{IsLook}
+use Rattle.path_walk.specs.Problems.{case_in}
+use Rattle.path_walk.specs.declared.looks.Look.{Look}
 use Rattle.localise_tree.specs.declared.ends.Node.{Node}
-use Rattle.localise_tree.specs.declared.looks.Look.{Look}
-use Rattle.localise_tree.proofs.SearchLaws.{change-kept, kept-basis, kept-later, none-is, none-of, path-later, run-budget, run-ends, run-less, run-turn}
+use Rattle.localise_tree.specs.inner.Nodes.{AreKept}
+use Rattle.localise_tree.specs.inner.Takens.{taken_paths}
 use Rattle.localise_tree.proofs.PlaceLaws.{rest-order}
+use Rattle.localise_tree.proofs.SearchLaws.{change-kept, kept-basis, kept-later, none-is, none-of, path-later, run-budget, run-ends, run-less, run-turn}
 use Rattle.localise_tree.proofs.best_first.search.Goals as goal
 
 pub returns-in_default-2-clause-exact : goal.returns-in_default-2-clause-exact

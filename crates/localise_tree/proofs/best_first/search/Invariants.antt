@@ -1,9 +1,9 @@
 use Rattle.std.proofs.Common.{◌≡◌, ℕ, true}
 use Rattle.edit_line.specs.EditSets.{EditsParts}
+use Rattle.path_walk.specs.Problems.{case_in}
 use Rattle.localise_tree.specs.inner.Nodes.{AreKept, paths_of}
-use Rattle.localise_tree.specs.inner.Problems.{case_in}
-use Rattle.localise_tree.proofs.SearchLoop.{left}
 use Rattle.localise_tree.proofs.SearchLaws.{IsRunning}
+use Rattle.localise_tree.proofs.SearchLoop.{left}
 use Rattle.localise_tree.proofs.best_first.search.Given as goal
 
 abbrev pub invariant-loop-node : goal.invariant-loop-node

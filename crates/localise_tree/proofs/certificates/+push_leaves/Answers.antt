@@ -5,16 +5,18 @@ use Rattle.bound_cert.specs.declared.cert.LeafWhy.TheVariants as why
 use Rattle.edit_paths.specs.Certificates.{leaf, leaves_by}
 use Rattle.edit_paths.specs.Paths.{before_last, field_count}
 use Rattle.edit_paths.specs.declared.levels.Level.{Level}
-use Rattle.localise_tree.specs.inner.Bases.{IsKnownBasis}
-use Rattle.localise_tree.specs.inner.Histories.{HasLists, HasListsBefore, LeadTo}
-use Rattle.localise_tree.specs.inner.Problems.{case_in}
+use Rattle.path_walk.specs.Bases.{IsKnownBasis}
+use Rattle.path_walk.specs.Lists.{HasLists, HasListsBefore}
+use Rattle.path_walk.specs.Problems.{case_in}
+use Rattle.path_walk.specs.inner.Histories.{LeadTo}
+use Rattle.path_walk.proofs.LeadLaws.{leads-to}
 use Rattle.localise_tree.specs.inner.Takens.{leaves_below, taken_paths}
-use Rattle.edit_paths.proofs.LetterLaws.{longer}
 use Rattle.localise_tree.proofs.KnownLaws.{found-basis, found-has, found-state}
-use Rattle.localise_tree.proofs.LeafLaws.{basis-before, leads-to, leaves-both, leaves-last, leaves-unknown, lists-before, more-fits, popped}
+use Rattle.localise_tree.proofs.LeafLaws.{basis-before, leaves-both, leaves-last, leaves-unknown, lists-before, more-fits, popped}
 use Rattle.localise_tree.proofs.SearchLaws.{none-of}
 use Rattle.localise_tree.proofs.certificates.+push_leaves.Goals as goal
 use Rattle.localise_tree.proofs.certificates.+push_leaves.Goals.{else-is_open-via-then-is_open+else-len-field_count, else-is_open-via-else-is_open}
+use Rattle.edit_paths.proofs.LetterLaws.{longer}
 
 pub returns-in_default-clause-leaves : goal.returns-in_default-clause-leaves
 returns-in_default-clause-leaves g t c =

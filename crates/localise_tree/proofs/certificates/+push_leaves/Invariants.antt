@@ -1,6 +1,6 @@
 use Rattle.std.proofs.Common.{length, ◌-◌}
 use Rattle.edit_paths.specs.Paths.{field_count}
-use Rattle.localise_tree.specs.inner.Problems.{case_in}
+use Rattle.path_walk.specs.Problems.{case_in}
 use Rattle.localise_tree.proofs.certificates.+push_leaves.Given as goal
 
 abbrev pub decreases-push_leaves : goal.decreases-push_leaves

@@ -2,7 +2,7 @@ use Rattle.std.proofs.Common.{Bool, List, [], ap, arith, ◌++◌, ◌-◌, ◌�
 use Rattle.bound_cert.specs.declared.cert.Leaf.{Leaf}
 use Rattle.edit_paths.specs.Certificates.{leaves_from}
 use Rattle.edit_paths.specs.Paths.{field_count}
-use Rattle.localise_tree.specs.inner.Problems.{case_in}
+use Rattle.path_walk.specs.Problems.{case_in}
 use Rattle.localise_tree.specs.inner.Takens.{leaves_below, taken_paths}
 use Rattle.localise_tree.proofs.certificates.certificate.Goals as goal
 

@@ -1,7 +1,7 @@
 use Rattle.std.proofs.Common.{◌+◌, ◌++◌, ◌∷◌, [], Bool, if◌then◌else◌, List, length, slice_index_or, refl, ap, ◌∙◌}
 use Rattle.edit_model.specs.Corrections.{path_order}
 use Rattle.edit_model.specs.Words.{weight_at}
-use Rattle.localise_tree.specs.inner.Problems.{case_in}
+use Rattle.path_walk.specs.Problems.{case_in}
 use Rattle.localise_tree.proofs.EndLaws.{child-node}
 use Rattle.localise_tree.proofs.ends.child.Goals as goal
 

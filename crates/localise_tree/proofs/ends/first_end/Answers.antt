@@ -1,4 +1,4 @@
-use Rattle.localise_tree.specs.inner.Problems.{case_in}
+use Rattle.path_walk.specs.Problems.{case_in}
 use Rattle.localise_tree.proofs.EndLaws.{first-nodes}
 use Rattle.localise_tree.proofs.ends.first_end.Goals as goal
 

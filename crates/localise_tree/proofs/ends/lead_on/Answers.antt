@@ -4,7 +4,7 @@ use Rattle.edit_paths.specs.Paths.{is_complete}
 use Rattle.edit_paths.specs.ReachedPaths.{changed_next, kept_next}
 use Rattle.edit_paths.specs.Walks.{next_paths}
 use Rattle.edit_paths.specs.declared.state.PathState.{PathState}
-use Rattle.localise_tree.specs.inner.Problems.{case_in}
+use Rattle.path_walk.specs.Problems.{case_in}
 use Rattle.localise_tree.proofs.EndLaws.{child-kept, leads-both, leads-open, leads-short, led-kept, led-nodes, led-paths}
 use Rattle.localise_tree.proofs.PlaceLaws.{parted, parted-next}
 use Rattle.localise_tree.proofs.ends.lead_on.Goals as goal

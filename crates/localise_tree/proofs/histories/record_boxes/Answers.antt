@@ -1,7 +1,0 @@
-use Rattle.std.proofs.Common.{sym, ◌∙◌}
-use Rattle.localise_tree.specs.inner.Problems.{case_in}
-use Rattle.localise_tree.proofs.HistoryLaws.{boxes-first}
-use Rattle.localise_tree.proofs.histories.record_boxes.Goals as goal
-
-pub returns-clause-boxes : goal.returns-clause-boxes
-returns-clause-boxes g c = c.in_ok-new.ensures.ok ∙ c.in_ok-boxes.ensures.boxes ∙ sym (boxes-first (case_in c.args.problem.now) c.args.letters.now c.requires.few)

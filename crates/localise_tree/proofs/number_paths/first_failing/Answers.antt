@@ -1,7 +1,0 @@
-use Rattle.localise_tree.specs.inner.Problems.{case_in}
-use Rattle.localise_tree.proofs.NumberPathLaws.{line-over}
-use Rattle.localise_tree.proofs.number_paths.first_failing.Goals as goal
-
-pub tried_line-requires-clause-over : goal.tried_line-requires-clause-over
-tried_line-requires-clause-over c =
-    line-over (case_in c.args.problem.now) c.requires.problem.case c.args.path.now c.requires.held c.args.lines.now c.requires.made c.loop-place.place c.index-lines-place.result c.loop-place-test.true c.index-lines-place.is

@@ -1,9 +1,0 @@
-use Rattle.std.proofs.Common.{List, sym, subst}
-use Rattle.edit_line.specs.Lines.{HaveShape}
-use Rattle.edit_line.specs.Reductions.{lines_of}
-use Rattle.edit_line.specs.declared.derived.Derived.{Derived}
-use Rattle.linear_elim.proofs.ShapeLaws.{OneShape-have}
-use Rattle.localise_tree.proofs.number_paths.look_at_numbers.Goals as goal
-
-pub last_pairs-pairs-requires-clause-shape : goal.last_pairs-pairs-requires-clause-shape
-last_pairs-pairs-requires-clause-shape g c = OneShape-have c.system.result.now.edits.shape c.lines.result.now (subst (λ (ls : List Derived). HaveShape c.system.result.now.edits.shape (lines_of ls)) (sym c.lines.ensures.lines) c.lines.ensures.over)

@@ -1,0 +1,11 @@
+pub mod ApartPaths
+pub mod BoxTurns
+pub mod CodePathLaws
+pub mod HistoryLaws
+pub mod LastLetters
+pub mod LeadLaws
+pub mod NextFields
+pub mod NumberPathLaws
+pub mod OverPaths
+pub mod ProblemLaws
+pub mod RowCodes

@@ -1,0 +1,19 @@
+use Rattle.std.proofs.Common.{List, subst, sym, ◌∙◌, ◌≡◌, true, ℕ}
+use Rattle.edit_model.specs.FieldSets.{set_of}
+use Rattle.std.specs.Arc.{arc_value}
+use Rattle.linear_elim.specs.declared.held.Held.{Held}
+use Rattle.path_walk.specs.Bases.{IsPathSystem}
+use Rattle.path_walk.specs.Problems.{case_in}
+use Rattle.path_walk.proofs.NumberPathLaws.{kept-numbers, kept-system}
+use Rattle.path_walk.proofs.number_paths.next_system.Goals as goal
+
+pub returns-then-not-ends_changed-clause-kept : goal.returns-then-not-ends_changed-clause-kept
+returns-then-not-ends_changed-clause-kept g c =
+    let same = kept-numbers (case_in c.args.problem.now) c.args.letters.now c.requires.fit (sym c.ends_changed.ensures.changed ∙ c.if-not-ends_changed.true) in
+    subst (λ (fs : List ℕ). g.S.Systems.keeps c.args.source.now (set_of fs) ≡ true) (sym same) c.requires.before
+
+pub returns-then-not-ends_changed-clause-system : goal.returns-then-not-ends_changed-clause-system
+returns-then-not-ends_changed-clause-system g c =
+    let case = case_in c.args.problem.now in
+    let same = kept-numbers case c.args.letters.now c.requires.fit (sym c.ends_changed.ensures.changed ∙ c.if-not-ends_changed.true) in
+    subst (λ (h : Held). IsPathSystem case c.args.letters.now h) (sym c.in_ok-share.ensures) (kept-system case c.args.letters.now (arc_value c.args.before.now) same c.requires.system)

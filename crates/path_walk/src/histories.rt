@@ -1,0 +1,339 @@
+//! The lists from which the system and the boxes of a path are derived, letter by letter.
+ghost use Rattle.std.specs.Prelude.{◌≡◌, ◌+◌, ◌≤◌, ◌<◌, [], ℕ, All, IfOk, OnOk, length, true};
+ghost use Rattle.std.specs.Arc.{arc_value};
+ghost use Rattle.std.specs.Option.{option_copied};
+ghost use Rattle.edit_model.specs.RowPoints.{code_in};
+ghost use Rattle.edit_model.specs.Rows.{value_of};
+ghost use Rattle.edit_line.specs.CodeFields.{TakesCodes, size_of};
+ghost use Rattle.edit_line.specs.EditSets.{EditsParts};
+ghost use Rattle.edit_line.specs.Shapes.{shape_of};
+ghost use Rattle.categ_combine.specs.Apart.{LieApart};
+ghost use Rattle.categ_combine.specs.BoxLists.{AreBoxesOver};
+ghost use Rattle.categ_combine.specs.FailingBoxes.{failing_from};
+ghost use Rattle.linear_elim.specs.Answers.{Answers};
+ghost use Rattle.linear_elim.specs.Told.{told_system};
+ghost use Rattle.edit_paths.specs.Levels.{history_of};
+ghost use Rattle.edit_paths.specs.PathHistories.{line_history};
+ghost use Rattle.edit_paths.specs.Paths.{before_last, field_count, last_field, number_count};
+ghost use Rattle.edit_paths.specs.States.{boxes_along, first_boxes, or_empty};
+ghost use Rattle.path_walk.specs.Bases.{IsKnownBasis, path_system, shared_lines};
+ghost use Rattle.path_walk.specs.Lists.{HasBoxLists, HasLists, HasListsBefore, HasMore, boxes_in};
+ghost use Rattle.path_walk.specs.Problems.{IsProblem, case_in, edits_in};
+ghost use Rattle.path_walk.specs.inner.Histories.{AddsSystem, boxes_by};
+
+use crate::looks::Basis;
+use crate::number_paths::{alone, share, system_along};
+use crate::problem::{Problem, number_count};
+use categ_combine::{BoxFault, BoxFrom, Covered, boxes_of, fix_apart, step_apart};
+use edit_line::Derived;
+use edit_paths::Level;
+use foundation::{OutOfMemory, Sequence, Steps};
+use linear_elim::{Held, SystemFault, Systems};
+use std::alloc::Global;
+use std::sync::Arc;
+use std::sync::ledger::Ledger;
+
+/// What is kept of a path and of the path before its last letter.
+#[derive(Clone, Copy)]
+pub struct Bases<'a> {
+    pub own: Option<&'a Basis>,
+    pub parent: Option<&'a Basis>,
+}
+
+/// Appends the lists that the last letter of the path leads to, to those of the path before: the lines of its
+/// system where it changes a numerical field; the boxes after its categorical field, and before the first of
+/// these the record's boxes; of the empty path the lines of the edits.
+pub fn push_lists<S: Systems, L: Ledger>(
+    alloc: Global,
+    source: &mut S,
+    problem: &Problem,
+    letters: &[bool],
+    bases: Bases,
+    levels: &mut Vec<Level>,
+    steps: &mut Steps<L>,
+) -> Result<(), OutOfMemory>
+    requires problem { IsProblem problem.now }
+    requires served { S.serves source.old (edits_in problem.now) }
+    requires fit { length letters.now ≤ field_count (case_in problem.now) }
+    requires own { IsKnownBasis (case_in problem.now) letters.now (option_copied bases.own) }
+    requires parent { IsKnownBasis (case_in problem.now) (before_last letters.now) (option_copied bases.parent) }
+    requires before { HasListsBefore (case_in problem.now) letters.now levels.old.items }
+    ensures lists { OnOk result (HasLists (case_in problem.now) letters.now levels.new.items) }
+    ensures grown { OnOk result (HasMore levels.old.items levels.new.items) }
+    ensures serves { (e : EditsParts) → S.serves source.old e → S.serves source.new e }
+    ensures keeps { (f : ℕ) → S.keeps source.old f ≡ true → S.keeps source.new f ≡ true }
+{
+    if letters.len() <= number_count(problem) {
+        push_lines(alloc, source, problem, letters, bases.own, levels, steps)?;
+        return Ok(());
+    }
+    if letters.len() - 1 == number_count(problem) {
+        push_first_boxes(alloc, source, problem, letters, bases.parent, levels, steps)?;
+    }
+    push_boxes(alloc, problem, letters, bases.own, levels)?;
+    Ok(())
+}
+
+// Appends the lines of the path's system, unless it keeps its last field.
+fn push_lines<S: Systems, L: Ledger>(
+    alloc: Global,
+    source: &mut S,
+    problem: &Problem,
+    letters: &[bool],
+    own: Option<&Basis>,
+    levels: &mut Vec<Level>,
+    steps: &mut Steps<L>,
+) -> Result<(), OutOfMemory>
+    requires problem { IsProblem problem.now }
+    requires served { S.serves source.old (edits_in problem.now) }
+    requires own { IsKnownBasis (case_in problem.now) letters.now (option_copied own) }
+    requires few { length letters.now ≤ number_count (case_in problem.now) }
+    requires before { HasListsBefore (case_in problem.now) letters.now levels.old.items }
+    ensures history { OnOk result (history_of levels.new.items ≡ line_history (case_in problem.now) letters.now) }
+    ensures grown { OnOk result (HasMore levels.old.items levels.new.items) }
+    ensures serves { (e : EditsParts) → S.serves source.old e → S.serves source.new e }
+    ensures keeps { (f : ℕ) → S.keeps source.old f ≡ true → S.keeps source.new f ≡ true }
+{
+    if !letters.is_empty() && !letters[letters.len() - 1] {
+        return Ok(());
+    }
+    push_system(alloc, source, problem, letters, own, levels, steps)?;
+    Ok(())
+}
+
+// Appends the lines of the path's system, if no number leaves the range.
+fn push_system<S: Systems, L: Ledger>(
+    alloc: Global,
+    source: &mut S,
+    problem: &Problem,
+    letters: &[bool],
+    own: Option<&Basis>,
+    levels: &mut Vec<Level>,
+    steps: &mut Steps<L>,
+) -> Result<(), OutOfMemory>
+    requires problem { IsProblem problem.now }
+    requires served { S.serves source.old (edits_in problem.now) }
+    requires own { IsKnownBasis (case_in problem.now) letters.now (option_copied own) }
+    ensures history { OnOk result (AddsSystem (case_in problem.now) letters.now levels.old.items levels.new.items) }
+    ensures grown { OnOk result (HasMore levels.old.items levels.new.items) }
+    ensures serves { (e : EditsParts) → S.serves source.old e → S.serves source.new e }
+    ensures keeps { (f : ℕ) → S.keeps source.old f ≡ true → S.keeps source.new f ≡ true }
+{
+    match own_system(alloc, source, problem, letters, own, steps) {
+        Ok(system) => {
+            levels.push(Level::Lines(system))?;
+            Ok(())
+        }
+        Err(SystemFault::Overflow { .. }) => Ok(()),
+        Err(SystemFault::OutOfMemory) => Err(OutOfMemory),
+    }
+}
+
+// The path's system, to be shared: its basis, or else as the source has it.
+fn own_system<S: Systems, L: Ledger>(
+    alloc: Global,
+    source: &mut S,
+    problem: &Problem,
+    letters: &[bool],
+    own: Option<&Basis>,
+    steps: &mut Steps<L>,
+) -> Result<Arc<Held>, SystemFault>
+    requires problem { IsProblem problem.now }
+    requires served { S.serves source.old (edits_in problem.now) }
+    requires own { IsKnownBasis (case_in problem.now) letters.now (option_copied own) }
+    ensures exact { Answers shared_lines told_system result (path_system (case_in problem.now) letters.now) }
+    ensures serves { (e : EditsParts) → S.serves source.old e → S.serves source.new e }
+    ensures keeps { (f : ℕ) → S.keeps source.old f ≡ true → S.keeps source.new f ≡ true }
+{
+    if let Some(Basis::Lines(system)) = own {
+        return Ok(share(system)?);
+    }
+    match system_along(alloc, source, problem, letters, steps) {
+        Ok(held) => Ok(alone(alloc, held)?),
+        Err(fault) => Err(fault),
+    }
+}
+
+// Appends the record's boxes, where the path says something of one categorical field.
+fn push_first_boxes<S: Systems, L: Ledger>(
+    alloc: Global,
+    source: &mut S,
+    problem: &Problem,
+    letters: &[bool],
+    parent: Option<&Basis>,
+    levels: &mut Vec<Level>,
+    steps: &mut Steps<L>,
+) -> Result<(), OutOfMemory>
+    requires problem { IsProblem problem.now }
+    requires served { S.serves source.old (edits_in problem.now) }
+    requires parent { IsKnownBasis (case_in problem.now) (before_last letters.now) (option_copied parent) }
+    requires first { length letters.now ≡ 1 + number_count (case_in problem.now) }
+    requires before { history_of levels.old.items ≡ line_history (case_in problem.now) (before_last letters.now) }
+    ensures boxes { OnOk result (HasBoxLists (case_in problem.now) (before_last letters.now) levels.new.items) }
+    ensures grown { OnOk result (HasMore levels.old.items levels.new.items) }
+    ensures serves { (e : EditsParts) → S.serves source.old e → S.serves source.new e }
+    ensures keeps { (f : ℕ) → S.keeps source.old f ≡ true → S.keeps source.new f ≡ true }
+{
+    let before = &letters[..letters.len() - 1];
+    let boxes = record_boxes(alloc, source, problem, before, parent, steps)?;
+    levels.push(Level::Boxes { field: 0, boxes })?;
+    Ok(())
+}
+
+// The record's boxes, to be shared: the basis of this path, which says something of the numerical fields alone, or else
+// made of its system.
+fn record_boxes<S: Systems, L: Ledger>(
+    alloc: Global,
+    source: &mut S,
+    problem: &Problem,
+    letters: &[bool],
+    own: Option<&Basis>,
+    steps: &mut Steps<L>,
+) -> Result<Arc<Sequence<BoxFrom>>, OutOfMemory>
+    requires problem { IsProblem problem.now }
+    requires served { S.serves source.old (edits_in problem.now) }
+    requires few { length letters.now ≤ number_count (case_in problem.now) }
+    requires own { IsKnownBasis (case_in problem.now) letters.now (option_copied own) }
+    ensures boxes { IfOk result (λ boxes. arc_value boxes ≡ boxes_along (case_in problem.now) letters.now) }
+    ensures serves { (e : EditsParts) → S.serves source.old e → S.serves source.new e }
+    ensures keeps { (f : ℕ) → S.keeps source.old f ≡ true → S.keeps source.new f ≡ true }
+{
+    if let Some(Basis::Boxes(boxes)) = own {
+        return Ok(Arc::try_clone(boxes)?);
+    }
+    let boxes = first_boxes(alloc, source, problem, letters, steps)?;
+    Ok(Arc::new(alloc, boxes)?)
+}
+
+// Appends the boxes after the path's last field, which is categorical.
+fn push_boxes(
+    alloc: Global,
+    problem: &Problem,
+    letters: &[bool],
+    own: Option<&Basis>,
+    levels: &mut Vec<Level>,
+) -> Result<(), OutOfMemory>
+    requires problem { IsProblem problem.now }
+    requires many { number_count (case_in problem.now) < length letters.now }
+    requires fit { length letters.now ≤ field_count (case_in problem.now) }
+    requires own { IsKnownBasis (case_in problem.now) letters.now (option_copied own) }
+    requires before { HasBoxLists (case_in problem.now) (before_last letters.now) levels.old.items }
+    ensures boxes { OnOk result (HasBoxLists (case_in problem.now) letters.now levels.new.items) }
+    ensures grown { OnOk result (HasMore levels.old.items levels.new.items) }
+{
+    let last = letters.len() - 1;
+    let field = problem.survey.path_field(last as u32);
+    let boxes = path_boxes(alloc, problem, letters, own, last_boxes(levels), field)?;
+    levels.push(Level::Boxes { field, boxes })?;
+    Ok(())
+}
+
+// The path's boxes, to be shared: its basis, or else those of the path before, after its last field, which is categorical.
+fn path_boxes(
+    alloc: Global,
+    problem: &Problem,
+    letters: &[bool],
+    own: Option<&Basis>,
+    before: &[BoxFrom],
+    field: u32,
+) -> Result<Arc<Sequence<BoxFrom>>, OutOfMemory>
+    requires problem { IsProblem problem.now }
+    requires many { number_count (case_in problem.now) < length letters.now }
+    requires fit { length letters.now ≤ field_count (case_in problem.now) }
+    requires own { IsKnownBasis (case_in problem.now) letters.now (option_copied own) }
+    requires before { before.now ≡ boxes_along (case_in problem.now) (before_last letters.now) }
+    requires field { field ≡ last_field (case_in problem.now) letters.now }
+    requires within { field < field_count (case_in problem.now) }
+    ensures boxes { IfOk result (λ boxes. arc_value boxes ≡ boxes_along (case_in problem.now) letters.now) }
+{
+    if let Some(Basis::Boxes(boxes)) = own {
+        return Ok(Arc::try_clone(boxes)?);
+    }
+    let boxes = boxes_after(alloc, problem, before, field, letters[letters.len() - 1])?;
+    Ok(Arc::new(alloc, boxes)?)
+}
+
+// The boxes of the last list, none where it has lines.
+fn last_boxes(levels: &[Level]) -> &[BoxFrom]
+    ensures { result.now ≡ boxes_in levels.now }
+{
+    match levels.split_last() {
+        Some((Level::Boxes { boxes, .. }, _)) => boxes.as_slice(),
+        Some((Level::Lines(_), _)) | None => &[],
+    }
+}
+
+// The record's boxes, none where a number leaves the range.
+fn first_boxes<S: Systems, L: Ledger>(
+    alloc: Global,
+    source: &mut S,
+    problem: &Problem,
+    letters: &[bool],
+    steps: &mut Steps<L>,
+) -> Result<Sequence<BoxFrom>, OutOfMemory>
+    requires problem { IsProblem problem.now }
+    requires served { S.serves source.old (edits_in problem.now) }
+    ensures boxes { IfOk result (λ boxes. boxes ≡ first_boxes (case_in problem.now) letters.now) }
+    ensures serves { (e : EditsParts) → S.serves source.old e → S.serves source.new e }
+    ensures keeps { (f : ℕ) → S.keeps source.old f ≡ true → S.keeps source.new f ≡ true }
+{
+    match system_along(alloc, source, problem, letters, steps) {
+        Ok(held) => boxes_of_lines(alloc, problem, held.system().lines()),
+        Err(SystemFault::Overflow { .. }) => Ok(Sequence::from_vec(Vec::new(alloc))),
+        Err(SystemFault::OutOfMemory) => Err(OutOfMemory),
+    }
+}
+
+// The boxes of the lines that fail at the record, none where a number leaves the range.
+fn boxes_of_lines(
+    alloc: Global,
+    problem: &Problem,
+    lines: &[Derived],
+) -> Result<Sequence<BoxFrom>, OutOfMemory>
+    requires problem { IsProblem problem.now }
+    requires shape { All (λ derived. derived.line.shape ≡ shape_of (case_in problem.now).survey.fields) lines.now }
+    ensures boxes { IfOk result (λ boxes. boxes ≡ or_empty (failing_from 0 lines.now (case_in problem.now).row [])) }
+{
+    match boxes_of(alloc, problem.survey, lines, problem.row) {
+        Ok(boxes) => Ok(Sequence::from_vec(boxes)),
+        Err(BoxFault::Overflow { .. }) => Ok(Sequence::from_vec(Vec::new(alloc))),
+        Err(BoxFault::OutOfMemory) => Err(OutOfMemory),
+    }
+}
+
+// The boxes after one more categorical field. The pairs of a changed one were counted when its path was
+// taken, so they do not pass the greatest number.
+fn boxes_after(
+    alloc: Global,
+    problem: &Problem,
+    before: &[BoxFrom],
+    field: u32,
+    changed: bool,
+) -> Result<Sequence<BoxFrom>, OutOfMemory>
+    requires problem { IsProblem problem.now }
+    requires over { AreBoxesOver (shape_of (case_in problem.now).survey.fields) before.now }
+    requires apart { LieApart before.now }
+    requires takes { TakesCodes (shape_of (case_in problem.now).survey.fields) field }
+    requires within { field < field_count (case_in problem.now) }
+    ensures boxes { IfOk result (λ boxes. boxes ≡ boxes_by (case_in problem.now) changed before.now field) }
+{
+    if changed {
+        return match step_apart(alloc, before, field, u64::MAX)? {
+            Covered::Done { boxes, .. } => Ok(boxes),
+            Covered::Passed => Err(OutOfMemory),
+        };
+    }
+    let boxes = fix_apart(alloc, before, field, code_at(problem, field))?;
+    Ok(Sequence::from_vec(boxes))
+}
+
+// The record's code at the field, 0 where it has none.
+fn code_at(problem: &Problem, field: u32) -> u8
+    requires problem { IsProblem problem.now }
+    requires takes { TakesCodes (shape_of (case_in problem.now).survey.fields) field }
+    requires within { field < field_count (case_in problem.now) }
+    ensures code { result ≡ code_in (value_of (case_in problem.now).row field) }
+    ensures known { result < size_of (shape_of (case_in problem.now).survey.fields) field }
+{
+    problem.row.value(field).code_number()
+}

@@ -1,0 +1,116 @@
+ghost use Rattle.std.specs.Prelude.{◌≡◌, ℕ, ◌<◌, ◌≤◌, ◌+◌, IfOk, IfNone, IfSome, length, true};
+ghost use Rattle.edit_line.specs.EditSets.{EditsParts};
+ghost use Rattle.edit_paths.specs.Paths.{before_last, field_count};
+ghost use Rattle.edit_paths.specs.States.{IsOpen};
+ghost use Rattle.edit_paths.specs.Works.{work_of};
+ghost use Rattle.path_walk.specs.Bases.{IsBasisBefore, IsSame, SharesBasis, has_basis, size_of};
+ghost use Rattle.path_walk.specs.KeptFields.{KeepsChanged};
+ghost use Rattle.path_walk.specs.Looks.{KeepsOpen, TellsLook};
+ghost use Rattle.path_walk.specs.Problems.{IsProblem, case_in, edits_in};
+
+use crate::code_paths::look_at_codes;
+use crate::number_paths::look_at_numbers;
+use crate::problem::Problem;
+use bound_cert::Path;
+use categ_combine::BoxFrom;
+use edit_paths::PathState;
+use foundation::{OutOfMemory, Sequence, Steps};
+use linear_elim::{Held, Systems};
+use std::alloc::Global;
+use std::sync::Arc;
+use std::sync::ledger::Ledger;
+
+/// What the paths with one letter more are looked into from, and its proof is written from: the lines of a path's
+/// system, or, where it says something of all numerical fields, its boxes.
+#[derive(Drop)]
+pub enum Basis {
+    Lines(Arc<Held>),
+    Boxes(Arc<Sequence<BoxFrom>>),
+}
+
+impl Basis {
+    /// The basis, owned once more: its lines or boxes are not copied.
+    pub fn share(&self) -> Result<Basis, OutOfMemory>
+        ensures { IfOk result (λ other. IsSame self.now other) }
+    {
+        match self {
+            Basis::Lines(system) => Ok(Basis::Lines(Arc::try_clone(system)?)),
+            Basis::Boxes(boxes) => Ok(Basis::Boxes(Arc::try_clone(boxes)?)),
+        }
+    }
+
+    // How many lines or boxes it has. No memory.
+    fn size(&self) -> usize
+        ensures { result ≡ size_of self.now }
+    {
+        match self {
+            Basis::Lines(system) => system.system().lines().len(),
+            Basis::Boxes(boxes) => boxes.as_slice().len(),
+        }
+    }
+}
+
+/// What a look into a path tells: its work, what becomes of it, and its basis, where one is made.
+#[derive(Drop)]
+pub struct Look {
+    pub work: u64,
+    pub state: PathState,
+    pub basis: Basis,
+}
+
+impl Look {
+    /// Its basis, shared, if it is the path's own and has no more lines or boxes than there is room for; these take
+    /// their room.
+    pub fn kept_basis(&self, room: &mut usize) -> Result<Option<Basis>, OutOfMemory>
+        ensures { IfOk result (λ kept. IfSome kept (SharesBasis self.now room.old room.new)) }
+    {
+        let size = self.basis.size();
+        if !has_basis(self.state) || size > *room {
+            return Ok(None);
+        }
+        *room -= size;
+        Ok(Some(self.basis.share()?))
+    }
+}
+
+// Whether a look into a path of this state has the path's own basis.
+fn has_basis(state: PathState) -> bool
+    ensures { result ≡ has_basis state }
+{
+    !matches!(state, PathState::ClosedBad | PathState::Overflows(_))
+}
+
+/// Looks into the path, unless its work is more than `most`. The basis is that of the path before its last letter.
+pub fn look_into<S: Systems, L: Ledger>(
+    alloc: Global,
+    source: &mut S,
+    problem: &Problem,
+    path: &Path,
+    before: &Basis,
+    most: u64,
+    steps: &mut Steps<L>,
+) -> Result<Option<Look>, OutOfMemory>
+    requires problem { IsProblem problem.now }
+    requires served { S.serves source.old (edits_in problem.now) }
+    requires fit { length path.now ≤ field_count (case_in problem.now) }
+    requires reached { 0 < length path.now → IsOpen (case_in problem.now) (before_last path.now) }
+    requires basis { IsBasisBefore (case_in problem.now) path.now before.now }
+    requires before { KeepsChanged (S.keeps source.old) (case_in problem.now) (before_last path.now) }
+    ensures passed { IfOk result (λ told. IfNone told (most < work_of (case_in problem.now) path.now)) }
+    ensures look { IfOk result (TellsLook (case_in problem.now) path.now most) }
+    ensures kept { IfOk result (KeepsOpen (S.keeps source.new) (case_in problem.now) path.now) }
+    ensures serves { (e : EditsParts) → S.serves source.old e → S.serves source.new e }
+    ensures keeps { (f : ℕ) → S.keeps source.old f ≡ true → S.keeps source.new f ≡ true }
+{
+    if most == 0 {
+        return Ok(None);
+    }
+    match before {
+        Basis::Lines(system) => {
+            look_at_numbers(alloc, source, problem, path, system, most, steps)
+        }
+        Basis::Boxes(boxes) => {
+            look_at_codes(alloc, problem, path.letters(), boxes.as_slice(), most)
+        }
+    }
+}

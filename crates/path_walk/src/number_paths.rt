@@ -1,0 +1,333 @@
+//! Paths that say something of numerical fields alone.
+ghost use Rattle.std.specs.Prelude.{◌≡◌, ℕ, ◌+◌, ◌≤◌, ◌<◌, IfOk, IfNone, OnOk, Ok, if◌then◌else◌, false, length, true};
+ghost use Rattle.std.specs.Arc.{arc_value};
+ghost use Rattle.edit_model.specs.FieldSets.{set_of};
+ghost use Rattle.edit_line.specs.EditSets.{EditsParts};
+ghost use Rattle.edit_line.specs.Lines.{HasShape};
+ghost use Rattle.edit_line.specs.Shapes.{shape_of};
+ghost use Rattle.linear_elim.specs.Answers.{Answers};
+ghost use Rattle.linear_elim.specs.Helds.{system_held};
+ghost use Rattle.linear_elim.specs.Steps.{OneShape};
+ghost use Rattle.linear_elim.specs.Told.{told_system};
+ghost use Rattle.bound_cert.specs.Paths.{keeps_bad, kept_set};
+ghost use Rattle.edit_paths.specs.Paths.{before_last, changed_numbers, field_count, last_letter, number_count};
+ghost use Rattle.edit_paths.specs.States.{asks_kept, first_failing, state_of, tried_line};
+ghost use Rattle.edit_paths.specs.Works.{work_of};
+ghost use Rattle.edit_paths.specs.declared.state.PathState.{PathState as State};
+ghost use Rattle.edit_paths.specs.declared.state.PathState.TheVariants.{Open};
+ghost use Rattle.path_walk.specs.Bases.{IsBasis, IsPathSystem, has_basis, path_system, shared_lines};
+ghost use Rattle.path_walk.specs.KeptFields.{KeepsChanged};
+ghost use Rattle.path_walk.specs.Looks.{KeepsOpen, TellsLook};
+ghost use Rattle.path_walk.specs.Problems.{IsProblem, case_in, edits_in};
+ghost use Rattle.path_walk.specs.inner.Tries.{or_next};
+
+use crate::looks::{Basis, Look};
+use crate::problem::{Problem, changed_numbers, number_count};
+use bound_cert::{Event, Path};
+use categ_combine::{BoxFault, boxes_of};
+use edit_line::{Derived, Line, fails};
+use edit_model::FieldSet;
+use edit_paths::PathState;
+use foundation::{OutOfMemory, Sequence, Steps};
+use linear_elim::{Held, System, SystemFault, Systems, pairs};
+use std::alloc::Global;
+use std::sync::Arc;
+use std::sync::ledger::Ledger;
+
+/// Looks into a path that says something of numerical fields alone, unless its work is more than `most`.
+/// The system is that of the path before its last letter.
+pub(crate) fn look_at_numbers<S: Systems, L: Ledger>(
+    alloc: Global,
+    source: &mut S,
+    problem: &Problem,
+    path: &Path,
+    system: &Arc<Held>,
+    most: u64,
+    steps: &mut Steps<L>,
+) -> Result<Option<Look>, OutOfMemory>
+    requires problem { IsProblem problem.now }
+    requires served { S.serves source.old (edits_in problem.now) }
+    requires fit { length path.now ≤ number_count (case_in problem.now) }
+    requires system { IsPathSystem (case_in problem.now) (before_last path.now) (arc_value system.now) }
+    requires before { KeepsChanged (S.keeps source.old) (case_in problem.now) (before_last path.now) }
+    requires some { 0 < most }
+    ensures passed { IfOk result (λ told. IfNone told (most < work_of (case_in problem.now) path.now)) }
+    ensures look { IfOk result (TellsLook (case_in problem.now) path.now most) }
+    ensures kept { IfOk result (KeepsOpen (S.keeps source.new) (case_in problem.now) path.now) }
+    ensures serves { (e : EditsParts) → S.serves source.old e → S.serves source.new e }
+    ensures keeps { (f : ℕ) → S.keeps source.old f ≡ true → S.keeps source.new f ≡ true }
+{
+    let pairs = last_pairs(problem, path.letters(), system.system().lines());
+    if pairs >= u128::from(most) {
+        return Ok(None);
+    }
+    let work = 1 + pairs as u64;
+    Ok(Some(looked_at(alloc, source, problem, path, system, work, steps)?))
+}
+
+/// The system of the numerical fields that the path changes.
+pub fn system_along<S: Systems, L: Ledger>(
+    alloc: Global,
+    source: &mut S,
+    problem: &Problem,
+    letters: &[bool],
+    steps: &mut Steps<L>,
+) -> Result<Held, SystemFault>
+    requires problem { IsProblem problem.now }
+    requires served { S.serves source.old (edits_in problem.now) }
+    ensures exact { Answers (λ held. (system_held held).lines) told_system result (path_system (case_in problem.now) letters.now) }
+    ensures system { IfOk result (IsPathSystem (case_in problem.now) letters.now) }
+    ensures kept { OnOk result (KeepsChanged (S.keeps source.new) (case_in problem.now) letters.now) }
+    ensures serves { (e : EditsParts) → S.serves source.old e → S.serves source.new e }
+    ensures keeps { (f : ℕ) → S.keeps source.old f ≡ true → S.keeps source.new f ≡ true }
+{
+    let fields = changed_numbers(problem, letters);
+    source.system(alloc, problem.edits, fields, steps)
+}
+
+// The pairs that the last step of the path combines, none where its last field is kept.
+fn last_pairs(problem: &Problem, letters: &[bool], before: &[Derived]) -> u128
+    requires problem { IsProblem problem.now }
+    requires fit { length letters.now ≤ number_count (case_in problem.now) }
+    requires shape { OneShape before.now }
+    requires made { path_system (case_in problem.now) (before_last letters.now) ≡ Ok before.now }
+    ensures work { work_of (case_in problem.now) letters.now ≡ 1 + result }
+{
+    if !ends_changed(letters) {
+        return 0;
+    }
+    let field = problem.survey.path_field((letters.len() - 1) as u32);
+    pairs(before, field)
+}
+
+// Whether the last letter says changed.
+fn ends_changed(letters: &[bool]) -> bool
+    ensures changed { result ≡ last_letter letters.now }
+    ensures some { result ≡ true → 0 < length letters.now }
+{
+    !letters.is_empty() && letters[letters.len() - 1]
+}
+
+// What becomes of the path, whose work is told.
+fn looked_at<S: Systems, L: Ledger>(
+    alloc: Global,
+    source: &mut S,
+    problem: &Problem,
+    path: &Path,
+    system: &Arc<Held>,
+    work: u64,
+    steps: &mut Steps<L>,
+) -> Result<Look, OutOfMemory>
+    requires problem { IsProblem problem.now }
+    requires served { S.serves source.old (edits_in problem.now) }
+    requires fit { length path.now ≤ number_count (case_in problem.now) }
+    requires system { IsPathSystem (case_in problem.now) (before_last path.now) (arc_value system.now) }
+    requires before { KeepsChanged (S.keeps source.old) (case_in problem.now) (before_last path.now) }
+    ensures work { IfOk result (λ look. look.work ≡ work) }
+    ensures state { IfOk result (λ look. look.state ≡ state_of (case_in problem.now) path.now) }
+    ensures basis { IfOk result (λ look. has_basis look.state ≡ true → IsBasis (case_in problem.now) path.now look.basis) }
+    ensures kept { IfOk result (λ look. look.state ≡ Open → KeepsChanged (S.keeps source.new) (case_in problem.now) path.now) }
+    ensures serves { (e : EditsParts) → S.serves source.old e → S.serves source.new e }
+    ensures keeps { (f : ℕ) → S.keeps source.old f ≡ true → S.keeps source.new f ≡ true }
+{
+    if path.keeps_bad(problem.survey, problem.row) {
+        return ended(work, PathState::ClosedBad, system);
+    }
+    match next_system(alloc, source, problem, path.letters(), system, steps) {
+        Ok(next) => tried(alloc, problem, path, next, work),
+        Err(
+            SystemFault::Overflow {
+                first,
+                second,
+                place,
+                ..
+            },
+        ) => ended(
+            work,
+            PathState::Overflows(Event::Step {
+                first,
+                second,
+                place,
+            }),
+            system,
+        ),
+        Err(SystemFault::OutOfMemory) => Err(OutOfMemory),
+    }
+}
+
+// The look into a path from which the search does not go on.
+fn ended(work: u64, state: PathState, system: &Arc<Held>) -> Result<Look, OutOfMemory>
+    ensures work { IfOk result (λ look. look.work ≡ work) }
+    ensures state { IfOk result (λ look. look.state ≡ state) }
+{
+    Ok(Look {
+        work,
+        state,
+        basis: Basis::Lines(Arc::try_clone(system)?),
+    })
+}
+
+// The system of the path: where it keeps its last field, that of the path before.
+fn next_system<S: Systems, L: Ledger>(
+    alloc: Global,
+    source: &mut S,
+    problem: &Problem,
+    letters: &[bool],
+    before: &Arc<Held>,
+    steps: &mut Steps<L>,
+) -> Result<Arc<Held>, SystemFault>
+    requires problem { IsProblem problem.now }
+    requires served { S.serves source.old (edits_in problem.now) }
+    requires fit { length letters.now ≤ number_count (case_in problem.now) }
+    requires system { IsPathSystem (case_in problem.now) (before_last letters.now) (arc_value before.now) }
+    requires before { KeepsChanged (S.keeps source.old) (case_in problem.now) (before_last letters.now) }
+    ensures exact { Answers shared_lines told_system result (path_system (case_in problem.now) letters.now) }
+    ensures system { IfOk result (λ next. IsPathSystem (case_in problem.now) letters.now (arc_value next)) }
+    ensures kept { OnOk result (KeepsChanged (S.keeps source.new) (case_in problem.now) letters.now) }
+    ensures serves { (e : EditsParts) → S.serves source.old e → S.serves source.new e }
+    ensures keeps { (f : ℕ) → S.keeps source.old f ≡ true → S.keeps source.new f ≡ true }
+{
+    if !ends_changed(letters) {
+        return Ok(share(before)?);
+    }
+    match changed_system(alloc, source, problem, letters, before.system(), steps) {
+        Ok(held) => Ok(alone(alloc, held)?),
+        Err(fault) => Err(fault),
+    }
+}
+
+// The system of a path that changes its last field, by one step from that of the path before.
+fn changed_system<S: Systems, L: Ledger>(
+    alloc: Global,
+    source: &mut S,
+    problem: &Problem,
+    letters: &[bool],
+    before: &System,
+    steps: &mut Steps<L>,
+) -> Result<Held, SystemFault>
+    requires problem { IsProblem problem.now }
+    requires served { S.serves source.old (edits_in problem.now) }
+    requires some { 0 < length letters.now }
+    requires fit { length letters.now ≤ number_count (case_in problem.now) }
+    requires changed { last_letter letters.now ≡ true }
+    requires edits { before.now.edits ≡ edits_in problem.now }
+    requires fields { before.now.fields ≡ set_of (changed_numbers (case_in problem.now) (before_last letters.now)) }
+    ensures exact { Answers (λ held. (system_held held).lines) told_system result (path_system (case_in problem.now) letters.now) }
+    ensures system { IfOk result (IsPathSystem (case_in problem.now) letters.now) }
+    ensures kept { OnOk result (KeepsChanged (S.keeps source.new) (case_in problem.now) letters.now) }
+    ensures serves { (e : EditsParts) → S.serves source.old e → S.serves source.new e }
+    ensures keeps { (f : ℕ) → S.keeps source.old f ≡ true → S.keeps source.new f ≡ true }
+{
+    let field = problem.survey.path_field((letters.len() - 1) as u32);
+    source.system_after(alloc, before, field, steps)
+}
+
+/// The system, owned once more: its lines are not copied.
+pub(crate) fn share(system: &Arc<Held>) -> Result<Arc<Held>, OutOfMemory>
+    ensures { IfOk result (λ other. arc_value other ≡ arc_value system.now) }
+{
+    Ok(Arc::try_clone(system)?)
+}
+
+/// The system, to be shared.
+pub(crate) fn alone(alloc: Global, held: Held) -> Result<Arc<Held>, OutOfMemory>
+    ensures { IfOk result (λ system. arc_value system ≡ held) }
+{
+    Ok(Arc::new(alloc, held)?)
+}
+
+// What becomes of a path that keeps no field without a value and has this system.
+fn tried(
+    alloc: Global,
+    problem: &Problem,
+    path: &Path,
+    system: Arc<Held>,
+    work: u64,
+) -> Result<Look, OutOfMemory>
+    requires problem { IsProblem problem.now }
+    requires fit { length path.now ≤ number_count (case_in problem.now) }
+    requires held { keeps_bad problem.now.survey.now.fields problem.now.row.now path.now ≡ false }
+    requires system { IsPathSystem (case_in problem.now) path.now (arc_value system) }
+    ensures work { IfOk result (λ look. look.work ≡ work) }
+    ensures state { IfOk result (λ look. look.state ≡ state_of (case_in problem.now) path.now) }
+    ensures basis { IfOk result (λ look. has_basis look.state ≡ true → IsBasis (case_in problem.now) path.now look.basis) }
+{
+    let lines = system.system().lines();
+    if path.letters().len() < number_count(problem) {
+        let state = first_failing(problem, path, lines);
+        return Ok(Look {
+            work,
+            state,
+            basis: Basis::Lines(system),
+        });
+    }
+    match boxes_of(alloc, problem.survey, lines, problem.row) {
+        Ok(boxes) => Ok(Look {
+            work,
+            state: first_failing(problem, path, lines),
+            basis: Basis::Boxes(Arc::new(alloc, Sequence::from_vec(boxes))?),
+        }),
+        Err(BoxFault::Overflow { line, field }) => ended(
+            work,
+            PathState::Overflows(Event::Test { line, field }),
+            &system,
+        ),
+        Err(BoxFault::OutOfMemory) => Err(OutOfMemory),
+    }
+}
+
+// What the first line makes of the path that fails, or whose sum leaves the range, of those that ask
+// something of the kept numbers alone.
+fn first_failing(problem: &Problem, path: &Path, lines: &[Derived]) -> PathState
+    requires problem { IsProblem problem.now }
+    requires short { length path.now ≤ field_count (case_in problem.now) }
+    requires held { keeps_bad problem.now.survey.now.fields problem.now.row.now path.now ≡ false }
+    requires made { path_system (case_in problem.now) path.now ≡ Ok lines.now }
+    ensures { result ≡ first_failing (case_in problem.now) path.now 0 lines.now }
+{
+    let kept = path.kept_set(problem.survey, problem.row);
+    for (place, derived) in lines.iter().enumerate() {
+        if let Some(state) = tried_line(problem, path, kept, place as u64, &derived.line) {
+            return state;
+        }
+    }
+    PathState::Open
+}
+
+// What the line at this place makes of the path, if it decides.
+fn tried_line(
+    problem: &Problem,
+    path: &Path,
+    kept: FieldSet,
+    place: u64,
+    line: &Line,
+) -> Option<PathState>
+    requires problem { IsProblem problem.now }
+    requires held { keeps_bad problem.now.survey.now.fields problem.now.row.now path.now ≡ false }
+    requires kept { kept ≡ kept_set problem.now.survey.now.fields problem.now.row.now path.now }
+    requires over { HasShape (shape_of problem.now.survey.now.fields) line.now }
+    ensures { (next : State) → or_next result next ≡ tried_line (case_in problem.now) path.now place line.now next }
+{
+    if !asks_kept(problem, path, kept, line) {
+        return None;
+    }
+    match fails(problem.survey, line, problem.row) {
+        Ok(true) => Some(PathState::ClosedLine(place)),
+        Ok(false) => None,
+        Err(overflow) => Some(PathState::Overflows(Event::Test {
+            line: place,
+            field: overflow.field,
+        })),
+    }
+}
+
+// Whether the line asks something of the kept numbers alone.
+fn asks_kept(problem: &Problem, path: &Path, kept: FieldSet, line: &Line) -> bool
+    requires problem { IsProblem problem.now }
+    requires held { keeps_bad problem.now.survey.now.fields problem.now.row.now path.now ≡ false }
+    requires kept { kept ≡ kept_set problem.now.survey.now.fields problem.now.row.now path.now }
+    requires over { HasShape (shape_of problem.now.survey.now.fields) line.now }
+    ensures { result ≡ asks_kept (case_in problem.now) path.now line.now }
+{
+    line.stands_only_in(problem.survey, kept) && line.sets() == problem.wholes
+}
