@@ -4,7 +4,7 @@
 # usage: bench/real_files.sh        (as root, since it mounts a disk of 1 MiB and runs as another user, by setpriv; else it leaves these out, and says so)
 #
 # For each name of each command: a folder, a file that is not there, one below a file, and one that the user may not read or write; then a folder in
-# which nothing may be stored, a disk that is full, `/dev/full`, and output that is full or closed. Each run has to end with the status
+# which nothing may be stored, a disk that is full, `/dev/full`, and output that is full, closed, or read by nobody. Each run has to end with the status
 # and the line that the README's table gives, with the files before the one that failed stored whole, that one with some first bytes or as it was,
 # and all later ones as they were. The last line counts the runs; the first that ends otherwise is printed, and ends the script with status 1.
 #

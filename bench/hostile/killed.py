@@ -3,6 +3,7 @@
 Usage: killed.py PROGRAM SEED RUNS ROWS
 """
 import collections
+import os
 import pathlib
 import random
 import subprocess
@@ -51,17 +52,18 @@ class Kills:
         return subprocess.Popen([self.program, *words], cwd=self.folder, stdout=subprocess.DEVNULL)
 
     def wait_for_proof(self, run):
-        while not (self.folder / "proof").exists() and run.poll() is None:
-            time.sleep(0.0002)
+        name = str(self.folder / "proof")
+        while not os.path.exists(name) and run.poll() is None:
+            pass
 
     def killed(self, dice, while_storing):
         """Kills a run at a time that is drawn, and tells what stands: `missing`, `some bytes` or `whole` of each file."""
         run = self.begin(EDIT)
         if while_storing:
             self.wait_for_proof(run)
-            time.sleep(dice.random() * (self.length - self.until_stored))
-        else:
-            time.sleep(dice.random() * self.length)
+        end = seconds() + dice.random() * (self.length - self.until_stored if while_storing else self.length)
+        while seconds() < end:
+            pass
         run.kill()
         ended = run.wait() == self.status
         state = []

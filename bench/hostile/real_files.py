@@ -165,16 +165,16 @@ def full_disks(files):
             files.fail("edit: its summary could not be printed, and the files are not whole")
         files.expect("edit", {"rules": "missing"}, 5, "", stdout=full)
     files.renew()
-    print(f"output that is closed: edit ends with {files.run('edit', {}, stdout=None, preexec_fn=lambda: os.close(1))[0]}")
+    files.expect("edit", {}, 6, "", stdout=None, preexec_fn=lambda: os.close(1))
     reader, writer = os.pipe()
     os.close(reader)
-    print(f"output that nobody reads: edit ends with {files.run('edit', {}, stdout=writer)[0]}")
+    files.expect("edit", {}, 6, "", stdout=writer)
     os.close(writer)
     small_disk(files)
 
 
 def small_disk(files):
-    """A survey whose files are longer than a disk of 1 MiB."""
+    """A disk that has room for two pages, and files that are longer."""
     files.renew()
     disk = files.folder / "disk"
     disk.mkdir()
@@ -182,15 +182,14 @@ def small_disk(files):
         print("left out: a disk of 1 MiB")
         return
     try:
-        (files.folder / "records").write_bytes(b"A,B\n" + b"6,4\n" * 190000)
-        rest = {name: name for name in STORED["edit"]}
-        files.expect("edit", rest, 0, "records 190000 clean 190000 changed 0 unresolved 0 weight 0\nclaims 0 given 0\n")
+        (files.folder / "records").write_bytes(b"A,B\n" + b"6,4\n" * 5000)
+        files.expect("edit", {}, 0, "records 5000 clean 5000 changed 0 unresolved 0 weight 0\nclaims 0 given 0\n")
+        fill(disk / "other")
         whole = {name: files.read(name) for name in STORED["edit"]}
         for option in ("proof", "released"):
             for name in STORED["edit"]:
                 (files.folder / name).write_bytes(BEFORE)
             name = f"disk/{option}"
-            (files.folder / "disk/other").write_bytes(b"x" * 600000)
             files.unwritable("edit", option, name, whole, {one: BEFORE for one in STORED["edit"]})
             held = files.read(name)
             if not whole[option].startswith(held) or len(held) == len(whole[option]):
@@ -201,6 +200,16 @@ def small_disk(files):
             (files.folder / name).unlink()
     finally:
         subprocess.run(["umount", str(disk)], check=True)
+
+
+def fill(file):
+    """Makes a file of which the disk is full, but for two pages."""
+    with open(file, "wb", buffering=0) as full:
+        try:
+            while True:
+                full.write(bytes(4096))
+        except OSError:
+            full.truncate(full.tell() - 8192)
 
 
 def two_names(files):
