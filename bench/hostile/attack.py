@@ -56,8 +56,8 @@ def processor_seconds():
     return used.ru_utime + used.ru_stime
 
 
-# Prints the status of a run, what it printed, and the most memory that it had. It is a program of its own, since the kernel counts for a
-# run what the program had that began it.
+# Prints the status of a run, the most memory that it had, and what it printed. It is a program of its own, since the kernel's count for a run
+# begins at what the program has that starts it: here some 14 MB, below which nothing is seen.
 MEASURE = """import resource, subprocess, sys
 run = subprocess.run(sys.argv[1:], stdout=subprocess.PIPE, stderr=subprocess.DEVNULL)
 print(run.returncode, resource.getrusage(resource.RUSAGE_CHILDREN).ru_maxrss * 1024, run.stdout[:60])"""
