@@ -3,9 +3,9 @@ Files at the limits of what is read, and one past them.
 A file of 67,108,864 bytes is read: here it has nothing but comments. One byte more is too long, whichever file it is, and nothing
 that comes behind it is fetched.
 
-  $ yes ####### | head -n 8388608 >longest
+  $ yes ############################################################################################################################################################################################################################################################### | head -n 262144 >longest
   $ forxainde rules --rules longest
-  $ yes #### | head -n 13421773 >longer
+  $ yes ######################################################################################################################################################################################################################################################################## | head -n 253241 >longer
   $ forxainde rules --rules longer
   fault: too long longer
   [8]
