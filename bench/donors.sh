@@ -1,6 +1,6 @@
 #!/bin/bash
 # Times the imputation by donors: `edit` over a business survey of 16 fields and 30 rules of which one row in four is wrong,
-# so that each of these looks at all that are clean.
+# so that each of these walks over those that are clean.
 #
 # usage: bench/donors.sh [ROWS..]      (default: 5000 10000 20000)
 #

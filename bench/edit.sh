@@ -7,7 +7,7 @@
 # The business survey (bench/yardstick/business_survey.py): about one row in K has a wrong number. Each line has the
 # rows, how many of them were changed, the MiB of the record file, the seconds, the rows a second, and the peak bytes of
 # memory for each byte of input. Memory should grow in proportion to the rows, and so should the time of `check`; that of `edit`
-# grows with the changed rows times the clean ones, since each changed row looks at all donors. Then come the seconds of `check`
+# grows with the changed rows times the clean ones, since each changed row walks over the donors, most of them by blocks. Then come the seconds of `check`
 # on the files that were just written, and what share that is of the time of `edit`: of the seconds of the processor,
 # which say more than those of the clock where the machine has other work. A check reads the proof and goes through its
 # steps, and neither searches nor eliminates; it is to take at most half the time of the edit.
