@@ -1,5 +1,6 @@
-use Rattle.std.proofs.Common.{◌≡◌, ℕ, List, [], ◌∷◌, ◌++◌, Option, codes, length, map, refl, sym, ap, ◌∙◌, append_assoc}
-use Rattle.std.specs.List.{flat_map}
+use Rattle.std.proofs.Common.{◌≡◌, ℕ, ◌+◌, ◌<◌, List, [], ◌∷◌, ◌++◌, Option, codes, get_or, length, map, take, refl, sym, ap, subst, ◌∙◌, append_assoc}
+use Rattle.std.proofs.lemmas.List.{flat_map_more, take_more}
+use Rattle.std.specs.List.{AllByRecursion, flat_map}
 use Rattle.bound_cert.specs.Paths.{named}
 use Rattle.proof_grammar.specs.ProofLines.{Line, claim_line, count_line, has_table, line_text, lines_text, proof_text, row_lines_in, shared_from, table_lines, verdict_lines, words_text}
 use Rattle.donor_book.specs.declared.claim.Entry.{Entry}
@@ -27,6 +28,43 @@ flat-text lines (x ∷ xs) = lines-append (lines x) (flat_map lines xs) ∙ ap (
 map-text : {X : Type 0} (said : X → Line) (xs : List X) → lines_text (map said xs) ≡ flat_map (λ x. line_text (said x)) xs
 map-text said [] = refl
 map-text said (x ∷ xs) = ap (λ (bs : List ℕ). line_text (said x) ++ bs) (map-text said xs)
+
+-- one text more
+pub text_more : {X : Type 0} (f : X → List ℕ) (before : List ℕ) (xs : List X) (i : ℕ) (d : X) (now next : List ℕ) → i < length xs
+    → now ≡ before ++ flat_map f (take i xs) → next ≡ now ++ f (get_or xs i d) → next ≡ before ++ flat_map f (take (i + 1) xs)
+text_more f before xs i d now next within e step = rw (step, e, take_more xs i d within) (flat_map_more f before (take i xs) (get_or xs i d))
+
+-- one line more behind a count
+pub line_more : {X : Type 0} (said : X → Line) (before : List ℕ) (xs : List X) (i : ℕ) (x : X) (now line next : List ℕ) → i < length xs
+    → x ≡ get_or xs i x → now ≡ before ++ (10 ∷ lines_text (map said (take i xs))) → line ≡ now ++ words_text (said x) → next ≡ line ++ 10 ∷ []
+    → next ≡ before ++ (10 ∷ lines_text (map said (take (i + 1) xs)))
+line_more {X} said before xs i x now line next within here e written ended =
+    let text = λ (y : X). line_text (said y) in
+    let step = ended ∙ ap (λ (t : List ℕ). t ++ 10 ∷ []) written ∙ append_assoc now (words_text (said x)) (10 ∷ []) ∙ ap (λ (y : X). now ++ text y) here in
+    text_more text (before ++ 10 ∷ []) xs i x now next within (e ∙ flat i) step ∙ sym (flat (i + 1))
+  where
+    flat : (j : ℕ) → before ++ (10 ∷ lines_text (map said (take j xs))) ≡ (before ++ 10 ∷ []) ++ flat_map (λ (y : X). line_text (said y)) (take j xs)
+    flat j = ap (λ (t : List ℕ). before ++ (10 ∷ t)) (map-text said (take j xs)) ∙ sym (append_assoc before (10 ∷ []) _)
+
+-- the lines of one element more behind a count
+pub lines_more : {X : Type 0} (lines : X → List Line) (before : List ℕ) (xs : List X) (i : ℕ) (x : X) (now next : List ℕ) → i < length xs
+    → x ≡ get_or xs i x → now ≡ before ++ (10 ∷ lines_text (flat_map lines (take i xs))) → next ≡ now ++ lines_text (lines x)
+    → next ≡ before ++ (10 ∷ lines_text (flat_map lines (take (i + 1) xs)))
+lines_more {X} lines before xs i x now next within here e written =
+    let text = λ (y : X). lines_text (lines y) in
+    text_more text (before ++ 10 ∷ []) xs i x now next within (e ∙ flat i) (written ∙ ap (λ (y : X). now ++ text y) here) ∙ sym (flat (i + 1))
+  where
+    flat : (j : ℕ) → before ++ (10 ∷ lines_text (flat_map lines (take j xs))) ≡ (before ++ 10 ∷ []) ++ flat_map (λ (y : X). lines_text (lines y)) (take j xs)
+    flat j = ap (λ (t : List ℕ). before ++ (10 ∷ t)) (flat-text lines (take j xs)) ∙ sym (append_assoc before (10 ∷ []) _)
+
+-- one more that has the property
+pub all_more : {X : Type 0} (P : X → Type 0) (xs : List X) (i : ℕ) (d : X) → i < length xs → AllByRecursion P (take i xs) → P (get_or xs i d)
+    → AllByRecursion P (take (i + 1) xs)
+all_more {X} P xs i d within all has = subst (AllByRecursion P) (sym (take_more xs i d within)) (all_push (take i xs) (get_or xs i d) all has)
+  where
+    all_push : (ys : List X) (y : X) → AllByRecursion P ys → P y → AllByRecursion P (ys ++ y ∷ [])
+    all_push [] y none p = (p, tt)
+    all_push (x ∷ ys) y (first, rest) p = (first, all_push ys y rest p)
 
 -- a count, its elements' lines, and lines behind them
 behind-count : (count : Line) (ls ks : List Line) (part rest : List ℕ) → lines_text ls ≡ part → lines_text ks ≡ rest → lines_text (count ∷ (ls ++ ks)) ≡ (line_text count ++ part) ++ rest
