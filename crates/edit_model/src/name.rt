@@ -9,7 +9,7 @@ const LONGEST: usize = 32;
 #[derive(Debug, Drop)]
 pub struct Name {
     bytes: [u8; 32],
-    size: usize,
+    size: u8,
 }
 
 impl Model for Name {
@@ -35,7 +35,7 @@ impl Name {
         held[..bytes.len()].copy_from_slice(bytes);
         Some(Name {
             bytes: held,
-            size: bytes.len(),
+            size: bytes.len() as u8,
         })
     }
 
@@ -44,6 +44,6 @@ impl Name {
         ensures bytes { result.now ≡ self.now }
         ensures size { (1 ≤ length self.now) × (length self.now ≤ 32) }
     {
-        &self.bytes[..self.size]
+        &self.bytes[..usize::from(self.size)]
     }
 }
