@@ -1,3 +1,4 @@
 pub mod AskedLaws
 mod CommandLaws
 mod FoundLaws
+mod NameParts

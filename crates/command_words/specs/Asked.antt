@@ -1,9 +1,10 @@
 -- What the words of the command line ask for.
-use Rattle.std.specs.Prelude.{◌≡◌, ◌≢◌, ℕ, List, [], ◌∷◌, Some, codes, map, string_bytes, String}
+use Rattle.std.specs.Prelude.{◌≡◌, ℕ, List, [], ◌∷◌, Some, codes, map, string_bytes, String}
 use Rattle.std.specs.declared.alloc.Global.{Global}
 use Rattle.foundation.specs.Limits.{most_workers, most_work, most_gifts, most_near, most_records}
 use Rattle.clap.specs.Words.{App, Row, fault_of, first_of, matches_of}
-use Rattle.command_words.specs.Options.{AreApart, GivesNumber, command_with, may_stand, must_stand}
+use Rattle.command_words.specs.FileNames.{AreApart}
+use Rattle.command_words.specs.Options.{GivesNumber, command_with, may_stand, must_stand}
 
 -- the first word is the name of the command, `clap` takes the others as words of the command, and the claim holds of what it
 -- finds in them
@@ -43,7 +44,7 @@ edit_command = command_with (codes "edit") (
 abbrev pub names_in : Names → List (List ℕ)
 names_in names = names.rules ∷ names.records ∷ names.released ∷ names.reasons ∷ names.proof ∷ []
 
--- what is found are five names of files, no two of them the same; 1 to 64 workers, or 1; a budget from 1 to 1,000,000,000, or
+-- what is found are five names of files, no two of which lead to one file; 1 to 64 workers, or 1; a budget from 1 to 1,000,000,000, or
 -- 1,000,000; a limit from 1 to 1,000, or 1; and 1 to 64 donors that a record ranks, or 5
 pub record GivesEdit (found : List Row) (asked : EditAsked) : Type 0 where
   pub rules : first_of (codes "rules") found ≡ Some asked.names.rules
@@ -79,7 +80,7 @@ check_command = command_with (codes "check") (
 abbrev pub checked_in : CheckAsked → List (List ℕ)
 checked_in asked = asked.rules ∷ asked.records ∷ asked.released ∷ asked.proof ∷ []
 
--- what is found are four names of files, no two of them the same
+-- what is found are four names of files, no two of which lead to one file
 pub record GivesCheck (found : List Row) (asked : CheckAsked) : Type 0 where
   pub rules : first_of (codes "rules") found ≡ Some asked.rules
   pub records : first_of (codes "records") found ≡ Some asked.records
@@ -123,14 +124,14 @@ abbrev pub make_command : App
 make_command = command_with (codes "make") (
     must_stand (codes "rules") ∷ must_stand (codes "records") ∷ may_stand (codes "start") ∷ may_stand (codes "rows") ∷ [])
 
--- what is found are two names of files, which differ; a number to start from, up to 4,294,967,295, or 1; and 1 to 200,000
+-- what is found are two names of files, which lead to two; a number to start from, up to 4,294,967,295, or 1; and 1 to 200,000
 -- records, or 100
 pub record GivesMake (found : List Row) (asked : MakeAsked) : Type 0 where
   pub rules : first_of (codes "rules") found ≡ Some asked.rules
   pub records : first_of (codes "records") found ≡ Some asked.records
   pub start : GivesNumber 1 0 4294967295 (first_of (codes "start") found) asked.start
   pub rows : GivesNumber 100 1 most_records (first_of (codes "rows") found) asked.rows
-  pub apart : asked.rules ≢ asked.records
+  pub apart : AreApart (asked.rules ∷ asked.records ∷ [])
 
 -- the words ask that a survey is made: they are the command, and what is found gives its files and numbers
 abbrev pub IsMake : List (List ℕ) → MakeAsked → Type 0

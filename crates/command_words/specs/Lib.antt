@@ -1,3 +1,4 @@
 pub mod Asked
+pub mod FileNames
 pub mod Options
 pub mod inner

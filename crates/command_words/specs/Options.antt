@@ -1,6 +1,5 @@
--- Options of the command line, as the crate `clap` reads them, and the two rules on their values.
-use Rattle.std.specs.Prelude.{◌≡◌, ◌≢◌, ⊤, ℕ, ◌≤◌, true, List, [], ◌∷◌, Option, Some, None, length}
-use Rattle.std.specs.List.{AllByRecursion}
+-- Options of the command line, as the crate `clap` reads them, and the rule on numbers.
+use Rattle.std.specs.Prelude.{◌≡◌, ℕ, ◌≤◌, true, List, [], Option, Some, None, length}
 use Rattle.std.specs.Str.Parse.{IsNumeral, digits_value}
 use Rattle.clap.specs.Simple.{new_shape}
 use Rattle.clap.specs.Words.{App, Rule, new_rule}
@@ -23,7 +22,7 @@ command_with name options = record {
   subs = [];
 }
 
--- ---- the two rules on values
+-- ---- the rule on numbers
 
 -- the text is 1 to 10 digits, and they spell the number
 abbrev pub IsNumberText : List ℕ → ℕ → Type 0
@@ -33,8 +32,3 @@ IsNumberText text number = IsNumeral 10 text × (length text ≤ 10) × (number 
 abbrev pub GivesNumber : ℕ → ℕ → ℕ → Option (List ℕ) → ℕ → Type 0
 GivesNumber default least most None number = number ≡ default
 GivesNumber default least most (Some text) number = IsNumberText text number × (least ≤ number) × (number ≤ most)
-
--- no two of the texts are the same
-abbrev pub AreApart : List (List ℕ) → Type 0
-AreApart [] = ⊤
-AreApart (text ∷ texts) = AllByRecursion (λ other. text ≢ other) texts × AreApart texts

@@ -1,16 +1,17 @@
 ghost use Rattle.std.specs.Prelude.{◌≡◌, ◌↔◌, ◌∷◌, [], IfOk, IfSome, IfNone, IsTrue, map, string_bytes};
 ghost use Rattle.clap.specs.Words.{app_of};
 ghost use Rattle.command_words.specs.Asked.{CheckAsked, GivesCheck, IsCheck, check_command};
-ghost use Rattle.command_words.specs.Options.{AreApart};
+ghost use Rattle.command_words.specs.FileNames.{AreApart};
 ghost use Rattle.command_words.specs.inner.Found.{rows_in};
 
-use crate::options::{command_named, differs_from, found_in, required, text_in, words_behind};
+use crate::file_names::{is_apart_from, lead_to_one};
+use crate::options::{command_named, found_in, required, text_in, words_behind};
 use clap::{ArgMatches, Command};
 use foundation::OutOfMemory;
 use std::alloc::Global;
 use std::marker::Model;
 
-/// What the command `check` was asked for. No two names are the same.
+/// What the command `check` was asked for. No two names lead to one file.
 #[derive(Debug, Drop)]
 pub struct CheckWords<'a> {
     /// The file of the rules.
@@ -85,11 +86,11 @@ fn check_of<'a>(found: &ArgMatches<'a>) -> Option<CheckWords<'a>>
     })
 }
 
-// Whether no two of the names are the same.
+// Whether no two of the names lead to one file.
 fn are_apart(rules: &str, records: &str, released: &str, proof: &str) -> bool
     ensures { IsTrue result ↔ AreApart (rules.now ∷ records.now ∷ released.now ∷ proof.now ∷ []) }
 {
-    differs_from(rules, &[records, released, proof])
-        && differs_from(records, &[released, proof])
-        && released != proof
+    is_apart_from(rules, &[records, released, proof])
+        && is_apart_from(records, &[released, proof])
+        && !lead_to_one(released, proof)
 }

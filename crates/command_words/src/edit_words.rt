@@ -1,11 +1,12 @@
 ghost use Rattle.std.specs.Prelude.{◌≡◌, ◌↔◌, ◌∷◌, [], IfOk, IfSome, IfNone, IsTrue, map, string_bytes};
 ghost use Rattle.clap.specs.Words.{app_of};
 ghost use Rattle.command_words.specs.Asked.{EditAsked, GivesEdit, IsEdit, edit_command};
-ghost use Rattle.command_words.specs.Options.{AreApart};
+ghost use Rattle.command_words.specs.FileNames.{AreApart};
 ghost use Rattle.command_words.specs.inner.Found.{rows_in};
 
+use crate::file_names::{is_apart_from, lead_to_one};
 use crate::options::{
-    command_named, differs_from, found_in, number_in, optional, required, text_in, words_behind,
+    command_named, found_in, number_in, optional, required, text_in, words_behind,
 };
 use clap::{ArgMatches, Command};
 use foundation::OutOfMemory;
@@ -40,7 +41,7 @@ const LEAST_NEAR: u64 = 1;
 
 const MOST_NEAR: u64 = 64;
 
-/// What the command `edit` was asked for. No two names are the same.
+/// What the command `edit` was asked for. No two names lead to one file.
 #[derive(Debug, Drop)]
 pub struct EditWords<'a> {
     /// The file of the rules.
@@ -67,7 +68,7 @@ impl<'a> Model for EditWords<'a> {
     ghost use Rattle.std.specs.Prelude.{◌∷◌, []};
     ghost use Rattle.command_words.specs.Asked.{EditAsked};
     ghost use Rattle.command_words.specs.inner.Bounds.{InBounds};
-    ghost use Rattle.command_words.specs.Options.{AreApart};
+    ghost use Rattle.command_words.specs.FileNames.{AreApart};
 
     ghost Value = { EditAsked };
 
@@ -92,7 +93,7 @@ impl<'a> Model for EditWords<'a> {
 /// Reads the words after the program's name as the command `edit` with the options `--rules`, `--records`, `--released`,
 /// `--reasons` and `--proof`, each with a file's name, and `--workers`, `--budget`, `--limit` and `--near`, each with a
 /// number of 1 to 10 digits, which may be left out: there is one worker then, the budget is 1,000,000, a donor is given
-/// once, and a record ranks 5 donors. The options stand as `clap` takes them, and the five names differ. What is asked
+/// once, and a record ranks 5 donors. The options stand as `clap` takes them, and no two of the five names lead to one file, as far as the names show it. What is asked
 /// for is all that the words can be read as, and there is None exactly where they are no such command.
 pub fn edit_asked<'a>(
     alloc: Global,
@@ -159,12 +160,12 @@ fn edit_of<'a>(found: &ArgMatches<'a>) -> Option<EditWords<'a>>
     })
 }
 
-// Whether no two of the names are the same.
+// Whether no two of the names lead to one file.
 fn are_apart(rules: &str, records: &str, released: &str, reasons: &str, proof: &str) -> bool
     ensures { IsTrue result ↔ AreApart (rules.now ∷ records.now ∷ released.now ∷ reasons.now ∷ proof.now ∷ []) }
 {
-    differs_from(rules, &[records, released, reasons, proof])
-        && differs_from(records, &[released, reasons, proof])
-        && differs_from(released, &[reasons, proof])
-        && reasons != proof
+    is_apart_from(rules, &[records, released, reasons, proof])
+        && is_apart_from(records, &[released, reasons, proof])
+        && is_apart_from(released, &[reasons, proof])
+        && !lead_to_one(reasons, proof)
 }

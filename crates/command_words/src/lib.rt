@@ -5,6 +5,7 @@
 
 mod check_words;
 mod edit_words;
+mod file_names;
 mod make_words;
 mod options;
 mod rules_words;

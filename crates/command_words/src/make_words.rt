@@ -3,6 +3,7 @@ ghost use Rattle.clap.specs.Words.{app_of};
 ghost use Rattle.command_words.specs.Asked.{GivesMake, IsMake, MakeAsked, make_command};
 ghost use Rattle.command_words.specs.inner.Found.{rows_in};
 
+use crate::file_names::lead_to_one;
 use crate::options::{
     command_named, found_in, number_in, optional, required, text_in, words_behind,
 };
@@ -25,7 +26,7 @@ const LEAST_ROWS: u64 = 1;
 
 const MOST_ROWS: u64 = 200_000;
 
-/// What the command `make` was asked for. The two names differ.
+/// What the command `make` was asked for. The two names lead to two files.
 #[derive(Debug, Drop)]
 pub struct MakeWords<'a> {
     /// The file that the rules go to.
@@ -39,19 +40,20 @@ pub struct MakeWords<'a> {
 }
 
 impl<'a> Model for MakeWords<'a> {
-    ghost use Rattle.std.specs.Prelude.{◌≢◌};
+    ghost use Rattle.std.specs.Prelude.{◌∷◌, []};
     ghost use Rattle.command_words.specs.Asked.{MakeAsked};
+    ghost use Rattle.command_words.specs.FileNames.{AreApart};
 
     ghost Value = { MakeAsked };
 
     ghost view = { λ w. record { rules = w.rules.now; records = w.records.now; start = w.start; rows = w.rows } };
 
-    ghost invariant = { λ w. w.rules.now ≢ w.records.now };
+    ghost invariant = { λ w. AreApart (w.rules.now ∷ w.records.now ∷ []) };
 }
 
 /// Reads the words after the program's name as the command `make` with the options `--rules` and `--records`, each with a
 /// file's name, and `--start` and `--rows`, each with a number of 1 to 10 digits, which may be left out: the records follow
-/// from 1 then, and there are 100. The options stand as `clap` takes them, and the two names differ. What is asked for is
+/// from 1 then, and there are 100. The options stand as `clap` takes them, and the two names lead to two files, as far as they show it. What is asked for is
 /// all that the words can be read as, and there is None exactly where they are no such command.
 pub fn make_asked<'a>(
     alloc: Global,
@@ -92,7 +94,7 @@ fn make_of<'a>(found: &ArgMatches<'a>) -> Option<MakeWords<'a>>
     let records = text_in(found, "records")?;
     let start = number_in(found, "start", START, LEAST_START, MOST_START)?;
     let rows = number_in(found, "rows", ROWS, LEAST_ROWS, MOST_ROWS)?;
-    if rules == records {
+    if lead_to_one(rules, records) {
         return None;
     }
     Some(MakeWords {

@@ -1,6 +1,4 @@
-ghost use Rattle.std.specs.Prelude.{◌≡◌, ◌≢◌, ◌↔◌, ◌∷◌, [], ℕ, List, true, false, Some, None, IfOk, IfSome, IfNone, IsTrue, map, string_bytes};
-ghost use Rattle.std.specs.List.{AllByRecursion, list_any};
-ghost use Rattle.std.specs.Str.{bytes_eq};
+ghost use Rattle.std.specs.Prelude.{◌≡◌, ◌≢◌, ◌∷◌, [], ℕ, List, true, false, Some, None, IfOk, IfSome, IfNone, map, string_bytes};
 ghost use Rattle.clap.specs.Words.{app_of, fault_of, first_of, is_simple_and_free, rule_of};
 ghost use Rattle.command_words.specs.Options.{GivesNumber, IsNumberText, command_with, may_stand, must_stand};
 ghost use Rattle.command_words.specs.inner.Found.{Takes, rows_in};
@@ -112,18 +110,4 @@ fn number_of(text: &str) -> Option<u64>
         Ok(number) => Some(number),
         Err(_) => None,
     }
-}
-
-/// Whether the name is none of the others. No memory.
-pub(crate) fn differs_from(name: &str, others: &[&str]) -> bool
-    ensures { IsTrue result ↔ AllByRecursion (λ other. name.now ≢ other.now) others.now }
-{
-    !is_listed(others, name)
-}
-
-// Whether the word is one of those listed.
-fn is_listed(listed: &[&str], word: &str) -> bool
-    ensures { result ≡ list_any (λ other. bytes_eq word.now other.now) listed.now }
-{
-    listed.iter().any(|other| word == *other)
 }

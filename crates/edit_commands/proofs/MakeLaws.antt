@@ -2,6 +2,7 @@
 use Rattle.std.proofs.Common.{◌≡◌, ◌≢◌, ◌∙◌, List, ℕ, [], ◌∷◌, ap, inl, inr, sym}
 use Rattle.edit_desk.specs.Desk.{Files, PutsOnRecord, Told}
 use Rattle.command_words.specs.Asked.{MakeAsked}
+use Rattle.command_words.specs.FileNames.{AreApart, file_parts}
 use Rattle.run_parts.specs.Faults.{IsOfStores, fault_status}
 use Rattle.edit_commands.specs.MakeRun.{AreMade, IsMakeComplete, IsMakeStopped, IsMakeStored, IsSurveyMade, made_text, make_calls, make_files}
 use Rattle.run_parts.specs.Run.{AreStored, Run, faults_by}
@@ -14,11 +15,12 @@ use Rattle.edit_commands.proofs.EndLaws.{memory-left, raised-more}
 use Rattle.edit_commands.proofs.InputLaws.{IsBeside}
 
 -- where both files are stored, each stands there
-pub all-made : (asked : MakeAsked) (old new : Files) → asked.rules ≢ asked.records → AreStored (make_files asked) old new → AreMade asked old new
+pub all-made : (asked : MakeAsked) (old new : Files) → AreApart (asked.rules ∷ asked.records ∷ []) → AreStored (make_files asked) old new → AreMade asked old new
 all-made asked old new apart (first, rules, (second, records, same)) =
     let now : (name : List ℕ) → new name ≡ second name = λ name. ap (λ (f : Files). f name) same in
+    let rules-records : asked.rules ≢ asked.records = λ e. apart.0.0 (ap file_parts e) in
     record {
-      rules = now asked.rules ∙ records.1 asked.rules apart ∙ rules.0;
+      rules = now asked.rules ∙ records.1 asked.rules rules-records ∙ rules.0;
       records = now asked.records ∙ records.0;
       elsewhere = λ name no_rules no_records. now name ∙ records.1 name no_records ∙ rules.1 name no_rules;
     }
