@@ -3,13 +3,13 @@
 #
 # usage: bench/real_files.sh        (as root, since it mounts a disk of 1 MiB and runs as another user, by setpriv; else it leaves these out, and says so)
 #
-# For each name of each command: a folder, a file that is not there, one below a file, and one that the user may not read or write; then a folder in
+# For each two names of each command: one that leads to the file of the other, as `./records` does. For each name: a folder, a file that is not there, one below a file, and one that the user may not read or write; then a folder in
 # which nothing may be stored, a disk that is full, `/dev/full`, and output that is full, closed, or read by nobody. Each run has to end with the status
 # and the line that the README's table gives, with the files before the one that failed stored whole, that one with some first bytes or as it was,
 # and all later ones as they were. The last line counts the runs; the first that ends otherwise is printed, and ends the script with status 1.
 #
-# At the end stands what comes of one file under two names: the words of a command are compared as texts, so `./records`, a hard link and a
-# symbolic link to a file that is read, or to another that is written, are taken. What then holds is printed, and not judged.
+# At the end stands what comes of one file by a link: no name shows it, so a hard link and a symbolic link to a file that is read, or to another
+# that is written, are taken. What then holds is printed, and not judged.
 set -eu
 top=$(cd "$(dirname "$0")/.." && pwd)
 program=${PROGRAM:-$("$top/forxainde" --where)}      # another build, or the checkout's, which is built first where it is not

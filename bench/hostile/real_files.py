@@ -1,4 +1,4 @@
-"""Runs the program over real files that can't be read or written, and prints what comes of one file under two names.
+"""Runs the program over real files that can't be read or written, and over two names of one file: refused where the names show it, printed where only the disk knows.
 
 Usage: real_files.py PROGRAM
 """
@@ -213,8 +213,23 @@ def fill(file):
 
 
 def two_names(files):
-    """Prints what comes of a file that a command names twice, as itself and by another name."""
-    ways = {"./": lambda first: f"./{first}", "hard link": lambda first: link(files, os.link, first), "symbolic link": lambda first: link(files, os.symlink, first)}
+    """Two names of one command that lead to one file, as they show it: no file is read, and none is another then."""
+    for command, options in READ.items():
+        options = options + STORED[command]
+        for first in options:
+            for other in options:
+                for way in ("", "./", ".//", "././"):
+                    if first < other:
+                        files.renew()
+                        before = {name: files.read(name) for name in ("rules", "records", *STORED["edit"])}
+                        files.expect(command, {other: way + first}, 2, "fault: usage\n")
+                        if before != {name: files.read(name) for name in before}:
+                            files.fail(f"{command}: {other} was {way}{first}, and a file is another")
+
+
+def links(files):
+    """Prints what comes of a file that a command names twice, as itself and by a link, which no name shows."""
+    ways = {"hard link": lambda first: link(files, os.link, first), "symbolic link": lambda first: link(files, os.symlink, first)}
     for first, other in (("records", "released"), ("rules", "released"), ("rules", "proof"), ("proof", "reasons"), ("proof", "released"), ("reasons", "released")):
         for way, name in ways.items():
             files.renew()
@@ -244,10 +259,10 @@ def main():
         (pathlib.Path(folder) / "files").mkdir()
         program = shutil.copy(sys.argv[1], f"{folder}/program")       # where any user may run it
         files = Files(program, f"{folder}/files")
-        for group in (names_that_are_none, another_user, full_disks):
+        for group in (names_that_are_none, two_names, another_user, full_disks):
             group(files)
         print(f"{files.count} runs, each as it should be", flush=True)
-        two_names(files)
+        links(files)
 
 
 main()

@@ -186,6 +186,34 @@ The same name in two ways.
   $ words edit --rules r --records c --released d --reasons=r --proof p
   nothing
 
+Names that lead to one file: a dot in front, dots and slashes between the folders, and slashes behind. From the root, in a folder,
+or to a folder above, they lead elsewhere.
+
+  $ words edit --rules r --records c --released ./c --reasons w --proof p
+  nothing
+  $ words edit --rules ./r --records c --released d --reasons w --proof .//./r
+  nothing
+  $ words edit --rules r --records a/c --released d --reasons a//c --proof p
+  nothing
+  $ words edit --rules r --records c --released a/./d --reasons w --proof a/d/
+  nothing
+  $ words edit --rules r --records /c --released d --reasons //c --proof p
+  nothing
+  $ words edit --rules '' --records ./. --released d --reasons w --proof p
+  nothing
+  $ words edit --rules r --records c --released /c --reasons a/c --proof ../c
+  edit r c /c a/c ../c 1 1000000 1 5
+  $ words edit --rules .r --records r. --released ..r --reasons r/r --proof a/../r
+  edit .r r. ..r r/r a/../r 1 1000000 1 5
+  $ words check --rules r --records c --released d --proof ./d
+  nothing
+  $ words check --rules r --records ./c --released d --proof p
+  check r ./c d p
+  $ words make --rules r --records ./r
+  nothing
+  $ words make --rules a/r --records a/./r
+  nothing
+
 No command, or behind its options.
 
   $ words ''

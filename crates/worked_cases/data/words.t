@@ -110,6 +110,25 @@ An option without a value, with an empty one, with one that begins as an option 
   [2]
   $ calls
 
+Two names that lead to one file, so that one would be stored over the other, or over what was read.
+
+  $ forxainde edit --rules rules --records records --released ./records --reasons reasons --proof proof
+  fault: usage
+  [2]
+  $ forxainde edit --rules rules --records records --released released --reasons .//rules --proof proof
+  fault: usage
+  [2]
+  $ forxainde edit --rules rules --records records --released a/released --reasons reasons --proof a/./released
+  fault: usage
+  [2]
+  $ forxainde check --rules rules --records records --released ./rules --proof proof
+  fault: usage
+  [2]
+  $ forxainde make --rules rules --records ./rules
+  fault: usage
+  [2]
+  $ calls
+
 The options stand as `clap` takes them: with their values behind a sign of equality too, which may be empty or begin with a dash;
 a dash alone is a value, and two dashes may end the words.
 
