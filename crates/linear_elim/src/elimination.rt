@@ -103,6 +103,7 @@ pub fn reduced_step<L: Ledger>(
     ensures exact { Answers (λ v. v.items) told_step result (step_result lines.now field) }
     ensures counted { OnOk result (steps.new ≡ steps.old + pairs_count lines.now field) }
     ensures few { steps.new ≤ steps.old + pairs_count lines.now field }
+    ensures counts { steps.old ≤ steps.new }
 {
     let Some(head) = lines.first() else {
         return Ok(Vec::new(alloc));
@@ -126,6 +127,7 @@ fn combined_step<L: Ledger>(
     ensures exact { Answers (λ v. v.items) told_step result (step_result lines.now column.now.field) }
     ensures counted { OnOk result (steps.new ≡ steps.old + pairs_count lines.now column.now.field) }
     ensures few { steps.new ≤ steps.old + pairs_count lines.now column.now.field }
+    ensures counts { steps.old ≤ steps.new }
 {
     let Some(head) = lines.first() else {
         return Ok(flat.into_lines());
@@ -153,6 +155,7 @@ fn take_made<L: Ledger>(
     ensures exact { TakesIn told_step kept.old kept.new result (made_result lines.now column.now.field) }
     ensures counted { OnOk result (steps.new ≡ steps.old + pairs_count lines.now column.now.field) }
     ensures few { steps.new ≤ steps.old + pairs_count lines.now column.now.field }
+    ensures counts { steps.old ≤ steps.new }
 {
     match first_equality(column, lines) {
         Some(place) => take_substitutions(alloc, column, lines, place, line, kept, steps),
@@ -174,6 +177,7 @@ fn take_combinations<L: Ledger>(
     ensures exact { TakesIn told_step kept.old kept.new result (collect (row_result column.now.field lines.now) 0 lines.now) }
     ensures counted { OnOk result (steps.new ≡ steps.old + rows_count column.now.field lines.now lines.now) }
     ensures few { steps.new ≤ steps.old + rows_count column.now.field lines.now lines.now }
+    ensures counts { steps.old ≤ steps.new }
 {
     let uppers = upper_places(alloc, column, lines)?;
     for (first, derived) in lines.iter().enumerate() {
@@ -302,6 +306,7 @@ fn take_line<L: Ledger>(
     ensures exact { TakesIn told_step kept.old kept.new result (row_result column.now.field lines.now s.entry.place s.entry.derived.now) }
     ensures counted { OnOk result (steps.new ≡ steps.old + row_count column.now.field lines.now s.entry.derived.now) }
     ensures few { steps.new ≤ steps.old + row_count column.now.field lines.now s.entry.derived.now }
+    ensures counts { steps.old ≤ steps.new }
     ensures over { line.new.shape ≡ line.old.shape }
 {
     if column.is_lower(&s.derived.line) {
@@ -332,6 +337,7 @@ fn take_row<L: Ledger>(
         (collect (pairs_with column.now.field s.entry) 0 lines.now) }
     ensures counted { OnOk result (steps.new ≡ steps.old + opposites column.now.field s.entry.derived.now lines.now) }
     ensures few { steps.new ≤ steps.old + opposites column.now.field s.entry.derived.now lines.now }
+    ensures counts { steps.old ≤ steps.new }
     ensures over { line.new.shape ≡ line.old.shape }
 {
     for place in uppers {

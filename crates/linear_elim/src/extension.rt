@@ -37,6 +37,7 @@ pub fn extend<L: Ledger>(
     ensures overflow { IfErr result (λ fault. TellsOverflow system.now.edits (with_number system.now.fields field) fault) }
     ensures counted { OnOk result (steps.new ≡ steps.old + pairs_count system.now.lines field) }
     ensures few { steps.new ≤ steps.old + pairs_count system.now.lines field }
+    ensures counts { steps.old ≤ steps.new }
     ensures pairs { pairs_at system.now.edits (with_number system.now.fields field)
         ≡ pairs_at system.now.edits system.now.fields + pairs_count system.now.lines field }
 {

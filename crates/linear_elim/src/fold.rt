@@ -37,6 +37,7 @@ pub fn fold_system<L: Ledger>(
     ensures overflow { IfErr result (λ fault. TellsOverflow (arc_value edits.now) fields fault) }
     ensures counted { OnOk result (steps.new ≡ steps.old + pairs_at (arc_value edits.now) fields) }
     ensures few { steps.new ≤ steps.old + pairs_at (arc_value edits.now) fields }
+    ensures counts { steps.old ≤ steps.new }
 {
     match fold_lines(alloc, edits, fields, steps) {
         Ok(lines) => Ok(System::of(share(edits)?, fields, lines)),
@@ -63,6 +64,7 @@ fn fold_lines<L: Ledger>(
     ensures made { IfOk result (λ v. IsMade (parts_of_system edits.now fields v.items)) }
     ensures counted { OnOk result (steps.new ≡ steps.old + system_count edits.now.lines (chosen_fields edits.now.shape fields)) }
     ensures few { steps.new ≤ steps.old + system_count edits.now.lines (chosen_fields edits.now.shape fields) }
+    ensures counts { steps.old ≤ steps.new }
 {
     let shape = edits.shape();
     let base = edits.reduced();
@@ -119,6 +121,7 @@ fn next_lines<L: Ledger>(
     ensures counted { OnOk result (steps.new
         ≡ steps.old + fold_count (so_far base.now lines) (next_fields fields field count)) }
     ensures few { steps.new ≤ steps.old + fold_count (so_far base.now lines) (next_fields fields field count) }
+    ensures counts { steps.old ≤ steps.new }
 {
     if count > 0 || !fields.has(field) {
         return Ok(lines);

@@ -56,6 +56,7 @@ pub(crate) fn take_substitutions<L: Ledger>(
     ensures exact { TakesIn told_step kept.old kept.new result (made_result lines.now column.now.field) }
     ensures counted { OnOk result (steps.new ≡ steps.old + pairs_count lines.now column.now.field) }
     ensures few { steps.new ≤ steps.old + pairs_count lines.now column.now.field }
+    ensures counts { steps.old ≤ steps.new }
 {
     match lines.get(place) {
         None => Ok(()),
@@ -83,6 +84,7 @@ fn take_each<L: Ledger>(
     ensures exact { TakesIn told_step kept.old kept.new result (collect (substituted_with column.now.field e.entry) 0 lines.now) }
     ensures counted { OnOk result (steps.new ≡ steps.old + substituted_count column.now.field e.entry.place 0 lines.now) }
     ensures few { steps.new ≤ steps.old + substituted_count column.now.field e.entry.place 0 lines.now }
+    ensures counts { steps.old ≤ steps.new }
 {
     for (place, derived) in lines.iter().enumerate() {
         let t = Placed { place, derived };

@@ -46,6 +46,7 @@ pub trait Systems {
         ensures fields { IfOk result (λ held. (system_held held).fields ≡ fields) }
         ensures exact { Answers (λ held. (system_held held).lines) told_system result (system_at (arc_value edits.now) fields) }
         ensures few { steps.new ≤ steps.old + pairs_at (arc_value edits.now) fields }
+        ensures counts { steps.old ≤ steps.new }
         ensures serves { (e : EditsParts) → serves self.old e → serves self.new e }
         ensures keeps { (f : ℕ) → keeps self.old f ≡ true → keeps self.new f ≡ true }
         ensures kept { OnOk result (keeps self.new fields ≡ true) };
@@ -67,6 +68,7 @@ pub trait Systems {
         ensures exact { Answers (λ held. (system_held held).lines) told_system result
             (system_at before.now.edits (with_number before.now.fields field)) }
         ensures few { steps.new ≤ steps.old + pairs_count before.now.lines field }
+        ensures counts { steps.old ≤ steps.new }
         ensures serves { (e : EditsParts) → serves self.old e → serves self.new e }
         ensures keeps { (f : ℕ) → keeps self.old f ≡ true → keeps self.new f ≡ true }
         ensures kept { OnOk result (keeps self.new (with_number before.now.fields field) ≡ true) };
@@ -96,6 +98,7 @@ impl Systems for Recompute {
         ensures exact { Answers (λ held. (system_held held).lines) told_system result (system_at (arc_value edits.now) fields) }
         ensures counted { OnOk result (steps.new ≡ steps.old + pairs_at (arc_value edits.now) fields) }
         ensures few { steps.new ≤ steps.old + pairs_at (arc_value edits.now) fields }
+        ensures counts { steps.old ≤ steps.new }
     {
         match fold_system(alloc, edits, fields, steps) {
             Ok(system) => Ok(Held::Own(system)),
@@ -118,6 +121,7 @@ impl Systems for Recompute {
             (system_at before.now.edits (with_number before.now.fields field)) }
         ensures counted { OnOk result (steps.new ≡ steps.old + pairs_count before.now.lines field) }
         ensures few { steps.new ≤ steps.old + pairs_count before.now.lines field }
+        ensures counts { steps.old ≤ steps.new }
     {
         match extend(alloc, before, field, steps) {
             Ok(system) => Ok(Held::Own(system)),

@@ -16,6 +16,7 @@ loop-first-preserved g c =
       collect-more each lines whole c.loop-first.first s c.loop-first.kept c.take_line.new.kept c.loop-first-test.true c.index-lines-first.is c.loop-first.invariant.0 c.in-Ok.ensures.exact,
       omega (arith, count, c.loop-first.invariant.1, c.in-Ok.ensures.counted),
       c.take_line.ensures.over ∙ c.loop-first.invariant.2,
+      omega (arith, c.loop-first.invariant.3, c.take_line.ensures.counts),
     )
 
 pub returns-in-Err-clause-exact : goal.returns-in-Err-clause-exact

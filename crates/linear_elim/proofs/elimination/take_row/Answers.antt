@@ -20,6 +20,7 @@ loop-place-preserved g c =
       places-more each lines places whole i c.loop-place.kept c.loop-place.invariant.0 c.take_at.new.kept c.loop-place-test.true c.in-Ok.ensures.exact,
       omega (arith, count, c.loop-place.invariant.1, c.take_at.ensures.counted),
       c.take_at.ensures.over ∙ c.loop-place.invariant.2,
+      omega (arith, c.loop-place.invariant.3, c.take_at.ensures.counted),
     )
 
 pub returns-in-Err-clause-exact : goal.returns-in-Err-clause-exact

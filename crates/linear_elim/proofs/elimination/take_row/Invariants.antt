@@ -1,4 +1,4 @@
-use Rattle.std.proofs.Common.{◌≡◌, ◌+◌, drop}
+use Rattle.std.proofs.Common.{◌≡◌, ◌≤◌, ◌+◌, drop}
 use Rattle.linear_elim.specs.Steps.{is_opposite, pair_result}
 use Rattle.linear_elim.specs.inner.Taken.{taken_in}
 use Rattle.linear_elim.specs.inner.Uppers.{collect_at, count_at}
@@ -9,3 +9,4 @@ invariant-loop-place g l =
     (taken_in l.kept (collect_at (pair_result l.column.field l.s.place l.s.derived.now) l.lines (drop l.place-index l.uppers)) ≡ taken_in l.initial.kept (collect_at (pair_result l.column.field l.s.place l.s.derived.now) l.lines l.uppers))
     × (l.steps + count_at (is_opposite l.column.field l.s.derived.now.line) l.lines (drop l.place-index l.uppers) ≡ l.initial.steps + count_at (is_opposite l.column.field l.s.derived.now.line) l.lines l.uppers)
     × (l.line.shape ≡ l.initial.line.shape)
+    × (l.initial.steps ≤ l.steps)

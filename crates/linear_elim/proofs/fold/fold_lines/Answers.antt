@@ -24,6 +24,7 @@ loop-field-init g c =
       ap (λ (n : ℕ). c.args.steps.now + n) (ap (λ (ls : List Derived). fold_count ls (chosen_from c.args.fields c.code_counts-count-items.result.now 0)) is ∙ ap (λ (fs : List ℕ). fold_count base fs) chosen),
       start_over edits start c.reduced-base.ensures.kept,
       own-start (base_lines edits.lines) start is,
+      omega (arith),
     )
 
 pub next_lines-requires-clause-shape : goal.next_lines-requires-clause-shape
@@ -43,6 +44,7 @@ loop-field-preserved g c =
       omega (arith, count, c.in-Ok.ensures.counted, c.loop-field.invariant.1),
       HaveShape-folded c.args.edits.now.shape lines (chosen_here fields k i) next is c.loop-field.invariant.2,
       own-folded lines (chosen_here fields k i) next is c.loop-field.invariant.3,
+      omega (arith, c.loop-field.invariant.4, c.next_lines.ensures.counts),
     )
 
 pub returns-in-Err-clause-exact : goal.returns-in-Err-clause-exact

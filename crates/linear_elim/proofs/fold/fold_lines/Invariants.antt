@@ -1,4 +1,4 @@
-use Rattle.std.proofs.Common.{◌≡◌, ◌+◌}
+use Rattle.std.proofs.Common.{◌≡◌, ◌≤◌, ◌+◌}
 use Rattle.edit_line.specs.Lines.{HaveShape}
 use Rattle.edit_line.specs.Reductions.{AreOwn, lines_of}
 use Rattle.linear_elim.specs.Systems.{chosen_fields, fold_count, fold_result, system_at, system_count}
@@ -12,3 +12,4 @@ invariant-loop-field g l =
     × (l.steps + fold_count (so_far l.base l.lines) (chosen_from l.fields l.count-items l.field) ≡ l.initial.steps + system_count l.edits.lines (chosen_fields l.edits.shape l.fields))
     × HaveShape l.edits.shape (lines_of (so_far l.base l.lines))
     × AreOwn (lines_of (so_far l.base l.lines))
+    × (l.initial.steps ≤ l.steps)

@@ -16,6 +16,7 @@ loop-place-preserved g c =
       collect-more each lines whole c.loop-place.place s c.loop-place.kept c.take_substitution.new.kept c.loop-place-test.true c.index-lines-place.is c.loop-place.invariant.0 c.in-Ok.ensures.exact,
       omega (arith, count, c.loop-place.invariant.1, c.take_substitution.ensures.counted),
       c.take_substitution.ensures.over ∙ c.loop-place.invariant.2,
+      omega (arith, c.loop-place.invariant.3, c.take_substitution.ensures.counted),
     )
 
 pub returns-in-Err-clause-exact : goal.returns-in-Err-clause-exact
