@@ -1,5 +1,5 @@
 //! The values that are given to fields of a record, one after the other.
-ghost use Rattle.std.specs.Prelude.{◌≡◌, ◌≢◌, Err, List, Ok, OnOk, option_copied, reverse, true, ℕ};
+ghost use Rattle.std.specs.Prelude.{◌≡◌, ◌≤◌, ◌≢◌, Err, List, Ok, OnOk, option_copied, reverse, true, ℕ};
 ghost use Rattle.std.specs.Arc.{arc_value};
 ghost use Rattle.edit_line.specs.EditSets.{EditsParts};
 ghost use Rattle.edit_line.specs.Lines.{HaveShape};
@@ -51,6 +51,7 @@ pub(crate) fn give_numbers<S: Systems, L: Ledger>(
     ensures test { (rule : ℕ) → result ≢ Err (fault.Test rule) }
     ensures serves { (e : EditsParts) → S.serves source.old e → S.serves source.new e }
     ensures keeps { (f : ℕ) → S.keeps source.old f ≡ true → S.keeps source.new f ≡ true }
+    ensures counts { steps.old ≤ steps.new }
 {
     let mut left = set_of(order);
     for field in order {

@@ -59,6 +59,7 @@ pub fn give<S: Systems, L: Ledger>(
     ensures due { IsDue result (λ due. StopsThere survey.now (arc_value edits.now) row.now changed (option_copied donor.entry) due) }
     ensures serves { (e : EditsParts) → S.serves source.old e → S.serves source.new e }
     ensures keeps { (f : ℕ) → S.keeps source.old f ≡ true → S.keeps source.new f ≡ true }
+    ensures counts { steps.old ≤ steps.new }
 {
     case_known(survey, edits, row);
     let new = match imputed(alloc, source, survey, edits, row, changed, donor, steps) {
@@ -99,6 +100,7 @@ fn imputed<S: Systems, L: Ledger>(
         (λ rule. StopsAtRule survey.now (arc_value edits.now) row.now changed (option_copied donor.entry) rule) }
     ensures serves { (e : EditsParts) → S.serves source.old e → S.serves source.new e }
     ensures keeps { (f : ℕ) → S.keeps source.old f ≡ true → S.keeps source.new f ≡ true }
+    ensures counts { steps.old ≤ steps.new }
 {
     let codes = chosen_backwards(alloc, survey.codes(), changed)?;
     let numbers = chosen_backwards(alloc, survey.numbers(), changed)?;
@@ -140,6 +142,7 @@ fn with_codes<S: Systems, L: Ledger>(
         (option_copied donor.entry) row.now codes.now numbers.now r) }
     ensures serves { (e : EditsParts) → S.serves source.old e → S.serves source.new e }
     ensures keeps { (f : ℕ) → S.keeps source.old f ≡ true → S.keeps source.new f ≡ true }
+    ensures counts { steps.old ≤ steps.new }
 {
     let mut new = blanked(alloc, survey, row, changed)?;
     if codes.is_empty() {

@@ -1,5 +1,5 @@
 //! The number that is given to a numerical field.
-ghost use Rattle.std.specs.Prelude.{◌≡◌, ◌≢◌, All, Err, IfOk, List, Ok, true, ℕ};
+ghost use Rattle.std.specs.Prelude.{◌≡◌, ◌≤◌, ◌≢◌, All, Err, IfOk, List, Ok, true, ℕ};
 ghost use Rattle.std.specs.Arc.{arc_value};
 ghost use Rattle.fraction128.specs.Formulas.{ratio_of};
 ghost use Rattle.edit_model.specs.Rows.{IsRow, value_of};
@@ -53,6 +53,7 @@ pub(crate) fn number_for<S: Systems, L: Ledger>(
     ensures test { (rule : ℕ) → result ≢ Err (fault.Test rule) }
     ensures serves { (e : EditsParts) → S.serves source.old e → S.serves source.new e }
     ensures keeps { (f : ℕ) → S.keeps source.old f ≡ true → S.keeps source.new f ≡ true }
+    ensures counts { steps.old ≤ steps.new }
 {
     let held = match source.system(alloc, edits, left, steps) {
         Ok(held) => held,

@@ -1,5 +1,5 @@
 //! Records at which all lines hold: the path that keeps every field is taken at once, and none of its beginnings.
-ghost use Rattle.std.specs.Prelude.{◌≡◌, ◌<◌, ℕ, All, IfOk, IfSome, OnOk, length, true};
+ghost use Rattle.std.specs.Prelude.{◌≡◌, ◌≤◌, ◌<◌, ℕ, All, IfOk, IfSome, OnOk, length, true};
 ghost use Rattle.std.specs.Arc.{arc_value};
 ghost use Rattle.std.specs.List.{list_any};
 ghost use Rattle.edit_line.specs.EditSets.{EditsParts};
@@ -42,6 +42,7 @@ pub(crate) fn unchanged<S: Systems, L: Ledger>(
         (KeepsChange (S.keeps source.new) (case_of survey.now (arc_value edits.now) row.now))) }
     ensures serves { (e : EditsParts) → S.serves source.old e → S.serves source.new e }
     ensures keeps { (f : ℕ) → S.keeps source.old f ≡ true → S.keeps source.new f ≡ true }
+    ensures counts { steps.old ≤ steps.new }
 {
     case_known(survey, edits, row);
     if survey.fields().len() as u64 >= budget || !holds_throughout(survey, edits, row) {
@@ -62,6 +63,7 @@ fn ask_for_start<S: Systems, L: Ledger>(
     ensures kept { OnOk result (S.keeps source.new 0 ≡ true) }
     ensures serves { (e : EditsParts) → S.serves source.old e → S.serves source.new e }
     ensures keeps { (f : ℕ) → S.keeps source.old f ≡ true → S.keeps source.new f ≡ true }
+    ensures counts { steps.old ≤ steps.new }
 {
     match source.system(alloc, edits, FieldSet::empty(), steps) {
         Ok(_) => Ok(()),

@@ -1,4 +1,4 @@
-ghost use Rattle.std.specs.Prelude.{◌≡◌, ℕ, IfOk, true};
+ghost use Rattle.std.specs.Prelude.{◌≡◌, ◌≤◌, ℕ, IfOk, true};
 ghost use Rattle.std.specs.Arc.{arc_value};
 ghost use Rattle.std.specs.List.{AllByRecursion};
 ghost use Rattle.edit_line.specs.EditSets.{EditsParts};
@@ -65,6 +65,7 @@ pub fn localise<S: Systems, L: Ledger>(
     ensures kept { IfOk result (KeepsChange (S.keeps source.new) (case_of survey.now (arc_value edits.now) row.now)) }
     ensures serves { (e : EditsParts) → S.serves source.old e → S.serves source.new e }
     ensures keeps { (f : ℕ) → S.keeps source.old f ≡ true → S.keeps source.new f ≡ true }
+    ensures counts { steps.old ≤ steps.new }
 {
     case_known(survey, edits, row);
     found(alloc, source, survey, edits, row, budget, steps)
@@ -87,6 +88,7 @@ fn found<S: Systems, L: Ledger>(
     ensures kept { IfOk result (KeepsChange (S.keeps source.new) (case_of survey.now (arc_value edits.now) row.now)) }
     ensures serves { (e : EditsParts) → S.serves source.old e → S.serves source.new e }
     ensures keeps { (f : ℕ) → S.keeps source.old f ≡ true → S.keeps source.new f ≡ true }
+    ensures counts { steps.old ≤ steps.new }
 {
     if let Some(outcome) = unchanged(alloc, source, survey, edits, row, budget, steps)? {
         return Ok(outcome);
@@ -116,6 +118,7 @@ fn search<S: Systems, L: Ledger>(
     ensures kept { IfOk result (KeepsChange (S.keeps source.new) (case_in problem.now)) }
     ensures serves { (e : EditsParts) → S.serves source.old e → S.serves source.new e }
     ensures keeps { (f : ℕ) → S.keeps source.old f ≡ true → S.keeps source.new f ≡ true }
+    ensures counts { steps.old ≤ steps.new }
 {
     let mut taken = Vec::new(alloc);
     let mut spent = 0;
@@ -173,6 +176,7 @@ fn end_by<S: Systems, L: Ledger>(
     ensures end { IfOk result (λ end. end ≡ end_by (case_in problem.now) (taken_paths taken.now) node.now.path state) }
     ensures serves { (e : EditsParts) → S.serves source.old e → S.serves source.new e }
     ensures keeps { (f : ℕ) → S.keeps source.old f ≡ true → S.keeps source.new f ≡ true }
+    ensures counts { steps.old ≤ steps.new }
 {
     match state {
         PathState::Overflows(event) => Ok(Some(Outcome::Overflow {
@@ -215,6 +219,7 @@ fn change_certificate<S: Systems, L: Ledger>(
     ensures leaves { IfOk result (λ cert. cert.leaves ≡ certificate_of (case_in problem.now) (taken_for weight (taken_paths taken.now))) }
     ensures serves { (e : EditsParts) → S.serves source.old e → S.serves source.new e }
     ensures keeps { (f : ℕ) → S.keeps source.old f ≡ true → S.keeps source.new f ≡ true }
+    ensures counts { steps.old ≤ steps.new }
 {
     if weight > 0 {
         certificate(alloc, source, problem, taken, steps)

@@ -36,6 +36,7 @@ pub(crate) fn certificate<S: Systems, L: Ledger>(
     ensures leaves { IfOk result (λ cert. cert.leaves ≡ certificate_of (case_in problem.now) (taken_paths taken.now)) }
     ensures serves { (e : EditsParts) → S.serves source.old e → S.serves source.new e }
     ensures keeps { (f : ℕ) → S.keeps source.old f ≡ true → S.keeps source.new f ≡ true }
+    ensures counts { steps.old ≤ steps.new }
 {
     let known = Known {
         taken,
@@ -86,6 +87,7 @@ fn push_leaves<S: Systems, L: Ledger>(
         (leaves.new.items ≡ leaves.old.items ++ leaves_below (case_in problem.now) (taken_paths known.now.taken.now) letters.old.items) }
     ensures serves { (e : EditsParts) → S.serves source.old e → S.serves source.new e }
     ensures keeps { (f : ℕ) → S.keeps source.old f ≡ true → S.keeps source.new f ≡ true }
+    ensures counts { steps.old ≤ steps.new }
 {
     let Some(taken) = taken_path(known, letters) else {
         push_leaf(alloc, letters, LeafWhy::Bound, leaves)?;

@@ -55,6 +55,7 @@ pub(crate) fn first_end<S: Systems, L: Ledger>(
     ensures kept { IfOk result (λ ends. AreKept (S.keeps source.new) (case_in problem.now) ends.items) }
     ensures serves { (e : EditsParts) → S.serves source.old e → S.serves source.new e }
     ensures keeps { (f : ℕ) → S.keeps source.old f ≡ true → S.keeps source.new f ≡ true }
+    ensures counts { steps.old ≤ steps.new }
 {
     match system_along(alloc, source, problem, &[], steps) {
         Ok(held) => Ok(one_end(alloc, held)?),

@@ -62,6 +62,7 @@ pub fn push_lists<S: Systems, L: Ledger>(
     ensures grown { OnOk result (HasMore levels.old.items levels.new.items) }
     ensures serves { (e : EditsParts) → S.serves source.old e → S.serves source.new e }
     ensures keeps { (f : ℕ) → S.keeps source.old f ≡ true → S.keeps source.new f ≡ true }
+    ensures counts { steps.old ≤ steps.new }
 {
     if letters.len() <= number_count(problem) {
         push_lines(alloc, source, problem, letters, bases.own, levels, steps)?;
@@ -93,6 +94,7 @@ fn push_lines<S: Systems, L: Ledger>(
     ensures grown { OnOk result (HasMore levels.old.items levels.new.items) }
     ensures serves { (e : EditsParts) → S.serves source.old e → S.serves source.new e }
     ensures keeps { (f : ℕ) → S.keeps source.old f ≡ true → S.keeps source.new f ≡ true }
+    ensures counts { steps.old ≤ steps.new }
 {
     if !letters.is_empty() && !letters[letters.len() - 1] {
         return Ok(());
@@ -118,6 +120,7 @@ fn push_system<S: Systems, L: Ledger>(
     ensures grown { OnOk result (HasMore levels.old.items levels.new.items) }
     ensures serves { (e : EditsParts) → S.serves source.old e → S.serves source.new e }
     ensures keeps { (f : ℕ) → S.keeps source.old f ≡ true → S.keeps source.new f ≡ true }
+    ensures counts { steps.old ≤ steps.new }
 {
     match own_system(alloc, source, problem, letters, own, steps) {
         Ok(system) => {
@@ -144,6 +147,7 @@ fn own_system<S: Systems, L: Ledger>(
     ensures exact { Answers shared_lines told_system result (path_system (case_in problem.now) letters.now) }
     ensures serves { (e : EditsParts) → S.serves source.old e → S.serves source.new e }
     ensures keeps { (f : ℕ) → S.keeps source.old f ≡ true → S.keeps source.new f ≡ true }
+    ensures counts { steps.old ≤ steps.new }
 {
     if let Some(Basis::Lines(system)) = own {
         return Ok(share(system)?);
@@ -173,6 +177,7 @@ fn push_first_boxes<S: Systems, L: Ledger>(
     ensures grown { OnOk result (HasMore levels.old.items levels.new.items) }
     ensures serves { (e : EditsParts) → S.serves source.old e → S.serves source.new e }
     ensures keeps { (f : ℕ) → S.keeps source.old f ≡ true → S.keeps source.new f ≡ true }
+    ensures counts { steps.old ≤ steps.new }
 {
     let before = &letters[..letters.len() - 1];
     let boxes = record_boxes(alloc, source, problem, before, parent, steps)?;
@@ -197,6 +202,7 @@ fn record_boxes<S: Systems, L: Ledger>(
     ensures boxes { IfOk result (λ boxes. arc_value boxes ≡ boxes_along (case_in problem.now) letters.now) }
     ensures serves { (e : EditsParts) → S.serves source.old e → S.serves source.new e }
     ensures keeps { (f : ℕ) → S.keeps source.old f ≡ true → S.keeps source.new f ≡ true }
+    ensures counts { steps.old ≤ steps.new }
 {
     if let Some(Basis::Boxes(boxes)) = own {
         return Ok(Arc::try_clone(boxes)?);
@@ -276,6 +282,7 @@ fn first_boxes<S: Systems, L: Ledger>(
     ensures boxes { IfOk result (λ boxes. boxes ≡ first_boxes (case_in problem.now) letters.now) }
     ensures serves { (e : EditsParts) → S.serves source.old e → S.serves source.new e }
     ensures keeps { (f : ℕ) → S.keeps source.old f ≡ true → S.keeps source.new f ≡ true }
+    ensures counts { steps.old ≤ steps.new }
 {
     match system_along(alloc, source, problem, letters, steps) {
         Ok(held) => boxes_of_lines(alloc, problem, held.system().lines()),

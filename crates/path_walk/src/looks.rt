@@ -101,6 +101,7 @@ pub fn look_into<S: Systems, L: Ledger>(
     ensures kept { IfOk result (KeepsOpen (S.keeps source.new) (case_in problem.now) path.now) }
     ensures serves { (e : EditsParts) → S.serves source.old e → S.serves source.new e }
     ensures keeps { (f : ℕ) → S.keeps source.old f ≡ true → S.keeps source.new f ≡ true }
+    ensures counts { steps.old ≤ steps.new }
 {
     if most == 0 {
         return Ok(None);

@@ -56,6 +56,7 @@ pub(crate) fn look_at_numbers<S: Systems, L: Ledger>(
     ensures kept { IfOk result (KeepsOpen (S.keeps source.new) (case_in problem.now) path.now) }
     ensures serves { (e : EditsParts) → S.serves source.old e → S.serves source.new e }
     ensures keeps { (f : ℕ) → S.keeps source.old f ≡ true → S.keeps source.new f ≡ true }
+    ensures counts { steps.old ≤ steps.new }
 {
     let pairs = last_pairs(problem, path.letters(), system.system().lines());
     if pairs >= u128::from(most) {
@@ -80,6 +81,7 @@ pub fn system_along<S: Systems, L: Ledger>(
     ensures kept { OnOk result (KeepsChanged (S.keeps source.new) (case_in problem.now) letters.now) }
     ensures serves { (e : EditsParts) → S.serves source.old e → S.serves source.new e }
     ensures keeps { (f : ℕ) → S.keeps source.old f ≡ true → S.keeps source.new f ≡ true }
+    ensures counts { steps.old ≤ steps.new }
 {
     let fields = changed_numbers(problem, letters);
     source.system(alloc, problem.edits, fields, steps)
@@ -129,6 +131,7 @@ fn looked_at<S: Systems, L: Ledger>(
     ensures kept { IfOk result (λ look. look.state ≡ Open → KeepsChanged (S.keeps source.new) (case_in problem.now) path.now) }
     ensures serves { (e : EditsParts) → S.serves source.old e → S.serves source.new e }
     ensures keeps { (f : ℕ) → S.keeps source.old f ≡ true → S.keeps source.new f ≡ true }
+    ensures counts { steps.old ≤ steps.new }
 {
     if path.keeps_bad(problem.survey, problem.row) {
         return ended(work, PathState::ClosedBad, system);
@@ -186,6 +189,7 @@ fn next_system<S: Systems, L: Ledger>(
     ensures kept { OnOk result (KeepsChanged (S.keeps source.new) (case_in problem.now) letters.now) }
     ensures serves { (e : EditsParts) → S.serves source.old e → S.serves source.new e }
     ensures keeps { (f : ℕ) → S.keeps source.old f ≡ true → S.keeps source.new f ≡ true }
+    ensures counts { steps.old ≤ steps.new }
 {
     if !ends_changed(letters) {
         return Ok(share(before)?);
@@ -217,6 +221,7 @@ fn changed_system<S: Systems, L: Ledger>(
     ensures kept { OnOk result (KeepsChanged (S.keeps source.new) (case_in problem.now) letters.now) }
     ensures serves { (e : EditsParts) → S.serves source.old e → S.serves source.new e }
     ensures keeps { (f : ℕ) → S.keeps source.old f ≡ true → S.keeps source.new f ≡ true }
+    ensures counts { steps.old ≤ steps.new }
 {
     let field = problem.survey.path_field((letters.len() - 1) as u32);
     source.system_after(alloc, before, field, steps)

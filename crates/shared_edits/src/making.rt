@@ -34,6 +34,7 @@ impl Pool {
         ensures few { steps.new ≤ steps.old + pairs_at self.now.edits fields }
         ensures onwards { (first : ℕ) → IsFirstOf first fields → Knows self.now first (map walked_of entries.now)
             → steps.new + pairs_at self.now.edits first ≤ steps.old + pairs_at self.now.edits fields }
+        ensures counts { steps.old ≤ steps.new }
     {
         let Some(last) = last_field(self.edits(), fields) else {
             return fold_system(alloc, self.edits(), fields, steps);
@@ -64,6 +65,7 @@ fn with_last<L: Ledger>(
     ensures fields { IfOk result (λ system. system.fields ≡ fields) }
     ensures exact { Answers (λ system. system.lines) told_system result (system_at others.now.edits fields) }
     ensures few { steps.new + pairs_at others.now.edits (without_number fields last) ≤ steps.old + pairs_at others.now.edits fields }
+    ensures counts { steps.old ≤ steps.new }
 {
     extend(alloc, others, last, steps)
 }

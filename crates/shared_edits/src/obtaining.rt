@@ -46,6 +46,7 @@ impl Pool {
         ensures onwards { (first : ℕ) → IsFirstOf first fields → Knows self.now first reader.old
             → steps.new + pairs_at self.now.edits first ≤ steps.old + pairs_at self.now.edits fields }
         ensures known { Knows self.now fields reader.old → steps.new ≡ steps.old }
+        ensures counts { steps.old ≤ steps.new }
     {
         if let Some(system) = self.find(reader, fields) {
             return Ok(Held::Shared(share(system)?));
@@ -80,6 +81,7 @@ impl Pool {
         ensures refused { OnErr result (WalksOn reader.old reader.new) }
         ensures few { steps.new ≤ steps.old + pairs_count before.now.lines field }
         ensures known { Knows self.now (with_number before.now.fields field) reader.old → steps.new ≡ steps.old }
+        ensures counts { steps.old ≤ steps.new }
     {
         if let Some(system) = self.find(reader, before.fields_with(field)) {
             return Ok(Held::Shared(share(system)?));

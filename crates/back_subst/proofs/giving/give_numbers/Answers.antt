@@ -28,6 +28,7 @@ loop-field-init g c = (
   c.set_of-left.ensures,
   λ row given way. subst (λ fs. IsUnderWay c.args.survey.now (start_lines (arc_value c.args.edits.now)) (target_of (option_copied c.args.donor)) row fs c.args.order.now c.args.new.now) (sym (append-nil given)) way,
   tt,
+  omega (arith),
 )
 
 -- what is known of the field when it is left no more
@@ -118,6 +119,7 @@ loop-field-preserved g c =
       subst (λ r. AreComputedBy (start_lines e) target r (take (i + 1) order) (drop (i + 1) order)) (sym c.set.ensures.set)
           (computed-turned survey e c.requires.order.0 order c.requires.order.1 i c.loop-field-test.true target c.requires.way.0 c.loop-field.new c.requires.way.1 (way g at) c.requires.shape c.without-left.result (left-is g at)
           c.requires.over c.in-Ok.x found c.loop-field.invariant.4),
+      omega (arith, c.loop-field.invariant.5, c.number_for.ensures.counts),
     )
 
 pub returns-in-Err-clause-bound : goal.returns-in-Err-clause-bound

@@ -1,4 +1,4 @@
-use Rattle.std.proofs.Common.{◌≡◌, ◌++◌, true, ℕ, List, drop, option_copied, take}
+use Rattle.std.proofs.Common.{◌≡◌, ◌≤◌, ◌++◌, true, ℕ, List, drop, option_copied, take}
 use Rattle.std.specs.Arc.{arc_value}
 use Rattle.edit_model.specs.FieldSets.{has_number}
 use Rattle.edit_model.specs.declared.value.Value.{Value}
@@ -16,3 +16,4 @@ invariant-loop-field g l =
     → IsUnderWay l.survey (start_lines (arc_value l.edits)) (target_of (option_copied l.donor)) row given l.order l.initial.new
     → IsUnderWay l.survey (start_lines (arc_value l.edits)) (target_of (option_copied l.donor)) row (given ++ take l.field-index l.order) (drop l.field-index l.order) l.new)
     × AreComputedBy (start_lines (arc_value l.edits)) (target_of (option_copied l.donor)) l.new (take l.field-index l.order) (drop l.field-index l.order)
+    × (l.initial.steps ≤ l.steps)

@@ -1,4 +1,4 @@
-use Rattle.std.proofs.Common.{◌≡◌, ◌≤◌, ◌-◌, ◌++◌, [], ◌∷◌, Bool, List, Option, IfSome, ap, ◌∙◌, subst}
+use Rattle.std.proofs.Common.{◌≡◌, ◌≤◌, ◌-◌, ◌++◌, [], ◌∷◌, Bool, List, Option, IfSome, ap, ◌∙◌, subst, arith}
 use Rattle.bound_cert.specs.declared.outcome.Outcome.TheVariants as outcome
 use Rattle.edit_paths.specs.declared.state.PathState.TheVariants.{Open}
 use Rattle.path_walk.specs.KeptFields.{KeepsChanged}
@@ -49,6 +49,7 @@ loop-node-preserved g c =
           (kept-later (case_in c.args.problem.now) (g.S.Systems.keeps c.loop-node.source) (g.S.Systems.keeps c.end_by.new.source) (λ f h. c.in_ok-outcome.ensures.keeps f (c.in_ok-look.ensures.keeps f h)) c.take_first.new.ends.items rest),
       λ e h. c.in_ok-outcome.ensures.serves e (c.in_ok-look.ensures.serves e (c.loop-node.invariant.2 e h)),
       λ f h. c.in_ok-outcome.ensures.keeps f (c.in_ok-look.ensures.keeps f (c.loop-node.invariant.3 f h)),
+      omega (arith, c.loop-node.invariant.4, c.in_ok-look.ensures.counts, c.in_ok-outcome.ensures.counts),
     )
 
 pub lead_on-requires-clause-order : goal.lead_on-requires-clause-order
