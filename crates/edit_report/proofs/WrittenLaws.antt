@@ -1,6 +1,5 @@
 -- What is written of one record after the other.
-use Rattle.std.proofs.Common.{◌≡◌, ℕ, zero, suc, ◌+◌, ◌<◌, ◌≤◌, List, [], ◌∷◌, ◌++◌, drop, Option, Result, Ok, Err, get_or, length, refl, sym, ap, ◌∙◌, append_assoc, subst, arith}
-use Rattle.std.specs.Prelude.{IfOk}
+use Rattle.std.proofs.Common.{◌≡◌, ℕ, zero, suc, ◌+◌, ◌<◌, ◌≤◌, List, [], ◌∷◌, ◌++◌, drop, Option, get_or, length, refl, sym, ap, ◌∙◌, append_assoc, subst, arith}
 use Rattle.std.specs.List.{AllByRecursion}
 use Rattle.std.proofs.lemmas.List.{append-nil, drop_all}
 use Rattle.edit_model.specs.declared.field.Field.{Field}
@@ -19,11 +18,6 @@ pub each-at : {X : Type 0} (P : X → Type 0) (xs : List X) (i : ℕ) (x : X) �
 each-at P [] i x all below is = absurd (omega arith)
 each-at P (y ∷ xs) zero x all below is = subst P (sym is) all.0
 each-at P (y ∷ xs) (suc i) x all below is = each-at P xs i x all.1 (omega arith) is
-
--- what follows of an answer that is there
-pub ok-then : {R E : Type 0} (r : Result R E) (P Q : R → Type 0) → IfOk r P → ((x : R) → P x → Q x) → IfOk r Q
-ok-then (Ok x) P Q held then = then x held
-ok-then (Err e) P Q held then = tt
 
 -- the first records, and then the others
 then-rest : (text : List ℕ) (first rest : List (List (List ℕ))) → (text ++ records_text first) ++ records_text rest ≡ text ++ records_text (first ++ rest)

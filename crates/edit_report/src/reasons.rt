@@ -1,12 +1,12 @@
 //! The reasons file.
-ghost use Rattle.std.specs.Prelude.{◌≡◌, ◌<◌, ◌∷◌, [], ℕ, List, IfOk, OnOk, length};
+ghost use Rattle.std.specs.Prelude.{◌≡◌, ◌<◌, ◌++◌, ◌∷◌, [], ℕ, List, IfOk, OnOk, length};
 ghost use Rattle.record_text.specs.Sheets.{IsSheet};
-ghost use Rattle.record_text.specs.Written.{HasWritten};
+ghost use Rattle.record_text.specs.Texts.{records_text};
 ghost use Rattle.edit_model.specs.Rows.{IsRow};
 ghost use Rattle.edit_report.specs.Ends.{AreEnds, IsEnd, IsGift, path_found};
 ghost use Rattle.edit_report.specs.Reasons.{line_texts, donor_text, how_text, reasons_header, reasons_text_of, unresolved_line};
 ghost use Rattle.edit_report.specs.inner.Columns.{IsLayout};
-ghost use Rattle.edit_report.specs.inner.Lines.{Adds, field_line, gift_lines, record_lines};
+ghost use Rattle.edit_report.specs.inner.Lines.{field_line, gift_lines, record_lines};
 
 use crate::changed::{changed_fields, path_found};
 use crate::detail::{cause_text, detail_text, name_of, number_text};
@@ -51,12 +51,12 @@ pub fn reasons_text(
         };
         push_reasons(alloc, &mut writer, survey, &layout, &row)?;
     }
-    writer.into_bytes()
+    Ok(writer.into_bytes())
 }
 
 // Writes the header.
 fn push_header(writer: &mut RecordWriter) -> Result<(), OutOfMemory>
-    ensures { OnOk result (Adds HasWritten writer.old writer.new (reasons_header ∷ [])) }
+    ensures { OnOk result (writer.new ≡ writer.old ++ records_text (reasons_header ∷ [])) }
 {
     writer.push_slices(&[
         b"record", b"cause", b"field", b"before", b"after", b"donor", b"detail",
@@ -74,7 +74,7 @@ fn push_reasons(
     requires layout { IsLayout survey.now.fields layout.now }
     requires width { length row.now.read.now ≡ layout.now.width }
     requires end { IsEnd survey.now.fields row.now.end.now }
-    ensures { OnOk result (Adds HasWritten writer.old writer.new (record_lines survey.now.fields layout.now row.now)) }
+    ensures { OnOk result (writer.new ≡ writer.old ++ records_text (record_lines survey.now.fields layout.now row.now)) }
 {
     match &row.end.gift {
         None => push_unresolved(alloc, writer, survey, row.number, &row.end.proof),
@@ -90,7 +90,7 @@ fn push_unresolved(
     number: u32,
     found: &RowProof,
 ) -> Result<(), OutOfMemory>
-    ensures { OnOk result (Adds HasWritten writer.old writer.new (unresolved_line survey.now.fields number found.now ∷ [])) }
+    ensures { OnOk result (writer.new ≡ writer.old ++ records_text (unresolved_line survey.now.fields number found.now ∷ [])) }
 {
     let number = number_text(alloc, number)?;
     let detail = detail_text(alloc, survey, found)?;
@@ -117,7 +117,7 @@ fn push_changes(
     requires layout { IsLayout survey.now.fields layout.now }
     requires width { length row.now.read.now ≡ layout.now.width }
     requires gift { IsGift survey.now.fields (path_found row.now.end.now.proof.outcome) gift.now }
-    ensures { OnOk result (Adds HasWritten writer.old writer.new (gift_lines survey.now.fields layout.now row.now gift.now)) }
+    ensures { OnOk result (writer.new ≡ writer.old ++ records_text (gift_lines survey.now.fields layout.now row.now gift.now)) }
 {
     let changed = changed_fields(alloc, survey, path_found(&row.end.proof.outcome))?;
     let fields = changed.as_slice();
@@ -153,7 +153,7 @@ fn push_change(
     requires new { IsRow survey.now.fields new.now }
     requires field { field < length survey.now.fields }
     ensures { OnOk result
-        (Adds HasWritten writer.old writer.new (field_line survey.now.fields layout.now row.now new.now field how ∷ [])) }
+        (writer.new ≡ writer.old ++ records_text (field_line survey.now.fields layout.now row.now new.now field how ∷ [])) }
 {
     let number = number_text(alloc, row.number)?;
     let after = text_at(alloc, survey, new, field)?;
@@ -174,7 +174,7 @@ fn push_line<'a>(
     how: &'a [u8],
 ) -> Result<(), OutOfMemory>
     ensures { OnOk result
-        (Adds HasWritten writer.old writer.new (line_texts number.now name.now before.now after.now donor.now how.now ∷ [])) }
+        (writer.new ≡ writer.old ++ records_text (line_texts number.now name.now before.now after.now donor.now how.now ∷ [])) }
 {
     writer.push_slices(&[number, b"changed", name, before, after, donor, how])
 }

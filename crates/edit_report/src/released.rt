@@ -3,11 +3,10 @@ ghost use Rattle.std.specs.Prelude.{◌≡◌, ◌<◌, ◌≤◌, ◌++◌, ◌
 ghost use Rattle.edit_model.specs.FieldSets.{has_number};
 ghost use Rattle.edit_model.specs.Rows.{IsRow};
 ghost use Rattle.record_text.specs.Sheets.{IsSheet};
-ghost use Rattle.record_text.specs.Written.{HasWritten};
+ghost use Rattle.record_text.specs.Texts.{records_text};
 ghost use Rattle.edit_report.specs.Ends.{AreEnds, IsEnd};
 ghost use Rattle.edit_report.specs.Released.{column_text, released_text_of, released_texts, released_of, row_with, given_text};
 ghost use Rattle.edit_report.specs.inner.Columns.{IsLayout, column_at, layout_texts};
-ghost use Rattle.edit_report.specs.inner.Lines.{Adds};
 
 use crate::changed::{all_kept, changed_set, path_found};
 use crate::end::RowEnd;
@@ -38,7 +37,7 @@ pub fn released_text(
         let end = &ends[row_no as usize];
         push_released(alloc, &mut writer, survey, &layout, sheet.raw(row_no), end)?;
     }
-    writer.into_bytes()
+    Ok(writer.into_bytes())
 }
 
 // Writes the row of a record that was given values, and none of another.
@@ -53,7 +52,7 @@ fn push_released(
     requires layout { IsLayout survey.now.fields layout.now }
     requires width { length read.now ≡ layout.now.width }
     requires end { IsEnd survey.now.fields end.now }
-    ensures { OnOk result (Adds HasWritten writer.old writer.new (released_of survey.now.fields layout.now.columns read.now end.now)) }
+    ensures { OnOk result (writer.new ≡ writer.old ++ records_text (released_of survey.now.fields layout.now.columns read.now end.now)) }
 {
     match &end.gift {
         None => Ok(()),
@@ -79,7 +78,7 @@ fn push_row(
     requires short { length path.now ≤ length survey.now.fields }
     requires new { IsRow survey.now.fields new.now }
     ensures { OnOk result
-        (Adds HasWritten writer.old writer.new (layout_texts survey.now.fields layout.now path.now new.now read.now ∷ [])) }
+        (writer.new ≡ writer.old ++ records_text (layout_texts survey.now.fields layout.now path.now new.now read.now ∷ [])) }
 {
     if all_kept(path) {
         return writer.push(read);

@@ -1,12 +1,14 @@
 -- What csv's writer has written, after one record more.
-use Rattle.std.proofs.Common.{◌≡◌, ◌≢◌, ◌==◌, ℕ, Bool, true, false, if◌then◌else◌, List, [], ◌∷◌, ◌++◌, length, Option, Some, None, Vec, refl, sym, ap, ◌∙◌, append-nil}
+use Rattle.std.proofs.Common.{◌≡◌, ◌≢◌, ◌==◌, ℕ, Bool, true, false, if◌then◌else◌, List, [], ◌∷◌, ◌++◌, drop, length, take, ◌-◌, Some, Vec, refl, sym, ap, ◌∙◌, append-nil}
 use Rattle.std.specs.declared.alloc.Global.{Global}
-use Rattle.std.specs.Io.KnownBytes.{Appends}
-use Rattle.csv.specs.Writing.{default_writer, escaped, field_text, fields_text, fields_written, has_written, is_blank, needs_quotes, row_body, row_text, text_written, with_flexible, writer_setup}
+use Rattle.std.specs.Io.KnownBytes.{Appends, Keeps}
+use Rattle.std.proofs.lemmas.List.{drop_at, length-drop}
+use Rattle.std.proofs.Math.Seq.{take-length}
+use Rattle.csv.specs.Writing.{default_writer, escaped, field_text, fields_text, fields_written, has_written, is_blank, needs_quotes, row_body, row_text, text_written, with_flexible, writer_pending, writer_setup, writer_under}
 use Rattle.csv.specs.declared.writer.QuoteStyle.TheVariants as style
 use Rattle.csv.specs.declared.writer.Writer.{Writer}
 use Rattle.record_text.specs.Texts.{records_text}
-use Rattle.record_text.specs.Written.{HasWritten}
+use Rattle.record_text.specs.inner.Writers.{IsBetweenRecords}
 
 -- ---- the text of a record, whether records may differ in length or not
 
@@ -40,21 +42,21 @@ row-same texts =
 
 -- ---- one record more
 
--- one record more is written
-pub HasWritten-more : (old new : Writer (Vec ℕ Global)) (bytes : List ℕ) (texts : List (List ℕ))
-    → (fields_written old ≡ 0 → has_written old ≡ false → (writer_setup old).style ≢ style.NonNumeric → Appends (text_written (λ v. Some v.items) old) (text_written (λ v. Some v.items) new) (row_text (writer_setup old) texts))
-    → fields_written new ≡ 0 → has_written new ≡ false → writer_setup new ≡ writer_setup old → HasWritten old bytes → HasWritten new (bytes ++ records_text (texts ∷ []))
-HasWritten-more old new bytes texts appends begun shown setup before = record {
-  setup = setup ∙ before.setup;
-  none_begun = begun;
-  none_shown = shown;
-  written = by (text_written (λ v. Some v.items) old) (text_written (λ v. Some v.items) new) before.written (appends before.none_begun before.none_shown plain) ∙ ap (λ (t : List ℕ). Some (bytes ++ t)) (ap (λ s. row_text s texts) before.setup ∙ row-same texts ∙ sym (append-nil (row_text default_writer texts)));
-}
+-- one record more is written and handed on: it stands behind what was gathered before
+pub gathered-more : (old written now : Writer (Vec ℕ Global)) (texts : List (List ℕ)) → IsBetweenRecords old
+    → (fields_written old ≡ 0 → has_written old ≡ false → (writer_setup old).style ≢ style.NonNumeric → Appends (text_written (λ v. Some v.items) old) (text_written (λ v. Some v.items) written) (row_text (writer_setup old) texts))
+    → Keeps (text_written (λ v. Some v.items) written) (text_written (λ v. Some v.items) now) → writer_pending now ≡ []
+    → (writer_under now).items ≡ (writer_under old).items ++ records_text (texts ∷ [])
+gathered-more old written now texts between appends keeps pending =
+    sym (append-nil (writer_under now).items) ∙ ap (λ (bs : List ℕ). (writer_under now).items ++ bs) (sym pending) ∙ keeps ∙ appends between.none_begun between.none_shown plain
+    ∙ ap (λ (bs : List ℕ). ((writer_under old).items ++ bs) ++ row_text (writer_setup old) texts) between.none_pending
+    ∙ ap (λ (bs : List ℕ). bs ++ row_text (writer_setup old) texts) (append-nil (writer_under old).items)
+    ∙ ap (λ (bs : List ℕ). (writer_under old).items ++ bs) (ap (λ s. row_text s texts) between.setup ∙ row-same texts ∙ sym (append-nil (row_text default_writer texts)))
   where
     plain : (writer_setup old).style ≢ style.NonNumeric
-    plain = rw before.setup (λ e. cc e)
+    plain = rw between.setup (λ e. cc e)
 
-    by : (a b : Option (List ℕ)) → a ≡ Some bytes → Appends a b (row_text (writer_setup old) texts) → b ≡ Some (bytes ++ row_text (writer_setup old) texts)
-    by (Some x) (Some y) is adds = cc (adds, is)
-    by (Some x) None is adds = absurd adds
-    by None b is adds = absurd (cc)
+-- what stands in a slice from the end of what was gathered before is what was gathered since
+pub gathered-behind : (all old more : List ℕ) (begin : ℕ) → all ≡ old ++ more → begin ≡ length old → take (length all - begin) (drop begin all) ≡ more
+gathered-behind all old more begin is at =
+    ap (λ (n : ℕ). take n (drop begin all)) (sym (length-drop begin all)) ∙ take-length (drop begin all) ∙ ap (λ (bs : List ℕ). drop begin bs) is ∙ drop_at old more begin (sym at)

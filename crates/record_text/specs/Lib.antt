@@ -6,5 +6,4 @@ pub mod Sheets
 pub mod Texts
 pub mod Trimming
 pub mod Values
-pub mod Written
 pub mod inner

@@ -1,3 +1,4 @@
 pub mod Marks
 pub mod NextColumns
 pub mod Places
+pub mod Writers

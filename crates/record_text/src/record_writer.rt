@@ -1,6 +1,6 @@
-ghost use Rattle.std.specs.Prelude.{◌≡◌, ◌++◌, ◌∷◌, ℕ, List, [], IfOk, OnOk, map};
+ghost use Rattle.std.specs.Prelude.{◌≡◌, ◌++◌, ◌∷◌, [], OnErr, OnOk, map};
 ghost use Rattle.record_text.specs.Texts.{records_text};
-ghost use Rattle.record_text.specs.Written.{HasWritten, WritesMore};
+ghost use Rattle.record_text.specs.inner.Writers.{IsBetweenRecords};
 
 use crate::texts::Texts;
 use csv::{Writer, WriterBuilder};
@@ -8,65 +8,102 @@ use foundation::OutOfMemory;
 use std::alloc::Global;
 use std::marker::Model;
 
+/// How many bytes csv's writer gathers before another takes its place.
+const MOST_GATHERED: usize = 1 << 16;
+
 /// Records that are written one after another, as csv's default writer writes them, each ended by a line
-/// feed. No record is copied before. After a refusal nothing is said of what was written.
+/// feed. Where memory is refused, what was written stays as before.
 ///
 /// Writing into memory gives no output error, and records may differ in length, so csv refuses only for
-/// want of memory.
+/// want of memory. What it then leaves of a record cannot be taken back from its writer, so each record
+/// goes behind the text only when it is whole, and a writer that was refused memory is let go of.
 #[derive(Drop)]
 pub struct RecordWriter {
+    text: Vec<u8>,
     writer: Writer<Vec<u8>>,
+    alloc: Global,
 }
 
 impl Model for RecordWriter {
-    ghost use Rattle.std.specs.Prelude.{ℕ, Vec};
-    ghost use Rattle.std.specs.declared.alloc.Global.{Global};
-    ghost use Rattle.csv.specs.declared.writer.Writer.{Writer};
+    ghost use Rattle.std.specs.Prelude.{ℕ, List};
+    ghost use Rattle.record_text.specs.inner.Writers.{IsBetweenRecords};
 
-    ghost Value = { Writer (Vec ℕ Global) };
+    ghost Value = { List ℕ };
 
-    ghost view = { λ w. w.writer };
+    ghost view = { λ w. w.text.items };
+
+    ghost invariant = { λ w. IsBetweenRecords w.writer };
 }
 
 impl RecordWriter {
-    /// Nothing written yet.
+    /// Nothing written yet. Takes no memory.
     pub fn new(alloc: Global) -> RecordWriter
-        ensures { HasWritten result [] }
+        ensures { result ≡ [] }
     {
         RecordWriter {
-            writer: WriterBuilder::new()
-                .flexible(true)
-                .from_writer(Vec::new(alloc)),
+            text: Vec::new(alloc),
+            writer: csv_writer(alloc),
+            alloc,
         }
     }
 
     /// Writes a record of these texts.
     pub fn push(&mut self, texts: &Texts) -> Result<(), OutOfMemory>
-        ensures { OnOk result (WritesMore self.old self.new (records_text (texts.now ∷ []))) }
+        ensures written { OnOk result (self.new ≡ self.old ++ records_text (texts.now ∷ [])) }
+        ensures refused { OnErr result (self.new ≡ self.old) }
     {
-        if self.writer.write_byte_record(texts.as_record()).is_err() {
+        self.renew_writer();
+        let begin = self.writer.get_ref().len();
+        if self.writer.write_byte_record(texts.as_record()).is_err()
+            || self.writer.flush().is_err()
+        {
+            self.writer = csv_writer(self.alloc);
             return Err(OutOfMemory);
         }
+        self.text
+            .extend_from_slice(&self.writer.get_ref()[begin..])?;
         Ok(())
     }
 
     /// Writes a record of these texts.
     pub fn push_slices(&mut self, texts: &[&[u8]]) -> Result<(), OutOfMemory>
-        ensures { OnOk result (WritesMore self.old self.new (records_text (map (λ text. text.now) texts.now ∷ []))) }
+        ensures written { OnOk result (self.new ≡ self.old ++ records_text (map (λ text. text.now) texts.now ∷ [])) }
+        ensures refused { OnErr result (self.new ≡ self.old) }
     {
-        if self.writer.write_fields(texts).is_err() {
+        self.renew_writer();
+        let begin = self.writer.get_ref().len();
+        if self.writer.write_fields(texts).is_err() || self.writer.flush().is_err() {
+            self.writer = csv_writer(self.alloc);
             return Err(OutOfMemory);
         }
+        self.text
+            .extend_from_slice(&self.writer.get_ref()[begin..])?;
         Ok(())
     }
 
-    /// All that was written.
-    pub fn into_bytes(self) -> Result<Vec<u8>, OutOfMemory>
-        ensures { IfOk result (λ written. (bytes : List ℕ) → HasWritten self bytes → written.items ≡ bytes) }
+    /// All that was written. No memory.
+    pub fn into_bytes(self) -> Vec<u8>
+        ensures { result.items ≡ self }
     {
-        match self.writer.into_inner() {
-            Ok(bytes) => Ok(bytes),
-            Err(_) => Err(OutOfMemory),
+        let RecordWriter { text, .. } = self;
+        text
+    }
+
+    // Takes a new writer of csv's where the old one has gathered many bytes, which all stand in the text by now.
+    fn renew_writer(&mut self)
+        ensures { self.new ≡ self.old }
+    {
+        if self.writer.get_ref().len() > MOST_GATHERED {
+            self.writer = csv_writer(self.alloc);
         }
     }
+}
+
+// A writer that has written nothing, of records that may differ in length.
+fn csv_writer(alloc: Global) -> Writer<Vec<u8>>
+    ensures { IsBetweenRecords result }
+{
+    WriterBuilder::new()
+        .flexible(true)
+        .from_writer(Vec::new(alloc))
 }

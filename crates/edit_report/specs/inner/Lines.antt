@@ -1,18 +1,12 @@
--- The records of the files that are written, one after the other.
-use Rattle.std.specs.Prelude.{ℕ, ◌++◌, List, Some}
+-- The lines of the reasons file.
+use Rattle.std.specs.Prelude.{ℕ, List, Some}
 use Rattle.edit_model.specs.declared.field.Field.{Field}
 use Rattle.edit_model.specs.declared.value.Value.{Value}
 use Rattle.back_subst.specs.declared.gift.Gift.{Gift}
 use Rattle.back_subst.specs.declared.gift.How.{How}
-use Rattle.record_text.specs.Texts.{records_text}
 use Rattle.edit_report.specs.Reasons.{changed_line, lines_with, reasons_of}
 use Rattle.edit_report.specs.declared.reasons.Record.{Record}
 use Rattle.edit_report.specs.inner.Columns.{LayoutParts}
-
--- behind the bytes that were written before, these records are written, where it is said of a writer what it has written
-abbrev pub Adds : {W : Type 0} → (W → List ℕ → Type 0) → W → W → List (List (List ℕ)) → Type 0
-Adds has_written before after records =
-    (bytes : List ℕ) → has_written before bytes → has_written after (bytes ++ records_text records)
 
 -- the lines of a record
 abbrev pub record_lines : List Field → LayoutParts → Record → List (List (List ℕ))

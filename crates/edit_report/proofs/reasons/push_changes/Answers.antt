@@ -8,8 +8,8 @@ use Rattle.edit_report.proofs.WrittenLaws.{lines-all, lines-more}
 use Rattle.edit_report.proofs.reasons.push_changes.Goals as goal
 
 pub loop-place-preserved : goal.loop-place-preserved
-loop-place-preserved c bytes before =
-    let inv = c.loop-place.invariant bytes before in
+loop-place-preserved c =
+    let inv = c.loop-place.invariant in
     let fields = c.args.survey.now.fields in
     let columns = c.args.layout.now.columns in
     let number = c.args.row.now.number in
@@ -19,16 +19,12 @@ loop-place-preserved c bytes before =
     let changed : c.as_slice-fields.result.now ≡ changed_fields fields (path_found c.args.row.now.end.now.proof.outcome) = c.as_slice-fields.ensures.value ∙ c.in_ok-changed.ensures.fields ∙ ap (changed_fields fields) c.path_found.ensures in
     let many : length c.as_slice-hows.result.now ≡ length c.as_slice-fields.result.now = ap (λ (hs : List How). length hs) c.as_slice-hows.ensures ∙ c.requires.gift.how ∙ sym (ap (λ (fs : List ℕ). length fs) changed) in
     let below : c.loop-place.place < length c.as_slice-fields.result.now = omega (arith, c.loop-place-test.true) in
-    let rest = lines-more fields columns number read donor new c.as_slice-fields.result.now c.as_slice-hows.result.now c.loop-place.place inv.0 _ below (omega (arith, below, many)) inv.2 in (
-      inv.0 ++ records_text (changed_line fields columns number read donor new (get_or c.as_slice-fields.result.now c.loop-place.place 0) (get_or c.as_slice-hows.result.now c.loop-place.place Donor) ∷ []),
-      c.in_ok-push_change.ensures inv.0 inv.1,
-      rest,
-    )
+    rw c.in_ok-push_change.ensures (lines-more fields columns number read donor new c.as_slice-fields.result.now c.as_slice-hows.result.now c.loop-place.place c.loop-place.writer _ below (omega (arith, below, many)) inv)
 
 pub returns : goal.returns
-returns c bytes before =
-    let inv = c.loop-place.invariant bytes before in
+returns c =
+    let inv = c.loop-place.invariant in
     let fields = c.args.survey.now.fields in
     let changed : c.as_slice-fields.result.now ≡ changed_fields fields (path_found c.args.row.now.end.now.proof.outcome) = c.as_slice-fields.ensures.value ∙ c.in_ok-changed.ensures.fields ∙ ap (changed_fields fields) c.path_found.ensures in
-    let all = lines-all fields c.args.layout.now.columns c.args.row.now.number c.args.row.now.read.now c.args.row.now.end.now.donor c.args.gift.now.row c.as_slice-fields.result.now c.as_slice-hows.result.now c.loop-place.place inv.0 _ (omega (arith, c.loop-place-test.false)) inv.2 in
-    rw (← changed, ← c.as_slice-hows.ensures, ← all) inv.1
+    let all = lines-all fields c.args.layout.now.columns c.args.row.now.number c.args.row.now.read.now c.args.row.now.end.now.donor c.args.gift.now.row c.as_slice-fields.result.now c.as_slice-hows.result.now c.loop-place.place c.loop-place.writer _ (omega (arith, c.loop-place-test.false)) inv in
+    rw (← changed, ← c.as_slice-hows.ensures) all

@@ -1,7 +1,6 @@
 use Rattle.std.proofs.Common.{List, OnOk, [], subst, sym, ◌++◌, ◌∙◌, ◌∷◌, ℕ}
 use Rattle.bound_cert.specs.Paths.{changes}
 use Rattle.record_text.specs.Texts.{records_text}
-use Rattle.record_text.specs.Written.{HasWritten}
 use Rattle.edit_report.proofs.ChangedLaws.{none-changed}
 use Rattle.edit_report.proofs.ReleasedLaws.{texts-kept}
 use Rattle.edit_report.proofs.released.push_row.Goals as goal
@@ -10,10 +9,10 @@ pub returns-then-all_kept : goal.returns-then-all_kept
 returns-then-all_kept c =
     let fields = c.args.survey.now.fields in
     let path = c.args.path.now in
-    subst (λ (texts : List (List ℕ)). OnOk c.push.result ((bytes : List ℕ) → HasWritten c.args.writer.now bytes → HasWritten c.push.new.self (bytes ++ records_text (texts ∷ []))))
-    (sym (texts-kept fields c.args.layout.now.columns c.args.new.now (changes fields path) 0 c.args.read.now (none-changed fields path (sym c.all_kept.ensures ∙ c.if-all_kept.true)))) c.push.ensures
+    subst (λ (texts : List (List ℕ)). OnOk c.push.result (c.push.new.self ≡ c.args.writer.now ++ records_text (texts ∷ [])))
+    (sym (texts-kept fields c.args.layout.now.columns c.args.new.now (changes fields path) 0 c.args.read.now (none-changed fields path (sym c.all_kept.ensures ∙ c.if-all_kept.true)))) c.push.ensures.written
 
 pub returns : goal.returns
 returns c =
-    subst (λ (texts : List (List ℕ)). OnOk c.push-2.result ((bytes : List ℕ) → HasWritten c.args.writer.now bytes → HasWritten c.push-2.new.self (bytes ++ records_text (texts ∷ []))))
-    c.in_ok-texts.ensures c.push-2.ensures
+    subst (λ (texts : List (List ℕ)). OnOk c.push-2.result (c.push-2.new.self ≡ c.args.writer.now ++ records_text (texts ∷ [])))
+    c.in_ok-texts.ensures c.push-2.ensures.written

@@ -1,14 +1,18 @@
-use Rattle.std.proofs.Common.{◌∙◌, subst, sym}
+use Rattle.std.proofs.Common.{rules, ◌≡◌, ◌++◌, ◌∙◌, ◌∷◌, [], List, ℕ, ap, length, sym}
 use Rattle.csv.proofs.ReadFacts.{on-ok}
-use Rattle.record_text.specs.Written.{HasWritten}
-use Rattle.record_text.proofs.WriterLaws.{HasWritten-more}
+use Rattle.record_text.specs.Texts.{records_text}
+use Rattle.record_text.proofs.WriterLaws.{gathered-behind, gathered-more}
 use Rattle.record_text.proofs.record_writer.RecordWriter.push.Goals as goal
 
-pub returns : goal.returns
-returns c bytes before =
+pub returns-clause-written : goal.returns-clause-written
+returns-clause-written c =
     let good = sym c.is_err.ensures.value ∙ c.if-is_err.false in
-    let written = c.write_byte_record.ensures in
-    let appends = rw c.as_record.ensures at (on-ok c.write_byte_record.result good written.bytes) in
-    let old = subst (λ w. HasWritten w bytes) (sym c.self.view_is) before in
-    HasWritten-more c.self.inside.writer c.write_byte_record.new.self bytes c.args.texts.now appends (on-ok c.write_byte_record.result good written.ended) (on-ok c.write_byte_record.result good written.clean)
-    (on-ok c.write_byte_record.result good written.setup) old
+    let handed = sym c.is_err-else-is_err.ensures.value ∙ c.if-is_err-2.false in
+    let appends = rw c.as_record.ensures at (on-ok c.write_byte_record.result good c.write_byte_record.ensures.bytes) in
+    let more = gathered-more c.self.inside.writer c.write_byte_record.new.self c.flush.new.self c.args.texts.now c.self.invariant appends c.flush.ensures.bytes (on-ok c.flush.result handed c.flush.ensures.pending) in
+    let all = c.deref.ensures.value ∙ ap (λ v. v.items) c.get_ref-2.ensures ∙ more in
+    let begin : c.len-begin.result ≡ length c.self.inside.writer.wtr.inner.items = search rules in
+    let before = c.self.view_is ∙ c.renew_writer.ensures in
+    c.in_ok-extend_from_slice.ensures.items
+    ∙ ap (λ (bs : List ℕ). c.self.inside.text.items ++ bs) (gathered-behind c.deref.result.now c.self.inside.writer.wtr.inner.items (records_text (c.args.texts.now ∷ [])) c.len-begin.result all begin)
+    ∙ ap (λ (bs : List ℕ). bs ++ records_text (c.args.texts.now ∷ [])) before
