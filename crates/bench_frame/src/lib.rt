@@ -1,4 +1,4 @@
-//! What the programs that are timed share: why one tells nothing, the words after its name, and how it ends. What a
+//! What the programs that are timed share: why one tells nothing, the numbers in its words, and how it ends. What a
 //! bench does is its own.
 #![tactic(auto)]
 
@@ -8,4 +8,4 @@ mod words;
 
 pub use fault::Fault;
 pub use leaving::{Ending, ending_of, leave};
-pub use words::{after_program_name, number_in};
+pub use words::number_in;

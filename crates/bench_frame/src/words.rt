@@ -1,15 +1,5 @@
-ghost use Rattle.std.specs.Prelude.{◌≡◌, ◌⊎◌, IfErr};
+ghost use Rattle.std.specs.Prelude.{◌≡◌};
 ghost use Rattle.bench_frame.specs.Numbers.{number_in};
-
-use crate::fault::Fault;
-use std::rt::Env;
-
-/// The words after the program's name, as the runtime tells them.
-pub fn after_program_name<R: Env + AllocGlobal>(rt: &R) -> Result<Vec<String>, Fault>
-    ensures { IfErr result (λ fault. (fault ≡ Fault.Usage) ⊎ (fault ≡ Fault.OutOfMemory)) }
-{
-    Ok(edit_desk::after_program_name(rt)?)
-}
 
 /// The number that the text writes in decimal digits, if it is at least and at most this.
 pub fn number_in(text: &str, least: u64, most: u64) -> Option<u64>

@@ -3,8 +3,8 @@
 use crate::commands::Commands;
 use crate::fault::Fault;
 use crate::report::run_files;
-use bench_frame::after_program_name;
-use edit_desk::{FileDesk, OutPrinter, Printer};
+use edit_desk::{FileDesk, OutPrinter, Printer, words_of};
+use std::env;
 use std::process::ExitCode;
 use std::rt::{Env, Files};
 use std::sync::Wait;
@@ -23,7 +23,7 @@ pub fn run_program<
     let Ok(files) = rt.clone() else {
         return ExitCode::from(1);
     };
-    let Ok(words) = after_program_name(&rt) else {
+    let Ok(words) = words_of(alloc, env::args(&rt)) else {
         return ExitCode::from(1);
     };
     let mut desk = FileDesk::new(files);

@@ -10,9 +10,10 @@ mod certificate;
 mod verdict;
 mod words;
 
-use bench_frame::{Fault, after_program_name, leave};
-use edit_desk::OutPrinter;
+use bench_frame::{Fault, leave};
+use edit_desk::{OutPrinter, words_of};
 use std::alloc::Global;
+use std::env;
 use std::process::ExitCode;
 
 // The words that are in form.
@@ -26,7 +27,7 @@ fn main(rt: HostRuntime) -> ExitCode {
 
 // What is printed of the words after the program's name.
 fn told<R: std::rt::Env + AllocGlobal>(rt: &R, alloc: Global) -> Result<String, Fault> {
-    let words = after_program_name(rt)?;
+    let words = words_of(alloc, env::args(rt))?;
     text_of(alloc, &words)
 }
 

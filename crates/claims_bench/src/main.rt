@@ -11,11 +11,12 @@ mod tally;
 mod words;
 mod worker;
 
-use bench_frame::{Fault, after_program_name, leave};
+use bench_frame::{Fault, leave};
 use donor_book::Won;
-use edit_desk::OutPrinter;
+use edit_desk::{OutPrinter, words_of};
 use foundation::OutOfMemory;
 use std::alloc::Global;
+use std::env;
 use std::process::ExitCode;
 use std::thread::Threads;
 use tally::{Plan, carry_out};
@@ -34,7 +35,7 @@ fn told<R: std::rt::Env + AllocGlobal + Threads + Sync>(
     rt: &R,
     alloc: Global,
 ) -> Result<String, Fault> {
-    let words = after_program_name(rt)?;
+    let words = words_of(alloc, env::args(rt))?;
     match words::plan_of(&words) {
         None => Err(Fault::Usage),
         Some(plan) => text_of(rt, alloc, plan),

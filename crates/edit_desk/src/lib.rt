@@ -20,4 +20,4 @@ pub use memory::{Call, Failure, MemoryDesk};
 pub use page::MemoryPrinter;
 pub use printer::{PrintFailed, Printer};
 pub use standard_output::OutPrinter;
-pub use words::{WordsFault, after_program_name, words_of};
+pub use words::{WordsFault, words_of};

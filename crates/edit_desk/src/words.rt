@@ -3,9 +3,8 @@ ghost use Rattle.std.specs.IoError.{error_kind};
 ghost use Rattle.std.specs.Vec.Iter.{into_iter_items};
 
 use std::alloc::{AllocError, Global};
-use std::env::{self, Args};
+use std::env::Args;
 use std::io::{self, ErrorKind};
-use std::rt::Env;
 
 /// Why there are no words.
 #[derive(Clone, Copy, Debug, PartialEq, Eq)]
@@ -27,13 +26,8 @@ impl From<AllocError> for WordsFault {
     }
 }
 
-/// The words after the program's name, as the runtime tells them.
-pub fn after_program_name<R: Env + AllocGlobal>(rt: &R) -> Result<Vec<String>, WordsFault> {
-    words_of(rt.alloc(), env::args(rt))
-}
-
-/// The words behind the first of those that were read: no texts exactly where they were not read, and that not for want
-/// of memory.
+/// The words behind the first of those that were read, which is the program's name: no texts exactly where they were not
+/// read, and that not for want of memory. Of what the runtime tells, which `std::env::args` reads, no contract speaks.
 pub fn words_of(alloc: Global, read: io::Result<Args>) -> Result<Vec<String>, WordsFault>
     ensures words { IfOk result (λ words. IsOkAnd read (λ all. words.items ≡ drop 1 (into_iter_items all))) }
     ensures not_text { result ≡ Err WordsFault.NotText ↔ IsErrAnd read (λ error. error_kind error ≢ ErrorKind.OutOfMemory) }

@@ -3,6 +3,7 @@ ghost use Rattle.std.specs.Prelude.{◌≡◌, ◌⊎◌, IfErr};
 
 use edit_desk::WordsFault;
 use run_parts::Status;
+use std::env;
 use std::rt::Env;
 
 /// The words after the program's name, or the status of a run that has none: a word that is not UTF-8 makes them
@@ -10,7 +11,7 @@ use std::rt::Env;
 pub fn after_program_name<R: Env + AllocGlobal>(rt: &R) -> Result<Vec<String>, Status>
     ensures { IfErr result (λ status. (status ≡ Status.Usage) ⊎ (status ≡ Status.OutOfMemory)) }
 {
-    edit_desk::after_program_name(rt).map_err(status_of)
+    edit_desk::words_of(rt.alloc(), env::args(rt)).map_err(status_of)
 }
 
 // The status of a run that has no words.

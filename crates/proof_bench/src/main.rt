@@ -5,13 +5,13 @@
 ghost use Rattle.std.specs.Prelude.{◌≡◌, IfOk, string_bytes};
 ghost use Rattle.proof_bench.specs.inner.Told.{IsTold, counts_text, fault_text};
 
-use bench_frame::{Fault, after_program_name, leave};
-use edit_desk::OutPrinter;
+use bench_frame::{Fault, leave};
+use edit_desk::{OutPrinter, words_of};
 use proof_text::{ProofFault, ProofFile, open_proof};
 use std::alloc::Global;
-use std::fs;
 use std::io::ErrorKind;
 use std::process::ExitCode;
+use std::{env, fs};
 
 // The words that are in form.
 const USAGE: &str = "usage: proof_bench FILE";
@@ -24,7 +24,7 @@ fn main(rt: HostRuntime) -> ExitCode {
 
 // What is printed of the file that the one word names.
 fn told(rt: &HostRuntime, alloc: Global) -> Result<String, Fault> {
-    let words = after_program_name(rt)?;
+    let words = words_of(alloc, env::args(rt))?;
     let [name] = words.as_slice() else {
         return Err(Fault::Usage);
     };

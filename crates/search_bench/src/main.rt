@@ -8,14 +8,14 @@ ghost use Rattle.search_bench.specs.inner.Told.{HasNoRules, HasNoSheet, IsTold};
 
 mod search;
 
-use bench_frame::{Fault, after_program_name, leave};
-use edit_desk::OutPrinter;
+use bench_frame::{Fault, leave};
+use edit_desk::{OutPrinter, words_of};
 use edit_language::{RulesFault, read_rules};
 use record_text::{SheetFault, read_records};
 use std::alloc::Global;
-use std::fs;
 use std::io::ErrorKind;
 use std::process::ExitCode;
+use std::{env, fs};
 
 // The words that are in form.
 const USAGE: &str = "usage: search_bench RULES RECORDS";
@@ -28,7 +28,7 @@ fn main(rt: HostRuntime) -> ExitCode {
 
 // What is printed of the files that the words name.
 fn told(rt: &HostRuntime, alloc: Global) -> Result<String, Fault> {
-    let words = after_program_name(rt)?;
+    let words = words_of(alloc, env::args(rt))?;
     let [rules, records] = words.as_slice() else {
         return Err(Fault::Usage);
     };
