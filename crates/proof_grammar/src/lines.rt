@@ -1,5 +1,5 @@
 //! The lines of a text, read one after another.
-ghost use Rattle.std.specs.Prelude.{◌≡◌, ◌∷◌, IfErr, IfOk};
+ghost use Rattle.std.specs.Prelude.{◌≡◌, ◌∷◌, IfErr, IfOk, OnErr};
 ghost use Rattle.proof_grammar.specs.Cuts.{split};
 ghost use Rattle.proof_grammar.specs.LinesLeft.{EndsAt, FaultAt, IsEnd, Settles, begun};
 
@@ -51,6 +51,7 @@ impl<'a> Lines<'a> {
         ensures line { IfOk result (λ line. self.old.left ≡ split 32 line.now ∷ self.new.left) }
         ensures all { self.new.all ≡ self.old.all }
         ensures ended { IfErr result (EndsAt self.old) }
+        ensures refused { OnErr result (self.new ≡ self.old) }
     {
         match cut(self.rest, b'\n') {
             Some((line, rest)) => {

@@ -1,5 +1,5 @@
 //! The words of a line, read one after another.
-ghost use Rattle.std.specs.Prelude.{◌≡◌, ◌==◌, ◌<◌, ◌^◌, [], ◌∷◌, IfErr, IfNone, IfOk, IfSome, length, suc};
+ghost use Rattle.std.specs.Prelude.{◌≡◌, ◌==◌, ◌<◌, ◌^◌, [], ◌∷◌, IfErr, IfNone, IfOk, IfSome, OnErr, length, suc};
 ghost use Rattle.std.specs.List.{position};
 ghost use Rattle.proof_grammar.specs.Cuts.{split};
 ghost use Rattle.proof_grammar.specs.Words.{ReadsAs, Takes, divisor_said, ended, fixed_said, long_said, named_long, named_short, named_short_or_0, path_said, place_said, positive_said, short_said, whole_said, word_in};
@@ -22,7 +22,8 @@ pub enum Stop {
     OutOfMemory,
 }
 
-/// The words that are still to be read. Between two words stands one space.
+/// The words that are still to be read. Between two words stands one space. A word that is not of the form that is asked
+/// for is not taken.
 #[derive(Drop)]
 pub struct Words<'a> {
     rest: Option<&'a [u8]>,
@@ -49,6 +50,7 @@ impl<'a> Words<'a> {
     pub fn next(&mut self) -> Option<&'a [u8]>
         ensures some { IfSome result (λ w. self.old ≡ w.now ∷ self.new) }
         ensures none { IfNone result (self.old ≡ []) }
+        ensures kept { IfNone result (self.new ≡ self.old) }
     {
         match self.rest {
             None => None,
@@ -65,114 +67,149 @@ impl<'a> Words<'a> {
         }
     }
 
-    // The next word, which is taken, where there is one.
-    fn word(&mut self) -> Result<&'a [u8], Stop>
-        ensures word { IfOk result (λ w. self.old ≡ w.now ∷ self.new) }
-        ensures ended { IfErr result (λ stop. (stop ≡ Stop.Form) × (self.old ≡ [])) }
+    // The next word and those behind it, where there is one.
+    fn front(&self) -> Result<(&'a [u8], Words<'a>), Stop>
+        ensures word { IfOk result (λ front. self.now ≡ front.0.now ∷ front.1) }
+        ensures ended { IfErr result (λ stop. (stop ≡ Stop.Form) × (self.now ≡ [])) }
     {
-        self.next().ok_or(Stop::Form)
+        let mut behind = Words { rest: self.rest };
+        match behind.next() {
+            Some(word) => Ok((word, behind)),
+            None => Err(Stop::Form),
+        }
     }
 
     /// A number of 64 bits.
     pub fn long(&mut self) -> Result<u64, Stop>
-        ensures { Takes result self.new (word_in long_said self.old) }
+        ensures taken { Takes result self.new (word_in long_said self.old) }
+        ensures refused { OnErr result (self.new ≡ self.old) }
     {
-        let word = self.word()?;
-        long(word).ok_or(Stop::Form)
+        let (word, behind) = self.front()?;
+        let read = long(word).ok_or(Stop::Form)?;
+        *self = behind;
+        Ok(read)
     }
 
     /// A number of 32 bits.
     pub fn short(&mut self) -> Result<u32, Stop>
-        ensures { Takes result self.new (word_in short_said self.old) }
+        ensures taken { Takes result self.new (word_in short_said self.old) }
+        ensures refused { OnErr result (self.new ≡ self.old) }
     {
-        let word = self.word()?;
-        short(word).ok_or(Stop::Form)
+        let (word, behind) = self.front()?;
+        let read = short(word).ok_or(Stop::Form)?;
+        *self = behind;
+        Ok(read)
     }
 
     /// The number, from 0, of what is named from 1 to 2^64.
     pub fn named_long(&mut self) -> Result<u64, Stop>
-        ensures { Takes result self.new (word_in named_long self.old) }
+        ensures taken { Takes result self.new (word_in named_long self.old) }
+        ensures refused { OnErr result (self.new ≡ self.old) }
     {
-        let word = self.word()?;
-        named_long(word).ok_or(Stop::Form)
+        let (word, behind) = self.front()?;
+        let read = named_long(word).ok_or(Stop::Form)?;
+        *self = behind;
+        Ok(read)
     }
 
     /// The number, from 0, of what is named from 1 to 2^32.
     pub fn named_short(&mut self) -> Result<u32, Stop>
-        ensures { Takes result self.new (word_in named_short self.old) }
+        ensures taken { Takes result self.new (word_in named_short self.old) }
+        ensures refused { OnErr result (self.new ≡ self.old) }
     {
-        let word = self.word()?;
-        named_short(word).ok_or(Stop::Form)
+        let (word, behind) = self.front()?;
+        let read = named_short(word).ok_or(Stop::Form)?;
+        *self = behind;
+        Ok(read)
     }
 
     /// The number, from 0, of what is named from 1 to 2^32, or None for the word 0.
     pub fn named_short_or_none(&mut self) -> Result<Option<u32>, Stop>
-        ensures { Takes result self.new (word_in named_short_or_0 self.old) }
+        ensures taken { Takes result self.new (word_in named_short_or_0 self.old) }
+        ensures refused { OnErr result (self.new ≡ self.old) }
     {
-        let word = self.word()?;
-        named_short_or_none(word).ok_or(Stop::Form)
+        let (word, behind) = self.front()?;
+        let read = named_short_or_none(word).ok_or(Stop::Form)?;
+        *self = behind;
+        Ok(read)
     }
 
     /// A whole number in range.
     pub fn whole(&mut self) -> Result<i128, Stop>
-        ensures { Takes result self.new (word_in whole_said self.old) }
+        ensures taken { Takes result self.new (word_in whole_said self.old) }
+        ensures refused { OnErr result (self.new ≡ self.old) }
     {
-        let word = self.word()?;
-        whole(word).ok_or(Stop::Form)
+        let (word, behind) = self.front()?;
+        let read = whole(word).ok_or(Stop::Form)?;
+        *self = behind;
+        Ok(read)
     }
 
     /// A whole number in range that is not negative.
     pub fn divisor(&mut self) -> Result<i128, Stop>
-        ensures { Takes result self.new (word_in divisor_said self.old) }
+        ensures taken { Takes result self.new (word_in divisor_said self.old) }
+        ensures refused { OnErr result (self.new ≡ self.old) }
     {
-        let word = self.word()?;
-        divisor(word).ok_or(Stop::Form)
+        let (word, behind) = self.front()?;
+        let read = divisor(word).ok_or(Stop::Form)?;
+        *self = behind;
+        Ok(read)
     }
 
     /// One less than a number of 64 bits that is not 0.
     pub fn positive(&mut self) -> Result<u64, Stop>
         ensures read { Takes result self.new (word_in positive_said self.old) }
         ensures fits { IfOk result (λ less. suc less < 2 ^ 64) }
+        ensures refused { OnErr result (self.new ≡ self.old) }
     {
-        let word = self.word()?;
-        positive(word).ok_or(Stop::Form)
+        let (word, behind) = self.front()?;
+        let read = positive(word).ok_or(Stop::Form)?;
+        *self = behind;
+        Ok(read)
     }
 
     /// A field from 1 on, or 0 for the constant.
     pub fn place(&mut self) -> Result<Place, Stop>
-        ensures { Takes result self.new (word_in place_said self.old) }
+        ensures taken { Takes result self.new (word_in place_said self.old) }
+        ensures refused { OnErr result (self.new ≡ self.old) }
     {
-        let word = self.word()?;
-        place(word).ok_or(Stop::Form)
+        let (word, behind) = self.front()?;
+        let read = place(word).ok_or(Stop::Form)?;
+        *self = behind;
+        Ok(read)
     }
 
     /// This word and no other.
     pub fn fixed(&mut self, word: &[u8]) -> Result<(), Stop>
-        ensures { Takes result self.new (word_in (fixed_said word.now) self.old) }
+        ensures taken { Takes result self.new (word_in (fixed_said word.now) self.old) }
+        ensures refused { OnErr result (self.new ≡ self.old) }
     {
-        let next = self.word()?;
-        if next == word {
-            Ok(())
-        } else {
-            Err(Stop::Form)
+        let (next, behind) = self.front()?;
+        if next != word {
+            return Err(Stop::Form);
         }
+        *self = behind;
+        Ok(())
     }
 
     /// The letters of a path.
     pub fn path(&mut self, alloc: Global) -> Result<Path, Stop>
-        ensures { Takes result self.new (word_in path_said self.old) }
+        ensures taken { Takes result self.new (word_in path_said self.old) }
+        ensures refused { OnErr result (self.new ≡ self.old) }
     {
-        let word = self.word()?;
-        path(alloc, word)
+        let (word, behind) = self.front()?;
+        let path = path(alloc, word)?;
+        *self = behind;
+        Ok(path)
     }
 
     /// Whether all words were read.
-    pub fn end(&mut self) -> Result<(), Stop>
-        ensures { ReadsAs result (ended tt self.old) }
+    pub fn end(&self) -> Result<(), Stop>
+        ensures { ReadsAs result (ended tt self.now) }
     {
-        match self.next() {
-            None => Ok(()),
-            Some(_) => Err(Stop::Form),
+        match self.front() {
+            Ok(_) => Err(Stop::Form),
+            Err(_) => Ok(()),
         }
     }
 }
