@@ -18,5 +18,5 @@ mod reading;
 mod sums;
 
 pub use fault::{RulesFault, RulesKind};
-pub use printing::{compare_text, print_rules, write_conditions, write_constant, write_term};
+pub use printing::{compare_text, conditions_text, print_rules, write_constant, write_term};
 pub use reading::read_rules;

@@ -11,7 +11,7 @@ mod sums;
 use edit_model::{Field, Rule, Survey};
 use fields::write_field;
 use foundation::OutOfMemory;
-pub use rules::write_conditions;
+pub use rules::conditions_text;
 use rules::write_rule;
 use std::alloc::Global;
 pub use sums::{compare_text, write_constant, write_term};

@@ -10,11 +10,11 @@ ghost use Rattle.categ_combine.specs.BoxLists.{AreBoxesOver, HaveCode, HaveCodeF
 use crate::fault::CallFault;
 use crate::numbers::{from_one, number_in, place_in};
 use crate::rules::{code_of, field_of};
-use crate::texts::{Texts, alone, push_name};
+use crate::texts::{Texts, alone, name_of};
 use categ_combine::{
     BoxFault, BoxFrom, BoxOrigin, Covered, boxes_of, cat_step, fix, fix_apart, step_apart,
 };
-use edit_language::write_conditions;
+use edit_language::conditions_text;
 use edit_line::{Derived, Line, Origin, Shape};
 use edit_model::{Row, Survey, Test};
 use edit_normal::normal_lines;
@@ -52,7 +52,7 @@ pub fn boxes_told(
         Err(BoxFault::Overflow { line, field }) => {
             let number = from_one(line);
             let mut text = format!(in alloc; "overflow in line {number} at ")?.into_bytes();
-            push_name(&mut text, survey, field)?;
+            text.extend_from_slice(name_of(survey, field)?)?;
             alone(alloc, text)
         }
         Err(BoxFault::OutOfMemory) => Err(CallFault::OutOfMemory),
@@ -249,7 +249,7 @@ fn told(alloc: Global, survey: &Survey, boxes: &Boxes) -> Result<Texts, CallFaul
     let mut texts = Vec::new(alloc);
     for each in &boxes.list {
         let mut text = origin_text(alloc, &each.origin)?.into_bytes();
-        push_box(alloc, survey, each.sets(), &mut text)?;
+        text.extend_from_slice(&box_text(alloc, survey, each.sets())?)?;
         texts.push(text)?;
     }
     if let Some(pairs) = boxes.pairs {
@@ -285,13 +285,8 @@ fn cover_text(alloc: Global, parts: &Sequence<u64>) -> Result<String, CallFault>
     Ok(text)
 }
 
-/// Appends what a box of these sets says: that codes in them are never.
-pub fn push_box(
-    alloc: Global,
-    survey: &Survey,
-    sets: &[u64],
-    text: &mut Vec<u8>,
-) -> Result<(), CallFault> {
+/// What a box of these sets says: that codes in them are never.
+pub fn box_text(alloc: Global, survey: &Survey, sets: &[u64]) -> Result<Vec<u8>, CallFault> {
     let wholes = Shape::of(survey).whole_sets(alloc)?;
     let mut tests = Vec::new(alloc);
     for ((field, set), whole) in survey.codes().iter().zip(sets).zip(&wholes) {
@@ -303,7 +298,7 @@ pub fn push_box(
             })?;
         }
     }
-    write_conditions(text, survey.fields(), &tests)?;
+    let mut text = conditions_text(alloc, survey.fields(), &tests)?;
     text.extend_from_slice(b"never")?;
-    Ok(())
+    Ok(text)
 }

@@ -13,12 +13,12 @@ mod rules;
 mod systems;
 mod texts;
 
-pub use boxes::{boxes_told, push_box};
+pub use boxes::{box_text, boxes_told};
 pub use fault::CallFault;
 pub use lines::{lines_told, negations_told, sums_told};
 pub use numbers::{from_one, number_in, place_in};
 pub use pruning::{dropped_told, prune_told};
-pub use records::{push_row, row_of};
+pub use records::{row_of, row_text};
 pub use rules::{bytes_in, edits_of, survey_in};
 pub use systems::{pairs_told, system_told};
-pub use texts::{Texts, alone, push_name, told_line};
+pub use texts::{Texts, alone, name_of, told_line};

@@ -5,7 +5,7 @@ ghost use Rattle.edit_model.specs.Rows.{IsRow};
 
 use crate::fault::CallFault;
 use crate::numbers::from_one;
-use crate::texts::{Texts, push_name, told_line};
+use crate::texts::{Texts, name_of, told_line};
 use edit_line::{Line, LineOverflow, Shape, fails, value_at};
 use edit_model::{Row, Survey};
 use edit_normal::normal_lines;
@@ -100,5 +100,6 @@ fn push_overflow(
     text: &mut Vec<u8>,
 ) -> Result<(), CallFault> {
     text.extend_from_slice(b" overflow at ")?;
-    push_name(text, survey, overflow.field)
+    text.extend_from_slice(name_of(survey, overflow.field)?)?;
+    Ok(())
 }

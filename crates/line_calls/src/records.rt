@@ -75,20 +75,16 @@ fn are_values(fields: &[Field], values: &[Value]) -> bool
     true
 }
 
-/// Appends the spelling of a record.
-pub fn push_row(
-    alloc: Global,
-    survey: &Survey,
-    row: &Row,
-    text: &mut Vec<u8>,
-) -> Result<(), CallFault> {
+/// The spelling of a record.
+pub fn row_text(alloc: Global, survey: &Survey, row: &Row) -> Result<Vec<u8>, CallFault> {
+    let mut text = Vec::new(alloc);
     for (place, (field, value)) in survey.fields().iter().zip(row.values()).enumerate() {
         if place > 0 {
             text.push(b' ')?;
         }
-        push_value(alloc, field, value, text)?;
+        push_value(alloc, field, value, &mut text)?;
     }
-    Ok(())
+    Ok(text)
 }
 
 // Appends the spelling of a field's value.

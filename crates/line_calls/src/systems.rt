@@ -7,7 +7,7 @@ ghost use Rattle.linear_elim.specs.Systems.{AreNumerical};
 use crate::fault::CallFault;
 use crate::numbers::from_one;
 use crate::rules::{edits_of, field_of};
-use crate::texts::{Texts, alone, push_name, push_place, told_line};
+use crate::texts::{Texts, alone, name_of, push_place, told_line};
 use edit_line::{Derived, Origin, Place};
 use edit_model::{FieldSet, Survey};
 use foundation::Steps;
@@ -139,7 +139,7 @@ fn overflow_told(
 ) -> Result<Texts, CallFault> {
     let mut text = Vec::new(alloc);
     text.extend_from_slice(b"overflow at ")?;
-    push_name(&mut text, survey, field)?;
+    text.extend_from_slice(name_of(survey, field)?)?;
     let first = from_one(first);
     let second = from_one(second);
     text.extend_from_slice(format!(in alloc; " lines {first} {second}")?.as_bytes())?;

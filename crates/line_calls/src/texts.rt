@@ -27,13 +27,12 @@ pub fn told_line(
     Ok(text)
 }
 
-/// Appends the name of the field of this number, from 0.
-pub fn push_name(text: &mut Vec<u8>, survey: &Survey, field: u32) -> Result<(), CallFault> {
+/// The name of the field of this number, from 0.
+pub fn name_of(survey: &Survey, field: u32) -> Result<&[u8], CallFault> {
     match survey.fields().get(field as usize) {
-        Some(field) => text.extend_from_slice(field.name.as_bytes())?,
-        None => return Err(CallFault::Field),
+        Some(field) => Ok(field.name.as_bytes()),
+        None => Err(CallFault::Field),
     }
-    Ok(())
 }
 
 /// Appends where a number stands in a line.
@@ -41,7 +40,7 @@ pub fn push_place(text: &mut Vec<u8>, survey: &Survey, place: Place) -> Result<(
     text.extend_from_slice(b" at ")?;
     match place {
         Place::Constant => text.extend_from_slice(b"constant")?,
-        Place::Field(field) => push_name(text, survey, field)?,
+        Place::Field(field) => text.extend_from_slice(name_of(survey, field)?)?,
     }
     Ok(())
 }

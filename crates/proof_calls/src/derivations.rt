@@ -7,7 +7,7 @@ use bound_cert::{CertFault, Path, check_cert};
 use derivation::{Proved, StepsFault, check_steps};
 use edit_model::{Row, Survey};
 use edit_normal::lines_of_rules;
-use line_calls::{CallFault, Texts, alone, from_one, place_in, push_box, told_line};
+use line_calls::{CallFault, Texts, alone, box_text, from_one, place_in, told_line};
 use std::alloc::Global;
 
 /// What the steps of a file prove of a record from the lines of the rules but those of these numbers, where the path's fields
@@ -46,7 +46,7 @@ fn proved_text(alloc: Global, survey: &Survey, proved: &Proved) -> Result<Vec<u8
         Proved::Line(line) => told_line(alloc, survey, String::from_str(alloc, "line ")?, line),
         Proved::Box(code_box) => {
             let mut text = String::from_str(alloc, "box ")?.into_bytes();
-            push_box(alloc, survey, code_box.sets(), &mut text)?;
+            text.extend_from_slice(&box_text(alloc, survey, code_box.sets())?)?;
             Ok(text)
         }
     }

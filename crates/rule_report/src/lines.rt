@@ -5,7 +5,7 @@ ghost use Rattle.rule_report.specs.LineTexts.{line_text, linear_words};
 
 use crate::conditions::conditions_of;
 use crate::sums::write_linear;
-use edit_language::write_conditions;
+use edit_language::conditions_text;
 use edit_line::{Line, is_false};
 use edit_model::Survey;
 use foundation::OutOfMemory;
@@ -18,8 +18,7 @@ pub fn line_text(alloc: Global, survey: &Survey, line: &Line) -> Result<Vec<u8>,
     ensures { IfOk result (λ text. text.items ≡ line_text survey.now.fields line.now) }
 {
     let conditions = conditions_of(alloc, survey, line)?;
-    let mut text = Vec::new(alloc);
-    write_conditions(&mut text, survey.fields(), &conditions)?;
+    let mut text = conditions_text(alloc, survey.fields(), &conditions)?;
     write_words(&mut text, survey, line)?;
     Ok(text)
 }

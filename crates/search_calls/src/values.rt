@@ -14,7 +14,7 @@ use edit_line::Edits;
 use edit_model::{FieldSet, Row, Survey};
 use edit_paths::case_known;
 use foundation::Steps;
-use line_calls::{CallFault, Texts, alone, edits_of, from_one, push_name, push_row, row_of};
+use line_calls::{CallFault, Texts, alone, edits_of, from_one, name_of, row_of, row_text};
 use linear_elim::Recompute;
 use std::alloc::Global;
 use std::marker::Brand;
@@ -43,8 +43,7 @@ pub fn values_told(
 
 // The values of the record in the end, and how each changed one was found, in path order.
 fn gift_told(alloc: Global, survey: &Survey, gift: &Gift) -> Result<Texts, CallFault> {
-    let mut text = Vec::new(alloc);
-    push_row(alloc, survey, &gift.row, &mut text)?;
+    let mut text = row_text(alloc, survey, &gift.row)?;
     text.push(b':')?;
     for how in gift.how.as_slice() {
         text.extend_from_slice(match how {
@@ -61,7 +60,7 @@ fn fault_text(alloc: Global, survey: &Survey, fault: GiveFault) -> Result<Vec<u8
     match fault {
         GiveFault::Bound { field, line } => {
             let mut text = String::from_str(alloc, "overflow at ")?.into_bytes();
-            push_name(&mut text, survey, field)?;
+            text.extend_from_slice(name_of(survey, field)?)?;
             let number = from_one(line);
             text.extend_from_slice(format!(in alloc; " line {number}")?.as_bytes())?;
             Ok(text)

@@ -1,5 +1,5 @@
 //! Rules and their tests.
-ghost use Rattle.std.specs.Prelude.{◌≡◌, ◌++◌, slice_get, OnOk};
+ghost use Rattle.std.specs.Prelude.{◌≡◌, ◌++◌, slice_get, IfOk, OnOk};
 ghost use Rattle.edit_language.specs.Meaning.{kind_codes, field_codes};
 ghost use Rattle.edit_language.specs.Printing.{conditions_text, later_conditions_text, rule_line, test_text};
 
@@ -7,6 +7,7 @@ use super::codes::write_set;
 use super::sums::{name_at, write_linear};
 use edit_model::{Field, Kind, Name, Rule, Test};
 use foundation::OutOfMemory;
+use std::alloc::Global;
 
 // Appends the rule.
 pub(super) fn write_rule(
@@ -20,8 +21,21 @@ pub(super) fn write_rule(
     write_test(text, fields, &rule.conclusion)
 }
 
-/// Appends the conditions of a rule over these fields, between `if` and `then`; nothing where there is none.
-pub fn write_conditions(
+/// The conditions of a rule over these fields, between `if` and `then`; nothing where there is none.
+pub fn conditions_text(
+    alloc: Global,
+    fields: &[Field],
+    conditions: &[Test],
+) -> Result<Vec<u8>, OutOfMemory>
+    ensures { IfOk result (λ text. text.items ≡ conditions_text fields.now conditions.now) }
+{
+    let mut text = Vec::new(alloc);
+    write_conditions(&mut text, fields, conditions)?;
+    Ok(text)
+}
+
+// Appends the conditions of a rule, between `if` and `then`; nothing where there is none.
+fn write_conditions(
     text: &mut Vec<u8>,
     fields: &[Field],
     conditions: &[Test],

@@ -1,6 +1,7 @@
 //! Sums of terms and their comparison with 0.
-ghost use Rattle.std.specs.Prelude.{◌≡◌, ◌++◌, OnOk, if◌then◌else◌, unsigned_abs};
+ghost use Rattle.std.specs.Prelude.{◌≡◌, ◌++◌, OnErr, OnOk, if◌then◌else◌, unsigned_abs};
 ghost use Rattle.std.specs.Fmt.{decimal, signed_decimal};
+ghost use Rattle.std.specs.Io.{StartsWith};
 ghost use Rattle.edit_language.specs.Printing.{compare_text, joint_text, later_constant_text, later_terms_text, lead_text, linear_text, name_at, product_text, sign_text, sum_text, terms_text, whole_term_text};
 
 use edit_model::{Compare, Field, Linear, Term};
@@ -22,7 +23,7 @@ pub(super) fn write_linear(
 
 /// Appends a term of a sum: the sign of its factor, the factor where it is not 1 or -1, and the name of the
 /// field with this number. The sign of the first term is a minus or nothing; that of a later one joins it to
-/// the term before.
+/// the term before. Where memory is refused, the text is as before.
 pub fn write_term(
     text: &mut Vec<u8>,
     first: bool,
@@ -30,16 +31,22 @@ pub fn write_term(
     field: u32,
     factor: i128,
 ) -> Result<(), OutOfMemory>
-    ensures { OnOk result (text.new.items ≡ text.old.items ++ whole_term_text first fields.now field factor) }
+    ensures written { OnOk result (text.new.items ≡ text.old.items ++ whole_term_text first fields.now field factor) }
+    ensures refused { OnErr result (text.new.items ≡ text.old.items) }
 {
-    text.extend_from_slice(lead_text(first, factor))?;
-    write_product(text, factor.unsigned_abs(), name_at(fields, field))
+    let before = text.len();
+    let written = append_term(text, first, fields, field, factor);
+    if written.is_err() {
+        text.truncate(before);
+    }
+    written
 }
 
 /// Appends the constant of a sum: with its sign where it stands alone, and else behind the terms, where it is
-/// not 0.
+/// not 0. Where memory is refused, the text is as before.
 pub fn write_constant(text: &mut Vec<u8>, alone: bool, constant: i128) -> Result<(), OutOfMemory>
-    ensures { OnOk result (text.new.items ≡ text.old.items ++ (if alone then signed_decimal constant else later_constant_text constant)) }
+    ensures written { OnOk result (text.new.items ≡ text.old.items ++ (if alone then signed_decimal constant else later_constant_text constant)) }
+    ensures refused { OnErr result (text.new.items ≡ text.old.items) }
 {
     if alone {
         let mut buffer = Buffer::new();
@@ -63,9 +70,10 @@ pub fn compare_text(compare: Compare) -> &'static [u8]
     }
 }
 
-// Appends the number in decimal.
+// Appends the number in decimal. Where memory is refused, the text is as before.
 pub(super) fn write_number(text: &mut Vec<u8>, number: u128) -> Result<(), OutOfMemory>
-    ensures { OnOk result (text.new.items ≡ text.old.items ++ decimal number) }
+    ensures written { OnOk result (text.new.items ≡ text.old.items ++ decimal number) }
+    ensures refused { OnErr result (text.new.items ≡ text.old.items) }
 {
     let mut buffer = Buffer::new();
     text.extend_from_slice(buffer.format(number).as_bytes())?;
@@ -127,20 +135,43 @@ fn write_later_terms(
     Ok(())
 }
 
-// Appends a constant behind terms, where it is not 0.
+// Appends a constant behind terms, where it is not 0. Where memory is refused, the text is as before.
 fn write_later_constant(text: &mut Vec<u8>, constant: i128) -> Result<(), OutOfMemory>
-    ensures { OnOk result (text.new.items ≡ text.old.items ++ later_constant_text constant) }
+    ensures written { OnOk result (text.new.items ≡ text.old.items ++ later_constant_text constant) }
+    ensures refused { OnErr result (text.new.items ≡ text.old.items) }
 {
-    if constant != 0 {
-        text.extend_from_slice(joint_text(constant))?;
-        write_number(text, constant.unsigned_abs())?;
+    if constant == 0 {
+        return Ok(());
     }
-    Ok(())
+    let before = text.len();
+    text.extend_from_slice(joint_text(constant))?;
+    let written = write_number(text, constant.unsigned_abs());
+    if written.is_err() {
+        text.truncate(before);
+    }
+    written
+}
+
+// Appends the sign of a term, its factor and the name of its field. Where memory is refused, some of it may stand behind
+// what stood before.
+fn append_term(
+    text: &mut Vec<u8>,
+    first: bool,
+    fields: &[Field],
+    field: u32,
+    factor: i128,
+) -> Result<(), OutOfMemory>
+    ensures written { OnOk result (text.new.items ≡ text.old.items ++ whole_term_text first fields.now field factor) }
+    ensures begins { StartsWith text.new.items text.old.items }
+{
+    text.extend_from_slice(lead_text(first, factor))?;
+    write_product(text, factor.unsigned_abs(), name_at(fields, field))
 }
 
 // Appends the factor of a term without its sign, and the name of its field; the factor 1 is not written.
 fn write_product(text: &mut Vec<u8>, factor: u128, name: &[u8]) -> Result<(), OutOfMemory>
-    ensures { OnOk result (text.new.items ≡ text.old.items ++ product_text factor name.now) }
+    ensures written { OnOk result (text.new.items ≡ text.old.items ++ product_text factor name.now) }
+    ensures begins { StartsWith text.new.items text.old.items }
 {
     if factor != 1 {
         write_number(text, factor)?;

@@ -1,5 +1,5 @@
 //! The lines of steps.
-ghost use Rattle.std.specs.Prelude.{◌≡◌, ◌∷◌, ◌++◌, [], Some, codes, length, map, OnOk};
+ghost use Rattle.std.specs.Prelude.{◌≡◌, ◌∷◌, ◌++◌, [], Some, codes, length, map, OnErr, OnOk};
 ghost use Rattle.std.specs.Fmt.{decimal, signed_decimal};
 ghost use Rattle.std.specs.Io.{StartsWith};
 ghost use Rattle.derivation.specs.declared.step.Step.TheVariants as step;
@@ -36,7 +36,7 @@ fn write_step_in(text: &mut Vec<u8>, shared: Option<u64>, step: &Step) -> Result
     ensures sized { OnOk result (IsSizedStep step.now) }
 {
     match shared {
-        None => write_step(text, step),
+        None => append_step(text, step),
         Some(count) => write_beside(text, count, step),
     }
 }
@@ -49,7 +49,7 @@ fn write_beside(text: &mut Vec<u8>, count: u64, step: &Step) -> Result<(), OutOf
     match step {
         Step::Given(place) => write_given(text, count, *place),
         Step::Combine { .. } | Step::Fail(_) | Step::Cover { .. } | Step::Fix { .. } => {
-            write_step(text, step)
+            append_step(text, step)
         }
     }
 }
@@ -69,9 +69,23 @@ fn write_given(text: &mut Vec<u8>, count: u64, place: u64) -> Result<(), OutOfMe
     Ok(())
 }
 
-/// Appends the words of a step, as in a proof file without a table. Where memory is refused, some may stand
-/// behind what stood before.
+/// Appends the words of a step, as in a proof file without a table. Where memory is refused, the text is as before.
 pub fn write_step(text: &mut Vec<u8>, step: &Step) -> Result<(), OutOfMemory>
+    ensures text { OnOk result (text.new.items ≡ text.old.items ++ words_text (step_line step.now)) }
+    ensures sized { OnOk result (IsSizedStep step.now) }
+    ensures refused { OnErr result (text.new.items ≡ text.old.items) }
+{
+    let before = text.len();
+    let written = append_step(text, step);
+    if written.is_err() {
+        text.truncate(before);
+    }
+    written
+}
+
+// Appends the words of a step, as in a proof file without a table. Where memory is refused, some may stand behind what
+// stood before.
+fn append_step(text: &mut Vec<u8>, step: &Step) -> Result<(), OutOfMemory>
     ensures text { OnOk result (text.new.items ≡ text.old.items ++ words_text (step_line step.now)) }
     ensures sized { OnOk result (IsSizedStep step.now) }
     ensures begins { StartsWith text.new.items text.old.items }

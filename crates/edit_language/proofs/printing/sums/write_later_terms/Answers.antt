@@ -16,7 +16,7 @@ loop-term-preserved c =
     let factor_fits : FitsSigned w64 t.factor = search rules in
     let fits : FitsSigned w128 c.from.result = search rules in
     let factor = simp to_z-of_z at c.from.ensures in
-    let whole = simp to_z-of_z at c.in_ok-write_term.ensures in
+    let whole = simp to_z-of_z at c.in_ok-write_term.ensures.written in
     let step = rw factor at whole in
     text_more_at (λ (t : Term). joint_text t.factor ++ term_text c.args.fields.now t)
     _ c.args.terms.now _ _ _ _ c.loop-term-test.true c.loop-term.invariant step

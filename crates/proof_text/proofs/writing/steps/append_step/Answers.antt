@@ -1,5 +1,5 @@
 use Rattle.std.proofs.Transfers.{starts_with_of_append, starts_with_of_eq, starts_with_trans}
-use Rattle.proof_text.proofs.writing.steps.write_step.Goals as goal
+use Rattle.proof_text.proofs.writing.steps.append_step.Goals as goal
 
 pub returns-in_err-extend_from_slice-in-Given-clause-begins : goal.returns-in_err-extend_from_slice-in-Given-clause-begins
 returns-in_err-extend_from_slice-in-Given-clause-begins c =
