@@ -1,6 +1,8 @@
+pub mod BlockLaws
 pub mod CleanLaws
 pub mod DonorLaws
 pub mod GapLaws
+pub mod MarkTables
 pub mod OrderLaws
 pub mod PassingLaws
 pub mod PlaceLaws
@@ -10,5 +12,6 @@ pub mod RankedLaws
 pub mod RankingLaws
 pub mod ReachLaws
 pub mod SameLaws
+pub mod TableLaws
 pub mod WalkLaws
 pub mod WalkSteps

@@ -1,4 +1,5 @@
-use Rattle.std.proofs.Common.{◌≡◌, inl, inr, ℕ, ◌+◌, ◌-◌, ◌<◌, ◌≤◌, Bool, true, false, List, nat_lt, refl, subst, arith, take, length}
+use Rattle.std.proofs.Common.{◌≡◌, ◌⊎◌, inl, inr, ℕ, ◌+◌, ◌-◌, ◌<◌, ◌≤◌, List, subst, arith, take, length}
+use Rattle.std.proofs.lemmas.Bool.{cases_lt}
 use Rattle.donor_search.specs.Decks.{slot_at}
 use Rattle.donor_search.specs.Rankings.{placed}
 use Rattle.donor_search.specs.declared.candidate.Candidate.{Candidate}
@@ -9,12 +10,6 @@ use Rattle.donor_search.specs.inner.Spans.{AreFarther, IsOutside, IsPast}
 
 -- Runs of donors that are farther than the last of the nearest.
 
-lt_true : (m n : ℕ) → nat_lt m n ≡ true → m < n
-lt_true m n at = grind (arith, at)
-
-lt_false : (m n : ℕ) → nat_lt m n ≡ false → n ≤ m
-lt_false m n at = grind (arith, at)
-
 module _ (far : ℕ → ℕ) (most : ℕ) (slots : List Slot) where
   -- no place is farther by nothing
   pub farther_none : (low high : ℕ) → high ≤ low → AreFarther far most slots low high
@@ -22,25 +17,25 @@ module _ (far : ℕ → ℕ) (most : ℕ) (slots : List Slot) where
 
   -- one place more above
   pub farther_above : (low place : ℕ) → AreFarther far most slots low place → most < far (slot_at slots place).donor → AreFarther far most slots low (place + 1)
-  farther_above low place all here i least less = by (nat_lt i place) refl
+  farther_above low place all here i least less = by (cases_lt i place)
     where
-      by : (b : Bool) → nat_lt i place ≡ b → most < far (slot_at slots i).donor
-      by true at = all i least (lt_true i place at)
-      by false at = let more = lt_false i place at in subst (λ n. most < far (slot_at slots n).donor) (same more) here
+      by : (i < place) ⊎ (place ≤ i) → most < far (slot_at slots i).donor
+      by (inl below) = all i least below
+      by (inr more) = subst (λ n. most < far (slot_at slots n).donor) (same more) here
         where
           same : place ≤ i → place ≡ i
           same more = omega (arith, less, more)
 
   -- one place more below
   pub farther_below : (place high : ℕ) → 1 ≤ place → AreFarther far most slots place high → most < far (slot_at slots (place - 1)).donor → AreFarther far most slots (place - 1) high
-  farther_below place high some all here i least less = by (nat_lt i place) refl
+  farther_below place high some all here i least less = by (cases_lt i place)
     where
-      by : (b : Bool) → nat_lt i place ≡ b → most < far (slot_at slots i).donor
-      by true at = let below = lt_true i place at in subst (λ n. most < far (slot_at slots n).donor) (same below) here
+      by : (i < place) ⊎ (place ≤ i) → most < far (slot_at slots i).donor
+      by (inl below) = subst (λ n. most < far (slot_at slots n).donor) (same below) here
         where
           same : i < place → place - 1 ≡ i
           same below = omega (arith, some, least, below)
-      by false at = all i (lt_false i place at) less
+      by (inr more) = all i more less
 
   -- donors farther than the last of the nearest have no place among them
   module _ (near : ℕ) (nearest : List Candidate) (closed : IsClosedAt near (most + 1) nearest) where

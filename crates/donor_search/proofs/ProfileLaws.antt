@@ -1,8 +1,7 @@
-use Rattle.std.proofs.Common.{◌≡◌, ◌∙◌, ℕ, zero, suc, ◌+◌, ◌*◌, ◌<◌, ◌≤◌, Bool, true, false, All, List, [], ◌∷◌, ◌++◌, drop, get_or, length, length-append, take, refl, ap, sym, subst, arith, if◌then◌else◌}
-use Rattle.std.specs.List.{flat_map}
-use Rattle.std.proofs.Math.Nat.{mul-le-mul_right}
-use Rattle.std.proofs.Math.Seq.{drop-append-add, take-append_seam}
+use Rattle.std.proofs.Common.{◌≡◌, ◌∙◌, ℕ, zero, suc, ◌+◌, ◌*◌, ◌<◌, ◌≤◌, Bool, true, false, All, List, [], ◌∷◌, length, min, take, refl, ap, sym, subst, arith, if◌then◌else◌}
+use Rattle.std.proofs.lemmas.List.{length-take}
 use Rattle.std.proofs.lemmas.List.Elements.{All-cons, All-nil, All-tail}
+use Rattle.foundation.specs.Limits.{most_weight}
 use Rattle.edit_model.specs.FieldSets.{has_number}
 use Rattle.edit_model.specs.Rows.{value_of}
 use Rattle.edit_model.specs.declared.value.Value.{Value}
@@ -12,6 +11,7 @@ use Rattle.donor_measure.specs.Measures.{HasMeasurable, IsMeasurable}
 use Rattle.donor_measure.specs.Yardsticks.{IsYardstick, yardstick_at}
 use Rattle.donor_measure.specs.declared.yardstick.Yardstick.{Yardstick}
 use Rattle.donor_measure.proofs.MarkLaws.{marks_few}
+use Rattle.donor_search.specs.Decks.{first_fields}
 use Rattle.donor_search.specs.declared.profile.Weighed.{Weighed}
 use Rattle.donor_search.specs.inner.Profiles.{told, told_by, weighed_at, weighed_from}
 
@@ -21,55 +21,40 @@ pub marks_long : (i : ℕ) (yardsticks : List Yardstick) (row : List Value) → 
 marks_long i [] row = refl
 marks_long i (y ∷ ys) row = ap suc (marks_long (suc i) ys row)
 
+-- so many marks are looked at first
+pub first_long : (yardsticks : List Yardstick) (row : List Value) → length (take first_fields (marks_of yardsticks row)) ≡ min first_fields (length yardsticks)
+first_long ys row = length-take first_fields (marks_of ys row) ∙ ap (min first_fields) (marks_long 0 ys row)
+
 pub weighed_long : (i : ℕ) (yardsticks : List Yardstick) (kept : ℕ) (row : List Value) → length (weighed_from i yardsticks kept row) ≡ length yardsticks
 weighed_long i [] kept row = refl
 weighed_long i (y ∷ ys) kept row = ap suc (weighed_long (suc i) ys kept row)
 
-pub weights_fit : (i : ℕ) (yardsticks : List Yardstick) (kept : ℕ) (row : List Value) → All IsYardstick yardsticks → All (λ (w : Weighed). w.weight ≤ 1000) (weighed_from i yardsticks kept row)
-weights_fit i [] kept row fit = All-nil (λ (w : Weighed). w.weight ≤ 1000)
+pub weights_fit : (i : ℕ) (yardsticks : List Yardstick) (kept : ℕ) (row : List Value) → All IsYardstick yardsticks → All (λ (w : Weighed). w.weight ≤ most_weight) (weighed_from i yardsticks kept row)
+weights_fit i [] kept row fit = All-nil (λ (w : Weighed). w.weight ≤ most_weight)
 weights_fit i (y ∷ ys) kept row fit =
-    All-cons (λ (w : Weighed). w.weight ≤ 1000) (weighed_at y i kept row) (weighed_from (suc i) ys kept row) (by (has_number kept i)) (weights_fit (suc i) ys kept row (All-tail IsYardstick y ys fit))
+    All-cons (λ (w : Weighed). w.weight ≤ most_weight) (weighed_at y i kept row) (weighed_from (suc i) ys kept row) (by (has_number kept i)) (weights_fit (suc i) ys kept row (All-tail IsYardstick y ys fit))
   where
     fits : Weighed → Type 0
-    fits w = w.weight ≤ 1000
+    fits w = w.weight ≤ most_weight
 
     by : (b : Bool) → fits (if b then record { weight = y.weight; mark = mark_of y.scale (value_of row i) } else record { weight = 0; mark = 0 })
     by true = (fit 0 y (omega arith)).weight
     by false = omega arith
 
--- ---- the marks of all rows, one after the other
-
-more_rows : (r c : ℕ) → suc r * c ≡ c + r * c
-more_rows r c = omega arith
-
-pub row_within : (k r c : ℕ) → k < r → k * c + c ≤ r * c
-row_within k r c below = let m = mul-le-mul_right c (less k r below) in omega (arith, m, more_rows k c)
-  where
-    less : (k r : ℕ) → k < r → suc k ≤ r
-    less k r h = omega (arith, h)
-
-module _ {X : Type 0} (marks : X → List ℕ) (count : ℕ) (each : (x : X) → length (marks x) ≡ count) where
-  pub table_long : (xs : List X) → length (flat_map marks xs) ≡ length xs * count
-  table_long [] = omega arith
-  table_long (x ∷ xs) =
-      let l = length-append (marks x) (flat_map marks xs) in
-      omega (arith, l, each x, table_long xs, more_rows (length xs) count)
-
-  pub table_at : (xs : List X) (k : ℕ) (d : X) → k < length xs → take count (drop (k * count) (flat_map marks xs)) ≡ marks (get_or xs k d)
-  table_at [] k d below = absurd (omega (arith, below))
-  table_at (x ∷ xs) zero d below =
-      ap (λ n. take count (drop n (marks x ++ flat_map marks xs))) none
-      ∙ ap (λ n. take n (marks x ++ flat_map marks xs)) (sym (each x))
-      ∙ take-append_seam (marks x) (flat_map marks xs)
-    where
-      none : 0 * count ≡ 0
-      none = omega arith
-  table_at (x ∷ xs) (suc k) d below =
-      ap (λ n. take count (drop n (marks x ++ flat_map marks xs))) (more_rows k count ∙ ap (λ n. n + k * count) (sym (each x)))
-      ∙ ap (take count) (drop-append-add (marks x) (flat_map marks xs) (k * count))
-      ∙ table_at xs k d (omega (arith, below))
-
 -- ---- what marks tell
+
+-- fewer marks tell no more
+pub told_take : (n : ℕ) (owns : List Weighed) (marks : List ℕ) → told owns (take n marks) ≤ told owns marks
+told_take n [] marks = omega arith
+told_take zero (own ∷ owns) marks = omega arith
+told_take (suc n) (own ∷ owns) [] = omega arith
+told_take (suc n) (own ∷ owns) (mark ∷ marks) = let rest = told_take n owns marks in omega (arith, rest)
+
+pub told_takes : (n : ℕ) (owns : List Weighed) (marks : List ℕ) → told (take n owns) (take n marks) ≤ told owns marks
+told_takes zero owns marks = omega arith
+told_takes (suc n) [] marks = omega arith
+told_takes (suc n) (own ∷ owns) [] = omega arith
+told_takes (suc n) (own ∷ owns) (mark ∷ marks) = let rest = told_takes n owns marks in omega (arith, rest)
 
 told_here : (y : Yardstick) (i kept : ℕ) (a b : List Value) → IsYardstick y → (has_number kept i ≡ true → IsMeasurable y.scale (value_of a i)) → (has_number kept i ≡ true → IsMeasurable y.scale (value_of b i))
     → told_by (weighed_at y i kept a) (mark_of y.scale (value_of b i)) ≤ (if has_number kept i then y.weight * value_distance y.scale (value_of a i) (value_of b i) else 0)
@@ -123,9 +108,21 @@ module _ (ys : List Yardstick) (kept : ℕ) (row other : List Value) (owns : Lis
   pub as_many_marks : length owns ≡ length marks
   as_many_marks = ap (λ (ws : List Weighed). length ws) own_is ∙ weighed_long 0 ys kept row ∙ sym (ap (λ (ms : List ℕ). length ms) marks_is ∙ marks_long 0 ys other)
 
+  -- and as many of them are looked at first
+  pub as_many_first : (first : List ℕ) → first ≡ take first_fields marks → length first ≡ min first_fields (length owns)
+  as_many_first first first_is =
+      ap (λ (ms : List ℕ). length ms) first_is
+      ∙ length-take first_fields marks
+      ∙ ap (min first_fields) (sym as_many_marks)
+
   -- what marks tell to be far is far
   pub farther_told : (most : ℕ) → All IsYardstick ys → HasMeasurable ys kept row → HasMeasurable ys kept other → most < told owns marks → most < distance ys kept row other
   farther_told most fit first second more =
       let told_is : told owns marks ≡ told (weighed_from 0 ys kept row) (marks_of ys other) = ap (λ (ws : List Weighed). told ws marks) own_is ∙ ap (λ (ms : List ℕ). told (weighed_from 0 ys kept row) ms) marks_is in
       let far = told-distance ys kept row other fit first second in
       omega (arith, more, far, told_is)
+
+  pub farther_first : (most : ℕ) (firsts : List ℕ) → firsts ≡ take first_fields marks → All IsYardstick ys → HasMeasurable ys kept row → HasMeasurable ys kept other → most < told owns firsts → most < distance ys kept row other
+  farther_first most firsts firsts_is fit first second more =
+      let same : told owns firsts ≡ told owns (take first_fields marks) = ap (told owns) firsts_is in
+      farther_told most fit first second (omega (arith, more, same, told_take first_fields owns marks))

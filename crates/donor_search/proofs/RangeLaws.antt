@@ -1,13 +1,14 @@
-use Rattle.std.proofs.Common.{◌≡◌, ◌∙◌, ℕ, suc, ◌+◌, ◌-◌, ◌*◌, ◌<◌, ◌≤◌, Bool, true, false, List, [], ◌∷◌, drop, get_or, length, take, max, min, nat_lt, refl, ap, sym, subst, arith}
+use Rattle.std.proofs.Common.{◌≡◌, ◌∙◌, ◌⊎◌, inl, inr, ℕ, suc, ◌+◌, ◌-◌, ◌*◌, ◌<◌, ◌≤◌, List, [], ◌∷◌, drop, get_or, length, take, max, min, ap, sym, subst, arith}
 use Rattle.std.specs.Int.{abs_diff}
 use Rattle.std.specs.List.{flat_map}
+use Rattle.std.proofs.lemmas.Bool.{cases_lt}
 use Rattle.std.proofs.lemmas.List.{get_or-drop, get_or-take, length-drop, length-take}
-use Rattle.donor_search.specs.Decks.{AreWithin, IsWithin, range_at, slot_at}
+use Rattle.donor_search.specs.Decks.{AreWithin, IsWithin, block_size, mark_at, range_at, slot_at}
 use Rattle.donor_search.specs.declared.profile.Weighed.{Weighed}
 use Rattle.donor_search.specs.declared.ranges.MarkRange.{MarkRange}
 use Rattle.donor_search.specs.declared.slot.Slot.{Slot}
 use Rattle.donor_search.specs.inner.Profiles.{told, told_by, told_by_range, told_by_ranges}
-use Rattle.donor_search.proofs.ProfileLaws.{row_within, table_at, table_long}
+use Rattle.donor_search.proofs.TableLaws.{row_within, table_at, table_long}
 
 -- Ranges of marks, and what they tell of each donor of a block.
 
@@ -68,40 +69,21 @@ block_within count ranges marks start at ranges_end marks_end each = within_each
 pub part_long : (count start : ℕ) (ranges : List MarkRange) → start + count ≤ length ranges → length (take count (drop start ranges)) ≡ count
 part_long count start ranges within = let t = length-take count (drop start ranges) in let d = length-drop start ranges in omega (arith, t, d, within)
 
--- the ranges of a block, as they are looked up
-module _ (n m block : ℕ) (all ranges : List MarkRange) (count_is : n ≡ m) (all_is : all ≡ ranges) where
-  pub block_long : block * m + m ≤ length ranges → block * n + n ≤ length all
-  block_long within = subst (λ k. block * k + k ≤ length all) (sym count_is) (subst (λ (rs : List MarkRange). block * m + m ≤ length rs) (sym all_is) within)
-
-  pub block_part : take (block * n + n - block * n) (drop (block * n) all) ≡ take m (drop (block * m) ranges)
-  block_part = ap (λ q. take q (drop (block * n) all)) (less (block * n) n) ∙ ap (λ q. take q (drop (block * q) all)) count_is ∙ ap (λ (rs : List MarkRange). take m (drop (block * m) rs)) all_is
-    where
-      less : (a b : ℕ) → a + b - a ≡ b
-      less a b = omega arith
-
 -- ---- ranges are made
-
-lt_true : (m n : ℕ) → nat_lt m n ≡ true → m < n
-lt_true m n at = grind (arith, at)
-
-lt_false : (m n : ℕ) → nat_lt m n ≡ false → n ≤ m
-lt_false m n at = grind (arith, at)
 
 -- one block more
 pub blocks_step : (mark : ℕ → ℕ → ℕ → ℕ) (count block : ℕ) (olds news : List MarkRange) → length olds ≡ block * count
     → ((i : ℕ) → i < length olds → range_at news i ≡ range_at olds i)
-    → ((b j f : ℕ) → b < block → j < 32 → f < count → IsWithin (range_at olds (b * count + f)) (mark b j f))
-    → ((j f : ℕ) → j < 32 → f < count → IsWithin (range_at news (length olds + f)) (mark block j f))
-    → (b j f : ℕ) → b < block + 1 → j < 32 → f < count → IsWithin (range_at news (b * count + f)) (mark b j f)
-blocks_step mark count block olds news long kept each here b j f below less field = by (nat_lt b block) refl
+    → ((b j f : ℕ) → b < block → j < block_size → f < count → IsWithin (range_at olds (b * count + f)) (mark b j f))
+    → ((j f : ℕ) → j < block_size → f < count → IsWithin (range_at news (length olds + f)) (mark block j f))
+    → (b j f : ℕ) → b < block + 1 → j < block_size → f < count → IsWithin (range_at news (b * count + f)) (mark b j f)
+blocks_step mark count block olds news long kept each here b j f below less field = by (cases_lt b block)
   where
-    by : (x : Bool) → nat_lt b block ≡ x → IsWithin (range_at news (b * count + f)) (mark b j f)
-    by true at =
-        let under = lt_true b block at in
+    by : (b < block) ⊎ (block ≤ b) → IsWithin (range_at news (b * count + f)) (mark b j f)
+    by (inl under) =
         let m = row_within b block count under in
         subst (λ (r : MarkRange). IsWithin r (mark b j f)) (sym (kept (b * count + f) (omega (arith, m, long, field)))) (each b j f under less field)
-    by false at =
-        let more = lt_false b block at in
+    by (inr more) =
         subst (λ k. IsWithin (range_at news (k * count + f)) (mark k j f)) (same more)
         (subst (λ n. IsWithin (range_at news (n + f)) (mark block j f)) long (here j f less field))
       where
@@ -111,15 +93,15 @@ blocks_step mark count block olds news long kept each here b j f below less fiel
 -- ---- the ranges of a deck
 
 module _ (marks_at : Slot → List ℕ) (m count : ℕ) (slots there : List Slot) (marks lent : List ℕ) (ranges : List MarkRange) (count_is : count ≡ m) (there_is : there ≡ slots) (lent_is : lent ≡ marks)
-    (size : (block : ℕ) → block * 32 + 32 ≤ length there → block * count + count ≤ length ranges) where
-  pub blocks_long : (block : ℕ) → block * 32 + 32 ≤ length slots → block * m + m ≤ length ranges
-  blocks_long block whole = subst (λ n. block * n + n ≤ length ranges) count_is (size block (subst (λ (ss : List Slot). block * 32 + 32 ≤ length ss) (sym there_is) whole))
+    (size : (block : ℕ) → block * block_size + block_size ≤ length there → block * count + count ≤ length ranges) where
+  pub blocks_long : (block : ℕ) → block * block_size + block_size ≤ length slots → block * m + m ≤ length ranges
+  blocks_long block whole = subst (λ n. block * n + n ≤ length ranges) count_is (size block (subst (λ (ss : List Slot). block * block_size + block_size ≤ length ss) (sym there_is) whole))
 
   pub blocks_within : ((x : Slot) → length (marks_at x) ≡ m) → marks ≡ flat_map marks_at slots
-      → ((block j field : ℕ) → block * 32 + 32 ≤ length there → j < 32 → field < count → IsWithin (range_at ranges (block * count + field)) (get_or lent ((block * 32 + j) * count + field) 0))
-      → (block j : ℕ) → block * 32 + 32 ≤ length slots → j < 32 → AreWithin (take m (drop (block * m) ranges)) (marks_at (slot_at slots (block * 32 + j)))
+      → ((block j field : ℕ) → block * block_size + block_size ≤ length there → j < block_size → field < count → IsWithin (range_at ranges (block * count + field)) (mark_at lent count (block * block_size + j) field))
+      → (block j : ℕ) → block * block_size + block_size ≤ length slots → j < block_size → AreWithin (take m (drop (block * m) ranges)) (marks_at (slot_at slots (block * block_size + j)))
   blocks_within long marks_is within block j whole less =
-      let place : ℕ = block * 32 + j in
+      let place : ℕ = block * block_size + j in
       let below : place < length slots = omega (arith, whole, less) in
       let marks_end : place * m + m ≤ length marks =
       (let l = ap (λ (ms : List ℕ). length ms) marks_is in let t = table_long marks_at m long slots in let r = row_within place (length slots) m below in omega (arith, l, t, r)) in
@@ -128,8 +110,8 @@ module _ (marks_at : Slot → List ℕ) (m count : ℕ) (slots there : List Slot
       subst (λ (ms : List ℕ). AreWithin (take m (drop (block * m) ranges)) ms) table
       (block_within m ranges marks (block * m) (place * m) (blocks_long block whole) marks_end each)
     where
-      each : (f : ℕ) → f < m → IsWithin (range_at ranges (block * m + f)) (get_or marks ((block * 32 + j) * m + f) 0)
+      each : (f : ℕ) → f < m → IsWithin (range_at ranges (block * m + f)) (mark_at marks m (block * block_size + j) f)
       each f below =
-          subst (λ (ms : List ℕ). IsWithin (range_at ranges (block * m + f)) (get_or ms ((block * 32 + j) * m + f) 0)) lent_is
-          (subst (λ n. IsWithin (range_at ranges (block * n + f)) (get_or lent ((block * 32 + j) * n + f) 0)) count_is
-          (within block j f (subst (λ (ss : List Slot). block * 32 + 32 ≤ length ss) (sym there_is) whole) less (subst (λ n. f < n) (sym count_is) below)))
+          subst (λ (ms : List ℕ). IsWithin (range_at ranges (block * m + f)) (mark_at ms m (block * block_size + j) f)) lent_is
+          (subst (λ n. IsWithin (range_at ranges (block * n + f)) (mark_at lent n (block * block_size + j) f)) count_is
+          (within block j f (subst (λ (ss : List Slot). block * block_size + block_size ≤ length ss) (sym there_is) whole) less (subst (λ n. f < n) (sym count_is) below)))

@@ -11,14 +11,23 @@ use Rattle.donor_search.specs.CleanRows.{row_at}
 use Rattle.donor_search.specs.declared.ranges.MarkRange.{MarkRange}
 use Rattle.donor_search.specs.declared.slot.Slot.{Slot}
 
+-- how many donors a block has
+abbrev pub block_size : ℕ
+block_size = 32
+
+-- how many fields of a donor are looked at first
+abbrev pub first_fields : ℕ
+first_fields = 8
+
 -- the donors of a deck; of each field its slots; the marks of all rows; and a field, with the marks of the donors in the order of
--- its slots, and the ranges of these marks in blocks of donors
+-- its slots, those at the first fields alone, and the ranges of these marks in blocks of donors
 pub record DeckParts : Type 0 where
   pub donors : List ℕ
   pub index : List (List Slot)
   pub marks : List ℕ
   pub first : ℕ
   pub walk_marks : List ℕ
+  pub first_marks : List ℕ
   pub ranges : List MarkRange
 
 -- a donor with its bucket at a field of this scale
@@ -43,6 +52,14 @@ slot_at slots place = slice_index_or slots place (record { bucket = 0; donor = 0
 abbrev pub slot_marks : List Yardstick → List (List Value) → Slot → List ℕ
 slot_marks yardsticks rows slot = marks_of yardsticks (row_at rows slot.donor)
 
+-- those at the first fields
+abbrev pub slot_first_marks : List Yardstick → List (List Value) → Slot → List ℕ
+slot_first_marks yardsticks rows slot = take first_fields (slot_marks yardsticks rows slot)
+
+-- the mark of a donor at a field, where so many marks a donor stand one donor after the other
+abbrev pub mark_at : List ℕ → ℕ → ℕ → ℕ → ℕ
+mark_at marks count donor field = slice_index_or marks (donor * count + field) 0
+
 -- the range at a place
 abbrev pub range_at : List MarkRange → ℕ → MarkRange
 range_at ranges place = slice_index_or ranges place (record { low = 0; high = 0 })
@@ -62,8 +79,8 @@ AreWithin (range ∷ ranges) [] = ⊥
 AreWithin (range ∷ ranges) (mark ∷ marks) = IsWithin range mark × AreWithin ranges marks
 
 -- a deck is one of these rows and yardsticks: its donors rise, and it has their slots at each numerical field, the marks of all rows,
--- those of the donors in the order of the slots of one field, and ranges at each field for each whole block of 32 of these donors,
--- within which their marks are
+-- those of the donors in the order of the slots of one field, these at the first fields alone once more, and ranges at each field for
+-- each whole block of these donors, within which their marks are
 pub record IsDeckOf (yardsticks : List Yardstick) (rows : List (List Value)) (deck : DeckParts) : Type 0 where
   pub rising : IsStrictlyIncreasing deck.donors
   pub fields : length deck.index ≡ length yardsticks
@@ -71,8 +88,9 @@ pub record IsDeckOf (yardsticks : List Yardstick) (rows : List (List Value)) (de
       → AreSlots (yardstick_at yardsticks f).scale rows f deck.donors (slots_at deck.index f)
   pub marks : deck.marks ≡ flat_map (marks_of yardsticks) rows
   pub walk_marks : deck.walk_marks ≡ flat_map (slot_marks yardsticks rows) (slots_at deck.index deck.first)
-  pub blocks : (block : ℕ) → block * 32 + 32 ≤ length (slots_at deck.index deck.first)
+  pub first_marks : deck.first_marks ≡ flat_map (slot_first_marks yardsticks rows) (slots_at deck.index deck.first)
+  pub blocks : (block : ℕ) → block * block_size + block_size ≤ length (slots_at deck.index deck.first)
       → block * length yardsticks + length yardsticks ≤ length deck.ranges
-  pub ranges : (block j : ℕ) → block * 32 + 32 ≤ length (slots_at deck.index deck.first) → j < 32
+  pub ranges : (block j : ℕ) → block * block_size + block_size ≤ length (slots_at deck.index deck.first) → j < block_size
       → AreWithin (block_ranges (length yardsticks) deck.ranges block)
-      (slot_marks yardsticks rows (slot_at (slots_at deck.index deck.first) (block * 32 + j)))
+      (slot_marks yardsticks rows (slot_at (slots_at deck.index deck.first) (block * block_size + j)))

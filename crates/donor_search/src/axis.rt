@@ -1,5 +1,6 @@
 //! The field by whose buckets donors are walked over.
 ghost use Rattle.std.specs.Prelude.{◌≡◌, ◌&&◌, ◌<◌, ◌≤◌, false, None, IfNone, IfSome, Some, is_some, length};
+ghost use Rattle.foundation.specs.Limits.{most_fields, most_weight};
 ghost use Rattle.edit_model.specs.FieldSets.{has_number};
 ghost use Rattle.donor_measure.specs.Yardsticks.{yardstick_at};
 ghost use Rattle.donor_search.specs.Asked.{index_field};
@@ -21,7 +22,7 @@ impl Axis {
     /// The gap of two buckets at the field.
     #[inline(always)]
     pub fn gap(self, first: u128, second: u128) -> u64
-        requires { self.weight ≤ 1000 }
+        requires { self.weight ≤ most_weight }
         ensures { result ≡ bucket_gap_at self first second }
     {
         u64::from(self.weight) * apart_by_buckets(first, second)
@@ -45,7 +46,7 @@ pub(crate) fn first_axis(yardsticks: &Yardsticks, kept: FieldSet) -> Option<Axis
 // The field, where it is kept and numerical.
 fn axis_at(yardsticks: &Yardsticks, kept: FieldSet, field: u32) -> Option<Axis>
     requires field { field < length yardsticks.now }
-    requires small { field < 64 }
+    requires small { field < most_fields }
     ensures some { IfSome result (λ axis. IsAxis yardsticks.now kept axis × (axis.field ≡ field)) }
     ensures none { IfNone result ((has_number kept field && is_some (yardstick_at yardsticks.now field).scale) ≡ false) }
 {

@@ -11,6 +11,7 @@ ghost use Rattle.donor_search.specs.declared.slot.Slot.{Slot as AnySlot};
 ghost use Rattle.donor_search.specs.Places.{place_if};
 
 use crate::index::{marks_of_rows, marks_of_slots, slots_of};
+use crate::profile::FIRST;
 use crate::ranges::{MarkRange, ranges_of};
 use crate::slot::Slot;
 use donor_measure::Yardsticks;
@@ -29,6 +30,7 @@ pub struct Deck {
     marks: Vec<u32>,
     first: u32,
     walk_marks: Vec<u32>,
+    first_marks: Vec<u32>,
     ranges: Vec<MarkRange>,
 }
 
@@ -44,6 +46,7 @@ impl Model for Deck {
       marks = d.marks.items;
       first = d.first;
       walk_marks = d.walk_marks.items;
+      first_marks = d.first_marks.items;
       ranges = d.ranges.items;
     } };
 
@@ -68,14 +71,17 @@ impl Deck {
         let marks = marks_of_rows(alloc, survey, sheet)?;
         let first = first_number(survey);
         let slots = slots_in(&index, first);
-        let walk_marks = marks_of_slots(alloc, survey, sheet, slots)?;
-        let ranges = ranges_of(alloc, &walk_marks, survey.fields().len(), slots.len())?;
+        let count = survey.fields().len();
+        let walk_marks = marks_of_slots(alloc, survey, sheet, slots, count as u32)?;
+        let first_marks = marks_of_slots(alloc, survey, sheet, slots, FIRST as u32)?;
+        let ranges = ranges_of(alloc, &walk_marks, count, slots.len())?;
         Ok(Deck {
             rows,
             index,
             marks,
             first,
             walk_marks,
+            first_marks,
             ranges,
         })
     }
@@ -118,7 +124,15 @@ impl Deck {
         self.walk_marks.as_slice()
     }
 
-    // The ranges of these marks in each whole block of donors.
+    // These marks at the first fields alone.
+    #[inline(always)]
+    pub(crate) fn first_marks(&self) -> &[u32]
+        ensures { result.now ≡ self.now.first_marks }
+    {
+        self.first_marks.as_slice()
+    }
+
+    // The ranges of the marks in each whole block of donors.
     #[inline(always)]
     pub(crate) fn ranges(&self) -> &[MarkRange]
         ensures { result.now ≡ self.now.ranges }

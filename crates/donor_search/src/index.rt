@@ -1,5 +1,5 @@
 //! What a deck keeps beside its donors.
-ghost use Rattle.std.specs.Prelude.{◌≡◌, ◌++◌, ◌+◌, ◌*◌, ◌<◌, ◌≤◌, ◌^◌, All, IfOk, OnOk, length, map};
+ghost use Rattle.std.specs.Prelude.{◌≡◌, ◌++◌, ◌+◌, ◌*◌, ◌<◌, ◌≤◌, ◌^◌, All, IfOk, OnOk, length, map, min, take};
 ghost use Rattle.std.specs.List.{AllByRecursion, flat_map};
 ghost use Rattle.std.specs.List.Sorted.{IsNonDecreasingBy, IsPermutation};
 ghost use Rattle.edit_model.specs.PlainNumbers.{HasPlain};
@@ -124,39 +124,50 @@ pub(crate) fn marks_of_rows(
     let yardsticks = Yardsticks::of(survey);
     let mut marks = Vec::new(alloc);
     for row_no in 0..sheet.len() {
-        push_marks(&mut marks, &yardsticks, sheet.row(row_no))?;
+        push_marks(
+            &mut marks,
+            &yardsticks,
+            yardsticks.count(),
+            sheet.row(row_no),
+        )?;
     }
     Ok(marks)
 }
 
-/// The marks of the donors, in the order of these slots.
+/// The marks of the donors at so many fields at most, in the order of these slots.
 pub(crate) fn marks_of_slots(
     alloc: Global,
     survey: &Survey,
     sheet: &Sheet,
     slots: &[Slot],
+    most: u32,
 ) -> Result<Vec<u32>, OutOfMemory>
     requires rows { AllByRecursion (IsRow survey.now.fields) sheet.now.rows }
     requires donors { All (λ (s : AnySlot). s.donor < length sheet.now.rows) slots.now }
-    ensures size { IfOk result (λ marks. length marks.items ≡ length slots.now * length survey.now.fields) }
+    ensures size { IfOk result (λ marks. length marks.items ≡ length slots.now * min most (length survey.now.fields)) }
     ensures marks { IfOk result (λ marks. AllByRecursion HasPlain sheet.now.rows
-        → marks.items ≡ flat_map (slot_marks (yardsticks_of survey.now.fields) sheet.now.rows) slots.now) }
+        → marks.items ≡ flat_map (λ slot. take most (slot_marks (yardsticks_of survey.now.fields) sheet.now.rows slot)) slots.now) }
 {
     let yardsticks = Yardsticks::of(survey);
     let mut marks = Vec::new(alloc);
     for slot in slots {
-        push_marks(&mut marks, &yardsticks, sheet.row(slot.donor))?;
+        push_marks(&mut marks, &yardsticks, most, sheet.row(slot.donor))?;
     }
     Ok(marks)
 }
 
-// Puts the marks of a row last.
-fn push_marks(marks: &mut Vec<u32>, yardsticks: &Yardsticks, row: &Row) -> Result<(), OutOfMemory>
+// Puts the marks of a row at so many fields at most last.
+fn push_marks(
+    marks: &mut Vec<u32>,
+    yardsticks: &Yardsticks,
+    most: u32,
+    row: &Row,
+) -> Result<(), OutOfMemory>
     requires { length yardsticks.now ≡ length row.now }
-    ensures size { OnOk result (length marks.new.items ≡ length marks.old.items + length yardsticks.now) }
-    ensures marks { HasPlain row.now → OnOk result (marks.new.items ≡ marks.old.items ++ marks_of yardsticks.now row.now) }
+    ensures size { OnOk result (length marks.new.items ≡ length marks.old.items + min most (length yardsticks.now)) }
+    ensures marks { HasPlain row.now → OnOk result (marks.new.items ≡ marks.old.items ++ take most (marks_of yardsticks.now row.now)) }
 {
-    for field in 0..yardsticks.count() {
+    for field in 0..most.min(yardsticks.count()) {
         marks.push(mark_of(yardsticks.at(field).scale, row.value(field)))?;
     }
     Ok(())

@@ -1,8 +1,10 @@
 //! Whether a donor is too far away to be measured, by marks.
 ghost use Rattle.std.specs.Prelude.{◌≡◌, ◌<◌, ◌≤◌, ◌*◌, ◌-◌, All, length, min, take, true};
 ghost use Rattle.std.specs.Int.{abs_diff};
+ghost use Rattle.foundation.specs.Limits.{most_fields, most_weight};
 ghost use Rattle.donor_measure.specs.Measures.{HasMeasurable};
 ghost use Rattle.donor_measure.specs.Yardsticks.{yardstick_at};
+ghost use Rattle.donor_search.specs.Decks.{first_fields};
 ghost use Rattle.donor_search.specs.inner.Profiles.{IsProfile, told, told_by, told_by_range, told_by_ranges, weighed_at, weighed_from};
 ghost use Rattle.donor_search.specs.declared.profile.Weighed.{Weighed as AnyWeighed};
 
@@ -18,8 +20,9 @@ pub(crate) struct Weighed {
     pub mark: u32,
 }
 
-// How many fields are looked at first: these tell most donors that are far, and so few are compared at once.
-const FIRST: usize = 4;
+/// How many fields are looked at first. Of the donors that no block tells to be far these tell 4 in 10, and the marks at them stand
+/// apart, so that few bytes of a donor are read.
+pub(crate) const FIRST: usize = 8;
 
 // What stands in the places behind the last field.
 const NONE: Weighed = Weighed { weight: 0, mark: 0 };
@@ -28,24 +31,42 @@ const NONE: Weighed = Weighed { weight: 0, mark: 0 };
 #[inline(always)]
 pub(crate) fn is_farther(own: &[Weighed], marks: &[u32], most: u64) -> bool
     requires equal { length own.now ≡ length marks.now }
-    requires few { length own.now ≤ 64 }
-    requires weights { All (λ (w : AnyWeighed). w.weight ≤ 1000) own.now }
+    requires few { length own.now ≤ most_fields }
+    requires weights { All (λ (w : AnyWeighed). w.weight ≤ most_weight) own.now }
     ensures { result ≡ true → most < told own.now marks.now }
 {
-    if own.len() < FIRST {
-        return u64::from(told(own, marks)) > most;
-    }
-    let first = u64::from(told(&own[..FIRST], &marks[..FIRST]));
-    first > most || first + u64::from(told(&own[FIRST..], &marks[FIRST..])) > most
+    u64::from(told(own, marks)) > most
 }
 
-// What the marks tell of how far the donor is. All these are looked at, since a test at each field would take more time than it
-// spares.
+/// Whether the marks of a donor at the first fields tell it. Where there are fewer fields nothing is told, so that these are always as
+/// many, and the loop over them needs no test.
+#[inline(always)]
+pub(crate) fn is_farther_at_first(own: &[Weighed], first: &[u32], most: u64) -> bool
+    requires first { length first.now ≡ min first_fields (length own.now) }
+    requires few { length own.now ≤ most_fields }
+    requires weights { All (λ (w : AnyWeighed). w.weight ≤ most_weight) own.now }
+    ensures { result ≡ true → most < told own.now first.now }
+{
+    if own.len() < FIRST {
+        return false;
+    }
+    u64::from(told(&own[..FIRST], &first[..FIRST])) > most
+}
+
+/// The marks at the first fields among all of a donor.
+#[inline(always)]
+pub(crate) fn first_of(marks: &[u32]) -> &[u32]
+    ensures { result.now ≡ take first_fields marks.now }
+{
+    &marks[..FIRST.min(marks.len())]
+}
+
+// What marks tell of how far the donor is. All these are looked at, since a test at each field would take more time than it spares.
 #[inline(always)]
 fn told(own: &[Weighed], marks: &[u32]) -> u32
     requires equal { length own.now ≡ length marks.now }
-    requires few { length own.now ≤ 64 }
-    requires weights { All (λ (w : AnyWeighed). w.weight ≤ 1000) own.now }
+    requires few { length own.now ≤ most_fields }
+    requires weights { All (λ (w : AnyWeighed). w.weight ≤ most_weight) own.now }
     ensures { result ≡ told own.now marks.now }
 {
     let mut sum = 0;
@@ -58,9 +79,9 @@ fn told(own: &[Weighed], marks: &[u32]) -> u32
 // What two marks tell of how far two values are apart.
 #[inline(always)]
 fn told_by(own: &Weighed, mark: u32) -> u32
-    requires { own.now.weight ≤ 1000 }
+    requires { own.now.weight ≤ most_weight }
     ensures told { result ≡ told_by own.now mark }
-    ensures few { result ≤ 1000 * 1000 }
+    ensures few { result ≤ most_weight * 1000 }
 {
     own.weight * own.mark.abs_diff(mark).saturating_sub(1).min(1000)
 }
@@ -69,8 +90,8 @@ fn told_by(own: &Weighed, mark: u32) -> u32
 #[inline(always)]
 pub(crate) fn are_farther(own: &[Weighed], ranges: &[MarkRange], most: u64) -> bool
     requires equal { length own.now ≡ length ranges.now }
-    requires few { length own.now ≤ 64 }
-    requires weights { All (λ (w : AnyWeighed). w.weight ≤ 1000) own.now }
+    requires few { length own.now ≤ most_fields }
+    requires weights { All (λ (w : AnyWeighed). w.weight ≤ most_weight) own.now }
     ensures { result ≡ true → most < told_by_ranges own.now ranges.now }
 {
     u64::from(told_by_ranges(own, ranges)) > most
@@ -80,8 +101,8 @@ pub(crate) fn are_farther(own: &[Weighed], ranges: &[MarkRange], most: u64) -> b
 #[inline(always)]
 fn told_by_ranges(own: &[Weighed], ranges: &[MarkRange]) -> u32
     requires equal { length own.now ≡ length ranges.now }
-    requires few { length own.now ≤ 64 }
-    requires weights { All (λ (w : AnyWeighed). w.weight ≤ 1000) own.now }
+    requires few { length own.now ≤ most_fields }
+    requires weights { All (λ (w : AnyWeighed). w.weight ≤ most_weight) own.now }
     ensures { result ≡ told_by_ranges own.now ranges.now }
 {
     let mut sum = 0;
@@ -94,9 +115,9 @@ fn told_by_ranges(own: &[Weighed], ranges: &[MarkRange]) -> u32
 // What a mark and a range tell at least of how far two values are apart.
 #[inline(always)]
 fn told_by_range(own: &Weighed, range: &MarkRange) -> u32
-    requires { own.now.weight ≤ 1000 }
+    requires { own.now.weight ≤ most_weight }
     ensures told { result ≡ told_by_range own.now range.now }
-    ensures few { result ≤ 1000 * 1000 }
+    ensures few { result ≤ most_weight * 1000 }
 {
     let under = range.low.saturating_sub(own.mark);
     let over = own.mark.saturating_sub(range.high);
@@ -112,13 +133,14 @@ pub(crate) struct Profile {
 
 impl Model for Profile {
     ghost use Rattle.std.specs.Prelude.{◌≡◌, ◌≤◌, All, List, length, take};
+    ghost use Rattle.foundation.specs.Limits.{most_fields, most_weight};
     ghost use Rattle.donor_search.specs.declared.profile.Weighed as weighed;
 
     ghost Value = { List weighed.Weighed };
 
     ghost view = { λ p. take p.count p.places };
 
-    ghost invariant = { λ p. (p.count ≤ 64) × All (λ (w : weighed.Weighed). w.weight ≤ 1000) (take p.count p.places) };
+    ghost invariant = { λ p. (p.count ≤ most_fields) × All (λ (w : weighed.Weighed). w.weight ≤ most_weight) (take p.count p.places) };
 }
 
 impl Profile {
@@ -137,8 +159,8 @@ impl Profile {
     #[inline(always)]
     pub fn as_slice(&self) -> &[Weighed]
         ensures same { result.now ≡ self.now }
-        ensures few { length result.now ≤ 64 }
-        ensures weights { All (λ (w : AnyWeighed). w.weight ≤ 1000) result.now }
+        ensures few { length result.now ≤ most_fields }
+        ensures weights { All (λ (w : AnyWeighed). w.weight ≤ most_weight) result.now }
     {
         &self.places[..self.count]
     }
@@ -159,7 +181,7 @@ fn places_of(yardsticks: &Yardsticks, row: &Row, kept: FieldSet) -> [Weighed; 64
 // The mark at a field, with the field's weight.
 fn weighed_at(yardsticks: &Yardsticks, field: u32, row: &Row, kept: FieldSet) -> Weighed
     requires field { field < length yardsticks.now }
-    requires small { field < 64 }
+    requires small { field < most_fields }
     requires row { HasMeasurable yardsticks.now kept row.now }
     ensures { result ≡ weighed_at (yardstick_at yardsticks.now field) field kept row.now }
 {

@@ -1,6 +1,6 @@
 //! The least and the greatest marks of donors that follow one another in the walk, so that many are told to be far at once.
-ghost use Rattle.std.specs.Prelude.{◌≡◌, ◌+◌, ◌*◌, ◌<◌, ◌≤◌, ℕ, IfOk, OnOk, length, slice_index_or};
-ghost use Rattle.donor_search.specs.Decks.{IsWithin, range_at};
+ghost use Rattle.std.specs.Prelude.{◌≡◌, ◌+◌, ◌*◌, ◌<◌, ◌≤◌, ℕ, IfOk, OnOk, length};
+ghost use Rattle.donor_search.specs.Decks.{IsWithin, block_size, mark_at, range_at};
 
 use foundation::OutOfMemory;
 use std::alloc::Global;
@@ -24,9 +24,9 @@ pub(crate) fn ranges_of(
     donors: usize,
 ) -> Result<Vec<MarkRange>, OutOfMemory>
     requires { donors * count ≤ length marks.now }
-    ensures size { IfOk result (λ ranges. (block : ℕ) → block * 32 + 32 ≤ donors → block * count + count ≤ length ranges.items) }
-    ensures within { IfOk result (λ ranges. (block j field : ℕ) → block * 32 + 32 ≤ donors → j < 32 → field < count
-        → IsWithin (range_at ranges.items (block * count + field)) (slice_index_or marks.now ((block * 32 + j) * count + field) 0)) }
+    ensures size { IfOk result (λ ranges. (block : ℕ) → block * block_size + block_size ≤ donors → block * count + count ≤ length ranges.items) }
+    ensures within { IfOk result (λ ranges. (block j field : ℕ) → block * block_size + block_size ≤ donors → j < block_size → field < count
+        → IsWithin (range_at ranges.items (block * count + field)) (mark_at marks.now count (block * block_size + j) field)) }
 {
     let mut ranges = Vec::new(alloc);
     let mut block = 0;
@@ -44,11 +44,11 @@ fn push_ranges(
     count: usize,
     start: usize,
 ) -> Result<(), OutOfMemory>
-    requires { (start + 32) * count ≤ length marks.now }
+    requires { (start + block_size) * count ≤ length marks.now }
     ensures size { OnOk result (length ranges.new.items ≡ length ranges.old.items + count) }
     ensures kept { OnOk result ((i : ℕ) → i < length ranges.old.items → range_at ranges.new.items i ≡ range_at ranges.old.items i) }
-    ensures within { OnOk result ((j field : ℕ) → j < 32 → field < count
-        → IsWithin (range_at ranges.new.items (length ranges.old.items + field)) (slice_index_or marks.now ((start + j) * count + field) 0)) }
+    ensures within { OnOk result ((j field : ℕ) → j < block_size → field < count
+        → IsWithin (range_at ranges.new.items (length ranges.old.items + field)) (mark_at marks.now count (start + j) field)) }
 {
     for field in 0..count {
         ranges.push(range_of(marks, count, start, field))?;
@@ -58,9 +58,9 @@ fn push_ranges(
 
 // The range of the marks at a field in the block that begins with this donor.
 fn range_of(marks: &[u32], count: usize, start: usize, field: usize) -> MarkRange
-    requires marks { (start + 32) * count ≤ length marks.now }
+    requires marks { (start + block_size) * count ≤ length marks.now }
     requires field { field < count }
-    ensures { (j : ℕ) → j < 32 → IsWithin result (slice_index_or marks.now ((start + j) * count + field) 0) }
+    ensures { (j : ℕ) → j < block_size → IsWithin result (mark_at marks.now count (start + j) field) }
 {
     let mut range = MarkRange {
         low: u32::MAX,

@@ -1,16 +1,16 @@
 //! A search for the nearest donors of one record.
-ghost use Rattle.std.specs.Prelude.{◌≡◌, ◌+◌, ◌*◌, ◌<◌, ◌≤◌, OnOk, drop, length, take};
+ghost use Rattle.std.specs.Prelude.{◌≡◌, ◌+◌, ◌*◌, ◌<◌, ◌≤◌, OnOk, length, min, take};
 ghost use Rattle.donor_measure.specs.Buckets.{marks_of};
 ghost use Rattle.donor_search.specs.CleanRows.{IsRankable, row_at};
 ghost use Rattle.donor_search.specs.inner.Candidates.{IsClosedAt, Ranks, is_before};
-ghost use Rattle.donor_search.specs.Decks.{IsDeckOf, block_ranges, slot_at, slot_marks, slots_at};
+ghost use Rattle.donor_search.specs.Decks.{IsDeckOf, block_ranges, block_size, first_fields, slot_at, slot_first_marks, slot_marks, slots_at};
 ghost use Rattle.donor_search.specs.inner.Profiles.{IsProfile};
 ghost use Rattle.donor_search.specs.inner.Searches.{IsSearch, far_in, yardsticks_in};
 ghost use Rattle.donor_search.specs.Rankings.{IsInOrder};
 
 use crate::candidate::{Candidate, farthest, put};
 use crate::deck::Deck;
-use crate::profile::{Profile, is_farther};
+use crate::profile::{FIRST, Profile, first_of, is_farther};
 use crate::ranges::MarkRange;
 use donor_measure::Measure;
 use edit_model::{FieldSet, Row, Value};
@@ -137,11 +137,55 @@ fn marks_at_place<'a, F>(search: &Search<'a, F>, place: usize) -> &'a [u32]
     &marks[start..start + count]
 }
 
+/// The marks of the donor of a slot at the first fields. In the walk by the first numerical field these stand one donor after the
+/// other, so that little memory is read.
+#[inline(always)]
+pub(crate) fn first_marks_in_walk<'a, F>(
+    search: &Search<'a, F>,
+    field: u32,
+    place: usize,
+    donor: u32,
+) -> &'a [u32]
+    requires deck { IsDeckOf (yardsticks_in search.now) search.now.sheet.now.rows search.now.deck.now }
+    requires donor { donor < length search.now.sheet.now.rows }
+    requires place { place < length (slots_at search.now.deck.now.index field) }
+    requires slot { donor ≡ (slot_at (slots_at search.now.deck.now.index field) place).donor }
+    ensures { result.now ≡ take first_fields (marks_of (yardsticks_in search.now) (row_at search.now.sheet.now.rows donor)) }
+{
+    if field == search.deck.first() {
+        first_marks_at_place(search, place)
+    } else {
+        first_of(marks_at(search, donor))
+    }
+}
+
+// The marks at the first fields of the donor at a place of the walk by the first numerical field.
+#[inline(always)]
+fn first_marks_at_place<'a, F>(search: &Search<'a, F>, place: usize) -> &'a [u32]
+    requires deck { IsDeckOf (yardsticks_in search.now) search.now.sheet.now.rows search.now.deck.now }
+    requires place { place < length (slots_at search.now.deck.now.index search.now.deck.now.first) }
+    ensures { result.now ≡ slot_first_marks (yardsticks_in search.now) search.now.sheet.now.rows
+        (slot_at (slots_at search.now.deck.now.index search.now.deck.now.first) place) }
+{
+    let marks = search.deck.first_marks();
+    let count = first_count(search);
+    let start = place * count;
+    &marks[start..start + count]
+}
+
+// How many fields are looked at first.
+#[inline(always)]
+fn first_count<F>(search: &Search<F>) -> usize
+    ensures { result ≡ min first_fields (length (yardsticks_in search.now)) }
+{
+    FIRST.min(search.measure.yardsticks.count() as usize)
+}
+
 /// The ranges of the marks of a block of donors in the walk by the first numerical field.
 #[inline(always)]
 pub(crate) fn block_at<'a, F>(search: &Search<'a, F>, block: usize) -> &'a [MarkRange]
     requires deck { IsDeckOf (yardsticks_in search.now) search.now.sheet.now.rows search.now.deck.now }
-    requires block { block * 32 + 32 ≤ length (slots_at search.now.deck.now.index search.now.deck.now.first) }
+    requires block { block * block_size + block_size ≤ length (slots_at search.now.deck.now.index search.now.deck.now.first) }
     ensures { result.now ≡ block_ranges (length (yardsticks_in search.now)) search.now.deck.now.ranges block }
 {
     let all = search.deck.ranges();

@@ -15,3 +15,6 @@ push_marks-requires c =
     let below : row_no < length rows = search rules in
     let l = row-length fields (row_at rows row_no) (is_row_at fields rows row_no c.requires below) in
     ap (λ (ys : List Yardstick). length ys) c.of-yardsticks.ensures ∙ as_many fields ∙ sym l ∙ ap (λ (r : List Value). length r) (sym c.row.ensures)
+
+pub loop-row_no-preserved : goal.loop-row_no-preserved
+loop-row_no-preserved c = ?

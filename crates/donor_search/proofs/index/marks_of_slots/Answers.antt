@@ -16,3 +16,6 @@ push_marks-requires c =
     let below : donor < length rows = c.requires.donors c.loop-slot.slot-index (record { bucket = 0; donor = 0 }) c.loop-slot-test.true in
     let l = row-length fields (row_at rows donor) (is_row_at fields rows donor c.requires.rows below) in
     ap (λ (ys : List Yardstick). length ys) c.of-yardsticks.ensures ∙ as_many fields ∙ sym l ∙ ap (λ (r : List Value). length r) (sym c.row.ensures)
+
+pub loop-slot-preserved : goal.loop-slot-preserved
+loop-slot-preserved c = ?

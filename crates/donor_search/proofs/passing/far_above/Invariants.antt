@@ -1,15 +1,13 @@
 use Rattle.std.proofs.Common.{◌≤◌, ◌-◌, length}
-use Rattle.donor_search.specs.Decks.{slots_at}
-use Rattle.donor_search.specs.inner.Searches.{far_in}
-use Rattle.donor_search.specs.inner.Spans.{AreFarther}
+use Rattle.donor_search.specs.inner.Passings.{AreFar, slots_of}
 use Rattle.donor_search.proofs.passing.far_above.Given as goal
 
 abbrev pub invariant-loop-place : goal.invariant-loop-place
 invariant-loop-place g l = record {
   from : l.start ≤ l.place;
   upto : l.place ≤ l.end;
-  within : l.end ≤ length (slots_at l.search.deck.now.index l.field);
-  farther : AreFarther (far_in l.search) l.most (slots_at l.search.deck.now.index l.field) l.start l.place;
+  within : l.end ≤ length (slots_of l.passing);
+  far : AreFar l.passing l.start l.place;
 }
 
 abbrev pub decreases-loop-place : goal.decreases-loop-place

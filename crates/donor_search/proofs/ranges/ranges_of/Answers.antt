@@ -1,4 +1,5 @@
-use Rattle.std.proofs.Common.{ℕ, ◌≡◌, ◌∙◌, ◌+◌, ◌*◌, ap, get_or, arith}
+use Rattle.std.proofs.Common.{ℕ, ◌≡◌, ◌∙◌, ◌+◌, ◌*◌, ap, arith}
+use Rattle.donor_search.specs.Decks.{block_size, mark_at}
 use Rattle.donor_search.proofs.RangeLaws.{blocks_step}
 use Rattle.donor_search.proofs.ranges.ranges_of.Goals as goal
 
@@ -13,6 +14,6 @@ loop-block-preserved c =
     record {
       upto = omega (arith, inv.upto, c.loop-block-test.true);
       size = c.in_ok-push_ranges.ensures.size ∙ ap (λ n. n + count) inv.size ∙ one_more block count;
-      within = blocks_step (λ b j f. get_or c.args.marks.now ((b * 32 + j) * count + f) 0) count block c.loop-block.ranges.items c.push_ranges.new.ranges.items inv.size
+      within = blocks_step (λ b j f. mark_at c.args.marks.now count (b * block_size + j) f) count block c.loop-block.ranges.items c.push_ranges.new.ranges.items inv.size
           c.in_ok-push_ranges.ensures.kept inv.within c.in_ok-push_ranges.ensures.within;
     }

@@ -1,0 +1,52 @@
+use Rattle.std.proofs.Common.{◌≡◌, ◌∙◌, ℕ, zero, suc, ◌+◌, ◌<◌, List, [], ◌∷◌, ◌++◌, add-one, append_assoc, drop, drop-cons, get_or, length, take, refl, ap, sym, arith}
+use Rattle.std.specs.List.{AllByRecursion, flat_map}
+use Rattle.std.proofs.Math.Seq.{take-suc}
+use Rattle.std.proofs.lemmas.List.Elements.{All-from_recursion}
+use Rattle.edit_model.specs.PlainNumbers.{HasPlain, IsPlainValue}
+use Rattle.edit_model.specs.Rows.{value_of}
+use Rattle.edit_model.specs.declared.value.Value.{Value}
+use Rattle.edit_model.specs.declared.value.Value.TheVariants.{Bad}
+use Rattle.donor_measure.specs.Buckets.{mark_of, marks_from, marks_of}
+use Rattle.donor_measure.specs.Yardsticks.{yardstick_at}
+use Rattle.donor_measure.specs.declared.yardstick.Yardstick.{Yardstick}
+
+-- How the marks of records are put one after the other.
+
+mark_here : (i k : ℕ) (ys : List Yardstick) (row : List Value) → k < length ys → get_or (marks_from i ys row) k 0 ≡ mark_of (yardstick_at ys k).scale (value_of row (i + k))
+mark_here i k [] row below = absurd (omega (arith, below))
+mark_here i zero (y ∷ ys) row below = ap (λ n. mark_of y.scale (value_of row n)) same
+  where
+    same : i ≡ i + 0
+    same = omega arith
+mark_here i (suc k) (y ∷ ys) row below = mark_here (suc i) k ys row (omega (arith, below)) ∙ ap (λ n. mark_of (yardstick_at ys k).scale (value_of row n)) next
+  where
+    next : suc i + k ≡ i + suc k
+    next = omega arith
+
+pub plain_here : (row : List Value) (k : ℕ) → HasPlain row → k < length row → IsPlainValue (value_of row k)
+plain_here row k plain below = All-from_recursion IsPlainValue row plain k Bad below
+
+-- one mark more of a record
+pub marks_more : (ys : List Yardstick) (row : List Value) (k mark : ℕ) (olds marks news : List ℕ) → k < length ys → length (marks_of ys row) ≡ length ys → marks ≡ olds ++ take k (marks_of ys row)
+    → mark ≡ mark_of (yardstick_at ys k).scale (value_of row k) → news ≡ marks ++ (mark ∷ []) → news ≡ olds ++ take (k + 1) (marks_of ys row)
+marks_more ys row k mark olds marks news below long before is put =
+    put
+    ∙ ap (λ (ms : List ℕ). ms ++ (mark ∷ [])) before
+    ∙ append_assoc {xs = olds} {ys = take k (marks_of ys row)} {zs = mark ∷ []}
+    ∙ ap (λ m. olds ++ (take k (marks_of ys row) ++ (m ∷ []))) (is ∙ sym (mark_here 0 k ys row below))
+    ∙ ap (λ (ms : List ℕ). olds ++ ms) (sym (take-suc (marks_of ys row) k 0 (omega (arith, below, long))))
+    ∙ ap (λ n. olds ++ take n (marks_of ys row)) (sym (add-one k))
+
+-- one list more
+pub lists_more : {X : Type 0} (f : X → List ℕ) (xs : List X) (k : ℕ) (d : X) (marks news : List ℕ) → k < length xs → marks ++ flat_map f (drop k xs) ≡ flat_map f xs → news ≡ marks ++ f (get_or xs k d)
+    → news ++ flat_map f (drop (k + 1) xs) ≡ flat_map f xs
+lists_more f xs k d marks news below before put =
+    ap (λ (ms : List ℕ). ms ++ flat_map f (drop (k + 1) xs)) put
+    ∙ ap (λ n. (marks ++ f (get_or xs k d)) ++ flat_map f (drop n xs)) (add-one k)
+    ∙ append_assoc
+    ∙ ap (λ ys. marks ++ flat_map f ys) (sym (drop-cons k xs d below))
+    ∙ before
+
+pub lists_same : {X : Type 0} (f g : X → List ℕ) → ((x : X) → f x ≡ g x) → (xs : List X) → flat_map f xs ≡ flat_map g xs
+lists_same f g each [] = refl
+lists_same f g each (x ∷ xs) = ap (λ (ms : List ℕ). ms ++ flat_map f xs) (each x) ∙ ap (λ (ms : List ℕ). g x ++ ms) (lists_same f g each xs)
