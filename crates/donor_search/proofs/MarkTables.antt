@@ -1,6 +1,7 @@
-use Rattle.std.proofs.Common.{◌≡◌, ◌∙◌, ℕ, zero, suc, ◌+◌, ◌<◌, List, [], ◌∷◌, ◌++◌, add-one, append_assoc, drop, drop-cons, get_or, length, take, refl, ap, sym, arith}
+use Rattle.std.proofs.Common.{◌≡◌, ◌∙◌, ℕ, zero, suc, ◌+◌, ◌<◌, ◌≤◌, List, [], ◌∷◌, ◌++◌, add-one, append_assoc, drop, get_or, length, take, refl, ap, sym, subst, arith}
 use Rattle.std.specs.List.{AllByRecursion, flat_map}
-use Rattle.std.proofs.Math.Seq.{take-suc}
+use Rattle.std.proofs.Math.Seq.{drop-cons, take-suc}
+use Rattle.std.proofs.lemmas.List.{take_all}
 use Rattle.std.proofs.lemmas.List.Elements.{All-from_recursion}
 use Rattle.edit_model.specs.PlainNumbers.{HasPlain, IsPlainValue}
 use Rattle.edit_model.specs.Rows.{value_of}
@@ -9,6 +10,10 @@ use Rattle.edit_model.specs.declared.value.Value.TheVariants.{Bad}
 use Rattle.donor_measure.specs.Buckets.{mark_of, marks_from, marks_of}
 use Rattle.donor_measure.specs.Yardsticks.{yardstick_at}
 use Rattle.donor_measure.specs.declared.yardstick.Yardstick.{Yardstick}
+use Rattle.donor_search.specs.CleanRows.{row_at}
+use Rattle.donor_search.specs.Decks.{slot_first_marks, slot_marks}
+use Rattle.donor_search.specs.declared.slot.Slot.{Slot}
+use Rattle.donor_search.proofs.ProfileLaws.{marks_long}
 
 -- How the marks of records are put one after the other.
 
@@ -32,10 +37,21 @@ pub marks_more : (ys : List Yardstick) (row : List Value) (k mark : ℕ) (olds m
 marks_more ys row k mark olds marks news below long before is put =
     put
     ∙ ap (λ (ms : List ℕ). ms ++ (mark ∷ [])) before
-    ∙ append_assoc {xs = olds} {ys = take k (marks_of ys row)} {zs = mark ∷ []}
-    ∙ ap (λ m. olds ++ (take k (marks_of ys row) ++ (m ∷ []))) (is ∙ sym (mark_here 0 k ys row below))
+    ∙ append_assoc olds (take k (marks_of ys row)) (mark ∷ [])
+    ∙ ap (λ m. olds ++ (take k (marks_of ys row) ++ (m ∷ []))) (is ∙ ap (λ n. mark_of (yardstick_at ys k).scale (value_of row n)) from_zero ∙ sym (mark_here 0 k ys row below))
     ∙ ap (λ (ms : List ℕ). olds ++ ms) (sym (take-suc (marks_of ys row) k 0 (omega (arith, below, long))))
     ∙ ap (λ n. olds ++ take n (marks_of ys row)) (sym (add-one k))
+  where
+    from_zero : k ≡ 0 + k
+    from_zero = omega arith
+
+-- those of a row of the sheet
+pub row_put : (most : ℕ) (ys given : List Yardstick) (rows : List (List Value)) (k : ℕ) (row : List Value) (marks news : List ℕ) → given ≡ ys → row ≡ row_at rows k → k < length rows → AllByRecursion HasPlain rows
+    → (HasPlain row → news ≡ marks ++ take most (marks_of given row)) → news ≡ marks ++ take most (marks_of ys (row_at rows k))
+row_put most ys given rows k row marks news given_is row_is below plain put =
+    put (subst HasPlain (sym row_is) (All-from_recursion HasPlain rows plain k [] below))
+    ∙ ap (λ (r : List Value). marks ++ take most (marks_of given r)) row_is
+    ∙ ap (λ (us : List Yardstick). marks ++ take most (marks_of us (row_at rows k))) given_is
 
 -- one list more
 pub lists_more : {X : Type 0} (f : X → List ℕ) (xs : List X) (k : ℕ) (d : X) (marks news : List ℕ) → k < length xs → marks ++ flat_map f (drop k xs) ≡ flat_map f xs → news ≡ marks ++ f (get_or xs k d)
@@ -43,10 +59,17 @@ pub lists_more : {X : Type 0} (f : X → List ℕ) (xs : List X) (k : ℕ) (d : 
 lists_more f xs k d marks news below before put =
     ap (λ (ms : List ℕ). ms ++ flat_map f (drop (k + 1) xs)) put
     ∙ ap (λ n. (marks ++ f (get_or xs k d)) ++ flat_map f (drop n xs)) (add-one k)
-    ∙ append_assoc
-    ∙ ap (λ ys. marks ++ flat_map f ys) (sym (drop-cons k xs d below))
+    ∙ append_assoc marks (f (get_or xs k d)) (flat_map f (drop (suc k) xs))
+    ∙ ap (λ ys. marks ++ flat_map f ys) (sym (drop-cons xs k d below))
     ∙ before
 
-pub lists_same : {X : Type 0} (f g : X → List ℕ) → ((x : X) → f x ≡ g x) → (xs : List X) → flat_map f xs ≡ flat_map g xs
+lists_same : {X : Type 0} (f g : X → List ℕ) → ((x : X) → f x ≡ g x) → (xs : List X) → flat_map f xs ≡ flat_map g xs
 lists_same f g each [] = refl
 lists_same f g each (x ∷ xs) = ap (λ (ms : List ℕ). ms ++ flat_map f xs) (each x) ∙ ap (λ (ms : List ℕ). g x ++ ms) (lists_same f g each xs)
+
+-- the marks at the first fields are all, where these are all
+pub whole_marks : (ys : List Yardstick) (rows : List (List Value)) (n : ℕ) → length ys ≤ n → (slots : List Slot) → flat_map (slot_first_marks n ys rows) slots ≡ flat_map (slot_marks ys rows) slots
+whole_marks ys rows n all slots = lists_same (slot_first_marks n ys rows) (slot_marks ys rows) (λ (x : Slot). take_all n (slot_marks ys rows x) (whole x)) slots
+  where
+    whole : (x : Slot) → length (slot_marks ys rows x) ≤ n
+    whole x = let l = marks_long 0 ys (row_at rows x.donor) in omega (arith, l, all)

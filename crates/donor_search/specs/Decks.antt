@@ -52,9 +52,9 @@ slot_at slots place = slice_index_or slots place (record { bucket = 0; donor = 0
 abbrev pub slot_marks : List Yardstick → List (List Value) → Slot → List ℕ
 slot_marks yardsticks rows slot = marks_of yardsticks (row_at rows slot.donor)
 
--- those at the first fields
-abbrev pub slot_first_marks : List Yardstick → List (List Value) → Slot → List ℕ
-slot_first_marks yardsticks rows slot = take first_fields (slot_marks yardsticks rows slot)
+-- those at the first n fields
+abbrev pub slot_first_marks : ℕ → List Yardstick → List (List Value) → Slot → List ℕ
+slot_first_marks n yardsticks rows slot = take n (slot_marks yardsticks rows slot)
 
 -- the mark of a donor at a field, where so many marks a donor stand one donor after the other
 abbrev pub mark_at : List ℕ → ℕ → ℕ → ℕ → ℕ
@@ -88,7 +88,7 @@ pub record IsDeckOf (yardsticks : List Yardstick) (rows : List (List Value)) (de
       → AreSlots (yardstick_at yardsticks f).scale rows f deck.donors (slots_at deck.index f)
   pub marks : deck.marks ≡ flat_map (marks_of yardsticks) rows
   pub walk_marks : deck.walk_marks ≡ flat_map (slot_marks yardsticks rows) (slots_at deck.index deck.first)
-  pub first_marks : deck.first_marks ≡ flat_map (slot_first_marks yardsticks rows) (slots_at deck.index deck.first)
+  pub first_marks : deck.first_marks ≡ flat_map (slot_first_marks first_fields yardsticks rows) (slots_at deck.index deck.first)
   pub blocks : (block : ℕ) → block * block_size + block_size ≤ length (slots_at deck.index deck.first)
       → block * length yardsticks + length yardsticks ≤ length deck.ranges
   pub ranges : (block j : ℕ) → block * block_size + block_size ≤ length (slots_at deck.index deck.first) → j < block_size

@@ -6,7 +6,7 @@ ghost use Rattle.edit_model.specs.PlainNumbers.{HasPlain};
 ghost use Rattle.edit_model.specs.Rows.{IsRow};
 ghost use Rattle.donor_measure.specs.Buckets.{marks_of};
 ghost use Rattle.donor_measure.specs.Yardsticks.{IsScale, yardsticks_of};
-ghost use Rattle.donor_search.specs.Decks.{AreSlots, slot_marks, slot_of};
+ghost use Rattle.donor_search.specs.Decks.{AreSlots, slot_first_marks, slot_of};
 ghost use Rattle.donor_search.specs.declared.slot.Slot.{Slot as AnySlot};
 
 use crate::slot::Slot;
@@ -146,7 +146,7 @@ pub(crate) fn marks_of_slots(
     requires donors { All (λ (s : AnySlot). s.donor < length sheet.now.rows) slots.now }
     ensures size { IfOk result (λ marks. length marks.items ≡ length slots.now * min most (length survey.now.fields)) }
     ensures marks { IfOk result (λ marks. AllByRecursion HasPlain sheet.now.rows
-        → marks.items ≡ flat_map (λ slot. take most (slot_marks (yardsticks_of survey.now.fields) sheet.now.rows slot)) slots.now) }
+        → marks.items ≡ flat_map (slot_first_marks most (yardsticks_of survey.now.fields) sheet.now.rows) slots.now) }
 {
     let yardsticks = Yardsticks::of(survey);
     let mut marks = Vec::new(alloc);

@@ -164,7 +164,7 @@ pub(crate) fn first_marks_in_walk<'a, F>(
 fn first_marks_at_place<'a, F>(search: &Search<'a, F>, place: usize) -> &'a [u32]
     requires deck { IsDeckOf (yardsticks_in search.now) search.now.sheet.now.rows search.now.deck.now }
     requires place { place < length (slots_at search.now.deck.now.index search.now.deck.now.first) }
-    ensures { result.now ≡ slot_first_marks (yardsticks_in search.now) search.now.sheet.now.rows
+    ensures { result.now ≡ slot_first_marks first_fields (yardsticks_in search.now) search.now.sheet.now.rows
         (slot_at (slots_at search.now.deck.now.index search.now.deck.now.first) place) }
 {
     let marks = search.deck.first_marks();

@@ -1,4 +1,4 @@
-use Rattle.std.proofs.Common.{◌≡◌, ◌<◌, ◌∙◌, ◌++◌, List, ℕ, ap, length, min, sym, subst, take, arith, rules}
+use Rattle.std.proofs.Common.{◌≡◌, ◌<◌, ◌∙◌, ◌++◌, ◌∷◌, [], List, ℕ, ap, length, length-append, min, sym, subst, take, arith}
 use Rattle.std.proofs.lemmas.List.{take_min}
 use Rattle.edit_model.specs.declared.value.Value.{Value}
 use Rattle.edit_model.specs.PlainNumbers.{HasPlain, IsPlainValue}
@@ -14,10 +14,10 @@ loop-field-preserved c =
     let row = c.args.row.now in
     let field = c.loop-field.field in
     let inv = c.loop-field.invariant in
-    let put = c.in_ok-push.ensures.items in
+    let put : c.push.new.self.items ≡ c.loop-field.marks.items ++ (c.mark_of.result ∷ []) = c.in_ok-push.ensures.items in
     let below : field < length ys = omega (arith, c.loop-field-test.true, c.min-field-end.ensures, c.count.ensures.fields) in
     record {
-      size = omega (arith, inv.size, ap (λ (ms : List ℕ). length ms) put);
+      size = omega (arith, inv.size, simp length-append at (ap (λ (ms : List ℕ). length ms) put));
       marks = λ plain.
           let here : IsPlainValue c.value.result.now = subst IsPlainValue (sym c.value.ensures) (plain_here row field plain (omega (arith, below, c.requires))) in
           let is = c.mark_of.ensures here ∙ ap (λ (y : Yardstick). mark_of y.scale c.value.result.now) c.at.ensures.is ∙ ap (mark_of _) c.value.ensures in

@@ -13,7 +13,7 @@ overflow_mul-start g c =
     let ys = yardsticks_in s in
     let rows = s.sheet.now.rows in
     let slots = slots_at s.deck.now.index s.deck.now.first in
-    let within = entry_within (slot_first_marks ys rows) (min first_fields (length ys)) (λ (x : Slot). first_long ys (row_at rows x.donor)) c.first_count-count.result c.args.place c.first_marks-marks.result.now slots
+    let within = entry_within (slot_first_marks first_fields ys rows) (min first_fields (length ys)) (λ (x : Slot). first_long ys (row_at rows x.donor)) c.first_count-count.result c.args.place c.first_marks-marks.result.now slots
     c.first_count-count.ensures (c.first_marks-marks.ensures ∙ c.requires.deck.first_marks) c.requires.place in
     omega (arith, within, c.first_marks-marks.type_inv)
 
@@ -23,7 +23,7 @@ slice_bounds-result-end g c =
     let ys = yardsticks_in s in
     let rows = s.sheet.now.rows in
     let slots = slots_at s.deck.now.index s.deck.now.first in
-    let within = entry_within (slot_first_marks ys rows) (min first_fields (length ys)) (λ (x : Slot). first_long ys (row_at rows x.donor)) c.first_count-count.result c.args.place c.first_marks-marks.result.now slots
+    let within = entry_within (slot_first_marks first_fields ys rows) (min first_fields (length ys)) (λ (x : Slot). first_long ys (row_at rows x.donor)) c.first_count-count.result c.args.place c.first_marks-marks.result.now slots
     c.first_count-count.ensures (c.first_marks-marks.ensures ∙ c.requires.deck.first_marks) c.requires.place in
     omega (arith, within)
 
@@ -33,7 +33,7 @@ overflow_add-result g c =
     let ys = yardsticks_in s in
     let rows = s.sheet.now.rows in
     let slots = slots_at s.deck.now.index s.deck.now.first in
-    let within = entry_within (slot_first_marks ys rows) (min first_fields (length ys)) (λ (x : Slot). first_long ys (row_at rows x.donor)) c.first_count-count.result c.args.place c.first_marks-marks.result.now slots
+    let within = entry_within (slot_first_marks first_fields ys rows) (min first_fields (length ys)) (λ (x : Slot). first_long ys (row_at rows x.donor)) c.first_count-count.result c.args.place c.first_marks-marks.result.now slots
     c.first_count-count.ensures (c.first_marks-marks.ensures ∙ c.requires.deck.first_marks) c.requires.place in
     omega (arith, within, c.first_marks-marks.type_inv)
 
@@ -43,7 +43,7 @@ offset_bounds-marks-start g c =
     let ys = yardsticks_in s in
     let rows = s.sheet.now.rows in
     let slots = slots_at s.deck.now.index s.deck.now.first in
-    let within = entry_within (slot_first_marks ys rows) (min first_fields (length ys)) (λ (x : Slot). first_long ys (row_at rows x.donor)) c.first_count-count.result c.args.place c.first_marks-marks.result.now slots
+    let within = entry_within (slot_first_marks first_fields ys rows) (min first_fields (length ys)) (λ (x : Slot). first_long ys (row_at rows x.donor)) c.first_count-count.result c.args.place c.first_marks-marks.result.now slots
     c.first_count-count.ensures (c.first_marks-marks.ensures ∙ c.requires.deck.first_marks) c.requires.place in
     omega (arith, within, c.first_marks-marks.type_inv)
 
@@ -53,5 +53,5 @@ returns g c =
     let ys = yardsticks_in s in
     let rows = s.sheet.now.rows in
     let slots = slots_at s.deck.now.index s.deck.now.first in
-    entry_is (slot_first_marks ys rows) (min first_fields (length ys)) (λ (x : Slot). first_long ys (row_at rows x.donor)) c.first_count-count.result c.args.place c.first_marks-marks.result.now slots
+    entry_is (slot_first_marks first_fields ys rows) (min first_fields (length ys)) (λ (x : Slot). first_long ys (row_at rows x.donor)) c.first_count-count.result c.args.place c.first_marks-marks.result.now slots
     c.first_count-count.ensures (c.first_marks-marks.ensures ∙ c.requires.deck.first_marks) c.requires.place (record { bucket = 0; donor = 0 })
