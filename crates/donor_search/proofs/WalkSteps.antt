@@ -49,7 +49,9 @@ span_past slots bucket old new is lower higher within = record {
 pub span_longer : (old new : Span) (most : ℕ) → old.high - old.low < new.high - new.low → new.high ≤ most → most - (new.high - new.low) < most - (old.high - old.low)
 span_longer old new most more within = omega (arith, more, within)
 
-module _ (far gap : ℕ → ℕ) (near : ℕ) (axis : Axis) (bucket : ℕ) (donors : List ℕ) (slots : List Slot) (are : AreWalked far gap axis bucket donors slots) where
+-- ---- what the walk knows, of which the facts tell the donors, the slots and the span
+
+module _ {far gap : ℕ → ℕ} {axis : Axis} {bucket : ℕ} {donors : List ℕ} {slots : List Slot} (are : AreWalked far gap axis bucket donors slots) where
   below_names : (i : ℕ) → i < length (map (λ (s : Slot). s.donor) slots) → i < length slots
   below_names i below = let l = length-map slots (λ (s : Slot). s.donor) in omega (arith, below, l)
 
@@ -61,19 +63,20 @@ module _ (far gap : ℕ → ℕ) (near : ℕ) (axis : Axis) (bucket : ℕ) (dono
   next_least span place next i below outside =
       subst (λ n. bucket_gap_at axis bucket (bucket_at slots place) ≤ n) (sym (are.gaps i below)) (gap_rises axis bucket (bucket_at slots place) (bucket_at slots i) (next.near i below outside))
 
-  pub step_walked : (old new : Span) (place donor : ℕ) (nearest after : List Candidate) (before mid now : ℕ) → Walked far gap near (map (λ (s : Slot). s.donor) slots) old nearest before mid → now ≤ mid + 1 → old.low ≤ old.high
-      → IsNext slots bucket old place → IsWider old place new → length nearest ≤ near → IsOpenOrReaches near (bucket_gap_at axis bucket (bucket_at slots place)) nearest
-      → donor ≡ (get_or slots place (record { bucket = 0; donor = 0 })).donor → after ≡ take near (placed is_before (candidate_of far donor) nearest)
-      → Walked far gap near (map (λ (s : Slot). s.donor) slots) new after before now
-  step_walked old new place donor nearest after before mid now walked one rising next wider few room donor_is put =
-      let here : get_or (map (λ (s : Slot). s.donor) slots) place 0 ≡ donor = get_mapped slots place (record { bucket = 0; donor = 0 }) next.within ∙ sym donor_is in
-      walked_more far gap near (map (λ (s : Slot). s.donor) slots) old new place nearest after before mid now walked one (names_below place next.within) rising wider
-      (λ i below outside. subst (λ n. n ≤ gap (get_or (map (λ (s : Slot). s.donor) slots) i 0)) (sym (are.gaps place next.within)) (next_least old place next i (below_names i below) outside))
-      (are.short (get_or (map (λ (s : Slot). s.donor) slots) place 0)) few
-      (subst (λ n. IsOpenOrReaches near n nearest) (sym (are.gaps place next.within)) room)
-      (put ∙ ap (λ d. take near (placed is_before (candidate_of far d) nearest)) (sym here))
+  module _ {near : ℕ} {span : Span} {nearest : List Candidate} {before now : ℕ} (walked : Walked far gap near (map (λ (s : Slot). s.donor) slots) span nearest before now) where
+    -- one place more is walked over
+    pub step_walked : (new : Span) (place donor : ℕ) (after : List Candidate) (later : ℕ) → later ≤ now + 1 → span.low ≤ span.high
+        → IsNext slots bucket span place → IsWider span place new → length nearest ≤ near → IsOpenOrReaches near (bucket_gap_at axis bucket (bucket_at slots place)) nearest
+        → donor ≡ (get_or slots place (record { bucket = 0; donor = 0 })).donor → after ≡ take near (placed is_before (candidate_of far donor) nearest)
+        → Walked far gap near (map (λ (s : Slot). s.donor) slots) new after before later
+    step_walked new place donor after later one rising next wider few room donor_is put =
+        let here : get_or (map (λ (s : Slot). s.donor) slots) place 0 ≡ donor = get_mapped slots place (record { bucket = 0; donor = 0 }) next.within ∙ sym donor_is in
+        walked_more far gap near (map (λ (s : Slot). s.donor) slots) span new place nearest after before now later walked one (names_below place next.within) rising wider
+        (λ i below outside. subst (λ n. n ≤ gap (get_or (map (λ (s : Slot). s.donor) slots) i 0)) (sym (are.gaps place next.within)) (next_least span place next i (below_names i below) outside))
+        (are.short (get_or (map (λ (s : Slot). s.donor) slots) place 0)) few
+        (subst (λ n. IsOpenOrReaches near n nearest) (sym (are.gaps place next.within)) room)
+        (put ∙ ap (λ d. take near (placed is_before (candidate_of far d) nearest)) (sym here))
 
-  module _ (span : Span) (nearest : List Candidate) (before now : ℕ) (walked : Walked far gap near (map (λ (s : Slot). s.donor) slots) span nearest before now) where
     -- the walk ends since all that are left are too far
     pub stopped_all : (place : ℕ) → IsNext slots bucket span place → IsClosedAt near (bucket_gap_at axis bucket (bucket_at slots place)) nearest → nearest ≡ map (candidate_of far) (take near (in_order (is_nearer far) donors))
     stopped_all place next closed = walked_all far gap near (map (λ (s : Slot). s.donor) slots) donors span nearest before now walked are.same

@@ -7,7 +7,7 @@ use Rattle.donor_search.specs.inner.Spans.{IsPast}
 use Rattle.donor_search.specs.inner.Candidates.{IsClosedAt, IsOpenOrReaches, candidate_of, is_before}
 use Rattle.donor_search.specs.inner.Searches.{far_in, gap_in, ranking_in, yardsticks_in}
 use Rattle.donor_search.specs.Rankings.{IsInOrder}
-use Rattle.donor_search.proofs.GapLaws.{AreWalked, slots_rankable, slots_walked}
+use Rattle.donor_search.proofs.GapLaws.{slots_rankable, slots_walked}
 use Rattle.donor_search.proofs.OrderLaws.{nearest_order}
 use Rattle.donor_search.proofs.RankingLaws.{few_taken}
 use Rattle.donor_search.proofs.WalkLaws.{Walked, walked_none}
@@ -20,6 +20,7 @@ loop-slots-init g c =
     let none : c.new-nearest.result.items ≡ [] = c.new-nearest.ensures.items in
     let size : length c.new-nearest.result.items ≡ 0 = ap (λ (cs : List Candidate). length cs) none in
     record {
+      are = slots_walked g.F.Fn s c.args.axis c.slots-slots.result.now c.bucket_no-bucket.result c.value.result.now c.requires.search c.requires.profile.fit c.requires.axis c.slots-slots.ensures c.value.ensures c.bucket_no-bucket.ensures.is;
       span = c.at-span.ensures.span;
       walked = subst (λ (cs : List Candidate). Walked (far_in s) (gap_in s c.args.axis.field) s.near (map (λ (x : Slot). x.donor) c.slots-slots.result.now) c.at-span.result cs c.args.steps.now c.args.steps.now) (sym none)
           (walked_none (far_in s) (gap_in s c.args.axis.field) s.near (map (λ (x : Slot). x.donor) c.slots-slots.result.now) c.at-span.result c.args.steps.now c.at-span.ensures.none);
@@ -44,45 +45,22 @@ is_closed_at-requires-clause-order g c =
 
 pub returns-then-is_closed_at-clause-ranked : goal.returns-then-is_closed_at-clause-ranked
 returns-then-is_closed_at-clause-ranked g c =
-    let s = c.args.search.now in
-    let axis = c.args.axis in
-    let slots = c.slots-slots.result.now in
-    let bucket = c.bucket_no-bucket.result in
-    let far : ℕ → ℕ = far_in s in
-    let gap : ℕ → ℕ = gap_in s axis.field in
-    let are : AreWalked far gap axis bucket s.deck.now.donors slots = slots_walked g.F.Fn s axis slots c.bucket_no-bucket.result c.value.result.now c.requires.search c.requires.profile.fit c.requires.axis c.slots-slots.ensures c.value.ensures c.bucket_no-bucket.ensures.is in
+    let near = c.args.search.now.near in
     let inv = c.loop-slots.invariant in
-    let closed = subst (λ (cs : List Candidate). IsClosedAt s.near c.gap.result cs) c.deref.ensures.value (c.is_closed_at.ensures.closed (search rules)) in
-    stopped_all far gap s.near axis bucket s.deck.now.donors slots are c.loop-slots.span c.loop-slots.nearest.items c.args.steps.now c.loop-slots.steps inv.walked c.next-place.result c.next-place.ensures
-    (subst (λ n. IsClosedAt s.near n c.loop-slots.nearest.items) c.gap.ensures closed)
+    let closed = subst (λ (cs : List Candidate). IsClosedAt near c.gap.result cs) c.deref.ensures.value (c.is_closed_at.ensures.closed (search rules)) in
+    stopped_all inv.are inv.walked c.next-place.result c.next-place.ensures (subst (λ n. IsClosedAt near n c.loop-slots.nearest.items) c.gap.ensures closed)
 
 pub returns-then-is_closed_at-clause-steps : goal.returns-then-is_closed_at-clause-steps
 returns-then-is_closed_at-clause-steps g c =
     let s = c.args.search.now in
-    let axis = c.args.axis in
-    let slots = c.slots-slots.result.now in
-    let bucket = c.bucket_no-bucket.result in
-    let far : ℕ → ℕ = far_in s in
-    let gap : ℕ → ℕ = gap_in s axis.field in
-    let are : AreWalked far gap axis bucket s.deck.now.donors slots = slots_walked g.F.Fn s axis slots c.bucket_no-bucket.result c.value.result.now c.requires.search c.requires.profile.fit c.requires.axis c.slots-slots.ensures c.value.ensures c.bucket_no-bucket.ensures.is in
     let inv = c.loop-slots.invariant in
     let closed = subst (λ (cs : List Candidate). IsClosedAt s.near c.gap.result cs) c.deref.ensures.value (c.is_closed_at.ensures.closed (search rules)) in
-    let ranked = stopped_all far gap s.near axis bucket s.deck.now.donors slots are c.loop-slots.span c.loop-slots.nearest.items c.args.steps.now c.loop-slots.steps inv.walked c.next-place.result c.next-place.ensures
-    (subst (λ n. IsClosedAt s.near n c.loop-slots.nearest.items) c.gap.ensures closed) in
+    let ranked = stopped_all inv.are inv.walked c.next-place.result c.next-place.ensures (subst (λ n. IsClosedAt s.near n c.loop-slots.nearest.items) c.gap.ensures closed) in
     subst (λ (o : Option ℕ). c.loop-slots.steps ≤ c.args.steps.now + most_asked (yardsticks_in s) s.sheet.now.rows s.deck.now.donors s.row.now s.kept s.near o (ranking_in s)) (sym c.requires.first)
-    (steps_few far gap s.near axis bucket s.deck.now.donors slots are c.loop-slots.span c.loop-slots.nearest.items c.args.steps.now c.loop-slots.steps inv.walked (ranking_in s) ranked)
+    (steps_few inv.are inv.walked (ranking_in s) ranked)
 
 pub returns-then-is_closed_at-clause-most : goal.returns-then-is_closed_at-clause-most
-returns-then-is_closed_at-clause-most g c =
-    let s = c.args.search.now in
-    let axis = c.args.axis in
-    let slots = c.slots-slots.result.now in
-    let bucket = c.bucket_no-bucket.result in
-    let far : ℕ → ℕ = far_in s in
-    let gap : ℕ → ℕ = gap_in s axis.field in
-    let are : AreWalked far gap axis bucket s.deck.now.donors slots = slots_walked g.F.Fn s axis slots c.bucket_no-bucket.result c.value.result.now c.requires.search c.requires.profile.fit c.requires.axis c.slots-slots.ensures c.value.ensures c.bucket_no-bucket.ensures.is in
-    let inv = c.loop-slots.invariant in
-    steps_all far gap s.near axis bucket s.deck.now.donors slots are c.loop-slots.span c.loop-slots.nearest.items c.args.steps.now c.loop-slots.steps inv.walked
+returns-then-is_closed_at-clause-most g c = steps_all c.loop-slots.invariant.are c.loop-slots.invariant.walked
 
 pub past-wider-requires-clause-field : goal.past-wider-requires-clause-field
 past-wider-requires-clause-field g c =
@@ -98,20 +76,17 @@ past-wider-requires-clause-order g c =
 pub loop-slots-preserved-then-len : goal.loop-slots-preserved-then-len
 loop-slots-preserved-then-len g c =
     let s = c.args.search.now in
-    let axis = c.args.axis in
-    let slots = c.slots-slots.result.now in
-    let bucket = c.bucket_no-bucket.result in
     let far : ℕ → ℕ = far_in s in
-    let gap : ℕ → ℕ = gap_in s axis.field in
-    let are : AreWalked far gap axis bucket s.deck.now.donors slots = slots_walked g.F.Fn s axis slots c.bucket_no-bucket.result c.value.result.now c.requires.search c.requires.profile.fit c.requires.axis c.slots-slots.ensures c.value.ensures c.bucket_no-bucket.ensures.is in
+    let new = c.past-wider.result in
     let inv = c.loop-slots.invariant in
-    let there : IsPast far s.near (slots_at s.deck.now.index axis.field) c.loop-slots.span c.loop-slots.nearest.items c.past-wider.result =
-    subst (λ (cs : List Candidate). IsPast far s.near (slots_at s.deck.now.index axis.field) c.loop-slots.span cs c.past-wider.result) c.deref-in-loop-slots.ensures.value c.past-wider.ensures in
-    let is : IsPast far s.near slots c.loop-slots.span c.loop-slots.nearest.items c.past-wider.result =
-    subst (λ (ss : List Slot). IsPast far s.near ss c.loop-slots.span c.loop-slots.nearest.items c.past-wider.result) (sym c.slots-slots.ensures) there in
+    let there : IsPast far s.near (slots_at s.deck.now.index c.args.axis.field) c.loop-slots.span c.loop-slots.nearest.items new =
+    subst (λ (cs : List Candidate). IsPast far s.near (slots_at s.deck.now.index c.args.axis.field) c.loop-slots.span cs new) c.deref-in-loop-slots.ensures.value c.past-wider.ensures in
+    let is : IsPast far s.near c.slots-slots.result.now c.loop-slots.span c.loop-slots.nearest.items new =
+    subst (λ (ss : List Slot). IsPast far s.near ss c.loop-slots.span c.loop-slots.nearest.items new) (sym c.slots-slots.ensures) there in
     record {
-      span = span_past slots bucket c.loop-slots.span c.past-wider.result inv.span is.lower is.higher is.within;
-      walked = past_walked far gap s.near axis bucket s.deck.now.donors slots are c.loop-slots.span c.loop-slots.nearest.items c.args.steps.now c.loop-slots.steps inv.walked c.past-wider.result is inv.span.rising;
+      are = inv.are;
+      span = span_past c.slots-slots.result.now c.bucket_no-bucket.result c.loop-slots.span new inv.span is.lower is.higher is.within;
+      walked = past_walked inv.are inv.walked new is inv.span.rising;
       few = inv.few;
     }
 
@@ -135,16 +110,9 @@ rank-requires-clause-order g c =
 
 pub returns-in_err-rank-clause-most : goal.returns-in_err-rank-clause-most
 returns-in_err-rank-clause-most g c =
-    let s = c.args.search.now in
-    let axis = c.args.axis in
-    let slots = c.slots-slots.result.now in
-    let bucket = c.bucket_no-bucket.result in
-    let far : ℕ → ℕ = far_in s in
-    let gap : ℕ → ℕ = gap_in s axis.field in
-    let are : AreWalked far gap axis bucket s.deck.now.donors slots = slots_walked g.F.Fn s axis slots c.bucket_no-bucket.result c.value.result.now c.requires.search c.requires.profile.fit c.requires.axis c.slots-slots.ensures c.value.ensures c.bucket_no-bucket.ensures.is in
     let inv = c.loop-slots.invariant in
-    let less : c.loop-slots.span.high - c.loop-slots.span.low < length slots = omega (arith, c.len.ensures, c.loop-slots-test.true) in
-    steps_more far gap s.near axis bucket s.deck.now.donors slots are c.loop-slots.span c.loop-slots.nearest.items c.args.steps.now c.loop-slots.steps inv.walked c.rank.new.steps inv.span less c.rank.ensures.steps
+    let less : c.loop-slots.span.high - c.loop-slots.span.low < length c.slots-slots.result.now = omega (arith, c.len.ensures, c.loop-slots-test.true) in
+    steps_more inv.are inv.walked c.rank.new.steps inv.span less c.rank.ensures.steps
 
 pub with-span-requires-clause-rising : goal.with-span-requires-clause-rising
 with-span-requires-clause-rising g c = c.loop-slots.invariant.span.rising
@@ -156,59 +124,31 @@ loop-slots-smaller g c =
 
 pub loop-slots-preserved : goal.loop-slots-preserved
 loop-slots-preserved g c =
-    let s = c.args.search.now in
-    let axis = c.args.axis in
-    let slots = c.slots-slots.result.now in
-    let bucket = c.bucket_no-bucket.result in
-    let far : ℕ → ℕ = far_in s in
-    let gap : ℕ → ℕ = gap_in s axis.field in
-    let are : AreWalked far gap axis bucket s.deck.now.donors slots = slots_walked g.F.Fn s axis slots c.bucket_no-bucket.result c.value.result.now c.requires.search c.requires.profile.fit c.requires.axis c.slots-slots.ensures c.value.ensures c.bucket_no-bucket.ensures.is in
-    let inv = c.loop-slots.invariant in
+    let near = c.args.search.now.near in
     let place = c.next-place.result in
-    let room = subst (λ (cs : List Candidate). IsOpenOrReaches s.near c.gap.result cs) c.deref.ensures.value (c.is_closed_at.ensures.reaches (search rules)) in
+    let inv = c.loop-slots.invariant in
+    let room = subst (λ (cs : List Candidate). IsOpenOrReaches near c.gap.result cs) c.deref.ensures.value (c.is_closed_at.ensures.reaches (search rules)) in
     record {
-      span = span_wider slots bucket c.loop-slots.span c.with-span.result place inv.span c.next-place.ensures.within c.with-span.ensures;
-      walked = step_walked far gap s.near axis bucket s.deck.now.donors slots are c.loop-slots.span c.with-span.result place _ c.loop-slots.nearest.items c.rank.new.best.items c.args.steps.now c.loop-slots.steps c.rank.new.steps inv.walked c.rank.ensures.steps inv.span.rising
-          c.next-place.ensures c.with-span.ensures inv.few (subst (λ n. IsOpenOrReaches s.near n c.loop-slots.nearest.items) c.gap.ensures room) refl c.in_ok-rank.ensures.ranks;
-      few = few_taken s.near _ c.rank.new.best.items c.in_ok-rank.ensures.ranks;
+      are = inv.are;
+      span = span_wider c.slots-slots.result.now c.bucket_no-bucket.result c.loop-slots.span c.with-span.result place inv.span c.next-place.ensures.within c.with-span.ensures;
+      walked = step_walked inv.are inv.walked c.with-span.result place _ c.rank.new.best.items c.rank.new.steps c.rank.ensures.steps inv.span.rising
+          c.next-place.ensures c.with-span.ensures inv.few (subst (λ n. IsOpenOrReaches near n c.loop-slots.nearest.items) c.gap.ensures room) refl c.in_ok-rank.ensures.ranks;
+      few = few_taken near _ c.rank.new.best.items c.in_ok-rank.ensures.ranks;
     }
 
 pub returns-clause-ranked : goal.returns-clause-ranked
 returns-clause-ranked g c =
-    let s = c.args.search.now in
-    let axis = c.args.axis in
-    let slots = c.slots-slots.result.now in
-    let bucket = c.bucket_no-bucket.result in
-    let far : ℕ → ℕ = far_in s in
-    let gap : ℕ → ℕ = gap_in s axis.field in
-    let are : AreWalked far gap axis bucket s.deck.now.donors slots = slots_walked g.F.Fn s axis slots c.bucket_no-bucket.result c.value.result.now c.requires.search c.requires.profile.fit c.requires.axis c.slots-slots.ensures c.value.ensures c.bucket_no-bucket.ensures.is in
     let inv = c.loop-slots.invariant in
-    let whole : length slots ≤ c.loop-slots.span.high - c.loop-slots.span.low = omega (arith, c.len.ensures, c.loop-slots-test.false) in
-    whole_all far gap s.near axis bucket s.deck.now.donors slots are c.loop-slots.span c.loop-slots.nearest.items c.args.steps.now c.loop-slots.steps inv.walked inv.span whole
+    let whole : length c.slots-slots.result.now ≤ c.loop-slots.span.high - c.loop-slots.span.low = omega (arith, c.len.ensures, c.loop-slots-test.false) in
+    whole_all inv.are inv.walked inv.span whole
 
 pub returns-clause-steps : goal.returns-clause-steps
 returns-clause-steps g c =
     let s = c.args.search.now in
-    let axis = c.args.axis in
-    let slots = c.slots-slots.result.now in
-    let bucket = c.bucket_no-bucket.result in
-    let far : ℕ → ℕ = far_in s in
-    let gap : ℕ → ℕ = gap_in s axis.field in
-    let are : AreWalked far gap axis bucket s.deck.now.donors slots = slots_walked g.F.Fn s axis slots c.bucket_no-bucket.result c.value.result.now c.requires.search c.requires.profile.fit c.requires.axis c.slots-slots.ensures c.value.ensures c.bucket_no-bucket.ensures.is in
     let inv = c.loop-slots.invariant in
-    let whole : length slots ≤ c.loop-slots.span.high - c.loop-slots.span.low = omega (arith, c.len.ensures, c.loop-slots-test.false) in
-    let ranked = whole_all far gap s.near axis bucket s.deck.now.donors slots are c.loop-slots.span c.loop-slots.nearest.items c.args.steps.now c.loop-slots.steps inv.walked inv.span whole in
+    let whole : length c.slots-slots.result.now ≤ c.loop-slots.span.high - c.loop-slots.span.low = omega (arith, c.len.ensures, c.loop-slots-test.false) in
     subst (λ (o : Option ℕ). c.loop-slots.steps ≤ c.args.steps.now + most_asked (yardsticks_in s) s.sheet.now.rows s.deck.now.donors s.row.now s.kept s.near o (ranking_in s)) (sym c.requires.first)
-    (steps_few far gap s.near axis bucket s.deck.now.donors slots are c.loop-slots.span c.loop-slots.nearest.items c.args.steps.now c.loop-slots.steps inv.walked (ranking_in s) ranked)
+    (steps_few inv.are inv.walked (ranking_in s) (whole_all inv.are inv.walked inv.span whole))
 
 pub returns-clause-most : goal.returns-clause-most
-returns-clause-most g c =
-    let s = c.args.search.now in
-    let axis = c.args.axis in
-    let slots = c.slots-slots.result.now in
-    let bucket = c.bucket_no-bucket.result in
-    let far : ℕ → ℕ = far_in s in
-    let gap : ℕ → ℕ = gap_in s axis.field in
-    let are : AreWalked far gap axis bucket s.deck.now.donors slots = slots_walked g.F.Fn s axis slots c.bucket_no-bucket.result c.value.result.now c.requires.search c.requires.profile.fit c.requires.axis c.slots-slots.ensures c.value.ensures c.bucket_no-bucket.ensures.is in
-    let inv = c.loop-slots.invariant in
-    steps_all far gap s.near axis bucket s.deck.now.donors slots are c.loop-slots.span c.loop-slots.nearest.items c.args.steps.now c.loop-slots.steps inv.walked
+returns-clause-most g c = steps_all c.loop-slots.invariant.are c.loop-slots.invariant.walked
