@@ -1,5 +1,6 @@
 pub mod BlockLaws
 pub mod CleanLaws
+pub mod DeckLaws
 pub mod DonorLaws
 pub mod GapLaws
 pub mod MarkTables

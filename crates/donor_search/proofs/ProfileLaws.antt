@@ -1,5 +1,5 @@
-use Rattle.std.proofs.Common.{◌≡◌, ◌∙◌, ℕ, zero, suc, ◌+◌, ◌*◌, ◌<◌, ◌≤◌, Bool, true, false, All, List, [], ◌∷◌, length, min, take, refl, ap, sym, subst, arith, if◌then◌else◌}
-use Rattle.std.proofs.lemmas.List.{length-take}
+use Rattle.std.proofs.Common.{◌≡◌, ◌∙◌, ℕ, zero, suc, ◌+◌, ◌-◌, ◌*◌, ◌<◌, ◌≤◌, Bool, true, false, All, List, [], ◌∷◌, drop, length, min, take, refl, ap, sym, subst, arith, if◌then◌else◌}
+use Rattle.std.proofs.lemmas.List.{length-drop, length-take, take_all}
 use Rattle.std.proofs.lemmas.List.Elements.{All-cons, All-nil, All-tail}
 use Rattle.foundation.specs.Limits.{most_weight}
 use Rattle.edit_model.specs.FieldSets.{has_number}
@@ -50,11 +50,29 @@ told_take zero (own ∷ owns) marks = omega arith
 told_take (suc n) (own ∷ owns) [] = omega arith
 told_take (suc n) (own ∷ owns) (mark ∷ marks) = let rest = told_take n owns marks in omega (arith, rest)
 
-pub told_takes : (n : ℕ) (owns : List Weighed) (marks : List ℕ) → told (take n owns) (take n marks) ≤ told owns marks
-told_takes zero owns marks = omega arith
-told_takes (suc n) [] marks = omega arith
-told_takes (suc n) (own ∷ owns) [] = omega arith
-told_takes (suc n) (own ∷ owns) (mark ∷ marks) = let rest = told_takes n owns marks in omega (arith, rest)
+-- marks past the last tell nothing
+pub told_takes : (n : ℕ) (owns : List Weighed) (marks : List ℕ) → told (take n owns) (take n marks) ≡ told owns (take n marks)
+told_takes n [] marks = by n
+  where
+    by : (n : ℕ) → told (take n []) (take n marks) ≡ told [] (take n marks)
+    by zero = refl
+    by (suc n) = refl
+told_takes zero (own ∷ owns) marks = refl
+told_takes (suc n) (own ∷ owns) [] = refl
+told_takes (suc n) (own ∷ owns) (mark ∷ marks) = ap (λ k. told_by own mark + k) (told_takes n owns marks)
+
+-- no marks tell nothing
+told_none : (owns : List Weighed) → told owns [] ≡ 0
+told_none [] = refl
+told_none (own ∷ owns) = refl
+
+-- the first marks and the others tell what all tell
+pub told_split : (n : ℕ) (owns : List Weighed) (marks : List ℕ) → told owns (take n marks) + told (drop n owns) (drop n marks) ≡ told owns marks
+told_split zero [] marks = omega arith
+told_split zero (own ∷ owns) marks = omega arith
+told_split (suc n) [] marks = omega arith
+told_split (suc n) (own ∷ owns) [] = let none = told_none (drop n owns) in omega (arith, none)
+told_split (suc n) (own ∷ owns) (mark ∷ marks) = let rest = told_split n owns marks in omega (arith, rest)
 
 told_here : (y : Yardstick) (i kept : ℕ) (a b : List Value) → IsYardstick y → (has_number kept i ≡ true → IsMeasurable y.scale (value_of a i)) → (has_number kept i ≡ true → IsMeasurable y.scale (value_of b i))
     → told_by (weighed_at y i kept a) (mark_of y.scale (value_of b i)) ≤ (if has_number kept i then y.weight * value_distance y.scale (value_of a i) (value_of b i) else 0)
@@ -67,6 +85,14 @@ told_here y i kept a b is first second = by (has_number kept i) refl
         → told_by (if h then record { weight = y.weight; mark = mark_of y.scale (value_of a i) } else record { weight = 0; mark = 0 }) (mark_of y.scale (value_of b i)) ≤ (if h then y.weight * value_distance y.scale (value_of a i) (value_of b i) else 0)
     by true at = times y.weight _ _ (marks_few y.scale (value_of a i) (value_of b i) is.scale (first at) (second at))
     by false at = omega arith
+
+pub told_rest : (n : ℕ) (owns : List Weighed) (marks : List ℕ) → told (take (length owns - n) (drop n owns)) (take (length marks - n) (drop n marks)) ≡ told (drop n owns) (drop n marks)
+told_rest n owns marks =
+    ap (λ (ws : List Weighed). told ws (take (length marks - n) (drop n marks))) (take_all (length owns - n) (drop n owns) (within owns))
+    ∙ ap (told (drop n owns)) (take_all (length marks - n) (drop n marks) (within marks))
+  where
+    within : {X : Type 0} (xs : List X) → length (drop n xs) ≤ length xs - n
+    within xs = let l = length-drop n xs in omega (arith, l)
 
 -- no more than the distance
 pub told_few : (i : ℕ) (yardsticks : List Yardstick) (kept : ℕ) (a b : List Value) → All IsYardstick yardsticks

@@ -9,7 +9,7 @@ ghost use Rattle.donor_search.specs.inner.Searches.{HasSlots, IsSearch, far_in, 
 ghost use Rattle.donor_search.specs.inner.Spans.{IsPast};
 
 use crate::candidate::{Candidate, farthest};
-use crate::profile::{Profile, are_farther, is_farther, is_farther_at_first};
+use crate::profile::{Profile, are_farther, is_farther_with, told_first};
 use crate::ranges::BLOCK;
 use crate::search::{Search, block_at, first_marks_in_walk, marks_in_walk};
 use crate::span::Span;
@@ -126,12 +126,13 @@ fn is_far<F: Fn(u32, &Value, &Value) -> u64>(passing: &Passing<F>, place: usize)
     let search = passing.search;
     let own = passing.profile.as_slice();
     let donor = search.deck.slots(passing.field)[place].donor;
-    let first = first_marks_in_walk(search, passing.field, place, donor);
-    if is_farther_at_first(own, first, passing.most) {
+    let first_marks = first_marks_in_walk(search, passing.field, place, donor);
+    let first = told_first(own, first_marks);
+    if u64::from(first) > passing.most {
         return true;
     }
     let marks = marks_in_walk(search, passing.field, place, donor);
-    is_farther(own, marks, passing.most)
+    is_farther_with(own, marks, first, passing.most)
 }
 
 // Whether a whole block ends before the place, of which the ranges tell that each of its donors is farther than `most`. Only in the

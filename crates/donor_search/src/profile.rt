@@ -20,8 +20,8 @@ pub(crate) struct Weighed {
     pub mark: u32,
 }
 
-/// How many fields are looked at first. Of the donors that no block tells to be far these tell 4 in 10, and the marks at them stand
-/// apart, so that few bytes of a donor are read.
+/// How many fields are looked at first. In the survey that trials are made of, with 16 fields, the first 8 tell 9 in 10 of the donors
+/// that no block tells to be far, and the first 4 would tell 5 in 10. The marks at them stand apart, so that few bytes of a donor are read.
 pub(crate) const FIRST: usize = 8;
 
 // What stands in the places behind the last field.
@@ -38,19 +38,33 @@ pub(crate) fn is_farther(own: &[Weighed], marks: &[u32], most: u64) -> bool
     u64::from(told(own, marks)) > most
 }
 
-/// Whether the marks of a donor at the first fields tell it. Where there are fewer fields nothing is told, so that these are always as
-/// many, and the loop over them needs no test.
+/// Whether they tell it, where it is known what those at the first fields tell.
 #[inline(always)]
-pub(crate) fn is_farther_at_first(own: &[Weighed], first: &[u32], most: u64) -> bool
+pub(crate) fn is_farther_with(own: &[Weighed], marks: &[u32], first: u32, most: u64) -> bool
+    requires equal { length own.now ≡ length marks.now }
+    requires first { first ≡ told own.now (take first_fields marks.now) }
+    requires few { length own.now ≤ most_fields }
+    requires weights { All (λ (w : AnyWeighed). w.weight ≤ most_weight) own.now }
+    ensures { result ≡ true → most < told own.now marks.now }
+{
+    let count = FIRST.min(own.len());
+    let rest = told(&own[count..], &marks[count..]);
+    u64::from(first) + u64::from(rest) > most
+}
+
+/// What the marks of a donor at the first fields tell. The test for fewer fields is there so that the others are always as many, which
+/// makes the loop over them straight.
+#[inline(always)]
+pub(crate) fn told_first(own: &[Weighed], first: &[u32]) -> u32
     requires first { length first.now ≡ min first_fields (length own.now) }
     requires few { length own.now ≤ most_fields }
     requires weights { All (λ (w : AnyWeighed). w.weight ≤ most_weight) own.now }
-    ensures { result ≡ true → most < told own.now first.now }
+    ensures { result ≡ told own.now first.now }
 {
     if own.len() < FIRST {
-        return false;
+        return told(own, first);
     }
-    u64::from(told(&own[..FIRST], &first[..FIRST])) > most
+    told(&own[..FIRST], &first[..FIRST])
 }
 
 /// The marks at the first fields among all of a donor.

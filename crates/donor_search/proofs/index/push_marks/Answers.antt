@@ -1,7 +1,6 @@
 use Rattle.std.proofs.Common.{◌≡◌, ◌<◌, ◌∙◌, ◌++◌, ◌∷◌, [], List, ℕ, ap, length, length-append, min, sym, subst, take, arith}
 use Rattle.std.proofs.lemmas.List.{take_min}
-use Rattle.edit_model.specs.declared.value.Value.{Value}
-use Rattle.edit_model.specs.PlainNumbers.{HasPlain, IsPlainValue}
+use Rattle.edit_model.specs.PlainNumbers.{IsPlainValue}
 use Rattle.donor_measure.specs.Buckets.{mark_of, marks_of}
 use Rattle.donor_measure.specs.declared.yardstick.Yardstick.{Yardstick}
 use Rattle.donor_search.proofs.MarkTables.{marks_more, plain_here}

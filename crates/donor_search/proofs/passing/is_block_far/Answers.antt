@@ -1,4 +1,4 @@
-use Rattle.std.proofs.Common.{◌≡◌, ◌∙◌, ◌≤◌, ◌/◌, List, length, subst, arith}
+use Rattle.std.proofs.Common.{◌≡◌, ◌∙◌, ◌≤◌, ◌/◌, List, length, subst}
 use Rattle.donor_search.specs.declared.slot.Slot.{Slot}
 use Rattle.donor_search.specs.inner.Passings.{slots_of}
 use Rattle.donor_search.proofs.BlockLaws.{as_many_ranges, block_far, block_there, whole_block}
