@@ -27,7 +27,8 @@ module _ (far : ℕ → ℕ) (most : ℕ) (slots : List Slot) where
           same more = omega (arith, less, more)
 
   -- one place more below
-  pub farther_below : (place high : ℕ) → 1 ≤ place → AreFarther far most slots place high → most < far (slot_at slots (place - 1)).donor → AreFarther far most slots (place - 1) high
+  pub farther_below : (place high : ℕ) → 1 ≤ place → AreFarther far most slots place high → most < far (slot_at slots (place - 1)).donor
+      → AreFarther far most slots (place - 1) high
   farther_below place high some all here i least less = by (cases_lt i place)
     where
       by : (i < place) ⊎ (place ≤ i) → most < far (slot_at slots i).donor
@@ -39,7 +40,8 @@ module _ (far : ℕ → ℕ) (most : ℕ) (slots : List Slot) where
 
   -- donors farther than the last of the nearest have no place among them
   module _ (near : ℕ) (nearest : List Candidate) (closed : IsClosedAt near (most + 1) nearest) where
-    pub past_above : (old new : Span) → new.low ≡ old.low → old.high ≤ new.high → new.high ≤ length slots → AreFarther far most slots old.high new.high → IsPast far near slots old nearest new
+    pub past_above : (old new : Span) → new.low ≡ old.low → old.high ≤ new.high → new.high ≤ length slots → AreFarther far most slots old.high new.high
+        → IsPast far near slots old nearest new
     past_above old new same higher within all = record {
       lower = omega (arith, same);
       higher = higher;
@@ -47,11 +49,13 @@ module _ (far : ℕ → ℕ) (most : ℕ) (slots : List Slot) where
       closed = passed;
     }
       where
-        passed : (i : ℕ) → IsOutside old i → new.low ≤ i → i < new.high → nearest ≡ take near (placed is_before (candidate_of far (slot_at slots i).donor) nearest)
+        passed : (i : ℕ) → IsOutside old i → new.low ≤ i → i < new.high
+            → nearest ≡ take near (placed is_before (candidate_of far (slot_at slots i).donor) nearest)
         passed i (inl below) least less = absurd (omega (arith, same, below, least))
         passed i (inr above) least less = let more = all i above less in closed (candidate_of far (slot_at slots i).donor) (omega (arith, more))
 
-    pub past_below : (old new : Span) → new.high ≡ old.high → new.low ≤ old.low → old.high ≤ length slots → AreFarther far most slots new.low old.low → IsPast far near slots old nearest new
+    pub past_below : (old new : Span) → new.high ≡ old.high → new.low ≤ old.low → old.high ≤ length slots → AreFarther far most slots new.low old.low
+        → IsPast far near slots old nearest new
     past_below old new same lower within all = record {
       lower = lower;
       higher = omega (arith, same);
@@ -59,6 +63,7 @@ module _ (far : ℕ → ℕ) (most : ℕ) (slots : List Slot) where
       closed = passed;
     }
       where
-        passed : (i : ℕ) → IsOutside old i → new.low ≤ i → i < new.high → nearest ≡ take near (placed is_before (candidate_of far (slot_at slots i).donor) nearest)
+        passed : (i : ℕ) → IsOutside old i → new.low ≤ i → i < new.high
+            → nearest ≡ take near (placed is_before (candidate_of far (slot_at slots i).donor) nearest)
         passed i (inl below) least less = let more = all i least below in closed (candidate_of far (slot_at slots i).donor) (omega (arith, more))
         passed i (inr above) least less = absurd (omega (arith, same, above, less))

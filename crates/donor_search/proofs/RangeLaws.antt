@@ -59,12 +59,15 @@ block_within count ranges marks start at ranges_end marks_end each = within_each
     same : length (take count (drop start ranges)) ≡ length (take count (drop at marks))
     same = ranges_long ∙ sym marks_long
 
-    at_field : (f : ℕ) → f < length (take count (drop at marks)) → IsWithin (range_at (take count (drop start ranges)) f) (get_or (take count (drop at marks)) f 0)
+    at_field : (f : ℕ) → f < length (take count (drop at marks))
+        → IsWithin (range_at (take count (drop start ranges)) f) (get_or (take count (drop at marks)) f 0)
     at_field f below =
         let less : f < count = omega (arith, below, marks_long) in
-        let r : range_at (take count (drop start ranges)) f ≡ range_at ranges (start + f) = get_or-take count (drop start ranges) f none less ∙ get_or-drop start ranges f none in
+        let r : range_at (take count (drop start ranges)) f ≡ range_at ranges (start + f) = get_or-take count (drop start ranges) f none less
+        ∙ get_or-drop start ranges f none in
         let m : get_or (take count (drop at marks)) f 0 ≡ get_or marks (at + f) 0 = get_or-take count (drop at marks) f 0 less ∙ get_or-drop at marks f 0 in
-        subst (λ (x : MarkRange). IsWithin x (get_or (take count (drop at marks)) f 0)) (sym r) (subst (λ n. IsWithin (range_at ranges (start + f)) n) (sym m) (each f less))
+        subst (λ (x : MarkRange). IsWithin x (get_or (take count (drop at marks)) f 0)) (sym r)
+        (subst (λ n. IsWithin (range_at ranges (start + f)) n) (sym m) (each f less))
 
 pub part_long : (count start : ℕ) (ranges : List MarkRange) → start + count ≤ length ranges → length (take count (drop start ranges)) ≡ count
 part_long count start ranges within = let t = length-take count (drop start ranges) in let d = length-drop start ranges in omega (arith, t, d, within)
@@ -92,19 +95,24 @@ blocks_step mark count block olds news long kept each here b j f below less fiel
 
 -- ---- the ranges of a deck
 
-module _ (marks_at : Slot → List ℕ) (m count : ℕ) (slots there : List Slot) (marks lent : List ℕ) (ranges : List MarkRange) (count_is : count ≡ m) (there_is : there ≡ slots) (lent_is : lent ≡ marks)
+module _ (marks_at : Slot → List ℕ) (m count : ℕ) (slots there : List Slot) (marks lent : List ℕ) (ranges : List MarkRange) (count_is : count ≡ m)
+    (there_is : there ≡ slots) (lent_is : lent ≡ marks)
     (size : (block : ℕ) → block * block_size + block_size ≤ length there → block * count + count ≤ length ranges) where
   pub blocks_long : (block : ℕ) → block * block_size + block_size ≤ length slots → block * m + m ≤ length ranges
-  blocks_long block whole = subst (λ n. block * n + n ≤ length ranges) count_is (size block (subst (λ (ss : List Slot). block * block_size + block_size ≤ length ss) (sym there_is) whole))
+  blocks_long block whole = subst (λ n. block * n + n ≤ length ranges) count_is
+      (size block (subst (λ (ss : List Slot). block * block_size + block_size ≤ length ss) (sym there_is) whole))
 
   pub blocks_within : ((x : Slot) → length (marks_at x) ≡ m) → marks ≡ flat_map marks_at slots
-      → ((block j field : ℕ) → block * block_size + block_size ≤ length there → j < block_size → field < count → IsWithin (range_at ranges (block * count + field)) (mark_at lent count (block * block_size + j) field))
-      → (block j : ℕ) → block * block_size + block_size ≤ length slots → j < block_size → AreWithin (take m (drop (block * m) ranges)) (marks_at (slot_at slots (block * block_size + j)))
+      → ((block j field : ℕ) → block * block_size + block_size ≤ length there → j < block_size → field < count
+      → IsWithin (range_at ranges (block * count + field)) (mark_at lent count (block * block_size + j) field))
+      → (block j : ℕ) → block * block_size + block_size ≤ length slots → j < block_size
+      → AreWithin (take m (drop (block * m) ranges)) (marks_at (slot_at slots (block * block_size + j)))
   blocks_within long marks_is within block j whole less =
       let place : ℕ = block * block_size + j in
       let below : place < length slots = omega (arith, whole, less) in
       let marks_end : place * m + m ≤ length marks =
-      (let l = ap (λ (ms : List ℕ). length ms) marks_is in let t = table_long marks_at m long slots in let r = row_within place (length slots) m below in omega (arith, l, t, r)) in
+      (let l = ap (λ (ms : List ℕ). length ms) marks_is in let t = table_long marks_at m long slots in let r = row_within place (length slots) m below in
+      omega (arith, l, t, r)) in
       let table : take m (drop (place * m) marks) ≡ marks_at (slot_at slots place) =
       ap (λ (ms : List ℕ). take m (drop (place * m) ms)) marks_is ∙ table_at marks_at m long slots place (record { bucket = 0; donor = 0 }) below in
       subst (λ (ms : List ℕ). AreWithin (take m (drop (block * m) ranges)) ms) table
@@ -114,4 +122,5 @@ module _ (marks_at : Slot → List ℕ) (m count : ℕ) (slots there : List Slot
       each f below =
           subst (λ (ms : List ℕ). IsWithin (range_at ranges (block * m + f)) (mark_at ms m (block * block_size + j) f)) lent_is
           (subst (λ n. IsWithin (range_at ranges (block * n + f)) (mark_at lent n (block * block_size + j) f)) count_is
-          (within block j f (subst (λ (ss : List Slot). block * block_size + block_size ≤ length ss) (sym there_is) whole) less (subst (λ n. f < n) (sym count_is) below)))
+          (within block j f (subst (λ (ss : List Slot). block * block_size + block_size ≤ length ss) (sym there_is) whole) less
+          (subst (λ n. f < n) (sym count_is) below)))

@@ -44,7 +44,8 @@ module _ {X : Type 0} (n m k : ℕ) (all table : List X) (count_is : n ≡ m) (a
   part_within within = subst (λ q. k * q + q ≤ length all) (sym count_is) (subst (λ (xs : List X). k * m + m ≤ length xs) (sym all_is) within)
 
   pub part_is : take (k * n + n - k * n) (drop (k * n) all) ≡ take m (drop (k * m) table)
-  part_is = ap (λ q. take q (drop (k * n) all)) (less (k * n) n) ∙ ap (λ q. take q (drop (k * q) all)) count_is ∙ ap (λ (xs : List X). take m (drop (k * m) xs)) all_is
+  part_is = ap (λ q. take q (drop (k * n) all)) (less (k * n) n) ∙ ap (λ q. take q (drop (k * q) all)) count_is
+      ∙ ap (λ (xs : List X). take m (drop (k * m) xs)) all_is
     where
       less : (a b : ℕ) → a + b - a ≡ b
       less a b = omega arith

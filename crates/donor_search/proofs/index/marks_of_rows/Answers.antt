@@ -27,7 +27,10 @@ loop-row_no-preserved c plain =
     let ys = yardsticks_of c.args.survey.now.fields in
     let row_no = c.loop-row_no.row_no in
     let below : row_no < length rows = search rules in
-    let put = row_put c.count.result ys c.of-yardsticks.result rows row_no c.row.result.now c.loop-row_no.marks.items c.push_marks.new.marks.items c.of-yardsticks.ensures c.row.ensures below plain c.in_ok-push_marks.ensures.marks in
+    let put = row_put c.count.result ys c.of-yardsticks.result rows row_no c.row.result.now c.loop-row_no.marks.items c.push_marks.new.marks.items
+    c.of-yardsticks.ensures c.row.ensures below plain c.in_ok-push_marks.ensures.marks in
     let whole : take c.count.result (marks_of ys (row_at rows row_no)) ≡ marks_of ys (row_at rows row_no) =
-    take_all c.count.result (marks_of ys (row_at rows row_no)) (omega (arith, marks_long 0 ys (row_at rows row_no), c.count.ensures.fields, ap (λ (us : List Yardstick). length us) c.of-yardsticks.ensures)) in
-    lists_more (marks_of ys) rows row_no [] c.loop-row_no.marks.items c.push_marks.new.marks.items below (c.loop-row_no.invariant plain) (put ∙ ap (λ (ms : List ℕ). c.loop-row_no.marks.items ++ ms) whole)
+    take_all c.count.result (marks_of ys (row_at rows row_no))
+    (omega (arith, marks_long 0 ys (row_at rows row_no), c.count.ensures.fields, ap (λ (us : List Yardstick). length us) c.of-yardsticks.ensures)) in
+    lists_more (marks_of ys) rows row_no [] c.loop-row_no.marks.items c.push_marks.new.marks.items below (c.loop-row_no.invariant plain)
+    (put ∙ ap (λ (ms : List ℕ). c.loop-row_no.marks.items ++ ms) whole)

@@ -31,11 +31,15 @@ loop-slot-preserved c =
     let none : Slot = record { bucket = 0; donor = 0 } in
     let donor : ℕ = (slot_at slots index).donor in
     let below : donor < length rows = c.requires.donors index none c.loop-slot-test.true in
-    let many : min c.args.most (length c.of-yardsticks.result) ≡ min c.args.most (length fields) = ap (min c.args.most) (ap (λ (us : List Yardstick). length us) c.of-yardsticks.ensures ∙ as_many fields) in
+    let many : min c.args.most (length c.of-yardsticks.result) ≡ min c.args.most (length fields) =
+    ap (min c.args.most) (ap (λ (us : List Yardstick). length us) c.of-yardsticks.ensures ∙ as_many fields) in
     record {
-      size = c.in_ok-push_marks.ensures.size ∙ ap (λ n. length c.loop-slot.marks.items + n) many ∙ ap (λ n. n + min c.args.most (length fields)) inv.size ∙ one_more index (min c.args.most (length fields));
-      marks = λ plain. lists_more (slot_first_marks c.args.most ys rows) slots index none c.loop-slot.marks.items c.push_marks.new.marks.items c.loop-slot-test.true (inv.marks plain)
-          (row_put c.args.most ys c.of-yardsticks.result rows donor c.row.result.now c.loop-slot.marks.items c.push_marks.new.marks.items c.of-yardsticks.ensures c.row.ensures below plain c.in_ok-push_marks.ensures.marks);
+      size = c.in_ok-push_marks.ensures.size ∙ ap (λ n. length c.loop-slot.marks.items + n) many ∙ ap (λ n. n + min c.args.most (length fields)) inv.size
+          ∙ one_more index (min c.args.most (length fields));
+      marks = λ plain. lists_more (slot_first_marks c.args.most ys rows) slots index none c.loop-slot.marks.items c.push_marks.new.marks.items
+          c.loop-slot-test.true (inv.marks plain)
+          (row_put c.args.most ys c.of-yardsticks.result rows donor c.row.result.now c.loop-slot.marks.items c.push_marks.new.marks.items
+          c.of-yardsticks.ensures c.row.ensures below plain c.in_ok-push_marks.ensures.marks);
     }
   where
     one_more : (n m : ℕ) → n * m + m ≡ (n + 1) * m

@@ -9,5 +9,6 @@ abbrev pub invariant-loop-slot : goal.invariant-loop-slot
 invariant-loop-slot l = record {
   size : length l.marks.items ≡ l.slot-index * min l.most (length l.survey.fields);
   marks : AllByRecursion HasPlain l.sheet.rows
-      → l.marks.items ++ flat_map (slot_first_marks l.most (yardsticks_of l.survey.fields) l.sheet.rows) (drop l.slot-index l.slots) ≡ flat_map (slot_first_marks l.most (yardsticks_of l.survey.fields) l.sheet.rows) l.slots;
+      → l.marks.items ++ flat_map (slot_first_marks l.most (yardsticks_of l.survey.fields) l.sheet.rows) (drop l.slot-index l.slots) ≡ flat_map
+      (slot_first_marks l.most (yardsticks_of l.survey.fields) l.sheet.rows) l.slots;
 }

@@ -18,14 +18,24 @@ loop-field-preserved c =
     record {
       size = omega (arith, inv.size, simp length-append at (ap (λ (ms : List ℕ). length ms) put));
       marks = λ plain.
-          let here : IsPlainValue c.value.result.now = subst IsPlainValue (sym c.value.ensures) (plain_here row field plain (omega (arith, below, c.requires))) in
+          let here : IsPlainValue c.value.result.now =
+          subst IsPlainValue (sym c.value.ensures) (plain_here row field plain (omega (arith, below, c.requires))) in
           let is = c.mark_of.ensures here ∙ ap (λ (y : Yardstick). mark_of y.scale c.value.result.now) c.at.ensures.is ∙ ap (mark_of _) c.value.ensures in
-          marks_more ys row field c.mark_of.result c.args.marks.now.items c.loop-field.marks.items c.push.new.self.items below (marks_long 0 ys row) (inv.marks plain) is put;
+          marks_more ys row field c.mark_of.result c.args.marks.now.items c.loop-field.marks.items c.push.new.self.items below (marks_long 0 ys row)
+          (inv.marks plain) is put;
     }
 
 pub returns-clause-marks : goal.returns-clause-marks
 returns-clause-marks c plain =
     let marks = marks_of c.args.yardsticks.now c.args.row.now in
     let end : c.loop-field.field ≡ min c.args.most (length marks) =
-    omega (arith, c.loop-field-test.false, c.loop-field.auto.field-end, c.min-field-end.ensures, c.count.ensures.fields, marks_long 0 c.args.yardsticks.now c.args.row.now) in
+    omega (
+      arith,
+      c.loop-field-test.false,
+      c.loop-field.auto.field-end,
+      c.min-field-end.ensures,
+      c.count.ensures.fields,
+      marks_long 0 c.args.yardsticks.now
+          c.args.row.now,
+    ) in
     c.loop-field.invariant.marks plain ∙ ap (λ (ms : List ℕ). c.args.marks.now.items ++ ms) (ap (λ n. take n marks) end ∙ take_min c.args.most marks)

@@ -10,5 +10,6 @@ loop-place-preserved g c =
     let inv = c.loop-place.invariant in
     record {
       upto = omega (arith, inv.upto);
-      far = farther_below (far_in p.search.now) p.most (slots_of p) c.loop-place.place c.args.end (omega (arith, c.loop-place-test.true)) inv.far (c.is_far.ensures (search rules));
+      far = farther_below (far_in p.search.now) p.most (slots_of p) c.loop-place.place c.args.end (omega (arith, c.loop-place-test.true)) inv.far
+          (c.is_far.ensures (search rules));
     }

@@ -18,7 +18,8 @@ are_farther-requires-clause-equal g c =
     let blocks = c.args.end / 32 in
     let first : p.field ≡ p.search.now.deck.now.first = c.if-passing-first.false ∙ c.first.ensures in
     let within : c.args.end ≤ length (slots_of p) = subst (λ (ss : List Slot). c.args.end ≤ length ss) c.slots.ensures c.if-end-slots.false in
-    as_many_ranges p blocks c.args.end first c.requires.some c.if-blocks-end.false within g.F.Fn c.requires.passing c.as_slice.result.now c.block_at-ranges.result.now c.as_slice.ensures.same c.block_at-ranges.ensures
+    as_many_ranges p blocks c.args.end first c.requires.some c.if-blocks-end.false within g.F.Fn c.requires.passing c.as_slice.result.now
+    c.block_at-ranges.result.now c.as_slice.ensures.same c.block_at-ranges.ensures
 
 pub returns-clause-whole : goal.returns-clause-whole
 returns-clause-whole g c are = whole_block (c.args.end / 32) c.args.end c.requires.some c.if-blocks-end.false
@@ -29,5 +30,6 @@ returns-clause-far g c are =
     let blocks = c.args.end / 32 in
     let first : p.field ≡ p.search.now.deck.now.first = c.if-passing-first.false ∙ c.first.ensures in
     let within : c.args.end ≤ length (slots_of p) = subst (λ (ss : List Slot). c.args.end ≤ length ss) c.slots.ensures c.if-end-slots.false in
-    block_far p blocks c.args.end first c.requires.some c.if-blocks-end.false within g.F.Fn c.requires.passing c.as_slice.result.now c.block_at-ranges.result.now c.as_slice.ensures.same c.block_at-ranges.ensures
+    block_far p blocks c.args.end first c.requires.some c.if-blocks-end.false within g.F.Fn c.requires.passing c.as_slice.result.now
+    c.block_at-ranges.result.now c.as_slice.ensures.same c.block_at-ranges.ensures
     (c.are_farther.ensures are)

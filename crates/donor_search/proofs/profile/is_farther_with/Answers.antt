@@ -12,7 +12,8 @@ returns c is =
     let marks = c.args.marks.now in
     let count = c.min-count.result in
     let more = ltb-true c.args.most _ is in
-    let cut : take count marks ≡ take first_fields marks = ap (λ n. take n marks) (c.min-count.ensures ∙ ap (min first_fields) c.requires.equal) ∙ take_min first_fields marks in
+    let cut : take count marks ≡ take first_fields marks = ap (λ n. take n marks) (c.min-count.ensures ∙ ap (min first_fields) c.requires.equal)
+    ∙ take_min first_fields marks in
     let first : c.args.first ≡ told own (take count marks) = c.requires.first ∙ ap (told own) (sym cut) in
     let rest = c.told-rest.ensures ∙ told_rest count own marks in
     omega (arith, more, first, rest, told_split count own marks, c.from.ensures, c.from-2.ensures)

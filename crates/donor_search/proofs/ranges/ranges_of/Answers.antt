@@ -14,6 +14,7 @@ loop-block-preserved c =
     record {
       upto = omega (arith, inv.upto, c.loop-block-test.true);
       size = c.in_ok-push_ranges.ensures.size ∙ ap (λ n. n + count) inv.size ∙ one_more block count;
-      within = blocks_step (λ b j f. mark_at c.args.marks.now count (b * block_size + j) f) count block c.loop-block.ranges.items c.push_ranges.new.ranges.items inv.size
+      within = blocks_step (λ b j f. mark_at c.args.marks.now count (b * block_size + j) f) count block c.loop-block.ranges.items
+          c.push_ranges.new.ranges.items inv.size
           c.in_ok-push_ranges.ensures.kept inv.within c.in_ok-push_ranges.ensures.within;
     }

@@ -6,7 +6,8 @@ abbrev pub invariant-loop-block : goal.invariant-loop-block
 invariant-loop-block l = record {
   upto : l.block * block_size ≤ l.donors;
   size : length l.ranges.items ≡ l.block * l.count;
-  within : (b j f : ℕ) → b < l.block → j < block_size → f < l.count → IsWithin (range_at l.ranges.items (b * l.count + f)) (mark_at l.marks l.count (b * block_size + j) f);
+  within : (b j f : ℕ) → b < l.block → j < block_size → f < l.count
+      → IsWithin (range_at l.ranges.items (b * l.count + f)) (mark_at l.marks l.count (b * block_size + j) f);
 }
 
 abbrev pub decreases-loop-block : goal.decreases-loop-block

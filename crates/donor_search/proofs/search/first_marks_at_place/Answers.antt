@@ -4,7 +4,8 @@ use Rattle.donor_search.proofs.search.first_marks_at_place.Goals as goal
 
 pub overflow_mul-start : goal.overflow_mul-start
 overflow_mul-start g c =
-    let within = first_within c.requires.deck c.args.place c.requires.place c.first_count-count.ensures c.first_marks-marks.ensures in omega (arith, within, c.first_marks-marks.type_inv)
+    let within = first_within c.requires.deck c.args.place c.requires.place c.first_count-count.ensures c.first_marks-marks.ensures in
+    omega (arith, within, c.first_marks-marks.type_inv)
 
 pub slice_bounds-result-end : goal.slice_bounds-result-end
 slice_bounds-result-end g c =
@@ -12,11 +13,13 @@ slice_bounds-result-end g c =
 
 pub overflow_add-result : goal.overflow_add-result
 overflow_add-result g c =
-    let within = first_within c.requires.deck c.args.place c.requires.place c.first_count-count.ensures c.first_marks-marks.ensures in omega (arith, within, c.first_marks-marks.type_inv)
+    let within = first_within c.requires.deck c.args.place c.requires.place c.first_count-count.ensures c.first_marks-marks.ensures in
+    omega (arith, within, c.first_marks-marks.type_inv)
 
 pub offset_bounds-marks-start : goal.offset_bounds-marks-start
 offset_bounds-marks-start g c =
-    let within = first_within c.requires.deck c.args.place c.requires.place c.first_count-count.ensures c.first_marks-marks.ensures in omega (arith, within, c.first_marks-marks.type_inv)
+    let within = first_within c.requires.deck c.args.place c.requires.place c.first_count-count.ensures c.first_marks-marks.ensures in
+    omega (arith, within, c.first_marks-marks.type_inv)
 
 pub returns : goal.returns
 returns g c = first_is c.requires.deck c.args.place c.requires.place c.first_count-count.ensures c.first_marks-marks.ensures

@@ -20,10 +20,13 @@ loop-slots-init g c =
     let none : c.new-nearest.result.items ≡ [] = c.new-nearest.ensures.items in
     let size : length c.new-nearest.result.items ≡ 0 = ap (λ (cs : List Candidate). length cs) none in
     record {
-      are = slots_walked g.F.Fn s c.args.axis c.slots-slots.result.now c.bucket_no-bucket.result c.value.result.now c.requires.search c.requires.profile.fit c.requires.axis c.slots-slots.ensures c.value.ensures c.bucket_no-bucket.ensures.is;
+      are = slots_walked g.F.Fn s c.args.axis c.slots-slots.result.now c.bucket_no-bucket.result c.value.result.now c.requires.search c.requires.profile.fit
+          c.requires.axis c.slots-slots.ensures c.value.ensures c.bucket_no-bucket.ensures.is;
       span = c.at-span.ensures.span;
-      walked = subst (λ (cs : List Candidate). Walked (far_in s) (gap_in s c.args.axis.field) s.near (map (λ (x : Slot). x.donor) c.slots-slots.result.now) c.at-span.result cs c.args.steps.now c.args.steps.now) (sym none)
-          (walked_none (far_in s) (gap_in s c.args.axis.field) s.near (map (λ (x : Slot). x.donor) c.slots-slots.result.now) c.at-span.result c.args.steps.now c.at-span.ensures.none);
+      walked = subst (λ (cs : List Candidate). Walked (far_in s) (gap_in s c.args.axis.field) s.near
+          (map (λ (x : Slot). x.donor) c.slots-slots.result.now) c.at-span.result cs c.args.steps.now c.args.steps.now) (sym none)
+          (walked_none (far_in s) (gap_in s c.args.axis.field) s.near
+          (map (λ (x : Slot). x.donor) c.slots-slots.result.now) c.at-span.result c.args.steps.now c.at-span.ensures.none);
       few = omega (arith, size);
     }
 
@@ -41,7 +44,8 @@ pub is_closed_at-requires-clause-order : goal.is_closed_at-requires-clause-order
 is_closed_at-requires-clause-order g c =
     let s = c.args.search.now in
     let walked = c.loop-slots.invariant.walked in
-    subst (λ (cs : List Candidate). IsInOrder is_before cs) (sym c.deref.ensures.value) (nearest_order s.near (map (candidate_of (far_in s)) walked.seen) c.loop-slots.nearest.items walked.ranked)
+    subst (λ (cs : List Candidate). IsInOrder is_before cs) (sym c.deref.ensures.value)
+    (nearest_order s.near (map (candidate_of (far_in s)) walked.seen) c.loop-slots.nearest.items walked.ranked)
 
 pub returns-then-is_closed_at-clause-ranked : goal.returns-then-is_closed_at-clause-ranked
 returns-then-is_closed_at-clause-ranked g c =
@@ -55,8 +59,10 @@ returns-then-is_closed_at-clause-steps g c =
     let s = c.args.search.now in
     let inv = c.loop-slots.invariant in
     let closed = subst (λ (cs : List Candidate). IsClosedAt s.near c.gap.result cs) c.deref.ensures.value (c.is_closed_at.ensures.closed (search rules)) in
-    let ranked = stopped_all inv.are inv.walked c.next-place.result c.next-place.ensures (subst (λ n. IsClosedAt s.near n c.loop-slots.nearest.items) c.gap.ensures closed) in
-    subst (λ (o : Option ℕ). c.loop-slots.steps ≤ c.args.steps.now + most_asked (yardsticks_in s) s.sheet.now.rows s.deck.now.donors s.row.now s.kept s.near o (ranking_in s)) (sym c.requires.first)
+    let ranked = stopped_all inv.are inv.walked c.next-place.result c.next-place.ensures
+    (subst (λ n. IsClosedAt s.near n c.loop-slots.nearest.items) c.gap.ensures closed) in
+    subst (λ (o : Option ℕ). c.loop-slots.steps ≤ c.args.steps.now + most_asked (yardsticks_in s) s.sheet.now.rows s.deck.now.donors s.row.now s.kept s.near o
+    (ranking_in s)) (sym c.requires.first)
     (steps_few inv.are inv.walked (ranking_in s) ranked)
 
 pub returns-then-is_closed_at-clause-most : goal.returns-then-is_closed_at-clause-most
@@ -80,7 +86,8 @@ loop-slots-preserved-then-len g c =
     let new = c.past-wider.result in
     let inv = c.loop-slots.invariant in
     let there : IsPast far s.near (slots_at s.deck.now.index c.args.axis.field) c.loop-slots.span c.loop-slots.nearest.items new =
-    subst (λ (cs : List Candidate). IsPast far s.near (slots_at s.deck.now.index c.args.axis.field) c.loop-slots.span cs new) c.deref-in-loop-slots.ensures.value c.past-wider.ensures in
+    subst (λ (cs : List Candidate). IsPast far s.near (slots_at s.deck.now.index c.args.axis.field) c.loop-slots.span cs new)
+    c.deref-in-loop-slots.ensures.value c.past-wider.ensures in
     let is : IsPast far s.near c.slots-slots.result.now c.loop-slots.span c.loop-slots.nearest.items new =
     subst (λ (ss : List Slot). IsPast far s.near ss c.loop-slots.span c.loop-slots.nearest.items new) (sym c.slots-slots.ensures) there in
     record {
@@ -93,12 +100,14 @@ loop-slots-preserved-then-len g c =
 pub rank-requires-clause-donor : goal.rank-requires-clause-donor
 rank-requires-clause-donor g c =
     let s = c.args.search.now in
-    slots_rankable g.F.Fn s c.args.axis c.slots-slots.result.now c.requires.search c.requires.axis c.slots-slots.ensures c.next-place.result (record { bucket = 0; donor = 0 }) c.next-place.ensures.within
+    slots_rankable g.F.Fn s c.args.axis c.slots-slots.result.now c.requires.search c.requires.axis c.slots-slots.ensures c.next-place.result
+    (record { bucket = 0; donor = 0 }) c.next-place.ensures.within
 
 pub marks_in_walk-marks-requires-clause-donor : goal.marks_in_walk-marks-requires-clause-donor
 marks_in_walk-marks-requires-clause-donor g c =
     let s = c.args.search.now in
-    (slots_rankable g.F.Fn s c.args.axis c.slots-slots.result.now c.requires.search c.requires.axis c.slots-slots.ensures c.next-place.result (record { bucket = 0; donor = 0 }) c.next-place.ensures.within).0
+    (slots_rankable g.F.Fn s c.args.axis c.slots-slots.result.now c.requires.search c.requires.axis c.slots-slots.ensures c.next-place.result
+    (record { bucket = 0; donor = 0 }) c.next-place.ensures.within).0
 
 pub rank-requires-clause-few : goal.rank-requires-clause-few
 rank-requires-clause-few g c = c.loop-slots.invariant.few
@@ -120,7 +129,8 @@ with-span-requires-clause-rising g c = c.loop-slots.invariant.span.rising
 pub loop-slots-smaller : goal.loop-slots-smaller
 loop-slots-smaller g c =
     let less : c.loop-slots.span.high - c.loop-slots.span.low < length c.slots-slots.result.now = omega (arith, c.len.ensures, c.loop-slots-test.true) in
-    span_grows c.loop-slots.span c.with-span.result c.next-place.result (length c.slots-slots.result.now) c.loop-slots.invariant.span.rising less c.with-span.ensures
+    span_grows c.loop-slots.span c.with-span.result c.next-place.result
+    (length c.slots-slots.result.now) c.loop-slots.invariant.span.rising less c.with-span.ensures
 
 pub loop-slots-preserved : goal.loop-slots-preserved
 loop-slots-preserved g c =
@@ -130,9 +140,11 @@ loop-slots-preserved g c =
     let room = subst (λ (cs : List Candidate). IsOpenOrReaches near c.gap.result cs) c.deref.ensures.value (c.is_closed_at.ensures.reaches (search rules)) in
     record {
       are = inv.are;
-      span = span_wider c.slots-slots.result.now c.bucket_no-bucket.result c.loop-slots.span c.with-span.result place inv.span c.next-place.ensures.within c.with-span.ensures;
+      span = span_wider c.slots-slots.result.now c.bucket_no-bucket.result c.loop-slots.span c.with-span.result place inv.span c.next-place.ensures.within
+          c.with-span.ensures;
       walked = step_walked inv.are inv.walked c.with-span.result place _ c.rank.new.best.items c.rank.new.steps c.rank.ensures.steps inv.span.rising
-          c.next-place.ensures c.with-span.ensures inv.few (subst (λ n. IsOpenOrReaches near n c.loop-slots.nearest.items) c.gap.ensures room) refl c.in_ok-rank.ensures.ranks;
+          c.next-place.ensures c.with-span.ensures inv.few
+          (subst (λ n. IsOpenOrReaches near n c.loop-slots.nearest.items) c.gap.ensures room) refl c.in_ok-rank.ensures.ranks;
       few = few_taken near _ c.rank.new.best.items c.in_ok-rank.ensures.ranks;
     }
 
@@ -147,7 +159,8 @@ returns-clause-steps g c =
     let s = c.args.search.now in
     let inv = c.loop-slots.invariant in
     let whole : length c.slots-slots.result.now ≤ c.loop-slots.span.high - c.loop-slots.span.low = omega (arith, c.len.ensures, c.loop-slots-test.false) in
-    subst (λ (o : Option ℕ). c.loop-slots.steps ≤ c.args.steps.now + most_asked (yardsticks_in s) s.sheet.now.rows s.deck.now.donors s.row.now s.kept s.near o (ranking_in s)) (sym c.requires.first)
+    subst (λ (o : Option ℕ). c.loop-slots.steps ≤ c.args.steps.now + most_asked (yardsticks_in s) s.sheet.now.rows s.deck.now.donors s.row.now s.kept s.near o
+    (ranking_in s)) (sym c.requires.first)
     (steps_few inv.are inv.walked (ranking_in s) (whole_all inv.are inv.walked inv.span whole))
 
 pub returns-clause-most : goal.returns-clause-most

@@ -10,7 +10,8 @@ abbrev pub invariant-loop-slots : goal.invariant-loop-slots
 invariant-loop-slots g l = record {
   are : AreWalked (far_in l.search) (gap_in l.search l.axis.field) l.axis l.bucket l.search.deck.now.donors l.slots;
   span : IsSpan l.slots l.bucket l.span;
-  walked : Walked (far_in l.search) (gap_in l.search l.axis.field) l.search.near (map (λ (s : Slot). s.donor) l.slots) l.span l.nearest.items l.fn.steps l.steps;
+  walked : Walked (far_in l.search) (gap_in l.search l.axis.field) l.search.near
+      (map (λ (s : Slot). s.donor) l.slots) l.span l.nearest.items l.fn.steps l.steps;
   few : length l.nearest.items ≤ l.search.near;
 }
 
