@@ -16,5 +16,7 @@ pub is_row_at : (fields : List Field) (rows : List (List Value)) (i : ℕ) → A
 is_row_at fields rows i are below = All-from_recursion (IsRow fields) rows are i [] below
 
 -- all clean rows are found
-pub clean_all : (survey : SurveyParts) (rows : List (List Value)) (i : ℕ) (found : List ℕ) → length rows ≡ i → found ++ places_from (is_clean survey) i (drop i rows) ≡ donors_of survey rows → found ≡ donors_of survey rows
-clean_all survey rows i found end before = sym (append-nil found) ∙ ap (λ (ns : List ℕ). found ++ ns) (sym (at_drop_all (places_from (is_clean survey) i) rows i (omega (arith, end)))) ∙ before
+pub clean_all : (survey : SurveyParts) (rows : List (List Value)) (i : ℕ) (found : List ℕ) → length rows ≡ i
+    → found ++ places_from (is_clean survey) i (drop i rows) ≡ donors_of survey rows → found ≡ donors_of survey rows
+clean_all survey rows i found end before = sym (append-nil found)
+    ∙ ap (λ (ns : List ℕ). found ++ ns) (sym (at_drop_all (places_from (is_clean survey) i) rows i (omega (arith, end)))) ∙ before

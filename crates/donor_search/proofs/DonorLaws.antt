@@ -30,28 +30,33 @@ measurable_here (kind.Number scale) (Code c) is held plain = absurd is
 measurable_here (kind.Code codes) (Number x) is held plain = absurd is
 measurable_here (kind.Code codes) (Code c) is held plain = tt
 
-measurable_at : (fields : List Field) (row : List Value) → IsRow fields row → HasPlain row → (f : ℕ) → f < length fields → value_of row f ≢ Bad → IsMeasurable (yardstick_at (yardsticks_of fields) f).scale (value_of row f)
+measurable_at : (fields : List Field) (row : List Value) → IsRow fields row → HasPlain row → (f : ℕ) → f < length fields → value_of row f ≢ Bad
+    → IsMeasurable (yardstick_at (yardsticks_of fields) f).scale (value_of row f)
 measurable_at [] row is plain f below held = absurd (omega (arith, below))
 measurable_at (field ∷ fields) [] is plain f below held = absurd is
 measurable_at (field ∷ fields) (v ∷ row) is plain zero below held = measurable_here field.kind v is.0 held plain.0
 measurable_at (field ∷ fields) (v ∷ row) is plain (suc f) below held = measurable_at fields row is.1 plain.1 f (omega (arith, below)) held
 
 -- a record with plain numbers that has a value at each kept field
-pub has_kept : (fields : List Field) (row : List Value) (kept : ℕ) → IsRow fields row → HasPlain row → ((f : ℕ) → f < length fields → has_number kept f ≡ true → value_of row f ≢ Bad) → HasMeasurable (yardsticks_of fields) kept row
+pub has_kept : (fields : List Field) (row : List Value) (kept : ℕ) → IsRow fields row → HasPlain row
+    → ((f : ℕ) → f < length fields → has_number kept f ≡ true → value_of row f ≢ Bad) → HasMeasurable (yardsticks_of fields) kept row
 has_kept fields row kept is plain held f below has =
     let within : f < length fields = (let l = length-map fields yardstick_of in omega (arith, l, below)) in
     measurable_at fields row is plain f within (held f within has)
 
 -- what holds of the number of each clean row holds of each donor
-pub each_clean : (P : ℕ → Type 0) (survey : SurveyParts) (rows : List (List Value)) → ((k : ℕ) → k < length rows → is_clean survey (row_at rows k) ≡ true → P k) → All P (donors_of survey rows)
+pub each_clean : (P : ℕ → Type 0) (survey : SurveyParts) (rows : List (List Value))
+    → ((k : ℕ) → k < length rows → is_clean survey (row_at rows k) ≡ true → P k) → All P (donors_of survey rows)
 each_clean P survey rows each = each-place (is_clean survey) P 0 rows (λ k row at clean.
     subst P (from_zero k) (each k (slice_get_within rows k row at) (ap (is_clean survey) (get-at rows k row [] at) ∙ clean)))
   where
     from_zero : (k : ℕ) → k ≡ 0 + k
     from_zero k = omega arith
 
-pub donors_give : (survey : SurveyParts) (rows : List (List Value)) → AllByRecursion (IsRow survey.fields) rows → AllByRecursion HasPlain rows → (kept : ℕ) → All (IsRankable (yardsticks_of survey.fields) rows kept) (donors_of survey rows)
-donors_give survey rows are plain kept = each_clean (IsRankable (yardsticks_of survey.fields) rows kept) survey rows (λ k below clean. (below, gives k below clean))
+pub donors_give : (survey : SurveyParts) (rows : List (List Value)) → AllByRecursion (IsRow survey.fields) rows → AllByRecursion HasPlain rows → (kept : ℕ)
+    → All (IsRankable (yardsticks_of survey.fields) rows kept) (donors_of survey rows)
+donors_give survey rows are plain kept =
+    each_clean (IsRankable (yardsticks_of survey.fields) rows kept) survey rows (λ k below clean. (below, gives k below clean))
   where
     gives : (k : ℕ) → k < length rows → is_clean survey (row_at rows k) ≡ true → HasMeasurable (yardsticks_of survey.fields) kept (row_at rows k)
     gives k below clean =

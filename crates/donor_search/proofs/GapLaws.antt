@@ -47,7 +47,8 @@ module _ (kept : ℕ) (a b : List Value) where
       next : i + suc k ≡ suc i + k
       next = omega arith
 
-  kept_part : (ys : List Yardstick) (k : ℕ) → k < length ys → has_number kept k ≡ true → field_distance (yardstick_at ys k) (value_of a k) (value_of b k) ≤ distance ys kept a b
+  kept_part : (ys : List Yardstick) (k : ℕ) → k < length ys → has_number kept k ≡ true
+      → field_distance (yardstick_at ys k) (value_of a k) (value_of b k) ≤ distance ys kept a b
   kept_part ys k below has =
       let here = ap (λ c. if c then field_distance (yardstick_at ys k) (value_of a k) (value_of b k) else 0) has in
       let part = subst (λ n. distance_at (yardstick_at ys k) n kept a b ≤ distance ys kept a b) plain (part_at 0 ys k below) in
@@ -56,7 +57,8 @@ module _ (kept : ℕ) (a b : List Value) where
       plain : 0 + k ≡ k
       plain = omega arith
 
-pub gap_short : (ys : List Yardstick) (rows : List (List Value)) (row : List Value) (kept field donor : ℕ) → All IsYardstick ys → field < length ys → has_number kept field ≡ true
+pub gap_short : (ys : List Yardstick) (rows : List (List Value)) (row : List Value) (kept field donor : ℕ) → All IsYardstick ys → field < length ys
+    → has_number kept field ≡ true
     → gap_to ys rows row field donor ≤ distance_to ys rows row kept donor
 gap_short ys rows row kept field donor fit below has =
     let y = yardstick_at ys field in
@@ -81,13 +83,15 @@ module _ (scale : ℕ) (rows : List (List Value)) (field : ℕ) (donors : List �
   pub slots_same : HaveSame donors (map (λ (s : Slot). s.donor) slots)
   slots_same f =
       ap (sum_by f) (sym (names_of scale rows field donors))
-      ∙ sym (sum_by-IsPermutation f (map (λ (s : Slot). s.donor) (map (slot_of scale rows field) donors)) (map (λ (s : Slot). s.donor) slots) (IsPermutation-map (λ (s : Slot). s.donor) (map (slot_of scale rows field) donors) slots are.0))
+      ∙ sym (sum_by-IsPermutation f (map (λ (s : Slot). s.donor) (map (slot_of scale rows field) donors)) (map (λ (s : Slot). s.donor) slots)
+      (IsPermutation-map (λ (s : Slot). s.donor) (map (slot_of scale rows field) donors) slots are.0))
 
   -- what holds of the slot of each donor holds of each slot
   pub slots_all : (P : Slot → Type 0) → All (λ d. P (slot_of scale rows field d)) donors → All P slots
   slots_all P each = All-permutation P (map (slot_of scale rows field) donors) slots are.0 (All-map P (slot_of scale rows field) donors each)
 
-  pub slot_bucket : (i : ℕ) → i < length slots → bucket_at slots i ≡ bucket_no scale (value_of (row_at rows (get_or (map (λ (s : Slot). s.donor) slots) i 0)) field)
+  pub slot_bucket : (i : ℕ) → i < length slots
+      → bucket_at slots i ≡ bucket_no scale (value_of (row_at rows (get_or (map (λ (s : Slot). s.donor) slots) i 0)) field)
   slot_bucket i below =
       let none : Slot = record { bucket = 0; donor = 0 } in
       slots_all (λ (s : Slot). s.bucket ≡ bucket_no scale (value_of (row_at rows s.donor) field)) (λ k d within. refl) i none below
@@ -100,9 +104,11 @@ module _ (scale : ℕ) (rows : List (List Value)) (field : ℕ) (donors : List �
 
 -- ---- the gap of a slot
 
-pub gap_at : (ys : List Yardstick) (rows : List (List Value)) (row : List Value) (kept : ℕ) (axis : Axis) (donors : List ℕ) (slots : List Slot) → IsAxis ys kept axis → HasMeasurable ys kept row → All (IsRankable ys rows kept) donors
+pub gap_at : (ys : List Yardstick) (rows : List (List Value)) (row : List Value) (kept : ℕ) (axis : Axis) (donors : List ℕ) (slots : List Slot)
+    → IsAxis ys kept axis → HasMeasurable ys kept row → All (IsRankable ys rows kept) donors
     → AreSlots (Some axis.scale) rows axis.field donors slots
-    → (i : ℕ) → i < length slots → gap_to ys rows row axis.field (get_or (map (λ (s : Slot). s.donor) slots) i 0) ≡ bucket_gap_at axis (bucket_no axis.scale (value_of row axis.field)) (bucket_at slots i)
+    → (i : ℕ) → i < length slots → gap_to ys rows row axis.field (get_or (map (λ (s : Slot). s.donor) slots) i 0) ≡ bucket_gap_at axis
+    (bucket_no axis.scale (value_of row axis.field)) (bucket_at slots i)
 gap_at ys rows row kept axis donors slots is measurable rankable are i below =
     let donor = get_or (map (λ (s : Slot). s.donor) slots) i 0 in
     let can = slot_donor axis.scale rows axis.field donors slots are (IsRankable ys rows kept) rankable i below in
@@ -110,7 +116,8 @@ gap_at ys rows row kept axis donors slots is measurable rankable are i below =
     let first = subst (λ (o : Option ℕ). IsMeasurable o (value_of row axis.field)) scale_is (measurable axis.field is.field is.has) in
     let second = subst (λ (o : Option ℕ). IsMeasurable o (value_of (row_at rows donor) axis.field)) scale_is (can.1 axis.field is.field is.has) in
     gap_by_buckets (yardstick_at ys axis.field) axis.scale (value_of row axis.field) (value_of (row_at rows donor) axis.field) scale_is is.scale.0 first second
-    ∙ ap (λ w. w * min 1000 (abs_diff (bucket_no axis.scale (value_of row axis.field)) (bucket_no axis.scale (value_of (row_at rows donor) axis.field)) - 1)) (ap (λ (y : Yardstick). y.weight) is.yardstick)
+    ∙ ap (λ w. w * min 1000 (abs_diff (bucket_no axis.scale (value_of row axis.field)) (bucket_no axis.scale (value_of (row_at rows donor) axis.field)) - 1))
+    (ap (λ (y : Yardstick). y.weight) is.yardstick)
     ∙ ap (λ b. bucket_gap_at axis (bucket_no axis.scale (value_of row axis.field)) b) (sym (slot_bucket axis.scale rows axis.field donors slots are i below))
 
 -- a bucket that is as near has no greater gap
@@ -136,7 +143,8 @@ pub record AreWalked (far gap : ℕ → ℕ) (axis : Axis) (bucket : ℕ) (donor
   pub short : (d : ℕ) → gap d ≤ far d
   pub same : HaveSame donors (map (λ (s : Slot). s.donor) slots)
 
-pub slots_walked : {F : Type 0} (calls : Shared F (ℕ × (Bor Value × (Bor Value × Unit {0}))) ℕ) (s : Search F) (axis : Axis) (slots : List Slot) (bucket : ℕ) (value : Value)
+pub slots_walked : {F : Type 0} (calls : Shared F (ℕ × (Bor Value × (Bor Value × Unit {0}))) ℕ) (s : Search F) (axis : Axis) (slots : List Slot) (bucket : ℕ)
+    (value : Value)
     → IsSearch calls s → All IsYardstick (yardsticks_in s) → IsAxis (yardsticks_in s) s.kept axis → slots ≡ slots_at s.deck.now.index axis.field
     → value ≡ value_of s.row.now axis.field → (IsPlainValue value → bucket ≡ bucket_no axis.scale value)
     → AreWalked (far_in s) (gap_in s axis.field) axis bucket s.deck.now.donors slots
@@ -152,7 +160,8 @@ slots_walked calls s axis slots bucket value search fit is there value_is bucket
     (subst (λ (o : Option ℕ). IsMeasurable o (value_of s.row.now axis.field)) scale_is (search.row axis.field is.field is.has))) in
     let own : bucket ≡ bucket_no axis.scale (value_of s.row.now axis.field) = bucket_is plain ∙ ap (bucket_no axis.scale) value_is in
     record {
-      gaps = λ i below. gap_at ys rows s.row.now s.kept axis donors slots is search.row search.donors are i below ∙ ap (λ b. bucket_gap_at axis b (bucket_at slots i)) (sym own);
+      gaps = λ i below. gap_at ys rows s.row.now s.kept axis donors slots is search.row search.donors are i below
+          ∙ ap (λ b. bucket_gap_at axis b (bucket_at slots i)) (sym own);
       short = λ d. gap_short ys rows s.row.now s.kept axis.field d fit is.field is.has;
       same = slots_same axis.scale rows axis.field donors slots are;
     }

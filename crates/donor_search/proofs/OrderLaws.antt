@@ -37,12 +37,14 @@ module _ {X : Type 0} (before : X → X → Bool) where
   from_placed P x [] all = all
   from_placed P x (y ∷ ys) all = by (before x y) (λ rest. from_placed P x ys rest) (subst (AllByRecursion P) (placed-cons before x y ys) all)
     where
-      by : (b : Bool) → (AllByRecursion P (placed before x ys) → P x × AllByRecursion P ys) → AllByRecursion P (cond b (x ∷ y ∷ ys) (y ∷ placed before x ys)) → P x × AllByRecursion P (y ∷ ys)
+      by : (b : Bool) → (AllByRecursion P (placed before x ys) → P x × AllByRecursion P ys) → AllByRecursion P (cond b (x ∷ y ∷ ys) (y ∷ placed before x ys))
+          → P x × AllByRecursion P (y ∷ ys)
       by true later all = all
       by false later all = let rest = later all.1 in (rest.0, (all.0, rest.1))
 
   -- what holds of each in order holds of each
-  from_order : (P : X → Type 0) (xs ys : List X) → AllByRecursion P (fold (λ ordered x. placed before x ordered) ys xs) → AllByRecursion P ys × AllByRecursion P xs
+  from_order : (P : X → Type 0) (xs ys : List X) → AllByRecursion P (fold (λ ordered x. placed before x ordered) ys xs)
+      → AllByRecursion P ys × AllByRecursion P xs
   from_order P [] ys all = (all, tt)
   from_order P (x ∷ xs) ys all =
       let both = from_order P xs (placed before x ys) all in
@@ -52,7 +54,11 @@ module _ {X : Type 0} (before : X → X → Bool) where
   split_order : (n : ℕ) (xs : List X) → IsInOrder before xs → AllByRecursion (IsAmongFirst before (take n xs)) xs
   split_order n [] is = tt
   split_order zero (x ∷ xs) is = (inr tt, all_more (λ z. before z x ≡ false) (IsAmongFirst before []) xs (λ z at. inr tt) is.0)
-  split_order (suc n) (x ∷ xs) is = (inl (Contains-append_left (x ∷ []) (take n xs) x (Contains-push [] x)), all_both (λ z. before z x ≡ false) (IsAmongFirst before (take n xs)) (IsAmongFirst before (x ∷ take n xs)) xs further is.0 (split_order n xs is.1))
+  split_order (suc n) (x ∷ xs) is = (
+    inl (Contains-append_left (x ∷ []) (take n xs) x (Contains-push [] x)),
+    all_both (λ z. before z x ≡ false) (IsAmongFirst before (take n xs))
+        (IsAmongFirst before (x ∷ take n xs)) xs further is.0 (split_order n xs is.1),
+  )
     where
       further : (z : X) → before z x ≡ false → IsAmongFirst before (take n xs) z → IsAmongFirst before (x ∷ take n xs) z
       further z at (inl among) = inl (Contains-append_right (x ∷ []) (take n xs) z among)
@@ -87,29 +93,35 @@ turned a b = of_numbers a.distance b.distance a.donor b.donor
 on : (a b c : Candidate) → is_before a b ≡ true → is_before c b ≡ false → is_before c a ≡ false
 on a b c = of_numbers a.distance b.distance c.distance a.donor b.donor c.donor
   where
-    of_numbers : (m n p a b c : ℕ) → (nat_lt m n || ((m == n) && nat_lt a b)) ≡ true → (nat_lt p n || ((p == n) && nat_lt c b)) ≡ false → (nat_lt p m || ((p == m) && nat_lt c a)) ≡ false
+    of_numbers : (m n p a b c : ℕ) → (nat_lt m n || ((m == n) && nat_lt a b)) ≡ true → (nat_lt p n || ((p == n) && nat_lt c b)) ≡ false
+        → (nat_lt p m || ((p == m) && nat_lt c a)) ≡ false
     of_numbers m n p a b c h g = grind (arith, h, g)
 
 -- the first of candidates in order are in order
 pub nearest_order : (near : ℕ) (candidates nearest : List Candidate) → nearest ≡ take near (in_order is_before candidates) → IsInOrder is_before nearest
-nearest_order near candidates nearest is = subst (IsInOrder is_before) (sym is) (take_order is_before turned on near (in_order is_before candidates) (fold_order is_before turned on candidates [] tt))
+nearest_order near candidates nearest is =
+    subst (IsInOrder is_before) (sym is) (take_order is_before turned on near (in_order is_before candidates) (fold_order is_before turned on candidates [] tt))
 
 module _ (far : ℕ → ℕ) where
   pub nearer_order : (donors : List ℕ) → IsInOrder (is_nearer far) (in_order (is_nearer far) donors)
   nearer_order donors =
-      fold_order (is_nearer far) (λ a b. turned (candidate_of far a) (candidate_of far b)) (λ a b c. on (candidate_of far a) (candidate_of far b) (candidate_of far c)) donors [] tt
+      fold_order (is_nearer far) (λ a b. turned (candidate_of far a) (candidate_of far b))
+      (λ a b c. on (candidate_of far a) (candidate_of far b) (candidate_of far c)) donors [] tt
 
   pub ranking_order : (near : ℕ) (donors : List ℕ) → IsInOrder (is_nearer far) (take near (in_order (is_nearer far) donors))
   ranking_order near donors =
-      take_order (is_nearer far) (λ a b. turned (candidate_of far a) (candidate_of far b)) (λ a b c. on (candidate_of far a) (candidate_of far b) (candidate_of far c)) near (in_order (is_nearer far) donors) (nearer_order donors)
+      take_order (is_nearer far) (λ a b. turned (candidate_of far a) (candidate_of far b))
+      (λ a b c. on (candidate_of far a) (candidate_of far b) (candidate_of far c)) near (in_order (is_nearer far) donors) (nearer_order donors)
 
   pub ranking_nearest : (near : ℕ) (donors : List ℕ) → AllByRecursion (IsAmongFirst (is_nearer far) (take near (in_order (is_nearer far) donors))) donors
-  ranking_nearest near donors = (from_order (is_nearer far) _ donors [] (split_order (is_nearer far) near (in_order (is_nearer far) donors) (nearer_order donors))).1
+  ranking_nearest near donors = (from_order (is_nearer far) _ donors []
+      (split_order (is_nearer far) near (in_order (is_nearer far) donors) (nearer_order donors))).1
 
 -- ---- candidates that are too far
 
 -- in a list in order none is farther than the last
-pub none_farther : (y last : Candidate) (ys : List Candidate) → IsInOrder is_before (y ∷ ys) → Some last ≡ slice_get (y ∷ ys) (length ys) → AllByRecursion (λ (z : Candidate). z.distance ≤ last.distance) (y ∷ ys)
+pub none_farther : (y last : Candidate) (ys : List Candidate) → IsInOrder is_before (y ∷ ys) → Some last ≡ slice_get (y ∷ ys) (length ys)
+    → AllByRecursion (λ (z : Candidate). z.distance ≤ last.distance) (y ∷ ys)
 none_farther y last [] is at = let same : last ≡ y = cc in (rw same (omega arith), tt)
 none_farther y last (z ∷ zs) is at =
     let rest = none_farther z last zs is.1 at in
@@ -119,7 +131,8 @@ none_farther y last (z ∷ zs) is at =
     no_farther m n p a b h g = grind (arith, h, g)
 
 -- what comes before none is put at the end
-put_last : (x : Candidate) (ys : List Candidate) (most : ℕ) → most < x.distance → AllByRecursion (λ (z : Candidate). z.distance ≤ most) ys → placed is_before x ys ≡ ys ++ x ∷ []
+put_last : (x : Candidate) (ys : List Candidate) (most : ℕ) → most < x.distance → AllByRecursion (λ (z : Candidate). z.distance ≤ most) ys
+    → placed is_before x ys ≡ ys ++ x ∷ []
 put_last x [] most farther all = refl
 put_last x (y ∷ ys) most farther all =
     placed-cons is_before x y ys
@@ -130,7 +143,8 @@ put_last x (y ∷ ys) most farther all =
     behind m n a b far few = grind (arith, far, few)
 
 -- so a candidate that is farther than the last of `near` finds no place among them
-pub too_far : (near : ℕ) (ys : List Candidate) (last x : Candidate) → length ys ≤ near → near ≤ length ys → IsInOrder is_before ys → Some last ≡ slice_get ys (length ys - 1) → last.distance < x.distance → ys ≡ take near (placed is_before x ys)
+pub too_far : (near : ℕ) (ys : List Candidate) (last x : Candidate) → length ys ≤ near → near ≤ length ys → IsInOrder is_before ys
+    → Some last ≡ slice_get ys (length ys - 1) → last.distance < x.distance → ys ≡ take near (placed is_before x ys)
 too_far near [] last x few full is at farther = absurd (cc)
 too_far near (y ∷ ys) last x few full is at farther =
     let place : length (y ∷ ys) - 1 ≡ length ys = omega arith in

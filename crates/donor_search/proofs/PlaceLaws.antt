@@ -14,7 +14,8 @@ get-at (y ∷ xs) (suc k) x d at = get-at xs k x d at
 
 module _ {X : Type 0} (test : X → Bool) where
   -- what holds of the place of each element that passes holds of each place
-  pub each-place : (P : ℕ → Type 0) (i : ℕ) (xs : List X) → ((k : ℕ) (x : X) → slice_get xs k ≡ Some x → test x ≡ true → P (i + k)) → All P (places_from test i xs)
+  pub each-place : (P : ℕ → Type 0) (i : ℕ) (xs : List X) → ((k : ℕ) (x : X) → slice_get xs k ≡ Some x → test x ≡ true → P (i + k))
+      → All P (places_from test i xs)
   each-place P i [] each = All-nil P
   each-place P i (x ∷ xs) each =
       All-append P (place_if (test x) i) (places_from test (suc i) xs) (by (test x) (λ passes. subst P (first i) (each 0 x refl passes)))
@@ -38,6 +39,8 @@ module _ {X : Type 0} (test : X → Bool) where
       later : (k : ℕ) → i < suc i + k
       later k = omega arith
 
-      by : (b : Bool) → AllPairs (λ (a b : ℕ). a < b) (places_from test (suc i) xs) → AllPairs (λ (a b : ℕ). a < b) (place_if b i ++ places_from test (suc i) xs)
-      by true rest = AllPairs-cons (λ (a b : ℕ). a < b) i (places_from test (suc i) xs) (each-place (λ (n : ℕ). i < n) (suc i) xs (λ k y at passes. later k)) rest
+      by : (b : Bool) → AllPairs (λ (a b : ℕ). a < b) (places_from test (suc i) xs)
+          → AllPairs (λ (a b : ℕ). a < b) (place_if b i ++ places_from test (suc i) xs)
+      by true rest = AllPairs-cons (λ (a b : ℕ). a < b) i (places_from test (suc i) xs)
+          (each-place (λ (n : ℕ). i < n) (suc i) xs (λ k y at passes. later k)) rest
       by false rest = rest

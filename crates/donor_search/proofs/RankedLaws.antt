@@ -28,7 +28,8 @@ module _ {X : Type 0} (before : X → X → Bool) where
   fold_moves (x ∷ xs) ys =
       let front = IsPermutation-sym (xs ++ x ∷ ys) (x ∷ xs ++ ys) (IsPermutation-middle xs x ys) in
       let there = IsPermutation-append_right xs (x ∷ ys) (placed before x ys) (IsPermutation-insert ys (position_or_len (before x) ys) x) in
-      IsPermutation-trans (x ∷ xs ++ ys) (xs ++ x ∷ ys) _ front (IsPermutation-trans (xs ++ x ∷ ys) (xs ++ placed before x ys) _ there (fold_moves xs (placed before x ys)))
+      IsPermutation-trans (x ∷ xs ++ ys) (xs ++ x ∷ ys) _ front
+      (IsPermutation-trans (xs ++ x ∷ ys) (xs ++ placed before x ys) _ there (fold_moves xs (placed before x ys)))
 
   pub order_moves : (xs : List X) → IsPermutation xs (in_order before xs)
   order_moves xs = subst (λ (ys : List X). IsPermutation ys (in_order before xs)) (append-nil xs) (fold_moves xs [])
@@ -43,7 +44,8 @@ once_taken (suc n) (x ∷ xs) once = (all_take (λ y. nat_eq x y ≡ false) n xs
 
 -- numbers that rise differ
 pub once_rising : (xs : List ℕ) → IsStrictlyIncreasing xs → IsDistinct nat_eq xs
-once_rising xs rising = IsDistinct-from_apart nat_eq xs (λ i j d less within. apart (get_or xs i d) (get_or xs j d) (AllPairs-from_increasing xs rising i j d less within))
+once_rising xs rising = IsDistinct-from_apart nat_eq xs
+    (λ i j d less within. apart (get_or xs i d) (get_or xs j d) (AllPairs-from_increasing xs rising i j d less within))
   where
     apart : (a b : ℕ) → a < b → nat_eq a b ≡ false
     apart a b less = grind (arith, less)
@@ -89,9 +91,11 @@ module _ (yardsticks : List Yardstick) where
       → IsDistinct nat_eq donors → IsDistinct nat_eq (ranking_of yardsticks rows donors row kept near)
   ranking_distinct rows donors row kept near once =
       let nearer = is_nearer (distance_to yardsticks rows row kept) in
-      once_taken near (in_order nearer donors) (IsDistinct-IsPermutation nat_eq nat_eq_equiv.symm donors (in_order nearer donors) (order_moves nearer donors) once)
+      once_taken near (in_order nearer donors)
+      (IsDistinct-IsPermutation nat_eq nat_eq_equiv.symm donors (in_order nearer donors) (order_moves nearer donors) once)
 
   -- no clean row stands in it twice
   pub ranking-once : (survey : SurveyParts) (rows : List (List Value)) (row : List Value) (kept near : ℕ)
       → IsDistinct nat_eq (ranking_of yardsticks rows (donors_of survey rows) row kept near)
-  ranking-once survey rows row kept near = ranking_distinct rows (donors_of survey rows) row kept near (once_rising (donors_of survey rows) (donors_rise survey rows))
+  ranking-once survey rows row kept near =
+      ranking_distinct rows (donors_of survey rows) row kept near (once_rising (donors_of survey rows) (donors_rise survey rows))

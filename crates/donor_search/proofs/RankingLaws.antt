@@ -30,14 +30,17 @@ module _ {X : Type 0} (before : X → X → Bool) where
   placed-take : (n : ℕ) (x : X) (ys : List X) → take n (placed before x ys) ≡ take n (placed before x (take n ys))
   placed-take zero x ys = refl
   placed-take (suc n) x [] = refl
-  placed-take (suc n) x (y ∷ ys) = ap (take (suc n)) (placed-cons x y ys) ∙ by (before x y) (placed-take n x ys) ∙ sym (ap (take (suc n)) (placed-cons x y (take n ys)))
+  placed-take (suc n) x (y ∷ ys) = ap (take (suc n)) (placed-cons x y ys) ∙ by (before x y) (placed-take n x ys)
+      ∙ sym (ap (take (suc n)) (placed-cons x y (take n ys)))
     where
-      by : (b : Bool) → take n (placed before x ys) ≡ take n (placed before x (take n ys)) → take (suc n) (cond b (x ∷ y ∷ ys) (y ∷ placed before x ys)) ≡ take (suc n) (cond b (x ∷ y ∷ take n ys) (y ∷ placed before x (take n ys)))
+      by : (b : Bool) → take n (placed before x ys) ≡ take n (placed before x (take n ys))
+          → take (suc n) (cond b (x ∷ y ∷ ys) (y ∷ placed before x ys)) ≡ take (suc n) (cond b (x ∷ y ∷ take n ys) (y ∷ placed before x (take n ys)))
       by true rest = ap (λ zs. x ∷ zs) (sym (take_twice n y ys))
       by false rest = ap (λ zs. y ∷ zs) rest
 
   -- one more in order
-  pub order_more : (near : ℕ) (xs : List X) (kept : List X) (x : X) → kept ≡ take near (in_order before xs) → take near (placed before x kept) ≡ take near (in_order before (xs ++ x ∷ []))
+  pub order_more : (near : ℕ) (xs : List X) (kept : List X) (x : X) → kept ≡ take near (in_order before xs)
+      → take near (placed before x kept) ≡ take near (in_order before (xs ++ x ∷ []))
   order_more near xs kept x is =
       ap (λ ks. take near (placed before x ks)) is
       ∙ sym (placed-take near x (in_order before xs))
@@ -65,20 +68,26 @@ module _ (far : ℕ → ℕ) where
       ∙ ap (map (candidate_of far)) (sym (placed-cons (is_nearer far) x y ys))
     where
       by : (b : Bool) → placed is_before (candidate_of far x) (map (candidate_of far) ys) ≡ map (candidate_of far) (placed (is_nearer far) x ys)
-          → cond b (candidate_of far x ∷ map (candidate_of far) (y ∷ ys)) (candidate_of far y ∷ placed is_before (candidate_of far x) (map (candidate_of far) ys)) ≡ map (candidate_of far) (cond b (x ∷ y ∷ ys) (y ∷ placed (is_nearer far) x ys))
+          → cond b (candidate_of far x ∷ map (candidate_of far) (y ∷ ys))
+          (candidate_of far y ∷ placed is_before (candidate_of far x) (map (candidate_of far) ys)) ≡ map (candidate_of far)
+          (cond b (x ∷ y ∷ ys) (y ∷ placed (is_nearer far) x ys))
       by true rest = refl
       by false rest = ap (λ cs. candidate_of far y ∷ cs) rest
 
-  pub order-map : (xs ys : List ℕ) → fold (λ ordered c. placed is_before c ordered) (map (candidate_of far) ys) (map (candidate_of far) xs) ≡ map (candidate_of far) (fold (λ ordered x. placed (is_nearer far) x ordered) ys xs)
+  pub order-map : (xs ys : List ℕ)
+      → fold (λ ordered c. placed is_before c ordered) (map (candidate_of far) ys) (map (candidate_of far) xs) ≡ map (candidate_of far)
+      (fold (λ ordered x. placed (is_nearer far) x ordered) ys xs)
   order-map [] ys = refl
-  order-map (x ∷ xs) ys = ap (λ cs. fold (λ ordered c. placed is_before c ordered) cs (map (candidate_of far) xs)) (placed-map x ys) ∙ order-map xs (placed (is_nearer far) x ys)
+  order-map (x ∷ xs) ys = ap (λ cs. fold (λ ordered c. placed is_before c ordered) cs (map (candidate_of far) xs)) (placed-map x ys)
+      ∙ order-map xs (placed (is_nearer far) x ys)
 
   pub names : (xs : List ℕ) → map (λ (c : Candidate). c.donor) (map (candidate_of far) xs) ≡ xs
   names [] = refl
   names (x ∷ xs) = ap (λ ys. x ∷ ys) (names xs)
 
   -- the names of the first candidates in order are the ranking
-  pub ranking_is : (near : ℕ) (donors : List ℕ) (nearest : List Candidate) → nearest ≡ take near (in_order is_before (map (candidate_of far) donors)) → map (λ (c : Candidate). c.donor) nearest ≡ take near (in_order (is_nearer far) donors)
+  pub ranking_is : (near : ℕ) (donors : List ℕ) (nearest : List Candidate) → nearest ≡ take near (in_order is_before (map (candidate_of far) donors))
+      → map (λ (c : Candidate). c.donor) nearest ≡ take near (in_order (is_nearer far) donors)
   ranking_is near donors nearest is =
       ap (map (λ (c : Candidate). c.donor)) (is ∙ ap (take near) (order-map donors []) ∙ take-map (candidate_of far) near (in_order (is_nearer far) donors))
       ∙ names (take near (in_order (is_nearer far) donors))
@@ -94,9 +103,11 @@ module _ (far : ℕ → ℕ) where
       ∙ ap (λ cs. take near (in_order is_before cs)) (sym (map_more (candidate_of far) donors i 0 below))
 
   -- and no donor more
-  pub ranked_all : (near : ℕ) (donors : List ℕ) (i : ℕ) (nearest : List Candidate) → length donors ≤ i → nearest ≡ take near (in_order is_before (map (candidate_of far) (take i donors)))
+  pub ranked_all : (near : ℕ) (donors : List ℕ) (i : ℕ) (nearest : List Candidate) → length donors ≤ i
+      → nearest ≡ take near (in_order is_before (map (candidate_of far) (take i donors)))
       → map (λ (c : Candidate). c.donor) nearest ≡ take near (in_order (is_nearer far) donors)
-  ranked_all near donors i nearest end is = ranking_is near donors nearest (is ∙ ap (λ ds. take near (in_order is_before (map (candidate_of far) ds))) (take_all i donors end))
+  ranked_all near donors i nearest end is =
+      ranking_is near donors nearest (is ∙ ap (λ ds. take near (in_order is_before (map (candidate_of far) ds))) (take_all i donors end))
 
 pub few_taken : (near : ℕ) (xs new : List Candidate) → new ≡ take near xs → length new ≤ near
 few_taken near xs new is = let l = ap (λ (cs : List Candidate). length cs) is ∙ length-take near xs in omega (arith, l)

@@ -24,13 +24,16 @@ none_left far [] few there = there
 none_left far (y ∷ ys) few there = absurd (omega (arith, few))
 
 -- a candidate that is at least so far is put among the nearest, or one stays that is
-reaches_placed : (far near : ℕ) (x : Candidate) (ys : List Candidate) → 1 ≤ near → far ≤ x.distance → length ys ≤ near → (length ys < near) ⊎ Reaches far ys → Reaches far (take near (placed is_before x ys))
+reaches_placed : (far near : ℕ) (x : Candidate) (ys : List Candidate) → 1 ≤ near → far ≤ x.distance → length ys ≤ near → (length ys < near) ⊎ Reaches far ys
+    → Reaches far (take near (placed is_before x ys))
 reaches_placed far zero x ys some at few room = absurd (omega (arith, some))
 reaches_placed far (suc n) x [] some at few room = inl at
 reaches_placed far (suc n) x (y ∷ ys) some at few room =
-    subst (λ (zs : List Candidate). Reaches far (take (suc n) zs)) (sym (placed-cons is_before x y ys)) (by (is_before x y) (rest n (λ some' room'. reaches_placed far n x ys some' at (omega (arith, few)) room') room few))
+    subst (λ (zs : List Candidate). Reaches far (take (suc n) zs)) (sym (placed-cons is_before x y ys))
+    (by (is_before x y) (rest n (λ some' room'. reaches_placed far n x ys some' at (omega (arith, few)) room') room few))
   where
-    rest : (n : ℕ) → (1 ≤ n → (length ys < n) ⊎ Reaches far ys → Reaches far (take n (placed is_before x ys))) → (length (y ∷ ys) < suc n) ⊎ Reaches far (y ∷ ys) → length (y ∷ ys) ≤ suc n
+    rest : (n : ℕ) → (1 ≤ n → (length ys < n) ⊎ Reaches far ys → Reaches far (take n (placed is_before x ys)))
+        → (length (y ∷ ys) < suc n) ⊎ Reaches far (y ∷ ys) → length (y ∷ ys) ≤ suc n
         → (far ≤ y.distance) ⊎ Reaches far (take n (placed is_before x ys))
     rest n later (inr (inl here)) few = inl here
     rest zero later (inr (inr there)) few = absurd (none_left far ys (omega (arith, few)) there)
@@ -38,15 +41,18 @@ reaches_placed far (suc n) x (y ∷ ys) some at few room =
     rest (suc n) later (inr (inr there)) few = inr (later (omega arith) (inr there))
     rest (suc n) later (inl more) few = inr (later (omega arith) (inl (omega (arith, more))))
 
-    by : (b : Bool) → (far ≤ y.distance) ⊎ Reaches far (take n (placed is_before x ys)) → Reaches far (take (suc n) (cond b (x ∷ y ∷ ys) (y ∷ placed is_before x ys)))
+    by : (b : Bool) → (far ≤ y.distance) ⊎ Reaches far (take n (placed is_before x ys))
+        → Reaches far (take (suc n) (cond b (x ∷ y ∷ ys) (y ∷ placed is_before x ys)))
     by true later = inl at
     by false later = later
 
-pub reaches_more : (far near : ℕ) (x : Candidate) (ys zs : List Candidate) → far ≤ x.distance → length ys ≤ near → IsOpenOrReaches near far ys → zs ≡ take near (placed is_before x ys) → IsOpenOrReaches near far zs
+pub reaches_more : (far near : ℕ) (x : Candidate) (ys zs : List Candidate) → far ≤ x.distance → length ys ≤ near → IsOpenOrReaches near far ys
+    → zs ≡ take near (placed is_before x ys) → IsOpenOrReaches near far zs
 reaches_more far near x ys zs at few room is some = inr (subst (Reaches far) (sym is) (reaches_placed far near x ys some at few (room some)))
 
 -- in a list in order none is farther than the last
-pub last_reaches : (far : ℕ) (xs : List Candidate) (last : Candidate) → IsInOrder is_before xs → Some last ≡ slice_get xs (length xs - 1) → Reaches far xs → far ≤ last.distance
+pub last_reaches : (far : ℕ) (xs : List Candidate) (last : Candidate) → IsInOrder is_before xs → Some last ≡ slice_get xs (length xs - 1) → Reaches far xs
+    → far ≤ last.distance
 last_reaches far [] last is at reaches = absurd reaches
 last_reaches far (x ∷ xs) last is at reaches =
     let place : length (x ∷ xs) - 1 ≡ length xs = omega arith in

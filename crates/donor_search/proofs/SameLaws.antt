@@ -26,7 +26,8 @@ module _ (far : ℕ → ℕ) where
   none_ahead : (y : ℕ) (xs : List ℕ) → AllByRecursion (λ x. is_nearer far x y ≡ false) xs → sum_by (ahead y) xs ≡ 0
   unfolding ahead
   none_ahead y [] none = refl
-  none_ahead y (x ∷ xs) none = sum_by-cons (ahead y) x xs ∙ ap (λ b. cond b 1 0 + sum_by (ahead y) xs) none.0 ∙ plain (sum_by (ahead y) xs) ∙ none_ahead y xs none.1
+  none_ahead y (x ∷ xs) none = sum_by-cons (ahead y) x xs ∙ ap (λ b. cond b 1 0 + sum_by (ahead y) xs) none.0 ∙ plain (sum_by (ahead y) xs)
+      ∙ none_ahead y xs none.1
 
   not_itself : (x : ℕ) → is_nearer far x x ≡ false
   not_itself x = of_numbers (far x) x
@@ -58,7 +59,8 @@ module _ (far : ℕ → ℕ) where
   sorted_same (u ∷ us) [] is also same = absurd (let s = sym (same (λ x. 1)) ∙ sum_by-cons (λ x. 1) u us in omega (arith, s))
   sorted_same (u ∷ us) (v ∷ vs) is also same =
       let first : u ≡ v = same_by_order u v (not_ahead u v us vs also same) (not_ahead v u vs us is (λ f. sym (same f))) in
-      let rest = sorted_same us vs is.1 also.1 (λ f. less (f u) (f v) (sum_by f us) (sum_by f vs) (ap f first) (sym (sum_by-cons f u us) ∙ same f ∙ sum_by-cons f v vs)) in
+      let rest = sorted_same us vs is.1 also.1
+      (λ f. less (f u) (f v) (sum_by f us) (sum_by f vs) (ap f first) (sym (sum_by-cons f u us) ∙ same f ∙ sum_by-cons f v vs)) in
       ap (λ x. x ∷ us) first ∙ ap (λ (xs : List ℕ). v ∷ xs) rest
     where
       less : (a b m n : ℕ) → a ≡ b → a + m ≡ b + n → m ≡ n
@@ -66,4 +68,5 @@ module _ (far : ℕ → ℕ) where
 
   pub order_same : (xs ys : List ℕ) → HaveSame xs ys → in_order (is_nearer far) xs ≡ in_order (is_nearer far) ys
   order_same xs ys same = sorted_same (in_order (is_nearer far) xs) (in_order (is_nearer far) ys) (nearer_order far xs) (nearer_order far ys)
-      (λ f. sum_by-IsPermutation f xs (in_order (is_nearer far) xs) (order_moves (is_nearer far) xs) ∙ same f ∙ sym (sum_by-IsPermutation f ys (in_order (is_nearer far) ys) (order_moves (is_nearer far) ys)))
+      (λ f. sum_by-IsPermutation f xs (in_order (is_nearer far) xs) (order_moves (is_nearer far) xs) ∙ same f
+      ∙ sym (sum_by-IsPermutation f ys (in_order (is_nearer far) ys) (order_moves (is_nearer far) ys)))

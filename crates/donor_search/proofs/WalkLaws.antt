@@ -31,7 +31,8 @@ all_append P (x ∷ xs) ys all also = (all.0, all_append P xs ys all.1 also)
 all_front : (P : ℕ → Type 0) (n : ℕ) (xs : List ℕ) → ((i : ℕ) → i < length xs → i < n → P (get_or xs i 0)) → AllByRecursion P (take n xs)
 all_front P zero xs each = tt
 all_front P (suc n) [] each = tt
-all_front P (suc n) (x ∷ xs) each = (each 0 (omega arith) (omega arith), all_front P n xs (λ i below less. each (suc i) (omega (arith, below)) (omega (arith, less))))
+all_front P (suc n) (x ∷ xs) each =
+    (each 0 (omega arith) (omega arith), all_front P n xs (λ i below less. each (suc i) (omega (arith, below)) (omega (arith, less))))
 
 all_back : (P : ℕ → Type 0) (n : ℕ) (xs : List ℕ) → ((i : ℕ) → i < length xs → n ≤ i → P (get_or xs i 0)) → AllByRecursion P (drop n xs)
 all_back P zero [] each = tt
@@ -46,7 +47,8 @@ get_map f (x ∷ xs) (suc k) below = get_map f xs k (omega (arith, below))
 
 count_all : (p : ℕ → Bool) (xs : List ℕ) → AllByRecursion (λ x. p x ≡ true) xs → sum_by (λ x. cond (p x) 1 0) xs ≡ length xs
 count_all p [] all = refl
-count_all p (x ∷ xs) all = sum_by-cons (λ y. cond (p y) 1 0) x xs ∙ (let here = one_if (p x) all.0 in let rest = count_all p xs all.1 in omega (arith, here, rest))
+count_all p (x ∷ xs) all = sum_by-cons (λ y. cond (p y) 1 0) x xs
+    ∙ (let here = one_if (p x) all.0 in let rest = count_all p xs all.1 in omega (arith, here, rest))
 
 pub ones : (xs : List ℕ) → sum_by (λ x. 1) xs ≡ length xs
 ones [] = refl
@@ -89,7 +91,8 @@ module _ (far gap : ℕ → ℕ) (near : ℕ) where
       none_taken (suc n) = refl
 
   -- a step
-  pub walked_more : (donors : List ℕ) (old new : Span) (place : ℕ) (nearest after : List Candidate) (before mid now : ℕ) → Walked donors old nearest before mid → now ≤ mid + 1
+  pub walked_more : (donors : List ℕ) (old new : Span) (place : ℕ) (nearest after : List Candidate) (before mid now : ℕ) → Walked donors old nearest before mid
+      → now ≤ mid + 1
       → place < length donors → old.low ≤ old.high → IsWider old place new
       → ((i : ℕ) → i < length donors → IsOutside old i → gap (get_or donors place 0) ≤ gap (get_or donors i 0))
       → gap (get_or donors place 0) ≤ far (get_or donors place 0)
@@ -100,11 +103,14 @@ module _ (far gap : ℕ → ℕ) (near : ℕ) where
     seen = seen ++ donor ∷ [];
     asked = asked ++ donor ∷ [];
     reach = gap donor;
-    ranked = put ∙ order_more is_before near (map (candidate_of far) seen) nearest (candidate_of far donor) walked.ranked ∙ ap (λ cs. take near (in_order is_before cs)) (sym (map_push (candidate_of far) seen donor));
+    ranked = put ∙ order_more is_before near (map (candidate_of far) seen) nearest (candidate_of far donor) walked.ranked
+        ∙ ap (λ cs. take near (in_order is_before cs)) (sym (map_push (candidate_of far) seen donor));
     all = λ f. all_more_by f wider;
     some = λ f. let m = walked.some f in omega (arith, m, sum_by_push f seen donor, sum_by_push f asked donor);
     most = let l = length-append asked (donor ∷ []) in omega (arith, l, walked.most, one);
-    within = all_push (λ d. gap d ≤ gap donor) asked donor (all_more (λ d. gap d ≤ walked.reach) (λ d. gap d ≤ gap donor) asked (λ d le. let b = walked.beyond place below (outside wider) in omega (arith, le, b)) walked.within) (omega arith);
+    within = all_push (λ d. gap d ≤ gap donor) asked donor
+        (all_more (λ d. gap d ≤ walked.reach) (λ d. gap d ≤ gap donor) asked
+        (λ d le. let b = walked.beyond place below (outside wider) in omega (arith, le, b)) walked.within) (omega arith);
     beyond = λ i within out. next i within (still wider i out);
     reaches = reaches_more (gap donor) near (candidate_of far donor) nearest after least few room put;
   }
@@ -128,7 +134,8 @@ module _ (far gap : ℕ → ℕ) (near : ℕ) where
       still (inr high) i (inl less) = inl (omega (arith, high.1, less))
       still (inr high) i (inr least) = inr (omega (arith, high.0, high.2, least))
 
-      all_more_by : (f : ℕ → ℕ) → IsWider old place new → sum_by f (seen ++ donor ∷ []) + (sum_by f (take new.low donors) + sum_by f (drop new.high donors)) ≡ sum_by f donors
+      all_more_by : (f : ℕ → ℕ) → IsWider old place new
+          → sum_by f (seen ++ donor ∷ []) + (sum_by f (take new.low donors) + sum_by f (drop new.high donors)) ≡ sum_by f donors
       all_more_by f (inl low) =
           let p = sum_by_push f seen donor in
           let m = sum_by_more f donors place 0 below in
@@ -151,12 +158,15 @@ module _ (far gap : ℕ → ℕ) (near : ℕ) where
   rest_far xs [] nearest is all = is ∙ ap (λ ds. take near (in_order is_before (map (candidate_of far) ds))) (sym (append-nil xs))
   rest_far xs (d ∷ ds) nearest is all =
       rest_far (xs ++ d ∷ []) ds nearest
-      (all.0 ∙ order_more is_before near (map (candidate_of far) xs) nearest (candidate_of far d) is ∙ ap (λ cs. take near (in_order is_before cs)) (sym (map_push (candidate_of far) xs d))) all.1
+      (all.0 ∙ order_more is_before near (map (candidate_of far) xs) nearest (candidate_of far d) is
+      ∙ ap (λ cs. take near (in_order is_before cs)) (sym (map_push (candidate_of far) xs d))) all.1
       ∙ ap (λ es. take near (in_order is_before (map (candidate_of far) es))) (append_assoc xs (d ∷ []) ds)
 
   -- donors beside the span that have no place among the nearest are passed over
-  pub walked_past : (donors : List ℕ) (old new : Span) (nearest : List Candidate) (before now : ℕ) → Walked donors old nearest before now → new.low ≤ old.low → old.low ≤ old.high → old.high ≤ new.high
-      → ((i : ℕ) → i < length donors → IsOutside old i → new.low ≤ i → i < new.high → nearest ≡ take near (placed is_before (candidate_of far (get_or donors i 0)) nearest))
+  pub walked_past : (donors : List ℕ) (old new : Span) (nearest : List Candidate) (before now : ℕ) → Walked donors old nearest before now → new.low ≤ old.low
+      → old.low ≤ old.high → old.high ≤ new.high
+      → ((i : ℕ) → i < length donors → IsOutside old i → new.low ≤ i → i < new.high
+      → nearest ≡ take near (placed is_before (candidate_of far (get_or donors i 0)) nearest))
       → Walked donors new nearest before now
   walked_past donors old new nearest before now walked lower rising higher closed = record {
     seen = walked.seen ++ passed;
@@ -197,10 +207,12 @@ module _ (far gap : ℕ → ℕ) (near : ℕ) where
       over_at : (i : ℕ) → i < length (drop old.high donors) → i < new.high - old.high → IsPassed (get_or (drop old.high donors) i 0)
       over_at i below less =
           let l = length-drop old.high donors in
-          subst IsPassed (sym (get_or-drop old.high donors i 0)) (closed (old.high + i) (omega (arith, below, l)) (inr (omega arith)) (omega (arith, lower, rising)) (omega (arith, less)))
+          subst IsPassed (sym (get_or-drop old.high donors i 0))
+          (closed (old.high + i) (omega (arith, below, l)) (inr (omega arith)) (omega (arith, lower, rising)) (omega (arith, less)))
 
       all_closed : AllByRecursion IsPassed passed
-      all_closed = all_append IsPassed under over (all_back IsPassed new.low (take old.low donors) under_at) (all_front IsPassed (new.high - old.high) (drop old.high donors) over_at)
+      all_closed = all_append IsPassed under over (all_back IsPassed new.low (take old.low donors) under_at)
+          (all_front IsPassed (new.high - old.high) (drop old.high donors) over_at)
 
       there : (m n : ℕ) → m ≤ n → m + (n - m) ≡ n
       there m n le = omega (arith, le)
@@ -216,7 +228,8 @@ module _ (far gap : ℕ → ℕ) (near : ℕ) where
           let h = ap (λ n. sum_by f (drop n donors)) (there old.high new.high higher) in
           omega (arith, a, b, u, t, o, d, h, walked.all f)
 
-  module _ (donors all_donors : List ℕ) (span : Span) (nearest : List Candidate) (before now : ℕ) (walked : Walked donors span nearest before now) (same : HaveSame all_donors donors) where
+  module _ (donors all_donors : List ℕ) (span : Span) (nearest : List Candidate) (before now : ℕ) (walked : Walked donors span nearest before now)
+      (same : HaveSame all_donors donors) where
     -- where no donor that is left has a place among the nearest, these are the ranking
     pub walked_all : ((i : ℕ) → i < length donors → IsOutside span i → nearest ≡ take near (placed is_before (candidate_of far (get_or donors i 0)) nearest))
         → nearest ≡ map (candidate_of far) (take near (in_order (is_nearer far) all_donors))
@@ -226,7 +239,8 @@ module _ (far gap : ℕ → ℕ) (near : ℕ) where
         (all_front (λ d. nearest ≡ take near (placed is_before (candidate_of far d) nearest)) span.low donors (λ i below less. closed i below (inl less)))
         (all_back (λ d. nearest ≡ take near (placed is_before (candidate_of far d) nearest)) span.high donors (λ i below least. closed i below (inr least))) in
         let joined : HaveSame (walked.seen ++ others) all_donors = λ f.
-        sum_by-append f walked.seen others ∙ ap (λ n. sum_by f walked.seen + n) (sum_by-append f (take span.low donors) (drop span.high donors)) ∙ walked.all f ∙ sym (same f) in
+        sum_by-append f walked.seen others ∙ ap (λ n. sum_by f walked.seen + n) (sum_by-append f (take span.low donors) (drop span.high donors)) ∙ walked.all f
+        ∙ sym (same f) in
         rest_far walked.seen others nearest walked.ranked all
         ∙ ap (take near) (order-map far (walked.seen ++ others) [])
         ∙ take-map (candidate_of far) near (in_order (is_nearer far) (walked.seen ++ others))
@@ -255,10 +269,13 @@ module _ (far gap : ℕ → ℕ) (near : ℕ) where
         let l : length nearest ≡ near = ap (λ (cs : List Candidate). length cs) is ∙ length-map ranking (candidate_of far) ∙ full in
         let order = nearest_order near (map (candidate_of far) walked.seen) nearest walked.ranked in
         let last : Some (candidate_of far (get_or ranking (near - 1) 0)) ≡ slice_get nearest (length nearest - 1) =
-        get_map (candidate_of far) ranking (near - 1) (omega (arith, some, full)) ∙ ap (λ (cs : List Candidate). slice_get cs (near - 1)) (sym is) ∙ ap (λ n. slice_get nearest (n - 1)) (sym l) in
+        get_map (candidate_of far) ranking (near - 1) (omega (arith, some, full)) ∙ ap (λ (cs : List Candidate). slice_get cs (near - 1)) (sym is)
+        ∙ ap (λ n. slice_get nearest (n - 1)) (sym l) in
         let most = last_reaches walked.reach nearest (candidate_of far (get_or ranking (near - 1) 0)) order last (reached l (walked.reaches some)) in
         let p = λ (d : ℕ). nat_le (gap d) (far (get_or ranking (near - 1) 0)) in
-        let c = count_all p walked.asked (all_more (λ d. gap d ≤ walked.reach) (λ d. p d ≡ true) walked.asked (λ d le. at_most (gap d) walked.reach (far (get_or ranking (near - 1) 0)) le most) walked.within) in
+        let c = count_all p walked.asked
+        (all_more (λ d. gap d ≤ walked.reach) (λ d. p d ≡ true) walked.asked
+        (λ d le. at_most (gap d) walked.reach (far (get_or ranking (near - 1) 0)) le most) walked.within) in
         let a = walked.all (λ d. cond (p d) 1 0) in
         let m = walked.some (λ d. cond (p d) 1 0) in
         omega (arith, a, m, c, same (λ d. cond (p d) 1 0))

@@ -7,4 +7,5 @@ use Rattle.donor_search.proofs.index.marks_of_rows.Given as goal
 
 abbrev pub invariant-loop-row_no : goal.invariant-loop-row_no
 invariant-loop-row_no l = AllByRecursion HasPlain l.sheet.rows
-    → l.marks.items ++ flat_map (marks_of (yardsticks_of l.survey.fields)) (drop l.row_no l.sheet.rows) ≡ flat_map (marks_of (yardsticks_of l.survey.fields)) l.sheet.rows
+    → l.marks.items ++ flat_map (marks_of (yardsticks_of l.survey.fields)) (drop l.row_no l.sheet.rows) ≡ flat_map
+    (marks_of (yardsticks_of l.survey.fields)) l.sheet.rows

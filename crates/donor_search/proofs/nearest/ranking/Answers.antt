@@ -23,7 +23,8 @@ returns-clause-order g c =
     let far : ℕ → ℕ = distance_to c.args.measure.now.yardsticks c.args.sheet.now.rows c.args.row.now c.args.kept in
     let ranked : List ℕ = ranking_of c.args.measure.now.yardsticks c.args.sheet.now.rows c.args.deck.now.donors c.args.row.now c.args.kept c.args.near in
     if_ok_then c.donors_of.result (λ ranking. ranking.items ≡ ranked) (λ ranking. IsInOrder (is_nearer far) ranking.items)
-    (λ ranking is. subst (λ (ds : List ℕ). IsInOrder (is_nearer far) ds) (sym is) (ranking_order far c.args.near c.args.deck.now.donors)) (returns-clause-ranking g c)
+    (λ ranking is. subst (λ (ds : List ℕ). IsInOrder (is_nearer far) ds) (sym is) (ranking_order far c.args.near c.args.deck.now.donors))
+    (returns-clause-ranking g c)
 
 pub returns-clause-nearest : goal.returns-clause-nearest
 returns-clause-nearest g c =
@@ -31,7 +32,8 @@ returns-clause-nearest g c =
     let donors = c.args.deck.now.donors in
     let ranked : List ℕ = ranking_of c.args.measure.now.yardsticks c.args.sheet.now.rows donors c.args.row.now c.args.kept c.args.near in
     if_ok_then c.donors_of.result (λ ranking. ranking.items ≡ ranked) (λ ranking. AllByRecursion (IsAmongFirst (is_nearer far) ranking.items) donors)
-    (λ ranking is. subst (λ (ds : List ℕ). AllByRecursion (IsAmongFirst (is_nearer far) ds) donors) (sym is) (ranking_nearest far c.args.near donors)) (returns-clause-ranking g c)
+    (λ ranking is. subst (λ (ds : List ℕ). AllByRecursion (IsAmongFirst (is_nearer far) ds) donors) (sym is) (ranking_nearest far c.args.near donors))
+    (returns-clause-ranking g c)
 
 pub returns-clause-among : goal.returns-clause-among
 returns-clause-among g c =
@@ -48,8 +50,10 @@ returns-clause-steps g c =
     let donors = c.args.deck.now.donors in
     let ranked : List ℕ = ranking_of ys rows donors c.args.row.now c.args.kept c.args.near in
     if_ok_then c.donors_of.result (λ ranking. ranking.items ≡ ranked)
-    (λ ranking. c.nearest_of.new.steps ≤ c.args.steps.now + most_asked ys rows donors c.args.row.now c.args.kept c.args.near (index_field ys c.args.kept) ranking.items)
-    (λ ranking is. subst (λ (ds : List ℕ). c.nearest_of.new.steps ≤ c.args.steps.now + most_asked ys rows donors c.args.row.now c.args.kept c.args.near (index_field ys c.args.kept) ds) (sym is)
+    (λ ranking. c.nearest_of.new.steps ≤ c.args.steps.now + most_asked ys rows donors c.args.row.now c.args.kept c.args.near
+    (index_field ys c.args.kept) ranking.items)
+    (λ ranking is. subst (λ (ds : List ℕ). c.nearest_of.new.steps ≤ c.args.steps.now + most_asked ys rows donors c.args.row.now c.args.kept c.args.near
+    (index_field ys c.args.kept) ds) (sym is)
     c.in_ok-nearest.ensures.steps) (returns-clause-ranking g c)
 
 pub returns-clause-once : goal.returns-clause-once
@@ -58,4 +62,5 @@ returns-clause-once g c =
     let ranked : List ℕ = ranking_of c.args.measure.now.yardsticks c.args.sheet.now.rows donors c.args.row.now c.args.kept c.args.near in
     if_ok_then c.donors_of.result (λ ranking. ranking.items ≡ ranked) (λ ranking. IsDistinct nat_eq ranking.items)
     (λ ranking is. subst (λ (ds : List ℕ). IsDistinct nat_eq ds) (sym is)
-    (ranking_distinct c.args.measure.now.yardsticks c.args.sheet.now.rows donors c.args.row.now c.args.kept c.args.near (once_rising donors c.requires.deck.rising))) (returns-clause-ranking g c)
+    (ranking_distinct c.args.measure.now.yardsticks c.args.sheet.now.rows donors c.args.row.now c.args.kept c.args.near
+    (once_rising donors c.requires.deck.rising))) (returns-clause-ranking g c)

@@ -8,7 +8,8 @@ not_below a b h = grind (arith, h)
 pub returns-clause-span : goal.returns-clause-span
 returns-clause-span c =
     let parted = IsPartitionedBy-ltb (λ s. s.bucket) _ c.args.bucket c.requires in
-    let point = IsPartitionPoint-from_clause (λ s. ltb s.bucket c.args.bucket) _ _ c.partition_point-place.ensures.partitioned parted (λ a r q k. search rules) in
+    let point = IsPartitionPoint-from_clause (λ s. ltb s.bucket c.args.bucket) _ _ c.partition_point-place.ensures.partitioned parted
+    (λ a r q k. search rules) in
     let place = c.partition_point-place.result in
     let bound = c.partition_point-place.ensures.bound in record {
       rising = omega arith;
