@@ -1,4 +1,4 @@
-use Rattle.std.proofs.Common.{List, OnOk, [], subst, sym, ◌++◌, ◌∙◌, ◌∷◌, ℕ}
+use Rattle.std.proofs.Common.{◌≡◌, List, OnOk, [], subst, sym, ◌++◌, ◌∙◌, ◌∷◌, ℕ}
 use Rattle.bound_cert.specs.Paths.{changes}
 use Rattle.record_text.specs.Texts.{records_text}
 use Rattle.edit_report.proofs.ChangedLaws.{none-changed}
