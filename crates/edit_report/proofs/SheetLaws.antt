@@ -7,7 +7,7 @@ use Rattle.record_text.specs.Sheets.{SheetParts, IsSheet}
 use Rattle.record_text.proofs.ColumnLaws.{columns_within, one_column_each}
 use Rattle.record_text.proofs.FaultLaws.{faultless_parts, rows_equally_long}
 use Rattle.record_text.proofs.HeaderLaws.{header_length}
-use Rattle.edit_report.specs.inner.Columns.{IsLayout, LayoutParts}
+use Rattle.edit_report.specs.Layouts.{IsLayout, LayoutParts}
 use Rattle.edit_report.proofs.WrittenLaws.{each-at}
 
 -- where a sheet's fields stand

@@ -9,14 +9,15 @@ use std::marker::Model;
 
 /// Which field stands in which column of a sheet's rows, both ways.
 #[derive(Debug, Drop)]
-pub(crate) struct Layout {
+pub struct Layout {
     columns: Sequence<u32>,
     fields: Vec<Option<usize>>,
 }
 
 impl Model for Layout {
     ghost use Rattle.std.specs.Prelude.{length};
-    ghost use Rattle.edit_report.specs.inner.Columns.{AreFieldsIn, LayoutParts};
+    ghost use Rattle.edit_report.specs.Layouts.{LayoutParts};
+    ghost use Rattle.edit_report.specs.inner.Columns.{AreFieldsIn};
 
     ghost Value = { LayoutParts };
 
@@ -27,7 +28,7 @@ impl Model for Layout {
 
 impl Layout {
     /// The layout of the sheet's rows.
-    pub(crate) fn of_sheet(alloc: Global, sheet: &Sheet) -> Result<Layout, OutOfMemory>
+    pub fn of_sheet(alloc: Global, sheet: &Sheet) -> Result<Layout, OutOfMemory>
         ensures width { IfOk result (λ layout. layout.width ≡ length sheet.now.header) }
         ensures columns { IfOk result (λ layout. layout.columns ≡ sheet.now.columns) }
     {

@@ -15,6 +15,7 @@ mod value_text;
 
 pub use end::RowEnd;
 pub use laws::report_laws;
+pub use layout::Layout;
 pub use reasons::reasons_text;
-pub use released::released_text;
+pub use released::{released_text, row_texts};
 pub use summary::summary_text;

@@ -5,7 +5,7 @@ ghost use Rattle.record_text.specs.Texts.{records_text};
 ghost use Rattle.edit_model.specs.Rows.{IsRow};
 ghost use Rattle.edit_report.specs.Ends.{AreEnds, IsEnd, IsGift, path_found};
 ghost use Rattle.edit_report.specs.Reasons.{line_texts, donor_text, how_text, reasons_header, reasons_text_of, unresolved_line};
-ghost use Rattle.edit_report.specs.inner.Columns.{IsLayout};
+ghost use Rattle.edit_report.specs.Layouts.{IsLayout};
 ghost use Rattle.edit_report.specs.inner.Lines.{field_line, gift_lines, record_lines};
 
 use crate::changed::{changed_fields, path_found};

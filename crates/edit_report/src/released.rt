@@ -5,8 +5,9 @@ ghost use Rattle.edit_model.specs.Rows.{IsRow};
 ghost use Rattle.record_text.specs.Sheets.{IsSheet};
 ghost use Rattle.record_text.specs.Texts.{records_text};
 ghost use Rattle.edit_report.specs.Ends.{AreEnds, IsEnd};
-ghost use Rattle.edit_report.specs.Released.{column_text, released_text_of, released_texts, released_of, row_with, given_text};
-ghost use Rattle.edit_report.specs.inner.Columns.{IsLayout, column_at, layout_texts};
+ghost use Rattle.edit_report.specs.Released.{column_text, released_text_of, released_texts, released_of, row_with, texts_from, given_text};
+ghost use Rattle.edit_report.specs.Layouts.{IsLayout};
+ghost use Rattle.edit_report.specs.inner.Columns.{column_at, layout_texts};
 
 use crate::changed::{all_kept, changed_set, path_found};
 use crate::end::RowEnd;
@@ -102,7 +103,24 @@ fn released_texts(
     requires new { IsRow survey.now.fields new.now }
     ensures { IfOk result (λ texts. texts ≡ released_texts survey.now.fields layout.now.columns path.now new.now read.now) }
 {
-    let changed = changed_set(survey, path);
+    row_texts(alloc, survey, layout, read, changed_set(survey, path), new)
+}
+
+/// The texts of a record afterwards, column by column: that of the new value at each field of the set, and every other
+/// as it was read.
+pub fn row_texts(
+    alloc: Global,
+    survey: &Survey,
+    layout: &Layout,
+    read: &Texts,
+    changed: FieldSet,
+    new: &Row,
+) -> Result<Texts, OutOfMemory>
+    requires layout { IsLayout survey.now.fields layout.now }
+    requires width { length read.now ≡ layout.now.width }
+    requires new { IsRow survey.now.fields new.now }
+    ensures { IfOk result (λ texts. texts ≡ texts_from survey.now.fields layout.now.columns (has_number changed) new.now 0 read.now) }
+{
     let mut texts = Texts::new(alloc);
     for column in 0..layout.width() {
         push_column(

@@ -1,23 +1,13 @@
-use Rattle.std.specs.Prelude.{◌≡◌, ◌<◌, ℕ, All, Bool, List, [], Option, length, slice_index_or}
+use Rattle.std.specs.Prelude.{◌≡◌, ◌<◌, ℕ, Bool, List, [], Option, length, slice_index_or}
 use Rattle.edit_model.specs.FieldSets.{has_number}
 use Rattle.edit_model.specs.declared.field.Field.{Field}
 use Rattle.edit_model.specs.declared.value.Value.{Value}
-use Rattle.edit_report.specs.Layouts.{field_in}
+use Rattle.edit_report.specs.Layouts.{LayoutParts, field_in}
 use Rattle.edit_report.specs.Released.{column_text, released_texts}
 
 -- for each column, from the first on, the field that stands there
 abbrev pub AreFieldsIn : List ℕ → List (Option ℕ) → Type 0
 AreFieldsIn columns fields = (k : ℕ) (d : Option ℕ) → k < length fields → slice_index_or fields k d ≡ field_in columns k
-
--- how many columns the rows have, and the column of each field
-pub record LayoutParts : Type 0 where
-  pub width : ℕ
-  pub columns : List ℕ
-
--- each field has a column of the rows
-pub record IsLayout (fields : List Field) (layout : LayoutParts) : Type 0 where
-  pub one_each : length layout.columns ≡ length fields
-  pub within : All (λ column. column < layout.width) layout.columns
 
 -- the text of column j afterwards, where the fields of the set are changed and these texts were read
 abbrev pub column_at : List Field → List ℕ → ℕ → List Value → List (List ℕ) → ℕ → List ℕ

@@ -6,7 +6,7 @@ use Rattle.back_subst.specs.declared.gift.Gift.{Gift}
 use Rattle.back_subst.specs.declared.gift.How.{How}
 use Rattle.edit_report.specs.Reasons.{changed_line, lines_with, reasons_of}
 use Rattle.edit_report.specs.declared.reasons.Record.{Record}
-use Rattle.edit_report.specs.inner.Columns.{LayoutParts}
+use Rattle.edit_report.specs.Layouts.{LayoutParts}
 
 -- the lines of a record
 abbrev pub record_lines : List Field → LayoutParts → Record → List (List (List ℕ))
