@@ -71,13 +71,13 @@ def differences(old, new):
         for clauses in olds:
             if clauses in news:
                 continue
-            near = max(news, key=lambda other: len(clauses.items() & other.items()), default=None)
+            near = max(news, key=lambda other: len({*clauses.values()} & {*other.values()}), default=None)
             if near is None:
                 yield "gone", name, "the call", "", ""
                 continue
             for (kind, clause), said in clauses.items():
                 now = near.get((kind, clause))
-                if kind == "ensures" and now != said:
+                if kind == "ensures" and now != said and said not in near.values():
                     yield "gone" if now is None else "changed", name, f"ensures {clause}", said, now
             for (kind, clause), now in near.items():
                 said = clauses.get((kind, clause))
