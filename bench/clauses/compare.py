@@ -11,6 +11,7 @@ import tarfile
 
 CALL = re.compile(r"^( *)(?:(pub(?:\([a-z]+\))?) )?(?:final )?(?:const )?fn (\w+)", re.M)
 OWNER = re.compile(r"^(?:pub )?(?:unsafe )?(trait (\w+)|impl(?:<.*?>)? (?:[\w<>', ]+ for )?(\w+))", re.M)
+BODY = re.compile(r"^(?! *(?:ensures|requires)\b).*[{;]$|(?<=[^ ]) *\{$", re.M)
 CLAUSE = re.compile(r"^ *(ensures|requires)(?: (\w+))? \{", re.M)
 
 
@@ -34,7 +35,7 @@ def clauses_of(text):
             continue
         clauses, place = {}, call.end()
         while True:
-            body = re.compile(r"^" + call[1] + r"\{|;$", re.M).search(text, place)
+            body = BODY.search(text, place)
             clause = CLAUSE.search(text, place)
             if not clause or body and body.start() < clause.start():
                 break
