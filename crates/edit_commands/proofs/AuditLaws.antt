@@ -20,7 +20,7 @@ use Rattle.run_parts.specs.declared.fault.Fault.TheVariants as fault
 use Rattle.run_parts.specs.declared.status.Status.{Status}
 use Rattle.run_parts.specs.declared.status.Status.TheVariants as status
 use Rattle.run_parts.proofs.HeldLaws.{not_longer, one_audit}
-use Rattle.edit_commands.proofs.InputLaws.{IsBeside, IsDueOrRead, read-beside, read-not-due}
+use Rattle.run_parts.proofs.InputLaws.{IsBeside, IsDueOrRead, read-beside, read-not-due}
 use Rattle.run_parts.proofs.ToldLaws.{each-told, where-told}
 use Rattle.run_parts.specs.Limits.{most_bytes, most_proof_bytes}
 

@@ -21,7 +21,7 @@ use Rattle.run_parts.specs.declared.fault.Fault.{Fault}
 use Rattle.run_parts.specs.declared.fault.Fault.TheVariants as fault
 use Rattle.run_parts.specs.declared.status.Status.{Status}
 use Rattle.run_parts.specs.declared.status.Status.TheVariants as status
-use Rattle.edit_commands.proofs.InputLaws.{IsBeside}
+use Rattle.run_parts.proofs.InputLaws.{IsBeside}
 use Rattle.edit_commands.proofs.WholeLaws.{whole-released}
 
 -- ---- the status of an edit
@@ -61,18 +61,3 @@ pub stores-leave : (asked : EditAsked) (f : Fault) (answer : Status) (written : 
 stores-leave asked (fault.Write name) answer written old new kind is h = (answer, written, is, h)
 stores-leave asked fault.OutOfMemory answer written old new kind is h = inr (answer, written, is, h)
 stores-leave asked f answer written old new kind is h = absurd kind
-
--- ---- a run that meets no fault
-
--- a count that does not stand at its end rises
-pub raised-more : (n : ℕ) → n < 2 ^ 64 - 1 → raised n ≡ n → ⊥
-raised-more n room same =
-    let least : raised n ≡ n + 1 = min-eq_left (omega (arith, room)) in
-    omega (arith, least, same)
-
--- there a refusal that says nothing of the files is want of memory
-pub memory-left : (run : Run) (f : Fault) → IsBeside f → run.after.faults ≡ faults_by f run.before.faults → IsFaultless run → fault_status f ≡ status.OutOfMemory
-memory-left run (fault.Read name) beside faults none = absurd (raised-more run.before.faults none.room (sym faults ∙ none.faults))
-memory-left run (fault.Write name) beside faults none = absurd (raised-more run.before.faults none.room (sym faults ∙ none.faults))
-memory-left run fault.OutOfMemory beside faults none = refl
-memory-left run f beside faults none = absurd beside

@@ -1,6 +1,5 @@
 pub mod AuditLaws
 pub mod EndLaws
-pub mod InputLaws
 pub mod MakeLaws
 pub mod OneMade
 pub mod RulesLaws

@@ -11,8 +11,8 @@ use Rattle.run_parts.specs.declared.fault.Fault.{Fault}
 use Rattle.run_parts.specs.declared.fault.Fault.TheVariants as fault
 use Rattle.run_parts.specs.declared.status.Status.{Status}
 use Rattle.run_parts.specs.declared.status.Status.TheVariants as status
-use Rattle.edit_commands.proofs.EndLaws.{memory-left, raised-more}
-use Rattle.edit_commands.proofs.InputLaws.{IsBeside}
+use Rattle.run_parts.proofs.FaultlessLaws.{memory-left, raised-more}
+use Rattle.run_parts.proofs.InputLaws.{IsBeside}
 
 -- where both files are stored, each stands there
 pub all-made : (asked : MakeAsked) (old new : Files) → AreApart (asked.rules ∷ asked.records ∷ []) → AreStored (make_files asked) old new → AreMade asked old new

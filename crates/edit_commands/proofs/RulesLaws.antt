@@ -11,7 +11,7 @@ use Rattle.run_parts.specs.declared.fault.Fault.TheVariants as fault
 use Rattle.run_parts.specs.declared.status.Status.{Status}
 use Rattle.run_parts.specs.declared.status.Status.TheVariants as status
 use Rattle.run_parts.proofs.HeldLaws.{not_longer, not_unread, weaker}
-use Rattle.edit_commands.proofs.InputLaws.{IsBeside}
+use Rattle.run_parts.proofs.InputLaws.{IsBeside}
 use Rattle.run_parts.specs.Limits.{most_bytes}
 
 -- a refusal of the rules is one of the command

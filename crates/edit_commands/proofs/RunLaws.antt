@@ -18,8 +18,9 @@ use Rattle.run_parts.specs.declared.fault.Fault.{Fault}
 use Rattle.run_parts.specs.declared.status.Status.{Status}
 use Rattle.run_parts.specs.declared.status.Status.TheVariants as status
 use Rattle.edit_commands.proofs.AuditLaws.{valid-beside}
-use Rattle.edit_commands.proofs.EndLaws.{has-released, memory-left}
-use Rattle.edit_commands.proofs.InputLaws.{read-beside}
+use Rattle.edit_commands.proofs.EndLaws.{has-released}
+use Rattle.run_parts.proofs.FaultlessLaws.{memory-left}
+use Rattle.run_parts.proofs.InputLaws.{read-beside}
 use Rattle.edit_commands.proofs.RulesLaws.{rules-beside}
 use Rattle.run_parts.proofs.ToldLaws.{each-told, from-told, same-told, where-told}
 

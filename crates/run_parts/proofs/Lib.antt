@@ -1,6 +1,8 @@
 pub mod CallLaws
+pub mod FaultlessLaws
 pub mod FieldFaults
 pub mod HeldLaws
+pub mod InputLaws
 pub mod ReadingLaws
 pub mod StoreLaws
 pub mod TellingLaws

@@ -17,7 +17,7 @@ use Rattle.run_parts.specs.Parts.{AreCallsOf, RefusesLong, RefusesRecords, done_
 use Rattle.command_words.proofs.AskedLaws.{check_of}
 use Rattle.edit_commands.proofs.AuditLaws.{accepted, all-held, check-due, check-refuse, input-check-due, memory-kind, memory-refused, proof-due, proof-refuse, released-due, released-refuse, valid-due}
 use Rattle.run_parts.proofs.CallLaws.{all-calls, memory-calls, memory-faults, told-calls, behind-calls, less-calls, of-fetch, records-calls, rules-calls, then-calls}
-use Rattle.edit_commands.proofs.InputLaws.{records-due}
+use Rattle.run_parts.proofs.InputLaws.{records-due}
 use Rattle.run_parts.proofs.ToldLaws.{both-told, each-told, handed, three-told, where-told}
 use Rattle.edit_commands.proofs.check_run.check.Goals as goal
 

@@ -14,7 +14,7 @@ use Rattle.run_parts.specs.Parts.{RefusesRecords, store_calls}
 use Rattle.command_words.proofs.AskedLaws.{edit_of}
 use Rattle.run_parts.proofs.CallLaws.{all-calls, behind-calls, less-calls, of-stores, records-calls, rules-calls, then-calls}
 use Rattle.edit_commands.proofs.EndLaws.{made, stores-leave}
-use Rattle.edit_commands.proofs.InputLaws.{read-due, records-due, stores-refuse}
+use Rattle.run_parts.proofs.InputLaws.{read-due, records-due, stores-refuse}
 use Rattle.edit_commands.proofs.WrittenLaws.{all-written}
 use Rattle.run_parts.proofs.ToldLaws.{both-told, from-told, handed, where-told}
 use Rattle.edit_commands.proofs.edit_run.edit.Goals as goal
