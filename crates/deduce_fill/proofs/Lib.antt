@@ -1,0 +1,16 @@
+pub mod AnswerLaws
+pub mod CodeLines
+pub mod Completions
+pub mod FieldLoops
+pub mod FillTurns
+pub mod FoundFields
+pub mod OneAnswer
+pub mod OwnPaths
+pub mod PlacedEdits
+pub mod RowKinds
+pub mod ShownSteps
+pub mod TestCases
+pub mod TestFits
+pub mod TestLaws
+pub mod TestLines
+pub mod TestTurns

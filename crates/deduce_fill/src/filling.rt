@@ -1,0 +1,220 @@
+//! The filling of a record.
+ghost use Rattle.std.specs.Prelude.{◌≡◌, ◌<◌, ◌≤◌, [], IfOk, length};
+ghost use Rattle.std.specs.Arc.{arc_value};
+ghost use Rattle.edit_line.specs.EditSets.{SayTheRules, lines_without};
+ghost use Rattle.edit_line.specs.Shapes.{shape_of};
+ghost use Rattle.edit_model.specs.Rows.{IsRow, value_of};
+ghost use Rattle.edit_model.specs.declared.value.Value.TheVariants.{Bad};
+ghost use Rattle.prefix_walk.specs.PathWalks.{walk_along};
+ghost use Rattle.prefix_walk.specs.declared.walk_end.WalkEnd.TheVariants as walk;
+ghost use Rattle.deduce_fill.specs.Filled.{IsCandidate, IsFilled, IsFilledAfter, filled_from};
+ghost use Rattle.deduce_fill.specs.declared.filled.Filled as answers;
+ghost use Rattle.deduce_fill.specs.Laws.{FillsForced, HasNoCompletion, IsShown};
+ghost use Rattle.deduce_fill.specs.Tests.{ArePlacedFrom, bad_fields, most_edits};
+ghost use Rattle.deduce_fill.specs.inner.Fillings.{TellsTurn};
+ghost use Rattle.deduce_fill.specs.inner.Tasks.{IsTask, task_case, task_edits};
+
+use crate::bad_fields::{bad_fields, own_path, set_of};
+use crate::field_test::test_field;
+use crate::filled::{Filled, Forced, Tested};
+use crate::laws::fill_laws;
+use crate::task::Task;
+use crate::test_line::test_lines_of;
+use back_subst::{GiveFault, give};
+use edit_line::Edits;
+use edit_model::{Row, Survey};
+use edit_paths::case_known;
+use foundation::{OutOfMemory, Sequence, Steps};
+use linear_elim::Recompute;
+use prefix_walk::{Walk, WalkEnd, walk_along};
+use std::alloc::Global;
+use std::sync::Arc;
+use std::sync::ledger::Ledger;
+
+/// What becomes of a record whose fields without a value are to be filled: such a field takes the value that the rules force,
+/// and no other field is filled (deductive imputation; De Waal, Pannekoek and Scholtus 2011). A walk along the record's own
+/// path shows that it has a completion, or that it has none; then each field is tested by whether another value than a
+/// candidate's is possible there. The edits are all of the survey's rules, numbered by their places.
+pub fn fill<L: Ledger>(
+    alloc: Global,
+    survey: &Survey,
+    edits: &Arc<Edits>,
+    row: &Row,
+    budget: u64,
+    steps: &mut Steps<L>,
+) -> Result<Filled, OutOfMemory>
+    requires row { IsRow survey.now.fields row.now }
+    requires shape { (arc_value edits.now).shape ≡ shape_of survey.now.fields }
+    requires rules { SayTheRules survey.now (arc_value edits.now) }
+    requires placed { ArePlacedFrom 0 (arc_value edits.now).lines }
+    requires few { length (arc_value edits.now).lines ≤ most_edits }
+    ensures exact { IfOk result (λ filled. IsFilled survey.now (arc_value edits.now) row.now budget filled) }
+    ensures due { IfOk result (λ filled. (due : answers.Filled) → IsFilled survey.now (arc_value edits.now) row.now budget due → filled ≡ due) }
+    ensures forced { IfOk result (FillsForced survey.now row.now) }
+    ensures blocked { IfOk result (HasNoCompletion survey.now row.now) }
+    ensures shown { IfOk result (IsShown survey.now (lines_without (arc_value edits.now).lines) row.now) }
+{
+    fill_laws();
+    case_known(survey, edits, row);
+    let fields = bad_fields(alloc, survey, row)?;
+    if fields.is_empty() {
+        return Ok(Filled::Done {
+            row: row.copy(alloc)?,
+            forced: Sequence::from_vec(Vec::new(alloc)),
+        });
+    }
+    let path = own_path(alloc, survey, row)?;
+    let task = Task {
+        survey,
+        edits,
+        row,
+        path: &path,
+        budget,
+    };
+    fill_fields(alloc, &task, &fields, steps)
+}
+
+// What becomes of a record with these fields without a value.
+fn fill_fields<L: Ledger>(
+    alloc: Global,
+    task: &Task,
+    fields: &[u32],
+    steps: &mut Steps<L>,
+) -> Result<Filled, OutOfMemory>
+    requires task { IsTask task.now }
+    requires fields { fields.now ≡ bad_fields task.now.survey.now.fields task.now.row.now }
+    ensures { IfOk result (IsFilledAfter task.now.survey.now (task_edits task.now) task.now.row.now task.now.budget
+        (walk_along (task_case task.now) task.now.path.now task.now.budget 0)) }
+{
+    let walk = Walk {
+        survey: task.survey,
+        edits: task.edits,
+        row: task.row,
+        path: task.path,
+        budget: task.budget,
+        spent: 0,
+    };
+    match walk_along(alloc, &mut Recompute, &walk, steps)? {
+        WalkEnd::Open { work } => fill_open(alloc, task, fields, work, steps),
+        WalkEnd::Closed { steps, .. } => Ok(Filled::Blocked { steps }),
+        WalkEnd::Budget { work } => Ok(Filled::Budget { work }),
+        WalkEnd::Overflow => Ok(Filled::Overflow { test: 0 }),
+    }
+}
+
+// What becomes of a record whose path is open, after this work.
+fn fill_open<L: Ledger>(
+    alloc: Global,
+    task: &Task,
+    fields: &[u32],
+    work: u64,
+    steps: &mut Steps<L>,
+) -> Result<Filled, OutOfMemory>
+    requires task { IsTask task.now }
+    requires fields { fields.now ≡ bad_fields task.now.survey.now.fields task.now.row.now }
+    requires walked { walk_along (task_case task.now) task.now.path.now task.now.budget 0 ≡ walk.Open work }
+    ensures { IfOk result (IsFilledAfter task.now.survey.now (task_edits task.now) task.now.row.now task.now.budget (walk.Open work)) }
+{
+    let bad = set_of(fields);
+    match give(
+        alloc,
+        &mut Recompute,
+        task.survey,
+        task.edits,
+        task.row,
+        bad,
+        None,
+        steps,
+    ) {
+        Ok(gift) => test_fields(alloc, task, fields, &gift.row, work, steps),
+        Err(GiveFault::OutOfMemory) => Err(OutOfMemory),
+        Err(GiveFault::Bound { .. } | GiveFault::Test { .. }) => Ok(Filled::Overflow { test: 0 }),
+    }
+}
+
+// What the tests of all fields without a value make of the record, with the values of a candidate, after this work.
+fn test_fields<L: Ledger>(
+    alloc: Global,
+    task: &Task,
+    fields: &[u32],
+    candidate: &Row,
+    work: u64,
+    steps: &mut Steps<L>,
+) -> Result<Filled, OutOfMemory>
+    requires task { IsTask task.now }
+    requires fields { fields.now ≡ bad_fields task.now.survey.now.fields task.now.row.now }
+    requires candidate { IsRow task.now.survey.now.fields candidate.now }
+    requires within { work ≤ task.now.budget }
+    ensures { IfOk result (λ filled. filled
+        ≡ filled_from (task_case task.now) candidate.now task.now.budget 0 work task.now.row.now [] fields.now) }
+{
+    let mut filling = Filling {
+        row: task.row.copy(alloc)?,
+        forced: Vec::new(alloc),
+        tests: 0,
+        work,
+    };
+    for field in fields {
+        if let Some(answer) = test_next(alloc, task, candidate, *field, &mut filling, steps)? {
+            return Ok(answer);
+        }
+    }
+    Ok(Filled::Done {
+        row: filling.row,
+        forced: Sequence::from_vec(filling.forced),
+    })
+}
+
+// What was found of the fields so far: the record with the values that are forced, these, and how many tests and how much
+// work that took.
+#[derive(Drop)]
+struct Filling {
+    row: Row,
+    forced: Vec<Forced>,
+    tests: u32,
+    work: u64,
+}
+
+// Tests one field more. There is an answer where the tests end what is done for the record.
+fn test_next<L: Ledger>(
+    alloc: Global,
+    task: &Task,
+    candidate: &Row,
+    field: u32,
+    filling: &mut Filling,
+    steps: &mut Steps<L>,
+) -> Result<Option<Filled>, OutOfMemory>
+    requires task { IsTask task.now }
+    requires candidate { IsRow task.now.survey.now.fields candidate.now }
+    requires field { field < length task.now.survey.now.fields }
+    requires within { filling.old.work ≤ task.now.budget }
+    requires tests { filling.old.tests ≤ 256 }
+    requires row { IsRow task.now.survey.now.fields filling.old.row }
+    ensures { IfOk result (TellsTurn (task_case task.now) candidate.now task.now.budget field filling.old filling.new) }
+{
+    let lines = test_lines_of(alloc, task.survey, candidate, field)?;
+    match test_field(alloc, task, &lines, filling.tests, filling.work, steps)? {
+        Tested::Closed {
+            proofs,
+            tests,
+            work,
+        } => {
+            let value = *candidate.value(field);
+            filling.row.set(task.survey, field, value);
+            filling.forced.push(Forced {
+                field,
+                value,
+                proofs,
+            })?;
+            filling.tests = tests;
+            filling.work = work;
+            Ok(None)
+        }
+        Tested::Free { tests, work } => {
+            filling.tests = tests;
+            filling.work = work;
+            Ok(None)
+        }
+        Tested::Stopped(answer) => Ok(Some(answer)),
+    }
+}

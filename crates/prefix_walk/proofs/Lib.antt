@@ -1,0 +1,5 @@
+pub mod ClosingProofs
+pub mod KeptMore
+pub mod PrefixTurns
+pub mod Prefixes
+pub mod WalkEnds

@@ -1,0 +1,4 @@
+pub mod Laws
+pub mod PathWalks
+pub mod Walks
+pub mod inner
