@@ -66,15 +66,22 @@ basis-before c path more (Boxes boxes) longer parent is = (omega (arith, longer,
 
 -- the basis of the path before is known for it, where the path has a last letter
 pub parent-known : (c : SearchCase) (path : List Bool) (before : Basis) → IsBasisBefore c path before → IsKnownBasis c (before_last path) (if length path == 0 then None else Some before)
-parent-known c [] before is = tt
-parent-known c (l ∷ path) (Lines system) is = (shorter (length path) (taken-long (l ∷ path) (length path) (omega arith)) is.0, is.1)
+parent-known c path before is = by (length path == 0) refl
   where
-    shorter : (n : ℕ) → length (before_last (l ∷ path)) ≡ n → suc n ≤ number_count c → length (before_last (l ∷ path)) < number_count c
-    shorter n e h = omega (arith, e, h)
-parent-known c (l ∷ path) (Boxes boxes) is = (shorter (length path) (taken-long (l ∷ path) (length path) (omega arith)) is.0, is.1)
-  where
-    shorter : (n : ℕ) → length (before_last (l ∷ path)) ≡ n → number_count c < suc n → number_count c ≤ length (before_last (l ∷ path))
-    shorter n e h = omega (arith, e, h)
+    shorter : 0 < length path → length (before_last path) ≡ length path - 1
+    shorter some = taken-long path (length path - 1) (omega arith)
+
+    known : 0 < length path → (k : Basis) → IsBasisBefore c path k → IsBasis c (before_last path) k
+    known some (Lines system) own = (let short = shorter some in omega (arith, some, short, own.0), own.1)
+    known some (Boxes boxes) own = (let short = shorter some in omega (arith, some, short, own.0), own.1)
+
+    by : (b : Bool) → (length path == 0) ≡ b → IsKnownBasis c (before_last path) (if b then None else Some before)
+    by true e = tt
+    by false e = known (some (length path) e) before is
+      where
+        some : (n : ℕ) → (n == 0) ≡ false → 0 < n
+        some zero e = absurd (cc)
+        some (suc n) e = omega arith
 
 -- what is known before the path of this many letters is taken
 pub record IsReady (c : SearchCase) (path : List Bool) (keeps : ℕ → Bool) (count : ℕ) (before : Basis) (levels : List Level) : Type 0 where

@@ -1,47 +1,64 @@
-use Rattle.std.proofs.Common.{◌≡◌, ℕ, ◌+◌, ◌-◌, ◌<◌, ◌≤◌, Bool, List, Option, IfSome, length, take, refl, sym, ap, ◌∙◌, subst, arith}
-use Rattle.edit_paths.specs.declared.state.PathState.TheVariants.{Open}
+use Rattle.std.proofs.Common.{◌≡◌, ◌-◌, ◌<◌, ◌≤◌, ◌+◌, Bool, List, Option, IfSome, take, refl, subst, sym, ◌∙◌, arith}
 use Rattle.edit_paths.specs.States.{IsOpen}
 use Rattle.edit_paths.specs.Works.{work_of}
+use Rattle.edit_paths.specs.declared.state.PathState.TheVariants.{Open}
 use Rattle.path_walk.specs.KeptFields.{KeepsChanged}
-use Rattle.path_walk.specs.declared.looks.Look.{Look}
-use Rattle.path_walk.specs.Looks.{IsLook}
+use Rattle.path_walk.specs.Lists.{HasLists}
+use Rattle.path_walk.specs.Looks.{IsLook, KeepsOpen, TellsLook}
 use Rattle.path_walk.specs.Problems.{case_in}
-use Rattle.prefix_walk.specs.inner.WalkEnds.{TellsEnd}
-use Rattle.prefix_walk.proofs.PrefixTurns.{budget-end, ends-here, ends-open, goes-on, kept-on, none-of, stays-open}
+use Rattle.path_walk.specs.declared.looks.Look.{Look}
+use Rattle.prefix_walk.proofs.PrefixTurns.{budget-end, closes-here, ends-open, goes-on, kept-on, none-of, stays-open, stops-here}
 use Rattle.prefix_walk.proofs.walk.take_paths.Goals as goal
 
 pub returns-in_default-clause-exact : goal.returns-in_default-clause-exact
 returns-in_default-clause-exact g c =
-    let prefix : c.new-prefix.result ≡ take c.loop-count.count c.args.walk.now.path.now = c.new-prefix.ensures ∙ c.in_ok-from_slice.ensures.items in
-    budget-end (case_in c.args.problem.now) c.args.walk.now.path.now c.args.walk.now.budget c.args.walk.now.spent (g.S.Systems.keeps c.loop-count.source) c.loop-count.count c.loop-count.work c.loop-count.before c.loop-count.invariant.0
-    (omega (arith, c.loop-count-test.true)) (c.args.walk.now.budget - c.loop-count.work) refl
-    (subst (λ (p : List Bool). c.args.walk.now.budget - c.loop-count.work < work_of (case_in c.args.problem.now) p) prefix (none-of _ c.in_ok-look.field-0 c.in_default.not-Some c.in_ok-look.ensures.passed))
+    let case = case_in c.args.problem.now in
+    let w = c.args.walk.now in
+    let prefix : c.new-prefix.result ≡ take c.loop-count.count w.path.now = c.new-prefix.ensures ∙ c.in_ok-from_slice.ensures.items in
+    budget-end case w.path.now w.budget w.spent (g.S.Systems.keeps c.loop-count.source) c.loop-count.count c.loop-count.work c.loop-count.before c.loop-count.levels.items c.loop-count.invariant.0
+    (omega (arith, c.loop-count-test.true)) (w.budget - c.loop-count.work) refl
+    (subst (λ (p : List Bool). w.budget - c.loop-count.work < work_of case p) prefix (none-of (w.budget - c.loop-count.work < work_of case c.new-prefix.result) c.in_ok-look.field-0 c.in_default.not-Some c.in_ok-look.ensures.passed))
+
+pub returns-in-Some-stop_by-clause-exact : goal.returns-in-Some-stop_by-clause-exact
+returns-in-Some-stop_by-clause-exact g c =
+    let case = case_in c.args.problem.now in
+    let w = c.args.walk.now in
+    let prefix : c.new-prefix.result ≡ take c.loop-count.count w.path.now = c.new-prefix.ensures ∙ c.in_ok-from_slice.ensures.items in
+    let look = subst (TellsLook case c.new-prefix.result (w.budget - c.loop-count.work)) c.in-Some.is c.in_ok-look.ensures.look in
+    stops-here case w.path.now w.budget w.spent (g.S.Systems.keeps c.loop-count.source) c.loop-count.count c.loop-count.work c.loop-count.before c.loop-count.levels.items c.loop-count.invariant.0
+    (omega (arith, c.loop-count-test.true)) c.in-Some.look (subst (λ (p : List Bool). IsLook case p c.in-Some.look) prefix look.0) look.1 c.stop_by.result c.in-Some-stop_by.end c.stop_by.ensures c.in-Some-stop_by.is
 
 pub returns-in-Some-2-clause-exact : goal.returns-in-Some-2-clause-exact
 returns-in-Some-2-clause-exact g c =
-    let prefix : c.new-prefix.result ≡ take c.loop-count.count c.args.walk.now.path.now = c.new-prefix.ensures ∙ c.in_ok-from_slice.ensures.items in
-    let look = subst (λ (o : Option Look). IfSome o (λ look. IsLook (case_in c.args.problem.now) c.new-prefix.result look × (look.work ≤ c.args.walk.now.budget - c.loop-count.work))) c.in-Some.is c.in_ok-look.ensures.look in
-    ends-here (case_in c.args.problem.now) c.args.walk.now.path.now c.args.walk.now.budget c.args.walk.now.spent (g.S.Systems.keeps c.loop-count.source) c.loop-count.count c.loop-count.work c.loop-count.before c.loop-count.invariant.0
-    (omega (arith, c.loop-count-test.true)) c.in-Some.look (subst (λ (p : List Bool). IsLook (case_in c.args.problem.now) p c.in-Some.look) prefix look.0) look.1 c.in_ok-end.field-0 c.in-Some-2.end
-    (subst (λ (p : List Bool). TellsEnd (case_in c.args.problem.now) p (c.loop-count.work + c.in-Some.look.work) c.in_ok-end.field-0) prefix c.in_ok-end.ensures.end) c.in-Some-2.is
+    let case = case_in c.args.problem.now in
+    let w = c.args.walk.now in
+    let prefix : c.new-prefix.result ≡ take c.loop-count.count w.path.now = c.new-prefix.ensures ∙ c.in_ok-from_slice.ensures.items in
+    let look = subst (TellsLook case c.new-prefix.result (w.budget - c.loop-count.work)) c.in-Some.is c.in_ok-look.ensures.look in
+    closes-here case w.path.now w.budget w.spent (g.S.Systems.keeps c.loop-count.source) c.loop-count.count c.loop-count.work c.loop-count.before c.loop-count.levels.items c.loop-count.invariant.0
+    (omega (arith, c.loop-count-test.true)) c.in-Some.look (subst (λ (p : List Bool). IsLook case p c.in-Some.look) prefix look.0) look.1 c.deref.result.now c.in_ok-end.field-0 c.in-Some-2.end
+    (subst (HasLists case (take c.loop-count.count w.path.now)) (sym c.deref.ensures.value)
+    (subst (λ (p : List Bool). HasLists case p c.push_lists.new.levels.items) (c.letters-letters.ensures ∙ prefix) c.in_ok-push_lists.ensures.lists))
+    c.in_ok-end.ensures c.in-Some-2.is
 
 pub loop-count-preserved : goal.loop-count-preserved
 loop-count-preserved g c =
-    let prefix : c.new-prefix.result ≡ take c.loop-count.count c.args.walk.now.path.now = c.new-prefix.ensures ∙ c.in_ok-from_slice.ensures.items in
-    let look = subst (λ (o : Option Look). IfSome o (λ look. IsLook (case_in c.args.problem.now) c.new-prefix.result look × (look.work ≤ c.args.walk.now.budget - c.loop-count.work))) c.in-Some.is c.in_ok-look.ensures.look in
-    let kept = subst (λ (o : Option Look). IfSome o (λ look. look.state ≡ Open → KeepsChanged (g.S.Systems.keeps c.look_into.new.source) (case_in c.args.problem.now) c.new-prefix.result)) c.in-Some.is c.in_ok-look.ensures.kept in
-    let opened = stays-open (case_in c.args.problem.now) c.new-prefix.result (c.loop-count.work + c.in-Some.look.work) c.in_ok-end.field-0 c.in_ok-end.ensures.end c.in_default-2.not-Some in
-    let is_look = subst (λ (p : List Bool). IsLook (case_in c.args.problem.now) p c.in-Some.look) prefix look.0 in (
-      goes-on (case_in c.args.problem.now) c.args.walk.now.path.now c.args.walk.now.budget c.args.walk.now.spent (g.S.Systems.keeps c.loop-count.source) c.loop-count.count c.loop-count.work c.loop-count.before c.loop-count.invariant.0
-          (omega (arith, c.loop-count-test.true)) c.in-Some.look is_look look.1 (g.S.Systems.keeps c.end_by.new.source)
-          (subst (λ (p : List Bool). IsOpen (case_in c.args.problem.now) p) prefix opened)
-          (subst (λ (p : List Bool). KeepsChanged (g.S.Systems.keeps c.end_by.new.source) (case_in c.args.problem.now) p) prefix
-          (kept-on (case_in c.args.problem.now) c.new-prefix.result (g.S.Systems.keeps c.look_into.new.source) (g.S.Systems.keeps c.end_by.new.source) c.in_ok-end.ensures.keeps (kept (look.0.state ∙ opened)))),
-      λ e h. c.in_ok-end.ensures.serves e (c.in_ok-look.ensures.serves e (c.loop-count.invariant.1 e h)),
-      λ f h. c.in_ok-end.ensures.keeps f (c.in_ok-look.ensures.keeps f (c.loop-count.invariant.2 f h)),
+    let case = case_in c.args.problem.now in
+    let w = c.args.walk.now in
+    let prefix : c.new-prefix.result ≡ take c.loop-count.count w.path.now = c.new-prefix.ensures ∙ c.in_ok-from_slice.ensures.items in
+    let look = subst (TellsLook case c.new-prefix.result (w.budget - c.loop-count.work)) c.in-Some.is c.in_ok-look.ensures.look in
+    let kept = subst (KeepsOpen (g.S.Systems.keeps c.look_into.new.source) case c.new-prefix.result) c.in-Some.is c.in_ok-look.ensures.kept in
+    let opened = stays-open c.in-Some.look.state c.deref.result.now (c.loop-count.work + c.in-Some.look.work) c.in_ok-end.field-0 c.in_ok-end.ensures c.in_default-2.not-Some in (
+      goes-on case w.path.now w.budget w.spent (g.S.Systems.keeps c.loop-count.source) c.loop-count.count c.loop-count.work c.loop-count.before c.loop-count.levels.items c.loop-count.invariant.0
+          (omega (arith, c.loop-count-test.true)) c.in-Some.look (subst (λ (p : List Bool). IsLook case p c.in-Some.look) prefix look.0) look.1
+          (g.S.Systems.keeps c.push_lists.new.source) c.push_lists.new.levels.items opened
+          (subst (KeepsChanged (g.S.Systems.keeps c.push_lists.new.source) case) prefix
+          (kept-on case c.new-prefix.result (g.S.Systems.keeps c.look_into.new.source) (g.S.Systems.keeps c.push_lists.new.source) c.in_ok-push_lists.ensures.keeps (kept opened)))
+          (subst (λ (p : List Bool). HasLists case p c.push_lists.new.levels.items) (c.letters-letters.ensures ∙ prefix) c.in_ok-push_lists.ensures.lists),
+      λ e h. c.in_ok-push_lists.ensures.serves e (c.in_ok-look.ensures.serves e (c.loop-count.invariant.1 e h)),
+      λ f h. c.in_ok-push_lists.ensures.keeps f (c.in_ok-look.ensures.keeps f (c.loop-count.invariant.2 f h)),
     )
 
 pub returns-clause-exact : goal.returns-clause-exact
 returns-clause-exact g c =
-    ends-open (case_in c.args.problem.now) c.args.walk.now.path.now c.args.walk.now.budget c.args.walk.now.spent (g.S.Systems.keeps c.loop-count.source) c.loop-count.count c.loop-count.work c.loop-count.before c.loop-count.invariant.0
-    (omega (arith, c.loop-count-test.false, c.loop-count.auto.count-end))
+    ends-open (case_in c.args.problem.now) c.args.walk.now.path.now c.args.walk.now.budget c.args.walk.now.spent (g.S.Systems.keeps c.loop-count.source) c.loop-count.count c.loop-count.work c.loop-count.before
+    c.loop-count.levels.items c.loop-count.invariant.0 (omega (arith, c.loop-count-test.false, c.loop-count.auto.count-end))
