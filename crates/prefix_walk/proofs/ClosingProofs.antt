@@ -1,10 +1,10 @@
-use Rattle.std.proofs.Common.{◌≡◌, ℕ, ◌&&◌, Bool, true, false, not, List, Option, Some, None, Ok, if◌then◌else◌, slice_get, refl, sym, ap, ◌∙◌, subst}
+use Rattle.std.proofs.Common.{◌≡◌, ℕ, ◌&&◌, Bool, true, false, not, List, Option, Some, None, if◌then◌else◌, slice_get, refl, sym, ap, ◌∙◌}
 use Rattle.std.specs.Cmp.Lexicographic.{same_text}
 use Rattle.std.specs.List.{filter}
 use Rattle.std.specs.Result.{result_unwrap_or}
 use Rattle.foundation.specs.Options.{◌>>?◌}
 use Rattle.edit_model.specs.Corrections.{path_order}
-use Rattle.edit_model.specs.FieldSets.{has_field, has_number}
+use Rattle.edit_model.specs.FieldSets.{has_number}
 use Rattle.edit_model.specs.Rows.{is_bad, value_of}
 use Rattle.edit_model.proofs.FieldSetLaws.{has-set_of}
 use Rattle.edit_line.specs.Lines.{LineParts}
@@ -25,7 +25,7 @@ use Rattle.edit_paths.specs.PathStates.{is_closed}
 use Rattle.edit_paths.specs.States.{state_of}
 use Rattle.edit_paths.specs.declared.state.PathState.{PathState}
 use Rattle.edit_paths.specs.declared.state.PathState.TheVariants.{ClosedBad, ClosedBox, ClosedLine, Open, Overflows}
-use Rattle.edit_paths.proofs.BadFields.{is-bad, not-bad}
+use Rattle.edit_paths.proofs.BadFields.{is-bad}
 use Rattle.edit_paths.proofs.ClosingSteps.{closing-box, closing-line, only-kept}
 use Rattle.edit_paths.proofs.KeptLines.{asks-whole, kept-number}
 use Rattle.edit_paths.proofs.LineHistories.{AreUsable}

@@ -1,4 +1,4 @@
-use Rattle.std.proofs.Common.{◌≡◌, ℕ, ◌&&◌, ◌||◌, Bool, true, false, List, [], ◌∷◌, ◌++◌, ℤ, pos, Option, Some, None, Result, Ok, Err, if◌then◌else◌, length, slice_get, slice_index_or, refl, sym, ap, ◌∙◌}
+use Rattle.std.proofs.Common.{◌≡◌, ℕ, ◌&&◌, ◌||◌, Bool, true, false, List, [], ◌∷◌, ◌++◌, ℤ, pos, Option, Some, None, Result, Ok, Err, if◌then◌else◌, length, slice_get, refl, sym, ap, ◌∙◌}
 use Rattle.std.specs.Option.{ok_or}
 use Rattle.std.specs.Ordering.{int_eq}
 use Rattle.std.specs.Result.{result_unwrap_or}
@@ -12,7 +12,7 @@ use Rattle.edit_line.specs.Lines.{LineParts}
 use Rattle.edit_line.specs.Shapes.{Domain, code_fields, has_field, number_fields}
 use Rattle.edit_line.specs.Sums.{fails_at, stands_only}
 use Rattle.derivation.specs.Premises.{Premises, premises_of}
-use Rattle.derivation.specs.ValidSteps.{as_box, as_line, failed_box, fails_at_kept, fixed_box, fixed_sets, last_from, only_if, proved_by, proved_from, steps_result}
+use Rattle.derivation.specs.ValidSteps.{as_box, as_line, failed_box, fails_at_kept, fixed_sets, last_from, only_if, proved_by, proved_from, steps_result}
 use Rattle.derivation.specs.declared.proved.Proved.{Proved}
 use Rattle.derivation.specs.declared.proved.Proved.TheVariants as proved
 use Rattle.derivation.specs.declared.step.Step.{Step}

@@ -1,8 +1,8 @@
-use Rattle.std.proofs.Common.{◌≡◌, ℕ, zero, suc, ◌+◌, ◌-◌, ◌<◌, ◌≤◌, ◌==◌, Bool, true, false, not, if◌then◌else◌, nat_lt, List, [], ◌∷◌, Option, Some, None, IfNone, IfSome, drop, length, map, take, refl, sym, ap, ◌∙◌, subst, arith}
+use Rattle.std.proofs.Common.{◌≡◌, ℕ, zero, suc, ◌+◌, ◌-◌, ◌<◌, ◌≤◌, ◌==◌, Bool, true, false, if◌then◌else◌, nat_lt, List, [], ◌∷◌, Option, Some, None, IfNone, drop, length, map, take, refl, sym, ap, ◌∙◌, subst, arith}
 use Rattle.std.specs.Arc.{arc_value}
 use Rattle.edit_model.specs.FieldSets.{set_of}
 use Rattle.edit_paths.specs.Cases.{SearchCase}
-use Rattle.edit_paths.specs.Paths.{before_last, changed_numbers, number_count}
+use Rattle.edit_paths.specs.Paths.{before_last, changed_numbers}
 use Rattle.edit_paths.specs.States.{IsOpen, boxes_along, state_of}
 use Rattle.edit_paths.specs.Works.{work_of}
 use Rattle.edit_paths.specs.declared.state.PathState.{PathState}

@@ -1,12 +1,9 @@
-use Rattle.std.proofs.Common.{◌≡◌, ◌⊎◌, inl, inr, ℕ, zero, suc, ◌≤◌, ◌&&◌, Bool, true, false, not, List, [], ◌∷◌, length, map, slice_index_or, take, refl, sym, ap, ◌∙◌, subst, arith}
-use Rattle.std.specs.List.{list_any}
+use Rattle.std.proofs.Common.{◌≡◌, inl, inr, ℕ, zero, suc, ◌&&◌, Bool, true, not, List, [], ◌∷◌, slice_index_or, take, refl, sym, ap, ◌∙◌}
 use Rattle.edit_line.specs.Reductions.{IsIn}
 use Rattle.edit_line.proofs.Members.{any-in, in-any, in-map, in-map-out}
 use Rattle.edit_line.proofs.SetLaws.{both_true}
 use Rattle.edit_model.specs.Corrections.{path_order}
-use Rattle.edit_model.specs.FieldSets.{has_field}
 use Rattle.edit_model.specs.Points.{Point}
-use Rattle.edit_model.specs.RowPoints.{Agrees}
 use Rattle.edit_model.specs.Rows.{is_bad, value_of}
 use Rattle.edit_model.specs.declared.field.Field.{Field}
 use Rattle.edit_model.specs.declared.value.Value.{Value}

@@ -1,4 +1,4 @@
-use Rattle.std.proofs.Common.{◌≡◌, ◌⊎◌, inl, inr, ℕ, ◌+◌, ◌≤◌, Bool, true, false, not, List, [], ◌∷◌, map, nat_lt, if◌then◌else◌, refl, sym, ap, ◌∙◌, subst, arith}
+use Rattle.std.proofs.Common.{◌≡◌, inl, inr, ℕ, ◌+◌, ◌≤◌, Bool, true, false, List, [], ◌∷◌, map, nat_lt, if◌then◌else◌, refl, sym, ap, ◌∙◌, subst, arith}
 use Rattle.edit_line.specs.Reductions.{IsIn}
 use Rattle.derivation.specs.declared.step.Step.{Step}
 use Rattle.edit_paths.specs.Cases.{SearchCase}
@@ -8,7 +8,6 @@ use Rattle.edit_paths.specs.Works.{work_of}
 use Rattle.edit_paths.specs.declared.state.PathState.{PathState}
 use Rattle.edit_paths.specs.declared.state.PathState.TheVariants.{ClosedBad, ClosedBox, ClosedLine, Open, Overflows}
 use Rattle.prefix_walk.specs.PathWalks.{closing_steps, ended_by, prefixes, walk_through}
-use Rattle.prefix_walk.specs.declared.walk_end.WalkEnd.{WalkEnd}
 use Rattle.prefix_walk.specs.declared.walk_end.WalkEnd.TheVariants as walk
 
 -- What the end of a walk tells of the paths that it took.

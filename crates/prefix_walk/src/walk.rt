@@ -47,6 +47,7 @@ pub fn walk_along<S: Systems, L: Ledger>(
     ensures exact { IfOk result (λ end. end ≡ walk_along (walk_case walk.now) walk.now.path.now walk.now.budget walk.now.spent) }
     ensures serves { (e : EditsParts) → S.serves source.old e → S.serves source.new e }
     ensures keeps { (f : ℕ) → S.keeps source.old f ≡ true → S.keeps source.new f ≡ true }
+    ensures counts { steps.old ≤ steps.new }
 {
     case_known(walk.survey, walk.edits, walk.row);
     let wholes = walk.edits.shape().whole_sets(alloc)?;
@@ -74,6 +75,7 @@ fn take_paths<S: Systems, L: Ledger>(
     ensures exact { IfOk result (λ end. end ≡ walk_along (case_in problem.now) walk.now.path.now walk.now.budget walk.now.spent) }
     ensures serves { (e : EditsParts) → S.serves source.old e → S.serves source.new e }
     ensures keeps { (f : ℕ) → S.keeps source.old f ≡ true → S.keeps source.new f ≡ true }
+    ensures counts { steps.old ≤ steps.new }
 {
     let mut work = walk.spent;
     let mut before = first_basis(alloc, source, problem, steps)?;
@@ -112,6 +114,7 @@ fn first_basis<S: Systems, L: Ledger>(
     ensures kept { IfOk result (λ before. KeepsChanged (S.keeps source.new) (case_in problem.now) []) }
     ensures serves { (e : EditsParts) → S.serves source.old e → S.serves source.new e }
     ensures keeps { (f : ℕ) → S.keeps source.old f ≡ true → S.keeps source.new f ≡ true }
+    ensures counts { steps.old ≤ steps.new }
 {
     match system_along(alloc, source, problem, &[], steps) {
         Ok(held) => Ok(Basis::Lines(Arc::new(alloc, held)?)),

@@ -1,7 +1,4 @@
-use Rattle.std.proofs.Common.{◌≡◌, ℕ, ◌≤◌, Bool, List, [], ◌∷◌, nat_lt, true, false, if◌then◌else◌, map, refl, sym, ap, ◌∙◌, subst, take, arith}
-use Rattle.edit_paths.specs.PathStates.{is_closed}
-use Rattle.edit_paths.specs.States.{state_of}
-use Rattle.edit_paths.specs.Works.{work_of}
+use Rattle.std.proofs.Common.{sym, subst, take}
 use Rattle.edit_paths.proofs.ClosedPaths.{closed-path}
 use Rattle.edit_paths.proofs.OpenPaths.{open-point}
 use Rattle.prefix_walk.specs.PathWalks.{prefixes}

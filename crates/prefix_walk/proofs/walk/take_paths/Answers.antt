@@ -1,12 +1,9 @@
-use Rattle.std.proofs.Common.{◌≡◌, ◌-◌, ◌<◌, ◌≤◌, ◌+◌, Bool, List, Option, IfSome, take, refl, subst, sym, ◌∙◌, arith}
-use Rattle.edit_paths.specs.States.{IsOpen}
+use Rattle.std.proofs.Common.{◌≡◌, ◌-◌, ◌<◌, ◌+◌, Bool, List, take, refl, subst, sym, ◌∙◌, arith}
 use Rattle.edit_paths.specs.Works.{work_of}
-use Rattle.edit_paths.specs.declared.state.PathState.TheVariants.{Open}
 use Rattle.path_walk.specs.KeptFields.{KeepsChanged}
 use Rattle.path_walk.specs.Lists.{HasLists}
 use Rattle.path_walk.specs.Looks.{IsLook, KeepsOpen, TellsLook}
 use Rattle.path_walk.specs.Problems.{case_in}
-use Rattle.path_walk.specs.declared.looks.Look.{Look}
 use Rattle.prefix_walk.proofs.PrefixTurns.{budget-end, closes-here, ends-open, goes-on, kept-on, none-of, stays-open, stops-here}
 use Rattle.prefix_walk.proofs.walk.take_paths.Goals as goal
 
@@ -56,6 +53,7 @@ loop-count-preserved g c =
           (subst (λ (p : List Bool). HasLists case p c.push_lists.new.levels.items) (c.letters-letters.ensures ∙ prefix) c.in_ok-push_lists.ensures.lists),
       λ e h. c.in_ok-push_lists.ensures.serves e (c.in_ok-look.ensures.serves e (c.loop-count.invariant.1 e h)),
       λ f h. c.in_ok-push_lists.ensures.keeps f (c.in_ok-look.ensures.keeps f (c.loop-count.invariant.2 f h)),
+      omega (arith, c.loop-count.invariant.3, c.in_ok-look.ensures.counts, c.in_ok-push_lists.ensures.counts),
     )
 
 pub returns-clause-exact : goal.returns-clause-exact
