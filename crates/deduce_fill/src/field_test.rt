@@ -28,7 +28,8 @@ pub(crate) fn test_field<L: Ledger>(
     requires lines { All (λ line. IsLine line × (line.shape ≡ shape_of task.now.survey.now.fields)) lines.now }
     requires within { work ≤ task.now.budget }
     requires tests { tests + length lines.now < 1000 }
-    ensures { IfOk result (λ told. told ≡ tested_from (task_case task.now) task.now.budget tests work [] lines.now) }
+    ensures exact { IfOk result (λ told. told ≡ tested_from (task_case task.now) task.now.budget tests work [] lines.now) }
+    ensures counts { steps.old ≤ steps.new }
 {
     let mut proofs = Vec::new(alloc);
     let mut tests = tests;
@@ -64,7 +65,8 @@ fn walk_with<L: Ledger>(
     requires line { IsLine line.now }
     requires shape { line.now.shape ≡ shape_of task.now.survey.now.fields }
     requires within { spent ≤ task.now.budget }
-    ensures { IfOk result (λ end. end ≡ walk_with (task_case task.now) line.now task.now.budget spent) }
+    ensures exact { IfOk result (λ end. end ≡ walk_with (task_case task.now) line.now task.now.budget spent) }
+    ensures counts { steps.old ≤ steps.new }
 {
     let edits = edits_with(alloc, task.survey, task.edits, line)?;
     let walk = Walk {

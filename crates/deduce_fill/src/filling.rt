@@ -53,6 +53,7 @@ pub fn fill<L: Ledger>(
     ensures forced { IfOk result (FillsForced survey.now row.now) }
     ensures blocked { IfOk result (HasNoCompletion survey.now row.now) }
     ensures shown { IfOk result (IsShown survey.now (lines_without (arc_value edits.now).lines) row.now) }
+    ensures counts { steps.old ≤ steps.new }
 {
     fill_laws();
     case_known(survey, edits, row);
@@ -83,8 +84,9 @@ fn fill_fields<L: Ledger>(
 ) -> Result<Filled, OutOfMemory>
     requires task { IsTask task.now }
     requires fields { fields.now ≡ bad_fields task.now.survey.now.fields task.now.row.now }
-    ensures { IfOk result (IsFilledAfter task.now.survey.now (task_edits task.now) task.now.row.now task.now.budget
+    ensures exact { IfOk result (IsFilledAfter task.now.survey.now (task_edits task.now) task.now.row.now task.now.budget
         (walk_along (task_case task.now) task.now.path.now task.now.budget 0)) }
+    ensures counts { steps.old ≤ steps.new }
 {
     let walk = Walk {
         survey: task.survey,
@@ -113,7 +115,8 @@ fn fill_open<L: Ledger>(
     requires task { IsTask task.now }
     requires fields { fields.now ≡ bad_fields task.now.survey.now.fields task.now.row.now }
     requires walked { walk_along (task_case task.now) task.now.path.now task.now.budget 0 ≡ walk.Open work }
-    ensures { IfOk result (IsFilledAfter task.now.survey.now (task_edits task.now) task.now.row.now task.now.budget (walk.Open work)) }
+    ensures exact { IfOk result (IsFilledAfter task.now.survey.now (task_edits task.now) task.now.row.now task.now.budget (walk.Open work)) }
+    ensures counts { steps.old ≤ steps.new }
 {
     let bad = set_of(fields);
     match give(
@@ -145,8 +148,9 @@ fn test_fields<L: Ledger>(
     requires fields { fields.now ≡ bad_fields task.now.survey.now.fields task.now.row.now }
     requires candidate { IsRow task.now.survey.now.fields candidate.now }
     requires within { work ≤ task.now.budget }
-    ensures { IfOk result (λ filled. filled
+    ensures exact { IfOk result (λ filled. filled
         ≡ filled_from (task_case task.now) candidate.now task.now.budget 0 work task.now.row.now [] fields.now) }
+    ensures counts { steps.old ≤ steps.new }
 {
     let mut filling = Filling {
         row: task.row.copy(alloc)?,
@@ -190,7 +194,8 @@ fn test_next<L: Ledger>(
     requires within { filling.old.work ≤ task.now.budget }
     requires tests { filling.old.tests ≤ 256 }
     requires row { IsRow task.now.survey.now.fields filling.old.row }
-    ensures { IfOk result (TellsTurn (task_case task.now) candidate.now task.now.budget field filling.old filling.new) }
+    ensures turn { IfOk result (TellsTurn (task_case task.now) candidate.now task.now.budget field filling.old filling.new) }
+    ensures counts { steps.old ≤ steps.new }
 {
     let lines = test_lines_of(alloc, task.survey, candidate, field)?;
     match test_field(alloc, task, &lines, filling.tests, filling.work, steps)? {

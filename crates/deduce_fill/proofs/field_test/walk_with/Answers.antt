@@ -21,7 +21,7 @@ walk_along-requires-clause-walk g c = record {
   within = c.requires.within;
 }
 
-pub returns : goal.returns
-returns g c =
+pub returns-clause-exact : goal.returns-clause-exact
+returns-clause-exact g c =
     walked-line c.args.task.now.survey.now (task_edits c.args.task.now) (arc_value c.in_ok-edits.edits) c.args.task.now.row.now c.args.line.now c.args.task.now.path.now c.args.task.now.budget c.args.spent c.walk_along.result
     (c.in_ok-edits.ensures.lines ∙ ap (λ (e : EditsParts). e.lines ++ (length e.lines, c.args.line.now) ∷ []) c.deref.ensures) c.requires.task.path c.walk_along.ensures.exact

@@ -10,4 +10,4 @@ test_next-requires-clause-field g c =
 pub test_next-requires-clause-tests : goal.test_next-requires-clause-tests
 test_next-requires-clause-tests g c =
     let few = bad-few c.args.task.now.survey.now.fields c.args.task.now.row.now in
-    omega (arith, c.loop-field.invariant.tests, c.loop-field-test.true, ap length c.requires.fields, few, c.requires.task.few_fields)
+    omega (arith, c.loop-field.invariant.0.tests, c.loop-field-test.true, ap length c.requires.fields, few, c.requires.task.few_fields)
