@@ -5,6 +5,7 @@ pub mod FieldLoops
 pub mod FillTurns
 pub mod FoundFields
 pub mod OneAnswer
+pub mod OpenEnds
 pub mod OwnPaths
 pub mod PlacedEdits
 pub mod RowKinds

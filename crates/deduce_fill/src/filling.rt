@@ -131,7 +131,8 @@ fn fill_open<L: Ledger>(
     ) {
         Ok(gift) => test_fields(alloc, task, fields, &gift.row, work, steps),
         Err(GiveFault::OutOfMemory) => Err(OutOfMemory),
-        Err(GiveFault::Bound { .. } | GiveFault::Test { .. }) => Ok(Filled::Overflow { test: 0 }),
+        Err(GiveFault::Bound { .. }) => Ok(Filled::Overflow { test: 0 }),
+        Err(GiveFault::Test { .. }) => Ok(Filled::Overflow { test: 0 }),
     }
 }
 
