@@ -1,29 +1,24 @@
-use Rattle.std.proofs.Common.{◌≡◌, ℕ, ◌<◌, ◌++◌, not, Bool, true, false, List, [], ◌∷◌, All, inl, inr, length, map, refl, sym, ap, ◌∙◌, subst, arith}
+use Rattle.std.proofs.Common.{◌≡◌, ℕ, ◌++◌, not, Bool, true, false, List, [], ◌∷◌, All, inl, inr, length, refl, sym, ap, ◌∙◌, subst, arith}
 use Rattle.std.proofs.lemmas.List.{map-append}
-use Rattle.edit_model.specs.Corrections.{path_order}
-use Rattle.edit_model.specs.FieldSets.{has_field}
 use Rattle.edit_model.specs.Parts.{SurveyParts}
 use Rattle.edit_model.specs.Points.{Point}
-use Rattle.edit_model.specs.RowPoints.{Agrees}
 use Rattle.edit_model.specs.Rows.{is_bad, value_of}
 use Rattle.edit_model.specs.declared.value.Value.{Value}
 use Rattle.edit_model.proofs.RowLaws.{row-length}
-use Rattle.edit_line.specs.EditSets.{EditsParts, lines_without}
+use Rattle.edit_line.specs.EditSets.{EditsParts}
 use Rattle.edit_line.specs.Lines.{LineHolds, LineParts}
 use Rattle.edit_line.specs.Reductions.{IsIn}
 use Rattle.edit_line.proofs.Members.{all-in, in-all, in-either, in-left, in-right}
-use Rattle.bound_cert.specs.Paths.{keeps}
 use Rattle.derivation.specs.declared.step.Step.{Step}
 use Rattle.edit_paths.specs.Cases.{IsCase, Meets, SearchCase, case_of, edit_lines}
-use Rattle.edit_paths.specs.Paths.{AgreesAlong, field_count}
-use Rattle.edit_paths.proofs.FieldPlaces.{order-within}
+use Rattle.edit_paths.specs.Paths.{AgreesAlong}
 use Rattle.edit_paths.proofs.ClosedPaths.{closed-path}
 use Rattle.edit_paths.proofs.OpenPaths.{open-point}
 use Rattle.prefix_walk.specs.PathWalks.{prefixes, walk_along}
 use Rattle.prefix_walk.specs.declared.walk_end.WalkEnd.TheVariants as walk
 use Rattle.prefix_walk.proofs.Prefixes.{agrees-on, path-in}
 use Rattle.prefix_walk.proofs.WalkEnds.{closed-at, open-at}
-use Rattle.deduce_fill.specs.Forced.{AgreesWhereKnown, IsCompletion}
+use Rattle.deduce_fill.specs.Forced.{IsCompletion}
 use Rattle.deduce_fill.specs.Laws.{IsRuleCase}
 use Rattle.deduce_fill.specs.Tests.{own_path, with_line}
 use Rattle.deduce_fill.proofs.OwnPaths.{in-order, own-keeps, own-length, value-within}
@@ -59,7 +54,8 @@ module _ (survey : SurveyParts) (edits : EditsParts) (row : List Value) (is : Is
   }
 
   -- a walk over the edits that closes: there is no completion
-  pub closed-none : (budget spent work : ℕ) (steps : List Step) → walk_along c path budget spent ≡ walk.Closed steps work → (p : Point) → IsCompletion survey row p → ⊥
+  pub closed-none : (budget spent work : ℕ) (steps : List Step) → walk_along c path budget spent ≡ walk.Closed steps work → (p : Point)
+      → IsCompletion survey row p → ⊥
   closed-none budget spent work steps ended p done =
       let end = closed-at c budget spent work steps (prefixes path) ended in
       closed-path c is.case end.path end.closed p (completion-meets p done) (agrees-on c path end.path end.there p (completion-agrees p done))
@@ -85,19 +81,28 @@ module _ (survey : SurveyParts) (edits : EditsParts) (row : List Value) (is : Is
     less-meets : (p : Point) → Meets (with_line c line) p → Meets c p × LineHolds line p
     less-meets p meets =
         let all = subst (λ (ls : List LineParts). All (λ l. LineHolds l p) ls) with-lines meets.edits in (
-          record { codes = meets.codes; edits = all-in (λ l. LineHolds l p) (edit_lines c) (λ l there. in-all (λ l. LineHolds l p) l (edit_lines c ++ line ∷ []) all (in-left l (edit_lines c) (line ∷ []) there)) },
+          record {
+            codes = meets.codes;
+            edits =
+                all-in (λ l. LineHolds l p) (edit_lines c)
+                (λ l there. in-all (λ l. LineHolds l p) l (edit_lines c ++ line ∷ []) all (in-left l (edit_lines c) (line ∷ []) there));
+          },
           in-all (λ l. LineHolds l p) line (edit_lines c ++ line ∷ []) all (in-right line (edit_lines c) (line ∷ []) (inl refl)),
         )
 
     -- a walk that closes: the line holds at no completion
-    pub closed-fails : (budget spent work : ℕ) (steps : List Step) → walk_along (with_line c line) path budget spent ≡ walk.Closed steps work → (p : Point) → IsCompletion survey row p → ¬ LineHolds line p
+    pub closed-fails : (budget spent work : ℕ) (steps : List Step) → walk_along (with_line c line) path budget spent ≡ walk.Closed steps work → (p : Point)
+        → IsCompletion survey row p → ¬ LineHolds line p
     closed-fails budget spent work steps ended p done holds =
         let end = closed-at (with_line c line) budget spent work steps (prefixes path) ended in
-        closed-path (with_line c line) case end.path end.closed p (more-meets p (completion-meets p done) holds) (agrees-on (with_line c line) path end.path end.there p (completion-agrees p done))
+        closed-path (with_line c line) case end.path end.closed p (more-meets p (completion-meets p done) holds)
+        (agrees-on (with_line c line) path end.path end.there p (completion-agrees p done))
 
     -- a walk that stays open: it holds at one
-    pub open-holds : (budget spent work : ℕ) → walk_along (with_line c line) path budget spent ≡ walk.Open work → (p : Point) × IsCompletion survey row p × LineHolds line p
+    pub open-holds : (budget spent work : ℕ) → walk_along (with_line c line) path budget spent ≡ walk.Open work
+        → (p : Point) × IsCompletion survey row p × LineHolds line p
     open-holds budget spent work ended =
-        let (p, meets, agrees) = open-point (with_line c line) case path (own-length survey.fields row) ((open-at (with_line c line) budget spent work (prefixes path) ended).each path (path-in path)).0 in
+        let (p, meets, agrees) = open-point (with_line c line) case path (own-length survey.fields row)
+        ((open-at (with_line c line) budget spent work (prefixes path) ended).each path (path-in path)).0 in
         let (less, holds) = less-meets p meets in
         (p, agrees-completion p less agrees, holds)

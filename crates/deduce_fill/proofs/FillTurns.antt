@@ -39,7 +39,8 @@ module _ (c : SearchCase) (new : List Value) (budget f : ℕ) (before : Filling)
   abbrev after_tests : List ℕ → Tested → Filled
   after_tests fields t =
       filled_by t
-      (λ proofs tests work. filled_from c new budget tests work (slice_set before.row f (value_of new f)) (before.forced.items ++ record { field = f; value = value_of new f; proofs = proofs } ∷ []) fields)
+      (λ proofs tests work. filled_from c new budget tests work (slice_set before.row f (value_of new f))
+      (before.forced.items ++ record { field = f; value = value_of new f; proofs = proofs } ∷ []) fields)
       (λ tests work. filled_from c new budget tests work before.row before.forced.items fields)
 
   next-is : (fields : List ℕ) → filled_on c new budget before (f ∷ fields) ≡ after_tests fields told
@@ -51,7 +52,8 @@ module _ (c : SearchCase) (new : List Value) (budget f : ℕ) (before : Filling)
       (tested-within c budget before.tests before.work (before.tests + 2) [] (test_lines (shape_of c.survey.fields) f (value_of new f)) fits
       (let few = two-tests (shape_of c.survey.fields) f (value_of new f) in omega (arith, few)))
 
-  same-on : (after : Filling) (tests work : ℕ) (row : List Value) (forced : List Forced) → after.tests ≡ tests → after.work ≡ work → after.row ≡ row → after.forced.items ≡ forced
+  same-on : (after : Filling) (tests work : ℕ) (row : List Value) (forced : List Forced) → after.tests ≡ tests → after.work ≡ work → after.row ≡ row
+      → after.forced.items ≡ forced
       → (fields : List ℕ) → filled_from c new budget tests work row forced fields ≡ filled_on c new budget after fields
   same-on after tests work row forced tests_are work_is row_is forced_are fields =
       sym (ap (λ n. filled_from c new budget n after.work after.row after.forced.items fields) tests_are
@@ -99,7 +101,8 @@ module _ (c : SearchCase) (new : List Value) (budget start : ℕ) (fields : List
 
   module _ (i : ℕ) (found : Filling) (so_far : IsFoundSoFar i found) (f : ℕ) (below : i < length fields) (f_is : f ≡ get_or fields i 0) where
     here : filled_on c new budget found (f ∷ drop (i + 1) fields) ≡ filled_from c new budget 0 start c.row [] fields
-    here = ap (λ g. filled_on c new budget found (g ∷ drop (i + 1) fields)) f_is ∙ sym (at_drop_more (λ (fs : List ℕ). filled_on c new budget found fs) fields i 0 below) ∙ so_far.rest
+    here = ap (λ g. filled_on c new budget found (g ∷ drop (i + 1) fields)) f_is
+        ∙ sym (at_drop_more (λ (fs : List ℕ). filled_on c new budget found fs) fields i 0 below) ∙ so_far.rest
 
     pub found-more : (after : Filling) → IsTurn c new budget f found after → IsFoundSoFar (i + 1) after
     found-more after turn = record {
@@ -109,7 +112,8 @@ module _ (c : SearchCase) (new : List Value) (budget start : ℕ) (fields : List
       row = turn.row;
     }
 
-    pub found-ends : (answer : Filled) → ((others : List ℕ) → filled_on c new budget found (f ∷ others) ≡ answer) → answer ≡ filled_from c new budget 0 start c.row [] fields
+    pub found-ends : (answer : Filled) → ((others : List ℕ) → filled_on c new budget found (f ∷ others) ≡ answer)
+        → answer ≡ filled_from c new budget 0 start c.row [] fields
     found-ends answer ends = sym (ends (drop (i + 1) fields)) ∙ here
 
 -- ---- the fields without a value
@@ -132,4 +136,5 @@ module _ (fields : List Field) (row : List Value) where
   bad-few = omega (arith, filter-few (λ f. is_bad (value_of row f)) (path_order fields), order-length fields)
 
   pub bad-within : (i : ℕ) → i < length (bad_fields fields row) → get_or (bad_fields fields row) i 0 < length fields
-  bad-within i below = order-within fields (get_or (bad_fields fields row) i 0) (bad-out fields row (get_or (bad_fields fields row) i 0) (in-at (bad_fields fields row) i below)).0
+  bad-within i below = order-within fields (get_or (bad_fields fields row) i 0)
+      (bad-out fields row (get_or (bad_fields fields row) i 0) (in-at (bad_fields fields row) i below)).0

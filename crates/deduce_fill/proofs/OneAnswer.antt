@@ -27,16 +27,21 @@ module _ (survey : SurveyParts) (edits : EditsParts) (row : List Value) (is : Is
   over = start_over (case_of survey edits row) is.case
 
   one-candidate : (a b : List Value) → IsCandidate survey edits row a → IsCandidate survey edits row b → b ≡ a
-  one-candidate a b first second = one-gift survey edits row (bad_set survey.fields row) None over a b first.imputed first.computed second.imputed second.computed
+  one-candidate a b first second =
+      one-gift survey edits row (bad_set survey.fields row) None over a b first.imputed first.computed second.imputed second.computed
 
-  candidate-given : (new : List Value) → IsCandidate survey edits row new → (fault : GiveFault) → StopsThere survey edits row (bad_set survey.fields row) None fault → ⊥
+  candidate-given : (new : List Value) → IsCandidate survey edits row new → (fault : GiveFault)
+      → StopsThere survey edits row (bad_set survey.fields row) None fault → ⊥
   candidate-given new first fault stops =
       no-fault survey edits row (bad_set survey.fields row) None over new first.imputed.fits first.imputed.keeps
-      (first-all survey (start_lines edits) (target_of None) new (giving_order survey.fields (bad_set survey.fields row)) first.imputed.given) first.computed first.tested fault stops
+      (first-all survey (start_lines edits) (target_of None) new (giving_order survey.fields (bad_set survey.fields row)) first.imputed.given) first.computed
+      first.tested fault stops
 
-  one-after : (budget : ℕ) (end : WalkEnd) (answer other : Filled) → IsFilledAfter survey edits row budget end answer → IsFilledAfter survey edits row budget end other → other ≡ answer
+  one-after : (budget : ℕ) (end : WalkEnd) (answer other : Filled) → IsFilledAfter survey edits row budget end answer
+      → IsFilledAfter survey edits row budget end other → other ≡ answer
   one-after budget (walk.Open work) answer other (inl (a, first, told)) (inl (b, second, also)) =
-      also ∙ ap (λ (new : List Value). filled_from (case_of survey edits row) new budget 0 work row [] (bad_fields survey.fields row)) (one-candidate a b first second) ∙ sym told
+      also ∙ ap (λ (new : List Value). filled_from (case_of survey edits row) new budget 0 work row [] (bad_fields survey.fields row))
+      (one-candidate a b first second) ∙ sym told
   one-after budget (walk.Open work) answer other (inl (a, first, told)) (inr (fault, stops, also)) = absurd (candidate-given a first fault stops)
   one-after budget (walk.Open work) answer other (inr (fault, stops, told)) (inl (b, second, also)) = absurd (candidate-given b second fault stops)
   one-after budget (walk.Open work) answer other (inr (fault, stops, told)) (inr (f, s, also)) = also ∙ sym told

@@ -11,7 +11,7 @@ use Rattle.edit_line.specs.EditSets.{EditsParts}
 use Rattle.edit_line.proofs.FieldLists.{has-filter}
 use Rattle.edit_line.proofs.Members.{all-in}
 use Rattle.linear_elim.proofs.PointLaws.{map-agree}
-use Rattle.edit_paths.specs.Cases.{SearchCase, case_of}
+use Rattle.edit_paths.specs.Cases.{case_of}
 use Rattle.edit_paths.specs.States.{IsOpen}
 use Rattle.edit_paths.proofs.FieldPlaces.{order-within}
 use Rattle.prefix_walk.specs.PathWalks.{prefixes, walk_along}
@@ -42,11 +42,14 @@ pub can-give : (survey : SurveyParts) (edits : EditsParts) (row : List Value) (b
 can-give survey edits row budget work is small ended = record {
   is_row = is.case.row;
   shape = is.shape;
-  path = subst (λ (path : List Bool). IsOpen (case_of survey edits row) path) (sym (own-is survey.fields row)) ((open-at (case_of survey edits row) budget 0 work (prefixes (own_path survey.fields row)) ended).each (own_path survey.fields row) (path-in (own_path survey.fields row))).0;
+  path = subst (λ (path : List Bool). IsOpen (case_of survey edits row) path) (sym (own-is survey.fields row))
+      ((open-at (case_of survey edits row) budget 0 work (prefixes (own_path survey.fields row)) ended).each (own_path survey.fields row)
+      (path-in (own_path survey.fields row))).0;
   sound = λ p meets. (is.rules p).0 (meets.codes, meets.edits);
   complete = λ p correction outside. ((is.rules p).1 correction).1;
   few = subst (λ (path : List Bool). IsCheap (case_of survey edits row) path) (sym (own-is survey.fields row)) (λ k fits.
-      let most = ((open-at (case_of survey edits row) budget 0 work (prefixes (own_path survey.fields row)) ended).each (take k (own_path survey.fields row)) (take-in (own_path survey.fields row) k)).1 in
+      let most = ((open-at (case_of survey edits row) budget 0 work (prefixes (own_path survey.fields row)) ended).each (take k (own_path survey.fields row))
+      (take-in (own_path survey.fields row) k)).1 in
       omega (arith, most, small));
 }
 

@@ -1,5 +1,4 @@
-use Rattle.std.proofs.Common.{◌≡◌, ℕ, zero, suc, ◌+◌, ◌<◌, ◌==◌, ◌&&◌, ◌||◌, not, Bool, true, false, if◌then◌else◌, List, [], ◌∷◌, length, map, slice_index_or, refl, sym, ap, ◌∙◌, subst, arith}
-use Rattle.std.specs.List.{list_any}
+use Rattle.std.proofs.Common.{◌≡◌, ℕ, zero, suc, ◌+◌, ◌<◌, ◌==◌, ◌&&◌, ◌||◌, not, Bool, true, false, if◌then◌else◌, List, [], ◌∷◌, length, map, slice_index_or, refl, sym, ap, ◌∙◌, arith}
 use Rattle.std.proofs.lemmas.Bool.Decides.{Decides-eqb}
 use Rattle.std.proofs.lemmas.List.{length-map}
 use Rattle.edit_model.specs.Corrections.{path_order}
@@ -61,7 +60,8 @@ module _ (fields : List Field) (row : List Value) where
   in-order f below =
       ap (λ fs. has_field fs f) (order-shape fields) ∙ has-append f (number_fields (shape_of fields)) (code_fields (shape_of fields))
       ∙ turned (has_field (number_fields (shape_of fields)) f) (has_field (code_fields (shape_of fields)) f)
-      (ap (λ n. has_field (code_fields (shape_of fields)) n || has_field (number_fields (shape_of fields)) n) own ∙ field-either 0 f (shape_of fields) (omega (arith, below, length-map fields (λ (field : Field). domain_of field.kind))))
+      (ap (λ n. has_field (code_fields (shape_of fields)) n || has_field (number_fields (shape_of fields)) n) own
+      ∙ field-either 0 f (shape_of fields) (omega (arith, below, length-map fields (λ (field : Field). domain_of field.kind))))
     where
       own : f ≡ 0 + f
       own = omega arith

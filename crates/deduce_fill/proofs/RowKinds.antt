@@ -1,4 +1,4 @@
-use Rattle.std.proofs.Common.{◌≡◌, ℕ, zero, suc, ◌+◌, ◌==◌, ◌||◌, Bool, true, false, List, [], ◌∷◌, refl, sym, ap, ◌∙◌, subst, arith}
+use Rattle.std.proofs.Common.{◌≡◌, ℕ, zero, suc, ◌+◌, ◌==◌, ◌||◌, Bool, true, false, List, [], ◌∷◌, refl, ap, ◌∙◌, arith}
 use Rattle.std.proofs.lemmas.Bool.Decides.{Decides-eqb}
 use Rattle.fraction128.specs.declared.fraction.Fraction.{Fraction}
 use Rattle.edit_model.specs.Rows.{IsOfKind, IsRow, value_of}
@@ -22,7 +22,8 @@ or_left false b h = absurd (cc)
 itself : (i : ℕ) → (i == i + 0) ≡ true
 itself i = (Decides-eqb i (i + 0)).1 (omega arith)
 
-pub number-in : (i : ℕ) (fields : List Field) (row : List Value) (f : ℕ) (x : Fraction) → IsRow fields row → value_of row f ≡ Number x → has_field (numbers_from i (shape_of fields)) (i + f) ≡ true
+pub number-in : (i : ℕ) (fields : List Field) (row : List Value) (f : ℕ) (x : Fraction) → IsRow fields row → value_of row f ≡ Number x
+    → has_field (numbers_from i (shape_of fields)) (i + f) ≡ true
 number-in i [] [] f x is e = absurd (cc)
 number-in i [] (v ∷ row) f x is e = absurd is
 number-in i (g ∷ fields) [] f x is e = absurd is
@@ -36,11 +37,13 @@ number-in i (g ∷ fields) (v ∷ row) zero x is e = by g.kind v is.0 e
 number-in i (g ∷ fields) (v ∷ row) (suc f) x is e =
     by g.kind (ap (has_field (numbers_from (suc i) (shape_of fields))) (omega arith) ∙ number-in (suc i) fields row f x is.1 e)
   where
-    by : (k : Kind) → has_field (numbers_from (suc i) (shape_of fields)) (i + suc f) ≡ true → has_field (numbers_from i (domain_of k ∷ shape_of fields)) (i + suc f) ≡ true
+    by : (k : Kind) → has_field (numbers_from (suc i) (shape_of fields)) (i + suc f) ≡ true
+        → has_field (numbers_from i (domain_of k ∷ shape_of fields)) (i + suc f) ≡ true
     by (kind.Number scale) h = or_right (i == i + suc f) _ h
     by (kind.Code codes) h = h
 
-pub code-in : (i : ℕ) (fields : List Field) (row : List Value) (f c : ℕ) → IsRow fields row → value_of row f ≡ Code c → has_field (codes_from i (shape_of fields)) (i + f) ≡ true
+pub code-in : (i : ℕ) (fields : List Field) (row : List Value) (f c : ℕ) → IsRow fields row → value_of row f ≡ Code c
+    → has_field (codes_from i (shape_of fields)) (i + f) ≡ true
 code-in i [] [] f c is e = absurd (cc)
 code-in i [] (v ∷ row) f c is e = absurd is
 code-in i (g ∷ fields) [] f c is e = absurd is
@@ -54,6 +57,7 @@ code-in i (g ∷ fields) (v ∷ row) zero c is e = by g.kind v is.0 e
 code-in i (g ∷ fields) (v ∷ row) (suc f) c is e =
     by g.kind (ap (has_field (codes_from (suc i) (shape_of fields))) (omega arith) ∙ code-in (suc i) fields row f c is.1 e)
   where
-    by : (k : Kind) → has_field (codes_from (suc i) (shape_of fields)) (i + suc f) ≡ true → has_field (codes_from i (domain_of k ∷ shape_of fields)) (i + suc f) ≡ true
+    by : (k : Kind) → has_field (codes_from (suc i) (shape_of fields)) (i + suc f) ≡ true
+        → has_field (codes_from i (domain_of k ∷ shape_of fields)) (i + suc f) ≡ true
     by (kind.Code codes) h = or_right (i == i + suc f) _ h
     by (kind.Number scale) h = h

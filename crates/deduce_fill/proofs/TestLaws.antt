@@ -1,5 +1,4 @@
-use Rattle.std.proofs.Common.{◌≡◌, ◌↔◌, ◌⊎◌, inl, inr, ℕ, ◌+◌, ◌==◌, not, Bool, true, false, List, [], ◌∷◌, All, ◌*ℤ◌, ℤ, refl, sym, ap, ◌∙◌, subst, arith}
-use Rattle.std.specs.Bool.{IsFalse}
+use Rattle.std.proofs.Common.{◌≡◌, ◌↔◌, inl, inr, ℕ, ◌==◌, not, Bool, true, false, List, All, ◌*ℤ◌, refl, ap, ◌∙◌, subst, arith}
 use Rattle.std.specs.Ordering.{int_eq}
 use Rattle.std.proofs.lemmas.Bool.Decides.{Decides-int_eq}
 use Rattle.fraction128.specs.declared.fraction.Fraction.{Fraction}
@@ -14,7 +13,7 @@ use Rattle.edit_line.specs.Shapes.{HasCodes, code_fields, has_field, number_fiel
 use Rattle.edit_line.proofs.Members.{all-in, in-all}
 use Rattle.edit_line.proofs.ShapeLaws.{HasCodes-shape}
 use Rattle.deduce_fill.specs.Forced.{HasValue}
-use Rattle.deduce_fill.specs.Tests.{above_line, below_line, other_line, test_lines}
+use Rattle.deduce_fill.specs.Tests.{above_line, below_line, test_lines}
 use Rattle.deduce_fill.proofs.RowKinds.{code-in, number-in}
 use Rattle.deduce_fill.proofs.TestLines.{code-not, neither-number, not-code, number-neither}
 
@@ -43,7 +42,8 @@ module _ (survey : SurveyParts) (row : List Value) (f : ℕ) (p : Point) (is : I
   value-none (Number x) e has line there = by there
     where
       neither : (¬ LineHolds (above_line (shape_of survey.fields) f x) p) × (¬ LineHolds (below_line (shape_of survey.fields) f x) p)
-      neither = number-neither (shape_of survey.fields) p held f x (number-there x e) ((Decides-int_eq _ _).0 (undo (int_eq (p.numerator f *ℤ x.denominator) (x.numerator *ℤ p.denominator)) has))
+      neither = number-neither (shape_of survey.fields) p held f x (number-there x e)
+          ((Decides-int_eq _ _).0 (undo (int_eq (p.numerator f *ℤ x.denominator) (x.numerator *ℤ p.denominator)) has))
 
       by : IsIn line (test_lines (shape_of survey.fields) f (Number x)) → ¬ LineHolds line p
       by (inl first) = λ holds. neither.0 (subst (λ (l : LineParts). LineHolds l p) first holds)
@@ -52,7 +52,8 @@ module _ (survey : SurveyParts) (row : List Value) (f : ℕ) (p : Point) (is : I
   value-none (Code k) e has line there = by there
     where
       by : IsIn line (test_lines (shape_of survey.fields) f (Code k)) → ¬ LineHolds line p
-      by (inl first) = λ holds. code-not (shape_of survey.fields) p held f k (code-there k e) (undo (k == p.code f) has) (subst (λ (l : LineParts). LineHolds l p) first holds)
+      by (inl first) = λ holds. code-not (shape_of survey.fields) p held f k (code-there k e) (undo (k == p.code f) has)
+          (subst (λ (l : LineParts). LineHolds l p) first holds)
       by (inr none) = absurd none
   value-none Bad e has line there = absurd there
 
@@ -63,8 +64,10 @@ module _ (survey : SurveyParts) (row : List Value) (f : ℕ) (p : Point) (is : I
   none-value (Code k) e some none = ap not (not-code (shape_of survey.fields) p held f k (code-there k e) (none _ (inl refl)))
   none-value Bad e some none = absurd (some refl)
 
-  pub value-lines : (value_of row f ≡ Bad → ⊥) → HasValue (value_of row f) p f ↔ All (λ line. ¬ LineHolds line p) (test_lines (shape_of survey.fields) f (value_of row f))
+  pub value-lines : (value_of row f ≡ Bad → ⊥)
+      → HasValue (value_of row f) p f ↔ All (λ line. ¬ LineHolds line p) (test_lines (shape_of survey.fields) f (value_of row f))
   value-lines some = (
     λ has. all-in (λ line. ¬ LineHolds line p) (test_lines (shape_of survey.fields) f (value_of row f)) (value-none (value_of row f) refl has),
-    λ all. none-value (value_of row f) refl some (λ line there. in-all (λ line. ¬ LineHolds line p) line (test_lines (shape_of survey.fields) f (value_of row f)) all there),
+    λ all. none-value (value_of row f) refl some
+        (λ line there. in-all (λ line. ¬ LineHolds line p) line (test_lines (shape_of survey.fields) f (value_of row f)) all there),
   )

@@ -1,15 +1,13 @@
-use Rattle.std.proofs.Common.{◌≡◌, ◌↔◌, ℕ, zero, suc, ◌+◌, ◌<◌, ◌≤◌, ◌^◌, ◌==◌, ◌&&◌, ◌||◌, not, Bool, true, false, if◌then◌else◌, List, [], ◌∷◌, All, length, map, slice_index_or, slice_set, ℤ, pos, negsuc, ◌<ℤ◌, ◌+ℤ◌, ◌*ℤ◌, refl, sym, ap, ◌∙◌, subst, arith}
+use Rattle.std.proofs.Common.{◌≡◌, ◌↔◌, ℕ, zero, suc, ◌<◌, ◌≤◌, ◌^◌, ◌==◌, ◌&&◌, ◌||◌, not, Bool, true, false, if◌then◌else◌, List, [], ◌∷◌, length, map, slice_index_or, slice_set, ℤ, pos, negsuc, ◌<ℤ◌, ◌+ℤ◌, ◌*ℤ◌, refl, sym, ap, ◌∙◌, subst, arith}
 use lib.IntN.{neg_ℤ}
 use Rattle.std.specs.Int.{bit_at}
-use Rattle.std.specs.Ordering.{int_eq}
-use Rattle.std.proofs.lemmas.Bool.Decides.{Decides-eqb, Decides-int_eq}
+use Rattle.std.proofs.lemmas.Bool.Decides.{Decides-eqb}
 use Rattle.std.proofs.lemmas.Int.{ints}
 use Rattle.std.proofs.lemmas.Nat.Bits.{bit_at-pow_other, bit_at-pow_same}
 use Rattle.fraction128.specs.declared.fraction.Fraction.{Fraction}
 use Rattle.fraction128.proofs.Whole.{parts, ring, same_dif}
-use Rattle.edit_model.specs.Corrections.{differs_from}
 use Rattle.edit_model.specs.Points.{Point, has_code}
-use Rattle.edit_line.specs.Lines.{IsEnough, LineHolds, LineParts, amount, weighted}
+use Rattle.edit_line.specs.Lines.{LineHolds, amount, weighted}
 use Rattle.edit_line.specs.Sets.{AreCodesIn, are_codes_in}
 use Rattle.edit_line.specs.Shapes.{Categorical, Domain, HasCodes, Numerical, codes_at, code_fields, has_field, number_fields, numbers_from, numerators_at, place_in, whole_sets}
 use Rattle.edit_line.proofs.NegationLaws.{never-Decides}
@@ -17,7 +15,6 @@ use Rattle.edit_line.proofs.PointCodes.{length-codes_at, wholes-inside}
 use Rattle.edit_line.proofs.SetLaws.{is_inside-Decides}
 use Rattle.edit_line.proofs.ShapeLaws.{length-wholes, place-within}
 use Rattle.derivation.proofs.CoverLaws.{code-at}
-use Rattle.deduce_fill.specs.Forced.{HasValue}
 use Rattle.deduce_fill.specs.Tests.{above_line, alone_at, below_line, other_line}
 
 -- What the lines of a test say of a point.
@@ -49,10 +46,12 @@ module _ (p : Point) (f : ℕ) (a : ℤ) where
   alone-before i [] before = refl
   alone-before i (Categorical k ∷ shape) before = alone-before (suc i) shape (omega arith)
   alone-before i (Numerical ∷ shape) before =
-      ap (λ (b : Bool). (if b then a else pos 0) *ℤ p.numerator i +ℤ weighted (alone (numbers_from (suc i) shape)) (map p.numerator (numbers_from (suc i) shape))) (unequal i f (λ same. omega (arith, same, before)))
+      ap (λ (b : Bool). (if b then a else pos 0) *ℤ p.numerator i +ℤ weighted (alone (numbers_from (suc i) shape))
+      (map p.numerator (numbers_from (suc i) shape))) (unequal i f (λ same. omega (arith, same, before)))
       ∙ nothing (p.numerator i) _ (alone-before (suc i) shape (omega arith))
 
-  alone-among : (i : ℕ) (shape : List Domain) → has_field (numbers_from i shape) f ≡ true → weighted (alone (numbers_from i shape)) (map p.numerator (numbers_from i shape)) ≡ a *ℤ p.numerator f
+  alone-among : (i : ℕ) (shape : List Domain) → has_field (numbers_from i shape) f ≡ true
+      → weighted (alone (numbers_from i shape)) (map p.numerator (numbers_from i shape)) ≡ a *ℤ p.numerator f
   alone-among i [] there = absurd (cc)
   alone-among i (Categorical k ∷ shape) there = alone-among (suc i) shape there
   alone-among i (Numerical ∷ shape) there = by (i == f) refl there (λ h. alone-among (suc i) shape h)
@@ -60,7 +59,8 @@ module _ (p : Point) (f : ℕ) (a : ℤ) where
       rest : ℤ
       rest = weighted (alone (numbers_from (suc i) shape)) (map p.numerator (numbers_from (suc i) shape))
 
-      by : (b : Bool) → (i == f) ≡ b → (b || has_field (numbers_from (suc i) shape) f) ≡ true → (has_field (numbers_from (suc i) shape) f ≡ true → rest ≡ a *ℤ p.numerator f)
+      by : (b : Bool) → (i == f) ≡ b → (b || has_field (numbers_from (suc i) shape) f) ≡ true
+          → (has_field (numbers_from (suc i) shape) f ≡ true → rest ≡ a *ℤ p.numerator f)
           → (if b then a else pos 0) *ℤ p.numerator i +ℤ rest ≡ a *ℤ p.numerator f
       by true e h later =
           let is : i ≡ f = (Decides-eqb i f).0 e in
@@ -84,10 +84,18 @@ module _ (shape : List Domain) (p : Point) (codes : HasCodes 0 shape p) (f : ℕ
     below-amount = ap (λ (w : ℤ). w +ℤ x.numerator *ℤ p.denominator) (alone-sum p f (neg_ℤ x.denominator) shape there)
 
     above-holds : LineHolds (above_line shape f x) p ↔ (pos 0 <ℤ (x.denominator *ℤ p.numerator f +ℤ neg_ℤ x.numerator *ℤ p.denominator))
-    above-holds = (λ holds. subst (λ (z : ℤ). pos 0 <ℤ z) above-amount (holds.enough inside), λ above. record { enough = λ _. subst (λ (z : ℤ). pos 0 <ℤ z) (sym above-amount) above })
+    above-holds = (
+      λ holds. subst (λ (z : ℤ). pos 0 <ℤ z) above-amount
+          (holds.enough inside),
+      λ above. record { enough = λ _. subst (λ (z : ℤ). pos 0 <ℤ z) (sym above-amount) above },
+    )
 
     below-holds : LineHolds (below_line shape f x) p ↔ (pos 0 <ℤ (neg_ℤ x.denominator *ℤ p.numerator f +ℤ x.numerator *ℤ p.denominator))
-    below-holds = (λ holds. subst (λ (z : ℤ). pos 0 <ℤ z) below-amount (holds.enough inside), λ above. record { enough = λ _. subst (λ (z : ℤ). pos 0 <ℤ z) (sym below-amount) above })
+    below-holds = (
+      λ holds. subst (λ (z : ℤ). pos 0 <ℤ z) below-amount
+          (holds.enough inside),
+      λ above. record { enough = λ _. subst (λ (z : ℤ). pos 0 <ℤ z) (sym below-amount) above },
+    )
 
     apart-above : (n d y q : ℤ) → y *ℤ d ≡ n *ℤ q → d *ℤ y +ℤ neg_ℤ n *ℤ q ≡ pos 0
     apart-above n d y q same = turned d y n q ∙ ap (λ (z : ℤ). z +ℤ neg_ℤ (n *ℤ q)) same ∙ gone (n *ℤ q)
@@ -102,18 +110,21 @@ module _ (shape : List Domain) (p : Point) (codes : HasCodes 0 shape p) (f : ℕ
     opposite d y n q = rw (parts d, parts y, parts n, parts q) (simp ring (same_dif _ _ _ _ (omega arith)))
 
     -- a point with the number is neither above nor below it
-    pub number-neither : p.numerator f *ℤ x.denominator ≡ x.numerator *ℤ p.denominator → (¬ LineHolds (above_line shape f x) p) × (¬ LineHolds (below_line shape f x) p)
+    pub number-neither : p.numerator f *ℤ x.denominator ≡ x.numerator *ℤ p.denominator
+        → (¬ LineHolds (above_line shape f x) p) × (¬ LineHolds (below_line shape f x) p)
     number-neither same =
         let none = apart-above x.numerator x.denominator (p.numerator f) p.denominator same in (
           λ holds. zero_not (subst (λ (z : ℤ). pos 0 <ℤ z) none (above-holds.0 holds)),
-          λ holds. zero_not (subst (λ (z : ℤ). pos 0 <ℤ z) (opposite x.denominator (p.numerator f) x.numerator p.denominator ∙ ap neg_ℤ none) (below-holds.0 holds)),
+          λ holds. zero_not (subst (λ (z : ℤ). pos 0 <ℤ z) (opposite x.denominator (p.numerator f) x.numerator p.denominator ∙ ap neg_ℤ none)
+              (below-holds.0 holds)),
         )
       where
         zero_not : pos 0 <ℤ pos 0 → ⊥
         zero_not h = omega (arith, ints)
 
     -- and one that is neither has it
-    pub neither-number : (¬ LineHolds (above_line shape f x) p) → (¬ LineHolds (below_line shape f x) p) → p.numerator f *ℤ x.denominator ≡ x.numerator *ℤ p.denominator
+    pub neither-number : (¬ LineHolds (above_line shape f x) p) → (¬ LineHolds (below_line shape f x) p)
+        → p.numerator f *ℤ x.denominator ≡ x.numerator *ℤ p.denominator
     neither-number not_above not_below =
         same x.numerator x.denominator (p.numerator f) p.denominator
         (between (x.denominator *ℤ p.numerator f +ℤ neg_ℤ x.numerator *ℤ p.denominator) (λ h. not_above (above-holds.1 h))
@@ -156,7 +167,8 @@ module _ (shape : List Domain) (p : Point) (codes : HasCodes 0 shape p) (f : ℕ
         by false b r h = absurd (cc)
     inside-at (s ∷ sets) (c ∷ cs) (suc place) set below fits all = by (has_code s c) all (inside-at sets cs place set (omega arith) (omega arith))
       where
-        by : (a : Bool) → (a && are_codes_in sets cs) ≡ true → (are_codes_in sets cs ≡ true → are_codes_in (slice_set sets place set) cs ≡ has_code set (slice_index_or cs place 0))
+        by : (a : Bool) → (a && are_codes_in sets cs) ≡ true
+            → (are_codes_in sets cs ≡ true → are_codes_in (slice_set sets place set) cs ≡ has_code set (slice_index_or cs place 0))
             → (a && are_codes_in (slice_set sets place set) cs) ≡ has_code set (slice_index_or cs place 0)
         by true h rest = rest h
         by false h rest = absurd (cc)
@@ -172,7 +184,8 @@ module _ (shape : List Domain) (p : Point) (codes : HasCodes 0 shape p) (f : ℕ
     pub other-is : are_codes_in (slice_set (whole_sets shape) (place_in (code_fields shape) f) (2 ^ code)) (codes_at shape p) ≡ (code == p.code f)
     other-is =
         inside-at (whole_sets shape) (codes_at shape p) (place_in (code_fields shape) f) (2 ^ code)
-        (let below = place-within (code_fields shape) f there in omega (arith, below, length-wholes 0 shape)) (omega (arith, length-wholes 0 shape, length-codes_at shape p))
+        (let below = place-within (code_fields shape) f there in omega (arith, below, length-wholes 0 shape))
+        (omega (arith, length-wholes 0 shape, length-codes_at shape p))
         (wholes-inside shape p codes)
         ∙ ap (has_code (2 ^ code)) (code-at shape p f there) ∙ one-code code (p.code f)
 
@@ -185,4 +198,5 @@ module _ (shape : List Domain) (p : Point) (codes : HasCodes 0 shape p) (f : ℕ
       where
         by : (b : Bool) → (code == p.code f) ≡ b → b ≡ true
         by true e = refl
-        by false e = absurd (fails ((never-Decides shape (slice_set (whole_sets shape) (place_in (code_fields shape) f) (2 ^ code)) p).0 (ap not (other-is ∙ e))))
+        by false e = absurd (fails ((never-Decides shape (slice_set (whole_sets shape) (place_in (code_fields shape) f) (2 ^ code)) p).0
+            (ap not (other-is ∙ e))))

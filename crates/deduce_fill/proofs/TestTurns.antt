@@ -23,9 +23,11 @@ pub more-case : (survey : SurveyParts) (edits more : EditsParts) (row : List Val
 more-case survey edits more row line is = ap (λ (ls : List (ℕ × LineParts)). record { survey = survey; edits = ls; row = row }) is
 
 -- a walk along the record's path over these is the walk with the line
-pub walked-line : {F : Type 0} (survey : SurveyParts) (edits more : EditsParts) (row : List Value) (line : LineParts) (path : List Bool) (budget spent : ℕ) (r : Result WalkEnd F)
+pub walked-line : {F : Type 0} (survey : SurveyParts) (edits more : EditsParts) (row : List Value) (line : LineParts) (path : List Bool) (budget spent : ℕ)
+    (r : Result WalkEnd F)
     → more.lines ≡ edits.lines ++ (length edits.lines, line) ∷ [] → path ≡ own_path survey.fields row
-    → IfOk r (λ end. end ≡ walk_along (case_of survey more row) path budget spent) → IfOk r (λ end. end ≡ walk_with (case_of survey edits row) line budget spent)
+    → IfOk r (λ end. end ≡ walk_along (case_of survey more row) path budget spent)
+    → IfOk r (λ end. end ≡ walk_with (case_of survey edits row) line budget spent)
 walked-line survey edits more row line path budget spent (Ok end) lines_are path_is told =
     told ∙ ap (λ (c : SearchCase). walk_along c path budget spent) (more-case survey edits more row line lines_are)
     ∙ ap (λ (p : List Bool). walk_along (with_line (case_of survey edits row) line) p budget spent) path_is
@@ -41,7 +43,8 @@ module _ (c : SearchCase) (budget : ℕ) where
     pub count : tests ≡ first + i
 
   module _ (lines : List LineParts) (first start i tests work : ℕ) (proofs : List (List Step)) (testing : IsTesting lines first start i tests work proofs)
-      (none line : LineParts) (below : i < length lines) (line_is : line ≡ get_or lines i none) (end : WalkEnd) (walked : end ≡ walk_with c line budget work) where
+      (none line : LineParts) (below : i < length lines) (line_is : line ≡ get_or lines i none) (end : WalkEnd)
+      (walked : end ≡ walk_with c line budget work) where
     abbrev next : List Step → ℕ → Tested
     next steps w = tested_from c budget (tests + 1) w (proofs ++ steps ∷ []) (drop (i + 1) lines)
 
@@ -56,9 +59,11 @@ module _ (c : SearchCase) (budget : ℕ) where
         one_more : tests + 1 ≡ suc tests
         one_more = omega arith
 
-    pub test-goes : (steps : List Step) (w : ℕ) (after : List (List Step)) → end ≡ walk.Closed steps w → after ≡ proofs ++ steps ∷ [] → IsTesting lines first start (i + 1) (tests + 1) w after
+    pub test-goes : (steps : List Step) (w : ℕ) (after : List (List Step)) → end ≡ walk.Closed steps w → after ≡ proofs ++ steps ∷ []
+        → IsTesting lines first start (i + 1) (tests + 1) w after
     test-goes steps w after closed after_is = record {
-      rest = ap (λ (ps : List (List Step)). tested_from c budget (tests + 1) w ps (drop (i + 1) lines)) after_is ∙ sym (ap (λ (e : WalkEnd). tested_by (tests + 1) e next) closed) ∙ test-is;
+      rest = ap (λ (ps : List (List Step)). tested_from c budget (tests + 1) w ps (drop (i + 1) lines)) after_is
+          ∙ sym (ap (λ (e : WalkEnd). tested_by (tests + 1) e next) closed) ∙ test-is;
       within = closed-within (with_line c line) budget work w steps (prefixes (own_path c.survey.fields c.row)) (sym walked ∙ closed);
       count = let n = testing.count in omega (arith, n);
     }
@@ -80,7 +85,8 @@ module _ (c : SearchCase) (budget : ℕ) where
       by : (end : WalkEnd) → walk_with c line budget work ≡ end
           → ((steps : List Step) (w : ℕ) → w ≤ budget → IsWithin most (tested_from c budget (suc tests) w (proofs ++ steps ∷ []) lines))
           → IsWithin most (tested_by (suc tests) end (λ steps w. tested_from c budget (suc tests) w (proofs ++ steps ∷ []) lines))
-      by (walk.Closed steps w) ended rest = rest steps w (closed-within (with_line c line) budget work w steps (prefixes (own_path c.survey.fields c.row)) ended)
+      by (walk.Closed steps w) ended rest =
+          rest steps w (closed-within (with_line c line) budget work w steps (prefixes (own_path c.survey.fields c.row)) ended)
       by (walk.Open w) ended rest = (open-within (with_line c line) budget work w (own_path c.survey.fields c.row) ended, omega (arith, few))
       by (walk.Budget w) ended rest = tt
       by walk.Overflow ended rest = tt

@@ -1,10 +1,10 @@
-use Rattle.std.specs.Prelude.{◌≡◌, ◌↔◌, ℕ, ◌<◌, ◌++◌, not, Bool, true, List, [], ◌∷◌, All, length, slice_set}
+use Rattle.std.specs.Prelude.{◌≡◌, ◌↔◌, ℕ, ◌<◌, ◌++◌, not, List, [], ◌∷◌, All, length, slice_set}
 use Rattle.std.specs.List.{filter, fold}
 use Rattle.edit_model.specs.Corrections.{path_order}
 use Rattle.edit_model.specs.FieldSets.{set_of}
 use Rattle.edit_model.specs.Parts.{SurveyParts}
 use Rattle.edit_model.specs.Points.{HasCodesFrom, Point}
-use Rattle.edit_model.specs.Rows.{IsOfKind, IsRow, is_bad, value_of}
+use Rattle.edit_model.specs.Rows.{IsRow, is_bad, value_of}
 use Rattle.edit_model.specs.declared.field.Field.{Field}
 use Rattle.edit_model.specs.declared.value.Value.{Value}
 use Rattle.edit_model.specs.declared.value.Value.TheVariants.{Bad}

@@ -12,7 +12,7 @@ use Rattle.edit_model.specs.declared.value.Value.TheVariants.{Bad, Code, Number}
 use Rattle.edit_line.specs.Lines.{LineParts, parts_of}
 use Rattle.edit_line.specs.Negations.{never}
 use Rattle.edit_line.specs.declared.relation.Relation.TheVariants.{Above}
-use Rattle.edit_line.specs.Shapes.{Domain, code_fields, number_fields, place_in, shape_of, whole_sets}
+use Rattle.edit_line.specs.Shapes.{Domain, code_fields, number_fields, place_in, whole_sets}
 use Rattle.edit_paths.specs.Cases.{SearchCase}
 
 -- ---- the fields without a value

@@ -40,12 +40,15 @@ true-and true b first second = second
 true-and false b first second = absurd (cc)
 
 -- what a set of kept fields has, a set for a longer path has
-pub kept-inside : (c : SearchCase) (path q : List Bool) → IsIn q (prefixes path) → (f : ℕ) → has_number (kept_set c.survey.fields c.row q) f ≡ true → has_number (kept_set c.survey.fields c.row path) f ≡ true
+pub kept-inside : (c : SearchCase) (path q : List Bool) → IsIn q (prefixes path) → (f : ℕ) → has_number (kept_set c.survey.fields c.row q) f ≡ true
+    → has_number (kept_set c.survey.fields c.row path) f ≡ true
 kept-inside c path q there f h =
-    let (among, passes) = in-filter-out (held q) f (path_order c.survey.fields) (has-there f (filter (held q) (path_order c.survey.fields)) (sym (has-set_of (filter (held q) (path_order c.survey.fields)) f) ∙ h)) in
+    let (among, passes) = in-filter-out (held q) f (path_order c.survey.fields)
+    (has-there f (filter (held q) (path_order c.survey.fields)) (sym (has-set_of (filter (held q) (path_order c.survey.fields)) f) ∙ h)) in
     let (kept, full) = both_true (keeps c.survey.fields q f) (not (is_bad (value_of c.row f))) passes in
     has-set_of (filter (held path) (path_order c.survey.fields)) f
-    ∙ there-has f (filter (held path) (path_order c.survey.fields)) (in-filter (held path) f (path_order c.survey.fields) (true-and _ _ (keeps-on c.survey.fields path q there f kept) full) among)
+    ∙ there-has f (filter (held path) (path_order c.survey.fields))
+    (in-filter (held path) f (path_order c.survey.fields) (true-and _ _ (keeps-on c.survey.fields path q there f kept) full) among)
   where
     held : List Bool → ℕ → Bool
     held p f = keeps c.survey.fields p f && not (is_bad (value_of c.row f))
@@ -62,13 +65,21 @@ module _ (c : SearchCase) (is : IsCase c) (given : List LineParts) (usable : Lis
     usable_is : AreUsable (premises_for q) c.edits
     usable_is e there =
         let (at, may) = are e there in
-        ap (λ b. if b then (slice_get given e.0 >>? (λ line. Some (proved.Line line))) else None) may ∙ ap (λ (o : Option LineParts). (o >>? (λ line. Some (proved.Line line)))) at
+        ap (λ b. if b then (slice_get given e.0 >>? (λ line. Some (proved.Line line))) else None) may
+        ∙ ap (λ (o : Option LineParts). (o >>? (λ line. Some (proved.Line line)))) at
 
     refuted-here : (s : PathState) → state_of c q ≡ s → is_closed s ≡ true → Refuted q (closing_steps c q s)
     refuted-here (ClosedLine i) e closed =
         let (line, closing) = closing-line c is q none given usable (kept_set c.survey.fields c.row q) (kept-number c is q none) usable_is i e in
-        let (whole, alone) = asks-whole c is q line closing.asks in
-        (proved.Line line, closing.valid, (whole, true-and _ _ (only-kept c is q none given usable (kept_set c.survey.fields c.row q) (kept-number c is q none) usable_is line closing.over alone) (ap (λ r. (result_unwrap_or r false)) closing.fails)))
+        let (whole, alone) = asks-whole c is q line closing.asks in (
+          proved.Line line,
+          closing.valid,
+          (
+            whole,
+            true-and _ _ (only-kept c is q none given usable (kept_set c.survey.fields c.row q)
+                (kept-number c is q none) usable_is line closing.over alone) (ap (λ r. (result_unwrap_or r false)) closing.fails),
+          ),
+        )
     refuted-here (ClosedBox i) e closed =
         let (b, closing) = closing-box c is q none given usable (kept_set c.survey.fields c.row q) (kept-number c is q none) usable_is i e in
         (proved.Box b.code_box, closing.valid, same_text b.code_box.sets (whole_sets (shape_of c.survey.fields)) (sym closing.whole))
@@ -76,12 +87,16 @@ module _ (c : SearchCase) (is : IsCase c) (given : List LineParts) (usable : Lis
     refuted-here Open e closed = absurd (cc)
     refuted-here (Overflows event) e closed = absurd (cc)
 
-  pub refuted-on : (path q : List Bool) → (keeps_bad c.survey.fields c.row path ≡ true → ⊥) → IsIn q (prefixes path) → is_closed (state_of c q) ≡ true → Refuted path (closing_steps c q (state_of c q))
+  pub refuted-on : (path q : List Bool) → (keeps_bad c.survey.fields c.row path ≡ true → ⊥) → IsIn q (prefixes path) → is_closed (state_of c q) ≡ true
+      → Refuted path (closing_steps c q (state_of c q))
   refuted-on path q none there closed =
-      let (x, valid, refutes) = refuted-here q (never (keeps_bad c.survey.fields c.row q) (λ bad. none (bad-on c.survey.fields c.row path q there bad))) (state_of c q) refl closed in (
+      let (x, valid, refutes) = refuted-here q (never (keeps_bad c.survey.fields c.row q) (λ bad. none (bad-on c.survey.fields c.row path q there bad)))
+      (state_of c q) refl closed in (
         x,
-        valid-more (shape_of c.survey.fields) given usable c.row (kept_set c.survey.fields c.row q) (kept_set c.survey.fields c.row path) (kept-inside c path q there) (closing_steps c q (state_of c q)) x valid,
-        refutes-more (shape_of c.survey.fields) given usable c.row (kept_set c.survey.fields c.row q) (kept_set c.survey.fields c.row path) (kept-inside c path q there) x refutes,
+        valid-more (shape_of c.survey.fields) given usable c.row (kept_set c.survey.fields c.row q) (kept_set c.survey.fields c.row path)
+            (kept-inside c path q there) (closing_steps c q (state_of c q)) x valid,
+        refutes-more (shape_of c.survey.fields) given usable c.row (kept_set c.survey.fields c.row q) (kept_set c.survey.fields c.row path)
+            (kept-inside c path q there) x refutes,
       )
     where
       never : (b : Bool) → (b ≡ true → ⊥) → b ≡ false

@@ -62,12 +62,14 @@ module _ (shape : List Domain) (given : List LineParts) (usable : List Bool) (ro
       by None h = h
       by (Some line) h = fits (fails_at_kept row kept line) (fails_at_kept row more line) (fails-more line) (failed_box many line) h
         where
-          fits : (k m : Bool) → (k ≡ true → m ≡ true) → (o : Option Proved) → only_if k (proved.Box (box_of shape line.sets)) ≡ Some x → only_if m (proved.Box (box_of shape line.sets)) ≡ Some x
+          fits : (k m : Bool) → (k ≡ true → m ≡ true) → (o : Option Proved) → only_if k (proved.Box (box_of shape line.sets)) ≡ Some x
+              → only_if m (proved.Box (box_of shape line.sets)) ≡ Some x
           fits true true in_more o h = h
           fits true false in_more o h = absurd (cc (in_more refl))
           fits false m in_more o h = absurd (cc)
   step-more earlier (step.Fix field part) x h =
-      by (has_field (code_fields shape) field) (has_number kept field) (has_number more field) (inside field) (as_box (slice_get earlier part) >>? (λ sets. fixed_sets shape field (value_of row field) sets)) h
+      by (has_field (code_fields shape) field) (has_number kept field) (has_number more field) (inside field)
+      (as_box (slice_get earlier part) >>? (λ sets. fixed_sets shape field (value_of row field) sets)) h
     where
       by : (c k m : Bool) → (k ≡ true → m ≡ true) → (o : Option Proved) → (if c && k then o else None) ≡ Some x → (if c && m then o else None) ≡ Some x
       by true true true in_more o h = h
@@ -75,7 +77,8 @@ module _ (shape : List Domain) (given : List LineParts) (usable : List Bool) (ro
       by true false m in_more o h = absurd (cc)
       by false k m in_more o h = absurd (cc)
 
-  steps-more : (earlier : List Proved) (steps : List Step) (all : List Proved) → proved_from few earlier steps ≡ Ok all → proved_from many earlier steps ≡ Ok all
+  steps-more : (earlier : List Proved) (steps : List Step) (all : List Proved) → proved_from few earlier steps ≡ Ok all
+      → proved_from many earlier steps ≡ Ok all
   steps-more earlier [] all h = h
   steps-more earlier (s ∷ steps) all h = by (λ x. steps-more (earlier ++ x ∷ []) steps all) (proved_by few earlier s) refl (proved_by many earlier s) refl h
     where

@@ -21,10 +21,12 @@ module _ (c : SearchCase) (path : List Bool) (place : ℕ) (levels : List Level)
   pub steps-line : state ≡ ClosedLine place → told ≡ steps_to (history_of levels) place → ended_by c path work next state ≡ walk.Closed told work
   steps-line closed told_is =
       ap (λ (s : PathState). ended_by c path work next s) closed
-      ∙ ap (λ (steps : List Step). walk.Closed steps work) (sym (told_is ∙ ap (λ h. steps_to h place) ((leads-to c path (ClosedLine place) levels (is ∙ closed) lists).line place refl)))
+      ∙ ap (λ (steps : List Step). walk.Closed steps work)
+      (sym (told_is ∙ ap (λ h. steps_to h place) ((leads-to c path (ClosedLine place) levels (is ∙ closed) lists).line place refl)))
 
   -- or a box
   pub steps-box : state ≡ ClosedBox place → told ≡ steps_to (history_of levels) place → ended_by c path work next state ≡ walk.Closed told work
   steps-box closed told_is =
       ap (λ (s : PathState). ended_by c path work next s) closed
-      ∙ ap (λ (steps : List Step). walk.Closed steps work) (sym (told_is ∙ ap (λ h. steps_to h place) ((leads-to c path (ClosedBox place) levels (is ∙ closed) lists).box place refl)))
+      ∙ ap (λ (steps : List Step). walk.Closed steps work)
+      (sym (told_is ∙ ap (λ h. steps_to h place) ((leads-to c path (ClosedBox place) levels (is ∙ closed) lists).box place refl)))

@@ -60,12 +60,15 @@ before-taken w k below = ap (λ n. take n (take (suc k) w)) (omega (arith, taken
 one_more : (n : ℕ) → suc n ≡ n + 1
 one_more n = omega arith
 
-basis-before : (c : SearchCase) (path more : List Bool) (k : Basis) → length more ≡ suc (length path) → before_last more ≡ path → IsBasis c path k → IsBasisBefore c more k
-basis-before c path more (Lines system) longer parent is = (omega (arith, longer, is.0), subst (λ (p : List Bool). IsPathSystem c p (arc_value system)) (sym parent) is.1)
+basis-before : (c : SearchCase) (path more : List Bool) (k : Basis) → length more ≡ suc (length path) → before_last more ≡ path → IsBasis c path k
+    → IsBasisBefore c more k
+basis-before c path more (Lines system) longer parent is =
+    (omega (arith, longer, is.0), subst (λ (p : List Bool). IsPathSystem c p (arc_value system)) (sym parent) is.1)
 basis-before c path more (Boxes boxes) longer parent is = (omega (arith, longer, is.0), is.1 ∙ ap (λ (p : List Bool). boxes_along c p) (sym parent))
 
 -- the basis of the path before is known for it, where the path has a last letter
-pub parent-known : (c : SearchCase) (path : List Bool) (before : Basis) → IsBasisBefore c path before → IsKnownBasis c (before_last path) (if length path == 0 then None else Some before)
+pub parent-known : (c : SearchCase) (path : List Bool) (before : Basis) → IsBasisBefore c path before
+    → IsKnownBasis c (before_last path) (if length path == 0 then None else Some before)
 parent-known c path before is = by (length path == 0) refl
   where
     shorter : 0 < length path → length (before_last path) ≡ length path - 1
@@ -91,7 +94,8 @@ pub record IsReady (c : SearchCase) (path : List Bool) (keeps : ℕ → Bool) (c
   pub lists : HasListsBefore c (take count path) levels
 
 -- the walk goes on after this many paths and this work
-pub record IsWalking (c : SearchCase) (path : List Bool) (budget spent : ℕ) (keeps : ℕ → Bool) (count work : ℕ) (before : Basis) (levels : List Level) : Type 0 where
+pub record IsWalking (c : SearchCase) (path : List Bool) (budget spent : ℕ) (keeps : ℕ → Bool) (count work : ℕ) (before : Basis)
+    (levels : List Level) : Type 0 where
   pub rest : walk_along c path budget spent ≡ walk_through c budget work (drop count (prefixes path))
   pub within : work ≤ budget
   pub ready : count ≤ length path → IsReady c path keeps count before levels
@@ -107,13 +111,15 @@ module _ (c : SearchCase) (path : List Bool) (budget spent : ℕ) (keeps : ℕ �
     rest_from n = walk_through c budget n (drop (suc count) (prefixes path))
 
     next-is : walk_along c path budget spent
-        ≡ (if nat_lt budget (work + work_of c here) then walk.Budget work else ended_by c here (work + work_of c here) (rest_from (work + work_of c here)) (state_of c here))
+        ≡ (if nat_lt budget (work + work_of c here) then walk.Budget work else ended_by c here (work + work_of c here) (rest_from (work + work_of c here))
+        (state_of c here))
     next-is = walking.rest ∙ ap (walk_through c budget work) (prefix-next path count fits)
 
     -- the work passes the budget
     pub budget-end : (most : ℕ) → most ≡ budget - work → most < work_of c here → walk.Budget work ≡ walk_along c path budget spent
     budget-end most is past =
-        sym (next-is ∙ ap (λ b. if b then walk.Budget work else ended_by c here (work + work_of c here) (rest_from (work + work_of c here)) (state_of c here)) over)
+        sym (next-is ∙ ap (λ b. if b then walk.Budget work else ended_by c here (work + work_of c here) (rest_from (work + work_of c here)) (state_of c here))
+        over)
       where
         over : nat_lt budget (work + work_of c here) ≡ true
         over = let w = walking.within in grind (arith, past, is, w)
@@ -124,16 +130,19 @@ module _ (c : SearchCase) (path : List Bool) (budget spent : ℕ) (keeps : ℕ �
 
       on-is : walk_along c path budget spent ≡ ended_by c here (work + look.work) (rest_from (work + look.work)) look.state
       on-is =
-          next-is ∙ ap (λ b. if b then walk.Budget work else ended_by c here (work + work_of c here) (rest_from (work + work_of c here)) (state_of c here)) under
+          next-is ∙ ap (λ b. if b then walk.Budget work else ended_by c here (work + work_of c here) (rest_from (work + work_of c here)) (state_of c here))
+          under
           ∙ ap (λ n. ended_by c here (work + n) (rest_from (work + n)) (state_of c here)) (sym is_look.work)
           ∙ ap (λ (s : PathState). ended_by c here (work + look.work) (rest_from (work + look.work)) s) (sym is_look.state)
 
       -- the walk ends here, without steps
-      pub stops-here : (told : Option WalkEnd) (end : WalkEnd) → TellsStop look.state (work + look.work) told → told ≡ Some end → end ≡ walk_along c path budget spent
+      pub stops-here : (told : Option WalkEnd) (end : WalkEnd) → TellsStop look.state (work + look.work) told → told ≡ Some end
+          → end ≡ walk_along c path budget spent
       stops-here told end tells is = sym (on-is ∙ subst (TellsStop look.state (work + look.work)) is tells c here (rest_from (work + look.work)))
 
       -- or by steps
-      pub closes-here : (after : List Level) (told : Option WalkEnd) (end : WalkEnd) → HasLists c here after → TellsClosed look.state after (work + look.work) told → told ≡ Some end
+      pub closes-here : (after : List Level) (told : Option WalkEnd) (end : WalkEnd) → HasLists c here after
+          → TellsClosed look.state after (work + look.work) told → told ≡ Some end
           → end ≡ walk_along c path budget spent
       closes-here after told end lists tells is =
           sym (on-is ∙ subst (TellsClosed look.state after (work + look.work)) is tells c here (rest_from (work + look.work)) (sym is_look.state) lists)
@@ -142,7 +151,8 @@ module _ (c : SearchCase) (path : List Bool) (budget spent : ℕ) (keeps : ℕ �
       pub goes-on : (later : ℕ → Bool) (after : List Level) → look.state ≡ Open → KeepsChanged later c here → HasLists c here after
           → IsWalking c path budget spent later (count + 1) (work + look.work) look.basis after
       goes-on later after opened kept lists = record {
-        rest = on-is ∙ ap (ended_by c here (work + look.work) (rest_from (work + look.work))) opened ∙ ap (λ n. walk_through c budget (work + look.work) (drop n (prefixes path))) (one_more count);
+        rest = on-is ∙ ap (ended_by c here (work + look.work) (rest_from (work + look.work))) opened
+            ∙ ap (λ n. walk_through c budget (work + look.work) (drop n (prefixes path))) (one_more count);
         within = let w = walking.within in omega (arith, few, w);
         ready = λ more. subst (λ n. IsReady c path later n look.basis after) (one_more count) (ready_next (omega (arith, more)));
       }
@@ -152,7 +162,8 @@ module _ (c : SearchCase) (path : List Bool) (budget spent : ℕ) (keeps : ℕ �
               let parent = before-taken path count (omega (arith, more)) in
               record {
                 reached = λ some. subst (IsOpen c) (sym parent) (sym is_look.state ∙ opened);
-                basis = basis-before c here (take (suc count) path) look.basis (taken-long path (suc count) more ∙ ap suc (sym (taken-long path count fits))) parent (is_look.basis (ap has_basis opened));
+                basis = basis-before c here (take (suc count) path) look.basis
+                    (taken-long path (suc count) more ∙ ap suc (sym (taken-long path count fits))) parent (is_look.basis (ap has_basis opened));
                 kept = subst (KeepsChanged later c) (sym parent) kept;
                 lists = record {
                   first = λ none. absurd (let long = taken-long path (suc count) more in omega (arith, none, long));
@@ -162,18 +173,27 @@ module _ (c : SearchCase) (path : List Bool) (budget spent : ℕ) (keeps : ℕ �
 
   -- the walk has taken all paths
   pub ends-open : count ≡ length path + 1 → walk.Open work ≡ walk_along c path budget spent
-  ends-open all = sym (walking.rest ∙ ap (walk_through c budget work) (ap (λ n. drop n (prefixes path)) (all ∙ sym (one_more (length path))) ∙ prefix-none path))
+  ends-open all = sym (walking.rest
+      ∙ ap (walk_through c budget work) (ap (λ n. drop n (prefixes path)) (all ∙ sym (one_more (length path))) ∙ prefix-none path))
 
 -- the walk begins
-pub walk-start : (c : SearchCase) (path : List Bool) (budget spent : ℕ) (keeps : ℕ → Bool) (before : Basis) → spent ≤ budget → IsBasisBefore c [] before → KeepsChanged keeps c [] → IsWalking c path budget spent keeps 0 spent before []
+pub walk-start : (c : SearchCase) (path : List Bool) (budget spent : ℕ) (keeps : ℕ → Bool) (before : Basis) → spent ≤ budget → IsBasisBefore c [] before
+    → KeepsChanged keeps c [] → IsWalking c path budget spent keeps 0 spent before []
 walk-start c path budget spent keeps before within basis kept = record {
   rest = refl;
   within = within;
-  ready = λ fits. record { reached = λ some. absurd (omega (arith, some)); basis = basis; kept = kept; lists = record { first = λ none. refl; later = λ some. absurd (omega (arith, some)) } };
+  ready = λ fits. record {
+    reached = λ some. absurd (omega (arith, some));
+    basis = basis;
+    kept = kept;
+    lists =
+        record { first = λ none. refl; later = λ some. absurd (omega (arith, some)) };
+  };
 }
 
 -- what is kept stays kept
-pub kept-on : (c : SearchCase) (path : List Bool) (keeps later : ℕ → Bool) → ((f : ℕ) → keeps f ≡ true → later f ≡ true) → KeepsChanged keeps c path → KeepsChanged later c path
+pub kept-on : (c : SearchCase) (path : List Bool) (keeps later : ℕ → Bool) → ((f : ℕ) → keeps f ≡ true → later f ≡ true) → KeepsChanged keeps c path
+    → KeepsChanged later c path
 kept-on c path keeps later more kept = more (set_of (changed_numbers c path)) kept
 
 -- ---- answers that are there or not
@@ -188,6 +208,7 @@ has-stopped s work None tells other = tells
 has-stopped s work (Some end) tells other = absurd (other end refl)
 
 -- and where it does not end by steps, the path is open
-pub stays-open : (s : PathState) (levels : List Level) (work : ℕ) (told : Option WalkEnd) → TellsClosed s levels work told → ((x : WalkEnd) → told ≡ Some x → ⊥) → s ≡ Open
+pub stays-open : (s : PathState) (levels : List Level) (work : ℕ) (told : Option WalkEnd) → TellsClosed s levels work told
+    → ((x : WalkEnd) → told ≡ Some x → ⊥) → s ≡ Open
 stays-open s levels work None tells other = tells
 stays-open s levels work (Some end) tells other = absurd (other end refl)

@@ -36,7 +36,8 @@ pub agrees-on : (c : SearchCase) (path q : List Bool) → IsIn q (prefixes path)
 agrees-on c path q there p agrees f field kept = agrees f field (keeps-on c.survey.fields path q there f kept)
 
 -- a prefix keeps no field without a value, where the path keeps none
-pub bad-on : (fields : List Field) (row : List Value) (path q : List Bool) → IsIn q (prefixes path) → keeps_bad fields row q ≡ true → keeps_bad fields row path ≡ true
+pub bad-on : (fields : List Field) (row : List Value) (path q : List Bool) → IsIn q (prefixes path) → keeps_bad fields row q ≡ true
+    → keeps_bad fields row path ≡ true
 bad-on fields row path q there h =
     let (f, among, both) = in-any (λ f. keeps fields q f && is_bad (value_of row f)) (path_order fields) h in
     let (kept, bad) = both_true (keeps fields q f) (is_bad (value_of row f)) both in

@@ -19,7 +19,8 @@ pub record IsClosedBy (c : SearchCase) (paths : List (List Bool)) (steps : List 
   pub closed : IsClosed c path
   pub by_steps : steps ≡ closing_steps c path (state_of c path)
 
-pub closed-at : (c : SearchCase) (budget spent work : ℕ) (steps : List Step) (paths : List (List Bool)) → walk_through c budget spent paths ≡ walk.Closed steps work → IsClosedBy c paths steps
+pub closed-at : (c : SearchCase) (budget spent work : ℕ) (steps : List Step) (paths : List (List Bool))
+    → walk_through c budget spent paths ≡ walk.Closed steps work → IsClosedBy c paths steps
 closed-at c budget spent work steps [] e = absurd (cc)
 closed-at c budget spent work steps (path ∷ paths) e =
     by (nat_lt budget (spent + work_of c path)) (state_of c path) refl (closed-at c budget (spent + work_of c path) work steps paths) e
@@ -33,7 +34,8 @@ closed-at c budget spent work steps (path ∷ paths) e =
 
     by : (over : Bool) (s : PathState) → state_of c path ≡ s
         → (walk_through c budget (spent + work_of c path) paths ≡ walk.Closed steps work → IsClosedBy c paths steps)
-        → (if over then walk.Budget spent else ended_by c path (spent + work_of c path) (walk_through c budget (spent + work_of c path) paths) s) ≡ walk.Closed steps work
+        → (if over then walk.Budget spent else ended_by c path (spent + work_of c path) (walk_through c budget (spent + work_of c path) paths) s) ≡ walk.Closed
+        steps work
         → IsClosedBy c (path ∷ paths) steps
     by true s is rest h = absurd (cc)
     by false Open is rest h = later (rest h)
@@ -48,7 +50,8 @@ pub record AreOpen (c : SearchCase) (budget spent work : ℕ) (paths : List (Lis
   pub within : spent ≤ budget → work ≤ budget
   pub each : (path : List Bool) → IsIn path paths → IsOpen c path × (work_of c path ≤ budget)
 
-pub open-at : (c : SearchCase) (budget spent work : ℕ) (paths : List (List Bool)) → walk_through c budget spent paths ≡ walk.Open work → AreOpen c budget spent work paths
+pub open-at : (c : SearchCase) (budget spent work : ℕ) (paths : List (List Bool)) → walk_through c budget spent paths ≡ walk.Open work
+    → AreOpen c budget spent work paths
 open-at c budget spent work [] e = record { grows = grows_from spent work (cc); within = λ h. within_from spent work (cc) h; each = λ path there. absurd there }
   where
     grows_from : (a b : ℕ) → a ≡ b → a ≤ b
@@ -59,7 +62,8 @@ open-at c budget spent work [] e = record { grows = grows_from spent work (cc); 
 open-at c budget spent work (path ∷ paths) e =
     by (nat_lt budget (spent + work_of c path)) refl (state_of c path) refl (open-at c budget (spent + work_of c path) work paths) e
   where
-    both : (spent + work_of c path ≤ budget) → state_of c path ≡ Open → AreOpen c budget (spent + work_of c path) work paths → AreOpen c budget spent work (path ∷ paths)
+    both : (spent + work_of c path ≤ budget) → state_of c path ≡ Open → AreOpen c budget (spent + work_of c path) work paths
+        → AreOpen c budget spent work (path ∷ paths)
     both fits is rest =
         record {
           grows = let g = rest.grows in omega (arith, g);
@@ -73,7 +77,8 @@ open-at c budget spent work (path ∷ paths) e =
 
     by : (over : Bool) → nat_lt budget (spent + work_of c path) ≡ over → (s : PathState) → state_of c path ≡ s
         → (walk_through c budget (spent + work_of c path) paths ≡ walk.Open work → AreOpen c budget (spent + work_of c path) work paths)
-        → (if over then walk.Budget spent else ended_by c path (spent + work_of c path) (walk_through c budget (spent + work_of c path) paths) s) ≡ walk.Open work
+        → (if over then walk.Budget spent else ended_by c path (spent + work_of c path) (walk_through c budget (spent + work_of c path) paths) s) ≡ walk.Open
+        work
         → AreOpen c budget spent work (path ∷ paths)
     by true over s is rest h = absurd (cc)
     by false over Open is rest h = both (grind (arith, over)) is (rest h)
@@ -83,13 +88,15 @@ open-at c budget spent work (path ∷ paths) e =
     by false over (ClosedBox i) is rest h = absurd (cc)
 
 -- the first path is within the budget, and so are the others
-first-within : (c : SearchCase) (budget spent work : ℕ) (path : List Bool) (paths : List (List Bool)) → walk_through c budget spent (path ∷ paths) ≡ walk.Open work → work ≤ budget
+first-within : (c : SearchCase) (budget spent work : ℕ) (path : List Bool) (paths : List (List Bool))
+    → walk_through c budget spent (path ∷ paths) ≡ walk.Open work → work ≤ budget
 first-within c budget spent work path paths e =
     by (nat_lt budget (spent + work_of c path)) refl (state_of c path) (open-at c budget (spent + work_of c path) work paths) e
   where
     by : (over : Bool) → nat_lt budget (spent + work_of c path) ≡ over → (s : PathState)
         → (walk_through c budget (spent + work_of c path) paths ≡ walk.Open work → AreOpen c budget (spent + work_of c path) work paths)
-        → (if over then walk.Budget spent else ended_by c path (spent + work_of c path) (walk_through c budget (spent + work_of c path) paths) s) ≡ walk.Open work
+        → (if over then walk.Budget spent else ended_by c path (spent + work_of c path) (walk_through c budget (spent + work_of c path) paths) s) ≡ walk.Open
+        work
         → work ≤ budget
     by true over s rest h = absurd (cc)
     by false over Open rest h = (rest h).within (grind (arith, over))
@@ -104,7 +111,8 @@ open-within c budget spent work [] e = first-within c budget spent work [] [] e
 open-within c budget spent work (letter ∷ path) e = first-within c budget spent work [] (map (λ (q : List Bool). letter ∷ q) (prefixes path)) e
 
 -- and so is that of a closed one
-pub closed-within : (c : SearchCase) (budget spent work : ℕ) (steps : List Step) (paths : List (List Bool)) → walk_through c budget spent paths ≡ walk.Closed steps work → work ≤ budget
+pub closed-within : (c : SearchCase) (budget spent work : ℕ) (steps : List Step) (paths : List (List Bool))
+    → walk_through c budget spent paths ≡ walk.Closed steps work → work ≤ budget
 closed-within c budget spent work steps [] e = absurd (cc)
 closed-within c budget spent work steps (path ∷ paths) e =
     by (nat_lt budget (spent + work_of c path)) refl (state_of c path) (closed-within c budget (spent + work_of c path) work steps paths) e
@@ -114,7 +122,8 @@ closed-within c budget spent work steps (path ∷ paths) e =
 
     by : (over : Bool) → nat_lt budget (spent + work_of c path) ≡ over → (s : PathState)
         → (walk_through c budget (spent + work_of c path) paths ≡ walk.Closed steps work → work ≤ budget)
-        → (if over then walk.Budget spent else ended_by c path (spent + work_of c path) (walk_through c budget (spent + work_of c path) paths) s) ≡ walk.Closed steps work
+        → (if over then walk.Budget spent else ended_by c path (spent + work_of c path) (walk_through c budget (spent + work_of c path) paths) s) ≡ walk.Closed
+        steps work
         → work ≤ budget
     by true over s rest h = absurd (cc)
     by false over Open rest h = rest h

@@ -1,4 +1,4 @@
-use Rattle.std.proofs.Common.{◌≡◌, ℕ, Bool, List, [], ◌∷◌, ◌++◌, if◌then◌else◌, get_or, length, map, refl, sym, ap, ◌∙◌, arith}
+use Rattle.std.proofs.Common.{ℕ, List, [], ◌∷◌, ◌++◌, if◌then◌else◌, get_or, length, sym, ap, ◌∙◌, arith}
 use Rattle.std.specs.List.{filter}
 use Rattle.std.proofs.lemmas.List.{take_all}
 use Rattle.edit_model.specs.Corrections.{path_order}
@@ -15,11 +15,14 @@ pub loop-place-preserved : goal.loop-place-preserved
 loop-place-preserved c =
     c.in_ok-push_if_bad.ensures
     ∙ ap (λ f. c.loop-place.fields.items ++ (if is_bad (value_of c.args.row.now f) then f ∷ [] else [])) c.path_field.ensures.field
-    ∙ ap (λ (fs : List ℕ). fs ++ (if is_bad (value_of c.args.row.now (get_or (path_order c.args.survey.now.fields) c.loop-place.place 0)) then get_or (path_order c.args.survey.now.fields) c.loop-place.place 0 ∷ [] else [])) c.loop-place.invariant
+    ∙ ap (λ (fs : List ℕ). fs ++ (if is_bad (value_of c.args.row.now (get_or (path_order c.args.survey.now.fields) c.loop-place.place 0)) then get_or
+    (path_order c.args.survey.now.fields) c.loop-place.place 0 ∷ [] else [])) c.loop-place.invariant
     ∙ sym (filter-more (λ f. is_bad (value_of c.args.row.now f)) (path_order c.args.survey.now.fields) c.loop-place.place
     (omega (arith, c.loop-place-test.true, ap length c.fields.ensures.fields, order-length c.args.survey.now.fields)))
 
 pub returns : goal.returns
 returns c =
     c.loop-place.invariant
-    ∙ ap (filter (λ f. is_bad (value_of c.args.row.now f))) (take_all c.loop-place.place (path_order c.args.survey.now.fields) (omega (arith, c.loop-place-test.false, ap length c.fields.ensures.fields, order-length c.args.survey.now.fields)))
+    ∙ ap (filter (λ f. is_bad (value_of c.args.row.now f)))
+    (take_all c.loop-place.place (path_order c.args.survey.now.fields)
+    (omega (arith, c.loop-place-test.false, ap length c.fields.ensures.fields, order-length c.args.survey.now.fields)))

@@ -1,4 +1,4 @@
-use Rattle.std.proofs.Common.{◌≡◌, ◌++◌, [], ◌∷◌, length, sym, ap, ◌∙◌, subst, arith}
+use Rattle.std.proofs.Common.{◌++◌, [], ◌∷◌, length, sym, ap, ◌∙◌, subst, arith}
 use Rattle.std.specs.Arc.{arc_value}
 use Rattle.edit_line.specs.EditSets.{AreEdits, EditsParts}
 use Rattle.edit_line.specs.Shapes.{shape_of}
@@ -23,5 +23,7 @@ walk_along-requires-clause-walk g c = record {
 
 pub returns-clause-exact : goal.returns-clause-exact
 returns-clause-exact g c =
-    walked-line c.args.task.now.survey.now (task_edits c.args.task.now) (arc_value c.in_ok-edits.edits) c.args.task.now.row.now c.args.line.now c.args.task.now.path.now c.args.task.now.budget c.args.spent c.walk_along.result
-    (c.in_ok-edits.ensures.lines ∙ ap (λ (e : EditsParts). e.lines ++ (length e.lines, c.args.line.now) ∷ []) c.deref.ensures) c.requires.task.path c.walk_along.ensures.exact
+    walked-line c.args.task.now.survey.now (task_edits c.args.task.now)
+    (arc_value c.in_ok-edits.edits) c.args.task.now.row.now c.args.line.now c.args.task.now.path.now c.args.task.now.budget c.args.spent c.walk_along.result
+    (c.in_ok-edits.ensures.lines ∙ ap (λ (e : EditsParts). e.lines ++ (length e.lines, c.args.line.now) ∷ []) c.deref.ensures) c.requires.task.path
+    c.walk_along.ensures.exact

@@ -11,14 +11,16 @@ use Rattle.deduce_fill.proofs.filling.fill.Goals as goal
 pub returns-then-is_empty-clause-forced : goal.returns-then-is_empty-clause-forced
 returns-then-is_empty-clause-forced g c =
     let edits = arc_value c.args.edits.now in
-    let case : IsRuleCase c.args.survey.now edits c.args.row.now = record { case = c.case_known.ensures.case; shape = c.requires.shape; rules = c.requires.rules; placed = c.requires.placed } in
+    let case : IsRuleCase c.args.survey.now edits c.args.row.now =
+    record { case = c.case_known.ensures.case; shape = c.requires.shape; rules = c.requires.rules; placed = c.requires.placed } in
     let told : IsFilled c.args.survey.now edits c.args.row.now c.args.budget (filled.Done c.in_ok-copy.field-0 c.from_vec.result) = search rules in
     (c.fill_laws.ensures.filled c.args.survey.now edits c.args.row.now c.args.budget (filled.Done c.in_ok-copy.field-0 c.from_vec.result) case told).0
 
 pub returns-clause-due : goal.returns-clause-due
 returns-clause-due g c =
     let edits = arc_value c.args.edits.now in
-    let case : IsRuleCase c.args.survey.now edits c.args.row.now = record { case = c.case_known.ensures.case; shape = c.requires.shape; rules = c.requires.rules; placed = c.requires.placed } in
+    let case : IsRuleCase c.args.survey.now edits c.args.row.now =
+    record { case = c.case_known.ensures.case; shape = c.requires.shape; rules = c.requires.rules; placed = c.requires.placed } in
     let told : IfOk c.fill_fields.result (IsFilled c.args.survey.now edits c.args.row.now c.args.budget) = search rules in
     of-answer (IsFilled c.args.survey.now edits c.args.row.now c.args.budget)
     (λ (answer : Filled). (due : Filled) → IsFilled c.args.survey.now edits c.args.row.now c.args.budget due → answer ≡ due)
@@ -27,7 +29,8 @@ returns-clause-due g c =
 pub returns-clause-forced : goal.returns-clause-forced
 returns-clause-forced g c =
     let edits = arc_value c.args.edits.now in
-    let case : IsRuleCase c.args.survey.now edits c.args.row.now = record { case = c.case_known.ensures.case; shape = c.requires.shape; rules = c.requires.rules; placed = c.requires.placed } in
+    let case : IsRuleCase c.args.survey.now edits c.args.row.now =
+    record { case = c.case_known.ensures.case; shape = c.requires.shape; rules = c.requires.rules; placed = c.requires.placed } in
     let told : IfOk c.fill_fields.result (IsFilled c.args.survey.now edits c.args.row.now c.args.budget) = search rules in
     of-answer (IsFilled c.args.survey.now edits c.args.row.now c.args.budget) (FillsForced c.args.survey.now c.args.row.now)
     c.fill_fields.result (λ answer is. (c.fill_laws.ensures.filled c.args.survey.now edits c.args.row.now c.args.budget answer case is).0) told
@@ -35,7 +38,8 @@ returns-clause-forced g c =
 pub returns-clause-blocked : goal.returns-clause-blocked
 returns-clause-blocked g c =
     let edits = arc_value c.args.edits.now in
-    let case : IsRuleCase c.args.survey.now edits c.args.row.now = record { case = c.case_known.ensures.case; shape = c.requires.shape; rules = c.requires.rules; placed = c.requires.placed } in
+    let case : IsRuleCase c.args.survey.now edits c.args.row.now =
+    record { case = c.case_known.ensures.case; shape = c.requires.shape; rules = c.requires.rules; placed = c.requires.placed } in
     let told : IfOk c.fill_fields.result (IsFilled c.args.survey.now edits c.args.row.now c.args.budget) = search rules in
     of-answer (IsFilled c.args.survey.now edits c.args.row.now c.args.budget) (HasNoCompletion c.args.survey.now c.args.row.now)
     c.fill_fields.result (λ answer is. (c.fill_laws.ensures.filled c.args.survey.now edits c.args.row.now c.args.budget answer case is).1) told
@@ -43,7 +47,8 @@ returns-clause-blocked g c =
 pub returns-clause-shown : goal.returns-clause-shown
 returns-clause-shown g c =
     let edits = arc_value c.args.edits.now in
-    let case : IsRuleCase c.args.survey.now edits c.args.row.now = record { case = c.case_known.ensures.case; shape = c.requires.shape; rules = c.requires.rules; placed = c.requires.placed } in
+    let case : IsRuleCase c.args.survey.now edits c.args.row.now =
+    record { case = c.case_known.ensures.case; shape = c.requires.shape; rules = c.requires.rules; placed = c.requires.placed } in
     let told : IfOk c.fill_fields.result (IsFilled c.args.survey.now edits c.args.row.now c.args.budget) = search rules in
     of-answer (IsFilled c.args.survey.now edits c.args.row.now c.args.budget) (IsShown c.args.survey.now (lines_without edits.lines) c.args.row.now)
     c.fill_fields.result (λ answer is. (c.fill_laws.ensures.filled c.args.survey.now edits c.args.row.now c.args.budget answer case is).2) told

@@ -27,13 +27,21 @@ test_fields-requires-clause-within g c = open-within (task_case c.args.task.now)
 pub returns-in-Err-Bound-clause-exact : goal.returns-in-Err-Bound-clause-exact
 returns-in-Err-Bound-clause-exact g c =
     let task = c.args.task.now in
-    inr (Bound c.in-Err-Bound.field-0-0 c.in-Err-Bound.field-0-1,
-    subst (λ n. StopsThere task.survey.now (task_edits task) task.row.now n None (Bound c.in-Err-Bound.field-0-0 c.in-Err-Bound.field-0-1)) (c.set_of-bad.ensures ∙ ap set_of c.requires.fields)
-    (c.in-Err-Bound.ensures.bound c.in-Err-Bound.field-0-0 c.in-Err-Bound.field-0-1 (ap Err c.in-Err-Bound.field-0-is)), refl)
+    inr (
+      Bound c.in-Err-Bound.field-0-0 c.in-Err-Bound.field-0-1,
+      subst (λ n. StopsThere task.survey.now (task_edits task) task.row.now n None (Bound c.in-Err-Bound.field-0-0 c.in-Err-Bound.field-0-1))
+          (c.set_of-bad.ensures ∙ ap set_of c.requires.fields)
+          (c.in-Err-Bound.ensures.bound c.in-Err-Bound.field-0-0 c.in-Err-Bound.field-0-1 (ap Err c.in-Err-Bound.field-0-is)),
+      refl,
+    )
 
 pub returns-in-Err-Test-clause-exact : goal.returns-in-Err-Test-clause-exact
 returns-in-Err-Test-clause-exact g c =
     let task = c.args.task.now in
-    inr (Test c.in-Err-Test.field-0-0,
-    subst (λ n. StopsThere task.survey.now (task_edits task) task.row.now n None (Test c.in-Err-Test.field-0-0)) (c.set_of-bad.ensures ∙ ap set_of c.requires.fields)
-    (c.in-Err-Test.ensures.test c.in-Err-Test.field-0-0 (ap Err c.in-Err-Test.field-0-is)), refl)
+    inr (
+      Test c.in-Err-Test.field-0-0,
+      subst (λ n. StopsThere task.survey.now (task_edits task) task.row.now n None (Test c.in-Err-Test.field-0-0))
+          (c.set_of-bad.ensures ∙ ap set_of c.requires.fields)
+          (c.in-Err-Test.ensures.test c.in-Err-Test.field-0-0 (ap Err c.in-Err-Test.field-0-is)),
+      refl,
+    )

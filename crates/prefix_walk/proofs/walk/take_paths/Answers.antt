@@ -12,9 +12,11 @@ returns-in_default-clause-exact g c =
     let case = case_in c.args.problem.now in
     let w = c.args.walk.now in
     let prefix : c.new-prefix.result ≡ take c.loop-count.count w.path.now = c.new-prefix.ensures ∙ c.in_ok-from_slice.ensures.items in
-    budget-end case w.path.now w.budget w.spent (g.S.Systems.keeps c.loop-count.source) c.loop-count.count c.loop-count.work c.loop-count.before c.loop-count.levels.items c.loop-count.invariant.0
+    budget-end case w.path.now w.budget w.spent
+    (g.S.Systems.keeps c.loop-count.source) c.loop-count.count c.loop-count.work c.loop-count.before c.loop-count.levels.items c.loop-count.invariant.0
     (omega (arith, c.loop-count-test.true)) (w.budget - c.loop-count.work) refl
-    (subst (λ (p : List Bool). w.budget - c.loop-count.work < work_of case p) prefix (none-of (w.budget - c.loop-count.work < work_of case c.new-prefix.result) c.in_ok-look.field-0 c.in_default.not-Some c.in_ok-look.ensures.passed))
+    (subst (λ (p : List Bool). w.budget - c.loop-count.work < work_of case p) prefix
+    (none-of (w.budget - c.loop-count.work < work_of case c.new-prefix.result) c.in_ok-look.field-0 c.in_default.not-Some c.in_ok-look.ensures.passed))
 
 pub returns-in-Some-stop_by-clause-exact : goal.returns-in-Some-stop_by-clause-exact
 returns-in-Some-stop_by-clause-exact g c =
@@ -22,8 +24,10 @@ returns-in-Some-stop_by-clause-exact g c =
     let w = c.args.walk.now in
     let prefix : c.new-prefix.result ≡ take c.loop-count.count w.path.now = c.new-prefix.ensures ∙ c.in_ok-from_slice.ensures.items in
     let look = subst (TellsLook case c.new-prefix.result (w.budget - c.loop-count.work)) c.in-Some.is c.in_ok-look.ensures.look in
-    stops-here case w.path.now w.budget w.spent (g.S.Systems.keeps c.loop-count.source) c.loop-count.count c.loop-count.work c.loop-count.before c.loop-count.levels.items c.loop-count.invariant.0
-    (omega (arith, c.loop-count-test.true)) c.in-Some.look (subst (λ (p : List Bool). IsLook case p c.in-Some.look) prefix look.0) look.1 c.stop_by.result c.in-Some-stop_by.end c.stop_by.ensures c.in-Some-stop_by.is
+    stops-here case w.path.now w.budget w.spent
+    (g.S.Systems.keeps c.loop-count.source) c.loop-count.count c.loop-count.work c.loop-count.before c.loop-count.levels.items c.loop-count.invariant.0
+    (omega (arith, c.loop-count-test.true)) c.in-Some.look
+    (subst (λ (p : List Bool). IsLook case p c.in-Some.look) prefix look.0) look.1 c.stop_by.result c.in-Some-stop_by.end c.stop_by.ensures c.in-Some-stop_by.is
 
 pub returns-in-Some-2-clause-exact : goal.returns-in-Some-2-clause-exact
 returns-in-Some-2-clause-exact g c =
@@ -31,8 +35,10 @@ returns-in-Some-2-clause-exact g c =
     let w = c.args.walk.now in
     let prefix : c.new-prefix.result ≡ take c.loop-count.count w.path.now = c.new-prefix.ensures ∙ c.in_ok-from_slice.ensures.items in
     let look = subst (TellsLook case c.new-prefix.result (w.budget - c.loop-count.work)) c.in-Some.is c.in_ok-look.ensures.look in
-    closes-here case w.path.now w.budget w.spent (g.S.Systems.keeps c.loop-count.source) c.loop-count.count c.loop-count.work c.loop-count.before c.loop-count.levels.items c.loop-count.invariant.0
-    (omega (arith, c.loop-count-test.true)) c.in-Some.look (subst (λ (p : List Bool). IsLook case p c.in-Some.look) prefix look.0) look.1 c.deref.result.now c.in_ok-end.field-0 c.in-Some-2.end
+    closes-here case w.path.now w.budget w.spent
+    (g.S.Systems.keeps c.loop-count.source) c.loop-count.count c.loop-count.work c.loop-count.before c.loop-count.levels.items c.loop-count.invariant.0
+    (omega (arith, c.loop-count-test.true)) c.in-Some.look
+    (subst (λ (p : List Bool). IsLook case p c.in-Some.look) prefix look.0) look.1 c.deref.result.now c.in_ok-end.field-0 c.in-Some-2.end
     (subst (HasLists case (take c.loop-count.count w.path.now)) (sym c.deref.ensures.value)
     (subst (λ (p : List Bool). HasLists case p c.push_lists.new.levels.items) (c.letters-letters.ensures ∙ prefix) c.in_ok-push_lists.ensures.lists))
     c.in_ok-end.ensures c.in-Some-2.is
@@ -44,12 +50,15 @@ loop-count-preserved g c =
     let prefix : c.new-prefix.result ≡ take c.loop-count.count w.path.now = c.new-prefix.ensures ∙ c.in_ok-from_slice.ensures.items in
     let look = subst (TellsLook case c.new-prefix.result (w.budget - c.loop-count.work)) c.in-Some.is c.in_ok-look.ensures.look in
     let kept = subst (KeepsOpen (g.S.Systems.keeps c.look_into.new.source) case c.new-prefix.result) c.in-Some.is c.in_ok-look.ensures.kept in
-    let opened = stays-open c.in-Some.look.state c.deref.result.now (c.loop-count.work + c.in-Some.look.work) c.in_ok-end.field-0 c.in_ok-end.ensures c.in_default-2.not-Some in (
-      goes-on case w.path.now w.budget w.spent (g.S.Systems.keeps c.loop-count.source) c.loop-count.count c.loop-count.work c.loop-count.before c.loop-count.levels.items c.loop-count.invariant.0
+    let opened = stays-open c.in-Some.look.state c.deref.result.now
+    (c.loop-count.work + c.in-Some.look.work) c.in_ok-end.field-0 c.in_ok-end.ensures c.in_default-2.not-Some in (
+      goes-on case w.path.now w.budget w.spent
+          (g.S.Systems.keeps c.loop-count.source) c.loop-count.count c.loop-count.work c.loop-count.before c.loop-count.levels.items c.loop-count.invariant.0
           (omega (arith, c.loop-count-test.true)) c.in-Some.look (subst (λ (p : List Bool). IsLook case p c.in-Some.look) prefix look.0) look.1
           (g.S.Systems.keeps c.push_lists.new.source) c.push_lists.new.levels.items opened
           (subst (KeepsChanged (g.S.Systems.keeps c.push_lists.new.source) case) prefix
-          (kept-on case c.new-prefix.result (g.S.Systems.keeps c.look_into.new.source) (g.S.Systems.keeps c.push_lists.new.source) c.in_ok-push_lists.ensures.keeps (kept opened)))
+          (kept-on case c.new-prefix.result (g.S.Systems.keeps c.look_into.new.source)
+          (g.S.Systems.keeps c.push_lists.new.source) c.in_ok-push_lists.ensures.keeps (kept opened)))
           (subst (λ (p : List Bool). HasLists case p c.push_lists.new.levels.items) (c.letters-letters.ensures ∙ prefix) c.in_ok-push_lists.ensures.lists),
       λ e h. c.in_ok-push_lists.ensures.serves e (c.in_ok-look.ensures.serves e (c.loop-count.invariant.1 e h)),
       λ f h. c.in_ok-push_lists.ensures.keeps f (c.in_ok-look.ensures.keeps f (c.loop-count.invariant.2 f h)),
@@ -58,5 +67,6 @@ loop-count-preserved g c =
 
 pub returns-clause-exact : goal.returns-clause-exact
 returns-clause-exact g c =
-    ends-open (case_in c.args.problem.now) c.args.walk.now.path.now c.args.walk.now.budget c.args.walk.now.spent (g.S.Systems.keeps c.loop-count.source) c.loop-count.count c.loop-count.work c.loop-count.before
+    ends-open (case_in c.args.problem.now) c.args.walk.now.path.now c.args.walk.now.budget c.args.walk.now.spent
+    (g.S.Systems.keeps c.loop-count.source) c.loop-count.count c.loop-count.work c.loop-count.before
     c.loop-count.levels.items c.loop-count.invariant.0 (omega (arith, c.loop-count-test.false, c.loop-count.auto.count-end))
