@@ -508,7 +508,7 @@ def memory_a_byte(attack, examples, dice):
         "empty lines": plain + b"\n" * size,
     }
     for name, text in long_rules.items():
-        allowed = SUM_BYTES_A_BYTE if name == "a line of terms" else MOST_BYTES_A_BYTE
+        allowed = SUM_BYTES_A_BYTE if name in ("a line of additions", "a line of terms") else MOST_BYTES_A_BYTE
         measured(name, RULES, {0, 3, 7}, {"rules": text}, allowed)
         measured(name, EDIT, {0, 3, 7}, {"rules": text, "records": one}, allowed)
     columns = 200000
