@@ -1,0 +1,4 @@
+pub mod CountLaws
+pub mod FilledRowLaws
+pub mod ForcedLaws
+pub mod PlacedRules

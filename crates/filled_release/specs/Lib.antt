@@ -1,0 +1,2 @@
+pub mod FilledFiles
+pub mod inner

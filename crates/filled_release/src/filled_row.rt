@@ -1,0 +1,58 @@
+//! The row of one record that is filled.
+ghost use Rattle.std.specs.Prelude.{◌≡◌, ◌<◌, ◌++◌, ◌∷◌, [], ℕ, List, All, OnOk, length};
+ghost use Rattle.edit_model.specs.FieldSets.{has_number};
+ghost use Rattle.record_text.specs.Texts.{records_text};
+ghost use Rattle.edit_report.specs.Layouts.{IsLayout};
+ghost use Rattle.filled_release.specs.FilledFiles.{filled_texts, is_forced};
+ghost use Rattle.filled_release.specs.inner.FilledRows.{CanBeWritten};
+
+use deduce_fill::{Filled, Forced};
+use edit_model::{FieldSet, Survey};
+use edit_report::{Layout, row_texts};
+use foundation::OutOfMemory;
+use record_text::{RecordWriter, Texts};
+use std::alloc::Global;
+
+/// Writes the row of a record of which filling gives this answer. One at which nothing is forced is not copied.
+pub(crate) fn push_filled(
+    alloc: Global,
+    writer: &mut RecordWriter,
+    survey: &Survey,
+    layout: &Layout,
+    read: &Texts,
+    answer: &Filled,
+) -> Result<(), OutOfMemory>
+    requires layout { IsLayout survey.now.fields layout.now }
+    requires width { length read.now ≡ layout.now.width }
+    requires answer { CanBeWritten survey.now.fields answer.now }
+    ensures { OnOk result
+        (writer.new ≡ writer.old ++ records_text (filled_texts survey.now.fields layout.now.columns read.now answer.now ∷ [])) }
+{
+    let Filled::Done { row, forced } = answer else {
+        return writer.push(read);
+    };
+    if forced.is_empty() {
+        return writer.push(read);
+    }
+    let texts = row_texts(
+        alloc,
+        survey,
+        layout,
+        read,
+        forced_set(forced.as_slice()),
+        row,
+    )?;
+    writer.push(&texts)
+}
+
+// The set of the fields at which a value is forced. No memory.
+fn forced_set(forced: &[Forced]) -> FieldSet
+    requires { All (λ e. e.field < 64) forced.now }
+    ensures { (f : ℕ) → has_number result f ≡ is_forced forced.now f }
+{
+    let mut set = FieldSet::empty();
+    for one in forced {
+        set = set.with(one.field);
+    }
+    set
+}
