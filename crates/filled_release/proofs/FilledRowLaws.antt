@@ -15,39 +15,58 @@ use Rattle.filled_release.specs.inner.Counts.{AreCountsOf, AreFew}
 use Rattle.filled_release.specs.inner.FilledRows.{IsFilledTo}
 use Rattle.filled_release.specs.declared.counts.Counts.{Counts}
 
--- ---- one row after the other
-
--- one row more
-rows-push : (fields : List Field) (columns : List ℕ) (row_texts : List (List (List ℕ))) (answers : List Filled) (texts : List (List ℕ)) (answer : Filled) → length answers ≡ length row_texts
-    → filled_rows fields columns (row_texts ++ texts ∷ []) (answers ++ answer ∷ []) ≡ filled_rows fields columns row_texts answers ++ filled_texts fields columns texts answer ∷ []
-rows-push fields columns [] [] texts answer long = refl
-rows-push fields columns [] (a ∷ answers) texts answer long = absurd (omega (arith, long))
-rows-push fields columns (t ∷ row_texts) [] texts answer long = absurd (omega (arith, long))
-rows-push fields columns (t ∷ row_texts) (a ∷ answers) texts answer long =
-    ap (λ (rows : List (List (List ℕ))). filled_texts fields columns t a ∷ rows) (rows-push fields columns row_texts answers texts answer (omega (arith, long)))
+module _ (fields : List Field) (columns : List ℕ) where
+  -- one row more
+  rows-push : (row_texts : List (List (List ℕ))) (answers : List Filled) (texts : List (List ℕ)) (answer : Filled) → length answers ≡ length row_texts
+      → filled_rows fields columns (row_texts ++ texts ∷ []) (answers ++ answer ∷ [])
+      ≡ filled_rows fields columns row_texts answers ++ filled_texts fields columns texts answer ∷ []
+  rows-push [] [] texts answer long = refl
+  rows-push [] (a ∷ answers) texts answer long = absurd (omega (arith, long))
+  rows-push (t ∷ row_texts) [] texts answer long = absurd (omega (arith, long))
+  rows-push (t ∷ row_texts) (a ∷ answers) texts answer long =
+      ap (λ (rows : List (List (List ℕ))). filled_texts fields columns t a ∷ rows) (rows-push row_texts answers texts answer (omega (arith, long)))
 
 module _ (survey : SurveyParts) (sheet : SheetParts) (budget : ℕ) (same : length sheet.row_texts ≡ length sheet.rows) where
+  abbrev Answers : List (List Value) → List Filled → Type 0
+  Answers rows answers = AllZip (IsAnswerFor survey budget) rows answers
+
+  -- the text of these records
+  abbrev written : List (List (List ℕ)) → List Filled → List ℕ
+  written row_texts answers = records_text (sheet.header ∷ filled_rows survey.fields sheet.columns row_texts answers)
+
+  -- the row of a record more
+  abbrev row_after : List (List ℕ) → Filled → List (List (List ℕ))
+  row_after texts answer = filled_texts survey.fields sheet.columns texts answer ∷ []
+
+  written-push : (row_texts : List (List (List ℕ))) (answers : List Filled) (texts : List (List ℕ)) (answer : Filled) → length answers ≡ length row_texts
+      → written row_texts answers ++ records_text (row_after texts answer) ≡ written (row_texts ++ texts ∷ []) (answers ++ answer ∷ [])
+  written-push row_texts answers texts answer long =
+      sym (records_text-append (sheet.header ∷ filled_rows survey.fields sheet.columns row_texts answers) (row_after texts answer))
+      ∙ ap (λ (rows : List (List (List ℕ))). records_text (sheet.header ∷ rows))
+      (sym (rows-push survey.fields sheet.columns row_texts answers texts answer long))
+
   -- one record more
-  pub filled-more : (n : ℕ) (text later : List ℕ) (counts counts' : Counts) (answer : Filled) → n < length sheet.rows → IsFilledTo survey sheet budget n text counts
-      → IsAnswerFor survey budget (get_or sheet.rows n []) answer
-      → later ≡ text ++ records_text (filled_texts survey.fields sheet.columns (get_or sheet.row_texts n []) answer ∷ [])
-      → AreFew counts' → ((before : List Filled) → AreCountsOf before counts → AreCountsOf (before ++ answer ∷ []) counts')
-      → IsFilledTo survey sheet budget (n + 1) later counts'
-  filled-more n text later counts counts' answer below before is put few counted =
+  pub filled-more : (n : ℕ) (text later : List ℕ) (counts after : Counts) (answer : Filled) → n < length sheet.rows
+      → IsFilledTo survey sheet budget n text counts → IsAnswerFor survey budget (get_or sheet.rows n []) answer
+      → later ≡ text ++ records_text (row_after (get_or sheet.row_texts n []) answer)
+      → AreFew after → ((before : List Filled) → AreCountsOf before counts → AreCountsOf (before ++ answer ∷ []) after)
+      → IsFilledTo survey sheet budget (n + 1) later after
+  filled-more n text later counts after answer below before is put few counted =
       let answers = before.answers in
       let now = counted answers before.counted in
+      let texts = get_or sheet.row_texts n [] in
+      let below_texts : n < length sheet.row_texts = omega (arith, same, below) in
+      let rows_long : length (take n sheet.rows) ≡ n = length-take-le n sheet.rows (omega (arith, below)) in
+      let texts_long : length (take n sheet.row_texts) ≡ n = length-take-le n sheet.row_texts (omega (arith, below_texts)) in
       let long = AllZip-long (IsAnswerFor survey budget) (take n sheet.rows) answers before.each in
-      let row_long : length (take n sheet.row_texts) ≡ n = length-take-le n sheet.row_texts (omega (arith, same, below)) in
-      let long_n : length (take n sheet.rows) ≡ n = length-take-le n sheet.rows (omega (arith, below)) in
-      let rows = rows-push survey.fields sheet.columns (take n sheet.row_texts) answers (get_or sheet.row_texts n []) answer (omega (arith, long, long_n, row_long)) in
+      let each = all_zipped_more (IsAnswerFor survey budget) (take n sheet.rows) answers (get_or sheet.rows n []) answer before.each is in
       record {
         answers = answers ++ answer ∷ [];
-        each = subst (λ (rs : List (List Value)). AllZip (IsAnswerFor survey budget) rs (answers ++ answer ∷ [])) (sym (take_more sheet.rows n [] below))
-            (all_zipped_more (IsAnswerFor survey budget) (take n sheet.rows) answers (get_or sheet.rows n []) answer before.each is);
-        text = put ∙ ap (λ (bs : List ℕ). bs ++ records_text (filled_texts survey.fields sheet.columns (get_or sheet.row_texts n []) answer ∷ [])) before.text
-            ∙ sym (records_text-append (sheet.header ∷ filled_rows survey.fields sheet.columns (take n sheet.row_texts) answers) (filled_texts survey.fields sheet.columns (get_or sheet.row_texts n []) answer ∷ []))
-            ∙ ap (λ (rs : List (List (List ℕ))). records_text (sheet.header ∷ rs)) (sym rows)
-            ∙ ap (λ (ts : List (List (List ℕ))). records_text (sheet.header ∷ filled_rows survey.fields sheet.columns ts (answers ++ answer ∷ []))) (sym (take_more sheet.row_texts n [] (omega (arith, same, below))));
+        each = subst (λ (rows : List (List Value)). Answers rows (answers ++ answer ∷ [])) (sym (take_more sheet.rows n [] below)) each;
+        text =
+            put ∙ ap (λ (bytes : List ℕ). bytes ++ records_text (row_after texts answer)) before.text
+            ∙ written-push (take n sheet.row_texts) answers texts answer (omega (arith, long, rows_long, texts_long))
+            ∙ ap (λ (ts : List (List (List ℕ))). written ts (answers ++ answer ∷ [])) (sym (take_more sheet.row_texts n [] below_texts));
         counted = now;
         few = few;
         all = omega (arith, now.records, before.counted.records, before.all, length-append answers (answer ∷ []));
@@ -57,6 +76,6 @@ module _ (survey : SurveyParts) (sheet : SheetParts) (budget : ℕ) (same : leng
   pub filled-all : (n : ℕ) (text : List ℕ) (counts : Counts) → length sheet.rows ≤ n → (before : IsFilledTo survey sheet budget n text counts)
       → AllZip (IsAnswerFor survey budget) sheet.rows before.answers × (text ≡ filled_text survey sheet before.answers)
   filled-all n text counts past before = (
-    subst (λ (rs : List (List Value)). AllZip (IsAnswerFor survey budget) rs before.answers) (take_all n sheet.rows past) before.each,
-    before.text ∙ ap (λ (ts : List (List (List ℕ))). records_text (sheet.header ∷ filled_rows survey.fields sheet.columns ts before.answers)) (take_all n sheet.row_texts (omega (arith, same, past))),
+    subst (λ (rows : List (List Value)). Answers rows before.answers) (take_all n sheet.rows past) before.each,
+    before.text ∙ ap (λ (ts : List (List (List ℕ))). written ts before.answers) (take_all n sheet.row_texts (omega (arith, same, past))),
   )

@@ -50,7 +50,7 @@ can-be-written survey row (Budget work) is few fills = tt
 can-be-written survey row (Overflow test) is few fills = tt
 
 -- and so can what comes of a filling
-pub filled-written : (survey : SurveyParts) (row : List Value) (result : Result Filled OutOfMemory) → IsRow survey.fields row → length survey.fields ≤ most_fields
-    → IfOk result (FillsForced survey row) → IfOk result (CanBeWritten survey.fields)
+pub filled-written : (survey : SurveyParts) (row : List Value) (result : Result Filled OutOfMemory)
+    → IsRow survey.fields row → length survey.fields ≤ most_fields → IfOk result (FillsForced survey row) → IfOk result (CanBeWritten survey.fields)
 filled-written survey row (Ok answer) is few fills = can-be-written survey row answer is few fills
 filled-written survey row (Err fault) is few fills = tt

@@ -34,14 +34,8 @@ pub(crate) fn push_filled(
     if forced.is_empty() {
         return writer.push(read);
     }
-    let texts = row_texts(
-        alloc,
-        survey,
-        layout,
-        read,
-        forced_set(forced.as_slice()),
-        row,
-    )?;
+    let filled = forced_set(forced.as_slice());
+    let texts = row_texts(alloc, survey, layout, read, filled, row)?;
     writer.push(&texts)
 }
 

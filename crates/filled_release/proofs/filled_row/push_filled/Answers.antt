@@ -11,9 +11,10 @@ returns-then-is_empty c =
     let fields = c.args.survey.now.fields in
     let columns = c.args.layout.now.columns in
     let read = c.args.read.now in
-    let kept = texts-kept fields columns c.in-Done.row (is_forced c.in-Done.forced) 0 read
-    (λ f. none-forced c.in-Done.forced f (sym c.is_empty.ensures ∙ c.if-is_empty.true)) in
-    subst (λ (a : Filled). OnOk c.push-then-is_empty.result (c.push-then-is_empty.new.self ≡ c.args.writer.now ++ records_text (filled_texts fields columns read a ∷ [])))
+    let forced = c.in-Done.forced in
+    let none = sym c.is_empty.ensures ∙ c.if-is_empty.true in
+    let kept = texts-kept fields columns c.in-Done.row (is_forced forced) 0 read (λ f. none-forced forced f none) in
+    let pushed = c.push-then-is_empty in
+    subst (λ (a : Filled). OnOk pushed.result (pushed.new.self ≡ c.args.writer.now ++ records_text (filled_texts fields columns read a ∷ [])))
     (sym c.in-Done.is)
-    (subst (λ (texts : List (List ℕ)). OnOk c.push-then-is_empty.result (c.push-then-is_empty.new.self ≡ c.args.writer.now ++ records_text (texts ∷ [])))
-    (sym kept) c.push-then-is_empty.ensures.written)
+    (subst (λ (texts : List (List ℕ)). OnOk pushed.result (pushed.new.self ≡ c.args.writer.now ++ records_text (texts ∷ []))) (sym kept) pushed.ensures.written)
