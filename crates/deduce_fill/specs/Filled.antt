@@ -84,3 +84,7 @@ IsFilledWith survey edits row budget (f ∷ fields) answer =
 -- the answer for a record
 abbrev pub IsFilled : SurveyParts → EditsParts → List Value → ℕ → Filled → Type 0
 IsFilled survey edits row budget answer = IsFilledWith survey edits row budget (bad_fields survey.fields row) answer
+
+-- each answer that the definition allows for the record is this one
+abbrev pub IsOnlyAnswer : SurveyParts → EditsParts → List Value → ℕ → Filled → Type 0
+IsOnlyAnswer survey edits row budget answer = (due : Filled) → IsFilled survey edits row budget due → answer ≡ due

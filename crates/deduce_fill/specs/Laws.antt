@@ -91,7 +91,8 @@ FilledLaw =
 abbrev pub OneAnswerLaw : Type 0
 OneAnswerLaw =
     (survey : SurveyParts) (edits : EditsParts) (row : List Value) (budget : ℕ) (answer other : Filled)
-    → IsRuleCase survey edits row → IsFilled survey edits row budget answer → IsFilled survey edits row budget other → other ≡ answer
+    → IsRuleCase survey edits row → IsFilled survey edits row budget answer → IsFilled survey edits row budget other
+    → other ≡ answer
 
 -- a point has another value than v at a field exactly where one of the test lines holds
 abbrev pub TestLineLaw : Type 0

@@ -7,8 +7,7 @@ ghost use Rattle.edit_model.specs.Rows.{IsRow, value_of};
 ghost use Rattle.edit_model.specs.declared.value.Value.TheVariants.{Bad};
 ghost use Rattle.prefix_walk.specs.PathWalks.{walk_along};
 ghost use Rattle.prefix_walk.specs.declared.walk_end.WalkEnd.TheVariants as walk;
-ghost use Rattle.deduce_fill.specs.Filled.{IsCandidate, IsFilled, IsFilledAfter, filled_from};
-ghost use Rattle.deduce_fill.specs.declared.filled.Filled as answers;
+ghost use Rattle.deduce_fill.specs.Filled.{IsCandidate, IsFilled, IsFilledAfter, IsOnlyAnswer, filled_from};
 ghost use Rattle.deduce_fill.specs.Laws.{FillsForced, HasNoCompletion, IsShown};
 ghost use Rattle.deduce_fill.specs.Tests.{ArePlacedFrom, bad_fields, most_edits};
 ghost use Rattle.deduce_fill.specs.inner.Fillings.{TellsTurn};
@@ -49,7 +48,7 @@ pub fn fill<L: Ledger>(
     requires placed { ArePlacedFrom 0 (arc_value edits.now).lines }
     requires few { length (arc_value edits.now).lines ≤ most_edits }
     ensures exact { IfOk result (λ filled. IsFilled survey.now (arc_value edits.now) row.now budget filled) }
-    ensures due { IfOk result (λ filled. (due : answers.Filled) → IsFilled survey.now (arc_value edits.now) row.now budget due → filled ≡ due) }
+    ensures due { IfOk result (IsOnlyAnswer survey.now (arc_value edits.now) row.now budget) }
     ensures forced { IfOk result (FillsForced survey.now row.now) }
     ensures blocked { IfOk result (HasNoCompletion survey.now row.now) }
     ensures shown { IfOk result (IsShown survey.now (lines_without (arc_value edits.now).lines) row.now) }
@@ -115,7 +114,8 @@ fn fill_open<L: Ledger>(
     requires task { IsTask task.now }
     requires fields { fields.now ≡ bad_fields task.now.survey.now.fields task.now.row.now }
     requires walked { walk_along (task_case task.now) task.now.path.now task.now.budget 0 ≡ walk.Open work }
-    ensures exact { IfOk result (IsFilledAfter task.now.survey.now (task_edits task.now) task.now.row.now task.now.budget (walk.Open work)) }
+    ensures exact { IfOk result (IsFilledAfter task.now.survey.now (task_edits task.now) task.now.row.now task.now.budget
+        (walk.Open work)) }
     ensures counts { steps.old ≤ steps.new }
 {
     let bad = set_of(fields);

@@ -38,7 +38,8 @@ impl Counts {
         requires few { AreFew self.old }
         requires more { self.old.records < most_records }
         ensures few { AreFew self.new }
-        ensures counts { (before : List answers.Filled) → AreCountsOf before self.old → AreCountsOf (before ++ answer.now ∷ []) self.new }
+        ensures counts { (before : List answers.Filled) → AreCountsOf before self.old
+            → AreCountsOf (before ++ answer.now ∷ []) self.new }
     {
         self.records += 1;
         match answer {
@@ -57,7 +58,8 @@ impl Counts {
 
     /// The line that tells them, without its line feed.
     pub(crate) fn summary(&self, alloc: Global) -> Result<Vec<u8>, OutOfMemory>
-        ensures { IfOk result (λ line. (answers : List answers.Filled) → AreCountsOf answers self.now → line.items ≡ filled_summary answers) }
+        ensures { IfOk result (λ line. (answers : List answers.Filled) → AreCountsOf answers self.now
+            → line.items ≡ filled_summary answers) }
     {
         let Counts {
             records,
