@@ -17,7 +17,7 @@ use Rattle.edit_line.specs.EditSets.{base_lines}
 use Rattle.edit_line.specs.Lines.{HasShape, IsEnough, LineHolds, LineParts, amount, factor}
 use Rattle.edit_line.specs.Reductions.{IsIn, lines_of, reduce_derived}
 use Rattle.edit_line.specs.Sets.{AreCodesIn}
-use Rattle.edit_line.specs.Shapes.{Domain, codes_at, code_fields, has_field, number_fields, shape_of}
+use Rattle.edit_line.specs.Shapes.{Domain, codes_at, has_field, number_fields, shape_of}
 use Rattle.edit_line.specs.Subsumption.{is_enough}
 use Rattle.edit_line.specs.Sums.{AgreesOnLine, fails_at}
 use Rattle.edit_line.specs.declared.derived.Derived.{Derived}

@@ -119,7 +119,7 @@ module _ (c : SearchCase) (budget spent : ℕ) (taken : List Taken) (ends rest :
             searching-turn c budget (taken_paths taken) (paths_of ends) (paths_of rest) node.path running.searching (ap (λ (ns : List Node). paths_of ns) is) (paths_of new) led (taken_paths after) (sym ends-so ∙ none)
             (ap (λ (ts : List Taken). taken_paths ts) more ∙ taken-more taken (record { path = node.path; state = state; basis = basis }));
         nodes = nodes;
-        taken_are = subst (λ (ts : List Taken). AllByRecursion (IsTaken c) ts) (sym more) (are-more c taken (record { path = node.path; state = state; basis = basis }) running.taken_are (record { state = state_is; basis = known }));
+        taken_are = subst (λ (ts : List Taken). AllByRecursion (IsTaken c) ts) (sym more) (are-more c taken (record { path = node.path; state = state; basis = basis }) running.taken_are (record { fit = (subst (λ (ns : List Node). AllByRecursion (IsNode c) ns) is running.nodes).0.fit; state = state_is; basis = known }));
         spent_is =
             ap (λ (n : ℕ). n + work) running.spent_is ∙ ap (λ (n : ℕ). work_of_all c (taken_paths taken) + n) work_is ∙ sym (work-one c (taken_paths taken) node.path)
             ∙ ap (λ (ps : List (List Bool)). work_of_all c ps) (sym (ap (λ (ts : List Taken). taken_paths ts) more ∙ taken-more taken (record { path = node.path; state = state; basis = basis })));

@@ -1,4 +1,4 @@
-use Rattle.std.specs.Prelude.{◌≡◌, ◌++◌, ◌-◌, ℕ, Bool, List, [], if◌then◌else◌, length, map, nat_lt}
+use Rattle.std.specs.Prelude.{◌≡◌, ◌≤◌, ◌++◌, ◌-◌, ℕ, Bool, List, [], if◌then◌else◌, length, map, nat_lt}
 use Rattle.bound_cert.specs.declared.cert.Leaf.{Leaf}
 use Rattle.edit_paths.specs.Cases.{SearchCase}
 use Rattle.edit_paths.specs.Certificates.{leaves_by, leaves_from}
@@ -12,6 +12,7 @@ use Rattle.localise_tree.specs.declared.best_first.Taken.{Taken}
 
 -- what became of a path that was taken is its state, and what is kept of it is its basis
 pub record IsTaken (c : SearchCase) (taken : Taken) : Type 0 where
+  pub fit : length taken.path ≤ field_count c
   pub state : taken.state ≡ state_of c taken.path
   pub basis : IsKnownBasis c taken.path taken.basis
 
