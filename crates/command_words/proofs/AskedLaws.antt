@@ -3,7 +3,7 @@ use Rattle.std.proofs.Common.{◌≡◌, ◌≢◌, ◌∙◌, ◌≤◌, ℕ, O
 use Rattle.std.specs.Prelude.{IfNone, IfSome}
 use Rattle.clap.specs.Words.{App, Row, fault_of, matches_of}
 use Rattle.clap.specs.declared.parser.matches.ArgMatches.{ArgMatches}
-use Rattle.command_words.specs.Asked.{CheckAsked, EditAsked, GivesCheck, GivesEdit, GivesMake, GivesRules, IsCommand, MakeAsked, RulesAsked}
+use Rattle.command_words.specs.Asked.{CheckAsked, EditAsked, FillAsked, GivesCheck, GivesEdit, GivesFill, GivesMake, GivesRules, IsCommand, MakeAsked, RulesAsked}
 use Rattle.command_words.specs.Options.{GivesNumber}
 use Rattle.command_words.specs.inner.Found.{Takes, rows_in}
 
@@ -66,6 +66,19 @@ rules_of r = record { rules = r }
 -- and one such question
 pub one_rules : (found : List Row) (a b : RulesAsked) → GivesRules found a → GivesRules found b → a ≡ b
 one_rules found a b p q = ap rules_of (one_text _ _ _ p.rules q.rules)
+
+-- a filling of these files, within this budget
+abbrev pub fill_of : List ℕ → List ℕ → List ℕ → ℕ → FillAsked
+fill_of r c d budget = record { rules = r; records = c; released = d; budget = budget }
+
+same_fill : (r c d r' c' d' : List ℕ) (b b' : ℕ) → r ≡ r' → c ≡ c' → d ≡ d' → b ≡ b' → fill_of r c d b ≡ fill_of r' c' d' b'
+same_fill r c d r' c' d' b b' er ec ed eb = cc
+
+-- and one filling
+pub one_fill : (found : List Row) (a b : FillAsked) → GivesFill found a → GivesFill found b → a ≡ b
+one_fill found a b p q =
+    same_fill _ _ _ _ _ _ _ _ (one_text _ _ _ p.rules q.rules) (one_text _ _ _ p.records q.records)
+    (one_text _ _ _ p.released q.released) (one_number _ _ _ _ _ _ p.budget q.budget)
 
 -- a survey that is made in these files, from this start, with so many records
 abbrev pub make_of : List ℕ → List ℕ → ℕ → ℕ → MakeAsked

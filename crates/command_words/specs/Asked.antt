@@ -110,6 +110,32 @@ pub record GivesRules (found : List Row) (asked : RulesAsked) : Type 0 where
 abbrev pub IsRules : List (List ℕ) → RulesAsked → Type 0
 IsRules words asked = IsCommand rules_command words (λ found. GivesRules found asked)
 
+-- ---- fill
+
+-- the files that the command `fill` names, and the most work that may be spent on one record
+pub record FillAsked : Type 0 where
+  pub rules : List ℕ
+  pub records : List ℕ
+  pub released : List ℕ
+  pub budget : ℕ
+
+-- the options of the command: three that name files and have to stand, and one that gives a number
+abbrev pub fill_command : App
+fill_command = command_with (codes "fill") (
+    must_stand (codes "rules") ∷ must_stand (codes "records") ∷ must_stand (codes "released") ∷ may_stand (codes "budget") ∷ [])
+
+-- what is found are three names of files, no two of which lead to one file; and a budget from 1 to 1,000,000,000, or 1,000,000
+pub record GivesFill (found : List Row) (asked : FillAsked) : Type 0 where
+  pub rules : first_of (codes "rules") found ≡ Some asked.rules
+  pub records : first_of (codes "records") found ≡ Some asked.records
+  pub released : first_of (codes "released") found ≡ Some asked.released
+  pub budget : GivesNumber 1000000 1 most_work (first_of (codes "budget") found) asked.budget
+  pub apart : AreApart (asked.rules ∷ asked.records ∷ asked.released ∷ [])
+
+-- the words ask that records are filled: they are the command, and what is found gives its files and its budget
+abbrev pub IsFill : List (List ℕ) → FillAsked → Type 0
+IsFill words asked = IsCommand fill_command words (λ found. GivesFill found asked)
+
 -- ---- make
 
 -- the files that the command `make` names, the number that its records follow from, and how many records there are
@@ -144,6 +170,7 @@ pub record IsNoCommand (words : List (String Global)) : Type 0 where
   pub no_edit : (asked : EditAsked) → ¬ IsEdit (map string_bytes words) asked
   pub no_check : (asked : CheckAsked) → ¬ IsCheck (map string_bytes words) asked
   pub no_rules : (asked : RulesAsked) → ¬ IsRules (map string_bytes words) asked
+  pub no_fill : (asked : FillAsked) → ¬ IsFill (map string_bytes words) asked
   pub no_make : (asked : MakeAsked) → ¬ IsMake (map string_bytes words) asked
 
 -- whatever edit the words ask for, the claim holds of it
@@ -157,6 +184,10 @@ ForCheck words P = (asked : CheckAsked) → IsCheck (map string_bytes words) ask
 -- whatever the words ask about rules, the claim holds of it
 abbrev pub ForRules : List (String Global) → (RulesAsked → Type 0) → Type 0
 ForRules words P = (asked : RulesAsked) → IsRules (map string_bytes words) asked → P asked
+
+-- whatever filling the words ask for, the claim holds of it
+abbrev pub ForFill : List (String Global) → (FillAsked → Type 0) → Type 0
+ForFill words P = (asked : FillAsked) → IsFill (map string_bytes words) asked → P asked
 
 -- whatever survey the words ask for, the claim holds of it
 abbrev pub ForMake : List (String Global) → (MakeAsked → Type 0) → Type 0

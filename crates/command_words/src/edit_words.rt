@@ -6,7 +6,7 @@ ghost use Rattle.command_words.specs.inner.Found.{rows_in};
 
 use crate::file_names::{is_apart_from, lead_to_one};
 use crate::options::{
-    command_named, found_in, number_in, optional, required, text_in, words_behind,
+    BUDGET, LEAST_BUDGET, MOST_BUDGET, command_named, found_in, number_in, optional, required, text_in, words_behind,
 };
 use clap::{ArgMatches, Command};
 use foundation::OutOfMemory;
@@ -19,13 +19,6 @@ const WORKERS: u64 = 1;
 const LEAST_WORKERS: u64 = 1;
 
 const MOST_WORKERS: u64 = 64;
-
-/// The most work on one record where no budget is given, the least that can be given, and the most.
-const BUDGET: u64 = 1_000_000;
-
-const LEAST_BUDGET: u64 = 1;
-
-const MOST_BUDGET: u64 = 1_000_000_000;
 
 /// How often a donor may be given where no limit is given, the least that can be given, and the most.
 const LIMIT: u64 = 1;

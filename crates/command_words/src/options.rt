@@ -8,6 +8,13 @@ use clap::{Arg, ArgAction, ArgMatches, Command};
 use foundation::OutOfMemory;
 use std::alloc::Global;
 
+/// The most work on one record where no budget is given, the least that can be given, and the most.
+pub(crate) const BUDGET: u64 = 1_000_000;
+
+pub(crate) const LEAST_BUDGET: u64 = 1;
+
+pub(crate) const MOST_BUDGET: u64 = 1_000_000_000;
+
 /// The most digits of a number.
 const MOST_DIGITS: usize = 10;
 

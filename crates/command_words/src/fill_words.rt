@@ -1,0 +1,103 @@
+ghost use Rattle.std.specs.Prelude.{◌≡◌, ◌↔◌, ◌∷◌, [], IfOk, IfSome, IfNone, IsTrue, map, string_bytes};
+ghost use Rattle.clap.specs.Words.{app_of};
+ghost use Rattle.command_words.specs.Asked.{FillAsked, GivesFill, IsFill, fill_command};
+ghost use Rattle.command_words.specs.FileNames.{AreApart};
+ghost use Rattle.command_words.specs.inner.Found.{rows_in};
+
+use crate::file_names::{is_apart_from, lead_to_one};
+use crate::options::{
+    BUDGET, LEAST_BUDGET, MOST_BUDGET, command_named, found_in, number_in, optional, required,
+    text_in, words_behind,
+};
+use clap::{ArgMatches, Command};
+use foundation::OutOfMemory;
+use std::alloc::Global;
+use std::marker::Model;
+
+/// What the command `fill` was asked for. No two names lead to one file.
+#[derive(Debug, Drop)]
+pub struct FillWords<'a> {
+    /// The file of the rules.
+    pub rules: &'a str,
+    /// The file of the records.
+    pub records: &'a str,
+    /// The file that the filled records go to.
+    pub released: &'a str,
+    /// The most work on one record, from 1 to 1,000,000,000.
+    pub budget: u64,
+}
+
+impl<'a> Model for FillWords<'a> {
+    ghost use Rattle.std.specs.Prelude.{◌≤◌, ◌∷◌, []};
+    ghost use Rattle.foundation.specs.Limits.{most_work};
+    ghost use Rattle.command_words.specs.Asked.{FillAsked};
+    ghost use Rattle.command_words.specs.FileNames.{AreApart};
+
+    ghost Value = { FillAsked };
+
+    ghost view = { λ w. record { rules = w.rules.now; records = w.records.now; released = w.released.now; budget = w.budget } };
+
+    ghost invariant = { λ w. AreApart (w.rules.now ∷ w.records.now ∷ w.released.now ∷ []) × (1 ≤ w.budget) × (w.budget ≤ most_work) };
+}
+
+/// Reads the words after the program's name as the command `fill` with the options `--rules`, `--records` and
+/// `--released`, each with a file's name, and `--budget`, with a number of 1 to 10 digits, which may be left out: it is
+/// 1,000,000 then. The options stand as `clap` takes them, and no two of the three names lead to one file, as far as
+/// the names show it. What is asked for is all that the words can be read as, and there is None exactly where they are
+/// no such command.
+pub fn fill_asked<'a>(
+    alloc: Global,
+    words: &'a [String],
+) -> Result<Option<FillWords<'a>>, OutOfMemory>
+    ensures some { IfOk result (λ asked. IfSome asked (IsFill (map string_bytes words.entry.now))) }
+    ensures only { IfOk result (λ asked. IfSome asked
+        (λ one. (other : FillAsked) → IsFill (map string_bytes words.entry.now) other → other ≡ one)) }
+    ensures none { IfOk result (λ asked. IfNone asked ((one : FillAsked) → ¬ IsFill (map string_bytes words.entry.now) one)) }
+{
+    let Some(others) = words_behind("fill", words) else {
+        return Ok(None);
+    };
+    let Some(found) = found_in(command(alloc)?, others)? else {
+        return Ok(None);
+    };
+    Ok(fill_of(&found))
+}
+
+// The command and its options.
+fn command<'a>(alloc: Global) -> Result<Command<'a>, OutOfMemory>
+    ensures { IfOk result (λ command. app_of command ≡ fill_command) }
+{
+    let command = command_named(alloc, "fill")
+        .arg(required(alloc, "rules"))?
+        .arg(required(alloc, "records"))?
+        .arg(required(alloc, "released"))?
+        .arg(optional(alloc, "budget"))?;
+    Ok(command)
+}
+
+// What is asked for by what was found for the options.
+fn fill_of<'a>(found: &ArgMatches<'a>) -> Option<FillWords<'a>>
+    ensures some { IfSome result (GivesFill (rows_in found.now)) }
+    ensures none { IfNone result ((asked : FillAsked) → ¬ GivesFill (rows_in found.now) asked) }
+{
+    let rules = text_in(found, "rules")?;
+    let records = text_in(found, "records")?;
+    let released = text_in(found, "released")?;
+    let budget = number_in(found, "budget", BUDGET, LEAST_BUDGET, MOST_BUDGET)?;
+    if !are_apart(rules, records, released) {
+        return None;
+    }
+    Some(FillWords {
+        rules,
+        records,
+        released,
+        budget,
+    })
+}
+
+// Whether no two of the names lead to one file.
+fn are_apart(rules: &str, records: &str, released: &str) -> bool
+    ensures { IsTrue result ↔ AreApart (rules.now ∷ records.now ∷ released.now ∷ []) }
+{
+    is_apart_from(rules, &[records, released]) && !lead_to_one(records, released)
+}
