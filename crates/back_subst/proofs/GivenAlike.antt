@@ -10,6 +10,7 @@ use Rattle.edit_model.specs.Trials.{IsCodeValue, IsNumberValue}
 use Rattle.edit_model.specs.declared.field.Field.{Field}
 use Rattle.edit_model.specs.declared.value.Value.{Value}
 use Rattle.edit_model.specs.declared.value.Value.TheVariants.{Bad, Code, Number}
+use Rattle.edit_model.proofs.RowLaws.{row-length}
 use Rattle.edit_line.specs.Lines.{HaveShape, LineParts}
 use Rattle.edit_line.specs.Shapes.{Domain, code_fields, has_field, number_fields, shape_of}
 use Rattle.edit_line.proofs.BoolLaws.{or_true}
@@ -24,7 +25,7 @@ use Rattle.back_subst.specs.inner.UnderWay.{AreComputedBy}
 use Rattle.back_subst.proofs.FieldPoints.{code-at, number-at}
 use Rattle.back_subst.proofs.Rests.{value-other, value-set}
 use Rattle.back_subst.proofs.SameNumbers.{same-number}
-use Rattle.back_subst.proofs.StartLaws.{field-either, past-end, row-size}
+use Rattle.back_subst.proofs.StartLaws.{kind-either, past-end}
 use Rattle.back_subst.proofs.UnderWayLaws.{other-field, own-there, same-but}
 use Rattle.back_subst.proofs.WalkLaws.{IsGiven-rows, SameBut}
 
@@ -41,11 +42,7 @@ value-within row f v some is = by (nat_lt f (length row)) refl
 
 module _ (fields : List Field) (row : List Value) (f : ℕ) (is_row : IsRow fields row) where
   either : f < length row → (has_field (code_fields (shape_of fields)) f || has_field (number_fields (shape_of fields)) f) ≡ true
-  either below =
-      ap (λ n. has_field (code_fields (shape_of fields)) n || has_field (number_fields (shape_of fields)) n) own ∙ field-either 0 f (shape_of fields) (omega (arith, below, row-size fields row is_row))
-    where
-      own : f ≡ 0 + f
-      own = omega arith
+  either below = kind-either fields f (omega (arith, below, row-length fields row is_row))
 
   -- a field that has a number is numerical
   pub has-number : (x : Fraction) → value_of row f ≡ Number x → has_field (number_fields (shape_of fields)) f ≡ true

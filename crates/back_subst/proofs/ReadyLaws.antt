@@ -18,7 +18,7 @@ use Rattle.edit_line.specs.Lines.{AllHold, HaveShape, LineParts}
 use Rattle.edit_line.specs.Reductions.{reduce_derived}
 use Rattle.edit_line.specs.Shapes.{code_fields, domain_of, has_field, number_fields, shape_of}
 use Rattle.edit_line.specs.declared.derived.Derived.{Derived}
-use Rattle.edit_line.proofs.FieldLists.{has-append, has-filter}
+use Rattle.edit_line.proofs.FieldLists.{has-filter}
 use Rattle.edit_line.proofs.ShapeLaws.{same_codes, same_fields}
 use Rattle.linear_elim.specs.Systems.{SystemOverflow, system, system_of}
 use Rattle.linear_elim.proofs.FoldLaws.{start-same}
@@ -34,7 +34,7 @@ use Rattle.edit_paths.specs.declared.state.PathState.TheVariants.{ClosedBad, Ope
 use Rattle.edit_paths.proofs.CaseSystems.{start_over}
 use Rattle.edit_paths.proofs.ChildLaws.{chosen-changed}
 use Rattle.edit_paths.proofs.ChoiceLaws.{word-at}
-use Rattle.edit_paths.proofs.LetterLaws.{code-field, count-kinds, number-field, order-shape}
+use Rattle.edit_paths.proofs.LetterLaws.{code-field, count-kinds, number-field}
 use Rattle.edit_paths.proofs.OpenPaths.{open-point}
 use Rattle.back_subst.specs.Allowed.{AgreesBut, Completes}
 use Rattle.back_subst.specs.Gifts.{CanGive, path_of}
@@ -43,7 +43,7 @@ use Rattle.back_subst.specs.inner.Bounds.{DecideFor}
 use Rattle.back_subst.specs.inner.Systems.{start_lines}
 use Rattle.back_subst.specs.inner.UnderWay.{AreCodesToGive, AreOrders, IsUnderWay}
 use Rattle.back_subst.proofs.CoverCounts.{few-pairs}
-use Rattle.back_subst.proofs.StartLaws.{field-either, order-changed, order-there, start-way}
+use Rattle.back_subst.proofs.StartLaws.{in-order, order-changed, order-there, start-way}
 use Rattle.back_subst.proofs.SystemLines.{system-is}
 use Rattle.back_subst.proofs.WalkLaws.{has-reverse}
 
@@ -65,21 +65,6 @@ module _ (survey : SurveyParts) (edits : EditsParts) (row : List Value) (changed
   shape-length : length (shape_of survey.fields) ≡ length survey.fields
   shape-length = length-map survey.fields (λ (field : Field). domain_of field.kind)
 
-  -- each field is in path order
-  pub in-order : (f : ℕ) → f < length survey.fields → has_field (path_order survey.fields) f ≡ true
-  in-order f below =
-      ap (λ fs. has_field fs f) (order-shape survey.fields) ∙ has-append f (number_fields (shape_of survey.fields)) (code_fields (shape_of survey.fields))
-      ∙ turned (has_field (number_fields (shape_of survey.fields)) f) (has_field (code_fields (shape_of survey.fields)) f)
-      (ap (λ n. has_field (code_fields (shape_of survey.fields)) n || has_field (number_fields (shape_of survey.fields)) n) own ∙ field-either 0 f (shape_of survey.fields) (omega (arith, below, shape-length)))
-    where
-      own : f ≡ 0 + f
-      own = omega arith
-
-      turned : (a b : Bool) → (b || a) ≡ true → (a || b) ≡ true
-      turned true b h = refl
-      turned false true h = refl
-      turned false false h = h
-
   changes-is : (f : ℕ) → has_field (path_order survey.fields) f ≡ true → changes survey.fields path f ≡ has_number changed f
   changes-is f there = word-at (has_number changed) (path_order survey.fields) f false there
 
@@ -91,7 +76,7 @@ module _ (survey : SurveyParts) (edits : EditsParts) (row : List Value) (changed
       agrees f there (keeps-is f there ∙ ap not unchanged)
     where
       there : has_field (path_order survey.fields) f ≡ true
-      there = in-order f (omega (arith, within, row-length survey.fields row can.is_row))
+      there = in-order survey.fields f (omega (arith, within, row-length survey.fields row can.is_row))
 
       unchanged : has_number changed f ≡ false
       unchanged = false_unless (has_number changed f) (λ e. absurd (cc (sym absent ∙ order-there survey changed f (omega (arith, within, row-length survey.fields row can.is_row, shape-length)) e)))

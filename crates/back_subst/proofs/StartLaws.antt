@@ -1,7 +1,7 @@
 use Rattle.std.proofs.Common.{◌≡◌, ℕ, zero, suc, ◌+◌, ◌<◌, ◌==◌, ◌||◌, ◌++◌, Bool, true, false, if◌then◌else◌, List, [], ◌∷◌, length, reverse, refl, sym, ap, ◌∙◌, subst, arith}
 use Rattle.std.specs.List.{filter}
 use Rattle.std.proofs.lemmas.Bool.Decides.{Decides-eqb}
-use Rattle.std.proofs.lemmas.List.{reverse-append}
+use Rattle.std.proofs.lemmas.List.{length-map, reverse-append}
 use Rattle.edit_model.proofs.NameLemmas.{false_unless}
 use Rattle.edit_model.specs.Corrections as corrections
 use Rattle.edit_model.specs.FieldSets.{has_number}
@@ -13,9 +13,10 @@ use Rattle.edit_model.specs.declared.value.Value.{Value}
 use Rattle.edit_model.specs.declared.value.Value.TheVariants.{Bad}
 use Rattle.edit_line.proofs.BoolLaws.{or_true}
 use Rattle.edit_line.specs.Lines.{LineParts}
-use Rattle.edit_line.specs.Shapes.{Categorical, Domain, Numerical, code_fields, codes_from, has_field, number_fields, numbers_from, shape_of}
+use Rattle.edit_line.specs.Shapes.{Categorical, Domain, Numerical, code_fields, codes_from, domain_of, has_field, number_fields, numbers_from, shape_of}
 use Rattle.edit_line.proofs.ShapeLaws.{same_codes, same_fields}
 use Rattle.edit_line.proofs.FieldLists.{has-append}
+use Rattle.edit_paths.proofs.LetterLaws.{order-shape}
 use Rattle.back_subst.specs.Allowed.{Completes}
 use Rattle.back_subst.specs.Given.{giving_order}
 use Rattle.back_subst.specs.inner.Bounds.{DecideFor}
@@ -76,6 +77,26 @@ field-either i (suc f) (Categorical k ∷ shape) below = later (i == (i + suc f)
 
     moved : (i f : ℕ) (shape : List Domain) → (has_field (codes_from (suc i) shape) (suc i + f) || has_field (numbers_from (suc i) shape) (suc i + f)) ≡ true → (has_field (codes_from (suc i) shape) (i + suc f) || has_field (numbers_from (suc i) shape) (i + suc f)) ≡ true
     moved i f shape h = let same : i + suc f ≡ suc i + f = omega arith in ap (λ n. has_field (codes_from (suc i) shape) n || has_field (numbers_from (suc i) shape) n) same ∙ h
+
+-- each field has one of the two kinds
+pub kind-either : (fields : List Field) (f : ℕ) → f < length fields → (has_field (code_fields (shape_of fields)) f || has_field (number_fields (shape_of fields)) f) ≡ true
+kind-either fields f below =
+    ap (λ n. has_field (code_fields (shape_of fields)) n || has_field (number_fields (shape_of fields)) n) own
+    ∙ field-either 0 f (shape_of fields) (omega (arith, below, length-map fields (λ (field : Field). domain_of field.kind)))
+  where
+    own : f ≡ 0 + f
+    own = omega arith
+
+-- each field is in path order
+pub in-order : (fields : List Field) (f : ℕ) → f < length fields → has_field (corrections.path_order fields) f ≡ true
+in-order fields f below =
+    ap (λ fs. has_field fs f) (order-shape fields) ∙ has-append f (number_fields (shape_of fields)) (code_fields (shape_of fields))
+    ∙ turned (has_field (number_fields (shape_of fields)) f) (has_field (code_fields (shape_of fields)) f) (kind-either fields f below)
+  where
+    turned : (a b : Bool) → (b || a) ≡ true → (a || b) ≡ true
+    turned true b h = refl
+    turned false true h = refl
+    turned false false h = h
 
 -- ---- the start
 

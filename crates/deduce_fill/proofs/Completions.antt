@@ -21,7 +21,7 @@ use Rattle.prefix_walk.proofs.WalkEnds.{closed-at, open-at}
 use Rattle.deduce_fill.specs.Forced.{IsCompletion}
 use Rattle.deduce_fill.specs.Laws.{IsRuleCase}
 use Rattle.deduce_fill.specs.Tests.{own_path, with_line}
-use Rattle.deduce_fill.proofs.OwnPaths.{in-order, own-keeps, own-length, value-within}
+use Rattle.deduce_fill.proofs.OwnPaths.{own-keeps, own-length, value-within}
 
 -- Walks along the record's path, and the completions of the record.
 
@@ -49,7 +49,7 @@ module _ (survey : SurveyParts) (edits : EditsParts) (row : List Value) (is : Is
   agrees-completion p meets agrees = record {
     consistent = (is.rules p).0 (meets.codes, meets.edits);
     agrees = λ f within known.
-        let there = in-order survey.fields row f (omega (arith, within, row-length survey.fields row is.case.row)) in
+        let there = in-order survey.fields f (omega (arith, within, row-length survey.fields row is.case.row)) in
         agrees f there (own-keeps survey.fields row f there ∙ ap not known);
   }
 

@@ -10,12 +10,11 @@ use Rattle.edit_model.specs.declared.value.Value.TheVariants.{Bad, Code, Number}
 use Rattle.edit_model.proofs.OrderLaws.{order-length}
 use Rattle.edit_line.specs.Reductions.{IsIn}
 use Rattle.edit_line.specs.Shapes.{code_fields, domain_of, number_fields, place_in, shape_of}
-use Rattle.edit_line.proofs.FieldLists.{has-append, has-there, there-has}
+use Rattle.edit_line.proofs.FieldLists.{has-there, there-has}
 use Rattle.edit_line.proofs.Members.{in-any, in-filter, in-filter-out}
 use Rattle.edit_line.proofs.SetLaws.{both_true}
 use Rattle.bound_cert.specs.Paths.{keeps, keeps_bad}
-use Rattle.edit_paths.proofs.LetterLaws.{order-shape}
-use Rattle.back_subst.proofs.StartLaws.{field-either}
+use Rattle.back_subst.proofs.StartLaws.{in-order}
 use Rattle.deduce_fill.specs.Tests.{bad_fields, own_path}
 
 -- The path of a record, which changes just the fields without a value.
@@ -55,25 +54,9 @@ module _ (fields : List Field) (row : List Value) where
       let (kept, bad) = both_true (keeps fields (own_path fields row) f) (is_bad (value_of row f)) both in
       cc (sym kept ∙ own-keeps f (there-has f (path_order fields) there) ∙ ap not bad)
 
-  -- each field is in path order
-  pub in-order : (f : ℕ) → f < length fields → has_field (path_order fields) f ≡ true
-  in-order f below =
-      ap (λ fs. has_field fs f) (order-shape fields) ∙ has-append f (number_fields (shape_of fields)) (code_fields (shape_of fields))
-      ∙ turned (has_field (number_fields (shape_of fields)) f) (has_field (code_fields (shape_of fields)) f)
-      (ap (λ n. has_field (code_fields (shape_of fields)) n || has_field (number_fields (shape_of fields)) n) own
-      ∙ field-either 0 f (shape_of fields) (omega (arith, below, length-map fields (λ (field : Field). domain_of field.kind))))
-    where
-      own : f ≡ 0 + f
-      own = omega arith
-
-      turned : (a b : Bool) → (b || a) ≡ true → (a || b) ≡ true
-      turned true b h = refl
-      turned false true h = refl
-      turned false false h = absurd (cc)
-
   -- the fields without a value
   pub bad-in : (f : ℕ) → f < length fields → value_of row f ≡ Bad → IsIn f (bad_fields fields row)
-  bad-in f below bad = in-filter (λ f. is_bad (value_of row f)) f (path_order fields) (ap is_bad bad) (has-there f (path_order fields) (in-order f below))
+  bad-in f below bad = in-filter (λ f. is_bad (value_of row f)) f (path_order fields) (ap is_bad bad) (has-there f (path_order fields) (in-order fields f below))
 
   pub bad-out : (f : ℕ) → IsIn f (bad_fields fields row) → (has_field (path_order fields) f ≡ true) × (is_bad (value_of row f) ≡ true)
   bad-out f there =

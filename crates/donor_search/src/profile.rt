@@ -154,7 +154,8 @@ impl Model for Profile {
 
     ghost view = { λ p. take p.count p.places };
 
-    ghost invariant = { λ p. (p.count ≤ most_fields) × All (λ (w : weighed.Weighed). w.weight ≤ most_weight) (take p.count p.places) };
+    ghost invariant = { λ p. (p.count ≤ most_fields)
+        × All (λ (w : weighed.Weighed). w.weight ≤ most_weight) (take p.count p.places) };
 }
 
 impl Profile {

@@ -24,8 +24,10 @@ pub(crate) fn ranges_of(
     donors: usize,
 ) -> Result<Vec<MarkRange>, OutOfMemory>
     requires { donors * count ≤ length marks.now }
-    ensures size { IfOk result (λ ranges. (block : ℕ) → block * block_size + block_size ≤ donors → block * count + count ≤ length ranges.items) }
-    ensures within { IfOk result (λ ranges. (block j field : ℕ) → block * block_size + block_size ≤ donors → j < block_size → field < count
+    ensures size { IfOk result (λ ranges. (block : ℕ) → block * block_size + block_size ≤ donors
+        → block * count + count ≤ length ranges.items) }
+    ensures within { IfOk result (λ ranges. (block j field : ℕ)
+        → block * block_size + block_size ≤ donors → j < block_size → field < count
         → IsWithin (range_at ranges.items (block * count + field)) (mark_at marks.now count (block * block_size + j) field)) }
 {
     let mut ranges = Vec::new(alloc);

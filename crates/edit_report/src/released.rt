@@ -166,7 +166,8 @@ fn push_text(
 ) -> Result<(), OutOfMemory>
     requires new { IsRow survey.now.fields new.now }
     requires field { field < length survey.now.fields }
-    ensures { OnOk result (texts.new ≡ texts.old ++ column_text survey.now.fields (has_number changed) new.now (Some field) read.now ∷ []) }
+    ensures { OnOk result (texts.new
+        ≡ texts.old ++ column_text survey.now.fields (has_number changed) new.now (Some field) read.now ∷ []) }
 {
     let _fields = survey.fields(); // read for what it says: there are at most 64
     let field = field as u32;

@@ -45,7 +45,8 @@ pub fn write_term(
 /// Appends the constant of a sum: with its sign where it stands alone, and else behind the terms, where it is
 /// not 0. Where memory is refused, the text is as before.
 pub fn write_constant(text: &mut Vec<u8>, alone: bool, constant: i128) -> Result<(), OutOfMemory>
-    ensures written { OnOk result (text.new.items ≡ text.old.items ++ (if alone then signed_decimal constant else later_constant_text constant)) }
+    ensures written { OnOk result (text.new.items
+        ≡ text.old.items ++ (if alone then signed_decimal constant else later_constant_text constant)) }
     ensures refused { OnErr result (text.new.items ≡ text.old.items) }
 {
     if alone {

@@ -17,5 +17,6 @@ TellsStop state work None = has_basis state ≡ true
 -- the walk ends at a path of this state, to which the lists lead; if it does not, the path is open
 abbrev pub TellsClosed : PathState → List Level → ℕ → Option WalkEnd → Type 0
 TellsClosed state levels work (Some end) =
-    (c : SearchCase) (path : List Bool) (next : WalkEnd) → state_of c path ≡ state → HasLists c path levels → ended_by c path work next state ≡ end
+    (c : SearchCase) (path : List Bool) (next : WalkEnd)
+    → state_of c path ≡ state → HasLists c path levels → ended_by c path work next state ≡ end
 TellsClosed state levels work None = state ≡ Open
