@@ -6,7 +6,8 @@ ghost use Rattle.command_words.specs.inner.Found.{rows_in};
 
 use crate::file_names::{is_apart_from, lead_to_one};
 use crate::options::{
-    BUDGET, LEAST_BUDGET, MOST_BUDGET, command_named, found_in, number_in, optional, required, text_in, words_behind,
+    BUDGET, LEAST_BUDGET, MOST_BUDGET, command_named, found_in, number_in, optional, required,
+    text_in, words_behind,
 };
 use clap::{ArgMatches, Command};
 use foundation::OutOfMemory;
