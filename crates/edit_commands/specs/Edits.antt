@@ -29,7 +29,3 @@ pub record IsEditWith (survey : SurveyParts) (sheet : SheetParts) (terms : Terms
 -- the terms that an edit is asked for
 abbrev pub terms_asked : EditAsked → Terms
 terms_asked asked = record { budget = asked.budget; limit = asked.limit; near = asked.near }
-
--- the statuses of an edit that did all of this
-abbrev pub HasReleased : Status → Type 0
-HasReleased answer = (answer ≡ Done) ⊎ (answer ≡ SomeUnresolved)

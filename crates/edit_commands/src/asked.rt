@@ -3,7 +3,8 @@ ghost use Rattle.std.specs.Prelude.{IfOk};
 ghost use Rattle.edit_commands.specs.inner.Asks.{Asks};
 
 use command_words::{
-    CheckWords, EditWords, MakeWords, RulesWords, check_asked, edit_asked, make_asked, rules_asked,
+    CheckWords, EditWords, FillWords, MakeWords, RulesWords, check_asked, edit_asked, fill_asked,
+    make_asked, rules_asked,
 };
 use foundation::OutOfMemory;
 use std::alloc::Global;
@@ -14,6 +15,7 @@ pub(crate) enum Asked<'a> {
     Edit(EditWords<'a>),
     Check(CheckWords<'a>),
     Rules(RulesWords<'a>),
+    Fill(FillWords<'a>),
     Make(MakeWords<'a>),
     Nothing,
 }
@@ -34,6 +36,11 @@ pub(crate) fn read_words<'a>(alloc: Global, words: &'a [String]) -> Result<Asked
     }
     match rules_asked(alloc, words) {
         Ok(Some(rules)) => return Ok(Asked::Rules(rules)),
+        Ok(None) => {}
+        Err(OutOfMemory) => return Err(OutOfMemory),
+    }
+    match fill_asked(alloc, words) {
+        Ok(Some(fill)) => return Ok(Asked::Fill(fill)),
         Ok(None) => {}
         Err(OutOfMemory) => return Err(OutOfMemory),
     }

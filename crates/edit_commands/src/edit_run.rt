@@ -3,12 +3,14 @@ ghost use Rattle.std.specs.Prelude.{◌≡◌, ◌≢◌, ℕ, List, IfErr, IfOk
 ghost use Rattle.std.specs.List.{AllByRecursion};
 ghost use Rattle.edit_desk.specs.Desk.{PutsOnRecord, Told};
 ghost use Rattle.edit_model.specs.PlainNumbers.{HasPlain};
-ghost use Rattle.edit_commands.specs.EditRun.{IsEditComplete, IsEditStopped, IsEdited, edit_calls};
-ghost use Rattle.edit_commands.specs.Edits.{HasReleased, terms_asked};
+ghost use Rattle.edit_commands.specs.EditRun.{IsEditComplete, IsEditStopped, IsEdited, edit_calls, edit_command};
+ghost use Rattle.edit_commands.specs.Edits.{terms_asked};
+ghost use Rattle.run_parts.specs.CommandParts.{CommandEnds, end_of};
+ghost use Rattle.run_parts.specs.Commands.{HasReleased};
 ghost use Rattle.run_parts.specs.Faults.{IsOfEdit, IsOfStores};
 ghost use Rattle.run_parts.specs.Readings.{AnswersDue, IsDue, Refuses};
 ghost use Rattle.run_parts.specs.Run.{ran};
-ghost use Rattle.edit_commands.specs.inner.EditParts.{EditEnds, edit_end, edit_status, release_files};
+ghost use Rattle.edit_commands.specs.inner.EditParts.{edit_status, release_files, release_made};
 ghost use Rattle.run_parts.specs.Parts.{AreCallsOf, StoresOf, faults_after, store_calls};
 ghost use Rattle.edit_release.specs.Releases.{IsReleaseOf};
 ghost use Rattle.record_text.specs.Sheets.{IsSheet};
@@ -23,7 +25,7 @@ use foundation::OutOfMemory;
 use record_editing::Terms;
 use record_text::Sheet;
 use record_workers::Gate;
-use run_parts::{Refusal, Status, fetch_sheet, fetch_survey, refuse, store_file, tell_all};
+use run_parts::{Refusal, Status, fetch_input, refuse, store_file, tell_all};
 use std::alloc::Global;
 use std::sync::Wait;
 use std::thread::Threads;
@@ -70,13 +72,12 @@ fn edit<'a, R: Threads + Wait + Sync, D: Desk, G: Gate>(
 ) -> Result<Release, Refusal<'a>>
     ensures kind { IfErr result IsOfEdit }
     ensures cause { IfErr result (λ fault. Refuses asked.now (D.files desk.old) fault) }
-    ensures due { IfSome (D.files desk.old) (λ files. AnswersDue (IsDue asked.now files) (edit_end result)) }
-    ensures files { Told (D.files desk.old) (D.files desk.new) (EditEnds asked.now result) }
+    ensures due { IfSome (D.files desk.old) (λ files. AnswersDue (IsDue asked.now files) (end_of (release_made asked.now) result)) }
+    ensures files { Told (D.files desk.old) (D.files desk.new) (CommandEnds (edit_command asked.now) (release_made asked.now) result) }
     ensures asked { PutsOnRecord (D.calls desk.old) (D.calls desk.new) (AreCallsOf (edit_calls asked.now) result) }
     ensures faults { D.faults desk.new ≡ faults_after result (D.faults desk.old) }
 {
-    let survey = fetch_survey(alloc, asked.rules, desk)?;
-    let sheet = fetch_sheet(alloc, asked.records, &survey, desk)?;
+    let (survey, sheet) = fetch_input(alloc, asked.rules, asked.records, desk)?;
     let Ok(release) = release_of(rt, alloc, survey, sheet, asked, gate) else {
         return Err(Refusal::out_of_memory());
     };

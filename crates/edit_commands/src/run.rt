@@ -1,9 +1,10 @@
 ghost use Rattle.std.specs.Prelude.{◌≡◌, ◌≢◌, IfSome};
-ghost use Rattle.command_words.specs.Asked.{ForCheck, ForEdit, ForMake, ForRules, IsNoCommand};
+ghost use Rattle.command_words.specs.Asked.{ForCheck, ForEdit, ForFill, ForMake, ForRules, IsNoCommand};
 ghost use Rattle.edit_commands.specs.CheckRun.{IsCheckComplete, IsCheckStopped, IsChecked};
 ghost use Rattle.edit_commands.specs.EditRun.{IsEditComplete, IsEditStopped, IsEdited};
-ghost use Rattle.edit_commands.specs.Edits.{HasReleased};
+ghost use Rattle.fill_command.specs.FillRun.{IsFillComplete, IsFillDue, IsFillRun, IsFillStopped};
 ghost use Rattle.edit_commands.specs.MakeRun.{IsMakeComplete, IsMakeStopped, IsSurveyMade};
+ghost use Rattle.run_parts.specs.Commands.{HasReleased};
 ghost use Rattle.run_parts.specs.Readings.{AnswersDue, IsCheckDue, IsDue, IsRulesDue};
 ghost use Rattle.edit_commands.specs.RulesRun.{IsRuled, IsRulesComplete, IsRulesStopped};
 ghost use Rattle.run_parts.specs.Run.{IsRefused, ran, word_refusals};
@@ -14,6 +15,7 @@ use crate::edit_run::run_edit;
 use crate::make_run::run_make;
 use crate::rules_run::run_rules;
 use edit_desk::{Desk, Printer};
+use fill_command::run_fill;
 use foundation::OutOfMemory;
 use record_workers::Gate;
 use run_parts::{OUT_OF_MEMORY, Status, USAGE, refuse};
@@ -26,8 +28,10 @@ use std::thread::Threads;
 /// prints a summary; as many workers as the words ask for draw the records side by side, and the gate is told of each
 /// draw. `check` fetches and reads the rules, then the records, fetches the released file, then the proof, and prints
 /// whether they are a valid release. `rules` fetches and reads the rules, and prints what becomes of each of their
-/// lines. `make` stores the rules of a survey that is made up, then records of it, and prints how many there are. The
-/// first refusal in this order ends the call, and is printed.
+/// lines. `fill` fetches and reads the rules, then the records, gives each field without a value the value that the
+/// rules force, stores the released file, and prints how many fields were filled. `make` stores the rules of a survey
+/// that is made up, then records of it, and prints how many there are. The first refusal in this order ends the call,
+/// and is printed.
 pub fn fh_main<R: Threads + Wait + Sync, D: Desk, P: Printer, G: Gate>(
     rt: &R,
     alloc: Global,
@@ -81,6 +85,19 @@ pub fn fh_main<R: Threads + Wait + Sync, D: Desk, P: Printer, G: Gate>(
     // Rules that are too long or have no reading are told exactly where they are so.
     ensures rules_due { ForRules words.now (λ ask. IfSome (D.files desk.old) (λ files. AnswersDue (IsRulesDue ask files) result)) }
 
+    // Missing values that the rules force: what stands in the released file, and what was printed, where `fill` ends with 0 or 1.
+    ensures filled { HasReleased result → ForFill words.now (λ ask. IsFillRun ask result (ran D.Desk P.Printer desk printer)) }
+
+    // Where it ends otherwise: the fault that ended it, where it ended, what is left and what was printed.
+    ensures fill_stopped { ¬ HasReleased result → ForFill words.now
+        (λ ask. IsFillStopped ask result (ran D.Desk P.Printer desk printer)) }
+
+    // Where both files have readings and no fault is met, the records are filled, but for want of memory.
+    ensures fill_complete { ForFill words.now (λ ask. IsFillComplete ask result (ran D.Desk P.Printer desk printer)) }
+
+    // A file that is too long or has no reading is told exactly where it is so.
+    ensures fill_due { ForFill words.now (λ ask. IfSome (D.files desk.old) (λ files. AnswersDue (IsFillDue ask files) result)) }
+
     // A survey that is made: what stands in the two files, and what was printed, where `make` ends with 0.
     ensures made { result ≡ Status.Done → ForMake words.now (λ ask. IsSurveyMade ask (ran D.Desk P.Printer desk printer)) }
 
@@ -95,6 +112,7 @@ pub fn fh_main<R: Threads + Wait + Sync, D: Desk, P: Printer, G: Gate>(
         Ok(Asked::Edit(edit)) => run_edit(rt, alloc, &edit, desk, printer, gate),
         Ok(Asked::Check(check)) => run_check(alloc, &check, desk, printer),
         Ok(Asked::Rules(rules)) => run_rules(alloc, &rules, desk, printer),
+        Ok(Asked::Fill(fill)) => run_fill(alloc, &fill, desk, printer),
         Ok(Asked::Make(make)) => run_make(alloc, &make, desk, printer),
         Ok(Asked::Nothing) => refuse(printer, USAGE, Status::Usage),
         Err(OutOfMemory) => refuse(printer, OUT_OF_MEMORY, Status::OutOfMemory),

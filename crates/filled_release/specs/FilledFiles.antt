@@ -1,6 +1,7 @@
 -- The file of filled records, and the line that tells of it.
 use Rattle.std.specs.Prelude.{◌≡◌, ◌==◌, ℕ, Bool, true, false, not, List, [], ◌∷◌, ◌++◌, codes, decimal, length}
 use Rattle.std.specs.List.{AllZip, filter, list_any, sum_by}
+use Rattle.edit_line.specs.EditSets.{lines_without}
 use Rattle.edit_model.specs.Parts.{SurveyParts}
 use Rattle.edit_model.specs.declared.field.Field.{Field}
 use Rattle.edit_model.specs.declared.value.Value.{Value}
@@ -9,7 +10,7 @@ use Rattle.record_text.specs.Sheets.{SheetParts}
 use Rattle.record_text.specs.Texts.{records_text}
 use Rattle.edit_report.specs.Released.{texts_from}
 use Rattle.deduce_fill.specs.Filled.{IsFilled}
-use Rattle.deduce_fill.specs.Laws.{FillsForced, HasNoCompletion}
+use Rattle.deduce_fill.specs.Laws.{FillsForced, HasNoCompletion, IsShown}
 use Rattle.deduce_fill.specs.declared.filled.Filled.{Filled}
 use Rattle.deduce_fill.specs.declared.filled.Filled.TheVariants.{Blocked, Budget, Done, Overflow}
 use Rattle.deduce_fill.specs.declared.filled.Forced.{Forced}
@@ -18,11 +19,12 @@ use Rattle.filled_release.specs.declared.filled_file.FilledFile.{FilledFile}
 -- ---- the answers
 
 -- what filling makes of a record by all rules of the survey and within this budget: it fills just the values that the rules
--- force, and blocks only a record that has no completion
+-- force, blocks only a record that has no completion, and its steps show both
 pub record IsAnswerFor (survey : SurveyParts) (budget : ℕ) (row : List Value) (answer : Filled) : Type 0 where
   pub exact : IsFilled survey (rule_edits survey) row budget answer
   pub forced : FillsForced survey row answer
   pub blocked : HasNoCompletion survey row answer
+  pub shown : IsShown survey (lines_without (rule_edits survey).lines) row answer
 
 -- ---- the released file
 

@@ -1,4 +1,5 @@
 pub mod CallLaws
+pub mod CommandLaws
 pub mod FaultlessLaws
 pub mod FieldFaults
 pub mod HeldLaws

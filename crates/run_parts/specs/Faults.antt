@@ -46,7 +46,14 @@ fault_text (TooLong name) = codes "fault: too long " ++ name
 fault_text (Rejected line why) = codes "fault: proof line " ++ (decimal line ++ (codes " " ++ why_text why))
 fault_text OutOfMemory = codes "fault: out of memory"
 
--- a fault that an edit may be refused for
+-- a fault that the rules and the records may be refused for, as they are fetched and read
+abbrev pub IsOfInput : Fault → Type 0
+IsOfInput Usage = ⊥
+IsOfInput (Rejected line why) = ⊥
+IsOfInput (Write name) = ⊥
+IsOfInput fault = ⊤
+
+-- a fault that a command may be refused for that reads rules and records and stores files
 abbrev pub IsOfEdit : Fault → Type 0
 IsOfEdit Usage = ⊥
 IsOfEdit (Rejected line why) = ⊥

@@ -1,3 +1,5 @@
+pub mod CommandParts
+pub mod Commands
 pub mod Faults
 pub mod Limits
 pub mod Parts

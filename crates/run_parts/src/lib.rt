@@ -4,6 +4,7 @@
 #![tactic(auto)]
 
 mod fault;
+mod input;
 mod reading;
 mod refusal;
 mod status;
@@ -11,6 +12,7 @@ mod storing;
 mod telling;
 
 pub use fault::{Fault, FileName, OUT_OF_MEMORY, RecordsFault, USAGE};
+pub use input::fetch_input;
 pub use reading::{MOST_BYTES, MOST_PROOF_BYTES, fetch_file, fetch_sheet, fetch_survey};
 pub use refusal::Refusal;
 pub use status::Status;

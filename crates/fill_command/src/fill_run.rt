@@ -1,0 +1,67 @@
+//! A run of `fill`.
+ghost use Rattle.std.specs.Prelude.{◌≡◌, ◌≢◌, if◌then◌else◌, IfErr, IfSome};
+ghost use Rattle.edit_desk.specs.Desk.{PutsOnRecord, Told};
+ghost use Rattle.fill_command.specs.FillRun.{IsFillComplete, IsFillDue, IsFillRun, IsFillStopped, fill_calls, fill_command, made_of};
+ghost use Rattle.run_parts.specs.CommandParts.{CommandEnds, end_of};
+ghost use Rattle.run_parts.specs.Commands.{HasReleased};
+ghost use Rattle.run_parts.specs.Faults.{IsOfEdit};
+ghost use Rattle.run_parts.specs.Parts.{AreCallsOf, faults_after};
+ghost use Rattle.run_parts.specs.Readings.{AnswersDue, RefusesInput};
+ghost use Rattle.run_parts.specs.Run.{ran};
+
+use command_words::FillWords;
+use edit_desk::{Desk, Printer};
+use filled_release::{FilledFile, fill_sheet};
+use run_parts::{Refusal, Status, fetch_input, refuse, store_file, tell};
+use std::alloc::Global;
+
+/// Fills the records that the words name, and prints how many fields were filled, or why the run is refused.
+pub fn run_fill<D: Desk, P: Printer>(
+    alloc: Global,
+    asked: &FillWords,
+    desk: &mut D,
+    printer: &mut P,
+) -> Status
+    ensures command { result ≢ Status.Usage }
+    ensures filled { HasReleased result → IsFillRun asked.now result (ran D.Desk P.Printer desk printer) }
+    ensures stopped { ¬ HasReleased result → IsFillStopped asked.now result (ran D.Desk P.Printer desk printer) }
+    ensures complete { IsFillComplete asked.now result (ran D.Desk P.Printer desk printer) }
+    ensures due { IfSome (D.files desk.old) (λ files. AnswersDue (IsFillDue asked.now files) result) }
+{
+    match fill(alloc, asked, desk) {
+        Ok(file) => tell(printer, &file.summary, status_of(&file)),
+        Err(refusal) => refuse(printer, refusal.line(), refusal.status()),
+    }
+}
+
+// How a run ends that did all on the desk.
+fn status_of(file: &FilledFile) -> Status
+    ensures { result ≡ (if file.now.whole then Status.Done else Status.SomeUnresolved) }
+{
+    if file.whole {
+        Status::Done
+    } else {
+        Status::SomeUnresolved
+    }
+}
+
+// Does on the desk all that the command does there, up to the first fault.
+fn fill<'a, D: Desk>(
+    alloc: Global,
+    asked: &FillWords<'a>,
+    desk: &mut D,
+) -> Result<FilledFile, Refusal<'a>>
+    ensures kind { IfErr result IsOfEdit }
+    ensures cause { IfErr result (λ fault. RefusesInput asked.now.rules asked.now.records (D.files desk.old) fault) }
+    ensures due { IfSome (D.files desk.old) (λ files. AnswersDue (IsFillDue asked.now files) (end_of (made_of asked.now) result)) }
+    ensures files { Told (D.files desk.old) (D.files desk.new) (CommandEnds (fill_command asked.now) (made_of asked.now) result) }
+    ensures asked { PutsOnRecord (D.calls desk.old) (D.calls desk.new) (AreCallsOf (fill_calls asked.now) result) }
+    ensures faults { D.faults desk.new ≡ faults_after result (D.faults desk.old) }
+{
+    let (survey, sheet) = fetch_input(alloc, asked.rules, asked.records, desk)?;
+    let Ok(file) = fill_sheet(alloc, &survey, &sheet, asked.budget) else {
+        return Err(Refusal::out_of_memory());
+    };
+    store_file(alloc, asked.released, &file.released, desk)?;
+    Ok(file)
+}
