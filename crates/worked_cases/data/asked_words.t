@@ -317,6 +317,73 @@ The command of the rules takes one.
   $ words rules
   nothing
 
+The command that fills records takes three, and a budget.
+
+  $ words fill --rules r --records c --released d
+  fill r c d 1000000
+  $ words fill --released d --budget 7 --records c --rules r
+  fill r c d 7
+  $ words fill --rules r --records c --released d --budget 1
+  fill r c d 1
+  $ words fill --rules r --records c --released d --budget=1000000000 --
+  fill r c d 1000000000
+  $ words fill --rules r --records c --released d --budget 0000000001
+  fill r c d 1
+  $ words fill --rules r --records c --released d --budget 0
+  nothing
+  $ words fill --rules r --records c --released d --budget 1000000001
+  nothing
+  $ words fill --rules r --records c --released d --budget 01000000000
+  nothing
+  $ words fill --rules r --records c --released d --budget 4294967297
+  nothing
+  $ words fill --rules r --records c --released d --budget=+5
+  nothing
+  $ words fill --rules r --records c --released d --budget ''
+  nothing
+  $ words fill --rules r --records c --released d --budget
+  nothing
+  $ words fill --rules r --records c --released d --budget 5 --budget=5
+  nothing
+  $ words fill --rules fill --records= --released=-d
+  fill fill  -d 1000000
+  $ words fill --records c --released d
+  nothing
+  $ words fill --rules r --released d
+  nothing
+  $ words fill --rules r --records c
+  nothing
+  $ words fill --rules r --records c --released c
+  nothing
+  $ words fill --rules r --records c --released r
+  nothing
+  $ words fill --rules a/r --records c --released ./a//r
+  nothing
+  $ words fill --rules r --records c --released /c
+  fill r c /c 1000000
+  $ words fill --rules r --records c --released d --released d
+  nothing
+  $ words fill --rules r --records c --released d --workers 2
+  nothing
+  $ words fill --rules r --records c --released d --near 5
+  nothing
+  $ words fill --rules r --records c --released d --limit 1
+  nothing
+  $ words fill --rules r --records c --released d --reasons w
+  nothing
+  $ words fill --rules r --records c --released d --proof p
+  nothing
+  $ words fill --rules r --records c --released d e
+  nothing
+  $ words fill --rules r --records c --released d --help
+  nothing
+  $ words fill
+  nothing
+  $ words Fill --rules r --records c --released d
+  nothing
+  $ words fill fill --rules r --records c --released d
+  nothing
+
 Help and the version are no commands.
 
   $ words rules --rules r --help

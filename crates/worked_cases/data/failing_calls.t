@@ -428,6 +428,107 @@ A check of which a call fails fetches no more, and changes nothing.
   released
   rules
 
+A filling of which the first or the second call fails has nothing to read, and stores nothing.
+
+  $ cat >holes <<EOF
+  > Turnover,Costs,Profit
+  > 100,,40
+  > EOF
+  $ fail call 1 keep 0
+  $ forxainde fill --rules rules --records holes --released filled
+  fault: read rules
+  [5]
+  $ calls
+  fetch rules failed
+  $ fail call 1 keep 3
+  $ forxainde fill --rules rules --records holes --released filled
+  fault: read rules
+  [5]
+  $ fail call 1 keep 1000
+  $ forxainde fill --rules rules --records holes --released filled
+  fault: read rules
+  [5]
+  $ fail call 2 keep 0
+  $ forxainde fill --rules rules --records holes --released filled
+  fault: read holes
+  [5]
+  $ calls
+  fetch rules
+  fetch holes failed
+  $ fail call 2 keep 3
+  $ forxainde fill --rules rules --records holes --released filled
+  fault: read holes
+  [5]
+  $ fail call 2 keep 1000
+  $ forxainde fill --rules rules --records holes --released filled
+  fault: read holes
+  [5]
+  $ ls
+  holes
+  proof
+  reasons
+  records
+  released
+  rules
+
+Its third call stores the released file. There is no fourth.
+
+  $ fail call 3 keep 0
+  $ forxainde fill --rules rules --records holes --released filled
+  fault: write filled
+  [6]
+  $ calls
+  fetch rules
+  fetch holes
+  store filled failed
+  $ cat filled
+  $ rm filled
+  $ fail call 3 keep 3
+  $ forxainde fill --rules rules --records holes --released filled
+  fault: write filled
+  [6]
+  $ cat filled
+  Tur (no-eol)
+  $ rm filled
+  $ fail call 3 keep 1000
+  $ forxainde fill --rules rules --records holes --released filled
+  fault: write filled
+  [6]
+  $ cat filled
+  Turnover,Costs,Profit
+  100,60,40
+  $ rm filled
+  $ fail call 4 keep 0
+  $ forxainde fill --rules rules --records holes --released filled
+  records 1 filled 1 blocked 0 stopped 0
+  $ calls
+  fetch rules
+  fetch holes
+  store filled
+  $ cat filled
+  Turnover,Costs,Profit
+  100,60,40
+
+What stood under its name before is as it was, or gives way to the first bytes of the new file. Of two calls that fail the first ends it.
+
+  $ cat >filled <<EOF
+  > an older file
+  > EOF
+  $ fail call 2 keep 3
+  $ fail call 3 keep 3
+  $ forxainde fill --rules rules --records holes --released filled
+  fault: read holes
+  [5]
+  $ cat filled
+  an older file
+  $ fail call 3 keep 3
+  $ forxainde fill --rules rules --records holes --released filled
+  fault: write filled
+  [6]
+  $ cat filled
+  Tur (no-eol)
+  $ rm holes filled
+
 The command of the rules makes one call.
 
   $ fail call 1 keep 0
@@ -475,6 +576,12 @@ A file that is not there is a fault too.
   > EOF
   $ rm records
   $ forxainde edit --rules rules --records records --released released --reasons reasons --proof proof
+  fault: read records
+  [5]
+  $ calls
+  fetch rules
+  fetch records failed
+  $ forxainde fill --rules rules --records records --released released
   fault: read records
   [5]
   $ calls

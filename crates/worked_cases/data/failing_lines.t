@@ -103,6 +103,33 @@ The one line of a check.
   $ forxainde check --rules rules --records records --released released --proof proof
   valid records 1 released 1
 
+The one line of a filling. The released file is whole, and the status is 6 and not 1 where a record is stopped too.
+
+  $ cat >holes <<EOF
+  > Turnover,Costs,Profit
+  > 100,,40
+  > EOF
+  $ fail line 1
+  $ forxainde fill --rules rules --records holes --released filled
+  [6]
+  $ cat filled
+  Turnover,Costs,Profit
+  100,60,40
+  $ fail line 1
+  $ forxainde fill --rules rules --records holes --released filled --budget 1
+  [6]
+  $ cat filled
+  Turnover,Costs,Profit
+  100,,40
+  $ fail line 2
+  $ forxainde fill --rules rules --records holes --released filled --budget 1
+  records 1 filled 0 blocked 0 stopped 1
+  [1]
+  $ fail line 2
+  $ forxainde fill --rules rules --records holes --released filled
+  records 1 filled 1 blocked 0 stopped 0
+  $ rm holes filled
+
 The lines that are printed of rules, and the steps of those that are dropped.
 
   $ cat >some.rules <<EOF
@@ -166,9 +193,15 @@ A refusal that can't be printed keeps its status.
   $ fail line 1
   $ forxainde edit --rules rules --records records --released released --reasons reasons --proof proof
   [4]
+  $ fail line 1
+  $ forxainde fill --rules rules --records records --released released
+  [4]
   $ cat >rules <<EOF
   > A >= 0
   > EOF
+  $ fail line 1
+  $ forxainde fill --rules rules --records records --released released
+  [3]
   $ fail line 1
   $ forxainde edit --rules rules --records records --released released --reasons reasons --proof proof
   [3]
@@ -231,6 +264,21 @@ So does that of each call that fails, one after the other. What is stored is the
   $ fail line 1
   $ forxainde rules --rules rules
   [5]
+  $ fail call 1 keep 0
+  $ fail line 1
+  $ forxainde fill --rules rules --records records --released filled
+  [5]
+  $ fail call 2 keep 0
+  $ fail line 1
+  $ forxainde fill --rules rules --records records --released filled
+  [5]
+  $ fail call 3 keep 3
+  $ fail line 1
+  $ forxainde fill --rules rules --records records --released filled
+  [6]
+  $ cat filled
+  A
+  4 (no-eol)
   $ forxainde check --rules rules --records records --released released --proof proof
   valid records 1 released 1
   $ rm released

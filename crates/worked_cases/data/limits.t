@@ -25,12 +25,26 @@ that comes behind it is fetched.
   $ calls
   fetch rules
   fetch longer
+  $ forxainde fill --rules longer --records rules --released released
+  fault: too long longer
+  [8]
+  $ calls
+  fetch longer
+  $ forxainde fill --rules rules --records longer --released released
+  fault: too long longer
+  [8]
+  $ calls
+  fetch rules
+  fetch longer
   $ ls
   longer
   longest
   rules
   $ fail line 1
   $ forxainde edit --rules rules --records longer --released released --reasons reasons --proof proof
+  [8]
+  $ fail line 1
+  $ forxainde fill --rules rules --records longer --released released
   [8]
 
 So it is of each file that a check reads, but for the proof, which may have 536,870,912 bytes: here it has a byte more than the
@@ -110,6 +124,9 @@ A record file has at most 200,000 records. One with a record more has no reading
 
   $ yes A | head -n 200002 >records
   $ forxainde edit --rules rules --records records --released released --reasons reasons --proof proof
+  fault: records kind 15 TooManyRows
+  [4]
+  $ forxainde fill --rules rules --records records --released released
   fault: records kind 15 TooManyRows
   [4]
   $ ls

@@ -30,7 +30,9 @@ The options stand in any order, with numbers at their limits and with zeros in f
   end
   $ forxainde check --proof proof --released released --records records --rules rules
   valid records 1 released 0
-  $ rm released reasons proof
+  $ forxainde fill --released filled --budget 0001000000 --records records --rules rules
+  records 1 filled 0 blocked 0 stopped 0
+  $ rm released reasons proof filled
 
 No command, or another one.
 
@@ -45,6 +47,9 @@ No command, or another one.
   fault: usage
   [2]
   $ forxainde --rules rules rules
+  fault: usage
+  [2]
+  $ forxainde Fill --rules rules --records records --released released
   fault: usage
   [2]
   $ forxainde edit edit --rules rules --records records --released released --reasons reasons --proof proof
@@ -73,6 +78,15 @@ An option that is missing, each in turn.
   fault: usage
   [2]
   $ forxainde rules
+  fault: usage
+  [2]
+  $ forxainde fill --records records --released released
+  fault: usage
+  [2]
+  $ forxainde fill --rules rules --released released
+  fault: usage
+  [2]
+  $ forxainde fill --rules rules --records records
   fault: usage
   [2]
 
@@ -108,6 +122,15 @@ An option without a value, with an empty one, with one that begins as an option 
   $ forxainde rules --rules rules --rules others
   fault: usage
   [2]
+  $ forxainde fill --rules rules --records records --released
+  fault: usage
+  [2]
+  $ forxainde fill --rules rules --records records --released released --budget
+  fault: usage
+  [2]
+  $ forxainde fill --rules rules --records records --released released --budget 5 --budget 5
+  fault: usage
+  [2]
   $ calls
 
 Two names that lead to one file, so that one would be stored over the other, or over what was read.
@@ -125,6 +148,9 @@ Two names that lead to one file, so that one would be stored over the other, or 
   fault: usage
   [2]
   $ forxainde make --rules rules --records ./rules
+  fault: usage
+  [2]
+  $ forxainde fill --rules rules --records records --released ./records
   fault: usage
   [2]
   $ calls
@@ -206,6 +232,15 @@ Options of other commands, and of none.
   $ forxainde rules --rules rules others
   fault: usage
   [2]
+  $ forxainde fill --rules rules --records records --released released --workers 2
+  fault: usage
+  [2]
+  $ forxainde fill --rules rules --records records --released released --near 5
+  fault: usage
+  [2]
+  $ forxainde fill --rules rules --records records --released released --proof proof
+  fault: usage
+  [2]
 
 Two files of one name.
 
@@ -222,6 +257,12 @@ Two files of one name.
   fault: usage
   [2]
   $ forxainde check --rules rules --records records --released rules --proof proof
+  fault: usage
+  [2]
+  $ forxainde fill --rules rules --records records --released records
+  fault: usage
+  [2]
+  $ forxainde fill --rules rules --records rules --released released
   fault: usage
   [2]
   $ calls
@@ -277,6 +318,15 @@ Numbers past their limits, and texts that are no numbers: 1 to 10 digits.
   fault: usage
   [2]
   $ forxainde edit --rules rules --records records --released released --reasons reasons --proof proof --near ' 5'
+  fault: usage
+  [2]
+  $ forxainde fill --rules rules --records records --released released --budget 0
+  fault: usage
+  [2]
+  $ forxainde fill --rules rules --records records --released released --budget 1000000001
+  fault: usage
+  [2]
+  $ forxainde fill --rules rules --records records --released released --budget 1e6
   fault: usage
   [2]
   $ calls

@@ -1,6 +1,6 @@
 //! What the words of a command line ask for, as a line.
 
-use command_words::{check_asked, edit_asked, make_asked, rules_asked};
+use command_words::{check_asked, edit_asked, fill_asked, make_asked, rules_asked};
 use foundation::OutOfMemory;
 use std::alloc::Global;
 
@@ -12,6 +12,7 @@ pub fn asked_line(alloc: Global, words: &[String]) -> Result<Vec<u8>, OutOfMemor
         edit_told(alloc, words)?,
         check_told(alloc, words)?,
         rules_told(alloc, words)?,
+        fill_told(alloc, words)?,
         make_told(alloc, words)?,
     ] {
         line.extend_from_slice(told.as_bytes())?;
@@ -54,6 +55,16 @@ fn rules_told(alloc: Global, words: &[String]) -> Result<String, OutOfMemory> {
     };
     let rules = asked.rules;
     Ok(format!(in alloc; "rules {rules}")?)
+}
+
+// The filling that the words ask for.
+fn fill_told(alloc: Global, words: &[String]) -> Result<String, OutOfMemory> {
+    let Some(asked) = fill_asked(alloc, words)? else {
+        return Ok(String::new(alloc));
+    };
+    let (rules, records) = (asked.rules, asked.records);
+    let (released, budget) = (asked.released, asked.budget);
+    Ok(format!(in alloc; "fill {rules} {records} {released} {budget}")?)
 }
 
 // The survey that the words ask to be made.
