@@ -1,132 +1,119 @@
--- How whole runs end.
-use Rattle.std.proofs.Common.{◌≡◌, ◌∙◌, ℕ, List, [], ◌∷◌, IfSome, inl, inr, refl, subst, sym}
-use Rattle.edit_desk.specs.Desk.{PutsOnRecord, Told}
-use Rattle.edit_release.specs.Releases.{written_in}
-use Rattle.edit_release.specs.declared.release.Release.{Release}
-use Rattle.command_words.specs.Asked.{CheckAsked, EditAsked, RulesAsked}
+-- How whole runs of a check, and of the command `rules`, end.
+use Rattle.std.proofs.Common.{◌≡◌, ◌∙◌, ℕ, List, [], ◌∷◌, IfSome, inl, inr, refl, sym}
+use Rattle.edit_desk.specs.Desk.{PutsOnRecord}
+use Rattle.command_words.specs.Asked.{CheckAsked, RulesAsked}
 use Rattle.edit_commands.specs.CheckRun.{IsCheckComplete, IsCheckStopped, IsChecked, IsRead, check_calls}
-use Rattle.edit_commands.specs.EditRun.{AreWritten, IsEditComplete, IsEditStopped, IsEdited, IsMade, IsStored, edit_calls}
-use Rattle.edit_commands.specs.Edits.{HasReleased}
 use Rattle.run_parts.specs.Faults.{fault_status}
-use Rattle.run_parts.specs.Readings.{Refuses, RefusesCheck, RefusesRulesCommand}
+use Rattle.run_parts.specs.Readings.{RefusesCheck, RefusesRulesCommand}
 use Rattle.edit_commands.specs.RulesRun.{IsReport, IsReported, IsRuled, IsRulesComplete, IsRulesStopped, rules_calls}
 use Rattle.run_parts.specs.Run.{Run, faults_by}
 use Rattle.edit_commands.specs.inner.CheckParts.{Accepts}
-use Rattle.edit_commands.specs.inner.EditParts.{edit_status}
 use Rattle.run_parts.specs.Parts.{IsTelling}
 use Rattle.run_parts.specs.declared.fault.Fault.{Fault}
 use Rattle.run_parts.specs.declared.status.Status.{Status}
 use Rattle.run_parts.specs.declared.status.Status.TheVariants as status
 use Rattle.edit_commands.proofs.AuditLaws.{valid-beside}
-use Rattle.edit_commands.proofs.EndLaws.{has-released}
 use Rattle.run_parts.proofs.FaultlessLaws.{memory-left}
-use Rattle.run_parts.proofs.InputLaws.{read-beside}
 use Rattle.edit_commands.proofs.RulesLaws.{rules-beside}
 use Rattle.run_parts.proofs.ToldLaws.{each-told, from-told, same-told, where-told}
-
--- ---- edits
-
-module _ (asked : EditAsked) (run : Run) where
-  module _ (release : Release) (answer : Status) (telling : IsTelling (edit_status release) (written_in release).summary answer run.before.printed run.after.printed run.before.unprinted run.after.unprinted)
-      (files : Told run.before.files run.after.files (λ old new. IsMade asked (edit_status release) old (written_in release) × AreWritten asked (written_in release) old new))
-      (calls : PutsOnRecord run.before.calls run.after.calls (λ calls. calls ≡ edit_calls asked)) (faults : run.after.faults ≡ run.before.faults) where
-    stored : IsStored asked (edit_status release) (written_in release) run
-    stored = record { files = files; calls = calls; faultless = faults }
-
-    -- all was done, and the summary was printed
-    pub edited-by : HasReleased answer → IsEdited asked answer run
-    edited-by ended = by telling
-      where
-        by : IsTelling (edit_status release) (written_in release).summary answer run.before.printed run.after.printed run.before.unprinted run.after.unprinted → IsEdited asked answer run
-        by (inl (is, printed, told)) = record {
-          written = written_in release;
-          stored = subst (λ (s : Status). IsStored asked s (written_in release) run) (sym is) stored;
-          told = record { printed = printed; unprinted = told };
-        }
-        by (inr (is, printed, told)) = absurd (failed ended)
-          where
-            failed : HasReleased answer → ⊥
-            failed (inl done) = cc (sym done ∙ is)
-            failed (inr some) = cc (sym some ∙ is)
-
-    -- or it was not
-    pub untold-by : (¬ HasReleased answer) → IsEditStopped asked answer run
-    untold-by not = by telling
-      where
-        by : IsTelling (edit_status release) (written_in release).summary answer run.before.printed run.after.printed run.before.unprinted run.after.unprinted → IsEditStopped asked answer run
-        by (inl (is, printed, told)) = absurd (not (subst HasReleased (sym is) (has-released release)))
-        by (inr (is, printed, told)) = inr (
-          is,
-          record {
-            answer = edit_status release;
-            written = written_in release;
-            stored = stored;
-            untold = record { printed = printed; unprinted = told };
-          },
-        )
-
-  -- a refusal of files that have readings, in a run without a fault, is want of memory
-  pub edit-refused : (f : Fault) (answer : Status) → answer ≡ fault_status f → Refuses asked run.before.files f → run.after.faults ≡ faults_by f run.before.faults → IsEditComplete asked answer run
-  edit-refused f answer is cause faults =
-      each-told run.before.files (λ o why survey s hr hs none. inr (is ∙ memory-left run f (read-beside asked.names.rules asked.names.records o f survey s hr hs why) faults none))
-      (where-told run.before.files (λ o. Refuses asked o f) cause)
 
 -- ---- checks
 
 module _ (asked : CheckAsked) (run : Run) where
-  module _ (line : List ℕ) (answer : Status) (telling : IsTelling status.Done (line ∷ []) answer run.before.printed run.after.printed run.before.unprinted run.after.unprinted)
-      (accepts : Accepts asked run.before.files line) (files : run.after.files ≡ run.before.files) (calls : PutsOnRecord run.before.calls run.after.calls (λ calls. calls ≡ check_calls asked)) (faults : run.after.faults ≡ run.before.faults) where
+  module _ (line : List ℕ) (answer : Status)
+      (telling : IsTelling status.Done (line ∷ []) answer run.before.printed run.after.printed run.before.unprinted run.after.unprinted)
+      (accepts : Accepts asked run.before.files line) (files : run.after.files ≡ run.before.files)
+      (calls : PutsOnRecord run.before.calls run.after.calls (λ calls. calls ≡ check_calls asked))
+      (faults : run.after.faults ≡ run.before.faults) where
     read : IsRead asked accepts.0 accepts.1 run
-    read = record { files = from-told run.before.files run.after.files (λ old new h same. (same, h)) accepts.3 (same-told run.before.files run.after.files (λ old new. new ≡ old) files (λ o. refl)); calls = calls; faultless = faults }
+    read = record {
+      files =
+          from-told run.before.files run.after.files (λ old new h same. (same, h)) accepts.3
+          (same-told run.before.files run.after.files (λ old new. new ≡ old) files (λ o. refl));
+      calls = calls;
+      faultless = faults;
+    }
 
     -- the files were accepted, and that was printed
     pub checked-by : answer ≡ status.Done → IsChecked asked run
     checked-by done = by telling
       where
-        by : IsTelling status.Done (line ∷ []) answer run.before.printed run.after.printed run.before.unprinted run.after.unprinted → IsChecked asked run
-        by (inl (is, printed, told)) = record { records = accepts.0; released = accepts.1; read = read; told = rw (← accepts.2) (record { printed = printed; unprinted = told }) }
+        by : IsTelling status.Done (line ∷ []) answer run.before.printed run.after.printed run.before.unprinted run.after.unprinted
+            → IsChecked asked run
+        by (inl (is, printed, told)) = record {
+          records = accepts.0;
+          released = accepts.1;
+          read = read;
+          told = rw (← accepts.2) (record { printed = printed; unprinted = told });
+        }
         by (inr (is, printed, told)) = absurd (cc (sym done ∙ is))
 
     -- or it was not
     pub unchecked-by : (answer ≡ status.Done → ⊥) → IsCheckStopped asked answer run
     unchecked-by not = by telling
       where
-        by : IsTelling status.Done (line ∷ []) answer run.before.printed run.after.printed run.before.unprinted run.after.unprinted → IsCheckStopped asked answer run
+        by : IsTelling status.Done (line ∷ []) answer run.before.printed run.after.printed run.before.unprinted run.after.unprinted
+            → IsCheckStopped asked answer run
         by (inl (is, printed, told)) = absurd (not is)
-        by (inr (is, printed, told)) = inr (is, record { records = accepts.0; released = accepts.1; read = read; untold = rw (← accepts.2) (record { printed = printed; unprinted = told }) })
+        by (inr (is, printed, told)) = inr (
+          is,
+          record {
+            records = accepts.0;
+            released = accepts.1;
+            read = read;
+            untold = rw (← accepts.2) (record { printed = printed; unprinted = told });
+          },
+        )
 
   -- a refusal of a valid release, in a run without a fault, is want of memory
-  pub check-refused : (f : Fault) (answer : Status) → answer ≡ fault_status f → RefusesCheck asked run.before.files f → run.after.faults ≡ faults_by f run.before.faults → IsCheckComplete asked answer run
+  pub check-refused : (f : Fault) (answer : Status) → answer ≡ fault_status f → RefusesCheck asked run.before.files f
+      → run.after.faults ≡ faults_by f run.before.faults → IsCheckComplete asked answer run
   check-refused f answer is cause faults =
-      each-told run.before.files (λ o why audit held valid none. inr (is ∙ memory-left run f (valid-beside asked o audit held f valid why) faults none))
+      each-told run.before.files
+      (λ o why audit held valid none. inr (is ∙ memory-left run f (valid-beside asked o audit held f valid why) faults none))
       (where-told run.before.files (λ o. RefusesCheck asked o f) cause)
 
 -- ---- the command `rules`
 
 module _ (asked : RulesAsked) (run : Run) where
-  module _ (texts : List (List ℕ)) (answer : Status) (telling : IsTelling status.Done texts answer run.before.printed run.after.printed run.before.unprinted run.after.unprinted)
-      (report : IfSome run.before.files (λ o. IsReport asked o texts)) (files : run.after.files ≡ run.before.files) (calls : PutsOnRecord run.before.calls run.after.calls (λ calls. calls ≡ rules_calls asked)) (faults : run.after.faults ≡ run.before.faults) where
+  module _ (texts : List (List ℕ)) (answer : Status)
+      (telling : IsTelling status.Done texts answer run.before.printed run.after.printed run.before.unprinted run.after.unprinted)
+      (report : IfSome run.before.files (λ o. IsReport asked o texts)) (files : run.after.files ≡ run.before.files)
+      (calls : PutsOnRecord run.before.calls run.after.calls (λ calls. calls ≡ rules_calls asked))
+      (faults : run.after.faults ≡ run.before.faults) where
     reported : IsReported asked texts run
-    reported = record { files = from-told run.before.files run.after.files (λ old new h same. (same, h)) report (same-told run.before.files run.after.files (λ old new. new ≡ old) files (λ o. refl)); calls = calls; faultless = faults }
+    reported = record {
+      files =
+          from-told run.before.files run.after.files (λ old new h same. (same, h)) report
+          (same-told run.before.files run.after.files (λ old new. new ≡ old) files (λ o. refl));
+      calls = calls;
+      faultless = faults;
+    }
 
     -- the lines were printed
     pub ruled-by : answer ≡ status.Done → IsRuled asked run
     ruled-by done = by telling
       where
-        by : IsTelling status.Done texts answer run.before.printed run.after.printed run.before.unprinted run.after.unprinted → IsRuled asked run
-        by (inl (is, printed, told)) = record { texts = texts; reported = reported; told = record { printed = printed; unprinted = told } }
+        by : IsTelling status.Done texts answer run.before.printed run.after.printed run.before.unprinted run.after.unprinted
+            → IsRuled asked run
+        by (inl (is, printed, told)) =
+            record { texts = texts; reported = reported; told = record { printed = printed; unprinted = told } }
         by (inr (is, printed, told)) = absurd (cc (sym done ∙ is))
 
     -- or one was not
     pub unruled-by : (answer ≡ status.Done → ⊥) → IsRulesStopped asked answer run
     unruled-by not = by telling
       where
-        by : IsTelling status.Done texts answer run.before.printed run.after.printed run.before.unprinted run.after.unprinted → IsRulesStopped asked answer run
+        by : IsTelling status.Done texts answer run.before.printed run.after.printed run.before.unprinted run.after.unprinted
+            → IsRulesStopped asked answer run
         by (inl (is, printed, told)) = absurd (not is)
-        by (inr (is, printed, told)) = inr (is, record { texts = texts; reported = reported; untold = record { printed = printed; unprinted = told } })
+        by (inr (is, printed, told)) =
+            inr (is, record { texts = texts; reported = reported; untold = record { printed = printed; unprinted = told } })
 
   -- a refusal of rules that have a reading, in a run without a fault, is want of memory
-  pub rules-refused : (f : Fault) (answer : Status) → answer ≡ fault_status f → RefusesRulesCommand asked run.before.files f → run.after.faults ≡ faults_by f run.before.faults → IsRulesComplete asked answer run
+  pub rules-refused : (f : Fault) (answer : Status) → answer ≡ fault_status f → RefusesRulesCommand asked run.before.files f
+      → run.after.faults ≡ faults_by f run.before.faults → IsRulesComplete asked answer run
   rules-refused f answer is cause faults =
-      each-told run.before.files (λ o why survey held none. inr (is ∙ memory-left run f (rules-beside asked o survey held f why) faults none))
+      each-told run.before.files
+      (λ o why survey held none. inr (is ∙ memory-left run f (rules-beside asked o survey held f why) faults none))
       (where-told run.before.files (λ o. RefusesRulesCommand asked o f) cause)

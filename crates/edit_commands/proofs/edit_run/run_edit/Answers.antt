@@ -1,14 +1,23 @@
-use Rattle.std.proofs.Common.{◌∙◌, inl}
-use Rattle.edit_commands.proofs.RunLaws.{edit-refused, edited-by, untold-by}
+use Rattle.std.proofs.Common.{◌∙◌, inl, subst, sym}
+use Rattle.run_parts.specs.Commands.{HasReleased}
+use Rattle.run_parts.proofs.CommandLaws.{not-failed, release-refused, released-by, untold-by, whole-by}
+use Rattle.edit_commands.specs.EditRun.{edit_command}
+use Rattle.edit_commands.specs.inner.EditParts.{release_made}
 use Rattle.edit_commands.proofs.edit_run.run_edit.Goals as goal
 
 pub returns-in-Ok-clause-edited : goal.returns-in-Ok-clause-edited
 returns-in-Ok-clause-edited g c = λ ended.
-    edited-by c.args.asked.now _ c.in-Ok.release c.tell_all.result (rw c.status_of.ensures at c.tell_all.ensures) c.in-Ok.ensures.files c.in-Ok.ensures.asked c.in-Ok.ensures.faults ended
+    whole-by (edit_command c.args.asked.now) _ (release_made c.args.asked.now c.in-Ok.release) c.tell_all.result
+    (rw c.status_of.ensures at c.tell_all.ensures)
+    (record { files = c.in-Ok.ensures.files; calls = c.in-Ok.ensures.asked; faultless = c.in-Ok.ensures.faults })
+    (not-failed c.tell_all.result ended)
 
 pub returns-in-Ok-clause-stopped : goal.returns-in-Ok-clause-stopped
 returns-in-Ok-clause-stopped g c = λ not.
-    untold-by c.args.asked.now _ c.in-Ok.release c.tell_all.result (rw c.status_of.ensures at c.tell_all.ensures) c.in-Ok.ensures.files c.in-Ok.ensures.asked c.in-Ok.ensures.faults not
+    untold-by (edit_command c.args.asked.now) _ (release_made c.args.asked.now c.in-Ok.release) c.tell_all.result
+    (rw c.status_of.ensures at c.tell_all.ensures)
+    (record { files = c.in-Ok.ensures.files; calls = c.in-Ok.ensures.asked; faultless = c.in-Ok.ensures.faults })
+    (λ is. not (subst HasReleased (sym is) (released-by c.in-Ok.release.whole)))
 
 pub returns-in-Err-clause-stopped : goal.returns-in-Err-clause-stopped
 returns-in-Err-clause-stopped g c = λ not. inl (record {
@@ -23,4 +32,6 @@ returns-in-Err-clause-stopped g c = λ not. inl (record {
 })
 
 pub returns-in-Err-clause-complete : goal.returns-in-Err-clause-complete
-returns-in-Err-clause-complete g c = edit-refused c.args.asked.now _ c.in-Err.refusal c.refuse.result (c.refuse.ensures.status ∙ c.status.ensures) c.in-Err.ensures.cause c.in-Err.ensures.faults
+returns-in-Err-clause-complete g c =
+    release-refused c.args.asked.now.names.rules c.args.asked.now.names.records _ c.in-Err.refusal c.refuse.result
+    (c.refuse.ensures.status ∙ c.status.ensures) c.in-Err.ensures.cause c.in-Err.ensures.faults

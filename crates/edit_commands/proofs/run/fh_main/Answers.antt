@@ -1,8 +1,10 @@
 use Rattle.std.proofs.Common.{inl, refl}
 use Rattle.edit_commands.specs.CheckRun.{check_refusals}
-use Rattle.edit_commands.specs.EditRun.{edit_refusals}
+use Rattle.edit_commands.specs.EditRun.{edit_command}
 use Rattle.edit_commands.specs.MakeRun.{make_refusals}
 use Rattle.edit_commands.specs.RulesRun.{rules_refusals}
+use Rattle.fill_command.specs.FillRun.{fill_command}
+use Rattle.run_parts.specs.Commands.{refusals_of}
 use Rattle.run_parts.specs.Run.{word_refusals}
 use Rattle.run_parts.specs.declared.fault.Fault.TheVariants as fault
 use Rattle.edit_commands.proofs.WordLaws.{untouched-refused}
@@ -17,7 +19,8 @@ pub returns-in-Ok-Edit-clause-edited : goal.returns-in-Ok-Edit-clause-edited
 returns-in-Ok-Edit-clause-edited g c = λ ended asked is. rw ((rw c.in-Ok-Edit.field-0-is at c.in-Ok-Edit.ensures).1 asked is) (c.run_edit.ensures.edited ended)
 
 pub returns-in-Ok-Edit-clause-edit_stopped : goal.returns-in-Ok-Edit-clause-edit_stopped
-returns-in-Ok-Edit-clause-edit_stopped g c = λ not asked is. rw ((rw c.in-Ok-Edit.field-0-is at c.in-Ok-Edit.ensures).1 asked is) (c.run_edit.ensures.stopped not)
+returns-in-Ok-Edit-clause-edit_stopped g c = λ not asked is.
+    rw ((rw c.in-Ok-Edit.field-0-is at c.in-Ok-Edit.ensures).1 asked is) (c.run_edit.ensures.stopped not)
 
 pub returns-in-Ok-Edit-clause-edit_complete : goal.returns-in-Ok-Edit-clause-edit_complete
 returns-in-Ok-Edit-clause-edit_complete g c = λ asked is. rw ((rw c.in-Ok-Edit.field-0-is at c.in-Ok-Edit.ensures).1 asked is) c.run_edit.ensures.complete
@@ -41,6 +44,24 @@ returns-in-Ok-Rules-clause-unasked g c = λ none. absurd (none.no_rules c.in-Ok-
 pub returns-in-Ok-Rules-clause-rules_due : goal.returns-in-Ok-Rules-clause-rules_due
 returns-in-Ok-Rules-clause-rules_due g c = λ asked is. rw ((rw c.in-Ok-Rules.field-0-is at c.in-Ok-Rules.ensures).1 asked is) c.run_rules.ensures.due
 
+-- ---- a filling
+
+pub returns-in-Ok-Fill-clause-unasked : goal.returns-in-Ok-Fill-clause-unasked
+returns-in-Ok-Fill-clause-unasked g c = λ none. absurd (none.no_fill c.in-Ok-Fill.fill (rw c.in-Ok-Fill.field-0-is at c.in-Ok-Fill.ensures).0)
+
+pub returns-in-Ok-Fill-clause-filled : goal.returns-in-Ok-Fill-clause-filled
+returns-in-Ok-Fill-clause-filled g c = λ ended asked is. rw ((rw c.in-Ok-Fill.field-0-is at c.in-Ok-Fill.ensures).1 asked is) (c.run_fill.ensures.filled ended)
+
+pub returns-in-Ok-Fill-clause-fill_stopped : goal.returns-in-Ok-Fill-clause-fill_stopped
+returns-in-Ok-Fill-clause-fill_stopped g c = λ not asked is.
+    rw ((rw c.in-Ok-Fill.field-0-is at c.in-Ok-Fill.ensures).1 asked is) (c.run_fill.ensures.stopped not)
+
+pub returns-in-Ok-Fill-clause-fill_complete : goal.returns-in-Ok-Fill-clause-fill_complete
+returns-in-Ok-Fill-clause-fill_complete g c = λ asked is. rw ((rw c.in-Ok-Fill.field-0-is at c.in-Ok-Fill.ensures).1 asked is) c.run_fill.ensures.complete
+
+pub returns-in-Ok-Fill-clause-fill_due : goal.returns-in-Ok-Fill-clause-fill_due
+returns-in-Ok-Fill-clause-fill_due g c = λ asked is. rw ((rw c.in-Ok-Fill.field-0-is at c.in-Ok-Fill.ensures).1 asked is) c.run_fill.ensures.due
+
 -- ---- a survey that is made
 
 pub returns-in-Ok-Make-clause-unasked : goal.returns-in-Ok-Make-clause-unasked
@@ -50,7 +71,8 @@ pub returns-in-Ok-Make-clause-made : goal.returns-in-Ok-Make-clause-made
 returns-in-Ok-Make-clause-made g c = λ done asked is. rw ((rw c.in-Ok-Make.field-0-is at c.in-Ok-Make.ensures).1 asked is) (c.run_make.ensures.made done)
 
 pub returns-in-Ok-Make-clause-make_stopped : goal.returns-in-Ok-Make-clause-make_stopped
-returns-in-Ok-Make-clause-make_stopped g c = λ not asked is. rw ((rw c.in-Ok-Make.field-0-is at c.in-Ok-Make.ensures).1 asked is) (c.run_make.ensures.stopped not)
+returns-in-Ok-Make-clause-make_stopped g c = λ not asked is.
+    rw ((rw c.in-Ok-Make.field-0-is at c.in-Ok-Make.ensures).1 asked is) (c.run_make.ensures.stopped not)
 
 -- ---- words that are no command
 
@@ -86,6 +108,15 @@ returns-in-Ok-Nothing-clause-rules_complete g c = λ asked is. absurd ((rw c.in-
 pub returns-in-Ok-Nothing-clause-rules_due : goal.returns-in-Ok-Nothing-clause-rules_due
 returns-in-Ok-Nothing-clause-rules_due g c = λ asked is. absurd ((rw c.in-Ok-Nothing.field-0-is at c.in-Ok-Nothing.ensures).no_rules asked is)
 
+pub returns-in-Ok-Nothing-clause-fill_stopped : goal.returns-in-Ok-Nothing-clause-fill_stopped
+returns-in-Ok-Nothing-clause-fill_stopped g c = λ not asked is. absurd ((rw c.in-Ok-Nothing.field-0-is at c.in-Ok-Nothing.ensures).no_fill asked is)
+
+pub returns-in-Ok-Nothing-clause-fill_complete : goal.returns-in-Ok-Nothing-clause-fill_complete
+returns-in-Ok-Nothing-clause-fill_complete g c = λ asked is. absurd ((rw c.in-Ok-Nothing.field-0-is at c.in-Ok-Nothing.ensures).no_fill asked is)
+
+pub returns-in-Ok-Nothing-clause-fill_due : goal.returns-in-Ok-Nothing-clause-fill_due
+returns-in-Ok-Nothing-clause-fill_due g c = λ asked is. absurd ((rw c.in-Ok-Nothing.field-0-is at c.in-Ok-Nothing.ensures).no_fill asked is)
+
 pub returns-in-Ok-Nothing-clause-make_stopped : goal.returns-in-Ok-Nothing-clause-make_stopped
 returns-in-Ok-Nothing-clause-make_stopped g c = λ not asked is. absurd ((rw c.in-Ok-Nothing.field-0-is at c.in-Ok-Nothing.ensures).no_make asked is)
 
@@ -101,7 +132,7 @@ returns-in-Err-clause-unasked g c = λ none.
 
 pub returns-in-Err-clause-edit_stopped : goal.returns-in-Err-clause-edit_stopped
 returns-in-Err-clause-edit_stopped g c = λ not asked is. inl (
-    untouched-refused (edit_refusals asked) fault.OutOfMemory c.refuse-in-Err.result _ (record { files = refl; calls = refl; faults = refl })
+    untouched-refused (refusals_of (edit_command asked)) fault.OutOfMemory c.refuse-in-Err.result _ (record { files = refl; calls = refl; faults = refl })
     c.refuse-in-Err.ensures.printed c.refuse-in-Err.ensures.status tt (λ files. tt) (0, refl) (λ files. inl refl) (λ count. refl))
 
 pub returns-in-Err-clause-check_stopped : goal.returns-in-Err-clause-check_stopped
@@ -113,6 +144,11 @@ pub returns-in-Err-clause-rules_stopped : goal.returns-in-Err-clause-rules_stopp
 returns-in-Err-clause-rules_stopped g c = λ not asked is. inl (
     untouched-refused (rules_refusals asked) fault.OutOfMemory c.refuse-in-Err.result _ (record { files = refl; calls = refl; faults = refl })
     c.refuse-in-Err.ensures.printed c.refuse-in-Err.ensures.status tt (λ files. tt) (0, refl) (λ files. refl) (λ count. refl))
+
+pub returns-in-Err-clause-fill_stopped : goal.returns-in-Err-clause-fill_stopped
+returns-in-Err-clause-fill_stopped g c = λ not asked is. inl (
+    untouched-refused (refusals_of (fill_command asked)) fault.OutOfMemory c.refuse-in-Err.result _ (record { files = refl; calls = refl; faults = refl })
+    c.refuse-in-Err.ensures.printed c.refuse-in-Err.ensures.status tt (λ files. tt) (0, refl) (λ files. inl refl) (λ count. refl))
 
 pub returns-in-Err-clause-make_stopped : goal.returns-in-Err-clause-make_stopped
 returns-in-Err-clause-make_stopped g c = λ not asked is. inl (
