@@ -39,13 +39,15 @@ module _ (asked : CheckAsked) (files : Files) where
 
   -- ---- a released file or a proof that is too long
 
-  module _ (survey : SurveyParts) (s : SheetParts) (hr : HoldsRules (Some files) asked.rules survey) (hs : HoldsRecords (Some files) asked.records survey.fields s) where
+  module _ (survey : SurveyParts) (s : SheetParts) (hr : HoldsRules (Some files) asked.rules survey)
+      (hs : HoldsRecords (Some files) asked.records survey.fields s) where
     long-due : ((audit : Audit) → HoldsRelease (Some files) asked audit → ⊥) → AnswersDue (IsCheckDue asked files) status.TooLong
     long-due none status.TooLong due = inl refl
     long-due none status.Rejected (audit, held, invalid) = absurd (none audit held)
     long-due none other due = absurd (read-not-due asked.rules asked.records files survey s hr hs other due)
 
-    fetch-due : (name : List ℕ) (most : ℕ) (f : Fault) → IsOfFetch name f → RefusesLong most (Some files) f → (IsLonger files name most → (audit : Audit) → HoldsRelease (Some files) asked audit → ⊥) → AnswersDue (IsCheckDue asked files) (fault_status f)
+    fetch-due : (name : List ℕ) (most : ℕ) (f : Fault) → IsOfFetch name f → RefusesLong most (Some files) f
+        → (IsLonger files name most → (audit : Audit) → HoldsRelease (Some files) asked audit → ⊥) → AnswersDue (IsCheckDue asked files) (fault_status f)
     fetch-due name most (fault.Read n) kind why none = λ other due. inr (inl refl)
     fetch-due name most (fault.TooLong n) kind why none = long-due (none (subst (λ (m : List ℕ). IsLonger files m most) kind why))
     fetch-due name most fault.OutOfMemory kind why none = λ other due. inr (inr refl)
@@ -65,13 +67,16 @@ module _ (asked : CheckAsked) (files : Files) where
   module _ (audit : Audit) (held : HoldsRelease (Some files) asked audit) where
     not-long : IsCheckDue asked files status.TooLong → ⊥
     not-long (inl due) = read-not-due asked.rules asked.records files audit.survey audit.sheet held.rules held.records status.TooLong due
-    not-long (inr (name, (most, (survey, hr, (sheet, hs, inl (same, is))), long))) = not_longer files asked.released most_bytes held.released (moved same is long)
-    not-long (inr (name, (most, (survey, hr, (sheet, hs, inr (same, is, bytes, there))), long))) = not_longer files asked.proof most_proof_bytes held.proof (moved same is long)
+    not-long (inr (name, (most, (survey, hr, (sheet, hs, inl (same, is))), long))) =
+        not_longer files asked.released most_bytes held.released (moved same is long)
+    not-long (inr (name, (most, (survey, hr, (sheet, hs, inr (same, is, bytes, there))), long))) =
+        not_longer files asked.proof most_proof_bytes held.proof (moved same is long)
 
     -- none is due of a valid one
     pub valid-due : IsValidRelease audit → (answer : Status) → AnswersDue (IsCheckDue asked files) answer
     valid-due valid answer status.TooLong due = absurd (not-long due)
-    valid-due valid answer status.Rejected (other, there, invalid) = absurd (invalid (subst IsValidRelease (one_audit files asked audit other held there) valid))
+    valid-due valid answer status.Rejected (other, there, invalid) =
+        absurd (invalid (subst IsValidRelease (one_audit files asked audit other held there) valid))
     valid-due valid answer s due = absurd (read-not-due asked.rules asked.records files audit.survey audit.sheet held.rules held.records s due)
 
     rejected-due : AnswersDue (IsCheckDue asked files) status.Rejected
@@ -80,7 +85,8 @@ module _ (asked : CheckAsked) (files : Files) where
     rejected-due s due = absurd (read-not-due asked.rules asked.records files audit.survey audit.sheet held.rules held.records s due)
 
     -- what the check of a release found of it
-    module _ (told : CheckFault) (first : (line : ℕ) (why : Why) → told ≡ check.Rejected line why → IsFirstFailure audit line why) (none : (line : ℕ) (why : Why) → told ≡ check.Rejected line why → ¬ IsValidRelease audit) where
+    module _ (told : CheckFault) (first : (line : ℕ) (why : Why) → told ≡ check.Rejected line why → IsFirstFailure audit line why)
+        (none : (line : ℕ) (why : Why) → told ≡ check.Rejected line why → ¬ IsValidRelease audit) where
       as-told-due : (t : CheckFault) → t ≡ told → AnswersDue (IsCheckDue asked files) (fault_status (check_fault t))
       as-told-due (check.Rejected line why) same = rejected-due
       as-told-due check.OutOfMemory same = λ s due. inr (inr refl)
@@ -91,10 +97,12 @@ module _ (asked : CheckAsked) (files : Files) where
 
     -- a valid one is refused for no fault but one that says nothing of the files
     pub valid-beside : (f : Fault) → IsValidRelease audit → RefusesCheck asked (Some files) f → IsBeside f
-    valid-beside (fault.TooLong name) valid (inl why) = read-beside asked.rules asked.records files (fault.TooLong name) audit.survey audit.sheet held.rules held.records why
+    valid-beside (fault.TooLong name) valid (inl why) =
+        read-beside asked.rules asked.records files (fault.TooLong name) audit.survey audit.sheet held.rules held.records why
     valid-beside (fault.TooLong name) valid (inr long) = not-long (inr (name, long))
     valid-beside (fault.Read name) valid why = tt
-    valid-beside (fault.Rejected line why) valid (other, there, invalid, first) = invalid (subst IsValidRelease (one_audit files asked audit other held there) valid)
+    valid-beside (fault.Rejected line why) valid (other, there, invalid, first) =
+        invalid (subst IsValidRelease (one_audit files asked audit other held there) valid)
     valid-beside f valid why = read-beside asked.rules asked.records files f audit.survey audit.sheet held.rules held.records why
 
 -- ---- refusals, of files that are told or not
@@ -103,7 +111,8 @@ module _ (asked : CheckAsked) (files : Option Files) where
   -- ---- a released file or a proof that was not read
 
   module _ (survey : SurveyParts) (s : SheetParts) (hr : HoldsRules files asked.rules survey) (hs : HoldsRecords files asked.records survey.fields s) where
-    fetch-refuse : (name : List ℕ) (most : ℕ) (f : Fault) → IsReleaseFile asked files name most → IsOfFetch name f → RefusesLong most files f → RefusesCheck asked files f
+    fetch-refuse : (name : List ℕ) (most : ℕ) (f : Fault) → IsReleaseFile asked files name most → IsOfFetch name f → RefusesLong most files f
+        → RefusesCheck asked files f
     fetch-refuse name most (fault.Read n) there kind why = inr (most, subst (λ (m : List ℕ). IsReleaseFile asked files m most) (sym kind) there)
     fetch-refuse name most (fault.TooLong n) there kind why = inr (most, subst (λ (m : List ℕ). IsReleaseFile asked files m most) (sym kind) there, why)
     fetch-refuse name most fault.OutOfMemory there kind why = tt
@@ -112,19 +121,24 @@ module _ (asked : CheckAsked) (files : Option Files) where
     pub released-refuse : (f : Fault) → IsOfFetch asked.released f → RefusesLong most_bytes files f → RefusesCheck asked files f
     released-refuse f kind why = fetch-refuse asked.released most_bytes f (survey, hr, (s, hs, inl (refl, refl))) kind why
 
-    pub proof-refuse : (released : List ℕ) (f : Fault) → HoldsBytes files asked.released most_bytes released → IsOfFetch asked.proof f → RefusesLong most_proof_bytes files f → RefusesCheck asked files f
+    pub proof-refuse : (released : List ℕ) (f : Fault) → HoldsBytes files asked.released most_bytes released → IsOfFetch asked.proof f
+        → RefusesLong most_proof_bytes files f → RefusesCheck asked files f
     proof-refuse released f held kind why = fetch-refuse asked.proof most_proof_bytes f (survey, hr, (s, hs, inr (refl, refl, released, held))) kind why
 
   -- ---- a release
 
-  -- what was fetched and read is one
-  pub all-held : (audit : Audit) → HoldsRules files asked.rules audit.survey → HoldsRecords files asked.records audit.survey.fields audit.sheet
-      → HoldsBytes files asked.released most_bytes audit.released → HoldsBytes files asked.proof most_proof_bytes audit.proof → HoldsRelease files asked audit
-  all-held audit rules records released proof = record { rules = rules; records = records; released = released; proof = proof }
+  -- what was fetched and read is one, where no fetch changes the files
+  pub all-held : {second third fourth : Option Files} (audit : Audit) → second ≡ files → third ≡ second → fourth ≡ third
+      → HoldsRules files asked.rules audit.survey → HoldsRecords second asked.records audit.survey.fields audit.sheet
+      → HoldsBytes third asked.released most_bytes audit.released → HoldsBytes fourth asked.proof most_proof_bytes audit.proof
+      → HoldsRelease files asked audit
+  all-held audit p q r rules records released proof =
+      record { rules = rules; records = rw p at records; released = rw (q, p) at released; proof = rw (r, q, p) at proof }
 
   module _ (audit : Audit) (held : HoldsRelease files asked audit) where
     -- what the check of a release found of it
-    module _ (told : CheckFault) (first : (line : ℕ) (why : Why) → told ≡ check.Rejected line why → IsFirstFailure audit line why) (none : (line : ℕ) (why : Why) → told ≡ check.Rejected line why → ¬ IsValidRelease audit) where
+    module _ (told : CheckFault) (first : (line : ℕ) (why : Why) → told ≡ check.Rejected line why → IsFirstFailure audit line why)
+        (none : (line : ℕ) (why : Why) → told ≡ check.Rejected line why → ¬ IsValidRelease audit) where
       as-told-refuse : (t : CheckFault) → t ≡ told → RefusesCheck asked files (check_fault t)
       as-told-refuse (check.Rejected line why) same = (audit, held, none line why (sym same), first line why (sym same))
       as-told-refuse check.OutOfMemory same = tt
@@ -139,10 +153,16 @@ module _ (asked : CheckAsked) (files : Option Files) where
     memory-refused (Err f) memory = rw memory tt
 
     -- a valid one is accepted
-    pub accepted : (total given : ℕ) (r : Result (Vec ℕ Global) Fault) → IsValidRelease audit → Shows audit → length audit.sheet.rows ≡ total → IsReleasedCount audit given → IfOk r (λ line. line.items ≡ valid_text total given)
+    pub accepted : (total given : ℕ) (r : Result (Vec ℕ Global) Fault) → IsValidRelease audit → Shows audit → length audit.sheet.rows ≡ total
+        → IsReleasedCount audit given → IfOk r (λ line. line.items ≡ valid_text total given)
         → IfOk r (λ line. Accepts asked files line.items)
-    accepted total given (Ok line) valid shows many count is =
-        (total, given, is, each-told files (λ o h. record { audit = audit; held = h; valid = valid; shown = shows; records = many; released = count }) (where-told files (λ o. HoldsRelease o asked audit) held))
+    accepted total given (Ok line) valid shows many count is = (
+      total,
+      given,
+      is,
+      each-told files (λ o h. record { audit = audit; held = h; valid = valid; shown = shows; records = many; released = count })
+          (where-told files (λ o. HoldsRelease o asked audit) held),
+    )
     accepted total given (Err f) valid shows many count is = tt
 
 -- want of memory is a fault of a check

@@ -15,7 +15,8 @@ use Rattle.run_parts.proofs.FaultlessLaws.{memory-left, raised-more}
 use Rattle.run_parts.proofs.InputLaws.{IsBeside}
 
 -- where both files are stored, each stands there
-pub all-made : (asked : MakeAsked) (old new : Files) → AreApart (asked.rules ∷ asked.records ∷ []) → AreStored (make_files asked) old new → AreMade asked old new
+pub all-made : (asked : MakeAsked) (old new : Files) → AreApart (asked.rules ∷ asked.records ∷ []) → AreStored (make_files asked) old new
+    → AreMade asked old new
 all-made asked old new apart (first, rules, (second, records, same)) =
     let now : (name : List ℕ) → new name ≡ second name = λ name. ap (λ (f : Files). f name) same in
     let rules-records : asked.rules ≢ asked.records = λ e. apart.0.0 (ap file_parts e) in
@@ -32,8 +33,10 @@ stores-beside fault.OutOfMemory kind = tt
 stores-beside f kind = absurd kind
 
 module _ (asked : MakeAsked) (run : Run) where
-  module _ (answer : Status) (telling : IsTelling status.Done (made_text asked.rows ∷ []) answer run.before.printed run.after.printed run.before.unprinted run.after.unprinted)
-      (files : Told run.before.files run.after.files (AreMade asked)) (calls : PutsOnRecord run.before.calls run.after.calls (λ calls. calls ≡ make_calls asked))
+  module _ (answer : Status)
+      (telling : IsTelling status.Done (made_text asked.rows ∷ []) answer run.before.printed run.after.printed run.before.unprinted run.after.unprinted)
+      (files : Told run.before.files run.after.files (AreMade asked))
+      (calls : PutsOnRecord run.before.calls run.after.calls (λ calls. calls ≡ make_calls asked))
       (faults : run.after.faults ≡ run.before.faults) where
     all_stored : IsMakeStored asked run
     all_stored = record { files = files; calls = calls; faultless = faults }
@@ -42,7 +45,8 @@ module _ (asked : MakeAsked) (run : Run) where
     pub made-by : answer ≡ status.Done → IsSurveyMade asked run
     made-by done = by telling
       where
-        by : IsTelling status.Done (made_text asked.rows ∷ []) answer run.before.printed run.after.printed run.before.unprinted run.after.unprinted → IsSurveyMade asked run
+        by : IsTelling status.Done (made_text asked.rows ∷ []) answer run.before.printed run.after.printed run.before.unprinted run.after.unprinted
+            → IsSurveyMade asked run
         by (inl (is, printed, told)) = record { stored = all_stored; told = record { printed = printed; unprinted = told } }
         by (inr (is, printed, told)) = absurd (cc (sym done ∙ is))
 
@@ -50,7 +54,8 @@ module _ (asked : MakeAsked) (run : Run) where
     pub unmade-by : (answer ≡ status.Done → ⊥) → IsMakeStopped asked answer run
     unmade-by not = by telling
       where
-        by : IsTelling status.Done (made_text asked.rows ∷ []) answer run.before.printed run.after.printed run.before.unprinted run.after.unprinted → IsMakeStopped asked answer run
+        by : IsTelling status.Done (made_text asked.rows ∷ []) answer run.before.printed run.after.printed run.before.unprinted run.after.unprinted
+            → IsMakeStopped asked answer run
         by (inl (is, printed, told)) = absurd (not is)
         by (inr (is, printed, told)) = inr (is, record { stored = all_stored; untold = record { printed = printed; unprinted = told } })
 

@@ -35,7 +35,8 @@ module _ (asked : RulesAsked) (files : Files) where
     -- they are refused for no fault but one that says nothing of them
     pub rules-beside : (f : Fault) → RefusesRulesCommand asked (Some files) f → IsBeside f
     rules-beside (fault.Rules line k) why = not_unread files asked.rules survey held (weaker (Some files) asked.rules most_bytes (λ bytes no. no.unread) why)
-    rules-beside (fault.TooLong name) (same, long) = not_longer files asked.rules most_bytes held (subst (λ (n : List ℕ). IsLonger files n most_bytes) same long)
+    rules-beside (fault.TooLong name) (same, long) =
+        not_longer files asked.rules most_bytes held (subst (λ (n : List ℕ). IsLonger files n most_bytes) same long)
     rules-beside (fault.Read name) why = tt
     rules-beside fault.OutOfMemory why = tt
     rules-beside f why = absurd why

@@ -26,17 +26,21 @@ use Rattle.run_parts.specs.declared.status.Status.{Status}
 use Rattle.run_parts.specs.declared.status.Status.TheVariants.{Done}
 
 module _ (survey : SurveyParts) (budget : ℕ) (all : List (List Value)) (p : Point) (correction : IsCorrection survey p) where
-  given : (row : List Value) (end : RowEnd) → IsInReach survey budget all row end → (o : Outcome) → end.proof.outcome ≡ o → (stop : Option GiftFault) (gift : Option Gift) → o ≡ outcome_of (case_of survey (kept_edits survey) row) budget
-      → ComesOf survey (kept_edits survey) row (option_map (row_at all) end.donor) o stop gift → OutcomeSays survey (kept_edits survey) budget row o gift → IsSome gift
+  given : (row : List Value) (end : RowEnd) → IsInReach survey budget all row end → (o : Outcome) → end.proof.outcome ≡ o
+      → (stop : Option GiftFault) (gift : Option Gift) → o ≡ outcome_of (case_of survey (kept_edits survey) row) budget
+      → ComesOf survey (kept_edits survey) row (option_map (row_at all) end.donor) o stop gift → OutcomeSays survey (kept_edits survey) budget row o gift
+      → IsSome gift
   given row end reach o is stop (Some gift) e follows says = refl
   given row end reach (Change path weight cert) is None None e follows says = absurd follows
   given row end reach (Change path weight cert) is (Some stop) None e follows says =
-      absurd (reach.values_fit stop (subst (λ (q : List Bool). StopsGiving survey (kept_edits survey) row q (option_map (row_at all) end.donor) stop) (sym (ap path_found is)) follows))
+      absurd (reach.values_fit stop (subst (λ (q : List Bool). StopsGiving survey (kept_edits survey) row q (option_map (row_at all) end.donor) stop)
+      (sym (ap path_found is)) follows))
   given row end reach (Budget path work) is stop None e follows says = let enough = reach.enough in absurd (omega (arith, says, enough))
   given row end reach (Overflow path event) is stop None e follows says = absurd (reach.search_fits path event (sym e))
   given row end reach (Contradictory cert) is stop None e follows says = absurd (says p correction)
 
-  all-given : (rows : List (List Value)) (ends : List RowEnd) → AllZip (IsInReach survey budget all) rows ends → AllZip (IsEndOf survey (kept_edits survey) budget all) rows ends → AllZip (Says survey (kept_edits survey) budget) rows ends → AllGiven ends
+  all-given : (rows : List (List Value)) (ends : List RowEnd) → AllZip (IsInReach survey budget all) rows ends
+      → AllZip (IsEndOf survey (kept_edits survey) budget all) rows ends → AllZip (Says survey (kept_edits survey) budget) rows ends → AllGiven ends
   all-given [] [] reach each say = tt
   all-given [] (end ∷ ends) reach each say = absurd each
   all-given (row ∷ rows) [] reach each say = absurd each
@@ -48,4 +52,7 @@ by-status ends answer (inl (done, all)) given = done
 by-status ends answer (inr (some, not)) given = absurd (not given)
 
 pub whole-released : WholeLaw
-whole-released survey s terms workers answer written edit p correction reach = by-status edit.ends answer edit.ended (all-given survey terms.budget s.rows p correction s.rows edit.ends reach edit.edit.each (edit-says survey s terms edit.ends edit.history written edit.edit))
+whole-released survey s terms workers answer written edit p correction reach =
+    by-status edit.ends answer edit.ended
+    (all-given survey terms.budget s.rows p correction s.rows edit.ends reach edit.edit.each
+    (edit-says survey s terms edit.ends edit.history written edit.edit))

@@ -6,11 +6,13 @@ use Rattle.edit_commands.proofs.check_run.run_check.Goals as goal
 
 pub returns-in-Ok-clause-checked : goal.returns-in-Ok-clause-checked
 returns-in-Ok-clause-checked g c = λ done.
-    checked-by c.args.asked.now _ c.in-Ok.line.items c.tell.result (rw c.deref.ensures.value at c.tell.ensures) c.in-Ok.ensures.accepted c.in-Ok.ensures.unchanged c.in-Ok.ensures.asked c.in-Ok.ensures.faults done
+    checked-by c.args.asked.now _ c.in-Ok.line.items c.tell.result (rw c.deref.ensures.value at c.tell.ensures) c.in-Ok.ensures.accepted
+    c.in-Ok.ensures.unchanged c.in-Ok.ensures.asked c.in-Ok.ensures.faults done
 
 pub returns-in-Ok-clause-stopped : goal.returns-in-Ok-clause-stopped
 returns-in-Ok-clause-stopped g c = λ not.
-    unchecked-by c.args.asked.now _ c.in-Ok.line.items c.tell.result (rw c.deref.ensures.value at c.tell.ensures) c.in-Ok.ensures.accepted c.in-Ok.ensures.unchanged c.in-Ok.ensures.asked c.in-Ok.ensures.faults not
+    unchecked-by c.args.asked.now _ c.in-Ok.line.items c.tell.result (rw c.deref.ensures.value at c.tell.ensures) c.in-Ok.ensures.accepted
+    c.in-Ok.ensures.unchanged c.in-Ok.ensures.asked c.in-Ok.ensures.faults not
 
 pub returns-in-Err-clause-stopped : goal.returns-in-Err-clause-stopped
 returns-in-Err-clause-stopped g c = λ not. inl (record {
@@ -25,7 +27,9 @@ returns-in-Err-clause-stopped g c = λ not. inl (record {
 })
 
 pub returns-in-Err-clause-complete : goal.returns-in-Err-clause-complete
-returns-in-Err-clause-complete g c = check-refused c.args.asked.now _ c.in-Err.refusal c.refuse.result (c.refuse.ensures.status ∙ c.status.ensures) c.in-Err.ensures.cause c.in-Err.ensures.faults
+returns-in-Err-clause-complete g c =
+    check-refused c.args.asked.now _ c.in-Err.refusal c.refuse.result (c.refuse.ensures.status ∙ c.status.ensures)
+    c.in-Err.ensures.cause c.in-Err.ensures.faults
 
 pub returns-in-Err-clause-due : goal.returns-in-Err-clause-due
 returns-in-Err-clause-due g c = rw (c.refuse.ensures.status ∙ c.status.ensures) c.in-Err.ensures.due

@@ -25,7 +25,8 @@ pub returns-in_err-store_survey-clause-asked : goal.returns-in_err-store_survey-
 returns-in_err-store_survey-clause-asked g c =
     let f = c.in_err-store_survey.field-0.0 in
     rw (handed c.from_residual.result _ c.from_residual.ensures.1)
-    (subst (λ (a : MakeAsked). PutsOnRecord (g.D.Desk.calls c.args.desk.now) (g.D.Desk.calls c.store_survey.new.desk) (AreCallsTo (make_calls a) f)) c.asked.view_is
+    (subst (λ (a : MakeAsked). PutsOnRecord (g.D.Desk.calls c.args.desk.now) (g.D.Desk.calls c.store_survey.new.desk) (AreCallsTo (make_calls a) f))
+    c.asked.view_is
     c.in_err-store_survey.ensures.asked)
 
 pub returns-clause-files : goal.returns-clause-files

@@ -25,4 +25,5 @@ returns-in-Err-clause-stopped g c = λ not. inl (record {
 })
 
 pub returns-in-Err-clause-complete : goal.returns-in-Err-clause-complete
-returns-in-Err-clause-complete g c = make-refused c.in-Err.refusal c.refuse.result _ (c.refuse.ensures.status ∙ c.status.ensures) c.in-Err.ensures.kind c.in-Err.ensures.faults
+returns-in-Err-clause-complete g c =
+    make-refused c.in-Err.refusal c.refuse.result _ (c.refuse.ensures.status ∙ c.status.ensures) c.in-Err.ensures.kind c.in-Err.ensures.faults

@@ -10,7 +10,8 @@ returns-in_err-store_file-clause-files g c =
     let first : Texts = (c.args.rules.now, c.args.made.now.rules.items) ∷ [] in
     let second : Texts = (c.args.records.now, c.args.made.now.records.items) ∷ [] in
     rw (handed c.from_residual.result _ c.from_residual.ensures.1)
-    (stores-first first second c.in_err-store_file.field-0.0 _ _ c.in_err-store_file.ensures.kind (rw c.deref.ensures.value at c.in_err-store_file.ensures.files))
+    (stores-first first second c.in_err-store_file.field-0.0 _ _ c.in_err-store_file.ensures.kind
+    (rw c.deref.ensures.value at c.in_err-store_file.ensures.files))
 
 pub returns-in_err-store_file-clause-asked : goal.returns-in_err-store_file-clause-asked
 returns-in_err-store_file-clause-asked g c =
@@ -31,4 +32,5 @@ pub returns-clause-asked : goal.returns-clause-asked
 returns-clause-asked g c =
     let first : List Asked = stored c.args.rules.now ∷ [] in
     let second : List Asked = stored c.args.records.now ∷ [] in
-    calls-then (g.D.Desk.calls c.args.desk.now) _ _ first second c.store_file-2.result c.store_file-2.ensures.kind c.in_ok-store_file.ensures.asked c.store_file-2.ensures.asked
+    calls-then (g.D.Desk.calls c.args.desk.now) _ _ first second c.store_file-2.result c.store_file-2.ensures.kind c.in_ok-store_file.ensures.asked
+    c.store_file-2.ensures.asked

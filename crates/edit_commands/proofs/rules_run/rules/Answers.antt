@@ -15,8 +15,10 @@ use Rattle.edit_commands.proofs.rules_run.rules.Goals as goal
 pub returns-in_default-clause-asked : goal.returns-in_default-clause-asked
 returns-in_default-clause-asked g c =
     rw c.out_of_memory.ensures
-    (subst (λ (a : RulesAsked). PutsOnRecord (g.D.Desk.calls c.args.desk.now) (g.D.Desk.calls c.fetch_survey.new.desk) (AreCallsTo (rules_calls a) fault.OutOfMemory)) c.asked.view_is
-    (less-calls (g.D.Desk.calls c.args.desk.now) _ (AreCallsTo (rules_calls (rules_of c.asked.inside.rules.now)) fault.OutOfMemory) (λ x e. (1, e)) c.in_ok-survey.ensures.asked))
+    (subst (λ (a : RulesAsked). PutsOnRecord (g.D.Desk.calls c.args.desk.now) (g.D.Desk.calls c.fetch_survey.new.desk)
+    (AreCallsTo (rules_calls a) fault.OutOfMemory)) c.asked.view_is
+    (less-calls (g.D.Desk.calls c.args.desk.now) _ (AreCallsTo (rules_calls (rules_of c.asked.inside.rules.now)) fault.OutOfMemory) (λ x e. (1, e))
+    c.in_ok-survey.ensures.asked))
 
 pub returns-clause-due : goal.returns-clause-due
 returns-clause-due g c =

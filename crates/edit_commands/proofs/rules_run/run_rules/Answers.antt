@@ -7,11 +7,13 @@ use Rattle.edit_commands.proofs.rules_run.run_rules.Goals as goal
 
 pub returns-in-Ok-clause-ruled : goal.returns-in-Ok-clause-ruled
 returns-in-Ok-clause-ruled g c = λ done.
-    ruled-by c.args.asked.now _ (texts_in c.in-Ok.lines.items) c.tell_all.result (rw c.deref.ensures.value at c.tell_all.ensures) c.in-Ok.ensures.reported c.in-Ok.ensures.unchanged c.in-Ok.ensures.asked c.in-Ok.ensures.faults done
+    ruled-by c.args.asked.now _ (texts_in c.in-Ok.lines.items) c.tell_all.result (rw c.deref.ensures.value at c.tell_all.ensures) c.in-Ok.ensures.reported
+    c.in-Ok.ensures.unchanged c.in-Ok.ensures.asked c.in-Ok.ensures.faults done
 
 pub returns-in-Ok-clause-stopped : goal.returns-in-Ok-clause-stopped
 returns-in-Ok-clause-stopped g c = λ not.
-    unruled-by c.args.asked.now _ (texts_in c.in-Ok.lines.items) c.tell_all.result (rw c.deref.ensures.value at c.tell_all.ensures) c.in-Ok.ensures.reported c.in-Ok.ensures.unchanged c.in-Ok.ensures.asked c.in-Ok.ensures.faults not
+    unruled-by c.args.asked.now _ (texts_in c.in-Ok.lines.items) c.tell_all.result (rw c.deref.ensures.value at c.tell_all.ensures) c.in-Ok.ensures.reported
+    c.in-Ok.ensures.unchanged c.in-Ok.ensures.asked c.in-Ok.ensures.faults not
 
 pub returns-in-Err-clause-stopped : goal.returns-in-Err-clause-stopped
 returns-in-Err-clause-stopped g c = λ not. inl (record {
@@ -26,4 +28,6 @@ returns-in-Err-clause-stopped g c = λ not. inl (record {
 })
 
 pub returns-in-Err-clause-complete : goal.returns-in-Err-clause-complete
-returns-in-Err-clause-complete g c = rules-refused c.args.asked.now _ c.in-Err.refusal c.refuse.result (c.refuse.ensures.status ∙ c.status.ensures) c.in-Err.ensures.cause c.in-Err.ensures.faults
+returns-in-Err-clause-complete g c =
+    rules-refused c.args.asked.now _ c.in-Err.refusal c.refuse.result (c.refuse.ensures.status ∙ c.status.ensures)
+    c.in-Err.ensures.cause c.in-Err.ensures.faults
