@@ -9,7 +9,7 @@ use Rattle.record_text.specs.declared.fault.SheetFault.{SheetFault}
 use Rattle.record_text.specs.declared.fault.SheetFault.TheVariants as sheet
 use Rattle.cert_check.specs.declared.fault.CheckFault.{CheckFault}
 use Rattle.cert_check.specs.declared.fault.CheckFault.TheVariants as check
-use Rattle.run_parts.specs.Faults.{IsOfStores, sheet_refusal}
+use Rattle.run_parts.specs.Faults.{IsOfEdit, IsOfInput, IsOfStores, sheet_refusal}
 use Rattle.run_parts.specs.Run.{AreCallsTo, CallsEndAt}
 use Rattle.run_parts.specs.Parts.{AreCallsOf, IsOfFetch, IsOfRecords, IsOfRules, faults_after}
 use Rattle.run_parts.specs.declared.fault.Fault.{Fault}
@@ -57,6 +57,15 @@ pub of-stores : (f : Fault) → IsOfStores f → IsOfCall f
 of-stores (fault.Write n) kind = tt
 of-stores fault.OutOfMemory kind = tt
 of-stores f kind = absurd kind
+
+-- a fault of the rules or the records is one that a command may be refused for
+pub of-input : (f : Fault) → IsOfInput f → IsOfEdit f
+of-input (fault.Rules line k) kind = tt
+of-input (fault.Records what) kind = tt
+of-input (fault.Read n) kind = tt
+of-input (fault.TooLong n) kind = tt
+of-input fault.OutOfMemory kind = tt
+of-input f kind = absurd kind
 
 module _ (before order rest calls : List Asked) where
   end-later : (call last : Asked) → CallsEndAt order call last calls → CallsEndAt (before ++ (order ++ rest)) call last (before ++ calls)
@@ -106,6 +115,19 @@ records-calls first name rest calls (fault.Read n) kind h = calls-between (fetch
 records-calls first name rest calls (fault.TooLong n) kind h = calls-between (fetched first ∷ []) (fetched name ∷ []) rest calls (fault.TooLong n) tt h
 records-calls first name rest calls fault.OutOfMemory kind h = calls-between (fetched first ∷ []) (fetched name ∷ []) rest calls fault.OutOfMemory tt h
 records-calls first name rest calls f kind h = absurd kind
+
+-- and of both, whatever is called behind them
+pub input-calls : (rules records : List ℕ) (rest calls : List Asked) (f : Fault) → IsOfInput f
+    → AreCallsTo (fetched rules ∷ fetched records ∷ []) f calls → AreCallsTo (fetched rules ∷ fetched records ∷ rest) f calls
+input-calls rules records rest calls (fault.Rules line k) kind h = h
+input-calls rules records rest calls (fault.Records what) kind h = h
+input-calls rules records rest calls (fault.Read n) kind h =
+    calls-between [] (fetched rules ∷ fetched records ∷ []) rest calls (fault.Read n) tt h
+input-calls rules records rest calls (fault.TooLong n) kind h =
+    calls-between [] (fetched rules ∷ fetched records ∷ []) rest calls (fault.TooLong n) tt h
+input-calls rules records rest calls fault.OutOfMemory kind h =
+    calls-between [] (fetched rules ∷ fetched records ∷ []) rest calls fault.OutOfMemory tt h
+input-calls rules records rest calls f kind h = absurd kind
 
 -- the one call of a file of records that was fetched and not read
 as-sheet : (fields : List Field) (name : List ℕ) (told : SheetFault) → AreCallsTo (fetched name ∷ []) (sheet_refusal fields told) (fetched name ∷ [])

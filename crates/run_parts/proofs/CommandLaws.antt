@@ -1,10 +1,10 @@
 -- How the runs of a command end, whatever the command.
-use Rattle.std.proofs.Common.{◌≡◌, ◌≢◌, ◌∙◌, ℕ, List, [], ◌∷◌, Some, inl, inr, ap, sym}
-use Rattle.std.specs.Prelude.{⊤}
+use Rattle.std.proofs.Common.{◌≡◌, ◌≢◌, ◌∙◌, ℕ, Bool, true, false, List, [], ◌∷◌, Option, IfSome, inl, inr, ap, refl}
+use Rattle.std.specs.Prelude.{⊤, if◌then◌else◌}
 use Rattle.std.specs.List.{AllByRecursion}
-use Rattle.edit_desk.specs.Desk.{Files}
+use Rattle.edit_desk.specs.Desk.{Files, Told}
 use Rattle.run_parts.specs.Commands.{AreWritten, Command, HasReleased, IsDone, IsReleaseComplete, IsStopped, IsWhole, Leaves, Made}
-use Rattle.run_parts.specs.Faults.{IsOfStores, fault_status}
+use Rattle.run_parts.specs.Faults.{IsOfInput, IsOfStores, fault_status}
 use Rattle.run_parts.specs.Parts.{IsTelling}
 use Rattle.run_parts.specs.Readings.{RefusesInput}
 use Rattle.run_parts.specs.Run.{AreStored, LeavesOf, Run, faults_by}
@@ -12,9 +12,9 @@ use Rattle.run_parts.specs.declared.fault.Fault.{Fault}
 use Rattle.run_parts.specs.declared.fault.Fault.TheVariants as fault
 use Rattle.run_parts.specs.declared.status.Status.{Status}
 use Rattle.run_parts.specs.declared.status.Status.TheVariants as status
-use Rattle.run_parts.proofs.FaultlessLaws.{memory-left, raised-more}
+use Rattle.run_parts.proofs.FaultlessLaws.{memory-left}
 use Rattle.run_parts.proofs.InputLaws.{read-beside}
-use Rattle.run_parts.proofs.ToldLaws.{each-told, where-told}
+use Rattle.run_parts.proofs.ToldLaws.{each-told, from-told, same-told, where-told}
 
 -- ---- files that are stored
 
@@ -41,7 +41,37 @@ stores-leave command made (fault.Write name) before after kind makes left = (mad
 stores-leave command made fault.OutOfMemory before after kind makes left = inr (made, makes, left)
 stores-leave command made f before after kind makes left = absurd kind
 
+-- a refusal of the rules or the records leaves the files as they were
+input-leaves : (command : Command) (f : Fault) (before : Files) → IsOfInput f → Leaves command f before before
+input-leaves command fault.OutOfMemory before kind = inl refl
+input-leaves command (fault.Rules line k) before kind = refl
+input-leaves command (fault.Records what) before kind = refl
+input-leaves command (fault.Read name) before kind = refl
+input-leaves command (fault.TooLong name) before kind = refl
+input-leaves command f before kind = absurd kind
+
+module _ (command : Command) (before after : Option Files) where
+  -- what is left where nothing was stored
+  pub unstored : (f : Fault) → IsOfInput f → after ≡ before → Told before after (Leaves command f)
+  unstored f kind same = same-told before after (Leaves command f) same (λ files. input-leaves command f files kind)
+
+  module _ (made : Made) (makes : IfSome before (λ files. command.makes files made)) where
+    -- and where a store ended in a fault
+    pub stores-stopped : (f : Fault) → IsOfStores f → Told before after (LeavesOf made.files f) → Told before after (Leaves command f)
+    stores-stopped f kind left =
+        from-told before after (λ x y is h. stores-leave command made f x y kind is h) makes left
+
+    -- or all was stored
+    pub stores-done : HaveOwnNames made.files → Told before after (AreStored made.files)
+        → Told before after (λ old new. command.makes old made × AreWritten made.files old new)
+    stores-done own all = from-told before after (λ x y is h. (is, stored-written made.files x y own h)) makes all
+
 -- ---- runs that did all on the desk
+
+-- by whether all records were released, some were at least
+pub released-by : (whole : Bool) → HasReleased (if whole then status.Done else status.SomeUnresolved)
+released-by true = inl refl
+released-by false = inr refl
 
 -- a run that released records met no fault at its lines
 pub not-failed : (answer : Status) → HasReleased answer → answer ≢ status.WriteFault

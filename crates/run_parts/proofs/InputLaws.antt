@@ -1,5 +1,5 @@
 -- What the reading of the rules and of the records shows of the files, and which status is due.
-use Rattle.std.proofs.Common.{◌≡◌, ◌⊎◌, ℕ, List, Option, Some, inl, inr, refl, subst}
+use Rattle.std.proofs.Common.{◌≡◌, ◌⊎◌, ℕ, List, Option, Some, IfSome, inl, inr, refl, subst}
 use Rattle.edit_model.specs.Parts.{SurveyParts}
 use Rattle.record_text.specs.Sheets.{SheetParts}
 use Rattle.edit_desk.specs.Desk.{Files, IsLonger}
@@ -11,6 +11,7 @@ use Rattle.run_parts.specs.declared.fault.Fault.TheVariants as fault
 use Rattle.run_parts.specs.declared.status.Status.{Status}
 use Rattle.run_parts.specs.declared.status.Status.TheVariants as status
 use Rattle.run_parts.proofs.HeldLaws.{not_longer, not_unread, not_unread_records, one_survey, weaker}
+use Rattle.run_parts.proofs.ToldLaws.{both-told, where-told}
 use Rattle.run_parts.specs.Limits.{most_bytes}
 
 -- a fault that says nothing of the files
@@ -107,6 +108,13 @@ module _ (rules records : List ℕ) (files : Option Files) where
   rules-refuse-input (fault.TooLong name) kind why = (inl kind, why)
   rules-refuse-input fault.OutOfMemory kind why = tt
   rules-refuse-input f kind why = absurd kind
+
+  -- of rules and records that were read, no status is due
+  pub told-read-due : (survey : SurveyParts) (s : SheetParts) → HoldsRules files rules survey → HoldsRecords files records survey.fields s
+      → (answer : Status) → IfSome files (λ o. AnswersDue (IsInputDue rules records o) answer)
+  told-read-due survey s hr hs answer =
+      both-told files (λ o r t. read-due rules records o survey s r t answer)
+      (where-told files (λ o. HoldsRules o rules survey) hr) (where-told files (λ o. HoldsRecords o records survey.fields s) hs)
 
   -- a fault of a store says nothing of the files
   pub stores-refuse : (f : Fault) → IsOfStores f → RefusesInput rules records files f
