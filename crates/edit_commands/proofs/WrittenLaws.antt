@@ -11,4 +11,4 @@ own-names asked written apart =
     let proof-reasons : asked.names.proof ≢ asked.names.reasons = λ e. apart.1.1.1.0.0 (ap file_parts (sym e)) in
     let proof-released : asked.names.proof ≢ asked.names.released = λ e. apart.1.1.0.1.0 (ap file_parts (sym e)) in
     let reasons-released : asked.names.reasons ≢ asked.names.released = λ e. apart.1.1.0.0 (ap file_parts (sym e)) in
-    ((proof-reasons, proof-released, tt), ((reasons-released, tt), (tt, tt)))
+    ((proof-reasons, (proof-released, tt)), ((reasons-released, tt), (tt, tt)))
