@@ -14,8 +14,8 @@ use Rattle.run_parts.specs.Parts.{store_calls}
 use Rattle.run_parts.specs.Readings.{AnswersDue, IsDue, Refuses}
 use Rattle.run_parts.specs.Run.{AreCallsTo}
 use Rattle.run_parts.specs.declared.fault.Fault.TheVariants as fault
-use Rattle.run_parts.proofs.CallLaws.{all-calls, behind-calls, input-calls, less-calls, of-input, of-stores}
-use Rattle.run_parts.proofs.CommandLaws.{stores-done, stores-stopped, unstored}
+use Rattle.run_parts.proofs.CallLaws.{all-calls, behind-calls, input-calls, less-calls, of-stores}
+use Rattle.run_parts.proofs.CommandLaws.{stores-done, stores-stopped}
 use Rattle.run_parts.proofs.InputLaws.{stores-refuse, told-read-due}
 use Rattle.run_parts.proofs.ToldLaws.{handed}
 use Rattle.edit_commands.proofs.EndLaws.{editing}
@@ -35,16 +35,6 @@ stores_in w = stored w.proof.now ∷ stored w.reasons.now ∷ stored w.released.
 
 -- ---- the rules or the records are refused
 
-pub returns-in_err-survey-clause-kind : goal.returns-in_err-survey-clause-kind
-returns-in_err-survey-clause-kind g c =
-    rw (handed c.from_residual.result _ c.from_residual.ensures.1) (of-input c.in_err-survey.field-0.0 c.in_err-survey.ensures.kind)
-
-pub returns-in_err-survey-clause-files : goal.returns-in_err-survey-clause-files
-returns-in_err-survey-clause-files g c =
-    rw (handed c.from_residual.result _ c.from_residual.ensures.1)
-    (unstored (edit_command c.args.asked.now) (g.D.Desk.files c.args.desk.now) (g.D.Desk.files c.fetch_input.new.desk) c.in_err-survey.field-0.0
-    c.in_err-survey.ensures.kind c.in_err-survey.ensures.unchanged)
-
 pub returns-in_err-survey-clause-asked : goal.returns-in_err-survey-clause-asked
 returns-in_err-survey-clause-asked g c =
     let f = c.in_err-survey.field-0.0 in
@@ -56,12 +46,6 @@ returns-in_err-survey-clause-asked g c =
     (λ calls h. input-calls w.rules.now w.records.now (stores_in w) calls f c.in_err-survey.ensures.kind h) c.in_err-survey.ensures.asked))
 
 -- ---- memory is refused as the records are edited
-
-pub returns-in_default-clause-files : goal.returns-in_default-clause-files
-returns-in_default-clause-files g c =
-    rw c.out_of_memory.ensures
-    (unstored (edit_command c.args.asked.now) (g.D.Desk.files c.args.desk.now) (g.D.Desk.files c.fetch_input.new.desk) fault.OutOfMemory
-    tt c.in_ok-survey.ensures.unchanged)
 
 pub returns-in_default-clause-asked : goal.returns-in_default-clause-asked
 returns-in_default-clause-asked g c =
