@@ -21,6 +21,7 @@ use Rattle.prefix_walk.proofs.WalkEnds.{closed-at, open-at}
 use Rattle.deduce_fill.specs.Forced.{IsCompletion}
 use Rattle.deduce_fill.specs.Laws.{IsRuleCase}
 use Rattle.deduce_fill.specs.Tests.{own_path, with_line}
+use Rattle.back_subst.proofs.StartLaws.{in-order}
 use Rattle.deduce_fill.proofs.OwnPaths.{own-keeps, own-length, value-within}
 
 -- Walks along the record's path, and the completions of the record.
