@@ -9,3 +9,4 @@ pub mod NumberPathLaws
 pub mod OverPaths
 pub mod ProblemLaws
 pub mod RowCodes
+pub mod TriedLaws

@@ -11,7 +11,7 @@ ghost use Rattle.linear_elim.specs.Steps.{OneShape};
 ghost use Rattle.linear_elim.specs.Told.{told_system};
 ghost use Rattle.bound_cert.specs.Paths.{keeps_bad, kept_set};
 ghost use Rattle.edit_paths.specs.Paths.{before_last, changed_numbers, field_count, last_letter, number_count};
-ghost use Rattle.edit_paths.specs.States.{asks_kept, first_failing, state_of, tried_line};
+ghost use Rattle.edit_paths.specs.States.{IsOpen, asks_kept, first_failing, state_of, tried_line};
 ghost use Rattle.edit_paths.specs.Works.{work_of};
 ghost use Rattle.edit_paths.specs.declared.state.PathState.{PathState as State};
 ghost use Rattle.edit_paths.specs.declared.state.PathState.TheVariants.{Open};
@@ -19,7 +19,7 @@ ghost use Rattle.path_walk.specs.Bases.{IsBasis, IsPathSystem, has_basis, path_s
 ghost use Rattle.path_walk.specs.KeptFields.{KeepsChanged};
 ghost use Rattle.path_walk.specs.Looks.{KeepsOpen, TellsLook};
 ghost use Rattle.path_walk.specs.Problems.{IsProblem, case_in, edits_in};
-ghost use Rattle.path_walk.specs.inner.Tries.{or_next};
+ghost use Rattle.path_walk.specs.inner.Tries.{HasPassed, IsAside, or_next};
 
 use crate::looks::{Basis, Look};
 use crate::problem::{Problem, changed_numbers, number_count};
@@ -48,6 +48,7 @@ pub(crate) fn look_at_numbers<S: Systems, L: Ledger>(
     requires problem { IsProblem problem.now }
     requires served { S.serves source.old (edits_in problem.now) }
     requires fit { length path.now ≤ number_count (case_in problem.now) }
+    requires reached { 0 < length path.now → IsOpen (case_in problem.now) (before_last path.now) }
     requires system { IsPathSystem (case_in problem.now) (before_last path.now) (arc_value system.now) }
     requires before { KeepsChanged (S.keeps source.old) (case_in problem.now) (before_last path.now) }
     requires some { 0 < most }
@@ -123,6 +124,7 @@ fn looked_at<S: Systems, L: Ledger>(
     requires problem { IsProblem problem.now }
     requires served { S.serves source.old (edits_in problem.now) }
     requires fit { length path.now ≤ number_count (case_in problem.now) }
+    requires reached { 0 < length path.now → IsOpen (case_in problem.now) (before_last path.now) }
     requires system { IsPathSystem (case_in problem.now) (before_last path.now) (arc_value system.now) }
     requires before { KeepsChanged (S.keeps source.old) (case_in problem.now) (before_last path.now) }
     ensures work { IfOk result (λ look. look.work ≡ work) }
@@ -251,6 +253,7 @@ fn tried(
 ) -> Result<Look, OutOfMemory>
     requires problem { IsProblem problem.now }
     requires fit { length path.now ≤ number_count (case_in problem.now) }
+    requires reached { 0 < length path.now → IsOpen (case_in problem.now) (before_last path.now) }
     requires held { keeps_bad problem.now.survey.now.fields problem.now.row.now path.now ≡ false }
     requires system { IsPathSystem (case_in problem.now) path.now (arc_value system) }
     ensures work { IfOk result (λ look. look.work ≡ work) }
@@ -285,7 +288,9 @@ fn tried(
 // something of the kept numbers alone.
 fn first_failing(problem: &Problem, path: &Path, lines: &[Derived]) -> PathState
     requires problem { IsProblem problem.now }
+    requires fit { length path.now ≤ number_count (case_in problem.now) }
     requires short { length path.now ≤ field_count (case_in problem.now) }
+    requires reached { 0 < length path.now → IsOpen (case_in problem.now) (before_last path.now) }
     requires held { keeps_bad problem.now.survey.now.fields problem.now.row.now path.now ≡ false }
     requires made { path_system (case_in problem.now) path.now ≡ Ok lines.now }
     ensures { result ≡ first_failing (case_in problem.now) path.now 0 lines.now }
@@ -299,7 +304,8 @@ fn first_failing(problem: &Problem, path: &Path, lines: &[Derived]) -> PathState
     PathState::Open
 }
 
-// What the line at this place makes of the path, if it decides.
+// What the line at this place makes of the path, if it decides. A line in which the last field does not stand, where that is
+// kept, was tried at the path before.
 fn tried_line(
     problem: &Problem,
     path: &Path,
@@ -308,11 +314,16 @@ fn tried_line(
     line: &Line,
 ) -> Option<PathState>
     requires problem { IsProblem problem.now }
+    requires fit { length path.now ≤ number_count (case_in problem.now) }
+    requires passed { HasPassed (case_in problem.now) path.now place line.now }
     requires held { keeps_bad problem.now.survey.now.fields problem.now.row.now path.now ≡ false }
     requires kept { kept ≡ kept_set problem.now.survey.now.fields problem.now.row.now path.now }
     requires over { HasShape (shape_of problem.now.survey.now.fields) line.now }
     ensures { (next : State) → or_next result next ≡ tried_line (case_in problem.now) path.now place line.now next }
 {
+    if was_tried(path.letters(), line.factors()) {
+        return None;
+    }
     if !asks_kept(problem, path, kept, line) {
         return None;
     }
@@ -324,6 +335,18 @@ fn tried_line(
             field: overflow.field,
         })),
     }
+}
+
+// Whether the path keeps its last field, and the line of these factors does not have it.
+#[inline(always)]
+fn was_tried(letters: &[bool], factors: &[i128]) -> bool
+    requires { length letters.now ≤ length factors.now }
+    ensures { result ≡ true → IsAside letters.now factors.now }
+{
+    if letters.is_empty() || letters[letters.len() - 1] {
+        return false;
+    }
+    factors[letters.len() - 1] == 0
 }
 
 // Whether the line asks something of the kept numbers alone.
