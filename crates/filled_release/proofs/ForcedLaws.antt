@@ -9,14 +9,17 @@ use Rattle.edit_model.specs.Rows.{IsOfKind, IsRow}
 use Rattle.edit_model.specs.declared.field.Field.{Field}
 use Rattle.edit_model.specs.declared.value.Value.{Value}
 use Rattle.edit_model.proofs.RowLaws.{row-length, row-set}
+use Rattle.edit_line.specs.EditSets.{EditsParts, lines_without}
 use Rattle.edit_line.specs.Reductions.{IsIn}
 use Rattle.edit_line.proofs.Members.{all-in}
+use Rattle.edit_normal.specs.RuleEdits.{rule_edits}
+use Rattle.deduce_fill.specs.Filled.{IsFilled}
 use Rattle.deduce_fill.specs.Forced.{IsForced}
-use Rattle.deduce_fill.specs.Laws.{FillsForced, with_forced}
+use Rattle.deduce_fill.specs.Laws.{FillsForced, HasNoCompletion, IsShown, with_forced}
 use Rattle.deduce_fill.specs.declared.filled.Filled.{Filled}
 use Rattle.deduce_fill.specs.declared.filled.Filled.TheVariants.{Blocked, Budget, Done, Overflow}
 use Rattle.deduce_fill.specs.declared.filled.Forced.{Forced}
-use Rattle.filled_release.specs.FilledFiles.{is_forced}
+use Rattle.filled_release.specs.FilledFiles.{IsAnswerFor, is_forced}
 use Rattle.filled_release.specs.inner.FilledRows.{CanBeWritten}
 
 -- none is forced at a field where there is none
@@ -54,3 +57,16 @@ pub filled-written : (survey : SurveyParts) (row : List Value) (result : Result 
     → IsRow survey.fields row → length survey.fields ≤ most_fields → IfOk result (FillsForced survey row) → IfOk result (CanBeWritten survey.fields)
 filled-written survey row (Ok answer) is few fills = can-be-written survey row answer is few fills
 filled-written survey row (Err fault) is few fills = tt
+
+-- what comes of a filling by the edits of all rules is an answer
+pub filled-answer : (survey : SurveyParts) (budget : ℕ) (row : List Value) (edits : EditsParts) (result : Result Filled OutOfMemory)
+    → edits ≡ rule_edits survey → IfOk result (IsFilled survey edits row budget) → IfOk result (FillsForced survey row)
+    → IfOk result (HasNoCompletion survey row) → IfOk result (IsShown survey (lines_without edits.lines) row)
+    → IfOk result (IsAnswerFor survey budget row)
+filled-answer survey budget row edits (Ok answer) same exact forced blocked shown = record {
+  exact = subst (λ (e : EditsParts). IsFilled survey e row budget answer) same exact;
+  forced = forced;
+  blocked = blocked;
+  shown = subst (λ (e : EditsParts). IsShown survey (lines_without e.lines) row answer) same shown;
+}
+filled-answer survey budget row edits (Err fault) same exact forced blocked shown = tt
