@@ -1,5 +1,5 @@
 -- What a run of the command `fill` does.
-use Rattle.std.specs.Prelude.{◌≡◌, if◌then◌else◌, ℕ, List, [], ◌∷◌, Some}
+use Rattle.std.specs.Prelude.{◌≡◌, if◌then◌else◌, List, [], ◌∷◌, Some}
 use Rattle.edit_desk.specs.Desk.{Asked, Files, fetched, stored}
 use Rattle.edit_model.specs.Parts.{SurveyParts}
 use Rattle.edit_model.specs.Surveys.{IsWellFormed}

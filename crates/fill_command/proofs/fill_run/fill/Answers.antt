@@ -9,7 +9,7 @@ use Rattle.run_parts.specs.Faults.{fault_status}
 use Rattle.run_parts.specs.Readings.{AnswersDue, RefusesInput}
 use Rattle.run_parts.specs.Run.{AreCallsTo}
 use Rattle.run_parts.specs.declared.fault.Fault.TheVariants as fault
-use Rattle.run_parts.proofs.CallLaws.{behind-calls, all-calls, input-calls, less-calls, of-input, of-stores}
+use Rattle.run_parts.proofs.CallLaws.{all-calls, behind-calls, input-calls, less-calls, of-input, of-stores}
 use Rattle.run_parts.proofs.CommandLaws.{stores-done, stores-stopped, unstored}
 use Rattle.run_parts.proofs.InputLaws.{stores-refuse, told-read-due}
 use Rattle.run_parts.proofs.ToldLaws.{handed}
