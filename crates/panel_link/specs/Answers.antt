@@ -1,6 +1,7 @@
 -- What becomes of a record that is linked to its values of the last period.
-use Rattle.std.specs.Prelude.{◌≡◌, ◌⊎◌, ℕ, Bool, true, false, List, None, Some}
+use Rattle.std.specs.Prelude.{◌≡◌, ◌⊎◌, ℕ, Bool, true, false, List, [], None, Some}
 use Rattle.edit_model.specs.Parts.{SurveyParts}
+use Rattle.edit_model.specs.Points.{Point}
 use Rattle.edit_model.specs.declared.value.Value.{Value}
 use Rattle.edit_line.specs.EditSets.{EditsParts}
 use Rattle.bound_cert.specs.declared.cert.Cert.{Cert}
@@ -9,6 +10,7 @@ use Rattle.bound_cert.specs.declared.outcome.GiftFault.TheVariants as stop
 use Rattle.bound_cert.specs.declared.outcome.Outcome.{Outcome}
 use Rattle.bound_cert.specs.declared.outcome.Outcome.TheVariants as outcome
 use Rattle.edit_paths.specs.Outcomes.{outcome_of}
+use Rattle.back_subst.specs.Allowed.{Completes}
 use Rattle.back_subst.specs.Gifts.{hows_of, path_of}
 use Rattle.back_subst.specs.GiveFaults.{AllHoldAt, AreAllComputed, StopsThere}
 use Rattle.back_subst.specs.Given.{IsImputed}
@@ -21,7 +23,7 @@ use Rattle.panel_link.specs.declared.linked.Linked.{Linked}
 use Rattle.panel_link.specs.declared.linked.Linked.TheVariants as linked
 
 -- the fields that the path changes are given values, for no donor, each number by the formulas; every rule holds at the record
--- that is given, and no number of its sums leaves the range
+-- that is given, which is consistent, and no number of its sums leaves the range
 pub record IsGiftAlong (survey : SurveyParts) (edits : EditsParts) (row : List Value) (path : List Bool) (gift : Gift) : Type 0 where
   pub changed : ℕ
   pub fields : path_of survey.fields changed ≡ path
@@ -29,6 +31,7 @@ pub record IsGiftAlong (survey : SurveyParts) (edits : EditsParts) (row : List V
   pub computed : AreAllComputed survey edits changed None gift.row
   pub how : gift.how ≡ hows_of survey changed None gift.row
   pub tested : AllHoldAt survey gift.row
+  pub completed : (p : Point) × Completes survey gift.row [] p
 
 -- the fault of the giving that is told of a record
 abbrev pub fault_of : GiftFault → GiveFault

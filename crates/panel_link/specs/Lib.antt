@@ -4,3 +4,4 @@ pub mod LastFields
 pub mod Laws
 pub mod LinkedCorrections
 pub mod Pins
+pub mod inner

@@ -5,7 +5,7 @@ use lib.IntN.{neg_ℤ}
 use Rattle.fraction128.specs.declared.fraction.Fraction.{Fraction}
 use Rattle.edit_model.specs.Corrections.{path_order}
 use Rattle.edit_model.specs.FieldSets.{has_number}
-use Rattle.edit_model.specs.Parts.{SurveyParts}
+use Rattle.edit_model.specs.Parts.{SurveyParts, survey_of}
 use Rattle.edit_model.specs.Rows.{value_of}
 use Rattle.edit_model.specs.declared.field.Field.{Field}
 use Rattle.edit_model.specs.declared.rule.Compare.TheVariants.{Eq}
@@ -13,11 +13,9 @@ use Rattle.edit_model.specs.declared.rule.Rule.{Rule}
 use Rattle.edit_model.specs.declared.rule.Test.TheVariants as test
 use Rattle.edit_model.specs.declared.value.Value.{Value}
 use Rattle.edit_model.specs.declared.value.Value.TheVariants.{Bad, Code, Number}
-use Rattle.edit_line.specs.EditSets.{EditsParts, edits_of}
+use Rattle.edit_line.specs.EditSets.{EditsParts}
 use Rattle.edit_line.specs.Lines.{LineParts}
-use Rattle.edit_line.specs.Shapes.{Domain, shape_of}
-use Rattle.edit_normal.specs.NormalForm.{rule_lines_of}
-use Rattle.edit_normal.specs.RuleEdits.{placed_from}
+use Rattle.edit_normal.specs.RuleEdits.{rule_edits}
 use Rattle.edit_normal.specs.RuleLines.{normal_lines_of}
 use Rattle.edit_paths.specs.Cases.{SearchCase, case_of}
 
@@ -38,26 +36,26 @@ value_kept f (Number x) = number_kept f x ∷ []
 value_kept f (Code code) = code_kept f code ∷ []
 value_kept f Bad = []
 
--- the pin of a field with this value: the normal form of that rule. A number has one equality; a code one line, never where the
--- field has another code; and a field with one code alone has none, since there is no other code
-abbrev pub pin_of : List Domain → ℕ → Value → List LineParts
-pin_of shape f v = flat_map (rule_lines_of shape) (value_kept f v)
-
 -- the fixed fields, in path order
 abbrev pub fixed_fields : List Field → ℕ → List ℕ
 fixed_fields fields fixed = filter (has_number fixed) (path_order fields)
 
--- the pins of a record's values at the fixed fields, in path order
-abbrev pub pins : SurveyParts → List Value → ℕ → List LineParts
-pins survey row fixed = flat_map (λ f. pin_of (shape_of survey.fields) f (value_of row f)) (fixed_fields survey.fields fixed)
+-- the rules that these fields of a record keep their values
+abbrev pub kept_rules : List Value → List ℕ → List Rule
+kept_rules row fields = flat_map (λ f. value_kept f (value_of row f)) fields
 
--- the lines of the survey's rules, and after them the pins
+-- the survey with, after its own, the rules that the fixed fields of a record keep their values
+abbrev pub pinned : SurveyParts → List Value → ℕ → SurveyParts
+pinned survey row fixed = survey_of survey.fields (survey.rules ++ kept_rules row (fixed_fields survey.fields fixed))
+
+-- its normal lines: those of the survey, and after them the pins. The pin of a number is one equality. That of a code is one line,
+-- never where the field has another code; where the field has no other, that line has an empty set, and there is no pin
 abbrev pub linked_lines : SurveyParts → List Value → ℕ → List LineParts
-linked_lines survey row fixed = normal_lines_of survey ++ pins survey row fixed
+linked_lines survey row fixed = normal_lines_of (pinned survey row fixed)
 
 -- these as edits, numbered by their places
 abbrev pub linked_edits : SurveyParts → List Value → ℕ → EditsParts
-linked_edits survey row fixed = edits_of (shape_of survey.fields) (placed_from 0 (linked_lines survey row fixed))
+linked_edits survey row fixed = rule_edits (pinned survey row fixed)
 
 -- what is searched for a record whose fixed fields keep their values
 abbrev pub linked_case : SurveyParts → List Value → ℕ → SearchCase

@@ -1,0 +1,2 @@
+pub mod PinLines
+pub mod Tellings

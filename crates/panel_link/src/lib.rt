@@ -1,0 +1,17 @@
+//! Panel editing: a record of a respondent who answered before is edited against its own values of the last period, which are
+//! never changed. Begin with [`link`] and `specs/LinkedCorrections.antt`; `specs/Pins.antt` says by which lines a field keeps its
+//! value, and what an answer says of the record is in `specs/Laws.antt`.
+#![tactic(auto)]
+
+mod edits;
+mod fixed;
+mod keys;
+mod laws;
+mod linked;
+mod linking;
+mod pins;
+
+pub use keys::{key_column, key_text};
+pub use laws::panel_laws;
+pub use linked::Linked;
+pub use linking::link;

@@ -1,0 +1,133 @@
+//! The lines by which fields keep their values.
+ghost use Rattle.std.specs.Prelude.{◌≡◌, ◌<◌, ◌^◌, ◌==◌, ◌++◌, ◌∷◌, [], IfOk, OnOk, if◌then◌else◌, length, map, neg_ℤ, pos, true};
+ghost use Rattle.fraction128.specs.Range.{InRange};
+ghost use Rattle.edit_model.specs.Corrections.{number_fields};
+ghost use Rattle.edit_model.specs.Rows.{IsRow, value_of};
+ghost use Rattle.edit_line.specs.Sets.{none_is_empty};
+ghost use Rattle.edit_line.specs.Shapes.{code_fields, has_field, shape_of};
+ghost use Rattle.edit_normal.specs.RuleEdits.{placed_from};
+ghost use Rattle.edit_normal.specs.NormalForm.{rule_lines_of};
+ghost use Rattle.panel_link.specs.Pins.{code_kept, number_kept};
+ghost use Rattle.panel_link.specs.inner.PinLines.{pin_of};
+
+use edit_line::{Line, Relation, Shape, place_among};
+use edit_model::{Row, Survey, Value};
+use foundation::OutOfMemory;
+use fraction128::Fraction;
+use std::alloc::Global;
+
+/// Puts a line last, numbered by its place.
+pub(crate) fn push_line(lines: &mut Vec<(u32, Line)>, line: Line) -> Result<(), OutOfMemory>
+    requires { length lines.old.items < 2 ^ 32 }
+    ensures { OnOk result (lines.new.items ≡ lines.old.items ++ (length lines.old.items, line) ∷ []) }
+{
+    let number = lines.len() as u32;
+    lines.push((number, line))?;
+    Ok(())
+}
+
+/// Puts the pin of the record's value at the field last, numbered by its place, if there is one.
+pub(crate) fn push_pin(
+    alloc: Global,
+    survey: &Survey,
+    row: &Row,
+    field: u32,
+    lines: &mut Vec<(u32, Line)>,
+) -> Result<(), OutOfMemory>
+    requires row { IsRow survey.now.fields row.now }
+    requires field { field < length row.now }
+    requires few { length lines.old.items < 2 ^ 32 }
+    ensures { OnOk result (lines.new.items
+        ≡ lines.old.items ++ placed_from (length lines.old.items) (pin_of (shape_of survey.now.fields) field (value_of row.now field))) }
+{
+    let _fields = survey.fields(); // read for what it says: they are in form
+    match row.value(field) {
+        Value::Number(x) => push_line(lines, number_pin(alloc, survey, field, *x)?),
+        Value::Code(code) => push_code_pin(alloc, survey, field, *code, lines),
+        Value::Bad => Ok(()),
+    }
+}
+
+// The number at the field is this one.
+fn number_pin(alloc: Global, survey: &Survey, field: u32, x: Fraction) -> Result<Line, OutOfMemory>
+    ensures { IfOk result (λ line. line ∷ [] ≡ rule_lines_of (shape_of survey.now.fields) (number_kept field x)) }
+{
+    let shape = Shape::of(survey);
+    let sets = shape.whole_sets(alloc)?;
+    let factors = factors_at(alloc, survey, field, x.denominator())?;
+    Ok(Line::divided(
+        shape,
+        sets,
+        factors,
+        negative(x.numerator()),
+        Relation::Equal,
+    ))
+}
+
+// The factors of a line in which this field stands alone.
+fn factors_at(
+    alloc: Global,
+    survey: &Survey,
+    field: u32,
+    factor: i128,
+) -> Result<Vec<i128>, OutOfMemory>
+    requires { InRange factor }
+    ensures { IfOk result (λ factors. factors.items ≡ map (λ f. if field == f then factor else pos 0) (number_fields survey.now.fields)) }
+{
+    let mut factors = Vec::with_capacity(alloc, survey.numbers().len())?;
+    for other in survey.numbers() {
+        factors.push(factor_at(*other, field, factor))?;
+    }
+    Ok(factors)
+}
+
+// The factor at the field itself, and 0 elsewhere.
+fn factor_at(other: u32, field: u32, factor: i128) -> i128
+    ensures { result ≡ (if field == other then factor else pos 0) }
+{
+    if field == other { factor } else { 0 }
+}
+
+// The negative of a number.
+fn negative(number: i128) -> i128
+    requires { InRange number }
+    ensures value { result ≡ neg_ℤ number }
+    ensures in_range { InRange result }
+{
+    -number
+}
+
+// Puts the line last that the code at the field is never another one, numbered by its place, if the field has another.
+fn push_code_pin(
+    alloc: Global,
+    survey: &Survey,
+    field: u32,
+    code: u8,
+    lines: &mut Vec<(u32, Line)>,
+) -> Result<(), OutOfMemory>
+    requires field { has_field (code_fields (shape_of survey.now.fields)) field ≡ true }
+    requires code { code < 64 }
+    requires few { length lines.old.items < 2 ^ 32 }
+    ensures { OnOk result (lines.new.items
+        ≡ lines.old.items ++ placed_from (length lines.old.items) (rule_lines_of (shape_of survey.now.fields) (code_kept field code))) }
+{
+    let shape = Shape::of(survey);
+    let mut sets = shape.whole_sets(alloc)?;
+    let place = place_among(survey.codes(), field);
+    sets[place] &= sets[place] ^ (1 << code);
+    if have_codes(&sets) {
+        let factors = vec![in alloc; 0; survey.numbers().len()]?;
+        push_line(
+            lines,
+            Line::over(shape, sets, factors, -1, Relation::AtLeast),
+        )?;
+    }
+    Ok(())
+}
+
+// Whether no set is empty.
+fn have_codes(sets: &[u64]) -> bool
+    ensures { result ≡ none_is_empty sets.now }
+{
+    sets.iter().all(|set| *set != 0)
+}
