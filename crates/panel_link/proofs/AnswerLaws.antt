@@ -1,4 +1,4 @@
-use Rattle.std.proofs.Common.{◌≡◌, ℕ, Bool, true, false, List, Some, None, inl, inr, length, refl, sym, subst}
+use Rattle.std.proofs.Common.{◌≡◌, ◌↔◌, ◌∙◌, ℕ, Bool, true, false, List, Some, None, inl, inr, length, refl, sym, subst}
 use Rattle.edit_model.specs.Parts.{SurveyParts}
 use Rattle.edit_model.specs.Surveys.{IsWellFormed}
 use Rattle.edit_model.specs.declared.value.Value.{Value}
@@ -6,7 +6,8 @@ use Rattle.derivation.specs.Refutations.{trues}
 use Rattle.bound_cert.specs.declared.cert.Cert.{Cert}
 use Rattle.bound_cert.specs.declared.outcome.Outcome.{Outcome}
 use Rattle.bound_cert.specs.declared.outcome.Outcome.TheVariants as outcome
-use Rattle.edit_paths.specs.Cases.{IsCase}
+use Rattle.edit_line.specs.EditSets.{EditsParts}
+use Rattle.edit_paths.specs.Cases.{IsCase, case_of}
 use Rattle.edit_paths.specs.Outcomes.{outcome_of}
 use Rattle.edit_paths.proofs.CertificateTrees.{change-tree, contradiction-tree}
 use Rattle.edit_paths.proofs.ChoiceLaws.{contradictory}
@@ -65,3 +66,32 @@ module _ (survey : SurveyParts) (row : List Value) (fixed budget : ℕ) (well : 
       by : (b : Bool) → lacks_value survey row fixed ≡ b → IsLinkedWith b survey row fixed budget answer → Tells answer
       by true lacks told = subst (λ (a : Linked). Tells a) (sym told) (lacks, tt)
       by false values told = follows values (outcome_of (linked_case survey row fixed) budget) refl answer told
+
+-- what follows on the search by edits that are those with the pins
+pub linked-answer : (survey : SurveyParts) (row : List Value) (fixed budget : ℕ) (edits : EditsParts) → edits ≡ linked_edits survey row fixed
+    → lacks_value survey row fixed ≡ false → (answer : Linked)
+    → FollowsOn survey edits row (outcome_of (case_of survey edits row) budget) answer → IsLinked survey row fixed budget answer
+linked-answer survey row fixed budget edits same values answer follows =
+    subst (λ (b : Bool). IsLinkedWith b survey row fixed budget answer) (sym values)
+    (subst (λ (e : EditsParts). FollowsOn survey e row (outcome_of (case_of survey e row) budget) answer) same follows)
+
+-- a record with a value at each fixed field is not without one
+not-lacking : (survey : SurveyParts) (edits : EditsParts) (row : List Value) (o : Outcome) (answer : Linked) → FollowsOn survey edits row o answer
+    → answer ≡ linked.NoLast → ⊥
+not-lacking survey edits row (outcome.Change path weight cert) answer (inl (gift, given, told)) e = cc (sym told ∙ e)
+not-lacking survey edits row (outcome.Change path weight cert) answer (inr (at, stops, told)) e = cc (sym told ∙ e)
+not-lacking survey edits row (outcome.Contradictory cert) answer told e = cc (sym told ∙ e)
+not-lacking survey edits row (outcome.Budget path work) answer told e = cc (sym told ∙ e)
+not-lacking survey edits row (outcome.Overflow path event) answer told e = cc (sym told ∙ e)
+
+-- one fixed field has no value exactly where the answer says so
+pub no-last : (survey : SurveyParts) (row : List Value) (fixed budget : ℕ) (answer : Linked) → IsLinked survey row fixed budget answer
+    → (answer ≡ linked.NoLast) ↔ (lacks_value survey row fixed ≡ true)
+no-last survey row fixed budget answer = by (lacks_value survey row fixed)
+  where
+    by : (b : Bool) → IsLinkedWith b survey row fixed budget answer → (answer ≡ linked.NoLast) ↔ (b ≡ true)
+    by true told = (λ _. refl, λ _. told)
+    by false told = (
+      λ e. absurd (not-lacking survey (linked_edits survey row fixed) row (outcome_of (linked_case survey row fixed) budget) answer told e),
+      λ none. absurd (cc),
+    )

@@ -6,3 +6,6 @@ pub mod PathWorks
 pub mod PinLaws
 pub mod PinRules
 pub mod PlacedLines
+pub mod FixedLoops
+pub mod PinParts
+pub mod LinkedCases

@@ -1,4 +1,4 @@
-use Rattle.std.proofs.Common.{◌≡◌, ◌≢◌, ◌↔◌, ℕ, suc, ◌<◌, ◌++◌, Bool, true, false, List, [], ◌∷◌, All, inl, inr, length, refl, sym, ap, ◌∙◌, subst, arith}
+use Rattle.std.proofs.Common.{◌≡◌, ◌≢◌, ◌↔◌, ℕ, suc, ◌<◌, ◌++◌, ◌&&◌, Bool, true, false, List, [], ◌∷◌, All, inl, inr, length, refl, sym, ap, ◌∙◌, subst, arith}
 use Rattle.std.specs.List.{AllByRecursion, filter, flat_map, list_any}
 use Rattle.std.proofs.lemmas.List.Elements.{All-append}
 use Rattle.edit_model.specs.Corrections.{IsCorrection, path_order}
@@ -98,7 +98,9 @@ module _ (survey : SurveyParts) (row : List Value) (fixed : ℕ) (is_row : IsRow
   module _ (values : lacks_value survey row fixed ≡ false) where
     some-there : (f : ℕ) → IsIn f (fixed_fields survey.fields fixed) → value_of row f ≢ Bad
     some-there f there bad =
-        cc (sym values ∙ any-in (λ g. is_bad (value_of row g)) f (fixed_fields survey.fields fixed) there (ap is_bad bad))
+        let (among, has) = in-filter-out (has_number fixed) f (path_order survey.fields) there in
+        cc (sym values ∙ any-in (λ g. has_number fixed g && is_bad (value_of row g)) f (path_order survey.fields) among
+        (ap (λ (b : Bool). b && is_bad (value_of row f)) has ∙ ap is_bad bad))
 
     -- a correction of the survey with these rules is one that leaves the fixed fields alone
     pub pinned-correction : (p : Point) → IsCorrection (pinned survey row fixed) p ↔ IsLinkedCorrection survey row fixed p

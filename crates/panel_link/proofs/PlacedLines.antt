@@ -1,6 +1,8 @@
-use Rattle.std.proofs.Common.{◌≡◌, ◌≢◌, ℕ, suc, ◌+◌, ◌++◌, true, false, List, [], ◌∷◌, append-nil, Some, inl, inr, length, map, slice_get, slice_index_or, refl, sym, ap, ◌∙◌, subst, arith}
-use Rattle.std.specs.List.{flat_map}
+use Rattle.std.proofs.Common.{◌≡◌, ℕ, suc, ◌+◌, ◌*◌, ◌<◌, ◌≤◌, ◌++◌, Bool, true, false, if◌then◌else◌, List, [], ◌∷◌, append-nil, append_assoc, Some, inl, inr, get_or, length, map, take, slice_get, slice_index_or, refl, sym, ap, ◌∙◌, subst, arith}
+use Rattle.std.specs.List.{filter, flat_map}
 use Rattle.std.proofs.lemmas.Grind.{flat_map-append}
+use Rattle.std.proofs.lemmas.List.{length-append, length-map, length-take-le, take_more}
+use Rattle.std.proofs.lemmas.List.Elements.{filter-append}
 use Rattle.edit_model.specs.Parts.{SurveyParts}
 use Rattle.edit_model.specs.Rows.{value_of}
 use Rattle.edit_model.specs.declared.rule.Rule.{Rule}
@@ -12,6 +14,8 @@ use Rattle.edit_line.specs.Shapes.{Domain, shape_of}
 use Rattle.edit_normal.specs.NormalForm.{rule_lines_of}
 use Rattle.edit_normal.specs.RuleEdits.{placed_from}
 use Rattle.edit_normal.specs.RuleLines.{normal_lines_of}
+use Rattle.edit_normal.specs.declared.rule_line.RuleLine.{RuleLine}
+use Rattle.edit_normal.proofs.RuleEditLaws.{placed-turn}
 use Rattle.derivation.specs.Refutations.{trues}
 use Rattle.edit_paths.specs.Cases.{AreUsableAmong}
 use Rattle.panel_link.specs.Pins.{fixed_fields, kept_rules, linked_lines, value_kept}
@@ -68,3 +72,77 @@ pub lines-and-pins : (survey : SurveyParts) (row : List Value) (fixed : ℕ)
 lines-and-pins survey row fixed =
     flat_map-append (λ rule. rule_lines_of (shape_of survey.fields) rule) survey.rules (kept_rules row (fixed_fields survey.fields fixed))
     ∙ ap (λ (ls : List LineParts). normal_lines_of survey ++ ls) (pins-of (shape_of survey.fields) row (fixed_fields survey.fields fixed))
+
+-- ---- one line more
+
+pub placed-few : (lines : List RuleLine) (i : ℕ) (items : List (ℕ × LineParts)) → i < length lines → length lines ≤ 1000
+    → items ≡ placed_from 0 (map (λ (r : RuleLine). r.line) (take i lines)) → length items < 4294967296
+placed-few lines i items below few is =
+    omega (
+      arith,
+      ap (λ (es : List (ℕ × LineParts)). length es) is,
+      placed-length 0 (map (λ (r : RuleLine). r.line) (take i lines)),
+      length-map {B = LineParts} (take i lines) (λ (r : RuleLine). r.line),
+      length-take-le i lines (omega (arith, below)),
+      below,
+      few,
+    )
+
+pub placed-next : (lines : List RuleLine) (i : ℕ) (one : RuleLine) (copy : LineParts) (before after : List (ℕ × LineParts)) → i < length lines
+    → one ≡ get_or lines i one → before ≡ placed_from 0 (map (λ (r : RuleLine). r.line) (take i lines)) → copy ≡ one.line
+    → after ≡ before ++ (length before, copy) ∷ [] → after ≡ placed_from 0 (map (λ (r : RuleLine). r.line) (take (i + 1) lines))
+placed-next lines i one copy before after below here so_far same more =
+    placed-turn (length before) (take i lines) one before after (ap (λ (es : List (ℕ × LineParts)). length es) so_far
+    ∙ placed-length 0 (map (λ (r : RuleLine). r.line) (take i lines)) ∙ length-map {B = LineParts} (take i lines) (λ (r : RuleLine). r.line)) so_far
+    (more ∙ ap (λ (l : LineParts). before ++ (length before, l) ∷ []) same)
+    ∙ ap (λ (rs : List RuleLine). placed_from 0 (map (λ (r : RuleLine). r.line) rs))
+    (ap (λ (r : RuleLine). take i lines ++ r ∷ []) here ∙ sym (take_more lines i one below))
+
+-- ---- one field more
+
+module _ (g : ℕ → List LineParts) (t : ℕ → Bool) where
+  fields-more : (fields : List ℕ) (i : ℕ) → i < length fields
+      → flat_map g (filter t (take (i + 1) fields)) ≡ flat_map g (filter t (take i fields)) ++ (if t (get_or fields i 0) then g (get_or fields i 0) else [])
+  fields-more fields i below =
+      ap (λ (fs : List ℕ). flat_map g (filter t fs)) (take_more fields i 0 below)
+      ∙ ap (λ (fs : List ℕ). flat_map g fs) (filter-append t (take i fields) (get_or fields i 0 ∷ []))
+      ∙ flat_map-append g (filter t (take i fields)) (filter t (get_or fields i 0 ∷ []))
+      ∙ ap (λ (ls : List LineParts). flat_map g (filter t (take i fields)) ++ ls) (by (t (get_or fields i 0)))
+    where
+      by : (b : Bool) → flat_map g (if b then get_or fields i 0 ∷ [] else []) ≡ (if b then g (get_or fields i 0) else [])
+      by true = append-nil (g (get_or fields i 0))
+      by false = refl
+
+  pub pins-next : (fields : List ℕ) (first : List LineParts) (i f : ℕ) (before after : List (ℕ × LineParts)) → i < length fields → f ≡ get_or fields i 0
+      → before ≡ placed_from 0 (first ++ flat_map g (filter t (take i fields)))
+      → after ≡ before ++ placed_from (length before) (if t f then g f else [])
+      → after ≡ placed_from 0 (first ++ flat_map g (filter t (take (i + 1) fields)))
+  pins-next fields first i f before after below is so_far more =
+      let whole = first ++ flat_map g (filter t (take i fields)) in
+      let last = if t (get_or fields i 0) then g (get_or fields i 0) else [] in
+      more ∙ ap (λ n. before ++ placed_from (length before) (if t n then g n else [])) is
+      ∙ ap (λ n. before ++ placed_from n last) (ap (λ (es : List (ℕ × LineParts)). length es) so_far ∙ placed-length 0 whole ∙ from_none (length whole))
+      ∙ ap (λ (es : List (ℕ × LineParts)). es ++ placed_from (0 + length whole) last) so_far
+      ∙ sym (placed-append 0 whole last)
+      ∙ ap (λ (ls : List LineParts). placed_from 0 ls) (append_assoc first (flat_map g (filter t (take i fields))) last
+      ∙ ap (λ (ls : List LineParts). first ++ ls) (sym (fields-more fields i below)))
+    where
+      from_none : (n : ℕ) → n ≡ 0 + n
+      from_none n = omega arith
+
+  -- where a field adds few lines
+  pub pins-few : (fields : List ℕ) (i f : ℕ) (before after : List (ℕ × LineParts)) → ((n : ℕ) → length (g n) ≤ 2) → length before ≤ 1000 + 2 * i
+      → after ≡ before ++ placed_from (length before) (if t f then g f else []) → length after ≤ 1000 + 2 * (i + 1)
+  pins-few fields i f before after few so_far more =
+      omega (
+        arith,
+        ap (λ (es : List (ℕ × LineParts)). length es) more,
+        length-append before (placed_from (length before) (if t f then g f else [])),
+        placed-length (length before) (if t f then g f else []),
+        by (t f),
+        so_far,
+      )
+    where
+      by : (b : Bool) → length (if b then g f else []) ≤ 2
+      by true = few f
+      by false = omega arith

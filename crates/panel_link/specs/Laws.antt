@@ -13,11 +13,10 @@ use Rattle.bound_cert.specs.ValidTrees.{IsValidTree, tree_case}
 use Rattle.bound_cert.specs.declared.cert.Cert.{Cert}
 use Rattle.bound_cert.specs.declared.outcome.Outcome.{Outcome}
 use Rattle.bound_cert.specs.declared.outcome.Outcome.TheVariants as outcome
-use Rattle.edit_paths.specs.Cases.{IsCase}
 use Rattle.back_subst.specs.Allowed.{Completes}
 use Rattle.panel_link.specs.Answers.{IsLinked}
 use Rattle.panel_link.specs.LinkedCorrections.{IsFirstAmong, IsLeastAmong, IsLinkedCorrection, lacks_value}
-use Rattle.panel_link.specs.Pins.{linked_case, linked_lines}
+use Rattle.panel_link.specs.Pins.{linked_lines}
 use Rattle.panel_link.specs.declared.linked.Linked.{Linked}
 use Rattle.panel_link.specs.declared.linked.Linked.TheVariants as linked
 
@@ -85,12 +84,12 @@ PinLaw =
 abbrev pub LinkedLaw : Type 0
 LinkedLaw =
     (survey : SurveyParts) (row : List Value) (fixed budget : ℕ) (answer : Linked)
-    → IsWellFormed survey → IsCase (linked_case survey row fixed) → IsLinked survey row fixed budget answer
+    → IsWellFormed survey → IsRow survey.fields row → IsLinked survey row fixed budget answer
     → Says survey row fixed answer × IsShown survey row fixed answer
 
 -- there is one answer
 abbrev pub OneAnswerLaw : Type 0
 OneAnswerLaw =
     (survey : SurveyParts) (row : List Value) (fixed budget : ℕ) (answer other : Linked)
-    → IsCase (linked_case survey row fixed)
+    → IsWellFormed survey → IsRow survey.fields row
     → IsLinked survey row fixed budget answer → IsLinked survey row fixed budget other → other ≡ answer

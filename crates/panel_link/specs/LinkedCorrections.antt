@@ -1,18 +1,17 @@
 -- Corrections that leave the fixed fields of a record alone, and the least of these.
-use Rattle.std.specs.Prelude.{◌≡◌, ℕ, ◌<◌, ◌≤◌, Bool, true, List, IsTrue, length}
+use Rattle.std.specs.Prelude.{◌≡◌, ℕ, ◌<◌, ◌≤◌, ◌&&◌, Bool, true, List, IsTrue, length}
 use Rattle.std.specs.List.{list_any}
-use Rattle.edit_model.specs.Corrections.{IsCorrection, change_weight, is_first, word_of}
+use Rattle.edit_model.specs.Corrections.{IsCorrection, change_weight, is_first, path_order, word_of}
 use Rattle.edit_model.specs.FieldSets.{has_number}
 use Rattle.edit_model.specs.Parts.{SurveyParts}
 use Rattle.edit_model.specs.Points.{Point}
 use Rattle.edit_model.specs.RowPoints.{Agrees}
 use Rattle.edit_model.specs.Rows.{is_bad, value_of}
 use Rattle.edit_model.specs.declared.value.Value.{Value}
-use Rattle.panel_link.specs.Pins.{fixed_fields}
 
 -- whether some fixed field has no value
 abbrev pub lacks_value : SurveyParts → List Value → ℕ → Bool
-lacks_value survey row fixed = list_any (λ f. is_bad (value_of row f)) (fixed_fields survey.fields fixed)
+lacks_value survey row fixed = list_any (λ f. has_number fixed f && is_bad (value_of row f)) (path_order survey.fields)
 
 -- the point has the record's values at the fixed fields
 abbrev pub AgreesAt : List Value → ℕ → Point → Type 0

@@ -1,6 +1,7 @@
 //! The fixed fields of a record.
-ghost use Rattle.std.specs.Prelude.{◌≡◌};
-ghost use Rattle.edit_model.specs.Rows.{IsRow};
+ghost use Rattle.std.specs.Prelude.{◌≡◌, ◌<◌, ◌&&◌, length};
+ghost use Rattle.edit_model.specs.FieldSets.{has_number};
+ghost use Rattle.edit_model.specs.Rows.{IsRow, is_bad, value_of};
 ghost use Rattle.panel_link.specs.LinkedCorrections.{lacks_value};
 
 use edit_model::{FieldSet, Row, Survey};
@@ -12,10 +13,18 @@ pub(crate) fn lacks_value(survey: &Survey, row: &Row, fixed: FieldSet) -> bool
 {
     let _fields = survey.fields(); // read for what it says: there are at most 64
     for place in 0..survey.fields().len() as u32 {
-        let field = survey.path_field(place);
-        if fixed.has(field) && row.value(field).is_bad() {
+        if lacks_at(row, fixed, survey.path_field(place)) {
             return true;
         }
     }
     false
+}
+
+// Whether the field is fixed, and has no value.
+fn lacks_at(row: &Row, fixed: FieldSet, field: u32) -> bool
+    requires few { field < 64 }
+    requires within { field < length row.now }
+    ensures { result ≡ (has_number fixed field && is_bad (value_of row.now field)) }
+{
+    fixed.has(field) && row.value(field).is_bad()
 }

@@ -1,9 +1,10 @@
 //! The column by which the rows of two files are joined.
-ghost use Rattle.std.specs.Prelude.{◌≡◌, ◌≤◌, IfSome, length};
+ghost use Rattle.std.specs.Prelude.{◌≡◌, ◌≤◌, ◌<◌, IfSome, length};
 ghost use Rattle.record_text.specs.Trimming.{is_blank, trimmed, without_end, without_front};
+ghost use Rattle.record_text.specs.inner.NextColumns.{IsNextColumn};
 ghost use Rattle.panel_link.specs.KeyColumns.{IsKeyColumn};
 
-use record_text::Sheet;
+use record_text::{Sheet, Texts};
 
 /// The column of the key, from 0: the one whose header text, without blanks at its ends, is the key. None where the key stands in
 /// no column, or in several. The header has at most 256 columns, as each that was read. No memory.
@@ -12,16 +13,27 @@ pub fn key_column(sheet: &Sheet, key: &[u8]) -> Option<u32>
     ensures { IsKeyColumn key.now sheet.now.header result }
 {
     let header = sheet.header();
-    let mut found = None;
-    for column in 0..header.len() {
+    let Some(column) = next_column(0, key, header) else {
+        return None;
+    };
+    if next_column(column + 1, key, header).is_some() {
+        return None;
+    }
+    Some(column as u32)
+}
+
+// The first column, from this number on, whose text is the key.
+fn next_column(from: usize, key: &[u8], header: &Texts) -> Option<usize>
+    requires { from ≤ length header.now }
+    ensures within { IfSome result (λ column. column < length header.now) }
+    ensures columns { IsNextColumn result from key.now header.now }
+{
+    for column in from..header.len() {
         if key_text(header.get(column)) == key {
-            if found.is_some() {
-                return None;
-            }
-            found = Some(column as u32);
+            return Some(column);
         }
     }
-    found
+    None
 }
 
 /// The text of a key, without spaces and tabs at both ends. No memory.

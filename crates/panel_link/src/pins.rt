@@ -1,14 +1,13 @@
 //! The lines by which fields keep their values.
-ghost use Rattle.std.specs.Prelude.{◌≡◌, ◌<◌, ◌^◌, ◌==◌, ◌++◌, ◌∷◌, [], IfOk, OnOk, if◌then◌else◌, length, map, neg_ℤ, pos, true};
+ghost use Rattle.std.specs.Prelude.{◌≡◌, ◌<◌, ◌^◌, ◌++◌, ◌∷◌, [], IfOk, OnOk, length, map, neg_ℤ, slice_index_or, slice_set, true};
 ghost use Rattle.fraction128.specs.Range.{InRange};
-ghost use Rattle.edit_model.specs.Corrections.{number_fields};
 ghost use Rattle.edit_model.specs.Rows.{IsRow, value_of};
 ghost use Rattle.edit_line.specs.Sets.{none_is_empty};
-ghost use Rattle.edit_line.specs.Shapes.{code_fields, has_field, shape_of};
+ghost use Rattle.edit_line.specs.Shapes.{code_fields, has_field, number_fields, shape_of};
 ghost use Rattle.edit_normal.specs.RuleEdits.{placed_from};
 ghost use Rattle.edit_normal.specs.NormalForm.{rule_lines_of};
 ghost use Rattle.panel_link.specs.Pins.{code_kept, number_kept};
-ghost use Rattle.panel_link.specs.inner.PinLines.{pin_of};
+ghost use Rattle.panel_link.specs.inner.PinLines.{others_of, own_factor, pin_of};
 
 use edit_line::{Line, Relation, Shape, place_among};
 use edit_model::{Row, Survey, Value};
@@ -50,42 +49,37 @@ pub(crate) fn push_pin(
 
 // The number at the field is this one.
 fn number_pin(alloc: Global, survey: &Survey, field: u32, x: Fraction) -> Result<Line, OutOfMemory>
-    ensures { IfOk result (λ line. line ∷ [] ≡ rule_lines_of (shape_of survey.now.fields) (number_kept field x)) }
+    ensures { IfOk result (λ line. rule_lines_of (shape_of survey.now.fields) (number_kept field x) ≡ line ∷ []) }
 {
+    let _fields = survey.fields(); // read for what it says: they are in form
     let shape = Shape::of(survey);
     let sets = shape.whole_sets(alloc)?;
-    let factors = factors_at(alloc, survey, field, x.denominator())?;
-    Ok(Line::divided(
-        shape,
-        sets,
-        factors,
-        negative(x.numerator()),
-        Relation::Equal,
-    ))
+    let factors = factors_at(alloc, survey, field, x)?;
+    let constant = negative(x.numerator());
+    Ok(Line::divided(shape, sets, factors, constant, Relation::Equal))
 }
 
-// The factors of a line in which this field stands alone.
+// The factors of a line in which this field stands alone, with the denominator of the number.
 fn factors_at(
     alloc: Global,
     survey: &Survey,
     field: u32,
-    factor: i128,
+    x: Fraction,
 ) -> Result<Vec<i128>, OutOfMemory>
-    requires { InRange factor }
-    ensures { IfOk result (λ factors. factors.items ≡ map (λ f. if field == f then factor else pos 0) (number_fields survey.now.fields)) }
+    ensures { IfOk result (λ factors. factors.items ≡ map (own_factor field x) (number_fields (shape_of survey.now.fields))) }
 {
     let mut factors = Vec::with_capacity(alloc, survey.numbers().len())?;
     for other in survey.numbers() {
-        factors.push(factor_at(*other, field, factor))?;
+        factors.push(factor_at(*other, field, x))?;
     }
     Ok(factors)
 }
 
-// The factor at the field itself, and 0 elsewhere.
-fn factor_at(other: u32, field: u32, factor: i128) -> i128
-    ensures { result ≡ (if field == other then factor else pos 0) }
+// The denominator of the number at the field itself, and 0 elsewhere.
+fn factor_at(other: u32, field: u32, x: Fraction) -> i128
+    ensures { result ≡ own_factor field x other }
 {
-    if field == other { factor } else { 0 }
+    if field == other { x.denominator() } else { 0 }
 }
 
 // The negative of a number.
@@ -113,8 +107,7 @@ fn push_code_pin(
 {
     let shape = Shape::of(survey);
     let mut sets = shape.whole_sets(alloc)?;
-    let place = place_among(survey.codes(), field);
-    sets[place] &= sets[place] ^ (1 << code);
+    leave_others(&mut sets, place_among(survey.codes(), field), code);
     if have_codes(&sets) {
         let factors = vec![in alloc; 0; survey.numbers().len()]?;
         push_line(
@@ -123,6 +116,23 @@ fn push_code_pin(
         )?;
     }
     Ok(())
+}
+
+// Takes the code out of the set at the place.
+fn leave_others(sets: &mut Vec<u64>, place: usize, code: u8)
+    requires place { place < length sets.old.items }
+    requires code { code < 64 }
+    ensures { sets.new.items ≡ slice_set sets.old.items place (others_of (slice_index_or sets.old.items place 0) code) }
+{
+    sets[place] = others_of(sets[place], code);
+}
+
+// The codes of the set but this one.
+fn others_of(set: u64, code: u8) -> u64
+    requires { code < 64 }
+    ensures { result ≡ others_of set code }
+{
+    set & (set ^ (1 << code))
 }
 
 // Whether no set is empty.
