@@ -1,4 +1,4 @@
-use Rattle.std.proofs.Common.{◌≡◌, ◌↔◌, ◌∙◌, ℕ, Bool, true, false, List, Some, None, inl, inr, length, refl, sym, subst}
+use Rattle.std.proofs.Common.{◌≡◌, ◌↔◌, ◌∙◌, ℕ, Bool, true, false, List, Some, inl, inr, length, refl, sym, subst}
 use Rattle.edit_model.specs.Parts.{SurveyParts}
 use Rattle.edit_model.specs.Surveys.{IsWellFormed}
 use Rattle.edit_model.specs.declared.value.Value.{Value}
@@ -43,7 +43,8 @@ module _ (survey : SurveyParts) (row : List Value) (fixed budget : ℕ) (well : 
     follows (outcome.Change path weight cert) e answer (inl (gift, given, told)) =
         subst (λ (a : Linked). Tells a) (sym told) (
           let (p, completes) = given.completed in
-              corrected survey (linked_edits survey row fixed) row fixed budget path weight cert is same e given.changed given.fields values gift.row given.imputed p completes,
+              corrected survey (linked_edits survey row fixed) row fixed budget path weight cert is same e given.changed given.fields values gift.row
+              given.imputed p completes,
           change-shown path weight cert e,
         )
     follows (outcome.Change path weight cert) e answer (inr (at, stops, told)) =

@@ -1,14 +1,14 @@
-use Rattle.std.proofs.Common.{◌≡◌, ◌<◌, ◌^◌, ℕ, Bool, true, false, List, None, [], length, map, nat_lt, slice_index_or, inl, refl, sym, ap, ◌∙◌, subst, arith}
+use Rattle.std.proofs.Common.{◌≡◌, ◌<◌, ◌^◌, ℕ, Bool, true, false, List, None, [], length, nat_lt, slice_index_or, inl, refl, sym, ap, ◌∙◌, subst, arith}
 use Rattle.std.proofs.lemmas.Bool.Decides.{Decides-ltb}
 use Rattle.edit_model.specs.Corrections.{Differs, IsLeastWeight, differs_from, path_order, word_of}
 use Rattle.edit_model.specs.FieldSets.{has_number}
 use Rattle.edit_model.specs.Parts.{SurveyParts}
 use Rattle.edit_model.specs.Points.{Point}
-use Rattle.edit_model.specs.Rows.{IsRow, value_of}
+use Rattle.edit_model.specs.Rows.{value_of}
 use Rattle.edit_model.specs.declared.value.Value.{Value}
 use Rattle.edit_model.proofs.RowLaws.{row-length}
 use Rattle.edit_line.specs.EditSets.{EditsParts}
-use Rattle.edit_line.specs.Shapes.{has_field, place_in, shape_of}
+use Rattle.edit_line.specs.Shapes.{place_in, shape_of}
 use Rattle.linear_elim.proofs.PointLaws.{map-agree}
 use Rattle.bound_cert.specs.Paths.{path_weight}
 use Rattle.bound_cert.specs.declared.cert.Cert.{Cert}
@@ -64,12 +64,14 @@ module _ (survey : SurveyParts) (edits : EditsParts) (row : List Value) (fixed b
       sound = λ p meets. ((same p).0 meets).correction;
       complete = λ p correction outside.
           ((same p).1 (record { correction = correction; agrees = λ f below has. outside f below (not-changed f below has) })).edits;
-      few = subst (λ (p : List Bool). IsCheap (case_of survey edits row) p) (sym path_is) (found-cheap (case_of survey edits row) is budget path weight cert e small);
+      few = subst (λ (p : List Bool). IsCheap (case_of survey edits row) p) (sym path_is)
+          (found-cheap (case_of survey edits row) is budget path weight cert e small);
     }
 
     -- ---- with its new values
 
-    module _ (values : lacks_value survey row fixed ≡ false) (new : List Value) (imputed : IsImputed survey row changed None new) (p : Point) (completes : Completes survey new [] p) where
+    module _ (values : lacks_value survey row fixed ≡ false) (new : List Value) (imputed : IsImputed survey row changed None new) (p : Point)
+        (completes : Completes survey new [] p) where
       -- the record keeps those of the fixed fields
       kept : (f : ℕ) → has_number fixed f ≡ true → value_of new f ≡ value_of row f
       kept f has = by (nat_lt f (length row)) refl
@@ -95,7 +97,8 @@ module _ (survey : SurveyParts) (edits : EditsParts) (row : List Value) (fixed b
       differs f has =
           needed-differs (pinned survey row fixed) row changed is.fields is.row (in-order survey.fields) p
           ((pinned-correction survey row fixed is.row values p).1 linked)
-          (λ g below unchanged. subst (λ (v : Value). differs_from v p g ≡ false) (imputed.keeps g unchanged) (completes.agrees g (omega (arith, below, same-long)) refl))
+          (λ g below unchanged. subst (λ (v : Value). differs_from v p g ≡ false) (imputed.keeps g unchanged)
+          (completes.agrees g (omega (arith, below, same-long)) refl))
           (inl (subst (λ (w : List Bool). IsLeastWeight (pinned survey row fixed) row (path_weight survey.fields w)) (sym path_is)
           (least-pinned survey edits row fixed is values same path choice))) f has
 

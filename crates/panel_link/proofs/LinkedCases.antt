@@ -12,7 +12,7 @@ use Rattle.edit_line.specs.EditSets.{base_lines}
 use Rattle.edit_line.specs.Lines.{IsLine, LineParts}
 use Rattle.edit_line.specs.Reductions.{IsIn, lines_of, reduce_derived}
 use Rattle.edit_line.specs.Sets.{none_is_empty}
-use Rattle.edit_line.specs.Shapes.{Domain, shape_of, whole_sets}
+use Rattle.edit_line.specs.Shapes.{shape_of}
 use Rattle.edit_line.proofs.DivisionLaws.{IsLine-divided, divisor-above}
 use Rattle.edit_line.proofs.Members.{all-in, in-all, in-either, in-flat_map, in-flat_map-out}
 use Rattle.edit_line.proofs.NegationLines.{never-is}
@@ -39,7 +39,8 @@ module _ (fields : List Field) (are : All IsField fields) where
     where
       by : IsIn line (reduced (parts (shape_of fields) f x (wholes-full fields are)) ∷ []) → IsLine line
       by (inl same) =
-          subst IsLine (sym same) (reduced-is (parts (shape_of fields) f x (wholes-full fields are)) (parts-line (shape_of fields) f x (wholes-full fields are)))
+          subst IsLine (sym same) (reduced-is (parts (shape_of fields) f x (wholes-full fields are))
+          (parts-line (shape_of fields) f x (wholes-full fields are)))
       by (inr none) = absurd none
 
   code-is : (f code : ℕ) (line : LineParts) → IsIn line (rule_lines_of (shape_of fields) (code_kept f code)) → IsLine line
@@ -47,7 +48,8 @@ module _ (fields : List Field) (are : All IsField fields) where
     where
       by : (b : Bool) → none_is_empty (others (shape_of fields) f code) ≡ b → IsLine line
       by true full = elim (subst (λ (ls : List LineParts). IsIn line ls) (code-full (shape_of fields) f code full) there) [
-        | inl same ↦ subst IsLine (sym same) (never-is (shape_of fields) (others (shape_of fields) f code) (AreSets-within _ _ full (others-within (shape_of fields) f code)))
+        | inl same ↦ subst IsLine (sym same) (never-is (shape_of fields) (others (shape_of fields) f code)
+            (AreSets-within _ _ full (others-within (shape_of fields) f code)))
         | inr none ↦ absurd none
       ]
       by false empty = absurd (subst (λ (ls : List LineParts). IsIn line ls) (code-none (shape_of fields) f code empty) there)
@@ -69,9 +71,11 @@ module _ (survey : SurveyParts) (row : List Value) (fixed : ℕ) (well : IsWellF
     where
       each : (line : LineParts) → IsIn line (linked_lines survey row fixed) → IsLine line
       each line there =
-          let (rule, rule_in, made) = in-flat_map-out (λ (rule : Rule). rule_lines_of (shape_of survey.fields) rule) line (pinned survey row fixed).rules there in
+          let (rule, rule_in, made) = in-flat_map-out (λ (rule : Rule). rule_lines_of (shape_of survey.fields) rule) line
+          (pinned survey row fixed).rules there in
           elim (in-either rule survey.rules (kept_rules row (fixed_fields survey.fields fixed)) rule_in) [
-            | inl own ↦ in-all IsLine line (normal_lines_of survey) (normal-lines survey well) (in-flat_map (λ (rule : Rule). rule_lines_of (shape_of survey.fields) rule) rule line survey.rules own made)
+            | inl own ↦ in-all IsLine line (normal_lines_of survey) (normal-lines survey well)
+                (in-flat_map (λ (rule : Rule). rule_lines_of (shape_of survey.fields) rule) rule line survey.rules own made)
             | inr kept ↦ let (f, f_in, of) = in-flat_map-out (λ f. value_kept f (value_of row f)) rule (fixed_fields survey.fields fixed) kept in
                 kept-is survey.fields well.fields f (value_of row f) rule line of made
           ]

@@ -1,4 +1,5 @@
-use Rattle.std.proofs.Common.{◌≡◌, ◌++◌, ℕ, Bool, true, false, nat_lt, length, List, [], Some, None, map, reverse, slice_index_or, inl, inr, refl, sym, ap, ◌∙◌, subst, arith, ◌<◌}
+use Rattle.std.proofs.Common.{◌≡◌, ◌++◌, ℕ, Bool, true, false, nat_lt, length, List, [], Some, None, map, reverse, slice_index_or, inl, inr, refl}
+use Rattle.std.proofs.Common.{sym, ap, ◌∙◌, subst, arith, ◌<◌}
 use Rattle.std.specs.List.{filter}
 use Rattle.std.proofs.lemmas.Bool.Decides.{Decides-ltb}
 use Rattle.edit_model.specs.Corrections.{code_fields, number_fields, path_order}
@@ -162,7 +163,8 @@ module _ (survey : SurveyParts) (edits : EditsParts) (row : List Value) (is : Is
   one-follows (outcome.Change path weight cert) answer other (inl (gift, g, told)) (inr (at, s, also)) = absurd (not-both path gift at g s)
   one-follows (outcome.Change path weight cert) answer other (inr (at, s, told)) (inl (gift, g, also)) = absurd (not-both path gift at g s)
   one-follows (outcome.Change path weight cert) answer other (inr (at, s, told)) (inr (at_too, t, also)) =
-      also ∙ ap (λ (x : GiftFault). linked.Stopped (record { outcome = outcome.Change path weight cert; gift = Some x })) (one-stop path at_too at t s) ∙ sym told
+      also ∙ ap (λ (x : GiftFault). linked.Stopped (record { outcome = outcome.Change path weight cert; gift = Some x }))
+      (one-stop path at_too at t s) ∙ sym told
   one-follows (outcome.Budget path work) answer other told also = also ∙ sym told
   one-follows (outcome.Overflow path event) answer other told also = also ∙ sym told
   one-follows (outcome.Contradictory cert) answer other told also = also ∙ sym told

@@ -1,4 +1,5 @@
-use Rattle.std.proofs.Common.{◌≡◌, ◌<◌, ◌≤◌, ◌+◌, ◌^◌, ◌++◌, inl, inr, ℕ, nat_lt, Bool, true, false, if◌then◌else◌, List, [], ◌∷◌, None, Some, drop, length, take, refl, sym, ap, ◌∙◌, subst, arith}
+use Rattle.std.proofs.Common.{◌≡◌, ◌<◌, ◌≤◌, ◌+◌, ◌^◌, ◌++◌, inl, inr, ℕ, nat_lt, Bool, true, false, if◌then◌else◌, List, [], ◌∷◌, None, Some, drop}
+use Rattle.std.proofs.Common.{length, take, refl, sym, ap, ◌∙◌, subst, arith}
 use Rattle.std.proofs.lemmas.Bool.Decides.{Decides-eqb}
 use Rattle.std.proofs.lemmas.List.{length-take-le, take-append-drop, take-take}
 use Rattle.std.specs.Option.{unwrap_or}
@@ -57,17 +58,22 @@ module _ (c : SearchCase) (budget : ℕ) (chosen : List Bool) (weight : ℕ) (ce
   pub all-within : (taken paths : List (List Bool)) → outcome_from c budget taken paths ≡ outcome.Change chosen weight cert → IsWithin paths
   all-within taken [] e = absurd (cc)
   all-within taken (path ∷ paths) e =
-      by (nat_lt budget (work_of_all c taken + work_of c path)) refl (state_of c path) (is_complete c path) refl (λ h. all-within (taken ++ path ∷ []) paths h) e
+      by (nat_lt budget (work_of_all c taken + work_of c path)) refl (state_of c path) (is_complete c path) refl
+      (λ h. all-within (taken ++ path ∷ []) paths h) e
     where
       by : (over : Bool) → nat_lt budget (work_of_all c taken + work_of c path) ≡ over → (s : PathState) → (full : Bool) → is_complete c path ≡ full
           → (outcome_from c budget (taken ++ path ∷ []) paths ≡ outcome.Change chosen weight cert → IsWithin paths)
-          → unwrap_or (if over then Some (outcome.Budget path (work_of_all c taken)) else end_by c taken path s) (outcome_from c budget (taken ++ path ∷ []) paths) ≡ outcome.Change chosen weight cert
+          → unwrap_or (if over then Some (outcome.Budget path (work_of_all c taken)) else end_by c taken path s)
+          (outcome_from c budget (taken ++ path ∷ []) paths) ≡ outcome.Change chosen weight cert
           → IsWithin (path ∷ paths)
       by true over s full is rest h = absurd (cc)
       by false over (Overflows event) full is rest h = absurd (cc)
-      by false over Open full is rest h = at full (ap (λ (b : Bool). unwrap_or (if b then Some (outcome.Change path (path_weight c.survey.fields path) (change_cert c taken path)) else None) (outcome_from c budget (taken ++ path ∷ []) paths)) (sym is) ∙ h)
+      by false over Open full is rest h = at full (ap (λ (b : Bool). unwrap_or
+          (if b then Some (outcome.Change path (path_weight c.survey.fields path) (change_cert c taken path)) else None)
+          (outcome_from c budget (taken ++ path ∷ []) paths)) (sym is) ∙ h)
         where
-          at : (full : Bool) → unwrap_or (if full then Some (outcome.Change path (path_weight c.survey.fields path) (change_cert c taken path)) else None) (outcome_from c budget (taken ++ path ∷ []) paths) ≡ outcome.Change chosen weight cert → IsWithin (path ∷ paths)
+          at : (full : Bool) → unwrap_or (if full then Some (outcome.Change path (path_weight c.survey.fields path) (change_cert c taken path)) else None)
+              (outcome_from c budget (taken ++ path ∷ []) paths) ≡ outcome.Change chosen weight cert → IsWithin (path ∷ paths)
           at true h = first-one path paths (here-within taken path over) cc
           at false h = one-more path paths (here-within taken path over) (rest h)
       by false over ClosedBad full is rest h = one-more path paths (here-within taken path over) (rest h)
@@ -76,7 +82,8 @@ module _ (c : SearchCase) (budget : ℕ) (chosen : List Bool) (weight : ℕ) (ce
 
 -- ---- those that it extends are among these
 
-module _ (c : SearchCase) (is : IsCase c) (budget : ℕ) (path : List Bool) (weight : ℕ) (cert : Cert) (e : outcome_of c budget ≡ outcome.Change path weight cert) where
+module _ (c : SearchCase) (is : IsCase c) (budget : ℕ) (path : List Bool) (weight : ℕ) (cert : Cert)
+    (e : outcome_of c budget ≡ outcome.Change path weight cert) where
   found : FoundAt c [] (reached_paths c) path weight cert
   found = found-from c budget [] (reached_paths c) path weight cert e
 
@@ -91,16 +98,18 @@ module _ (c : SearchCase) (is : IsCase c) (budget : ℕ) (path : List Bool) (wei
   taken = all-within c budget path weight cert [] (reached_paths c) e
 
   reached : IsReached c path
-  reached = ((reached-are c path).0 (subst (λ (ps : List (List Bool)). IsIn path ps) (sym taken.paths_are) (in-right path taken.before (path ∷ taken.after) (inl refl)))).1
+  reached = ((reached-are c path).0 (subst (λ (ps : List (List Bool)). IsIn path ps) (sym taken.paths_are)
+      (in-right path taken.before (path ∷ taken.after) (inl refl)))).1
 
   prefix-taken : (k : ℕ) → k ≤ length path → IsIn (take k path) (taken.before ++ path ∷ [])
-  prefix-taken k few = elim (in-either (take k path) taken.before (path ∷ taken.after) (subst (λ (ps : List (List Bool)). IsIn (take k path) ps) taken.paths_are there)) [
-    | inl at ↦ in-left (take k path) taken.before (path ∷ []) at
-    | inr at ↦ in-right (take k path) taken.before (path ∷ []) (inl (elim at [
-      | inl same ↦ same
-      | inr late ↦ before-equal c (take k path) path extends (sorted-after c is taken.before path (take k path) taken.after sorted late)
-    ]))
-  ]
+  prefix-taken k few = elim (in-either (take k path) taken.before (path ∷ taken.after)
+      (subst (λ (ps : List (List Bool)). IsIn (take k path) ps) taken.paths_are there)) [
+        | inl at ↦ in-left (take k path) taken.before (path ∷ []) at
+        | inr at ↦ in-right (take k path) taken.before (path ∷ []) (inl (elim at [
+          | inl same ↦ same
+          | inr late ↦ before-equal c (take k path) path extends (sorted-after c is taken.before path (take k path) taken.after sorted late)
+        ]))
+      ]
     where
       there : IsIn (take k path) (reached_paths c)
       there = (reached-are c (take k path)).1 (
@@ -110,7 +119,8 @@ module _ (c : SearchCase) (is : IsCase c) (budget : ℕ) (path : List Bool) (wei
       )
 
       extends : is_before c.survey.fields (take k path) path ≡ true
-      extends = subst (λ (p : List Bool). is_before c.survey.fields (take k path) p ≡ true) (take-append-drop k path) (before-extends c (take k path) (drop k path))
+      extends = subst (λ (p : List Bool). is_before c.survey.fields (take k path) p ≡ true) (take-append-drop k path)
+          (before-extends c (take k path) (drop k path))
 
       sorted : AreInOrder (is_before c.survey.fields) (taken.before ++ path ∷ taken.after)
       sorted = subst (λ (ps : List (List Bool)). AreInOrder (is_before c.survey.fields) ps) taken.paths_are (reached-sorted c)

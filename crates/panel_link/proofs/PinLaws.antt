@@ -1,5 +1,5 @@
-use Rattle.std.proofs.Common.{◌≡◌, ◌≢◌, ◌↔◌, ℕ, suc, ◌<◌, ◌++◌, ◌&&◌, Bool, true, false, List, [], ◌∷◌, All, inl, inr, length, refl, sym, ap, ◌∙◌, subst, arith}
-use Rattle.std.specs.List.{AllByRecursion, filter, flat_map, list_any}
+use Rattle.std.proofs.Common.{◌≡◌, ◌≢◌, ◌↔◌, ℕ, ◌<◌, ◌++◌, ◌&&◌, Bool, true, false, List, [], ◌∷◌, inl, inr, length, refl, sym, ap, ◌∙◌, subst, arith}
+use Rattle.std.specs.List.{AllByRecursion, flat_map}
 use Rattle.std.proofs.lemmas.List.Elements.{All-append}
 use Rattle.edit_model.specs.Corrections.{IsCorrection, path_order}
 use Rattle.edit_model.specs.FieldSets.{has_number}
@@ -8,14 +8,13 @@ use Rattle.edit_model.specs.Points.{HasCodesFrom, Holds, Point}
 use Rattle.edit_model.specs.RowPoints.{Agrees}
 use Rattle.edit_model.specs.Rows.{IsRow, is_bad, value_of}
 use Rattle.edit_model.specs.Surveys.{IsRule, IsWellFormed}
-use Rattle.edit_model.specs.declared.field.Field.{Field}
 use Rattle.edit_model.specs.declared.rule.Rule.{Rule}
 use Rattle.edit_model.specs.declared.value.Value.{Value}
 use Rattle.edit_model.specs.declared.value.Value.TheVariants.{Bad}
 use Rattle.edit_model.proofs.RowLaws.{row-length}
 use Rattle.edit_line.specs.Lines.{AllHold, LineHolds}
 use Rattle.edit_line.specs.Reductions.{IsIn}
-use Rattle.edit_line.specs.Shapes.{Domain, HasCodes, has_field, shape_of}
+use Rattle.edit_line.specs.Shapes.{Domain, HasCodes, shape_of}
 use Rattle.edit_line.proofs.FieldLists.{has-there, there-has}
 use Rattle.edit_line.proofs.Members.{all-in, any-in, in-all, in-either, in-filter, in-filter-out, in-flat_map-out, in-left, in-right}
 use Rattle.edit_line.proofs.ShapeLaws.{HasCodes-shape}
@@ -44,8 +43,10 @@ rules-hold shape p held (rule ∷ rules) fit =
     let own = rule_lines_of shape rule in
     let others = flat_map (λ rule. rule_lines_of shape rule) rules in (
       λ hold. (
-        truth.1 (all-in (λ line. LineHolds line p) own (λ line there. in-all (λ line. LineHolds line p) line (own ++ others) hold (in-left line own others there))),
-        rest.0 (all-in (λ line. LineHolds line p) others (λ line there. in-all (λ line. LineHolds line p) line (own ++ others) hold (in-right line own others there))),
+        truth.1 (all-in (λ line. LineHolds line p) own (λ line there. in-all (λ line. LineHolds line p) line (own ++ others) hold
+            (in-left line own others there))),
+        rest.0 (all-in (λ line. LineHolds line p) others (λ line there. in-all (λ line. LineHolds line p) line (own ++ others) hold
+            (in-right line own others there))),
       ),
       λ hold. All-append (λ line. LineHolds line p) own others (truth.0 hold.0) (rest.1 hold.1),
     )
@@ -119,7 +120,8 @@ module _ (survey : SurveyParts) (row : List Value) (fixed : ℕ) (is_row : IsRow
       fit-all : (rule : Rule) → IsIn rule (pinned survey row fixed).rules → FitsRule (shape_of survey.fields) rule.conditions rule.conclusion
       fit-all rule there = elim (in-either rule survey.rules (kept_rules row (fixed_fields survey.fields fixed)) there) [
         | inl own ↦ fits-rule survey.fields rule (in-all (IsRule survey.fields) rule survey.rules well.rules own)
-        | inr kept ↦ let (f, f_in, made) = in-flat_map-out (λ f. value_kept f (value_of row f)) rule (fixed_fields survey.fields fixed) kept in kept-fits survey.fields row f rule is_row made
+        | inr kept ↦ let (f, f_in, made) = in-flat_map-out (λ f. value_kept f (value_of row f)) rule (fixed_fields survey.fields fixed) kept in
+            kept-fits survey.fields row f rule is_row made
       ]
 
       lines-hold : (p : Point) → HasCodesFrom 0 survey.fields p

@@ -1,4 +1,5 @@
-use Rattle.std.proofs.Common.{◌≡◌, ◌<◌, ◌≤◌, ◌*◌, ◌^◌, ◌-◌, ◌+◌, ◌%◌, ◌==◌, ◌++◌, ◌&&◌, not, nat_eq, ℕ, zero, suc, Bool, true, false, if◌then◌else◌, List, [], ◌∷◌, All, length, map, slice_get, slice_index_or, slice_set, ℤ, pos, refl, sym, ap, ◌∙◌, subst, arith}
+use Rattle.std.proofs.Common.{◌≡◌, ◌<◌, ◌≤◌, ◌*◌, ◌^◌, ◌-◌, ◌%◌, ◌==◌, ◌&&◌, not, nat_eq, ℕ, zero, suc, Bool, true, false, if◌then◌else◌}
+use Rattle.std.proofs.Common.{List, [], ◌∷◌, All, length, map, slice_get, slice_index_or, slice_set, ℤ, pos, refl, sym, ap, ◌∙◌, subst, arith}
 use lib.IntN.{neg_ℤ}
 use Rattle.std.proofs.Math.Nat.{mod-eq_of_lt, one-le-pow}
 use Rattle.std.proofs.Math.Pow.{pow-lt}
@@ -21,15 +22,14 @@ use Rattle.edit_line.specs.Lines.{IsLine, LineParts, parts_of}
 use Rattle.edit_line.specs.Negations.{never}
 use Rattle.edit_line.specs.Reductions.{IsIn}
 use Rattle.edit_line.specs.Sets.{none_is_empty}
-use Rattle.edit_line.specs.Shapes.{Domain, code_fields, domain_of, has_field, number_fields, place_in, shape_of, whole_sets}
-use Rattle.edit_line.specs.declared.relation.Relation.TheVariants.{AtLeast, Equal}
+use Rattle.edit_line.specs.Shapes.{Domain, code_fields, domain_of, number_fields, place_in, shape_of, whole_sets}
+use Rattle.edit_line.specs.declared.relation.Relation.TheVariants.{Equal}
 use Rattle.edit_line.specs.inner.SetBounds.{AreWithin}
 use Rattle.edit_line.proofs.ListPlaces.{some_with}
 use Rattle.edit_line.proofs.Members.{all-in, in-all, in-get, in-map-out}
 use Rattle.edit_line.proofs.NegationLines.{negative-in}
 use Rattle.edit_line.proofs.SetLaws.{AreSets-within, AreWithin-set, AreWithin-wholes}
 use Rattle.edit_normal.specs.NormalForm.{narrowed, rule_lines_of}
-use Rattle.edit_normal.specs.RuleEdits.{placed_from}
 use Rattle.edit_normal.specs.RuleLines.{numbered, rule_lines_from}
 use Rattle.edit_normal.specs.declared.rule_line.RuleLine.{RuleLine}
 use Rattle.edit_normal.proofs.NormalLaws.{lines-most}

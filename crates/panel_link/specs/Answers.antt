@@ -4,7 +4,6 @@ use Rattle.edit_model.specs.Parts.{SurveyParts}
 use Rattle.edit_model.specs.Points.{Point}
 use Rattle.edit_model.specs.declared.value.Value.{Value}
 use Rattle.edit_line.specs.EditSets.{EditsParts}
-use Rattle.bound_cert.specs.declared.cert.Cert.{Cert}
 use Rattle.bound_cert.specs.declared.outcome.GiftFault.{GiftFault}
 use Rattle.bound_cert.specs.declared.outcome.GiftFault.TheVariants as stop
 use Rattle.bound_cert.specs.declared.outcome.Outcome.{Outcome}

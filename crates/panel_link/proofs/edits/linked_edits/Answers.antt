@@ -1,4 +1,4 @@
-use Rattle.std.proofs.Common.{List, ap, arith, length, subst, sym, ◌∙◌}
+use Rattle.std.proofs.Common.{List, ap, arith, length, subst, sym}
 use Rattle.std.proofs.lemmas.List.{length-map}
 use Rattle.edit_line.specs.EditSets.{AreEdits}
 use Rattle.edit_line.specs.Lines.{LineParts}

@@ -1,5 +1,4 @@
 use Rattle.std.proofs.Common.{◌≡◌, map, take}
-use Rattle.edit_line.specs.Lines.{LineParts}
 use Rattle.edit_normal.specs.RuleEdits.{placed_from}
 use Rattle.edit_normal.specs.declared.rule_line.RuleLine.{RuleLine}
 use Rattle.panel_link.proofs.edits.placed.Given as goal

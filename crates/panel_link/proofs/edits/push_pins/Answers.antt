@@ -1,4 +1,4 @@
-use Rattle.std.proofs.Common.{◌<◌, ◌≤◌, ◌++◌, ℕ, List, ap, append-nil, arith, length, sym, take, ◌∙◌}
+use Rattle.std.proofs.Common.{◌<◌, ◌≤◌, ◌++◌, ℕ, List, ap, append-nil, arith, length, sym, ◌∙◌}
 use Rattle.std.specs.List.{filter, flat_map}
 use Rattle.std.proofs.lemmas.List.{take_all}
 use Rattle.edit_line.specs.Lines.{LineParts}
@@ -25,19 +25,30 @@ pub loop-place-preserved : goal.loop-place-preserved
 loop-place-preserved c =
     let fields = c.args.survey.now.fields in
     let place = c.loop-place.place in
-    let below : place < length (path_order fields) = omega (arith, c.loop-place-test.true, order-length fields, ap (λ (fs : List Field). length fs) c.fields.ensures.fields) in (
-      pins-next (λ f. pin_of (shape_of fields) f (value_of c.args.row.now f)) (has_number c.args.fixed) (path_order fields) (normal_lines_of c.args.survey.now) place
-          c.path_field.result c.loop-place.lines.items c.push_if_fixed.new.lines.items below c.path_field.ensures.field c.loop-place.invariant.0 c.in_ok-push_if_fixed.ensures,
+    let below : place < length (path_order fields) = omega (
+      arith,
+      c.loop-place-test.true,
+      order-length fields,
+      ap (λ (fs : List Field). length fs)
+          c.fields.ensures.fields,
+    ) in (
+      pins-next (λ f. pin_of (shape_of fields) f (value_of c.args.row.now f)) (has_number c.args.fixed) (path_order fields)
+          (normal_lines_of c.args.survey.now) place
+          c.path_field.result c.loop-place.lines.items c.push_if_fixed.new.lines.items below c.path_field.ensures.field c.loop-place.invariant.0
+          c.in_ok-push_if_fixed.ensures,
       pins-few (λ f. pin_of (shape_of fields) f (value_of c.args.row.now f)) (has_number c.args.fixed) (path_order fields) place
-          c.path_field.result c.loop-place.lines.items c.push_if_fixed.new.lines.items (λ f. pin-few (shape_of fields) f (value_of c.args.row.now f)) c.loop-place.invariant.1
+          c.path_field.result c.loop-place.lines.items c.push_if_fixed.new.lines.items (λ f. pin-few (shape_of fields) f (value_of c.args.row.now f))
+          c.loop-place.invariant.1
           c.in_ok-push_if_fixed.ensures,
     )
 
 pub returns : goal.returns
 returns c =
     let fields = c.args.survey.now.fields in
-    let past : length (path_order fields) ≤ c.loop-place.place = omega (arith, c.loop-place-test.false, order-length fields, ap (λ (fs : List Field). length fs) c.fields.ensures.fields) in
+    let past : length (path_order fields) ≤ c.loop-place.place = omega
+    (arith, c.loop-place-test.false, order-length fields, ap (λ (fs : List Field). length fs) c.fields.ensures.fields) in
     c.loop-place.invariant.0
-    ∙ ap (λ (fs : List ℕ). placed_from 0 (normal_lines_of c.args.survey.now ++ flat_map (λ f. pin_of (shape_of fields) f (value_of c.args.row.now f)) (filter (has_number c.args.fixed) fs)))
+    ∙ ap (λ (fs : List ℕ). placed_from 0 (normal_lines_of c.args.survey.now ++ flat_map (λ f. pin_of (shape_of fields) f (value_of c.args.row.now f))
+    (filter (has_number c.args.fixed) fs)))
     (take_all c.loop-place.place (path_order fields) past)
     ∙ ap (λ (ls : List LineParts). placed_from 0 ls) (sym (lines-and-pins c.args.survey.now c.args.row.now c.args.fixed))

@@ -20,16 +20,19 @@ search-requires-clause-shape g c = ap (λ (e : EditsParts). e.shape) c.in_ok-edi
 pub search-requires-clause-told : goal.search-requires-clause-told
 search-requires-clause-told g c = (
   c.args.fixed,
-  λ (p : Point). subst (λ (e : EditsParts). Meets (case_of c.args.survey.now e c.args.row.now) p ↔ IsLinkedCorrection c.args.survey.now c.args.row.now c.args.fixed p)
+  λ (p : Point). subst (λ (e : EditsParts). Meets (case_of c.args.survey.now e c.args.row.now) p
+      ↔ IsLinkedCorrection c.args.survey.now c.args.row.now c.args.fixed p)
       (sym c.in_ok-edits.ensures)
-      (edits-tell c.args.survey.now c.args.row.now c.args.fixed c.requires.row (sym c.lacks_value.ensures ∙ c.if-lacks_value.false) c.fields-fields.ensures.well_formed p),
+      (edits-tell c.args.survey.now c.args.row.now c.args.fixed c.requires.row (sym c.lacks_value.ensures ∙ c.if-lacks_value.false)
+      c.fields-fields.ensures.well_formed p),
 )
 
 -- ---- some fixed field has no value
 
 pub returns-then-lacks_value-clause-exact : goal.returns-then-lacks_value-clause-exact
 returns-then-lacks_value-clause-exact g c =
-    subst (λ (b : Bool). IsLinkedWith b c.args.survey.now c.args.row.now c.args.fixed c.args.budget linked.NoLast) (sym (sym c.lacks_value.ensures ∙ c.if-lacks_value.true)) refl
+    subst (λ (b : Bool). IsLinkedWith b c.args.survey.now c.args.row.now c.args.fixed c.args.budget linked.NoLast)
+    (sym (sym c.lacks_value.ensures ∙ c.if-lacks_value.true)) refl
 
 pub returns-then-lacks_value-clause-due : goal.returns-then-lacks_value-clause-due
 returns-then-lacks_value-clause-due g c = λ due also.
@@ -49,8 +52,10 @@ returns-clause-exact g c =
     let survey = c.args.survey.now in
     let row = c.args.row.now in
     let edits = arc_value c.in_ok-edits.edits in
-    IfOk-weaker c.search.result (FollowsOn survey edits row (outcome_of (case_of survey edits row) c.args.budget)) (IsLinked survey row c.args.fixed c.args.budget)
-    (linked-answer survey row c.args.fixed c.args.budget edits c.in_ok-edits.ensures (sym c.lacks_value.ensures ∙ c.if-lacks_value.false)) c.search.ensures.follows
+    IfOk-weaker c.search.result (FollowsOn survey edits row (outcome_of (case_of survey edits row) c.args.budget))
+    (IsLinked survey row c.args.fixed c.args.budget)
+    (linked-answer survey row c.args.fixed c.args.budget edits c.in_ok-edits.ensures (sym c.lacks_value.ensures ∙ c.if-lacks_value.false))
+    c.search.ensures.follows
 
 pub returns-clause-due : goal.returns-clause-due
 returns-clause-due g c =
@@ -73,11 +78,13 @@ returns-clause-says g c =
     let survey = c.args.survey.now in
     let row = c.args.row.now in
     IfOk-weaker c.search.result (IsLinked survey row c.args.fixed c.args.budget) (Says survey row c.args.fixed)
-    (λ answer is. (c.panel_laws.ensures.linked survey row c.args.fixed c.args.budget answer c.fields-fields.ensures.well_formed c.requires.row is).0) (returns-clause-exact g c)
+    (λ answer is. (c.panel_laws.ensures.linked survey row c.args.fixed c.args.budget answer c.fields-fields.ensures.well_formed c.requires.row is).0)
+    (returns-clause-exact g c)
 
 pub returns-clause-shown : goal.returns-clause-shown
 returns-clause-shown g c =
     let survey = c.args.survey.now in
     let row = c.args.row.now in
     IfOk-weaker c.search.result (IsLinked survey row c.args.fixed c.args.budget) (IsShown survey row c.args.fixed)
-    (λ answer is. (c.panel_laws.ensures.linked survey row c.args.fixed c.args.budget answer c.fields-fields.ensures.well_formed c.requires.row is).1) (returns-clause-exact g c)
+    (λ answer is. (c.panel_laws.ensures.linked survey row c.args.fixed c.args.budget answer c.fields-fields.ensures.well_formed c.requires.row is).1)
+    (returns-clause-exact g c)

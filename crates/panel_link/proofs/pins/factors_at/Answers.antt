@@ -1,4 +1,4 @@
-use Rattle.std.proofs.Common.{ℕ, List, ap, map, sym, ◌∙◌}
+use Rattle.std.proofs.Common.{ap, map, sym, ◌∙◌}
 use Rattle.std.proofs.lemmas.List.{take_all}
 use Rattle.edit_line.proofs.ShapeLaws.{number_fields-same}
 use Rattle.panel_link.specs.inner.PinLines.{own_factor}

@@ -23,7 +23,8 @@ over-requires c =
     let place_is = c.place_among.ensures ∙ ap (λ (fs : List ℕ). place_in fs c.args.field) (c.codes.ensures ∙ sym (code_fields-same c.args.survey.now.fields)) in
     let sets_is : c.leave_others.new.sets.items ≡ others shape c.args.field c.args.code = others-are shape c.args.field c.args.code c.in_ok-sets.sets.items
     c.leave_others.new.sets.items c.place_among.result (c.in_ok-sets.ensures ∙ ap whole_sets c.of-shape.ensures) place_is c.leave_others.ensures in
-    let full : none_is_empty c.leave_others.new.sets.items ≡ true = ap (λ (ss : List ℕ). none_is_empty ss) (sym c.deref.ensures.value) ∙ sym c.have_codes.ensures ∙ c.if-have_codes.true in
+    let full : none_is_empty c.leave_others.new.sets.items ≡ true = ap (λ (ss : List ℕ). none_is_empty ss) (sym c.deref.ensures.value)
+    ∙ sym c.have_codes.ensures ∙ c.if-have_codes.true in
     never-line _ shape c.leave_others.new.sets.items c.numbers.result.now c.in_ok-factors.factors.items c.of-shape.ensures
     (c.numbers.ensures ∙ sym (number_fields-same c.args.survey.now.fields)) (c.in_ok-factors.ensures.items_if_clones_equal (λ y e. e)) full
     (subst (λ (ss : List ℕ). AreWithin ss (whole_sets shape)) (sym sets_is) (others-within shape c.args.field c.args.code))
@@ -35,7 +36,8 @@ returns-in_ok-push_line c =
     let place_is = c.place_among.ensures ∙ ap (λ (fs : List ℕ). place_in fs c.args.field) (c.codes.ensures ∙ sym (code_fields-same c.args.survey.now.fields)) in
     let sets_is : c.leave_others.new.sets.items ≡ others shape c.args.field c.args.code = others-are shape c.args.field c.args.code c.in_ok-sets.sets.items
     c.leave_others.new.sets.items c.place_among.result (c.in_ok-sets.ensures ∙ ap whole_sets c.of-shape.ensures) place_is c.leave_others.ensures in
-    let full : none_is_empty c.leave_others.new.sets.items ≡ true = ap (λ (ss : List ℕ). none_is_empty ss) (sym c.deref.ensures.value) ∙ sym c.have_codes.ensures ∙ c.if-have_codes.true in
+    let full : none_is_empty c.leave_others.new.sets.items ≡ true = ap (λ (ss : List ℕ). none_is_empty ss) (sym c.deref.ensures.value)
+    ∙ sym c.have_codes.ensures ∙ c.if-have_codes.true in
     let line_is = c.over.ensures
     ∙ never-is _ shape c.leave_others.new.sets.items c.numbers.result.now c.in_ok-factors.factors.items c.of-shape.ensures
     (c.numbers.ensures ∙ sym (number_fields-same c.args.survey.now.fields)) (c.in_ok-factors.ensures.items_if_clones_equal (λ y e. e))
@@ -51,7 +53,8 @@ returns-else-have_codes c =
     let place_is = c.place_among.ensures ∙ ap (λ (fs : List ℕ). place_in fs c.args.field) (c.codes.ensures ∙ sym (code_fields-same c.args.survey.now.fields)) in
     let sets_is : c.leave_others.new.sets.items ≡ others shape c.args.field c.args.code = others-are shape c.args.field c.args.code c.in_ok-sets.sets.items
     c.leave_others.new.sets.items c.place_among.result (c.in_ok-sets.ensures ∙ ap whole_sets c.of-shape.ensures) place_is c.leave_others.ensures in
-    let empty : none_is_empty c.leave_others.new.sets.items ≡ false = ap (λ (ss : List ℕ). none_is_empty ss) (sym c.deref.ensures.value) ∙ sym c.have_codes.ensures ∙ c.if-have_codes.false in
+    let empty : none_is_empty c.leave_others.new.sets.items ≡ false = ap (λ (ss : List ℕ). none_is_empty ss) (sym c.deref.ensures.value)
+    ∙ sym c.have_codes.ensures ∙ c.if-have_codes.false in
     sym (append-nil before)
     ∙ ap (λ (ls : List LineParts). before ++ placed_from (length before) ls)
     (sym (code-none shape c.args.field c.args.code (ap (λ (ss : List ℕ). none_is_empty ss) (sym sets_is) ∙ empty)))

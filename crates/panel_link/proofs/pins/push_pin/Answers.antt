@@ -1,4 +1,4 @@
-use Rattle.std.proofs.Common.{◌++◌, List, ap, arith, sym, ◌∙◌}
+use Rattle.std.proofs.Common.{arith, sym, ◌∙◌}
 use Rattle.edit_model.proofs.RowLaws.{row-length}
 use Rattle.back_subst.proofs.GivenAlike.{has-code}
 use Rattle.panel_link.proofs.PinParts.{code-few}
