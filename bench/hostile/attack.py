@@ -48,11 +48,14 @@ CHECKED = ("rules", "records", "released", "proof")
 EDIT = ["edit", "--rules", "rules", "--records", "records", "--reasons", "reasons", "--released", "released", "--proof", "proof"]
 CHECK = ["check", "--rules", "rules", "--records", "records", "--released", "released", "--proof", "proof"]
 RULES = ["rules", "--rules", "rules"]
+FILL = ["fill", "--rules", "rules", "--records", "records", "--released", "filled"]
+FILL_AGAIN = ["fill", "--rules", "rules", "--records", "filled", "--released", "again"]
 
 # Of the small files that are changed in thousands of ways, every so many edits that end with 0 or 1 are checked too.
 CHECK_EVERY = 4
 
 SUMMARY = re.compile(r"records (\d+) clean (\d+) changed (\d+) unresolved (\d+) weight \d+\nclaims (\d+) given (\d+)\n")
+FILLED = re.compile(r"records (\d+) filled (\d+) blocked (\d+) stopped (\d+)\n")
 REJECTED = re.compile(r"fault: proof line (\d+) (Grammar|Head|Drop|Table|Cert|RowText|Claims)\n")
 
 
@@ -81,8 +84,8 @@ class Attack:
         self.folder = pathlib.Path(folder)
         self.begin("")
 
-    def begin(self, group, check_every=1):
-        self.group, self.check_every = group, check_every
+    def begin(self, group, check_every=1, fills=False):
+        self.group, self.check_every, self.fills = group, check_every, fills
         self.count, self.checks, self.released, self.slowest, self.seen = 0, 0, 0, 0.0, {}
 
     def end(self):
@@ -164,7 +167,34 @@ class Attack:
             if self.released % self.check_every == 0:
                 self.check_edit(printed, expected & {7}, wrong_values)
             self.released += 1
+        if self.fills:
+            self.fill({status} if status not in RELEASED else RELEASED, len(rules) + len(records))
         return status
+
+    def fill(self, expected, size):
+        """Runs `fill` on the files as they stand, and where it wrote a file, once more on that one: nothing is left to be filled, and what could not be
+        completed still can't be. It changes no other file."""
+        (self.folder / "filled").write_bytes(BEFORE)
+        before = [it for it in self.state() if it[0] != "filled"]
+        status, printed = self.words(FILL, expected, size)
+        if [it for it in self.state() if it[0] != "filled"] != before:
+            raise Failed(f"{self.group}: `fill` changed another file")
+        filled = (self.folder / "filled").read_bytes()
+        if (filled == BEFORE) == (status in RELEASED):
+            raise Failed(f"{self.group}: `fill` ended with {status}, and its file has {len(filled)} bytes")
+        if status not in RELEASED:
+            if printed.count("\n") != 1:
+                raise Failed(f"{self.group}: `fill` ended with {status} and printed {printed[:200]!r}")
+            return
+        told = FILLED.fullmatch(printed)
+        if not told or (status == 1) != (told[4] != "0"):
+            raise Failed(f"{self.group}: `fill` ended with {status} and printed {printed!r}")
+        if told[2] == "0":
+            return
+        (self.folder / "again").write_bytes(BEFORE)
+        _, later = self.words(FILL_AGAIN, RELEASED, size)
+        if later != f"records {told[1]} filled 0 blocked {told[3]} stopped {told[4]}\n" or (self.folder / "again").read_bytes() != filled:
+            raise Failed(f"{self.group}: `fill` printed {printed!r}, and of what it wrote {later!r}")
 
     def rules(self, rules, expected):
         """Runs `rules` on this rule file. It changes no file, and prints the lines where it ends with 0, and else one line."""
@@ -222,7 +252,7 @@ def pairs(examples):
 
 
 def random_files(attack, examples, dice):
-    attack.begin("random bytes", CHECK_EVERY)
+    attack.begin("random bytes", CHECK_EVERY, fills=True)
     alphabets = [bytes(range(256)), b"number code weight scale in not if and then AB01.{},+-*<>=# \t\n\r",
                  b'AB,"\n\r 01-/.', bytes([0xEF, 0xBB, 0xBF, 10, 44, 34])]
     rules, records = next(iter(pairs(examples)))
@@ -237,7 +267,7 @@ def random_files(attack, examples, dice):
 
 
 def cut_files(attack, examples, dice):
-    attack.begin("cut off anywhere", CHECK_EVERY)
+    attack.begin("cut off anywhere", CHECK_EVERY, fills=True)
     for rules, records in pairs(examples):
         for length in range(len(rules)):
             attack.files(rules[:length], records, ANY)
@@ -248,7 +278,7 @@ def cut_files(attack, examples, dice):
 
 
 def changed_files(attack, examples, dice):
-    attack.begin("one byte changed", CHECK_EVERY)
+    attack.begin("one byte changed", CHECK_EVERY, fills=True)
     for rules, records in pairs(examples):
         for text, is_rules in ((rules, True), (records, False)):
             for place in range(len(text)):
@@ -549,7 +579,8 @@ def words(attack, examples, dice):
     attack.files(b"number A\n", b"A\n1\n", {0})
     (attack.folder / "folder").mkdir()
     for good, options in ((RULES, [("--rules", 5)]), (EDIT, [("--rules", 5), ("--records", 5), ("--reasons", 6), ("--released", 6), ("--proof", 6)]),
-                          (CHECK, [("--rules", 5), ("--records", 5), ("--released", 5), ("--proof", 5)])):
+                          (CHECK, [("--rules", 5), ("--records", 5), ("--released", 5), ("--proof", 5)]),
+                          (FILL, [("--rules", 5), ("--records", 5), ("--released", 6)])):
         attack.words(good, {0})
         for length in range(len(good)):
             attack.words(good[:length], {2})
@@ -566,12 +597,14 @@ def words(attack, examples, dice):
         attack.words([good[0].encode(), b"--rules", b"\xff"], {2})
     for budget, status in (("1", 1), ("2", 0), ("007", 0), ("1000000000", 0), ("0", 2), ("1000000001", 2), ("99999999999", 2), ("+5", 2), ("", 2), ("1e3", 2)):
         attack.words(EDIT + ["--budget", budget], {status})
+        attack.words(FILL + ["--budget", budget], {status & 2})
     for option, most in (("--limit", 1000), ("--near", 64)):
         for word, status in (("1", 0), ("007", 0), (str(most), 0), ("0", 2), (str(most + 1), 2), ("99999999999", 2), ("+5", 2), ("", 2), ("1e3", 2)):
             attack.words(EDIT + ["--budget", "9", option, word], {status})
     for option in ("--budget", "--limit", "--near"):
         attack.words(CHECK + [option, "5"], {2})
         attack.words(RULES + [option, "5"], {2})
+        attack.words(FILL + [option, "5"], {0 if option == "--budget" else 2})
     attack.words(CHECK + ["--reasons", "why"], {2})
     attack.end()
 
