@@ -376,6 +376,45 @@ a staff of 0, and one that has some has at least 1. No firm has a staff of one h
   ,
   ,1/2
 
+A survey of firms, of which returns come with gaps: costs by the balance, a tax of a fifth of the profit, and a size by the staff; a profit by the
+balance, and the tax by that profit; a record that nothing can complete, and two that stay open.
+
+  $ cat >rules <<EOF
+  > number Turnover weight 2
+  > number Costs
+  > number Profit
+  > number Tax
+  > number Staff
+  > code Size in {small, large}
+  > Turnover >= 0
+  > Costs >= 0
+  > Staff >= 0
+  > Turnover - Costs - Profit = 0
+  > 10 Profit <= 6 Turnover
+  > 5 Tax = Profit
+  > if Size in {small} then Staff <= 9
+  > if Size in {large} then Staff >= 10
+  > EOF
+  $ cat >records <<EOF
+  > firm,Turnover,Costs,Profit,Tax,Staff,Size
+  > "Baker, J.",100,,40,,12,
+  > Miller,100,,,,4,small
+  > Smith,100,,90,,4,small
+  > Cooper,101,100,,,15,large
+  > Fisher,50,50,0,0,9,
+  > Green,,,,,,
+  > EOF
+  $ forxainde fill --rules rules --records records --released released
+  records 6 filled 6 blocked 1 stopped 0
+  $ cat released
+  firm,Turnover,Costs,Profit,Tax,Staff,Size
+  "Baker, J.",100,60,40,8,12,large
+  Miller,100,,,,4,small
+  Smith,100,,90,,4,small
+  Cooper,101,100,1,1/5,15,large
+  Fisher,50,50,0,0,9,small
+  Green,,,,,,
+
 A record of which everything is missing, under rules with one solution.
 
   $ cat >rules <<EOF
