@@ -1,0 +1,4 @@
+mod ClosedClasses
+mod JoinedClasses
+mod Renumbered
+mod RowNumbers

@@ -1,0 +1,4 @@
+pub mod ClassPasses
+pub mod Classes
+pub mod Histories
+pub mod inner

@@ -1,0 +1,168 @@
+//! The rows of each class, and the numbers that they have in the book of their class.
+ghost use Rattle.std.specs.Prelude.{◌≡◌, ℕ, ◌+◌, ◌<◌, ◌≤◌, ◌^◌, [], IfOk, length, map, replicate, slice_get, slice_index, take};
+ghost use Rattle.std.specs.List.{All};
+ghost use Rattle.class_books.specs.Classes.{IsOfClass};
+ghost use Rattle.class_books.specs.inner.Numbers.{AreNumbersOf, IsGivenWithin, claim_with, donor_with, row_with, rows_in, won_with};
+
+use donor_book::{Claim, Won};
+use foundation::OutOfMemory;
+use std::alloc::Global;
+use std::marker::Model;
+
+/// The most donors of a ranking.
+pub const MOST_DONORS: usize = 64;
+
+/// The class of each row, the rows of each class in order, and the place of each row among those of its class, which is its
+/// number in the book of the class. And how often a donor is given at most, and how many passes there are.
+#[derive(Drop)]
+pub struct Classes {
+    class_of: Vec<u32>,
+    numbers: Vec<u32>,
+    rows: Vec<Vec<u32>>,
+    limit: u32,
+    passes: u32,
+}
+
+impl Model for Classes {
+    ghost use Rattle.std.specs.Prelude.{length, map};
+    ghost use Rattle.class_books.specs.ClassPasses.{ClassTerms};
+    ghost use Rattle.class_books.specs.inner.Numbers.{KeepsClasses};
+
+    ghost Value = { ClassTerms };
+
+    ghost view = { λ c. record {
+      class_of = c.class_of.items;
+      classes = length c.rows.items;
+      limit = c.limit;
+      passes = c.passes;
+    } };
+
+    ghost invariant = { λ c. KeepsClasses c.class_of.items c.numbers.items (map (λ rows. rows.items) c.rows.items) };
+}
+
+impl Classes {
+    /// The tables of these classes.
+    pub fn of(
+        alloc: Global,
+        class_of: Vec<u32>,
+        classes: u32,
+        limit: u32,
+        passes: u32,
+    ) -> Result<Classes, OutOfMemory>
+        requires rows { length class_of.items + 1 < 2 ^ 32 }
+        requires classes { All (λ class. class < classes) class_of.items }
+        ensures { IfOk result (λ made. made ≡ record { class_of = class_of.items; classes = classes; limit = limit; passes = passes }) }
+    {
+        let mut rows = no_rows(alloc, classes)?;
+        let mut numbers = Vec::with_capacity(alloc, class_of.len())?;
+        for (row_no, class) in class_of.iter().enumerate() {
+            let of_class = &mut rows[*class as usize];
+            numbers.push_reserved(of_class.len() as u32);
+            of_class.push(row_no as u32)?;
+        }
+        Ok(Classes {
+            class_of,
+            numbers,
+            rows,
+            limit,
+            passes,
+        })
+    }
+
+    /// How many passes there are. No memory.
+    pub fn passes(&self) -> u32
+        ensures { result ≡ self.now.passes }
+    {
+        self.passes
+    }
+
+    /// How many rows the class has. No memory.
+    pub fn size_of(&self, class: u32) -> u32
+        requires { class < self.now.classes }
+        ensures size { result ≡ length (rows_in self.now.class_of class) }
+        ensures small { result + 1 < 2 ^ 32 }
+    {
+        self.rows[class as usize].len() as u32
+    }
+
+    /// The class of a row. No memory.
+    pub fn class_of(&self, row_no: u32) -> u32
+        requires { row_no < length self.now.class_of }
+        ensures class { IsOfClass self.now.class_of result row_no }
+        ensures within { result < self.now.classes }
+    {
+        self.class_of[row_no as usize]
+    }
+
+    /// The number of a row in its class. No memory.
+    pub fn number_of(&self, row_no: u32) -> u32
+        requires { row_no < length self.now.class_of }
+        ensures { (class : ℕ) → IsOfClass self.now.class_of class row_no
+            → slice_get (rows_in self.now.class_of class) result ≡ Some row_no }
+    {
+        self.numbers[row_no as usize]
+    }
+
+    /// The numbers of at most 64 rows of one class, in order, and 0 behind them. No memory.
+    pub fn numbers_of(&self, rows: &[u32]) -> [u32; MOST_DONORS]
+        requires few { length rows.now ≤ MOST_DONORS }
+        requires rows { All (λ row. row < length self.now.class_of) rows.now }
+        ensures { (class : ℕ) → All (IsOfClass self.now.class_of class) rows.now
+            → AreNumbersOf self.now.class_of class rows.now (take (length rows.now) result) }
+    {
+        let mut numbers = [0; MOST_DONORS];
+        for (place, row_no) in rows.iter().enumerate() {
+            numbers[place] = self.number_of(*row_no);
+        }
+        numbers
+    }
+
+    /// What the class's book answers, with the numbers of the whole file. No memory.
+    pub fn in_file(&self, class: u32, answer: Claim) -> Claim
+        requires class { class < self.now.classes }
+        requires given { IsGivenWithin (length (rows_in self.now.class_of class)) answer }
+        ensures { result ≡ claim_with self.now.class_of class answer }
+    {
+        match answer {
+            Claim::Given(number) => Claim::Given(self.rows[class as usize][number as usize]),
+            Claim::Nobody => Claim::Nobody,
+            Claim::Had(reply) => Claim::Had(self.donor_with(class, reply)),
+        }
+    }
+
+    /// The history of the class's book, with the numbers of the whole file. No memory.
+    pub fn history_in_file(&self, class: u32, history: Vec<Won>) -> Vec<Won>
+        requires class { class < self.now.classes }
+        requires rows { All (λ w. w.row_no < length (rows_in self.now.class_of class)) history.items }
+        ensures { result.items ≡ map (won_with self.now.class_of class) history.items }
+    {
+        let mut history = history;
+        for won in history.iter_mut() {
+            *won = Won {
+                row_no: self.rows[class as usize][won.row_no as usize],
+                reply: self.donor_with(class, won.reply),
+            };
+        }
+        history
+    }
+
+    // The donor that has this number in the class, or nobody.
+    fn donor_with(&self, class: u32, reply: Option<u32>) -> Option<u32>
+        requires { class < self.now.classes }
+        ensures { result ≡ donor_with self.now.class_of class reply }
+    {
+        let number = reply?;
+        self.rows[class as usize].get(number as usize).copied()
+    }
+}
+
+// No rows of any class.
+fn no_rows(alloc: Global, classes: u32) -> Result<Vec<Vec<u32>>, OutOfMemory>
+    ensures { IfOk result (λ rows. map (λ r. r.items) rows.items ≡ replicate classes []) }
+{
+    let mut rows = Vec::with_capacity(alloc, classes as usize)?;
+    for _ in 0..classes {
+        rows.push_reserved(Vec::new(alloc));
+    }
+    Ok(rows)
+}

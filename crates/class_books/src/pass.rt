@@ -1,0 +1,70 @@
+ghost use Rattle.std.specs.Prelude.{◌≡◌, ◌-◌, ◌<◌, [], OnOk, length, slice_index_or};
+ghost use Rattle.std.specs.Arc.{arc_value};
+ghost use Rattle.class_books.specs.ClassPasses.{ClassPassState, state_in};
+ghost use Rattle.class_books.specs.inner.Hands.{class_pass_of, first_classes, with_class};
+ghost use Rattle.class_books.specs.inner.Numbers.{class_terms, state_with};
+
+use crate::classes::Classes;
+use crate::hand::Hand;
+use donor_book::Pass;
+use foundation::OutOfMemory;
+use std::alloc::Global;
+use std::marker::Model;
+use std::sync::Arc;
+
+/// A place at shared classes, from which one worker claims at a time: a pass of the book of each class. It may be sent to
+/// another thread.
+#[derive(Drop)]
+pub struct ClassPass {
+    pub(crate) classes: Arc<Classes>,
+    pub(crate) hands: Vec<Hand>,
+}
+
+impl Model for ClassPass {
+    ghost use Rattle.std.specs.Arc.{arc_value};
+    ghost use Rattle.class_books.specs.ClassPasses.{ClassPassState};
+    ghost use Rattle.class_books.specs.inner.Hands.{AreOfTerms, books_of, class_pass_of};
+
+    ghost Value = { ClassPassState };
+
+    ghost view = { λ p. class_pass_of (arc_value p.classes) p.hands.items };
+
+    ghost invariant = { λ p. AreOfTerms (arc_value p.classes) (books_of p.hands.items) };
+}
+
+impl ClassPass {
+    /// A pass of the classes, with a pass of no book yet. No memory.
+    pub fn of(alloc: Global, classes: Arc<Classes>) -> ClassPass
+        ensures { result ≡ class_pass_of (arc_value classes) [] }
+    {
+        ClassPass {
+            classes,
+            hands: Vec::new(alloc),
+        }
+    }
+
+    /// Takes in a pass of the next class's book, which has seen and claimed nothing.
+    pub fn add(&mut self, alloc: Global, pass: Pass) -> Result<(), OutOfMemory>
+        requires terms { pass.book.terms ≡ class_terms self.old.classes.terms (length self.old.states) }
+        requires fresh { (pass.seen ≡ []) × (pass.mine ≡ []) }
+        ensures { OnOk result (self.new ≡ with_class self.old pass.book) }
+    {
+        let passes = self.classes.passes();
+        self.hands.push(Hand::of(alloc, pass, passes)?)?;
+        Ok(())
+    }
+
+    /// Gives away what it has of the last class. No memory.
+    pub fn take_last(&mut self) -> Hand
+        requires { 0 < length self.old.states }
+        ensures rest { self.new ≡ first_classes (length self.old.states - 1) self.old }
+        ensures book { result.book ≡ slice_index_or self.old.classes.books (length self.old.states - 1) result.book }
+        ensures state { state_with self.old.classes.terms.class_of (length self.old.states - 1) result
+            ≡ state_in (length self.old.states - 1) self.old }
+    {
+        let Some(hand) = self.hands.pop() else {
+            unreachable!()
+        };
+        hand
+    }
+}

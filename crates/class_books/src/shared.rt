@@ -1,0 +1,167 @@
+ghost use Rattle.std.specs.Prelude.{◌≡◌, ◌≢◌, ℕ, ◌+◌, ◌-◌, ◌<◌, ◌≤◌, ◌^◌, List, IfOk, OnOk, length, map};
+ghost use Rattle.std.specs.List.{All};
+ghost use Rattle.std.specs.Arc.{arc_value};
+ghost use Rattle.foundation.specs.Options.{most_near};
+ghost use Rattle.donor_book.specs.declared.claim.Entry.{Entry};
+ghost use Rattle.donor_book.specs.Passes.{ArePlaced, IsAnswered, IsSound, IsWhole};
+ghost use Rattle.class_books.specs.ClassPasses.{EachClass, IsFreshPass, book_terms, class_at, pass_in, passes_in, state_in};
+ghost use Rattle.class_books.specs.Classes.{IsOfClass, IsWonIn};
+ghost use Rattle.class_books.specs.Histories.{AreCollectedIn, history_in};
+
+use crate::classes::Classes;
+use crate::pass::ClassPass;
+use donor_book::{Claim, Pass, SharedBook, Won};
+use foundation::OutOfMemory;
+use std::alloc::Global;
+use std::marker::Model;
+use std::sync::Arc;
+
+/// A book of claims for each class of rows, which threads share, without a lock. A row claims donors of its own class. Each
+/// thread claims from a [`ClassPass`] of its own.
+#[derive(Drop)]
+pub struct SharedClasses {
+    classes: Arc<Classes>,
+    books: Vec<SharedBook>,
+    histories: Vec<Vec<Won>>,
+}
+
+impl Model for SharedClasses {
+    ghost use Rattle.std.specs.Arc.{arc_value};
+    ghost use Rattle.class_books.specs.ClassPasses.{ClassesName};
+    ghost use Rattle.class_books.specs.inner.Hands.{SharesClasses, name_of};
+
+    ghost Value = { ClassesName };
+
+    ghost view = { λ s. name_of (arc_value s.classes) s.books.items };
+
+    ghost invariant = { λ s. SharesClasses (arc_value s.classes) s.books.items s.histories.items s.histories.cap };
+}
+
+impl SharedClasses {
+    /// A book for each class, in which a donor is given at most `limit` times, and its passes. `class_of` has the class of
+    /// each row; a row claims and is a donor in its class alone. Nobody has claimed. All memory is taken here.
+    pub fn share(
+        alloc: Global,
+        class_of: Vec<u32>,
+        classes: u32,
+        limit: u32,
+        passes: u32,
+    ) -> Result<(SharedClasses, Vec<ClassPass>), OutOfMemory>
+        requires passes { 0 < passes }
+        requires rows { length class_of.items + 1 < 2 ^ 32 }
+        requires classes { All (λ class. class < classes) class_of.items }
+        ensures terms { IfOk result (λ r. r.0.terms ≡ record { class_of = class_of.items; classes = classes; limit = limit; passes = passes }) }
+        ensures passes { IfOk result (λ r. length r.1.items ≡ passes) }
+        ensures fresh { IfOk result (λ r. All (IsFreshPass r.0) r.1.items) }
+    {
+        let tables = Classes::of(alloc, class_of, classes, limit, passes)?;
+        let tables = Arc::new(alloc, tables)?;
+        let mut all = passes_of(alloc, &tables, passes)?;
+        let mut books = Vec::with_capacity(alloc, classes as usize)?;
+        for class in 0..classes {
+            let rows = tables.size_of(class);
+            let (book, passes) = SharedBook::share(alloc, rows, limit, rows, passes)?;
+            deal(alloc, &mut all, passes)?;
+            books.push_reserved(book);
+        }
+        let histories = Vec::with_capacity(alloc, classes as usize)?;
+        let shared = SharedClasses {
+            classes: tables,
+            books,
+            histories,
+        };
+        Ok((shared, all))
+    }
+
+    /// Claims a donor for a row in the book of its class, as `SharedBook::claim` does. The donors of the ranking are at most
+    /// 64 rows of that class. No memory, no waiting.
+    pub fn claim(&self, pass: &mut ClassPass, row_no: u32, ranking: &[u32]) -> Claim
+        requires classes { pass.old.classes ≡ self.now }
+        requires row { row_no < length self.now.terms.class_of }
+        requires few { length ranking.now ≤ most_near }
+        requires donors { All (IsOfClass self.now.terms.class_of (class_at self.now row_no)) ranking.now }
+        ensures classes { pass.new.classes ≡ pass.old.classes }
+        ensures others { (class : ℕ) → class ≢ class_at self.now row_no → pass_in class pass.new ≡ pass_in class pass.old }
+        ensures placed { let state = state_in (class_at self.now row_no) pass.new in ArePlaced state.seen state.mine }
+        ensures answered { let class = class_at self.now row_no in
+            IsAnswered (pass_in class pass.old) row_no ranking.now result (pass_in class pass.new) }
+    {
+        let class = self.classes.class_of(row_no);
+        let numbers = self.classes.numbers_of(ranking);
+        let hand = &mut pass.hands[class as usize];
+        let answer = hand.claim(
+            &self.books[class as usize],
+            self.classes.number_of(row_no),
+            &numbers[..ranking.len()],
+        );
+        self.classes.in_file(class, answer)
+    }
+
+    /// The history of each class, in order, once all passes are handed back. No memory, no waiting.
+    pub fn close(self, passes: Vec<ClassPass>) -> Vec<Vec<Won>>
+        requires classes { All (λ pass. pass.classes ≡ self) passes.items }
+        requires all { length passes.items ≡ self.terms.passes }
+        ensures histories { length result.items ≡ self.terms.classes }
+        ensures whole { let histories = map (λ h. h.items) result.items in
+            EachClass self (λ class. IsWhole self.terms.limit (passes_in class passes.items) (history_in class histories)) }
+        ensures sound { let histories = map (λ h. h.items) result.items in
+            EachClass self (λ class. IsSound (book_terms self.terms) (history_in class histories)) }
+        ensures of_class { let histories = map (λ h. h.items) result.items in
+            EachClass self (λ class. All (IsWonIn self.terms.class_of class) (history_in class histories)) }
+        ensures legal { let histories = map (λ h. h.items) result.items in
+            EachClass self (λ class. (entries : List Entry) × AreCollectedIn self.terms.class_of class self.terms.limit
+                (passes_in class passes.items) (history_in class histories) entries) }
+    {
+        let SharedClasses {
+            classes,
+            mut books,
+            mut histories,
+        } = self;
+        let mut passes = passes;
+        let Some(mut last) = passes.pop() else {
+            unreachable!()
+        };
+        while let Some(book) = books.pop() {
+            let history = book.close(gather(&mut passes, &mut last));
+            histories.push_reserved(classes.history_in_file(books.len() as u32, history));
+        }
+        histories.reverse();
+        histories
+    }
+}
+
+// So many passes of the classes, with passes of no book yet.
+fn passes_of(
+    alloc: Global,
+    classes: &Arc<Classes>,
+    count: u32,
+) -> Result<Vec<ClassPass>, OutOfMemory> {
+    let mut all = Vec::with_capacity(alloc, count as usize)?;
+    for _ in 0..count {
+        all.push_reserved(ClassPass::of(alloc, Arc::try_clone(classes)?));
+    }
+    Ok(all)
+}
+
+// Gives each pass of the classes a pass of the next class's book.
+fn deal(alloc: Global, all: &mut Vec<ClassPass>, passes: Vec<Pass>) -> Result<(), OutOfMemory> {
+    let mut passes = passes;
+    for class_pass in all.iter_mut() {
+        let Some(pass) = passes.pop() else {
+            unreachable!()
+        };
+        class_pass.add(alloc, pass)?;
+    }
+    Ok(())
+}
+
+// The passes of the last class's book, of all passes of the classes, in the room that the last of these has for them.
+fn gather(others: &mut Vec<ClassPass>, last: &mut ClassPass) -> Vec<Pass> {
+    let (pass, mut room) = last.take_last().into_parts();
+    for other in others.iter_mut() {
+        let (pass, _room) = other.take_last().into_parts();
+        room.push_reserved(pass);
+    }
+    room.push_reserved(pass);
+    room
+}
