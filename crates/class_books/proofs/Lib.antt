@@ -1,3 +1,7 @@
+mod ClaimLaws
+mod ClassPassLaws
+mod ClassTables
+mod CloseLaws
 mod ClosedClasses
 mod JoinedClasses
 mod Renumbered

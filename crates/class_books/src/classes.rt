@@ -1,5 +1,5 @@
 //! The rows of each class, and the numbers that they have in the book of their class.
-ghost use Rattle.std.specs.Prelude.{◌≡◌, ℕ, ◌+◌, ◌<◌, ◌≤◌, ◌^◌, [], IfOk, length, map, replicate, slice_get, slice_index, take};
+ghost use Rattle.std.specs.Prelude.{◌≡◌, ℕ, ◌+◌, ◌<◌, ◌≤◌, ◌^◌, [], IfOk, length, map, slice_get, slice_index, take};
 ghost use Rattle.std.specs.List.{All};
 ghost use Rattle.class_books.specs.Classes.{IsOfClass};
 ghost use Rattle.class_books.specs.inner.Numbers.{AreNumbersOf, IsGivenWithin, claim_with, donor_with, row_with, rows_in, won_with};
@@ -76,13 +76,13 @@ impl Classes {
         self.passes
     }
 
-    /// How many rows the class has. No memory.
-    pub fn size_of(&self, class: u32) -> u32
+    /// The rows of a class, in order. No memory.
+    pub fn rows_of(&self, class: u32) -> &[u32]
         requires { class < self.now.classes }
-        ensures size { result ≡ length (rows_in self.now.class_of class) }
-        ensures small { result + 1 < 2 ^ 32 }
+        ensures rows { result.now ≡ rows_in self.now.class_of class }
+        ensures few { length result.now + 1 < 2 ^ 32 }
     {
-        self.rows[class as usize].len() as u32
+        self.rows[class as usize].as_slice()
     }
 
     /// The class of a row. No memory.
@@ -124,7 +124,7 @@ impl Classes {
         ensures { result ≡ claim_with self.now.class_of class answer }
     {
         match answer {
-            Claim::Given(number) => Claim::Given(self.rows[class as usize][number as usize]),
+            Claim::Given(number) => Claim::Given(self.rows_of(class)[number as usize]),
             Claim::Nobody => Claim::Nobody,
             Claim::Had(reply) => Claim::Had(self.donor_with(class, reply)),
         }
@@ -136,10 +136,11 @@ impl Classes {
         requires rows { All (λ w. w.row_no < length (rows_in self.now.class_of class)) history.items }
         ensures { result.items ≡ map (won_with self.now.class_of class) history.items }
     {
+        let rows = self.rows_of(class);
         let mut history = history;
         for won in history.iter_mut() {
             *won = Won {
-                row_no: self.rows[class as usize][won.row_no as usize],
+                row_no: rows[won.row_no as usize],
                 reply: self.donor_with(class, won.reply),
             };
         }
@@ -152,13 +153,14 @@ impl Classes {
         ensures { result ≡ donor_with self.now.class_of class reply }
     {
         let number = reply?;
-        self.rows[class as usize].get(number as usize).copied()
+        self.rows_of(class).get(number as usize).copied()
     }
 }
 
 // No rows of any class.
 fn no_rows(alloc: Global, classes: u32) -> Result<Vec<Vec<u32>>, OutOfMemory>
-    ensures { IfOk result (λ rows. map (λ r. r.items) rows.items ≡ replicate classes []) }
+    ensures as_many { IfOk result (λ rows. length rows.items ≡ classes) }
+    ensures empty { IfOk result (λ rows. All (λ r. r.items ≡ []) rows.items) }
 {
     let mut rows = Vec::with_capacity(alloc, classes as usize)?;
     for _ in 0..classes {

@@ -1,7 +1,7 @@
 ghost use Rattle.std.specs.Prelude.{◌≡◌, ◌<◌, ◌≤◌, [], IfOk};
 ghost use Rattle.std.specs.List.{All};
 ghost use Rattle.donor_book.specs.Passes.{ArePlaced, IsAnswered};
-ghost use Rattle.class_books.specs.inner.Hands.{RanksWithin};
+ghost use Rattle.class_books.specs.inner.Hands.{RanksOwn};
 
 use donor_book::{Claim, Pass, SharedBook};
 use foundation::OutOfMemory;
@@ -53,7 +53,7 @@ impl Hand {
     /// The pass and the room. No memory.
     pub fn into_parts(self) -> (Pass, Vec<Pass>)
         ensures pass { result.0 ≡ self }
-        ensures ranks { All (RanksWithin self.book.terms.donors) self.mine }
+        ensures ranks { RanksOwn self }
         ensures empty { result.1.items ≡ [] }
         ensures room { self.book.terms.passes ≤ result.1.cap }
     {

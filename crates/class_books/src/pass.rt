@@ -1,8 +1,8 @@
-ghost use Rattle.std.specs.Prelude.{◌≡◌, ◌-◌, ◌<◌, [], OnOk, length, slice_index_or};
+ghost use Rattle.std.specs.Prelude.{◌≡◌, ◌<◌, [], OnOk, length};
 ghost use Rattle.std.specs.Arc.{arc_value};
-ghost use Rattle.class_books.specs.ClassPasses.{ClassPassState, state_in};
-ghost use Rattle.class_books.specs.inner.Hands.{class_pass_of, first_classes, with_class};
-ghost use Rattle.class_books.specs.inner.Numbers.{class_terms, state_with};
+ghost use Rattle.class_books.specs.ClassPasses.{state_in};
+ghost use Rattle.class_books.specs.inner.Hands.{IsNext, IsOfLast, class_pass_of, first_classes, last_class, with_class};
+ghost use Rattle.class_books.specs.inner.Numbers.{state_with};
 
 use crate::classes::Classes;
 use crate::hand::Hand;
@@ -45,8 +45,7 @@ impl ClassPass {
 
     /// Takes in a pass of the next class's book, which has seen and claimed nothing.
     pub fn add(&mut self, alloc: Global, pass: Pass) -> Result<(), OutOfMemory>
-        requires terms { pass.book.terms ≡ class_terms self.old.classes.terms (length self.old.states) }
-        requires fresh { (pass.seen ≡ []) × (pass.mine ≡ []) }
+        requires { IsNext self.old pass }
         ensures { OnOk result (self.new ≡ with_class self.old pass.book) }
     {
         let passes = self.classes.passes();
@@ -56,11 +55,10 @@ impl ClassPass {
 
     /// Gives away what it has of the last class. No memory.
     pub fn take_last(&mut self) -> Hand
-        requires { 0 < length self.old.states }
-        ensures rest { self.new ≡ first_classes (length self.old.states - 1) self.old }
-        ensures book { result.book ≡ slice_index_or self.old.classes.books (length self.old.states - 1) result.book }
-        ensures state { state_with self.old.classes.terms.class_of (length self.old.states - 1) result
-            ≡ state_in (length self.old.states - 1) self.old }
+        requires { 0 < length self.old.classes.books }
+        ensures rest { self.new ≡ first_classes (last_class self.old) self.old }
+        ensures last { IsOfLast self.old.classes result }
+        ensures state { state_with self.old.classes.terms.class_of (last_class self.old) result ≡ state_in (last_class self.old) self.old }
     {
         let Some(hand) = self.hands.pop() else {
             unreachable!()

@@ -1,12 +1,14 @@
-ghost use Rattle.std.specs.Prelude.{◌≡◌, ◌≢◌, ℕ, ◌+◌, ◌-◌, ◌<◌, ◌≤◌, ◌^◌, List, IfOk, OnOk, length, map};
+ghost use Rattle.std.specs.Prelude.{◌≡◌, ◌≢◌, ℕ, ◌+◌, ◌++◌, ◌<◌, ◌≤◌, ◌^◌, List, [], ◌∷◌, IfOk, OnOk, length, map};
 ghost use Rattle.std.specs.List.{All};
 ghost use Rattle.std.specs.Arc.{arc_value};
-ghost use Rattle.foundation.specs.Options.{most_near};
+ghost use Rattle.foundation.specs.Limits.{most_near};
 ghost use Rattle.donor_book.specs.declared.claim.Entry.{Entry};
-ghost use Rattle.donor_book.specs.Passes.{ArePlaced, IsAnswered, IsSound, IsWhole};
-ghost use Rattle.class_books.specs.ClassPasses.{EachClass, IsFreshPass, book_terms, class_at, pass_in, passes_in, state_in};
+ghost use Rattle.donor_book.specs.Passes.{ArePlaced, BookName, IsAnswered, IsSound, IsWhole};
+ghost use Rattle.class_books.specs.ClassPasses.{ClassPassState, EachClass, IsFreshPass, book_terms, class_at, pass_in, passes_in, state_in};
 ghost use Rattle.class_books.specs.Classes.{IsOfClass, IsWonIn};
 ghost use Rattle.class_books.specs.Histories.{AreCollectedIn, history_in};
+ghost use Rattle.class_books.specs.inner.Hands.{IsNext, IsOfLast, RanksOwn, first_classes, fresh_pass, last_class, with_class};
+ghost use Rattle.class_books.specs.inner.Numbers.{state_with};
 
 use crate::classes::Classes;
 use crate::pass::ClassPass;
@@ -59,7 +61,7 @@ impl SharedClasses {
         let mut all = passes_of(alloc, &tables, passes)?;
         let mut books = Vec::with_capacity(alloc, classes as usize)?;
         for class in 0..classes {
-            let rows = tables.size_of(class);
+            let rows = tables.rows_of(class).len() as u32;
             let (book, passes) = SharedBook::share(alloc, rows, limit, rows, passes)?;
             deal(alloc, &mut all, passes)?;
             books.push_reserved(book);
@@ -135,7 +137,10 @@ fn passes_of(
     alloc: Global,
     classes: &Arc<Classes>,
     count: u32,
-) -> Result<Vec<ClassPass>, OutOfMemory> {
+) -> Result<Vec<ClassPass>, OutOfMemory>
+    ensures as_many { IfOk result (λ all. length all.items ≡ count) }
+    ensures fresh { IfOk result (λ all. All (λ pass. pass ≡ fresh_pass (arc_value classes.now) []) all.items) }
+{
     let mut all = Vec::with_capacity(alloc, count as usize)?;
     for _ in 0..count {
         all.push_reserved(ClassPass::of(alloc, Arc::try_clone(classes)?));
@@ -144,7 +149,13 @@ fn passes_of(
 }
 
 // Gives each pass of the classes a pass of the next class's book.
-fn deal(alloc: Global, all: &mut Vec<ClassPass>, passes: Vec<Pass>) -> Result<(), OutOfMemory> {
+fn deal(alloc: Global, all: &mut Vec<ClassPass>, passes: Vec<Pass>) -> Result<(), OutOfMemory>
+    requires as_many { length passes.items ≡ length all.old.items }
+    requires next { All (λ class_pass. All (IsNext class_pass) passes.items) all.old.items }
+    ensures as_many { OnOk result (length all.new.items ≡ length all.old.items) }
+    ensures dealt { OnOk result ((old : ClassPassState) (book : BookName) → All (λ pass. pass ≡ old) all.old.items
+        → All (λ pass. pass.book ≡ book) passes.items → All (λ pass. pass ≡ with_class old book) all.new.items) }
+{
     let mut passes = passes;
     for class_pass in all.iter_mut() {
         let Some(pass) = passes.pop() else {
@@ -156,7 +167,17 @@ fn deal(alloc: Global, all: &mut Vec<ClassPass>, passes: Vec<Pass>) -> Result<()
 }
 
 // The passes of the last class's book, of all passes of the classes, in the room that the last of these has for them.
-fn gather(others: &mut Vec<ClassPass>, last: &mut ClassPass) -> Vec<Pass> {
+fn gather(others: &mut Vec<ClassPass>, last: &mut ClassPass) -> Vec<Pass>
+    requires some { 0 < length last.old.classes.books }
+    requires same { All (λ pass. pass.classes ≡ last.old.classes) others.old.items }
+    requires all { length others.old.items + 1 ≡ last.old.classes.terms.passes }
+    ensures others { others.new.items ≡ map (first_classes (last_class last.old)) others.old.items }
+    ensures last { last.new ≡ first_classes (last_class last.old) last.old }
+    ensures gathered { map (state_with last.old.classes.terms.class_of (last_class last.old)) result.items
+        ≡ map (state_in (last_class last.old)) (others.old.items ++ last.old ∷ []) }
+    ensures of_last { All (IsOfLast last.old.classes) result.items }
+    ensures ranks { All RanksOwn result.items }
+{
     let (pass, mut room) = last.take_last().into_parts();
     for other in others.iter_mut() {
         let (pass, _room) = other.take_last().into_parts();

@@ -1,5 +1,5 @@
 -- What passes and shared classes keep.
-use Rattle.std.specs.Prelude.{◌≡◌, ℕ, ◌<◌, ◌≤◌, List, [], ◌∷◌, ◌++◌, length, map, slice_index_or, take}
+use Rattle.std.specs.Prelude.{◌≡◌, ℕ, ◌-◌, ◌<◌, ◌≤◌, List, [], ◌∷◌, ◌++◌, length, map, slice_index_or, take}
 use Rattle.std.specs.List.{All}
 use Rattle.donor_book.specs.Passes.{BookName, PassState}
 use Rattle.donor_book.specs.declared.rule.Placed.{Placed}
@@ -10,10 +10,15 @@ use Rattle.class_books.specs.inner.Numbers.{class_terms, states_from}
 abbrev pub RanksWithin : ℕ → Placed → Type 0
 RanksWithin donors m = All (λ donor. donor < donors) m.entry.ranking
 
--- a pass whose claims rank donors that there are, and room for all passes of its book
-abbrev pub KeepsHand : PassState → List PassState → ℕ → Type 0
-KeepsHand pass room capacity =
-    All (RanksWithin pass.book.terms.donors) pass.mine × (room ≡ []) × (pass.book.terms.passes ≤ capacity)
+-- the claims of the pass rank donors of its book alone
+abbrev pub RanksOwn : PassState → Type 0
+RanksOwn pass = All (RanksWithin pass.book.terms.donors) pass.mine
+
+-- such a pass, and room for all passes of its book
+pub record KeepsHand (pass : PassState) (room : List PassState) (capacity : ℕ) : Type 0 where
+  pub ranks : RanksOwn pass
+  pub empty : room ≡ []
+  pub enough : pass.book.terms.passes ≤ capacity
 
 -- the pass of each class, as far as there is one, is of a book with the terms of the class
 abbrev pub AreOfTerms : ClassTerms → List BookName → Type 0
@@ -34,16 +39,38 @@ class_pass_of terms passes =
     record { classes = name_of terms (books_of passes); states = states_from terms.class_of 0 passes }
 
 -- what shared classes keep: a book for each class, and room for their histories
-abbrev pub SharesClasses : {X : Type 0} → ClassTerms → List BookName → List X → ℕ → Type 0
-SharesClasses terms books histories capacity =
-    (length books ≡ terms.classes) × AreOfTerms terms books × (histories ≡ []) × (terms.classes ≤ capacity)
+pub record SharesClasses {X : Type 0} (terms : ClassTerms) (books : List BookName) (histories : List X) (capacity : ℕ) : Type 0 where
+  pub some : 0 < terms.passes
+  pub as_many : length books ≡ terms.classes
+  pub terms_are : AreOfTerms terms books
+  pub empty : histories ≡ []
+  pub room : terms.classes ≤ capacity
 
 -- the pass with a pass of one book more, which has seen and claimed nothing
 abbrev pub with_class : ClassPassState → BookName → ClassPassState
 with_class pass book =
     record { classes = name_of pass.classes.terms (pass.classes.books ++ book ∷ []); states = pass.states ++ no_claims ∷ [] }
 
+-- the pass that has seen and claimed nothing in the classes of these books
+abbrev pub fresh_pass : ClassTerms → List BookName → ClassPassState
+fresh_pass terms books = record { classes = name_of terms books; states = map (λ (book : BookName). no_claims) books }
+
+-- a pass of the next class's book, which has seen and claimed nothing
+pub record IsNext (class_pass : ClassPassState) (pass : PassState) : Type 0 where
+  pub terms : pass.book.terms ≡ class_terms class_pass.classes.terms (length class_pass.classes.books)
+  pub seen : pass.seen ≡ []
+  pub mine : pass.mine ≡ []
+
 -- the pass in the first n classes alone
 abbrev pub first_classes : ℕ → ClassPassState → ClassPassState
 first_classes n pass =
     record { classes = name_of pass.classes.terms (take n pass.classes.books); states = take n pass.states }
+
+-- the last class of a pass
+abbrev pub last_class : ClassPassState → ℕ
+last_class pass = length pass.classes.books - 1
+
+-- the pass is of the last class's book, which has the terms of that class
+pub record IsOfLast (classes : ClassesName) (pass : PassState) : Type 0 where
+  pub book : pass.book ≡ slice_index_or classes.books (length classes.books - 1) pass.book
+  pub terms : pass.book.terms ≡ class_terms classes.terms (length classes.books - 1)

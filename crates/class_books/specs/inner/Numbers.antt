@@ -61,13 +61,17 @@ abbrev pub class_terms : ClassTerms → ℕ → Terms
 class_terms terms class =
     record { limit = terms.limit; donors = length (rows_in terms.class_of class); rows = length (rows_in terms.class_of class); passes = terms.passes }
 
--- the tables of the classes: the rows of each class, and the number of each row in its class
-pub record KeepsClasses (class_of numbers : List ℕ) (rows : List (List ℕ)) : Type 0 where
-  pub few : length class_of + 1 < 2 ^ 32
-  pub within : All (λ class. class < length rows) class_of
+-- the rows of each class, and the number of each row in its class
+pub record AreNumbered (class_of numbers : List ℕ) (rows : List (List ℕ)) : Type 0 where
   pub as_many : length numbers ≡ length class_of
   pub rows_are : (class : ℕ) → class < length rows → slice_index_or rows class [] ≡ rows_in class_of class
   pub numbered : (row class : ℕ) → IsOfClass class_of class row → slice_get (rows_in class_of class) (slice_index numbers row) ≡ Some row
+
+-- the tables of the classes
+pub record KeepsClasses (class_of numbers : List ℕ) (rows : List (List ℕ)) : Type 0 where
+  pub few : length class_of + 1 < 2 ^ 32
+  pub within : All (λ class. class < length rows) class_of
+  pub are : AreNumbered class_of numbers rows
 
 -- these are the numbers of these rows in the class, in order
 pub record AreNumbersOf (class_of : List ℕ) (class : ℕ) (rows numbers : List ℕ) : Type 0 where

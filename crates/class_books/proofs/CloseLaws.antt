@@ -1,0 +1,102 @@
+-- Classes that are closed one after the other, from the last one on.
+use Rattle.std.proofs.Common.{◌≡◌, ℕ, zero, suc, ◌+◌, ◌-◌, ◌<◌, List, [], ◌∷◌, ◌++◌, map, length, take, get_or, refl, sym, ap, ◌∙◌, subst, arith, length-append}
+use Rattle.std.specs.List.{All}
+use Rattle.std.proofs.lemmas.List.{get_or-take, get_or_at, length-map, take_at}
+use Rattle.std.proofs.lemmas.List.Elements.{All-head, All-map, All-tail}
+use Rattle.std.proofs.lemmas.Simd.{map-map}
+use Rattle.donor_book.specs.declared.claim.Entry.{Entry}
+use Rattle.donor_book.specs.declared.claim.Won.{Won}
+use Rattle.donor_book.specs.Passes.{AreCollected, BookName, IsSound, IsWhole, PassState}
+use Rattle.class_books.specs.ClassPasses.{ClassPassState, ClassState, ClassesName, book_in, book_terms, pass_in, pass_of, passes_in, state_in}
+use Rattle.class_books.specs.Classes.{IsWonIn}
+use Rattle.class_books.specs.Histories.{AreCollectedIn}
+use Rattle.class_books.specs.inner.Hands.{IsOfLast, RanksOwn, RanksWithin, first_classes, name_of}
+use Rattle.class_books.specs.inner.Numbers.{class_terms, entry_with, rows_in, state_with, won_with}
+use Rattle.class_books.proofs.ClosedClasses.{all-of-class, collected-with, sound-with, whole-with}
+use Rattle.class_books.proofs.Renumbered.{in_file}
+
+-- ---- the history of one class
+
+-- what is said of the history of a class that is closed
+pub record IsHistoryOf (name : ClassesName) (passes : List ClassPassState) (class : ℕ) (history : List Won) : Type 0 where
+  pub whole : IsWhole name.terms.limit (passes_in class passes) history
+  pub sound : IsSound (book_terms name.terms) history
+  pub of_class : All (IsWonIn name.terms.class_of class) history
+  pub legal : (entries : List Entry) × AreCollectedIn name.terms.class_of class name.terms.limit (passes_in class passes) history entries
+
+map-same : {X Y : Type 0} (f g : X → Y) (xs : List X) → All (λ x. f x ≡ g x) xs → map f xs ≡ map g xs
+map-same f g [] all = refl
+map-same {X} {Y} f g (x ∷ xs) all =
+    let here : f x ≡ g x = All-head (λ (y : X). f y ≡ g y) x xs all in
+    let rest = map-same f g xs (All-tail (λ (y : X). f y ≡ g y) x xs all) in
+    λ i. here i ∷ rest i
+
+module _ (name : ClassesName) (class : ℕ) (book : BookName) (own : book.terms ≡ class_terms name.terms class) (ps : List PassState) (passes : List ClassPassState)
+    (same : All (λ (q : ClassPassState). q.classes ≡ name) passes) (states : map (state_with name.terms.class_of class) ps ≡ map (state_in class) passes) where
+  -- the passes of the class's book, in the whole file
+  passes-are : map (in_file name.terms.class_of class (book_in class name)) ps ≡ passes_in class passes
+  passes-are =
+      sym (map-map (pass_of (book_in class name)) (state_with name.terms.class_of class) ps)
+      ∙ ap (map (pass_of (book_in class name))) states
+      ∙ map-map (pass_of (book_in class name)) (state_in class) passes
+      ∙ map-same (λ q. pass_of (book_in class name) (state_in class q)) (pass_in class) passes (λ k d lt. ap (λ n. pass_of (book_in class n) (state_in class (get_or passes k d))) (sym (same k d lt)))
+
+  -- the history of the class's book, in the whole file
+  pub closed-class : (history : List Won) → All RanksOwn ps → All (λ (p : PassState). p.book ≡ book) ps → IsWhole book.terms.limit ps history → IsSound book.terms history → (es : List Entry) × AreCollected book.terms.limit ps history es
+      → IsHistoryOf name passes class (map (won_with name.terms.class_of class) history)
+  closed-class history ranks books whole sound legal =
+      let size = length (rows_in name.terms.class_of class) in
+      let limit = name.terms.limit in
+      let in_class : IsSound (class_terms name.terms class) history = subst (λ t. IsSound t history) own sound in
+      let few : All (λ (p : PassState). All (RanksWithin size) p.mine) ps = (λ k d lt. subst (λ t. All (RanksWithin t.donors) (get_or ps k d).mine) (ap (λ (b : BookName). b.terms) (books k d lt) ∙ own) (ranks k d lt)) in
+      let all : IsWhole limit ps history = subst (λ t. IsWhole t.limit ps history) own whole in
+      let es : AreCollected limit ps history legal.0 = subst (λ t. AreCollected t.limit ps history legal.0) own legal.1 in
+      let class_of = name.terms.class_of in
+      record {
+        whole = subst (λ (qs : List PassState). IsWhole limit qs (map (won_with class_of class) history)) passes-are
+            (whole-with class_of class (book_in class name) limit ps history in_class.within in_class.once few all);
+        sound = sound-with class_of class (book_in class name) limit ps history in_class.within in_class.once few all (book_terms name.terms) refl refl;
+        of_class = all-of-class class_of class (book_in class name) limit ps history in_class.within in_class.once few all;
+        legal = (
+          map (entry_with class_of class) legal.0,
+          subst (λ (qs : List PassState). AreCollectedIn class_of class limit qs (map (won_with class_of class) history) (map (entry_with class_of class) legal.0)) passes-are
+              (collected-with class_of class (book_in class name) limit ps history in_class.within in_class.once few all legal.0 es),
+        );
+      }
+
+-- ---- the histories of the classes from one on
+
+abbrev pub AreHistoriesFrom : ClassesName → List ClassPassState → ℕ → List (List Won) → Type 0
+AreHistoriesFrom name passes class [] = Unit {0}
+AreHistoriesFrom name passes class (history ∷ histories) = IsHistoryOf name passes class history × AreHistoriesFrom name passes (suc class) histories
+
+pub history-at : (name : ClassesName) (passes : List ClassPassState) (class : ℕ) (histories : List (List Won)) → AreHistoriesFrom name passes class histories → (j : ℕ) → j < length histories → IsHistoryOf name passes (class + j) (get_or histories j [])
+history-at name passes class [] are j lt = absurd (omega (arith, lt))
+history-at name passes class (history ∷ histories) are zero lt = let same : class ≡ class + 0 = omega arith in subst (λ k. IsHistoryOf name passes k history) same are.0
+history-at name passes class (history ∷ histories) are (suc j) lt =
+    let same : suc class + j ≡ class + suc j = omega arith in
+    subst (λ k. IsHistoryOf name passes k (get_or histories j [])) same (history-at name passes (suc class) histories are.1 j (omega (arith, lt)))
+
+-- ---- the passes in the first classes
+
+state-first : (m class : ℕ) (q : ClassPassState) → class < m → state_in class (first_classes m q) ≡ state_in class q
+state-first m class q lt = get_or-take m q.states class (record { seen = []; mine = [] }) lt
+
+-- they have in these what they had
+pub states-first : (m class : ℕ) (qs : List ClassPassState) → class < m → map (state_in class) (map (first_classes m) qs) ≡ map (state_in class) qs
+states-first m class qs lt = map-map (state_in class) (first_classes m) qs ∙ (λ i. map (λ q. state-first m class q lt i) qs)
+
+-- where the last of some books is taken away, the passes are of the others
+pub classes-first : (name : ClassesName) (rest books : List BookName) (book : BookName) (qs : List ClassPassState) → books ≡ rest ++ book ∷ [] → All (λ (q : ClassPassState). q.classes ≡ name_of name.terms books) qs
+    → All (λ (q : ClassPassState). q.classes ≡ name_of name.terms rest) (map (first_classes (length rest)) qs)
+classes-first name rest books book qs is same =
+    All-map (λ (q : ClassPassState). q.classes ≡ name_of name.terms rest) (first_classes (length rest)) qs
+    (λ k d lt. ap (λ n. name_of n.terms (take (length rest) n.books)) (same k d lt) ∙ ap (name_of name.terms) (ap (take (length rest)) is ∙ take_at rest (book ∷ []) (length rest) refl))
+
+-- a pass of the last book is one of this book
+pub last-book : (rest books : List BookName) (book : BookName) (name : ClassesName) (p : PassState) → books ≡ rest ++ book ∷ [] → IsOfLast (name_of name.terms books) p → p.book ≡ book
+last-book rest books book name p is last =
+    let one = ap length is in
+    let l = length-append rest (book ∷ []) in
+    let at : length rest ≡ length books - 1 = omega (arith, one, l) in
+    last.book ∙ ap (λ (bs : List BookName). get_or bs (length books - 1) p.book) is ∙ get_or_at rest book [] p.book (length books - 1) at
