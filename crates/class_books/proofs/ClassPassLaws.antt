@@ -5,8 +5,8 @@ use Rattle.std.proofs.lemmas.Bool.{cases_lt}
 use Rattle.std.proofs.lemmas.List.{get_or-map, get_or-set_other, get_or-set_same, get_or-take, get_or_append_left, get_or_push, length-map, length-take, map-set, map_push, set-get_or, take-map}
 use Rattle.std.proofs.lemmas.Option.{same_Some}
 use Rattle.donor_book.specs.Passes.{BookName, PassState}
-use Rattle.class_books.specs.ClassPasses.{ClassPassState, ClassState, ClassTerms, no_claims, state_in}
-use Rattle.class_books.specs.inner.Hands.{AreOfTerms, IsOfLast, books_of, class_pass_of, first_classes, last_class, name_of, with_class}
+use Rattle.class_books.specs.ClassPasses.{ClassPassState, ClassState, ClassTerms, IsFreshPass, no_claims, state_in}
+use Rattle.class_books.specs.inner.Hands.{AreOfTerms, IsOfLast, books_of, class_pass_of, first_classes, fresh_pass, last_class, name_of, with_class}
 use Rattle.class_books.specs.inner.Numbers.{class_terms, state_with, states_from}
 
 -- ---- the states of the classes
@@ -67,6 +67,24 @@ class-pass-push terms hands p seen mine =
     let books = map_push (λ (q : PassState). q.book) hands p in
     let states = states-push terms.class_of 0 hands p ∙ ap (λ (s : ClassState). states_from terms.class_of 0 hands ++ s ∷ []) (fresh-state terms.class_of (0 + length hands) p seen mine) in
     λ i. record { classes = name_of terms (books i); states = states i }
+
+fresh-at : (books : List BookName) (class : ℕ) → get_or (map (λ (b : BookName). no_claims) books) class no_claims ≡ no_claims
+fresh-at [] class = refl
+fresh-at (b ∷ books) zero = refl
+fresh-at (b ∷ books) (suc class) = fresh-at books class
+
+-- a pass that has seen and claimed nothing in the classes of these books
+pub fresh-is : (terms : ClassTerms) (books : List BookName) → IsFreshPass (name_of terms books) (fresh_pass terms books)
+fresh-is terms books = record {
+  classes = refl;
+  fresh = λ class lt. record { book = refl; seen = ap (λ (s : ClassState). s.seen) (fresh-at books class); mine = ap (λ (s : ClassState). s.mine) (fresh-at books class) };
+}
+
+-- and has not in those of one more
+pub fresh-push : (terms : ClassTerms) (books : List BookName) (book : BookName) → with_class (fresh_pass terms books) book ≡ fresh_pass terms (books ++ book ∷ [])
+fresh-push terms books book =
+    let states = sym (map_push (λ (b : BookName). no_claims) books book) in
+    λ i. record { classes = name_of terms (books ++ book ∷ []); states = states i }
 
 -- ---- one class less
 

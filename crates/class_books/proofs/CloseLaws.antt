@@ -1,7 +1,8 @@
 -- Classes that are closed one after the other, from the last one on.
-use Rattle.std.proofs.Common.{◌≡◌, ℕ, zero, suc, ◌+◌, ◌-◌, ◌<◌, List, [], ◌∷◌, ◌++◌, map, length, take, get_or, refl, sym, ap, ◌∙◌, subst, arith, length-append}
+use Rattle.std.proofs.Common.{◌≡◌, ℕ, zero, suc, ◌+◌, ◌-◌, ◌<◌, List, [], ◌∷◌, ◌++◌, map, length, reverse, take, get_or, refl, sym, ap, ◌∙◌, subst, arith, length-append}
+use mathlib.Core.List.{reverse-cons}
 use Rattle.std.specs.List.{All}
-use Rattle.std.proofs.lemmas.List.{get_or-take, get_or_at, length-map, take_at}
+use Rattle.std.proofs.lemmas.List.{get_or-take, get_or_append_left, get_or_at, get_or_push, length-map, length_push, map-append, map_push, take_at}
 use Rattle.std.proofs.lemmas.List.Elements.{All-head, All-map, All-tail}
 use Rattle.std.proofs.lemmas.Simd.{map-map}
 use Rattle.donor_book.specs.declared.claim.Entry.{Entry}
@@ -10,7 +11,7 @@ use Rattle.donor_book.specs.Passes.{AreCollected, BookName, IsSound, IsWhole, Pa
 use Rattle.class_books.specs.ClassPasses.{ClassPassState, ClassState, ClassesName, book_in, book_terms, pass_in, pass_of, passes_in, state_in}
 use Rattle.class_books.specs.Classes.{IsWonIn}
 use Rattle.class_books.specs.Histories.{AreCollectedIn}
-use Rattle.class_books.specs.inner.Hands.{IsOfLast, RanksOwn, RanksWithin, first_classes, name_of}
+use Rattle.class_books.specs.inner.Hands.{AreOfTerms, IsOfLast, RanksOwn, RanksWithin, first_classes, last_class, name_of}
 use Rattle.class_books.specs.inner.Numbers.{class_terms, entry_with, rows_in, state_with, won_with}
 use Rattle.class_books.proofs.ClosedClasses.{all-of-class, collected-with, sound-with, whole-with}
 use Rattle.class_books.proofs.Renumbered.{in_file}
@@ -77,6 +78,12 @@ history-at name passes class (history ∷ histories) are (suc j) lt =
     let same : suc class + j ≡ class + suc j = omega arith in
     subst (λ k. IsHistoryOf name passes k (get_or histories j [])) same (history-at name passes (suc class) histories are.1 j (omega (arith, lt)))
 
+-- the changed list from the end on
+pub map-reverse : {X Y : Type 0} (f : X → Y) (xs : List X) → map f (reverse xs) ≡ reverse (map f xs)
+map-reverse f [] = refl
+map-reverse f (x ∷ xs) =
+    ap (map f) (reverse-cons x xs) ∙ map-append f (reverse xs) (x ∷ []) ∙ ap (λ l. l ++ f x ∷ []) (map-reverse f xs) ∙ sym (reverse-cons (f x) (map f xs))
+
 -- ---- the passes in the first classes
 
 state-first : (m class : ℕ) (q : ClassPassState) → class < m → state_in class (first_classes m q) ≡ state_in class q
@@ -86,17 +93,62 @@ state-first m class q lt = get_or-take m q.states class (record { seen = []; min
 pub states-first : (m class : ℕ) (qs : List ClassPassState) → class < m → map (state_in class) (map (first_classes m) qs) ≡ map (state_in class) qs
 states-first m class qs lt = map-map (state_in class) (first_classes m) qs ∙ (λ i. map (λ q. state-first m class q lt i) qs)
 
--- where the last of some books is taken away, the passes are of the others
-pub classes-first : (name : ClassesName) (rest books : List BookName) (book : BookName) (qs : List ClassPassState) → books ≡ rest ++ book ∷ [] → All (λ (q : ClassPassState). q.classes ≡ name_of name.terms books) qs
-    → All (λ (q : ClassPassState). q.classes ≡ name_of name.terms rest) (map (first_classes (length rest)) qs)
-classes-first name rest books book qs is same =
-    All-map (λ (q : ClassPassState). q.classes ≡ name_of name.terms rest) (first_classes (length rest)) qs
-    (λ k d lt. ap (λ n. name_of n.terms (take (length rest) n.books)) (same k d lt) ∙ ap (name_of name.terms) (ap (take (length rest)) is ∙ take_at rest (book ∷ []) (length rest) refl))
+-- ---- one class more is closed
 
--- a pass of the last book is one of this book
-pub last-book : (rest books : List BookName) (book : BookName) (name : ClassesName) (p : PassState) → books ≡ rest ++ book ∷ [] → IsOfLast (name_of name.terms books) p → p.book ≡ book
-last-book rest books book name p is last =
-    let one = ap length is in
-    let l = length-append rest (book ∷ []) in
-    let at : length rest ≡ length books - 1 = omega (arith, one, l) in
-    last.book ∙ ap (λ (bs : List BookName). get_or bs (length books - 1) p.book) is ∙ get_or_at rest book [] p.book (length books - 1) at
+-- the passes are of some books, of which this is the last
+module _ (name : ClassesName) (rest books : List BookName) (book : BookName) (others : List ClassPassState) (last : ClassPassState) (is : books ≡ rest ++ book ∷ [])
+    (same : All (λ (q : ClassPassState). q.classes ≡ name_of name.terms books) (others ++ last ∷ [])) where
+  pub count : length books ≡ length rest + 1
+  count = ap length is ∙ length_push rest book
+
+  at-last : length books - 1 ≡ length rest
+  at-last = let n = count in omega (arith, n)
+
+  pub last-same : last.classes ≡ name_of name.terms books
+  last-same =
+      ap (λ (q : ClassPassState). q.classes) (sym (get_or_push others last last (length others) refl))
+      ∙ same (length others) last (let l = length_push others last in omega (arith, l))
+
+  pub others-same : All (λ (q : ClassPassState). q.classes ≡ last.classes) others
+  others-same k d lt =
+      ap (λ (q : ClassPassState). q.classes) (sym (get_or_append_left others (last ∷ []) d k lt))
+      ∙ same k d (let l = length_push others last in omega (arith, l, lt)) ∙ sym last-same
+
+  -- the book has the terms of its class, and so have the others
+  pub own : AreOfTerms name.terms books → book.terms ≡ class_terms name.terms (length rest)
+  own are =
+      ap (λ (b : BookName). b.terms) (sym (ap (λ (l : List BookName). get_or l (length rest) book) is ∙ get_or_push rest book book (length rest) refl))
+      ∙ are (length rest) book (let n = count in omega (arith, n))
+
+  pub rest-terms : AreOfTerms name.terms books → AreOfTerms name.terms rest
+  rest-terms are k d lt =
+      ap (λ (b : BookName). b.terms) (sym (get_or_append_left rest (book ∷ []) d k lt) ∙ ap (λ (l : List BookName). get_or l k d) (sym is))
+      ∙ are k d (let n = count in omega (arith, n, lt))
+
+  -- the passes of the last class are those of the book
+  pub of-book : (ps : List PassState) → All (IsOfLast last.classes) ps → All (λ (p : PassState). p.book ≡ book) ps
+  of-book ps all k d lt =
+      let p = get_or ps k d in
+      let of_last : IsOfLast (name_of name.terms books) p = subst (λ (n : ClassesName). IsOfLast n p) last-same (all k d lt) in
+      of_last.book ∙ ap (λ (bs : List BookName). get_or bs (length books - 1) p.book) is ∙ get_or_at rest book [] p.book (length books - 1) (sym at-last)
+
+  -- and have what the passes have of that class
+  pub states-left : (ps : List PassState) (passes : List ClassPassState) → map (state_with last.classes.terms.class_of (last_class last)) ps ≡ map (state_in (last_class last)) (others ++ last ∷ [])
+      → ((class : ℕ) → class < length books → map (state_in class) (others ++ last ∷ []) ≡ map (state_in class) passes) → map (state_with name.terms.class_of (length rest)) ps ≡ map (state_in (length rest)) passes
+  states-left ps passes gathered states =
+      subst (λ n. map (state_with name.terms.class_of n) ps ≡ map (state_in n) (others ++ last ∷ [])) at-last
+      (subst (λ (n : ClassesName). map (state_with n.terms.class_of (length n.books - 1)) ps ≡ map (state_in (length n.books - 1)) (others ++ last ∷ [])) last-same gathered)
+      ∙ states (length rest) (let n = count in omega (arith, n))
+
+  -- what is left of the passes
+  pub passes-left : (fewer : List ClassPassState) (final : ClassPassState) → fewer ≡ map (first_classes (last_class last)) others → final ≡ first_classes (last_class last) last
+      → fewer ++ final ∷ [] ≡ map (first_classes (length rest)) (others ++ last ∷ [])
+  passes-left fewer final fewer_are final_is =
+      (λ i. fewer_are i ++ final_is i ∷ []) ∙ sym (map_push (first_classes (last_class last)) others last)
+      ∙ ap (λ n. map (first_classes n) (others ++ last ∷ [])) (ap (λ (n : ClassesName). length n.books - 1) last-same ∙ at-last)
+
+  -- is of the books that are left
+  pub classes-left : All (λ (q : ClassPassState). q.classes ≡ name_of name.terms rest) (map (first_classes (length rest)) (others ++ last ∷ []))
+  classes-left =
+      All-map (λ (q : ClassPassState). q.classes ≡ name_of name.terms rest) (first_classes (length rest)) (others ++ last ∷ [])
+      (λ k d lt. ap (λ n. name_of n.terms (take (length rest) n.books)) (same k d lt) ∙ ap (name_of name.terms) (ap (take (length rest)) is ∙ take_at rest (book ∷ []) (length rest) refl))

@@ -3,6 +3,7 @@ mod ClassPassLaws
 mod ClassTables
 mod CloseLaws
 mod ClosedClasses
+mod GatherLaws
 mod JoinedClasses
 mod Renumbered
 mod RowNumbers

@@ -77,21 +77,21 @@ impl Classes {
     }
 
     /// The rows of a class, in order. No memory.
-    pub fn rows_of(&self, class: u32) -> &[u32]
+    pub fn rows_of(&self, class: usize) -> &[u32]
         requires { class < self.now.classes }
         ensures rows { result.now ≡ rows_in self.now.class_of class }
         ensures few { length result.now + 1 < 2 ^ 32 }
     {
-        self.rows[class as usize].as_slice()
+        self.rows[class].as_slice()
     }
 
     /// The class of a row. No memory.
-    pub fn class_of(&self, row_no: u32) -> u32
+    pub fn class_of(&self, row_no: u32) -> usize
         requires { row_no < length self.now.class_of }
         ensures class { IsOfClass self.now.class_of result row_no }
         ensures within { result < self.now.classes }
     {
-        self.class_of[row_no as usize]
+        self.class_of[row_no as usize] as usize
     }
 
     /// The number of a row in its class. No memory.
@@ -118,7 +118,7 @@ impl Classes {
     }
 
     /// What the class's book answers, with the numbers of the whole file. No memory.
-    pub fn in_file(&self, class: u32, answer: Claim) -> Claim
+    pub fn in_file(&self, class: usize, answer: Claim) -> Claim
         requires class { class < self.now.classes }
         requires given { IsGivenWithin (length (rows_in self.now.class_of class)) answer }
         ensures { result ≡ claim_with self.now.class_of class answer }
@@ -131,7 +131,7 @@ impl Classes {
     }
 
     /// The history of the class's book, with the numbers of the whole file. No memory.
-    pub fn history_in_file(&self, class: u32, history: Vec<Won>) -> Vec<Won>
+    pub fn history_in_file(&self, class: usize, history: Vec<Won>) -> Vec<Won>
         requires class { class < self.now.classes }
         requires rows { All (λ w. w.row_no < length (rows_in self.now.class_of class)) history.items }
         ensures { result.items ≡ map (won_with self.now.class_of class) history.items }
@@ -148,7 +148,7 @@ impl Classes {
     }
 
     // The donor that has this number in the class, or nobody.
-    fn donor_with(&self, class: u32, reply: Option<u32>) -> Option<u32>
+    fn donor_with(&self, class: usize, reply: Option<u32>) -> Option<u32>
         requires { class < self.now.classes }
         ensures { result ≡ donor_with self.now.class_of class reply }
     {

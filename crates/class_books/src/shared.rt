@@ -61,7 +61,7 @@ impl SharedClasses {
         let mut all = passes_of(alloc, &tables, passes)?;
         let mut books = Vec::with_capacity(alloc, classes as usize)?;
         for class in 0..classes {
-            let rows = tables.rows_of(class).len() as u32;
+            let rows = tables.rows_of(class as usize).len() as u32;
             let (book, passes) = SharedBook::share(alloc, rows, limit, rows, passes)?;
             deal(alloc, &mut all, passes)?;
             books.push_reserved(book);
@@ -90,9 +90,9 @@ impl SharedClasses {
     {
         let class = self.classes.class_of(row_no);
         let numbers = self.classes.numbers_of(ranking);
-        let hand = &mut pass.hands[class as usize];
+        let hand = &mut pass.hands[class];
         let answer = hand.claim(
-            &self.books[class as usize],
+            &self.books[class],
             self.classes.number_of(row_no),
             &numbers[..ranking.len()],
         );
@@ -125,7 +125,7 @@ impl SharedClasses {
         };
         while let Some(book) = books.pop() {
             let history = book.close(gather(&mut passes, &mut last));
-            histories.push_reserved(classes.history_in_file(books.len() as u32, history));
+            histories.push_reserved(classes.history_in_file(books.len(), history));
         }
         histories.reverse();
         histories

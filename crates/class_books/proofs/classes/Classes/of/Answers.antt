@@ -40,7 +40,20 @@ loop-row_no-init c = record {
 }
 
 pub overflow_cast-len : goal.overflow_cast-len
-overflow_cast-len c = ?
+overflow_cast-len c =
+    let most = few ((goal.at.overflow_cast-len c).After-index_mut-of_class) in
+    let len = c.len-in-loop-row_no.ensures ∙ c.index_mut-of_class.result.now.ok.0 in
+    let same = ap length c.deref-class-items.ensures.value in
+    record { fits = omega (arith, most, len, same, c.loop-row_no-test.true, c.requires.rows) }
 
 pub loop-row_no-preserved : goal.loop-row_no-preserved
-loop-row_no-preserved c = ?
+loop-row_no-preserved c =
+    let loop = c.loop-row_no in
+    let at = (goal.at.loop-row_no-preserved c).After-index_mut-of_class in
+    let rows = c.index_mut-of_class.result.now in
+    record {
+      are = numbered-turn items c.deref-class-items.result.now loop.numbers.items c.push_reserved.new.self.items loop.rows.items loop.row_no c.len-in-loop-row_no.result rows c.push.new.self
+          c.loop-row_no-test.true (within at) c.index_mut-of_class.ensures.value (c.len-in-loop-row_no.ensures ∙ rows.ok.0) c.push_reserved.ensures.items c.in_ok-push.ensures.items loop.invariant.are;
+      count = length-set loop.rows.items (get_or c.deref-class-items.result.now loop.row_no 0) c.push.new.self ∙ loop.invariant.count;
+      room = c.push_reserved.ensures.capacity ∙ loop.invariant.room;
+    }
