@@ -1,18 +1,16 @@
 -- A claim in the book of one class, seen in the whole file.
-use Rattle.std.proofs.Common.{◌≡◌, ◌≢◌, ℕ, ◌+◌, ◌<◌, List, map, length, get_or, set, Some, refl, sym, ap, ◌∙◌, subst, arith}
+use Rattle.std.proofs.Common.{◌≡◌, ◌≢◌, ℕ, ◌+◌, ◌<◌, List, map, length, get_or, set, Some, sym, ap, ◌∙◌, subst, arith}
 use Rattle.std.specs.Prelude.{slice_get}
 use Rattle.std.specs.List.{All}
 use Rattle.std.proofs.lemmas.List.{get_or-map, get_or-set_other, get_or-set_same, length-map}
 use Rattle.std.proofs.lemmas.Option.{get_or_from_slice_get, slice_get_within}
 use Rattle.donor_book.specs.declared.claim.Claim.{Claim}
 use Rattle.donor_book.specs.declared.claim.Claim.TheVariants as claim
-use Rattle.donor_book.specs.declared.claim.Won.{Won}
-use Rattle.donor_book.specs.Claims.{answer_to, claim_of, first_free, uses_of}
+use Rattle.donor_book.specs.Claims.{claim_of, first_free, uses_of}
 use Rattle.donor_book.specs.Passes.{ArePlaced, BookName, IsAnswered, PassState}
 use Rattle.donor_book.proofs.IndexLaws.{found_within}
 use Rattle.std.proofs.Common.{nat_lt}
 use Rattle.class_books.specs.ClassPasses.{ClassState, ClassTerms, book_in, no_claims, pass_in, pass_of, state_in}
-use Rattle.class_books.specs.Classes.{IsOfClass}
 use Rattle.class_books.specs.inner.Hands.{AreOfTerms, books_of, class_pass_of, name_of}
 use Rattle.class_books.specs.inner.Numbers.{AreNumbersOf, IsGivenWithin, claim_with, row_with, rows_in, state_with, states_from}
 use Rattle.class_books.proofs.ClassPassLaws.{books-set, class-pass-set, states-at, states-length}
@@ -68,5 +66,5 @@ module _ (terms : ClassTerms) (hands : List PassState) (class : ℕ) (old new : 
       (λ i. pass_of (book_in class (name_of terms (sym books-same i))) (sym state-new i)) in
       subst (λ (p : PassState). IsAnswered p row ranking (claim_with terms.class_of class answer) (pass_in class (class_pass_of terms (set hands class new)))) before
       (subst (λ (p : PassState). IsAnswered (pass_of file (state_with terms.class_of class old)) row ranking (claim_with terms.class_of class answer) p) after
-        (subst (λ (r : List ℕ). IsAnswered (pass_of file (state_with terms.class_of class old)) row r (claim_with terms.class_of class answer) (pass_of file (state_with terms.class_of class new))) are.rows_are
-          (subst (λ r. IsAnswered (pass_of file (state_with terms.class_of class old)) r (map (row_with terms.class_of class) numbers) (claim_with terms.class_of class answer) (pass_of file (state_with terms.class_of class new))) row_is told)))
+      (subst (λ (r : List ℕ). IsAnswered (pass_of file (state_with terms.class_of class old)) row r (claim_with terms.class_of class answer) (pass_of file (state_with terms.class_of class new))) are.rows_are
+      (subst (λ r. IsAnswered (pass_of file (state_with terms.class_of class old)) r (map (row_with terms.class_of class) numbers) (claim_with terms.class_of class answer) (pass_of file (state_with terms.class_of class new))) row_is told)))

@@ -1,11 +1,9 @@
 -- A pass of classes: with one class more, with one less, and where one of its passes changes.
-use Rattle.std.proofs.Common.{◌≡◌, ◌≢◌, ℕ, zero, suc, ◌+◌, ◌-◌, ◌<◌, ◌≤◌, List, [], ◌∷◌, ◌++◌, map, length, take, get_or, set, Some, Option, refl, sym, ap, ◌∙◌, subst, ⊎_elim, arith, length-append}
-use Rattle.std.specs.List.{All}
+use Rattle.std.proofs.Common.{◌≡◌, ℕ, zero, suc, ◌+◌, ◌-◌, ◌<◌, ◌≤◌, List, [], ◌∷◌, ◌++◌, map, length, take, get_or, set, refl, sym, ap, ◌∙◌, subst, ⊎_elim, arith, length-append}
 use Rattle.std.proofs.lemmas.Bool.{cases_lt}
-use Rattle.std.proofs.lemmas.List.{get_or-map, get_or-set_other, get_or-set_same, get_or-take, get_or_append_left, get_or_push, length-map, length-take, map-set, map_push, set-get_or, take-map}
-use Rattle.std.proofs.lemmas.Option.{same_Some}
+use Rattle.std.proofs.lemmas.List.{get_or-map, get_or-take, get_or_append_left, get_or_push, length-map, length-take, map-set, map_push, set-get_or, take-map}
 use Rattle.donor_book.specs.Passes.{BookName, PassState}
-use Rattle.class_books.specs.ClassPasses.{ClassPassState, ClassState, ClassTerms, IsFreshPass, no_claims, state_in}
+use Rattle.class_books.specs.ClassPasses.{ClassState, ClassTerms, IsFreshPass, no_claims, state_in}
 use Rattle.class_books.specs.inner.Hands.{AreOfTerms, IsOfLast, books_of, class_pass_of, first_classes, fresh_pass, last_class, name_of, with_class}
 use Rattle.class_books.specs.inner.Numbers.{class_terms, state_with, states_from}
 
@@ -48,8 +46,8 @@ pub of-terms-push : (terms : ClassTerms) (books : List BookName) (book : BookNam
 of-terms-push terms books book are is class d lt = ⊎_elim
     (λ (less : class < length books). ap (λ (b : BookName). b.terms) (get_or_append_left books (book ∷ []) d class less) ∙ are class d less)
     (λ (past : length books ≤ class).
-      let at : length books ≡ class = (let l = length-append books (book ∷ []) in omega (arith, l, lt, past)) in
-      ap (λ (b : BookName). b.terms) (get_or_push books book d class at) ∙ is ∙ ap (class_terms terms) at)
+    let at : length books ≡ class = (let l = length-append books (book ∷ []) in omega (arith, l, lt, past)) in
+    ap (λ (b : BookName). b.terms) (get_or_push books book d class at) ∙ is ∙ ap (class_terms terms) at)
     (cases_lt class (length books))
 
 pub of-terms-take : (terms : ClassTerms) (books : List BookName) (n : ℕ) → AreOfTerms terms books → AreOfTerms terms (take n books)

@@ -57,9 +57,9 @@ module _ (class_of numbers : List ℕ) (rows : List (List ℕ)) (c : ℕ) (lt : 
   rows-more : (class : ℕ) → class < length (set rows c own) → get_or (set rows c own) class [] ≡ rows_in (class_of ++ c ∷ []) class
   rows-more class less = ⊎_elim
       (λ (same : class ≡ c). subst (λ k. get_or (set rows c own) k [] ≡ rows_in (class_of ++ c ∷ []) k) (sym same)
-        (get_or-set_same rows c own [] lt ∙ ap (λ (l : List ℕ). l ++ length class_of ∷ []) (are.rows_are c lt) ∙ sym (rows-own class_of c)))
+      (get_or-set_same rows c own [] lt ∙ ap (λ (l : List ℕ). l ++ length class_of ∷ []) (are.rows_are c lt) ∙ sym (rows-own class_of c)))
       (λ (apart : class ≡ c → ⊥). get_or-set_other rows c class own [] apart ∙ are.rows_are class (let l = length-set rows c own in omega (arith, l, less))
-        ∙ sym (rows-other class_of c class apart))
+      ∙ sym (rows-other class_of c class apart))
       (cases_eq class c)
 
   -- a row before the new one
@@ -87,7 +87,7 @@ module _ (class_of numbers : List ℕ) (rows : List (List ℕ)) (c : ℕ) (lt : 
     rows_are = rows-more;
     numbered = λ row class of. ⊎_elim (λ (less : row < length class_of). number-before row class less of)
         (λ (past : length class_of ≤ row). number-own row class
-          (let within = slice_get_within (class_of ++ c ∷ []) row class of in let l = length-append class_of (c ∷ []) in omega (arith, within, l, past)) of)
+        (let within = slice_get_within (class_of ++ c ∷ []) row class of in let l = length-append class_of (c ∷ []) in omega (arith, within, l, past)) of)
         (cases_lt row (length class_of));
   }
 
@@ -104,7 +104,7 @@ numbered-turn f class_of numbers more rows i n x v lt within was n_is more_is v_
     let rows_are : set (map f rows) c (get_or (map f rows) c [] ++ length (take i class_of) ∷ []) ≡ map f (set rows c v) = ap (set (map f rows) c) value ∙ sym (map-set f rows c v) in
     subst (λ (l : List ℕ). AreNumbered l more (map f (set rows c v))) (sym (take_more class_of i 0 lt))
     (subst (λ (l : List ℕ). AreNumbered (take i class_of ++ c ∷ []) l (map f (set rows c v))) numbers_are
-      (subst (λ (l : List (List ℕ)). AreNumbered (take i class_of ++ c ∷ []) (numbers ++ length (get_or (map f rows) c []) ∷ []) l) rows_are at))
+    (subst (λ (l : List (List ℕ)). AreNumbered (take i class_of ++ c ∷ []) (numbers ++ length (get_or (map f rows) c []) ∷ []) l) rows_are at))
 
 -- before the first row
 pub numbered-none : (rows : List (List ℕ)) → All (λ l. l ≡ []) rows → AreNumbered [] [] rows

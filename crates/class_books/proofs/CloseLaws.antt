@@ -1,19 +1,20 @@
 -- Classes that are closed one after the other, from the last one on.
-use Rattle.std.proofs.Common.{◌≡◌, ℕ, zero, suc, ◌+◌, ◌-◌, ◌<◌, List, [], ◌∷◌, ◌++◌, map, length, reverse, take, get_or, refl, sym, ap, ◌∙◌, subst, arith, length-append}
+use Rattle.std.proofs.Common.{◌≡◌, ℕ, zero, suc, ◌+◌, ◌-◌, ◌<◌, List, [], ◌∷◌, ◌++◌, map, length, reverse, take, get_or, refl, sym, ap, ◌∙◌, subst, arith}
 use mathlib.Core.List.{reverse-cons}
 use Rattle.std.specs.List.{All}
-use Rattle.std.proofs.lemmas.List.{get_or-take, get_or_append_left, get_or_at, get_or_push, length-map, length_push, map-append, map_push, take_at}
+use Rattle.std.proofs.lemmas.List.{get_or-take, get_or_append_left, get_or_at, get_or_push, length_push, map-append, map_push, take_at}
 use Rattle.std.proofs.lemmas.List.Elements.{All-head, All-map, All-tail}
 use Rattle.std.proofs.lemmas.Simd.{map-map}
 use Rattle.donor_book.specs.declared.claim.Entry.{Entry}
 use Rattle.donor_book.specs.declared.claim.Won.{Won}
 use Rattle.donor_book.specs.Passes.{AreCollected, BookName, IsSound, IsWhole, PassState}
-use Rattle.class_books.specs.ClassPasses.{ClassPassState, ClassState, ClassesName, book_in, book_terms, pass_in, pass_of, passes_in, state_in}
+use Rattle.class_books.specs.ClassPasses.{ClassPassState, ClassesName, book_in, book_terms, pass_in, pass_of, passes_in, state_in}
 use Rattle.class_books.specs.Classes.{IsWonIn}
-use Rattle.class_books.specs.Histories.{AreCollectedIn}
+use Rattle.class_books.specs.Histories.{AreCollectedIn, AreCollectedInClasses, history_in}
 use Rattle.class_books.specs.inner.Hands.{AreOfTerms, IsOfLast, RanksOwn, RanksWithin, first_classes, last_class, name_of}
 use Rattle.class_books.specs.inner.Numbers.{class_terms, entry_with, rows_in, state_with, won_with}
 use Rattle.class_books.proofs.ClosedClasses.{all-of-class, collected-with, sound-with, whole-with}
+use Rattle.class_books.proofs.JoinedClasses.{joined-law}
 use Rattle.class_books.proofs.Renumbered.{in_file}
 
 -- ---- the history of one class
@@ -77,6 +78,45 @@ history-at name passes class (history ∷ histories) are zero lt = let same : cl
 history-at name passes class (history ∷ histories) are (suc j) lt =
     let same : suc class + j ≡ class + suc j = omega arith in
     subst (λ k. IsHistoryOf name passes k (get_or histories j [])) same (history-at name passes (suc class) histories are.1 j (omega (arith, lt)))
+
+-- the claims of these classes
+pub claims-from : (name : ClassesName) (passes : List ClassPassState) (class : ℕ) (histories : List (List Won)) → AreHistoriesFrom name passes class histories
+    → (claims : List (List Entry)) × (length claims ≡ length histories)
+    × ((j : ℕ) → j < length histories → AreCollectedIn name.terms.class_of (class + j) name.terms.limit (passes_in (class + j) passes) (history_in j histories) (history_in j claims))
+claims-from name passes class [] are = ([], refl, λ j lt. absurd (omega (arith, lt)))
+claims-from name passes class (history ∷ histories) are =
+    let rest = claims-from name passes (suc class) histories are.1 in
+    (are.0.legal.0 ∷ rest.0, ap suc rest.1, each rest.0 rest.2)
+  where
+    each : (claims : List (List Entry)) → ((j : ℕ) → j < length histories → AreCollectedIn name.terms.class_of (suc class + j) name.terms.limit (passes_in (suc class + j) passes) (history_in j histories) (history_in j claims))
+        → (j : ℕ) → j < length (history ∷ histories) → AreCollectedIn name.terms.class_of (class + j) name.terms.limit (passes_in (class + j) passes) (history_in j (history ∷ histories)) (history_in j (are.0.legal.0 ∷ claims))
+    each claims later zero lt =
+        let same : class ≡ class + 0 = omega arith in
+        subst (λ k. AreCollectedIn name.terms.class_of k name.terms.limit (passes_in k passes) history are.0.legal.0) same are.0.legal.1
+    each claims later (suc j) lt =
+        let same : suc class + j ≡ class + suc j = omega arith in
+        subst (λ k. AreCollectedIn name.terms.class_of k name.terms.limit (passes_in k passes) (history_in j histories) (history_in j claims)) same (later j (omega (arith, lt)))
+
+-- are one legal history, where the classes are all
+pub claims-joined : (name : ClassesName) (passes : List ClassPassState) (histories : List (List Won)) → length histories ≡ name.terms.classes → AreHistoriesFrom name passes 0 histories
+    → (claims : List (List Entry)) × AreCollectedInClasses name passes histories claims
+claims-joined name passes histories many are =
+    let from = claims-from name passes 0 histories are in
+    let each : (class : ℕ) → class < length histories
+    → AreCollectedIn name.terms.class_of class name.terms.limit (passes_in class passes) (history_in class histories) (history_in class from.0) =
+    (λ class lt. let same : 0 + class ≡ class = omega arith in
+    subst (λ k. AreCollectedIn name.terms.class_of k name.terms.limit (passes_in k passes) (history_in class histories) (history_in class from.0)) same (from.2 class lt)) in
+    let as_many = from.1 in (
+      from.0,
+      record {
+        as_many = as_many ∙ many;
+        each = λ class lt. each class (omega (arith, many, lt));
+        legal = joined-law name.terms.class_of name.terms.limit from.0 (record {
+          legal = λ class lt. (each class (omega (arith, as_many, lt))).collected.legal;
+          of_class = λ class lt. (each class (omega (arith, as_many, lt))).of_class;
+        });
+      },
+    )
 
 -- the changed list from the end on
 pub map-reverse : {X Y : Type 0} (f : X → Y) (xs : List X) → map f (reverse xs) ≡ reverse (map f xs)

@@ -1,5 +1,5 @@
 -- The history of a class's book, with the numbers of the whole file.
-use Rattle.std.proofs.Common.{◌≡◌, ℕ, ◌+◌, ◌<◌, ◌≤◌, Bool, true, false, true≢false, cond, List, [], ◌∷◌, map, length, take, get_or, Some, None, Option, refl, sym, ap, ◌∙◌, subst, eqb, ⊎_elim, arith}
+use Rattle.std.proofs.Common.{◌≡◌, ℕ, ◌+◌, ◌<◌, ◌≤◌, Bool, true, false, cond, List, [], ◌∷◌, map, length, take, get_or, Some, None, Option, refl, sym, ap, ◌∙◌, subst, eqb, ⊎_elim, arith}
 use Rattle.std.specs.Prelude.{option_map, slice_get}
 use Rattle.std.specs.List.{All, AllByRecursion, IsDistinct, sum_by}
 use Rattle.std.proofs.lemmas.Bool.{cases_lt, eqb-true}
@@ -13,8 +13,8 @@ use Rattle.donor_book.specs.declared.claim.Entry.{Entry}
 use Rattle.donor_book.specs.declared.claim.Won.{Won}
 use Rattle.donor_book.specs.declared.rule.Placed.{Placed}
 use Rattle.donor_book.specs.declared.rule.Terms.{Terms}
-use Rattle.donor_book.specs.Claims.{IsDonor, IsWithin, first_free}
-use Rattle.donor_book.specs.Entries.{HasReplyAfter, IsLegalHistory, won_of, wins_of}
+use Rattle.donor_book.specs.Claims.{IsDonor, IsWithin}
+use Rattle.donor_book.specs.Entries.{HasReplyAfter, won_of, wins_of}
 use Rattle.donor_book.specs.Passes.{AreCollected, BookName, IsClaim, IsSound, IsWhole, PassState, StartsWith, claimed_at, claims_at}
 use Rattle.class_books.specs.Classes.{IsDonorOf, IsEntryIn, IsOfClass, IsWonIn}
 use Rattle.class_books.specs.Histories.{AreCollectedIn}
@@ -120,7 +120,7 @@ module _ (class_of : List ℕ) (class : ℕ) where
       seen = All-map (λ (p : PassState). StartsWith (map (won_with class_of class) history) p.seen) (in_file class_of class book) passes (λ k d lt. starts-with (get_or passes k d).seen (whole.seen k d lt));
       mine = All-map (λ (p : PassState). All (IsClaim limit (map (won_with class_of class) history)) p.mine) (in_file class_of class book) passes
           (λ k d lt. All-map (IsClaim limit (map (won_with class_of class) history)) (placed_with class_of class) (get_or passes k d).mine
-            (λ i e less. claim-stands (get_or (get_or passes k d).mine i e) (ranks k d lt i e less) (whole.mine k d lt i e less)));
+          (λ i e less. claim-stands (get_or (get_or passes k d).mine i e) (ranks k d lt i e less) (whole.mine k d lt i e less)));
       once = λ place lt. claimed-with place ∙ whole.once place (let l = length-map history (won_with class_of class) in omega (arith, l, lt));
       no_other = λ place past. claimed-with place ∙ whole.no_other place (let l = length-map history (won_with class_of class) in omega (arith, l, past));
     }
@@ -135,7 +135,7 @@ module _ (class_of : List ℕ) (class : ℕ) where
           let lt : place < length history = (let within = slice_get_within entries place e at in let same = as-many in omega (arith, within, same)) in
           let one = whole.once place lt in
           let m = some-claim (λ m. RanksWithin (length (rows_in class_of class)) m × (slice_get entries m.place ≡ Some m.entry)) passes place
-              (both-of (RanksWithin (length (rows_in class_of class))) (λ m. slice_get entries m.place ≡ Some m.entry) passes ranks is.placed) (omega (arith, one)) in
+          (both-of (RanksWithin (length (rows_in class_of class))) (λ m. slice_get entries m.place ≡ Some m.entry) passes ranks is.placed) (omega (arith, one)) in
           let same : m.0.entry ≡ e = same_Some m.0.entry e (sym m.2.1 ∙ ap (slice_get entries) m.1 ∙ at) in
           subst (λ (x : Entry). All (λ d. d < length (rows_in class_of class)) x.ranking) same m.2.0
 

@@ -1,10 +1,10 @@
 -- The passes of the last class, gathered from one pass of classes after the other.
-use Rattle.std.proofs.Common.{◌≡◌, ℕ, ◌+◌, ◌-◌, ◌<◌, List, [], ◌∷◌, ◌++◌, map, length, take, drop, get_or, set, refl, sym, ap, ◌∙◌, subst, arith, length-append}
+use Rattle.std.proofs.Common.{◌≡◌, ℕ, ◌+◌, ◌-◌, ◌<◌, List, [], ◌∷◌, ◌++◌, map, length, take, drop, get_or, set, sym, ap, ◌∙◌, subst, arith, length-append}
 use Rattle.std.specs.List.{All}
 use Rattle.std.proofs.lemmas.List.{drop_more, get_or_at, get_or_default, length-drop, length-map, length-take-le, map_more, map_push}
 use Rattle.std.proofs.lemmas.List.Edits.{map_over_more}
 use Rattle.donor_book.specs.Passes.{PassState}
-use Rattle.class_books.specs.ClassPasses.{ClassPassState, ClassState, ClassesName, state_in}
+use Rattle.class_books.specs.ClassPasses.{ClassPassState, ClassesName, state_in}
 use Rattle.class_books.specs.inner.Hands.{IsOfLast, first_classes, last_class}
 use Rattle.class_books.specs.inner.Numbers.{state_with}
 

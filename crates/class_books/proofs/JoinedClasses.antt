@@ -1,7 +1,7 @@
 -- The histories of classes, one after the other, are one legal history.
 use Rattle.std.proofs.Common.{◌≡◌, ◌≢◌, ℕ, zero, suc, ◌+◌, ◌<◌, ◌≤◌, Bool, true, false, cond, nat_lt, List, [], ◌∷◌, ◌++◌, map, length, take, drop, get_or, Some, None, Option, refl, sym, ap, ◌∙◌, subst, eqb, arith, append_assoc, append-nil, zero-add}
 use Rattle.std.specs.Prelude.{slice_get}
-use Rattle.std.specs.List.{All, IsDistinct, find, flat_map}
+use Rattle.std.specs.List.{All, IsDistinct, find}
 use Rattle.std.specs.Option.{option_or}
 use Rattle.std.proofs.Math.Seq.{take-suc}
 use Rattle.std.proofs.lemmas.Bool.{ne_eqb}
@@ -13,11 +13,11 @@ use Rattle.std.proofs.lemmas.Option.{get_or_from_slice_get, same_Some, slice_get
 use Rattle.donor_book.specs.declared.claim.Entry.{Entry}
 use Rattle.donor_book.specs.declared.claim.Won.{Won}
 use Rattle.donor_book.specs.Claims.{claim_of, first_free, gave, uses_of}
-use Rattle.donor_book.specs.Entries.{HasReplyAfter, IsLegalHistory, won_of, wins_of}
+use Rattle.donor_book.specs.Entries.{IsLegalHistory, won_of, wins_of}
 use Rattle.donor_book.proofs.IndexLaws.{none_before}
 use Rattle.donor_book.proofs.LegalLaws.{legal_fresh, legal_push}
 use Rattle.class_books.specs.Classes.{IsDonorOf, IsEntryIn, IsOfClass, IsWonIn}
-use Rattle.class_books.specs.Histories.{AreLegalInClasses, JoinedLaw, history_in, joined}
+use Rattle.class_books.specs.Histories.{JoinedLaw, history_in, joined}
 
 -- a donor that is found is of the class
 found-of-class : (class_of : List ℕ) (class : ℕ) (test : ℕ → Bool) (ranking : List ℕ) → All (IsOfClass class_of class) ranking → IsDonorOf class_of class (find test ranking)
@@ -115,7 +115,7 @@ module _ (limit : ℕ) (first second : List Entry) (legal_first : IsLegalHistory
           map-append won_of first (take n second) ∙ ap (λ (l : List Won). wins_of first ++ l) (sym (take-map won_of n second)) in
           legal_push limit (first ++ take n second) e legal
           (ap (claim_of e.row_no) wins ∙ find-append (λ (w : Won). eqb w.row_no e.row_no) (wins_of first) (take n (wins_of second))
-            ∙ ap (λ o. option_or o (claim_of e.row_no (take n (wins_of second)))) apart.0 ∙ none-before n e lt (won-at n e lt at))
+          ∙ ap (λ o. option_or o (claim_of e.row_no (take n (wins_of second)))) apart.0 ∙ none-before n e lt (won-at n e lt at))
           (legal_second.replies n e at ∙ sym (free-behind limit (wins_of first) (take n (wins_of second)) e.ranking apart.1) ∙ ap (λ (h : List Won). first_free limit h e.ranking) (sym wins))
 
   pub legal-behind : IsLegalHistory limit (first ++ second)
@@ -134,7 +134,7 @@ joined-from : (class_of : List ℕ) (limit class : ℕ) (histories : List (List 
 joined-from class_of limit class [] legal of = (legal_fresh limit, All-nil (IsLater class_of class))
 joined-from class_of limit class (history ∷ histories) legal of =
     let rest = joined-from class_of limit (suc class) histories (λ j lt. legal (suc j) (omega (arith, lt)))
-        (λ j lt. let same : class + suc j ≡ suc class + j = omega arith in subst (λ c. All (IsEntryIn class_of c) (history_in j histories)) same (of (suc j) (omega (arith, lt)))) in
+    (λ j lt. let same : class + suc j ≡ suc class + j = omega arith in subst (λ c. All (IsEntryIn class_of c) (history_in j histories)) same (of (suc j) (omega (arith, lt)))) in
     let same : class + 0 ≡ class = omega arith in
     let here = subst (λ c. All (IsEntryIn class_of c) history) same (of 0 (omega arith)) in
     let first = legal 0 (omega arith) in
@@ -153,4 +153,4 @@ joined-from class_of limit class (history ∷ histories) legal of =
 pub joined-law : JoinedLaw
 joined-law class_of limit histories is =
     (joined-from class_of limit 0 histories is.legal
-      (λ j lt. let same : j ≡ 0 + j = omega arith in subst (λ c. All (IsEntryIn class_of c) (history_in j histories)) same (is.of_class j lt))).0
+    (λ j lt. let same : j ≡ 0 + j = omega arith in subst (λ c. All (IsEntryIn class_of c) (history_in j histories)) same (is.of_class j lt))).0

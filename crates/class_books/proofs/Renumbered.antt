@@ -114,7 +114,7 @@ module _ (class_of : List ℕ) (class : ℕ) where
           ∙ ap (λ limit. answer_to limit (map (won_with class_of class) is.0) (row_with class_of class row) (map (row_with class_of class) ranking)) same,
       leaves-with old new is.0 row ranking answer
           (λ d at. given-within (length (rows_in class_of class)) d (claim_of row is.0) (first_free old.book.terms.limit is.0 ranking) (sym at ∙ is.2)
-            (found_within (length (rows_in class_of class)) (λ d. nat_lt (uses_of d is.0) old.book.terms.limit) ranking all)) is.3,
+          (found_within (length (rows_in class_of class)) (λ d. nat_lt (uses_of d is.0) old.book.terms.limit) ranking all)) is.3,
     )
 
   -- the claims of a pass stand at the same places

@@ -73,9 +73,9 @@ module _ (class_of : List ℕ) (class : ℕ) where
   number-alone i j lt is = ⊎_elim
       (λ (less : j < length (rows_in class_of class)). rows-alone class 0 class_of i j (length class_of) (length class_of) lt less is)
       (λ (past : length (rows_in class_of class) ≤ j).
-        let none = get_or_past (rows_in class_of class) j (length class_of) past in
-        let within = slice_get_within class_of (row_with class_of class i) class (row-of-class i lt) in
-        absurd (omega (arith, none, within, is)))
+      let none = get_or_past (rows_in class_of class) j (length class_of) past in
+      let within = slice_get_within class_of (row_with class_of class i) class (row-of-class i lt) in
+      absurd (omega (arith, none, within, is)))
       (cases_lt j (length (rows_in class_of class)))
 
   pub same-number : (i j : ℕ) → i < length (rows_in class_of class) → eqb (row_with class_of class i) (row_with class_of class j) ≡ eqb i j
@@ -98,5 +98,5 @@ module _ (class_of : List ℕ) (class : ℕ) where
   gave-with d (Some e) lt = ⊎_elim
       (λ (less : e < length (rows_in class_of class)). ap (gave (row_with class_of class d)) (donor-stands e less) ∙ same-number d e lt)
       (λ (past : length (rows_in class_of class) ≤ e).
-        ap (gave (row_with class_of class d)) (slice_get_past (rows_in class_of class) e past) ∙ sym (ne_eqb d e (λ is. omega (arith, is, lt, past))))
+      ap (gave (row_with class_of class d)) (slice_get_past (rows_in class_of class) e past) ∙ sym (ne_eqb d e (λ is. omega (arith, is, lt, past))))
       (cases_lt e (length (rows_in class_of class)))

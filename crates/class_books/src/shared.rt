@@ -6,7 +6,7 @@ ghost use Rattle.donor_book.specs.declared.claim.Entry.{Entry};
 ghost use Rattle.donor_book.specs.Passes.{ArePlaced, BookName, IsAnswered, IsSound, IsWhole};
 ghost use Rattle.class_books.specs.ClassPasses.{ClassPassState, EachClass, IsFreshPass, book_terms, class_at, pass_in, passes_in, state_in};
 ghost use Rattle.class_books.specs.Classes.{IsOfClass, IsWonIn};
-ghost use Rattle.class_books.specs.Histories.{AreCollectedIn, history_in};
+ghost use Rattle.class_books.specs.Histories.{AreCollectedInClasses, history_in};
 ghost use Rattle.class_books.specs.inner.Hands.{IsNext, IsOfLast, RanksOwn, first_classes, fresh_pass, last_class, with_class};
 ghost use Rattle.class_books.specs.inner.Numbers.{state_with};
 
@@ -111,8 +111,7 @@ impl SharedClasses {
         ensures of_class { let histories = map (λ h. h.items) result.items in
             EachClass self (λ class. All (IsWonIn self.terms.class_of class) (history_in class histories)) }
         ensures legal { let histories = map (λ h. h.items) result.items in
-            EachClass self (λ class. (entries : List Entry) × AreCollectedIn self.terms.class_of class self.terms.limit
-                (passes_in class passes.items) (history_in class histories) entries) }
+            (claims : List (List Entry)) × AreCollectedInClasses self passes.items histories claims }
     {
         let SharedClasses {
             classes,

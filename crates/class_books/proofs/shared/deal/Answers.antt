@@ -1,8 +1,8 @@
-use Rattle.std.proofs.Common.{◌≡◌, ◌∙◌, ℕ, ◌+◌, ◌<◌, ◌++◌, [], ◌∷◌, List, Option, Some, IfSome, ap, arith, drop, get_or, length, length-append, option_to_list, refl, set, subst, sym, take}
+use Rattle.std.proofs.Common.{◌≡◌, ◌∙◌, ℕ, ◌+◌, ◌<◌, ◌++◌, [], ◌∷◌, List, Option, IfSome, ap, arith, drop, get_or, length, length-append, option_to_list, refl, subst, sym, take}
 use Rattle.std.specs.List.{All}
 use Rattle.std.proofs.lemmas.List.{drop-drop, drop-set-lt, get_or-drop, take_all, take_more_set, with_items_is}
 use Rattle.std.proofs.lemmas.List.Elements.{All-pop, All-push}
-use Rattle.donor_book.specs.Passes.{BookName, PassState}
+use Rattle.donor_book.specs.Passes.{PassState}
 use Rattle.class_books.specs.ClassPasses.{ClassPassState}
 use Rattle.class_books.specs.inner.Hands.{IsNext, with_class}
 use Rattle.class_books.proofs.shared.deal.Goals as goal
@@ -64,7 +64,7 @@ loop-class_pass-preserved c =
       books = λ book all. (next-one at (λ (p : PassState). p.book ≡ book) (loop.invariant.books book all)).0;
       dealt = λ first book same all.
           (let is : c.add.new.self ≡ with_class first book = c.in_ok-add.ensures ∙ ap (λ (q : ClassPassState). with_class q c.in-Some.pass.book) (item-is at d ∙ same i d (within at))
-            ∙ ap (with_class first) (next-one at (λ (p : PassState). p.book ≡ book) (loop.invariant.books book all)).1 in
+          ∙ ap (with_class first) (next-one at (λ (p : PassState). p.book ≡ book) (loop.invariant.books book all)).1 in
           subst (All (λ (q : ClassPassState). q ≡ with_class first book)) (sym (take_more_set now i c.add.new.self lt))
           (All-push (λ (q : ClassPassState). q ≡ with_class first book) (take i now) c.add.new.self (loop.invariant.dealt first book same all) is));
     }

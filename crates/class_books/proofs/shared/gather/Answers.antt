@@ -1,4 +1,4 @@
-use Rattle.std.proofs.Common.{◌≡◌, ◌∙◌, [], ◌∷◌, ◌++◌, ◌+◌, ap, length, map, subst, sym}
+use Rattle.std.proofs.Common.{◌≡◌, ◌∙◌, ◌+◌, ap, length, map, subst, sym}
 use Rattle.std.specs.List.{All}
 use Rattle.std.proofs.lemmas.List.{length_push}
 use Rattle.std.proofs.lemmas.List.Elements.{All-push}
@@ -26,7 +26,7 @@ loop-other-preserved c =
       gathered = ap (map (state_with last.classes.terms.class_of (last_class last))) items
           ∙ gathered-more last old loop.other-items loop.other-index d c.loop-other-test.true inv.others same loop.room.items hand pass parts.pass told.state inv.gathered;
       of_last = subst (All (IsOfLast last.classes)) (sym items) (All-push (IsOfLast last.classes) loop.room.items pass inv.of_last
-            (last-more last old loop.other-items loop.other-index d c.loop-other-test.true inv.others same hand pass parts.pass told.last));
+          (last-more last old loop.other-items loop.other-index d c.loop-other-test.true inv.others same hand pass parts.pass told.last));
       ranks = subst (All RanksOwn) (sym items) (All-push RanksOwn loop.room.items pass inv.ranks (subst RanksOwn (sym parts.pass) parts.ranks));
       filled = ap length items ∙ length_push loop.room.items pass ∙ ap (λ n. n + 1) inv.filled;
       room = c.push_reserved.ensures.capacity ∙ inv.room;
@@ -36,9 +36,9 @@ pub returns-clause-of_last : goal.returns-clause-of_last
 returns-clause-of_last c =
     let last = c.args.last.now in
     subst (All (IsOfLast last.classes)) (sym c.push_reserved-2.ensures.items) (All-push (IsOfLast last.classes) c.loop-other.room.items c.into_parts-pass.result.0 c.loop-other.invariant.of_last
-      (subst (IsOfLast last.classes) (sym c.into_parts-pass.ensures.pass) c.take_last.ensures.last))
+    (subst (IsOfLast last.classes) (sym c.into_parts-pass.ensures.pass) c.take_last.ensures.last))
 
 pub returns-clause-ranks : goal.returns-clause-ranks
 returns-clause-ranks c =
     subst (All RanksOwn) (sym c.push_reserved-2.ensures.items) (All-push RanksOwn c.loop-other.room.items c.into_parts-pass.result.0 c.loop-other.invariant.ranks
-      (subst RanksOwn (sym c.into_parts-pass.ensures.pass) c.into_parts-pass.ensures.ranks))
+    (subst RanksOwn (sym c.into_parts-pass.ensures.pass) c.into_parts-pass.ensures.ranks))

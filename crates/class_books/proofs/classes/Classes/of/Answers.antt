@@ -1,7 +1,7 @@
 use Rattle.std.proofs.Common.{◌≡◌, ◌∙◌, ℕ, ◌<◌, ◌≤◌, [], Global, List, Vec, ap, arith, get_or, length, map, refl, subst, sym, take}
-use Rattle.std.proofs.lemmas.List.{get_or-map, length-map, length-set, length-take}
+use Rattle.std.proofs.lemmas.List.{length-set, length-take}
 use Rattle.std.proofs.lemmas.List.Elements.{All-map}
-use Rattle.class_books.specs.inner.Numbers.{AreNumbered, rows_in}
+use Rattle.class_books.specs.inner.Numbers.{AreNumbered}
 use Rattle.class_books.proofs.ClassTables.{numbered-none, numbered-turn, rows-few, rows-read}
 use Rattle.class_books.proofs.classes.Classes.of.Goals as goal
 use Rattle.class_books.proofs.classes.Classes.of.Goals.{After-index_mut-of_class}

@@ -1,7 +1,7 @@
-use Rattle.std.proofs.Common.{◌∙◌, ◌≡◌, ◌++◌, [], ◌∷◌, List, ap, length, sym, subst}
+use Rattle.std.proofs.Common.{◌∙◌, ◌≡◌, ◌++◌, [], ◌∷◌, ap, length, sym, subst}
 use Rattle.std.specs.Arc.{arc_value}
-use Rattle.std.proofs.lemmas.List.{length-map, map_push}
-use Rattle.donor_book.specs.Passes.{BookName, PassState}
+use Rattle.std.proofs.lemmas.List.{map_push}
+use Rattle.donor_book.specs.Passes.{PassState}
 use Rattle.class_books.specs.ClassPasses.{ClassPassState}
 use Rattle.class_books.specs.inner.Hands.{AreOfTerms, books_of, class_pass_of, with_class}
 use Rattle.class_books.specs.inner.Numbers.{class_terms}

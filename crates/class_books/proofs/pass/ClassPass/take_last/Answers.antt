@@ -1,11 +1,11 @@
-use Rattle.std.proofs.Common.{◌≡◌, ◌∙◌, ◌-◌, ◌<◌, List, Some, ap, arith, get_or, length, subst, sym, take}
+use Rattle.std.proofs.Common.{◌≡◌, ◌∙◌, ◌-◌, ◌<◌, ap, arith, get_or, length, subst, sym, take}
 use Rattle.std.specs.Arc.{arc_value}
-use Rattle.std.proofs.lemmas.List.{get_or-map, length-map, take-map}
+use Rattle.std.proofs.lemmas.List.{length-map, take-map}
 use Rattle.std.proofs.lemmas.Option.{same_Some}
-use Rattle.donor_book.specs.Passes.{BookName, PassState}
-use Rattle.class_books.specs.ClassPasses.{ClassPassState, ClassTerms, no_claims, state_in}
+use Rattle.donor_book.specs.Passes.{PassState}
+use Rattle.class_books.specs.ClassPasses.{ClassPassState, state_in}
 use Rattle.class_books.specs.inner.Hands.{AreOfTerms, IsOfLast, books_of, class_pass_of, first_classes, last_class}
-use Rattle.class_books.specs.inner.Numbers.{class_terms, state_with}
+use Rattle.class_books.specs.inner.Numbers.{state_with}
 use Rattle.class_books.proofs.ClassPassLaws.{class-pass-take, last-of, last-state, of-terms-take}
 use Rattle.class_books.proofs.pass.ClassPass.take_last.Goals as goal
 

@@ -1,4 +1,4 @@
-use Rattle.std.proofs.Common.{◌≡◌, ◌∙◌, ℕ, ◌<◌, List, Some, ap, arith, get_or, length, set, subst, sym, take}
+use Rattle.std.proofs.Common.{◌≡◌, ◌∙◌, ℕ, ◌<◌, List, Some, ap, arith, length, set, subst, sym, take}
 use Rattle.std.specs.Arc.{arc_value}
 use Rattle.std.specs.List.{All}
 use Rattle.std.specs.Prelude.{slice_get}
@@ -79,7 +79,7 @@ in_file-requires-clause-given c =
     let at = (goal.at.in_file-requires-clause-given c).After-number_of in
     subst (λ (t : ClassTerms). IsGivenWithin (length (rows_in t.class_of (class at))) c.claim-answer.result) (sym (c.deref-4.ensures ∙ terms-same at))
     (given-in (length (rows_in (terms at).class_of (class at))) c.index_mut-hand.result.now c.claim-answer.new.self c.number_of.result (take (length c.args.ranking.now) c.numbers_of-numbers.result) c.claim-answer.result
-      (are at).within c.claim-answer.ensures.answered)
+    (are at).within c.claim-answer.ensures.answered)
 
 pub invariant_of-pass : goal.invariant_of-pass
 invariant_of-pass c =
@@ -114,7 +114,7 @@ returns-clause-answered c =
     let answer : c.in_file.result ≡ claim_with (terms at).class_of (class at) c.claim-answer.result =
     c.in_file.ensures ∙ ap (λ (t : ClassTerms). claim_with t.class_of (class at) c.claim-answer.result) (c.deref-4.ensures ∙ terms-same at) in
     let told = answered-in (terms at) (hands at) (class at) c.index_mut-hand.result.now c.claim-answer.new.self (in-hands at) c.index_mut-hand.ensures.value c.claim-answer.ensures.book
-        row c.number_of.result ranking (take (length ranking) c.numbers_of-numbers.result) c.claim-answer.result c.pass.invariant (number-at at) (are at) c.claim-answer.ensures.answered in
+    row c.number_of.result ranking (take (length ranking) c.numbers_of-numbers.result) c.claim-answer.result c.pass.invariant (number-at at) (are at) c.claim-answer.ensures.answered in
     subst (λ k. IsAnswered (pass_in k c.args.pass.now) row ranking c.in_file.result (pass_in k after)) (sym (here at))
     (subst (λ (q : ClassPassState). IsAnswered (pass_in (class at) q) row ranking c.in_file.result (pass_in (class at) after)) c.pass.view_is
-      (subst (λ (a : Claim). IsAnswered (pass_in (class at) (class_pass_of (terms at) (hands at))) row ranking a (pass_in (class at) after)) (sym answer) told))
+    (subst (λ (a : Claim). IsAnswered (pass_in (class at) (class_pass_of (terms at) (hands at))) row ranking a (pass_in (class at) after)) (sym answer) told))

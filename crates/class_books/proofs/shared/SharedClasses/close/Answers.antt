@@ -8,7 +8,7 @@ use Rattle.class_books.specs.ClassPasses.{ClassPassState, ClassTerms, ClassesNam
 use Rattle.class_books.specs.Histories.{history_in}
 use Rattle.class_books.specs.inner.Hands.{first_classes, last_class, name_of}
 use Rattle.class_books.specs.inner.Numbers.{class_terms, rows_in, state_with, won_with}
-use Rattle.class_books.proofs.CloseLaws.{AreHistoriesFrom, IsHistoryOf, classes-left, closed-class, count, history-at, last-same, map-reverse, of-book, others-same, own, passes-left, rest-terms, states-first, states-left}
+use Rattle.class_books.proofs.CloseLaws.{AreHistoriesFrom, IsHistoryOf, claims-joined, classes-left, closed-class, count, history-at, last-same, map-reverse, of-book, others-same, own, passes-left, rest-terms, states-first, states-left}
 use Rattle.class_books.proofs.shared.SharedClasses.close.Goals as goal
 use Rattle.class_books.proofs.shared.SharedClasses.close.Goals.{After-drop-classes, After-gather, In-Some-pop}
 
@@ -110,7 +110,7 @@ loop-book-preserved c =
     let n = fewer at in
     let len : c.len.result ≡ class = c.len.ensures ∙ c.pop-in-loop-book.new.self.ok.0 in
     let closed = closed-class name class c.in-Some-pop.book (own-terms at) (passes at) c.args.passes.items c.requires.classes (states-are at) c.close-history.result.items c.gather.ensures.ranks (all-of-book at)
-        c.close-history.ensures.whole c.close-history.ensures.sound c.close-history.ensures.legal in
+    c.close-history.ensures.whole c.close-history.ensures.sound c.close-history.ensures.legal in
     let history : c.history_in_file.result.items ≡ map (won_with name.terms.class_of class) c.close-history.result.items = c.history_in_file.ensures
     ∙ ap (λ (t : ClassTerms). map (won_with t.class_of c.len.result) c.close-history.result.items) (c.deref.ensures ∙ terms-are at)
     ∙ ap (λ k. map (won_with name.terms.class_of k) c.close-history.result.items) len in
@@ -132,19 +132,37 @@ loop-book-preserved c =
 
 -- ---- all are closed
 
--- the history of each class
-closed-at : (c : After-drop-classes) (class : ℕ) → class < c.args.self.terms.classes → IsHistoryOf c.args.self c.args.passes.items class (history_in class (map items c.reverse.new.self.items))
-closed-at c class lt =
-    let inv = c.loop-book.invariant in
-    let histories = c.loop-book.histories.items in
-    let none : length c.loop-book.books.items ≡ 0 = (let ok = c.loop-book.books.ok.0 in let left = c.in_default-pop.ensures.cases.0 in omega (arith, ok, left)) in
-    let all = subst (λ k. AreHistoriesFrom c.args.self c.args.passes.items k (reverse (map items histories))) none inv.closed in
-    let many : class < length (reverse (map items histories)) =
-    (let l = length-reverse (map items histories) in let m = length-map histories items in let filled = inv.filled in omega (arith, l, m, filled, none, lt)) in
-    let is : map items c.reverse.new.self.items ≡ reverse (map items histories) = ap (map items) c.reverse.ensures.items ∙ map-reverse items histories in
-    let same : 0 + class ≡ class = omega arith in
-    subst (λ (l : List (List Won)). IsHistoryOf c.args.self c.args.passes.items class (history_in class l)) (sym is)
-    (subst (λ k. IsHistoryOf c.args.self c.args.passes.items k (get_or (reverse (map items histories)) class [])) same (history-at c.args.self c.args.passes.items 0 (reverse (map items histories)) all class many))
+module _ (c : After-drop-classes) where
+  abbrev closed : List (List Won)
+  closed = map items c.reverse.new.self.items
+
+  none-left : length c.loop-book.books.items ≡ 0
+  none-left = let ok = c.loop-book.books.ok.0 in let left = c.in_default-pop.ensures.cases.0 in omega (arith, ok, left)
+
+  in-order : closed ≡ reverse (map items c.loop-book.histories.items)
+  in-order = ap (map items) c.reverse.ensures.items ∙ map-reverse items c.loop-book.histories.items
+
+  all-closed : AreHistoriesFrom c.args.self c.args.passes.items 0 closed
+  all-closed =
+      subst (AreHistoriesFrom c.args.self c.args.passes.items 0) (sym in-order)
+      (subst (λ k. AreHistoriesFrom c.args.self c.args.passes.items k (reverse (map items c.loop-book.histories.items))) none-left c.loop-book.invariant.closed)
+
+  one-each : length closed ≡ c.args.self.terms.classes
+  one-each =
+      let same = ap length in-order in
+      let l = length-reverse (map items c.loop-book.histories.items) in
+      let m = length-map c.loop-book.histories.items items in
+      let filled = c.loop-book.invariant.filled in
+      let none = none-left in
+      omega (arith, same, l, m, filled, none)
+
+  -- the history of each class
+  closed-at : (class : ℕ) → class < c.args.self.terms.classes → IsHistoryOf c.args.self c.args.passes.items class (history_in class closed)
+  closed-at class lt =
+      let same : 0 + class ≡ class = omega arith in
+      let one = one-each in
+      subst (λ k. IsHistoryOf c.args.self c.args.passes.items k (history_in class closed)) same
+      (history-at c.args.self c.args.passes.items 0 closed all-closed class (omega (arith, one, lt)))
 
 pub returns-clause-whole : goal.returns-clause-whole
 returns-clause-whole c class lt = (closed-at c class lt).whole
@@ -156,4 +174,4 @@ pub returns-clause-of_class : goal.returns-clause-of_class
 returns-clause-of_class c class lt = (closed-at c class lt).of_class
 
 pub returns-clause-legal : goal.returns-clause-legal
-returns-clause-legal c class lt = (closed-at c class lt).legal
+returns-clause-legal c = claims-joined c.args.self c.args.passes.items (closed c) (one-each c) (all-closed c)
