@@ -1,5 +1,6 @@
 -- The histories of classes, one after the other, are one legal history.
-use Rattle.std.proofs.Common.{◌≡◌, ◌≢◌, ℕ, zero, suc, ◌+◌, ◌<◌, ◌≤◌, Bool, true, false, cond, nat_lt, List, [], ◌∷◌, ◌++◌, map, length, take, drop, get_or, Some, None, Option, refl, sym, ap, ◌∙◌, subst, eqb, arith, append_assoc, append-nil, zero-add}
+use Rattle.std.proofs.Common.{◌≡◌, ◌≢◌, ℕ, zero, suc, ◌+◌, ◌<◌, ◌≤◌, Bool, true, false, cond, nat_lt, List, [], ◌∷◌, ◌++◌, map, length, take, drop, get_or}
+use Rattle.std.proofs.Common.{Some, None, Option, refl, sym, ap, ◌∙◌, subst, eqb, arith, append_assoc, append-nil, zero-add}
 use Rattle.std.specs.Prelude.{slice_get}
 use Rattle.std.specs.List.{All, IsDistinct, find}
 use Rattle.std.specs.Option.{option_or}
@@ -20,17 +21,21 @@ use Rattle.class_books.specs.Classes.{IsDonorOf, IsEntryIn, IsOfClass, IsWonIn}
 use Rattle.class_books.specs.Histories.{JoinedLaw, history_in, joined}
 
 -- a donor that is found is of the class
-found-of-class : (class_of : List ℕ) (class : ℕ) (test : ℕ → Bool) (ranking : List ℕ) → All (IsOfClass class_of class) ranking → IsDonorOf class_of class (find test ranking)
+found-of-class : (class_of : List ℕ) (class : ℕ) (test : ℕ → Bool) (ranking : List ℕ) → All (IsOfClass class_of class) ranking
+    → IsDonorOf class_of class (find test ranking)
 found-of-class class_of class test [] all = tt
 found-of-class class_of class test (d ∷ ranking) all =
-    either_way (test d) (All-head (IsOfClass class_of class) d ranking all) (found-of-class class_of class test ranking (All-tail (IsOfClass class_of class) d ranking all))
+    either_way (test d) (All-head (IsOfClass class_of class) d ranking all)
+    (found-of-class class_of class test ranking (All-tail (IsOfClass class_of class) d ranking all))
   where
-    either_way : (b : Bool) → IsOfClass class_of class d → IsDonorOf class_of class (find test ranking) → IsDonorOf class_of class (cond b (Some d) (find test ranking))
+    either_way : (b : Bool) → IsOfClass class_of class d → IsDonorOf class_of class (find test ranking)
+        → IsDonorOf class_of class (cond b (Some d) (find test ranking))
     either_way true here rest = here
     either_way false here rest = rest
 
 -- a legal history of a class gives its donors alone
-wins-of-class : (class_of : List ℕ) (class limit : ℕ) (history : List Entry) → IsLegalHistory limit history → All (IsEntryIn class_of class) history → All (IsWonIn class_of class) (wins_of history)
+wins-of-class : (class_of : List ℕ) (class limit : ℕ) (history : List Entry) → IsLegalHistory limit history → All (IsEntryIn class_of class) history
+    → All (IsWonIn class_of class) (wins_of history)
 wins-of-class class_of class limit history legal all =
     All-map (IsWonIn class_of class) won_of history (λ k d lt. let e = get_or history k d in (
       (all k d lt).0,
@@ -61,7 +66,8 @@ module _ (class_of : List ℕ) (class other : ℕ) (apart : class ≢ other) whe
   unclaimed : (row : ℕ) (history : List Won) → IsOfClass class_of other row → All (IsWonIn class_of class) history → claim_of row history ≡ None
   unclaimed row [] of all = refl
   unclaimed row (w ∷ history) of all =
-      let none : eqb w.row_no row ≡ false = ne_eqb w.row_no row (λ is. not-the-same row w.row_no of (All-head (IsWonIn class_of class) w history all).0 (sym is)) in
+      let none : eqb w.row_no row ≡ false = ne_eqb w.row_no row
+      (λ is. not-the-same row w.row_no of (All-head (IsWonIn class_of class) w history all).0 (sym is)) in
       ap (λ b. cond b (Some w) (claim_of row history)) none ∙ unclaimed row history of (All-tail (IsWonIn class_of class) w history all)
 
 -- ---- one history behind another
@@ -71,15 +77,18 @@ abbrev IsNew : List Won → Entry → Type 0
 IsNew first e = (claim_of e.row_no first ≡ None) × All (λ donor. uses_of donor first ≡ 0) e.ranking
 
 -- so the first history leaves free what the second one does
-free-behind : (limit : ℕ) (first second : List Won) (ranking : List ℕ) → All (λ donor. uses_of donor first ≡ 0) ranking → first_free limit (first ++ second) ranking ≡ first_free limit second ranking
+free-behind : (limit : ℕ) (first second : List Won) (ranking : List ℕ) → All (λ donor. uses_of donor first ≡ 0) ranking
+    → first_free limit (first ++ second) ranking ≡ first_free limit second ranking
 free-behind limit first second [] all = refl
 free-behind limit first second (d ∷ ranking) all =
     let none : uses_of d first ≡ 0 = All-head (λ (donor : ℕ). uses_of donor first ≡ 0) d ranking all in
-    let uses : uses_of d (first ++ second) ≡ uses_of d second = sum_by-append (λ (w : Won). cond (gave d w.reply) 1 0) first second ∙ ap (λ n. n + uses_of d second) none ∙ zero-add (uses_of d second) in
+    let uses : uses_of d (first ++ second) ≡ uses_of d second = sum_by-append (λ (w : Won). cond (gave d w.reply) 1 0) first second
+    ∙ ap (λ n. n + uses_of d second) none ∙ zero-add (uses_of d second) in
     let rest = free-behind limit first second ranking (All-tail (λ (donor : ℕ). uses_of donor first ≡ 0) d ranking all) in
     λ i. cond (nat_lt (uses i) limit) (Some d) (rest i)
 
-module _ (limit : ℕ) (first second : List Entry) (legal_first : IsLegalHistory limit first) (legal_second : IsLegalHistory limit second) (new : All (IsNew (wins_of first)) second) where
+module _ (limit : ℕ) (first second : List Entry) (legal_first : IsLegalHistory limit first) (legal_second : IsLegalHistory limit second)
+    (new : All (IsNew (wins_of first)) second) where
   as_many : length (wins_of second) ≡ length second
   as_many = length-map second won_of
 
@@ -88,8 +97,11 @@ module _ (limit : ℕ) (first second : List Entry) (legal_first : IsLegalHistory
   none-before n e lt is =
       let less : n < length (wins_of second) = (let same = as_many in omega (arith, same, lt)) in
       let split : wins_of second ≡ take n (wins_of second) ++ won_of e ∷ drop (n + 1) (wins_of second) =
-      sym (take-append-drop n (wins_of second)) ∙ ap (λ (l : List Won). take n (wins_of second) ++ l) (drop_more (wins_of second) n (won_of e) less ∙ ap (λ (w : Won). w ∷ drop (n + 1) (wins_of second)) (sym is)) in
-      none_before (take n (wins_of second)) (drop (n + 1) (wins_of second)) (won_of e) (subst (λ (l : List Won). IsDistinct eqb (map (λ (w : Won). w.row_no) l)) split legal_second.once)
+      sym (take-append-drop n (wins_of second))
+      ∙ ap (λ (l : List Won). take n (wins_of second) ++ l)
+      (drop_more (wins_of second) n (won_of e) less ∙ ap (λ (w : Won). w ∷ drop (n + 1) (wins_of second)) (sym is)) in
+      none_before (take n (wins_of second)) (drop (n + 1) (wins_of second)) (won_of e)
+      (subst (λ (l : List Won). IsDistinct eqb (map (λ (w : Won). w.row_no) l)) split legal_second.once)
 
   entry-at : (n : ℕ) (e : Entry) → n < length second → slice_get second n ≡ Some e → get_or second n e ≡ e
   entry-at n e lt at = get_or_from_slice_get second n e e at
@@ -105,10 +117,12 @@ module _ (limit : ℕ) (first second : List Entry) (legal_first : IsLegalHistory
       let e = get_or second n (record { row_no = 0; ranking = []; reply = None }) in
       let at = slice_get-get_or second n (record { row_no = 0; ranking = []; reply = None }) lt in
       let more : first ++ take (suc n) second ≡ (first ++ take n second) ++ e ∷ [] =
-      ap (λ (l : List Entry). first ++ l) (take-suc second n (record { row_no = 0; ranking = []; reply = None }) lt) ∙ sym (append_assoc first (take n second) (e ∷ [])) in
+      ap (λ (l : List Entry). first ++ l) (take-suc second n (record { row_no = 0; ranking = []; reply = None }) lt)
+      ∙ sym (append_assoc first (take n second) (e ∷ [])) in
       subst (IsLegalHistory limit) (sym more) (push n e lt at (legal-upto n (omega (arith, le))))
     where
-      push : (n : ℕ) (e : Entry) → n < length second → slice_get second n ≡ Some e → IsLegalHistory limit (first ++ take n second) → IsLegalHistory limit ((first ++ take n second) ++ e ∷ [])
+      push : (n : ℕ) (e : Entry) → n < length second → slice_get second n ≡ Some e → IsLegalHistory limit (first ++ take n second)
+          → IsLegalHistory limit ((first ++ take n second) ++ e ∷ [])
       push n e lt at legal =
           let apart : IsNew (wins_of first) e = subst (IsNew (wins_of first)) (entry-at n e lt at) (new n e lt) in
           let wins : wins_of (first ++ take n second) ≡ wins_of first ++ take n (wins_of second) =
@@ -116,10 +130,12 @@ module _ (limit : ℕ) (first second : List Entry) (legal_first : IsLegalHistory
           legal_push limit (first ++ take n second) e legal
           (ap (claim_of e.row_no) wins ∙ find-append (λ (w : Won). eqb w.row_no e.row_no) (wins_of first) (take n (wins_of second))
           ∙ ap (λ o. option_or o (claim_of e.row_no (take n (wins_of second)))) apart.0 ∙ none-before n e lt (won-at n e lt at))
-          (legal_second.replies n e at ∙ sym (free-behind limit (wins_of first) (take n (wins_of second)) e.ranking apart.1) ∙ ap (λ (h : List Won). first_free limit h e.ranking) (sym wins))
+          (legal_second.replies n e at ∙ sym (free-behind limit (wins_of first) (take n (wins_of second)) e.ranking apart.1)
+          ∙ ap (λ (h : List Won). first_free limit h e.ranking) (sym wins))
 
   pub legal-behind : IsLegalHistory limit (first ++ second)
-  legal-behind = subst (λ (l : List Entry). IsLegalHistory limit (first ++ l)) (take_all (length second) second (omega arith)) (legal-upto (length second) (omega arith))
+  legal-behind = subst (λ (l : List Entry). IsLegalHistory limit (first ++ l)) (take_all (length second) second (omega arith))
+      (legal-upto (length second) (omega arith))
 
 -- ---- the histories of all classes
 
@@ -129,12 +145,15 @@ record IsLater (class_of : List ℕ) (class : ℕ) (e : Entry) : Type 0 where
   later : class ≤ own
   of_class : IsEntryIn class_of own e
 
-joined-from : (class_of : List ℕ) (limit class : ℕ) (histories : List (List Entry)) → ((j : ℕ) → j < length histories → IsLegalHistory limit (history_in j histories))
-    → ((j : ℕ) → j < length histories → All (IsEntryIn class_of (class + j)) (history_in j histories)) → IsLegalHistory limit (joined histories) × All (IsLater class_of class) (joined histories)
+joined-from : (class_of : List ℕ) (limit class : ℕ) (histories : List (List Entry))
+    → ((j : ℕ) → j < length histories → IsLegalHistory limit (history_in j histories))
+    → ((j : ℕ) → j < length histories → All (IsEntryIn class_of (class + j)) (history_in j histories)) → IsLegalHistory limit (joined histories)
+    × All (IsLater class_of class) (joined histories)
 joined-from class_of limit class [] legal of = (legal_fresh limit, All-nil (IsLater class_of class))
 joined-from class_of limit class (history ∷ histories) legal of =
     let rest = joined-from class_of limit (suc class) histories (λ j lt. legal (suc j) (omega (arith, lt)))
-    (λ j lt. let same : class + suc j ≡ suc class + j = omega arith in subst (λ c. All (IsEntryIn class_of c) (history_in j histories)) same (of (suc j) (omega (arith, lt)))) in
+    (λ j lt. let same : class + suc j ≡ suc class + j = omega arith in subst (λ c. All (IsEntryIn class_of c) (history_in j histories)) same
+    (of (suc j) (omega (arith, lt)))) in
     let same : class + 0 ≡ class = omega arith in
     let here = subst (λ c. All (IsEntryIn class_of c) history) same (of 0 (omega arith)) in
     let first = legal 0 (omega arith) in
@@ -147,7 +166,8 @@ joined-from class_of limit class (history ∷ histories) legal of =
       legal-behind limit history (joined histories) first rest.0 new,
       All-append (IsLater class_of class) history (joined histories)
           (All-weaker (IsEntryIn class_of class) (IsLater class_of class) (λ e is. record { own = class; later = omega arith; of_class = is }) history here)
-          (All-weaker (IsLater class_of (suc class)) (IsLater class_of class) (λ e is. let le = is.later in record { own = is.own; later = omega (arith, le); of_class = is.of_class }) (joined histories) rest.1),
+          (All-weaker (IsLater class_of (suc class)) (IsLater class_of class)
+          (λ e is. let le = is.later in record { own = is.own; later = omega (arith, le); of_class = is.of_class }) (joined histories) rest.1),
     )
 
 pub joined-law : JoinedLaw

@@ -1,5 +1,6 @@
 -- What the book of a class answers to a pass holds with the numbers of the whole file too.
-use Rattle.std.proofs.Common.{◌≡◌, ℕ, ◌+◌, ◌<◌, Bool, true, false, cond, nat_lt, List, [], ◌∷◌, ◌++◌, map, length, Some, None, Option, refl, sym, ap, ◌∙◌, subst, eqb, arith}
+use Rattle.std.proofs.Common.{◌≡◌, ℕ, ◌+◌, ◌<◌, Bool, true, false, cond, nat_lt, List, [], ◌∷◌, ◌++◌, map, length, Some, None, Option, refl, sym, ap, ◌∙◌}
+use Rattle.std.proofs.Common.{subst, eqb, arith}
 use Rattle.std.specs.Prelude.{option_map}
 use Rattle.std.specs.List.{All, count_by}
 use Rattle.std.specs.List.Sorted.{IsStrictlyIncreasing}
@@ -27,56 +28,78 @@ given-within n d None (Some e) is within = let same : d ≡ e = cc in subst (λ 
 given-within n d (Some w) r is within = absurd (cc)
 
 module _ (class_of : List ℕ) (class : ℕ) where
+  -- how many rows the class has, and what its numbers stand for in the whole file
+  abbrev size : ℕ
+  size = length (rows_in class_of class)
+
+  abbrev to_row : ℕ → ℕ
+  to_row = row_with class_of class
+
+  abbrev to_donor : Option ℕ → Option ℕ
+  to_donor = donor_with class_of class
+
+  abbrev to_won : Won → Won
+  to_won = won_with class_of class
+
+  abbrev to_entry : Entry → Entry
+  to_entry = entry_with class_of class
+
+  abbrev to_placed : Placed → Placed
+  to_placed = placed_with class_of class
+
+  abbrev to_claim : Claim → Claim
+  to_claim = claim_with class_of class
+
   -- a donor was given as often
-  uses-with : (d : ℕ) (history : List Won) → d < length (rows_in class_of class) → uses_of (row_with class_of class d) (map (won_with class_of class) history) ≡ uses_of d history
+  uses-with : (d : ℕ) (history : List Won) → d < size → uses_of (to_row d) (map to_won history) ≡ uses_of d history
   uses-with d history lt =
-      fold-map (λ (n : ℕ) (w : Won). n + cond (gave (row_with class_of class d) w.reply) 1 0) (won_with class_of class) 0 history
+      fold-map (λ (n : ℕ) (w : Won). n + cond (gave (to_row d) w.reply) 1 0) to_won 0 history
       ∙ (λ i. count_by (λ (w : Won). gave-with class_of class d w.reply lt i) history)
 
-  found-step : (b : Bool) (x : ℕ) (o : Option ℕ) → cond b (Some (row_with class_of class x)) (option_map (row_with class_of class) o) ≡ option_map (row_with class_of class) (cond b (Some x) o)
+  found-step : (b : Bool) (x : ℕ) (o : Option ℕ) → cond b (Some (to_row x)) (option_map to_row o) ≡ option_map to_row (cond b (Some x) o)
   found-step true x o = refl
   found-step false x o = refl
 
   -- the same donor is free
-  free-with : (limit : ℕ) (history : List Won) (ranking : List ℕ) → All (λ d. d < length (rows_in class_of class)) ranking
-      → first_free limit (map (won_with class_of class) history) (map (row_with class_of class) ranking) ≡ option_map (row_with class_of class) (first_free limit history ranking)
+  free-with : (limit : ℕ) (history : List Won) (ranking : List ℕ) → All (λ d. d < size) ranking
+      → first_free limit (map to_won history) (map to_row ranking) ≡ option_map to_row (first_free limit history ranking)
   free-with limit history [] all = refl
   free-with limit history (x ∷ ranking) all =
-      let here : nat_lt (uses_of (row_with class_of class x) (map (won_with class_of class) history)) limit ≡ nat_lt (uses_of x history) limit =
-      ap (λ n. nat_lt n limit) (uses-with x history (All-head (λ (d : ℕ). d < length (rows_in class_of class)) x ranking all)) in
-      let rest = free-with limit history ranking (All-tail (λ (d : ℕ). d < length (rows_in class_of class)) x ranking all) in
-      (λ i. cond (here i) (Some (row_with class_of class x)) (rest i)) ∙ found-step (nat_lt (uses_of x history) limit) x (first_free limit history ranking)
+      let here : nat_lt (uses_of (to_row x) (map to_won history)) limit ≡ nat_lt (uses_of x history) limit =
+      ap (λ n. nat_lt n limit) (uses-with x history (All-head (λ (d : ℕ). d < size) x ranking all)) in
+      let rest = free-with limit history ranking (All-tail (λ (d : ℕ). d < size) x ranking all) in
+      (λ i. cond (here i) (Some (to_row x)) (rest i)) ∙ found-step (nat_lt (uses_of x history) limit) x (first_free limit history ranking)
 
-  donor-is : (o : Option ℕ) → IsDonor (length (rows_in class_of class)) o → option_map (row_with class_of class) o ≡ donor_with class_of class o
+  donor-is : (o : Option ℕ) → IsDonor size o → option_map to_row o ≡ to_donor o
   donor-is None is = refl
   donor-is (Some d) lt = sym (donor-stands class_of class d lt)
 
-  pub free-donor : (limit : ℕ) (history : List Won) (ranking : List ℕ) → All (λ d. d < length (rows_in class_of class)) ranking
-      → first_free limit (map (won_with class_of class) history) (map (row_with class_of class) ranking) ≡ donor_with class_of class (first_free limit history ranking)
+  pub free-donor : (limit : ℕ) (history : List Won) (ranking : List ℕ) → All (λ d. d < size) ranking
+      → first_free limit (map to_won history) (map to_row ranking) ≡ to_donor (first_free limit history ranking)
   free-donor limit history ranking all =
-      free-with limit history ranking all ∙ donor-is (first_free limit history ranking) (found_within (length (rows_in class_of class)) (λ d. nat_lt (uses_of d history) limit) ranking all)
+      free-with limit history ranking all ∙ donor-is (first_free limit history ranking) (found_within size (λ d. nat_lt (uses_of d history) limit) ranking all)
 
-  won-step : (b : Bool) (w : Won) (o : Option Won) → cond b (Some (won_with class_of class w)) (option_map (won_with class_of class) o) ≡ option_map (won_with class_of class) (cond b (Some w) o)
+  won-step : (b : Bool) (w : Won) (o : Option Won) → cond b (Some (to_won w)) (option_map to_won o) ≡ option_map to_won (cond b (Some w) o)
   won-step true w o = refl
   won-step false w o = refl
 
   -- a row has the same claim
-  claim-of-with : (row : ℕ) (history : List Won) → row < length (rows_in class_of class)
-      → claim_of (row_with class_of class row) (map (won_with class_of class) history) ≡ option_map (won_with class_of class) (claim_of row history)
+  claim-of-with : (row : ℕ) (history : List Won) → row < size
+      → claim_of (to_row row) (map to_won history) ≡ option_map to_won (claim_of row history)
   claim-of-with row [] lt = refl
   claim-of-with row (w ∷ history) lt =
       let here = number-same class_of class row w.row_no lt in
       let rest = claim-of-with row history lt in
-      (λ i. cond (here i) (Some (won_with class_of class w)) (rest i)) ∙ won-step (eqb w.row_no row) w (claim_of row history)
+      (λ i. cond (here i) (Some (to_won w)) (rest i)) ∙ won-step (eqb w.row_no row) w (claim_of row history)
 
-  answer-cases : (o : Option Won) (r : Option ℕ) → had_or (option_map (won_with class_of class) o) (given (option_map (row_with class_of class) r)) ≡ claim_with class_of class (had_or o (given r))
+  answer-cases : (o : Option Won) (r : Option ℕ) → had_or (option_map to_won o) (given (option_map to_row r)) ≡ to_claim (had_or o (given r))
   answer-cases None None = refl
   answer-cases None (Some d) = refl
   answer-cases (Some w) r = refl
 
   -- and is answered the same
-  answer-with : (limit : ℕ) (history : List Won) (row : ℕ) (ranking : List ℕ) → row < length (rows_in class_of class) → All (λ d. d < length (rows_in class_of class)) ranking
-      → answer_to limit (map (won_with class_of class) history) (row_with class_of class row) (map (row_with class_of class) ranking) ≡ claim_with class_of class (answer_to limit history row ranking)
+  answer-with : (limit : ℕ) (history : List Won) (row : ℕ) (ranking : List ℕ) → row < size → All (λ d. d < size) ranking
+      → answer_to limit (map to_won history) (to_row row) (map to_row ranking) ≡ to_claim (answer_to limit history row ranking)
   answer-with limit history row ranking lt all =
       let had = claim-of-with row history lt in
       let free = free-with limit history ranking all in
@@ -89,38 +112,41 @@ module _ (class_of : List ℕ) (class : ℕ) where
     abbrev pub in_file : PassState → PassState
     in_file p = pass_of book (state_with class_of class p)
 
-    enters-with : (old new : PassState) (e : Entry) → Enters old e new → Enters (in_file old) (entry_with class_of class e) (in_file new)
+    enters-with : (old new : PassState) (e : Entry) → Enters old e new → Enters (in_file old) (to_entry e) (in_file new)
     enters-with old new e is = (
-      ap (map (won_with class_of class)) is.0 ∙ map-append (won_with class_of class) old.seen (won_of e ∷ []),
-      ap (map (placed_with class_of class)) is.1 ∙ map-append (placed_with class_of class) old.mine (placed (length old.seen) e ∷ [])
-          ∙ ap (λ n. map (placed_with class_of class) old.mine ++ placed n (entry_with class_of class e) ∷ []) (sym (length-map old.seen (won_with class_of class))),
+      ap (map to_won) is.0 ∙ map-append to_won old.seen (won_of e ∷ []),
+      ap (map to_placed) is.1 ∙ map-append to_placed old.mine (placed (length old.seen) e ∷ [])
+          ∙ ap (λ n. map to_placed old.mine ++ placed n (to_entry e) ∷ []) (sym (length-map old.seen to_won)),
     )
 
-    leaves-with : (old new : PassState) (history : List Won) (row : ℕ) (ranking : List ℕ) (answer : Claim) → ((d : ℕ) → answer ≡ claim.Given d → d < length (rows_in class_of class)) → Leaves (having_seen old history) row ranking answer new
-        → Leaves (having_seen (in_file old) (map (won_with class_of class) history)) (row_with class_of class row) (map (row_with class_of class) ranking) (claim_with class_of class answer) (in_file new)
+    leaves-with : (old new : PassState) (history : List Won) (row : ℕ) (ranking : List ℕ) (answer : Claim) → ((d : ℕ) → answer ≡ claim.Given d → d < size)
+        → Leaves (having_seen old history) row ranking answer new
+        → Leaves (having_seen (in_file old) (map to_won history)) (to_row row) (map to_row ranking) (to_claim answer) (in_file new)
     leaves-with old new history row ranking (claim.Given d) few is =
-        subst (λ (r : Option ℕ). Enters (in_file (having_seen old history)) (entry_of (row_with class_of class row) (map (row_with class_of class) ranking) r) (in_file new)) (donor-stands class_of class d (few d refl))
+        subst (λ (r : Option ℕ). Enters (in_file (having_seen old history)) (entry_of (to_row row) (map to_row ranking) r) (in_file new))
+        (donor-stands class_of class d (few d refl))
         (enters-with (having_seen old history) new (entry_of row ranking (Some d)) is)
     leaves-with old new history row ranking claim.Nobody few is = enters-with (having_seen old history) new (entry_of row ranking None) is
-    leaves-with old new history row ranking (claim.Had reply) few is = (ap (map (won_with class_of class)) is.0, ap (map (placed_with class_of class)) is.1)
+    leaves-with old new history row ranking (claim.Had reply) few is = (ap (map to_won) is.0, ap (map to_placed) is.1)
 
     -- a claim that the class's book answers is answered so in the whole file
-    pub answered-with : (old new : PassState) (row : ℕ) (ranking : List ℕ) (answer : Claim) → old.book.terms.limit ≡ book.terms.limit → row < length (rows_in class_of class) → All (λ d. d < length (rows_in class_of class)) ranking
-        → IsAnswered old row ranking answer new → IsAnswered (in_file old) (row_with class_of class row) (map (row_with class_of class) ranking) (claim_with class_of class answer) (in_file new)
+    pub answered-with : (old new : PassState) (row : ℕ) (ranking : List ℕ) (answer : Claim) → old.book.terms.limit ≡ book.terms.limit → row < size
+        → All (λ d. d < size) ranking
+        → IsAnswered old row ranking answer new → IsAnswered (in_file old) (to_row row) (map to_row ranking) (to_claim answer) (in_file new)
     answered-with old new row ranking answer same lt all is = (
-      map (won_with class_of class) is.0,
-      (map (won_with class_of class) is.1.0, ap (map (won_with class_of class)) is.1.1 ∙ map-append (won_with class_of class) old.seen is.1.0),
-      ap (claim_with class_of class) is.2 ∙ sym (answer-with old.book.terms.limit is.0 row ranking lt all)
-          ∙ ap (λ limit. answer_to limit (map (won_with class_of class) is.0) (row_with class_of class row) (map (row_with class_of class) ranking)) same,
+      map to_won is.0,
+      (map to_won is.1.0, ap (map to_won) is.1.1 ∙ map-append to_won old.seen is.1.0),
+      ap to_claim is.2 ∙ sym (answer-with old.book.terms.limit is.0 row ranking lt all)
+          ∙ ap (λ limit. answer_to limit (map to_won is.0) (to_row row) (map to_row ranking)) same,
       leaves-with old new is.0 row ranking answer
-          (λ d at. given-within (length (rows_in class_of class)) d (claim_of row is.0) (first_free old.book.terms.limit is.0 ranking) (sym at ∙ is.2)
-          (found_within (length (rows_in class_of class)) (λ d. nat_lt (uses_of d is.0) old.book.terms.limit) ranking all)) is.3,
+          (λ d at. given-within size d (claim_of row is.0) (first_free old.book.terms.limit is.0 ranking) (sym at ∙ is.2)
+          (found_within size (λ d. nat_lt (uses_of d is.0) old.book.terms.limit) ranking all)) is.3,
     )
 
   -- the claims of a pass stand at the same places
-  pub placed-with : (seen : List Won) (mine : List Placed) → ArePlaced seen mine → ArePlaced (map (won_with class_of class) seen) (map (placed_with class_of class) mine)
+  pub placed-with : (seen : List Won) (mine : List Placed) → ArePlaced seen mine → ArePlaced (map to_won seen) (map to_placed mine)
   placed-with seen mine is = record {
-    within = All-map (λ (m : Placed). m.place < length (map (won_with class_of class) seen)) (placed_with class_of class) mine
-        (λ k d lt. let p = is.within k d lt in let l = length-map seen (won_with class_of class) in omega (arith, p, l));
-    rising = subst IsStrictlyIncreasing (sym (map-map (λ (m : Placed). m.place) (placed_with class_of class) mine)) is.rising;
+    within = All-map (λ (m : Placed). m.place < length (map to_won seen)) to_placed mine
+        (λ k d lt. let p = is.within k d lt in let l = length-map seen to_won in omega (arith, p, l));
+    rising = subst IsStrictlyIncreasing (sym (map-map (λ (m : Placed). m.place) to_placed mine)) is.rising;
   }

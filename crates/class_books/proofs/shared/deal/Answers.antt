@@ -1,4 +1,5 @@
-use Rattle.std.proofs.Common.{◌≡◌, ◌∙◌, ℕ, ◌+◌, ◌<◌, ◌++◌, [], ◌∷◌, List, Option, IfSome, ap, arith, drop, get_or, length, length-append, option_to_list, refl, subst, sym, take}
+use Rattle.std.proofs.Common.{◌≡◌, ◌∙◌, ℕ, ◌+◌, ◌<◌, ◌++◌, [], ◌∷◌, List, Option, IfSome, ap, arith, drop, get_or, length, length-append, option_to_list, refl}
+use Rattle.std.proofs.Common.{subst, sym, take}
 use Rattle.std.specs.List.{All}
 use Rattle.std.proofs.lemmas.List.{drop-drop, drop-set-lt, get_or-drop, take_all, take_more_set, with_items_is}
 use Rattle.std.proofs.lemmas.List.Elements.{All-pop, All-push}
@@ -12,7 +13,8 @@ use Rattle.class_books.proofs.shared.deal.Goals.{In-Some}
 rest-at : (now old : List ClassPassState) (i : ℕ) (d : ClassPassState) → drop i now ≡ drop i old → get_or now i d ≡ get_or old i d
 rest-at now old i d is =
     let same : i + 0 ≡ i = omega arith in
-    ap (λ k. get_or now k d) (sym same) ∙ sym (get_or-drop i now 0 d) ∙ ap (λ (l : List ClassPassState). get_or l 0 d) is ∙ get_or-drop i old 0 d ∙ ap (λ k. get_or old k d) same
+    ap (λ k. get_or now k d) (sym same) ∙ sym (get_or-drop i now 0 d) ∙ ap (λ (l : List ClassPassState). get_or l 0 d) is ∙ get_or-drop i old 0 d
+    ∙ ap (λ k. get_or old k d) same
 
 module _ (c : In-Some) where
   abbrev old : List ClassPassState
@@ -27,7 +29,8 @@ module _ (c : In-Some) where
       let both = All-pop P c.loop-class_pass.passes.items c.pop.new.self.items c.pop.result c.pop.ensures.items all in
       (both.0, subst (λ (o : Option PassState). IfSome o P) c.in-Some.is both.1)
 
-  item-is : (d : ClassPassState) → get_or c.loop-class_pass.class_pass-items c.loop-class_pass.class_pass-index d ≡ get_or old c.loop-class_pass.class_pass-index d
+  item-is : (d : ClassPassState) → get_or c.loop-class_pass.class_pass-items c.loop-class_pass.class_pass-index d
+      ≡ get_or old c.loop-class_pass.class_pass-index d
   item-is d = rest-at c.loop-class_pass.class_pass-items old c.loop-class_pass.class_pass-index d c.loop-class_pass.invariant.rest
 
 pub loop-class_pass-init : goal.loop-class_pass-init
@@ -46,7 +49,8 @@ add-requires c =
     let at = (goal.at.add-requires c).In-Some in
     let i = c.loop-class_pass.class_pass-index in
     let d = c.class_pass-item.result in
-    subst (λ (q : ClassPassState). IsNext q c.in-Some.pass) (sym (item-is at d)) (next-one at (IsNext (get_or (old at) i d)) (c.loop-class_pass.invariant.next i d (within at))).1
+    subst (λ (q : ClassPassState). IsNext q c.in-Some.pass) (sym (item-is at d))
+    (next-one at (IsNext (get_or (old at) i d)) (c.loop-class_pass.invariant.next i d (within at))).1
 
 pub loop-class_pass-preserved : goal.loop-class_pass-preserved
 loop-class_pass-preserved c =
@@ -63,7 +67,8 @@ loop-class_pass-preserved c =
       next = λ k e less. (next-one at (IsNext (get_or (old at) k e)) (loop.invariant.next k e less)).0;
       books = λ book all. (next-one at (λ (p : PassState). p.book ≡ book) (loop.invariant.books book all)).0;
       dealt = λ first book same all.
-          (let is : c.add.new.self ≡ with_class first book = c.in_ok-add.ensures ∙ ap (λ (q : ClassPassState). with_class q c.in-Some.pass.book) (item-is at d ∙ same i d (within at))
+          (let is : c.add.new.self ≡ with_class first book = c.in_ok-add.ensures
+          ∙ ap (λ (q : ClassPassState). with_class q c.in-Some.pass.book) (item-is at d ∙ same i d (within at))
           ∙ ap (with_class first) (next-one at (λ (p : PassState). p.book ≡ book) (loop.invariant.books book all)).1 in
           subst (All (λ (q : ClassPassState). q ≡ with_class first book)) (sym (take_more_set now i c.add.new.self lt))
           (All-push (λ (q : ClassPassState). q ≡ with_class first book) (take i now) c.add.new.self (loop.invariant.dealt first book same all) is));

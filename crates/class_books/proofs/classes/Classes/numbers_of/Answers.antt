@@ -15,7 +15,8 @@ loop-place-preserved c =
     record {
       size = length-set loop.numbers loop.place c.number_of.result ∙ loop.invariant.size;
       are = λ class all. numbers-more c.args.self.now.class_of class rows loop.numbers loop.place c.number_of.result lt
-          (let size = loop.invariant.size in let few = c.requires.few in omega (arith, size, few, lt)) (loop.invariant.are class all) (c.number_of.ensures class (all loop.place 0 lt));
+          (let size = loop.invariant.size in let few = c.requires.few in omega (arith, size, few, lt)) (loop.invariant.are class all)
+          (c.number_of.ensures class (all loop.place 0 lt));
     }
 
 pub returns : goal.returns

@@ -7,10 +7,14 @@ use Rattle.class_books.proofs.classes.Classes.rows_of.Goals as goal
 pub returns : goal.returns
 returns c =
     let tables = c.self.inside in
+    let class_of = tables.class_of.items in
     let lt : c.args.class < length tables.rows.items = subst (λ (t : ClassTerms). c.args.class < t.classes) (sym c.self.view_is) c.requires in
-    let rows : c.as_slice.result.now ≡ rows_in tables.class_of.items c.args.class = c.as_slice.ensures.value
-    ∙ rows-read (λ (v : Vec ℕ Global). v.items) tables.class_of.items tables.numbers.items tables.rows.items c.args.class c.index.result.now c.self.invariant.are lt c.index.ensures in
+    let vec = c.index.result.now in
+    let read = rows-read (λ (v : Vec ℕ Global). v.items) class_of tables.numbers.items tables.rows.items c.args.class vec c.self.invariant.are lt
+    c.index.ensures in
+    let rows : c.as_slice.result.now ≡ rows_in class_of c.args.class = c.as_slice.ensures.value ∙ read in
+    let most = rows-few c.args.class 0 class_of in
     record {
       rows = rows ∙ ap (λ (t : ClassTerms). rows_in t.class_of c.args.class) c.self.view_is;
-      few = (let most = rows-few c.args.class 0 tables.class_of.items in let room = c.self.invariant.few in let same = ap length rows in omega (arith, most, room, same));
+      few = (let room = c.self.invariant.few in let same = ap length rows in omega (arith, most, room, same));
     }

@@ -18,10 +18,12 @@ loop-class-preserved c =
     let terms_is : terms ≡ record { class_of = c.args.class_of.items; classes = c.args.classes; limit = c.args.limit; passes = c.args.passes } =
     c.in_ok-tables-2.ensures.ok ∙ c.in_ok-tables.ensures in
     let rows : length c.rows_of.result.now ≡ length (rows_in terms.class_of (length books)) =
-    ap length (c.rows_of.ensures.rows ∙ ap (λ (t : ClassTerms). rows_in t.class_of loop.class) c.deref.ensures) ∙ ap (λ k. length (rows_in terms.class_of k)) (sym inv.as_many) in
+    ap length (c.rows_of.ensures.rows ∙ ap (λ (t : ClassTerms). rows_in t.class_of loop.class) c.deref.ensures)
+    ∙ ap (λ k. length (rows_in terms.class_of k)) (sym inv.as_many) in
     let limit = sym (ap (λ (t : ClassTerms). t.limit) terms_is) in
     let passes = sym (ap (λ (t : ClassTerms). t.passes) terms_is) in
-    let own : book.terms ≡ class_terms terms (length books) = c.in_ok-book.ensures.terms ∙ (λ i. record { limit = limit i; donors = rows i; rows = rows i; passes = passes i }) in
+    let own : book.terms ≡ class_terms terms (length books) = c.in_ok-book.ensures.terms
+    ∙ (λ i. record { limit = limit i; donors = rows i; rows = rows i; passes = passes i }) in
     let dealt = c.in_ok-deal.ensures.dealt (fresh_pass terms books) book inv.dealt (λ k d lt. (c.in_ok-book.ensures.fresh k d lt).book) in
     record {
       as_many = ap length items ∙ length_push books book ∙ ap (λ n. n + 1) inv.as_many;
