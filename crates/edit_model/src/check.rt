@@ -13,6 +13,7 @@ use crate::field::Field;
 use crate::name::Name;
 use crate::rule::Rule;
 use field::is_field;
+pub use name::is_field_name;
 use rule::is_rule;
 
 /// How many fields a survey may have.

@@ -17,6 +17,7 @@ mod survey;
 mod trial;
 mod value;
 
+pub use check::is_field_name;
 pub use clean::is_clean;
 pub use fault::SurveyFault;
 pub use field::{Field, Kind};

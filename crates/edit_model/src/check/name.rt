@@ -49,8 +49,8 @@ fn is_reserved(bytes: &[u8]) -> bool
         || bytes == b"then".as_slice()
 }
 
-/// Whether a field may have the name.
-pub(crate) fn is_field_name(name: &Name) -> bool
+/// Whether a field may have the name: a letter with letters, digits and `_` behind it, and none of the words of the rules. No memory.
+pub fn is_field_name(name: &Name) -> bool
     ensures { IsTrue result ↔ IsName name.now }
 {
     let bytes = name.as_bytes();
