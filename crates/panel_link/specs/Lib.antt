@@ -1,6 +1,4 @@
 pub mod Answers
-pub mod KeyColumns
-pub mod LastFields
 pub mod Laws
 pub mod LinkedCorrections
 pub mod Pins

@@ -11,7 +11,7 @@ mod linked;
 mod linking;
 mod pins;
 
-pub use keys::{key_column, key_text};
+pub use keys::key_column;
 pub use laws::panel_laws;
 pub use linked::Linked;
 pub use linking::link;

@@ -1,4 +1,4 @@
-use Rattle.std.specs.Prelude.{◌≡◌, ℕ, suc, if◌then◌else◌, List, [], ◌∷◌}
+use Rattle.std.specs.Prelude.{◌≡◌, ◌≢◌, ℕ, suc, if◌then◌else◌, List, [], ◌∷◌, Option, MatchOption}
 use Rattle.std.specs.Str.{bytes_eq}
 use Rattle.edit_model.specs.declared.field.Field.{Field}
 use Rattle.record_text.specs.Trimming.{trimmed}
@@ -12,6 +12,11 @@ columns_from i name (text ∷ header) =
 -- the columns in which a name stands
 abbrev pub columns_of : List ℕ → List (List ℕ) → List ℕ
 columns_of name header = columns_from 0 name header
+
+-- the name stands in this column alone; where there is none, it stands in no column or in several
+abbrev pub IsOneColumn : List ℕ → List (List ℕ) → Option ℕ → Type 0
+IsOneColumn name header column =
+    MatchOption column ((i : ℕ) → columns_of name header ≢ i ∷ []) (λ i. columns_of name header ≡ i ∷ [])
 
 -- each field stands in one column, and these are the columns
 abbrev pub StandIn : List Field → List (List ℕ) → List ℕ → Type 0

@@ -1,5 +1,5 @@
 ghost use Rattle.std.specs.Prelude.{◌≡◌, ◌≢◌, ◌≤◌, ◌+◌, ◌∷◌, [], IfErr, IfOk, IfSome, ◌<◌, MatchOption, Some, drop, length};
-ghost use Rattle.record_text.specs.Columns.{StandIn, columns_from, columns_of};
+ghost use Rattle.record_text.specs.Columns.{IsOneColumn, StandIn, columns_from, columns_of};
 ghost use Rattle.record_text.specs.Faults.{column_fault, field_fault};
 ghost use Rattle.record_text.specs.inner.NextColumns.{IsNextColumn};
 
@@ -45,6 +45,20 @@ fn find_column(field: u32, name: &[u8], header: &Texts) -> Result<u32, SheetFaul
         return Err(SheetFault::DoubleColumn { field });
     }
     Ok(column as u32)
+}
+
+/// The one column whose text is the name. None where there is none, or several. No memory.
+pub(crate) fn one_column(name: &[u8], header: &Texts) -> Option<u32>
+    requires { length header.now ≤ 256 }
+    ensures { IsOneColumn name.now header.now result }
+{
+    let Some(column) = next_column(0, name, header) else {
+        return None;
+    };
+    if next_column(column + 1, name, header).is_some() {
+        return None;
+    }
+    Some(column as u32)
 }
 
 /// The first column, from this number on, whose text is the name.

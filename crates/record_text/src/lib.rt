@@ -20,4 +20,5 @@ pub use reading::read_records;
 pub use record_writer::RecordWriter;
 pub use sheet::{Sheet, SheetRows};
 pub use texts::Texts;
+pub use trim::trimmed;
 pub use writing::write_rows;

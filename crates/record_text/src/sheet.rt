@@ -1,6 +1,8 @@
 ghost use Rattle.std.specs.Prelude.{◌≡◌, ◌<◌, ◌≤◌, ◌==◌, [], length, slice_index, slice_index_or};
+ghost use Rattle.record_text.specs.Columns.{IsOneColumn};
 ghost use Rattle.record_text.specs.Sheets.{SheetParts};
 
+use crate::columns::one_column;
 use crate::texts::Texts;
 use edit_model::Row;
 use foundation::Sequence;
@@ -23,7 +25,7 @@ impl Model for Sheet {
 
     ghost view = { λ s. record { header = s.header; columns = s.columns.items; row_texts = s.row_texts.items; rows = s.rows.items } };
 
-    ghost invariant = { λ s. (length s.row_texts.items ≡ length s.rows.items) × (length s.rows.items ≤ 200000) };
+    ghost invariant = { λ s. (length s.row_texts.items ≡ length s.rows.items) × (length s.rows.items ≤ 200000) × (length s.header ≤ 256) };
 }
 
 /// The parts of a sheet: the header, the column of each field, and the texts and the values of its rows, in
@@ -37,7 +39,7 @@ pub struct SheetRows {
 }
 
 impl Sheet {
-    /// The sheet of these parts. There are as many `row_texts` as `rows`, and at most 200,000. No memory.
+    /// The sheet of these parts. There are as many `row_texts` as `rows`, and at most 200,000, and at most 256 columns. No memory.
     pub(crate) fn from_parts(
         header: Texts,
         columns: Vec<u32>,
@@ -46,6 +48,7 @@ impl Sheet {
     ) -> Sheet
         requires equal { length row_texts.items ≡ length rows.items }
         requires few { length rows.items ≤ 200000 }
+        requires few_columns { length header ≤ 256 }
         ensures { result ≡ record { header = header; columns = columns.items; row_texts = row_texts.items; rows = rows.items } }
     {
         Sheet {
@@ -101,6 +104,14 @@ impl Sheet {
         ensures { result ≡ slice_index self.now.columns field }
     {
         self.columns[field as usize]
+    }
+
+    /// The column, from 0, whose header text, without blanks at its ends, is the name. None where the name stands in no column, or
+    /// in several. No memory.
+    pub fn column_named(&self, name: &[u8]) -> Option<u32>
+        ensures { IsOneColumn name.now self.now.header result }
+    {
+        one_column(name, &self.header)
     }
 
     /// The column, from 0, of each field, in declared order. No memory.

@@ -5,8 +5,8 @@ ghost use Rattle.record_text.specs.Trimming.{is_blank, trimmed, without_end, wit
 /// The byte order mark, U+FEFF in UTF-8.
 const BYTE_ORDER_MARK: [u8; 3] = [0xEF, 0xBB, 0xBF];
 
-/// The text without spaces and tabs at both ends.
-pub(crate) fn trimmed(text: &[u8]) -> &[u8]
+/// The text without spaces and tabs at both ends. No memory.
+pub fn trimmed(text: &[u8]) -> &[u8]
     ensures { result.now ≡ trimmed text.now }
 {
     without_end(without_front(text))
