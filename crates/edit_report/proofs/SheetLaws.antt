@@ -4,7 +4,7 @@ use Rattle.std.specs.List.{AllByRecursion}
 use Rattle.std.proofs.lemmas.List.{get_or_default}
 use Rattle.edit_model.specs.declared.field.Field.{Field}
 use Rattle.record_text.specs.Sheets.{SheetParts, IsSheet}
-use Rattle.record_text.proofs.ColumnLaws.{columns_within, one_column_each}
+use Rattle.record_text.proofs.ColumnLaws.{one_column_each}
 use Rattle.record_text.proofs.FaultLaws.{faultless_parts, rows_equally_long}
 use Rattle.record_text.proofs.HeaderLaws.{header_length}
 use Rattle.edit_report.specs.Layouts.{IsLayout, LayoutParts}
@@ -12,10 +12,8 @@ use Rattle.edit_report.proofs.WrittenLaws.{each-at}
 
 -- where a sheet's fields stand
 pub sheet-layout : (fields : List Field) (bytes : List ℕ) (sheet : SheetParts) (layout : LayoutParts) → IsSheet fields bytes sheet → layout.width ≡ length sheet.header → layout.columns ≡ sheet.columns → IsLayout fields layout
-sheet-layout fields bytes sheet layout is width columns = record {
-  one_each = ap length columns ∙ one_column_each fields sheet.header sheet.columns is.columns;
-  within = rw (width, columns) (columns_within fields sheet.header sheet.columns is.columns);
-}
+sheet-layout fields bytes sheet layout is width columns =
+    record { one_each = ap length columns ∙ one_column_each fields sheet.header sheet.columns is.columns }
 
 -- the rows of a sheet are as long as its header
 pub raw-long : (fields : List Field) (bytes : List ℕ) (sheet : SheetParts) (i : ℕ) → IsSheet fields bytes sheet → i < length sheet.row_texts → length (get_or sheet.row_texts i []) ≡ length sheet.header

@@ -1,5 +1,5 @@
 -- Where the fields stand in the rows of a file.
-use Rattle.std.specs.Prelude.{◌≡◌, ◌<◌, ◌==◌, ℕ, All, List, Option, length, position}
+use Rattle.std.specs.Prelude.{◌≡◌, ◌==◌, ℕ, List, Option, length, position}
 use Rattle.edit_model.specs.declared.field.Field.{Field}
 
 -- the number of the field that stands in a column, if one does
@@ -11,7 +11,6 @@ pub record LayoutParts : Type 0 where
   pub width : ℕ
   pub columns : List ℕ
 
--- each field has a column of the rows
+-- each field has a column; one whose column is past those of the rows does not stand in them
 pub record IsLayout (fields : List Field) (layout : LayoutParts) : Type 0 where
   pub one_each : length layout.columns ≡ length fields
-  pub within : All (λ column. column < layout.width) layout.columns

@@ -74,10 +74,13 @@ detail_text fields (Contradictory cert) fault = []
 
 -- ---- the lines of a record
 
--- the line of a record that is not released
+-- the line of a record that is not released: its number, the cause, and the detail
+abbrev pub cause_line : ℕ → List ℕ → List ℕ → List (List ℕ)
+cause_line number cause detail = named number ∷ cause ∷ [] ∷ [] ∷ [] ∷ [] ∷ detail ∷ []
+
+-- the same by what was found
 abbrev pub unresolved_line : List Field → ℕ → RowProof → List (List ℕ)
-unresolved_line fields number found =
-    named number ∷ cause_text found.outcome ∷ [] ∷ [] ∷ [] ∷ [] ∷ detail_text fields found.outcome found.gift ∷ []
+unresolved_line fields number found = cause_line number (cause_text found.outcome) (detail_text fields found.outcome found.gift)
 
 -- the texts of the line of a changed field: the record's number, the field's name, the text that was read, that of the new
 -- value, the donor's number, and how the value was found

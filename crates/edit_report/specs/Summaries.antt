@@ -26,13 +26,19 @@ abbrev pub weight_of : List Field → RowEnd → ℕ
 weight_of fields end = path_weight fields (path_found end.proof.outcome)
 
 -- how many records there are, how many of each kind, and what the changes weigh together
+abbrev pub summary_words : ℕ → ℕ → ℕ → ℕ → ℕ → List ℕ
+summary_words records clean changed unresolved weight =
+    codes "records " ++ (decimal records
+    ++ (codes " clean " ++ (decimal clean
+    ++ (codes " changed " ++ (decimal changed
+    ++ (codes " unresolved " ++ (decimal unresolved
+    ++ (codes " weight " ++ decimal weight))))))))
+
+-- the line of these records
 abbrev pub summary_of : SurveyParts → List RowEnd → List ℕ
 summary_of survey ends =
-    codes "records " ++ (decimal (length ends)
-    ++ (codes " clean " ++ (decimal (length (filter keeps_all ends))
-    ++ (codes " changed " ++ (decimal (length (filter is_changed ends))
-    ++ (codes " unresolved " ++ (decimal (length (filter is_unresolved ends))
-    ++ (codes " weight " ++ decimal (sum_by (weight_of survey.fields) (filter is_changed ends))))))))))
+    summary_words (length ends) (length (filter keeps_all ends)) (length (filter is_changed ends))
+    (length (filter is_unresolved ends)) (sum_by (weight_of survey.fields) (filter is_changed ends))
 
 -- a claim that was given a donor
 abbrev pub has_donor : Entry → Bool

@@ -32,9 +32,21 @@ impl Layout {
         ensures width { IfOk result (λ layout. layout.width ≡ length sheet.now.header) }
         ensures columns { IfOk result (λ layout. layout.columns ≡ sheet.now.columns) }
     {
-        let fields = fields_of(alloc, sheet.columns(), sheet.header().len())?;
-        let columns = Sequence::from_vec(Vec::from_slice(alloc, sheet.columns())?);
-        Ok(Layout { columns, fields })
+        let columns = Vec::from_slice(alloc, sheet.columns())?;
+        Layout::of_columns(alloc, sheet.header().len(), columns)
+    }
+
+    /// The layout of rows of this width, with the column of each field. A field whose column is past the width does not stand in
+    /// the rows.
+    pub fn of_columns(alloc: Global, width: usize, columns: Vec<u32>) -> Result<Layout, OutOfMemory>
+        ensures width { IfOk result (λ layout. layout.width ≡ width) }
+        ensures columns { IfOk result (λ layout. layout.columns ≡ columns.items) }
+    {
+        let fields = fields_of(alloc, &columns, width)?;
+        Ok(Layout {
+            columns: Sequence::from_vec(columns),
+            fields,
+        })
     }
 
     /// The number of the field that stands in the column, if one does. No memory.

@@ -1,12 +1,12 @@
 //! The reasons file.
-ghost use Rattle.std.specs.Prelude.{◌≡◌, ◌<◌, ◌++◌, ◌∷◌, [], ℕ, List, IfOk, OnOk, length};
+ghost use Rattle.std.specs.Prelude.{◌≡◌, ◌<◌, ◌++◌, ◌∷◌, [], ℕ, List, IfOk, OnOk, length, slice_index_or};
 ghost use Rattle.record_text.specs.Sheets.{IsSheet};
 ghost use Rattle.record_text.specs.Texts.{records_text};
 ghost use Rattle.edit_model.specs.Rows.{IsRow};
 ghost use Rattle.edit_report.specs.Ends.{AreEnds, IsEnd, IsGift, path_found};
-ghost use Rattle.edit_report.specs.Reasons.{line_texts, donor_text, how_text, reasons_header, reasons_text_of, unresolved_line};
+ghost use Rattle.edit_report.specs.Reasons.{cause_line, donor_text, how_text, line_texts, reasons_header, reasons_of, reasons_text_of, unresolved_line};
 ghost use Rattle.edit_report.specs.Layouts.{IsLayout};
-ghost use Rattle.edit_report.specs.inner.Lines.{field_line, gift_lines, record_lines};
+ghost use Rattle.edit_report.specs.inner.Lines.{field_line, gift_lines};
 
 use crate::changed::{changed_fields, path_found};
 use crate::detail::{cause_text, detail_text, name_of, number_text};
@@ -22,10 +22,10 @@ use std::alloc::Global;
 
 /// A record: its number, from 0, its texts, and what became of it.
 #[derive(Drop)]
-struct Record<'a> {
-    number: u32,
-    read: &'a Texts,
-    end: &'a RowEnd,
+pub struct Record<'a> {
+    pub number: u32,
+    pub read: &'a Texts,
+    pub end: &'a RowEnd,
 }
 
 /// The bytes of the reasons file: its header, and then, in order, one line for each changed field of a
@@ -42,7 +42,7 @@ pub fn reasons_text(
 {
     let layout = Layout::of_sheet(alloc, sheet)?;
     let mut writer = RecordWriter::new(alloc);
-    push_header(&mut writer)?;
+    push_reasons_header(&mut writer)?;
     for row_no in 0..sheet.len() {
         let row = Record {
             number: row_no,
@@ -54,8 +54,8 @@ pub fn reasons_text(
     Ok(writer.into_bytes())
 }
 
-// Writes the header.
-fn push_header(writer: &mut RecordWriter) -> Result<(), OutOfMemory>
+/// Writes the header of the reasons file.
+pub fn push_reasons_header(writer: &mut RecordWriter) -> Result<(), OutOfMemory>
     ensures { OnOk result (writer.new ≡ writer.old ++ records_text (reasons_header ∷ [])) }
 {
     writer.push_slices(&[
@@ -63,8 +63,8 @@ fn push_header(writer: &mut RecordWriter) -> Result<(), OutOfMemory>
     ])
 }
 
-// Writes the lines of a record.
-fn push_reasons(
+/// Writes the lines of a record: one for each field that is changed, in path order, and one for a record that was given no values.
+pub fn push_reasons(
     alloc: Global,
     writer: &mut RecordWriter,
     survey: &Survey,
@@ -74,7 +74,8 @@ fn push_reasons(
     requires layout { IsLayout survey.now.fields layout.now }
     requires width { length row.now.read.now ≡ layout.now.width }
     requires end { IsEnd survey.now.fields row.now.end.now }
-    ensures { OnOk result (writer.new ≡ writer.old ++ records_text (record_lines survey.now.fields layout.now row.now)) }
+    ensures { OnOk result (writer.new ≡ writer.old ++ records_text
+        (reasons_of survey.now.fields layout.now.columns row.now.number row.now.read.now row.now.end.now)) }
 {
     match &row.end.gift {
         None => push_unresolved(alloc, writer, survey, row.number, &row.end.proof),
@@ -92,17 +93,22 @@ fn push_unresolved(
 ) -> Result<(), OutOfMemory>
     ensures { OnOk result (writer.new ≡ writer.old ++ records_text (unresolved_line survey.now.fields number found.now ∷ [])) }
 {
-    let number = number_text(alloc, number)?;
     let detail = detail_text(alloc, survey, found)?;
-    writer.push_slices(&[
-        &number,
-        cause_text(&found.outcome),
-        b"",
-        b"",
-        b"",
-        b"",
-        &detail,
-    ])
+    push_cause(alloc, writer, number, cause_text(&found.outcome), &detail)
+}
+
+/// Writes the line of a record that is not released for this cause. Its number is counted from 0.
+pub fn push_cause(
+    alloc: Global,
+    writer: &mut RecordWriter,
+    number: u32,
+    cause: &[u8],
+    detail: &[u8],
+) -> Result<(), OutOfMemory>
+    ensures { OnOk result (writer.new ≡ writer.old ++ records_text (cause_line number cause.now detail.now ∷ [])) }
+{
+    let number = number_text(alloc, number)?;
+    writer.push_slices(&[&number, cause, b"", b"", b"", b"", detail])
 }
 
 // Writes the lines of the fields that a record's path changes.
@@ -159,8 +165,19 @@ fn push_change(
     let after = text_at(alloc, survey, new, field)?;
     let donor = donor_text(alloc, row.end.donor)?;
     let name = name_of(survey, field);
-    let before = row.read.get(layout.column(field));
+    let before = text_in(row.read, layout.column(field));
     push_line(writer, &number, name, before, &after, &donor, how_text(how))
+}
+
+// The text of a column, nothing where there is no such column. No memory.
+fn text_in(texts: &Texts, column: usize) -> &[u8]
+    ensures { result.now ≡ slice_index_or texts.now column [] }
+{
+    if column < texts.len() {
+        texts.get(column)
+    } else {
+        &[]
+    }
 }
 
 // Writes a line of a changed field.

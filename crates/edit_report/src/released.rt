@@ -41,8 +41,8 @@ pub fn released_text(
     Ok(writer.into_bytes())
 }
 
-// Writes the row of a record that was given values, and none of another.
-fn push_released(
+/// Writes the row of a record that was given values, and none of another.
+pub fn push_released(
     alloc: Global,
     writer: &mut RecordWriter,
     survey: &Survey,

@@ -4,7 +4,7 @@ ghost use Rattle.std.specs.List.{AllByRecursion, filter, sum_by};
 ghost use Rattle.bound_cert.specs.Paths.{path_weight};
 ghost use Rattle.bound_cert.specs.Trees.{all_kept};
 ghost use Rattle.edit_report.specs.Ends.{IsEnd, path_found};
-ghost use Rattle.edit_report.specs.Summaries.{claims_of, is_changed, keeps_all, has_donor, is_unresolved, summary_lines, summary_of, weight_of};
+ghost use Rattle.edit_report.specs.Summaries.{claims_of, is_changed, keeps_all, has_donor, is_unresolved, summary_lines, summary_of, summary_words, weight_of};
 
 use crate::changed::{all_kept, path_found};
 use crate::end::RowEnd;
@@ -53,11 +53,25 @@ fn records_line(alloc: Global, survey: &Survey, ends: &[RowEnd]) -> Result<Vec<u
     requires { AllByRecursion (IsEnd survey.now.fields) ends.now }
     ensures { IfOk result (λ text. text.items ≡ summary_of survey.now ends.now) }
 {
-    let records = ends.len();
     let clean = ends.iter().filter(|end| is_clean(end)).count();
     let changed = ends.iter().filter(|end| is_changed(end)).count();
     let unresolved = ends.iter().filter(|end| end.gift.is_none()).count();
     let weight = weight_of_changes(survey, ends);
+    summary_line(alloc, ends.len(), clean, changed, unresolved, weight)
+}
+
+/// A line without its line feed: how many records there are, how many of them are clean, changed and not resolved, and the sum of
+/// the weights of the changed ones.
+pub fn summary_line(
+    alloc: Global,
+    records: usize,
+    clean: usize,
+    changed: usize,
+    unresolved: usize,
+    weight: u128,
+) -> Result<Vec<u8>, OutOfMemory>
+    ensures { IfOk result (λ text. text.items ≡ summary_words records clean changed unresolved weight) }
+{
     Ok(format!(in alloc;
         "records {records} clean {clean} changed {changed} unresolved {unresolved} weight {weight}"
     )?.into_bytes())

@@ -4,13 +4,9 @@ use Rattle.edit_model.specs.declared.field.Field.{Field}
 use Rattle.edit_model.specs.declared.value.Value.{Value}
 use Rattle.back_subst.specs.declared.gift.Gift.{Gift}
 use Rattle.back_subst.specs.declared.gift.How.{How}
-use Rattle.edit_report.specs.Reasons.{changed_line, lines_with, reasons_of}
+use Rattle.edit_report.specs.Reasons.{changed_line, lines_with}
 use Rattle.edit_report.specs.declared.reasons.Record.{Record}
 use Rattle.edit_report.specs.Layouts.{LayoutParts}
-
--- the lines of a record
-abbrev pub record_lines : List Field → LayoutParts → Record → List (List (List ℕ))
-record_lines fields layout r = reasons_of fields layout.columns r.number r.read.now r.end.now
 
 -- the lines of a record that was given values
 abbrev pub gift_lines : List Field → LayoutParts → Record → Gift → List (List (List ℕ))

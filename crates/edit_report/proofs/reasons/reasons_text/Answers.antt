@@ -8,7 +8,7 @@ use Rattle.edit_report.proofs.reasons.reasons_text.Goals as goal
 
 pub loop-row_no-init : goal.loop-row_no-init
 loop-row_no-init c =
-    rw (c.in_ok-push_header.ensures, c.new-writer.ensures)
+    rw (c.in_ok-push_reasons_header.ensures, c.new-writer.ensures)
     (sym (records_text-append (reasons_header ∷ []) (reasons_from c.args.survey.now.fields c.args.sheet.now.columns 0 c.args.sheet.now.row_texts c.args.ends.now)))
 
 pub push_reasons-requires-clause-layout : goal.push_reasons-requires-clause-layout

@@ -1,4 +1,4 @@
-use Rattle.std.proofs.Common.{Global, Vec, ap, length, rules, tests, ◌∙◌, ◌≡◌, ℕ}
+use Rattle.std.proofs.Common.{length, rules, tests, ◌≡◌}
 use Rattle.std.specs.List.{filter}
 use Rattle.std.proofs.lemmas.Iterator.{YieldsList-from_slice}
 use Rattle.std.proofs.lemmas.Iterator.Consumers.{YieldsList-from_filter, count_from_yields_List}
@@ -13,4 +13,4 @@ returns c =
     count_from_yields_List c.filter-2.result c.count-changed.result c.count-changed.ensures.ran (YieldsList-from_filter _ is_changed (YieldsList-from_slice c.args.ends.now (cc)) c.filter-2.ensures.closure (λ x b q k. search (rules, tests))) in
     let unresolved : c.count-unresolved.result ≡ length (filter is_unresolved c.args.ends.now) =
     count_from_yields_List c.filter-3.result c.count-unresolved.result c.count-unresolved.ensures.ran (YieldsList-from_filter _ is_unresolved (YieldsList-from_slice c.args.ends.now (cc)) c.filter-3.ensures.closure (λ x b q k. search (rules, tests))) in
-    rw (← clean, ← changed, ← unresolved, ← c.weight_of_changes-weight.ensures) (ap (λ (v : Vec ℕ Global). v.items) c.into_bytes.ensures.value ∙ c.in_ok-format.ensures.ok)
+    rw (← clean, ← changed, ← unresolved, ← c.weight_of_changes-weight.ensures) c.summary_line.ensures
