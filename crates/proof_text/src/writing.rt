@@ -1,9 +1,10 @@
 //! A proof as the bytes of a file.
 ghost use Rattle.std.specs.Prelude.{◌≡◌, ◌++◌, IfOk, OnOk};
 ghost use Rattle.proof_grammar.specs.FirstFaults.{IsOnlyOf};
-ghost use Rattle.proof_grammar.specs.Limits.{AreFit, IsEntry, IsLong, IsPlain, IsShort};
+ghost use Rattle.proof_grammar.specs.Limits.{AreFit, IsEntry, IsLong, IsPlain, IsRowProof, IsShort};
 ghost use Rattle.proof_grammar.specs.ProofLines.{proof_text};
 ghost use Rattle.proof_grammar.specs.Sizes.{IsSized, IsSizedRow, IsSizedTable, IsSizedVerdict};
+ghost use Rattle.proof_text.specs.RowTexts.{IsOnlyRow, row_text};
 ghost use Rattle.proof_text.specs.inner.Texts.{claims_text, limits_text, parts_text, rows_text, table_text, verdict_text, verdicts_text, version_text};
 
 mod claims;
@@ -34,6 +35,18 @@ pub fn write_proof(alloc: Global, proof: &Proof) -> Result<Vec<u8>, OutOfMemory>
 {
     let mut text = Vec::new(alloc);
     write_parts(&mut text, proof)?;
+    Ok(text)
+}
+
+/// The text of a row: its head and its leaves, as a proof file without a table has them. No other plain row has the text of a plain
+/// one. Each number that the text says is one of its type, and each list is counted by 64 bits.
+pub fn row_text(alloc: Global, row: &RowProof) -> Result<Vec<u8>, OutOfMemory>
+    ensures text { IfOk result (λ text. text.items ≡ row_text row.now) }
+    ensures only { IfOk result (λ text. IsRowProof row.now → IsOnlyRow text.items row.now) }
+    ensures sized { IfOk result (λ text. IsSizedRow row.now) }
+{
+    let mut text = Vec::new(alloc);
+    write_row(&mut text, None, row)?;
     Ok(text)
 }
 
