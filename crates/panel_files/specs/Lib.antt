@@ -1,0 +1,4 @@
+pub mod Joined
+pub mod KeyRows
+pub mod LastFields
+pub mod inner

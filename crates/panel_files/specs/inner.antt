@@ -1,0 +1,3 @@
+pub mod Joining
+pub mod KeyEntries
+pub mod LastBelow

@@ -1,0 +1,106 @@
+//! The values of two files as one row.
+ghost use Rattle.std.specs.Prelude.{◌≡◌, ◌<◌, ◌≤◌, ◌-◌, IfOk, IfSome, IsTrue, false, if◌then◌else◌, length, map, slice_index_or};
+ghost use Rattle.std.specs.Option.{option_map_or};
+ghost use Rattle.edit_model.specs.Rows.{IsRow};
+ghost use Rattle.panel_files.specs.Joined.{both_columns, joined};
+ghost use Rattle.panel_files.specs.LastFields.{flags_of, last_fields, own_fields};
+
+use edit_model::{Field, FieldSet, Row, Survey, Value};
+use foundation::OutOfMemory;
+use std::alloc::Global;
+
+/// The record of the values of both files: `own` has those of the fields outside of the set, and `last` those of the fields of
+/// the set, where no `last` says that they are all Bad.
+pub fn both_values(
+    alloc: Global,
+    survey: &Survey,
+    set: FieldSet,
+    own: &Row,
+    last: Option<&Row>,
+) -> Result<Row, OutOfMemory>
+    requires own { IsRow (own_fields survey.now.fields set) own.now }
+    requires last { IfSome last (λ row. IsRow (last_fields survey.now.fields set) row.now) }
+    ensures values { IfOk result (λ both. both ≡ joined (flags_of set survey.now.fields) own.now
+        (option_map_or (λ row. row.now) last.entry (map (λ field. Value.Bad) (last_fields survey.now.fields set)))) }
+    ensures row { IfOk result (λ both. IsRow survey.now.fields both) }
+{
+    let values = joined_values(alloc, survey.fields(), set, own.values(), last)?;
+    Ok(Row::new(survey, values))
+}
+
+// The values of all fields.
+fn joined_values(
+    alloc: Global,
+    fields: &[Field],
+    set: FieldSet,
+    own: &[Value],
+    last: Option<&Row>,
+) -> Result<Vec<Value>, OutOfMemory>
+    requires few { length fields.now ≤ 64 }
+    requires own { length own.now ≡ length (own_fields fields.now set) }
+    requires last { IfSome last (λ row. length row.now ≡ length (last_fields fields.now set)) }
+    ensures { IfOk result (λ both. both.items ≡ joined (flags_of set fields.now) own.now
+        (option_map_or (λ row. row.now) last.entry (map (λ field. Value.Bad) (last_fields fields.now set)))) }
+{
+    match last {
+        Some(row) => join(alloc, fields, set, own, row.values()),
+        None => {
+            let missing = vec![in alloc; Value::Bad; fields.len() - own.len()]?;
+            join(alloc, fields, set, own, &missing)
+        }
+    }
+}
+
+/// The column of each field in the rows of the records: those of the fields outside of the set are `columns`, and each field of the
+/// set has the column `past`.
+pub fn both_columns(
+    alloc: Global,
+    survey: &Survey,
+    set: FieldSet,
+    columns: &[u32],
+    past: u32,
+) -> Result<Vec<u32>, OutOfMemory>
+    requires { length columns.now ≡ length (own_fields survey.now.fields set) }
+    ensures { IfOk result (λ both. both.items ≡ both_columns survey.now.fields set columns.now past) }
+{
+    let fields = survey.fields();
+    let pasts = vec![in alloc; past; fields.len() - columns.len()]?;
+    join(alloc, fields, set, columns, &pasts)
+}
+
+// Both lists as one: at each field of the set the next of the last ones, and at every other field the next of the own ones.
+fn join<T: Copy>(
+    alloc: Global,
+    fields: &[Field],
+    set: FieldSet,
+    own: &[T],
+    last: &[T],
+) -> Result<Vec<T>, OutOfMemory>
+    requires few { length fields.now ≤ 64 }
+    requires own { length own.now ≡ length (own_fields fields.now set) }
+    requires last { length last.now ≡ length (last_fields fields.now set) }
+    ensures { IfOk result (λ both. both.items ≡ joined (flags_of set fields.now) own.now last.now) }
+{
+    let mut both = Vec::with_capacity(alloc, fields.len())?;
+    let mut taken = 0; // of the last ones
+    for number in 0..fields.len() {
+        let is_last = set.has(number as u32);
+        both.push(element(own, last, number, taken, is_last))?;
+        taken += usize::from(is_last);
+    }
+    Ok(both)
+}
+
+// The element of the field of this number, where so many of the last ones are taken before it.
+fn element<T: Copy>(own: &[T], last: &[T], number: usize, taken: usize, is_last: bool) -> T
+    requires fewer { taken ≤ number }
+    requires in_last { IsTrue is_last → taken < length last.now }
+    requires in_own { is_last ≡ false → number - taken < length own.now }
+    ensures { result ≡ (if is_last then slice_index_or last.now taken result else slice_index_or own.now (number - taken) result) }
+{
+    if is_last {
+        last[taken]
+    } else {
+        own[number - taken]
+    }
+}

@@ -1,0 +1,138 @@
+//! Which fields are last fields, which row has a key, and rows that are joined. What is expected was worked out by hand.
+ghost use Rattle.std.specs.Prelude.{IfOk, IfSome};
+ghost use Rattle.edit_model.specs.Rows.{IsRow};
+
+use crate::{KeyTable, both_columns, both_values, last_set, last_survey, own_survey};
+use edit_model::{Field, Kind, Name, Row, Survey};
+use record_text::read_records;
+use std::alloc::Global;
+use std::test::Fail;
+
+/// Names of fields, and whether they are those of last fields.
+const NAMES: &[(&[u8], bool)] = &[
+    (b"last_", false),
+    (b"last_1", false),
+    (b"last_number", false),
+    (b"A", false),
+    (b"last_A", true),
+    (b"last_last_A", true),
+];
+
+// The survey of numerical fields with these names.
+fn survey_of(alloc: Global, names: &[&[u8]]) -> Result<Survey, Fail> {
+    let mut fields = Vec::new(alloc);
+    for name in names {
+        fields.push(Field {
+            name: Name::new(name).ok_or("no name")?,
+            weight: 1,
+            kind: Kind::Number { scale: 1 },
+        })?;
+    }
+    Ok(Survey::new(alloc, fields, Vec::new(alloc))?)
+}
+
+#[test]
+fn a_last_field_has_a_name_behind_last(rt: HostRuntime) -> Result<(), Fail> {
+    for (name, is_last) in NAMES {
+        let survey = survey_of(rt.alloc(), &[*name])?;
+        assert_eq!(rt; last_set(&survey).has(0), *is_last);
+    }
+    Ok(())
+}
+
+/// A file of keys: one stands once, one twice and one three times, with blanks around.
+const KEY_FILE: &[u8] = b"id\n7\n 8 \n9\n8\n10\t\n9\n\t9\n";
+
+/// Keys, and the rows that alone have them.
+const KEYS: &[(&[u8], Option<u32>)] = &[
+    (b"7", Some(0)),
+    (b"8", None),
+    (b"9", None),
+    (b"10", Some(4)),
+    (b"10\t", None),
+    (b"11", None),
+];
+
+// The table of a file whose keys stand under `id`.
+fn table_of(alloc: Global, bytes: &[u8]) -> Result<KeyTable, Fail> {
+    let survey = survey_of(alloc, &[])?;
+    let sheet = read_records(alloc, &survey, bytes)?;
+    match sheet.column_named(b"id") {
+        Some(column) => Ok(KeyTable::of(alloc, &sheet, column)?),
+        None => Err("no column".into()),
+    }
+}
+
+#[test]
+fn a_key_has_a_row_where_one_row_has_it(rt: HostRuntime) -> Result<(), Fail> {
+    let table = table_of(rt.alloc(), KEY_FILE)?;
+    for (key, row) in KEYS {
+        assert_eq!(rt; table.row_of(key), *row);
+    }
+    Ok(())
+}
+
+/// The fields of a survey of which two are last fields.
+const FIELDS: &[&[u8]] = &[b"A", b"last_A", b"last_B", b"C"];
+
+/// A file of the records, one of the last period, and one in which both stand in one row.
+const FILES: &[(&[u8], &[u8], &[u8])] = &[
+    (
+        b"C,A\n5,50\n",
+        b"B,A\n3,10\n",
+        b"A,last_A,last_B,C\n50,10,3,5\n",
+    ),
+    (b"C,A\n5,50\n", b"B,A\n", b"A,last_A,last_B,C\n50,,,5\n"),
+];
+
+// The first row of a file with these fields, where there is one.
+fn first_of(alloc: Global, survey: &Survey, bytes: &[u8]) -> Result<Option<Row>, Fail>
+    ensures { IfOk result (λ row. IfSome row (IsRow survey.now.fields)) }
+{
+    let sheet = read_records(alloc, survey, bytes)?;
+    if sheet.is_empty() {
+        return Ok(None);
+    }
+    Ok(Some(sheet.row(0).copy(alloc)?))
+}
+
+// The first row of the records, and that of the last period, as one.
+fn first_of_both(alloc: Global, survey: &Survey, own: &[u8], last: &[u8]) -> Result<Row, Fail> {
+    let set = last_set(survey);
+    let own_survey = own_survey(alloc, survey, set)?;
+    let last_survey = last_survey(alloc, survey, set)?;
+    let last = first_of(alloc, &last_survey, last)?;
+    match first_of(alloc, &own_survey, own)? {
+        Some(own) => Ok(both_values(alloc, survey, set, &own, last.as_ref())?),
+        None => Err("no row".into()),
+    }
+}
+
+#[test]
+fn rows_are_joined_field_by_field(rt: HostRuntime) -> Result<(), Fail> {
+    let survey = survey_of(rt.alloc(), FIELDS)?;
+    for (own, last, whole) in FILES {
+        let both = first_of_both(rt.alloc(), &survey, own, last)?;
+        let row = first_of(rt.alloc(), &survey, whole)?.ok_or("no row")?;
+        assert_eq!(rt; both.values(), row.values());
+    }
+    Ok(())
+}
+
+// The columns of all fields, where the own ones stand in the first columns in order.
+fn columns_of(alloc: Global, survey: &Survey, columns: &[u32]) -> Result<Vec<u32>, Fail> {
+    let set = last_set(survey);
+    let own = own_survey(alloc, survey, set)?;
+    if own.fields().len() != columns.len() {
+        return Err("not as many columns as fields".into());
+    }
+    Ok(both_columns(alloc, survey, set, columns, 9)?)
+}
+
+#[test]
+fn last_fields_stand_past_the_columns(rt: HostRuntime) -> Result<(), Fail> {
+    let survey = survey_of(rt.alloc(), FIELDS)?;
+    let columns = columns_of(rt.alloc(), &survey, &[1, 0])?;
+    assert_eq!(rt; columns.as_slice(), [1, 9, 9, 0].as_slice());
+    Ok(())
+}
