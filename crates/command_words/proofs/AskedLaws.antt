@@ -3,7 +3,8 @@ use Rattle.std.proofs.Common.{◌≡◌, ◌≢◌, ◌∙◌, ◌≤◌, ℕ, O
 use Rattle.std.specs.Prelude.{IfNone, IfSome}
 use Rattle.clap.specs.Words.{App, Row, fault_of, matches_of}
 use Rattle.clap.specs.declared.parser.matches.ArgMatches.{ArgMatches}
-use Rattle.command_words.specs.Asked.{CheckAsked, EditAsked, FillAsked, GivesCheck, GivesEdit, GivesFill, GivesMake, GivesRules, IsCommand, MakeAsked, RulesAsked}
+use Rattle.command_words.specs.Asked.{CheckAsked, EditAsked, FillAsked, GivesCheck, GivesEdit, GivesFill, GivesMake, GivesPanel, GivesRules, IsCommand}
+use Rattle.command_words.specs.Asked.{MakeAsked, PanelAsked, RulesAsked}
 use Rattle.command_words.specs.Options.{GivesNumber}
 use Rattle.command_words.specs.inner.Found.{Takes, rows_in}
 
@@ -79,6 +80,23 @@ pub one_fill : (found : List Row) (a b : FillAsked) → GivesFill found a → Gi
 one_fill found a b p q =
     same_fill _ _ _ _ _ _ _ _ (one_text _ _ _ p.rules q.rules) (one_text _ _ _ p.records q.records)
     (one_text _ _ _ p.released q.released) (one_number _ _ _ _ _ _ p.budget q.budget)
+
+-- an editing of these files with the last period's, joined by this column, within this budget
+abbrev pub panel_of : List ℕ → List ℕ → List ℕ → List ℕ → List ℕ → List ℕ → List ℕ → ℕ → PanelAsked
+panel_of r c l d s p k budget =
+    record { rules = r; records = c; last = l; released = d; reasons = s; proof = p; key = k; budget = budget }
+
+same_panel : (r c l d s p k r' c' l' d' s' p' k' : List ℕ) (b b' : ℕ) → r ≡ r' → c ≡ c' → l ≡ l' → d ≡ d' → s ≡ s' → p ≡ p' → k ≡ k'
+    → b ≡ b' → panel_of r c l d s p k b ≡ panel_of r' c' l' d' s' p' k' b'
+same_panel r c l d s p k r' c' l' d' s' p' k' b b' er ec el ed es ep ek eb = cc
+
+-- and one such editing
+pub one_panel : (found : List Row) (a b : PanelAsked) → GivesPanel found a → GivesPanel found b → a ≡ b
+one_panel found a b p q =
+    same_panel _ _ _ _ _ _ _ _ _ _ _ _ _ _ _ _
+    (one_text _ _ _ p.rules q.rules) (one_text _ _ _ p.records q.records) (one_text _ _ _ p.last q.last)
+    (one_text _ _ _ p.released q.released) (one_text _ _ _ p.reasons q.reasons) (one_text _ _ _ p.proof q.proof)
+    (one_text _ _ _ p.key q.key) (one_number _ _ _ _ _ _ p.budget q.budget)
 
 -- a survey that is made in these files, from this start, with so many records
 abbrev pub make_of : List ℕ → List ℕ → ℕ → ℕ → MakeAsked

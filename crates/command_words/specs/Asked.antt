@@ -136,6 +136,49 @@ pub record GivesFill (found : List Row) (asked : FillAsked) : Type 0 where
 abbrev pub IsFill : List (List ℕ) → FillAsked → Type 0
 IsFill words asked = IsCommand fill_command words (λ found. GivesFill found asked)
 
+-- ---- panel
+
+-- the files that the command `panel` names: the rules, the records, the file of the last period, what is released of the records, the
+-- reasons for that, and the proof; the name of the column by which the rows of both periods are joined; and the most work that may be
+-- spent on one record
+pub record PanelAsked : Type 0 where
+  pub rules : List ℕ
+  pub records : List ℕ
+  pub last : List ℕ
+  pub released : List ℕ
+  pub reasons : List ℕ
+  pub proof : List ℕ
+  pub key : List ℕ
+  pub budget : ℕ
+
+-- the options of the command: six that name files and one that names a column, which have to stand, and one that gives a number
+abbrev pub panel_command : App
+panel_command = command_with (codes "panel") (
+    must_stand (codes "rules") ∷ must_stand (codes "records") ∷ must_stand (codes "last") ∷ must_stand (codes "released")
+    ∷ must_stand (codes "reasons") ∷ must_stand (codes "proof") ∷ must_stand (codes "key") ∷ may_stand (codes "budget") ∷ [])
+
+-- the names of the six files
+abbrev pub panel_files_in : PanelAsked → List (List ℕ)
+panel_files_in asked = asked.rules ∷ asked.records ∷ asked.last ∷ asked.released ∷ asked.reasons ∷ asked.proof ∷ []
+
+-- what is found are six names of files, no two of which lead to one file; a column's name, which may be any text; and a budget from 1 to
+-- 1,000,000,000, or 1,000,000
+pub record GivesPanel (found : List Row) (asked : PanelAsked) : Type 0 where
+  pub rules : first_of (codes "rules") found ≡ Some asked.rules
+  pub records : first_of (codes "records") found ≡ Some asked.records
+  pub last : first_of (codes "last") found ≡ Some asked.last
+  pub released : first_of (codes "released") found ≡ Some asked.released
+  pub reasons : first_of (codes "reasons") found ≡ Some asked.reasons
+  pub proof : first_of (codes "proof") found ≡ Some asked.proof
+  pub key : first_of (codes "key") found ≡ Some asked.key
+  pub budget : GivesNumber 1000000 1 most_work (first_of (codes "budget") found) asked.budget
+  pub apart : AreApart (panel_files_in asked)
+
+-- the words ask that records are edited with those of the last period: they are the command, and what is found gives its files, its
+-- column and its budget
+abbrev pub IsPanel : List (List ℕ) → PanelAsked → Type 0
+IsPanel words asked = IsCommand panel_command words (λ found. GivesPanel found asked)
+
 -- ---- make
 
 -- the files that the command `make` names, the number that its records follow from, and how many records there are
@@ -171,6 +214,7 @@ pub record IsNoCommand (words : List (String Global)) : Type 0 where
   pub no_check : (asked : CheckAsked) → ¬ IsCheck (map string_bytes words) asked
   pub no_rules : (asked : RulesAsked) → ¬ IsRules (map string_bytes words) asked
   pub no_fill : (asked : FillAsked) → ¬ IsFill (map string_bytes words) asked
+  pub no_panel : (asked : PanelAsked) → ¬ IsPanel (map string_bytes words) asked
   pub no_make : (asked : MakeAsked) → ¬ IsMake (map string_bytes words) asked
 
 -- whatever edit the words ask for, the claim holds of it
@@ -188,6 +232,10 @@ ForRules words P = (asked : RulesAsked) → IsRules (map string_bytes words) ask
 -- whatever filling the words ask for, the claim holds of it
 abbrev pub ForFill : List (String Global) → (FillAsked → Type 0) → Type 0
 ForFill words P = (asked : FillAsked) → IsFill (map string_bytes words) asked → P asked
+
+-- whatever editing with the last period the words ask for, the claim holds of it
+abbrev pub ForPanel : List (String Global) → (PanelAsked → Type 0) → Type 0
+ForPanel words P = (asked : PanelAsked) → IsPanel (map string_bytes words) asked → P asked
 
 -- whatever survey the words ask for, the claim holds of it
 abbrev pub ForMake : List (String Global) → (MakeAsked → Type 0) → Type 0

@@ -1,0 +1,146 @@
+ghost use Rattle.std.specs.Prelude.{◌≡◌, ◌↔◌, ◌∷◌, [], IfOk, IfSome, IfNone, IsTrue, map, string_bytes};
+ghost use Rattle.clap.specs.Words.{app_of};
+ghost use Rattle.command_words.specs.Asked.{PanelAsked, GivesPanel, IsPanel, panel_command};
+ghost use Rattle.command_words.specs.FileNames.{AreApart};
+ghost use Rattle.command_words.specs.inner.Found.{rows_in};
+
+use crate::file_names::{is_apart_from, lead_to_one};
+use crate::options::{
+    BUDGET, LEAST_BUDGET, MOST_BUDGET, command_named, found_in, number_in, optional, required,
+    text_in, words_behind,
+};
+use clap::{ArgMatches, Command};
+use foundation::OutOfMemory;
+use std::alloc::Global;
+use std::marker::Model;
+
+/// What the command `panel` was asked for. No two names of files lead to one file; the column's name is not compared with
+/// them.
+#[derive(Debug, Drop)]
+pub struct PanelWords<'a> {
+    /// The file of the rules.
+    pub rules: &'a str,
+    /// The file of the records.
+    pub records: &'a str,
+    /// The file of the last period.
+    pub last: &'a str,
+    /// The file that the released records go to.
+    pub released: &'a str,
+    /// The file that the reasons go to.
+    pub reasons: &'a str,
+    /// The file that the proof goes to.
+    pub proof: &'a str,
+    /// The name of the column by which the rows of both periods are joined.
+    pub key: &'a str,
+    /// The most work on one record, from 1 to 1,000,000,000.
+    pub budget: u64,
+}
+
+impl<'a> Model for PanelWords<'a> {
+    ghost use Rattle.std.specs.Prelude.{◌≤◌, ◌∷◌, []};
+    ghost use Rattle.foundation.specs.Limits.{most_work};
+    ghost use Rattle.command_words.specs.Asked.{PanelAsked};
+    ghost use Rattle.command_words.specs.FileNames.{AreApart};
+
+    ghost Value = { PanelAsked };
+
+    ghost view = { λ w. record {
+      rules = w.rules.now;
+      records = w.records.now;
+      last = w.last.now;
+      released = w.released.now;
+      reasons = w.reasons.now;
+      proof = w.proof.now;
+      key = w.key.now;
+      budget = w.budget;
+    } };
+
+    ghost invariant = { λ w.
+        AreApart (w.rules.now ∷ w.records.now ∷ w.last.now ∷ w.released.now ∷ w.reasons.now ∷ w.proof.now ∷ [])
+        × (1 ≤ w.budget) × (w.budget ≤ most_work) };
+}
+
+/// Reads the words after the program's name as the command `panel` with the options `--rules`, `--records`, `--last`,
+/// `--released`, `--reasons` and `--proof`, each with a file's name, `--key`, with a column's name, and `--budget`, with a
+/// number of 1 to 10 digits, which may be left out: it is 1,000,000 then. The options stand as `clap` takes them, and no
+/// two of the six names of files lead to one file, as far as the names show it. What is asked for is all that the words
+/// can be read as, and there is None exactly where they are no such command.
+pub fn panel_asked<'a>(
+    alloc: Global,
+    words: &'a [String],
+) -> Result<Option<PanelWords<'a>>, OutOfMemory>
+    ensures some { IfOk result (λ asked. IfSome asked (IsPanel (map string_bytes words.entry.now))) }
+    ensures only { IfOk result (λ asked. IfSome asked
+        (λ one. (other : PanelAsked) → IsPanel (map string_bytes words.entry.now) other → other ≡ one)) }
+    ensures none { IfOk result (λ asked. IfNone asked ((one : PanelAsked) → ¬ IsPanel (map string_bytes words.entry.now) one)) }
+{
+    let Some(others) = words_behind("panel", words) else {
+        return Ok(None);
+    };
+    let Some(found) = found_in(command(alloc)?, others)? else {
+        return Ok(None);
+    };
+    Ok(panel_of(&found))
+}
+
+// The command and its options.
+fn command<'a>(alloc: Global) -> Result<Command<'a>, OutOfMemory>
+    ensures { IfOk result (λ command. app_of command ≡ panel_command) }
+{
+    let command = command_named(alloc, "panel")
+        .arg(required(alloc, "rules"))?
+        .arg(required(alloc, "records"))?
+        .arg(required(alloc, "last"))?
+        .arg(required(alloc, "released"))?
+        .arg(required(alloc, "reasons"))?
+        .arg(required(alloc, "proof"))?
+        .arg(required(alloc, "key"))?
+        .arg(optional(alloc, "budget"))?;
+    Ok(command)
+}
+
+// What is asked for by what was found for the options.
+fn panel_of<'a>(found: &ArgMatches<'a>) -> Option<PanelWords<'a>>
+    ensures some { IfSome result (GivesPanel (rows_in found.now)) }
+    ensures none { IfNone result ((asked : PanelAsked) → ¬ GivesPanel (rows_in found.now) asked) }
+{
+    let rules = text_in(found, "rules")?;
+    let records = text_in(found, "records")?;
+    let last = text_in(found, "last")?;
+    let released = text_in(found, "released")?;
+    let reasons = text_in(found, "reasons")?;
+    let proof = text_in(found, "proof")?;
+    let key = text_in(found, "key")?;
+    let budget = number_in(found, "budget", BUDGET, LEAST_BUDGET, MOST_BUDGET)?;
+    if !are_apart(rules, records, last, released, reasons, proof) {
+        return None;
+    }
+    Some(PanelWords {
+        rules,
+        records,
+        last,
+        released,
+        reasons,
+        proof,
+        key,
+        budget,
+    })
+}
+
+// Whether no two of the names lead to one file.
+fn are_apart(
+    rules: &str,
+    records: &str,
+    last: &str,
+    released: &str,
+    reasons: &str,
+    proof: &str,
+) -> bool
+    ensures { IsTrue result ↔ AreApart (rules.now ∷ records.now ∷ last.now ∷ released.now ∷ reasons.now ∷ proof.now ∷ []) }
+{
+    is_apart_from(rules, &[records, last, released, reasons, proof])
+        && is_apart_from(records, &[last, released, reasons, proof])
+        && is_apart_from(last, &[released, reasons, proof])
+        && is_apart_from(released, &[reasons, proof])
+        && !lead_to_one(reasons, proof)
+}
