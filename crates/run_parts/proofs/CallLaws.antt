@@ -4,14 +4,11 @@ use Rattle.std.specs.Prelude.{⊤}
 use Rattle.std.proofs.Math.Seq.{take-append-add}
 use Rattle.run_parts.specs.Refused.{check_fault}
 use Rattle.edit_desk.specs.Desk.{Asked, PutsOnRecord, failing, fetched, stored}
-use Rattle.edit_model.specs.declared.field.Field.{Field}
-use Rattle.record_text.specs.declared.fault.SheetFault.{SheetFault}
-use Rattle.record_text.specs.declared.fault.SheetFault.TheVariants as sheet
 use Rattle.cert_check.specs.declared.fault.CheckFault.{CheckFault}
 use Rattle.cert_check.specs.declared.fault.CheckFault.TheVariants as check
-use Rattle.run_parts.specs.Faults.{IsOfEdit, IsOfInput, IsOfStores, sheet_refusal}
+use Rattle.run_parts.specs.Faults.{IsOfEdit, IsOfInput, IsOfStores}
 use Rattle.run_parts.specs.Run.{AreCallsTo, CallsEndAt}
-use Rattle.run_parts.specs.Parts.{AreCallsOf, IsOfFetch, IsOfRecords, IsOfRules, faults_after}
+use Rattle.run_parts.specs.Parts.{AreCallsOf, IsOfFetch, IsOfLast, IsOfRecords, IsOfRules, faults_after}
 use Rattle.run_parts.specs.declared.fault.Fault.{Fault}
 use Rattle.run_parts.specs.declared.fault.Fault.TheVariants as fault
 use Rattle.run_parts.proofs.ToldLaws.{less-told, then-told}
@@ -116,7 +113,19 @@ records-calls first name rest calls (fault.TooLong n) kind h = calls-between (fe
 records-calls first name rest calls fault.OutOfMemory kind h = calls-between (fetched first ∷ []) (fetched name ∷ []) rest calls fault.OutOfMemory tt h
 records-calls first name rest calls f kind h = absurd kind
 
--- and of both, whatever is called behind them
+-- and of the file of the last period, which is fetched third
+pub last-calls : (first second name : List ℕ) (rest calls : List Asked) (f : Fault) → IsOfLast name f → AreCallsTo (fetched name ∷ []) f calls
+    → AreCallsTo (fetched first ∷ fetched second ∷ fetched name ∷ rest) f (fetched first ∷ fetched second ∷ calls)
+last-calls first second name rest calls (fault.Last what) kind h = ap (λ (l : List Asked). fetched first ∷ fetched second ∷ l) h
+last-calls first second name rest calls (fault.Read n) kind h =
+    calls-between (fetched first ∷ fetched second ∷ []) (fetched name ∷ []) rest calls (fault.Read n) tt h
+last-calls first second name rest calls (fault.TooLong n) kind h =
+    calls-between (fetched first ∷ fetched second ∷ []) (fetched name ∷ []) rest calls (fault.TooLong n) tt h
+last-calls first second name rest calls fault.OutOfMemory kind h =
+    calls-between (fetched first ∷ fetched second ∷ []) (fetched name ∷ []) rest calls fault.OutOfMemory tt h
+last-calls first second name rest calls f kind h = absurd kind
+
+-- and of the rules and the records, whatever is called behind them
 pub input-calls : (rules records : List ℕ) (rest calls : List Asked) (f : Fault) → IsOfInput f
     → AreCallsTo (fetched rules ∷ fetched records ∷ []) f calls → AreCallsTo (fetched rules ∷ fetched records ∷ rest) f calls
 input-calls rules records rest calls (fault.Rules line k) kind h = h
@@ -128,21 +137,6 @@ input-calls rules records rest calls (fault.TooLong n) kind h =
 input-calls rules records rest calls fault.OutOfMemory kind h =
     calls-between [] (fetched rules ∷ fetched records ∷ []) rest calls fault.OutOfMemory tt h
 input-calls rules records rest calls f kind h = absurd kind
-
--- the one call of a file of records that was fetched and not read
-as-sheet : (fields : List Field) (name : List ℕ) (told : SheetFault) → AreCallsTo (fetched name ∷ []) (sheet_refusal fields told) (fetched name ∷ [])
-as-sheet fields name sheet.OutOfMemory = (1, refl)
-as-sheet fields name sheet.NoHeader = refl
-as-sheet fields name sheet.TooManyColumns = refl
-as-sheet fields name (sheet.NoColumn n) = refl
-as-sheet fields name (sheet.DoubleColumn n) = refl
-as-sheet fields name sheet.TooManyRows = refl
-as-sheet fields name (sheet.RowLength n) = refl
-
-pub sheet-calls : (a b : Option (List Asked)) (fields : List Field) (name : List ℕ) (told : SheetFault) (f : Fault) → (f ≡ sheet_refusal fields told) ⊎ (f ≡ fault.OutOfMemory)
-    → PutsOnRecord a b (λ calls. calls ≡ fetched name ∷ []) → PutsOnRecord a b (AreCallsTo (fetched name ∷ []) f)
-sheet-calls a b fields name told f (inl same) p = less-calls a b (AreCallsTo (fetched name ∷ []) f) (λ x e. rw same (subst (AreCallsTo (fetched name ∷ []) (sheet_refusal fields told)) (sym e) (as-sheet fields name told))) p
-sheet-calls a b fields name told f (inr memory) p = less-calls a b (AreCallsTo (fetched name ∷ []) f) (λ x e. rw memory (1, e)) p
 
 -- ---- all calls, and then perhaps want of memory
 

@@ -1,36 +1,44 @@
--- Why a file of records that was fetched and not read is refused.
-use Rattle.std.proofs.Common.{◌≡◌, ◌≢◌, ◌⊎◌, ℕ, List, Option, inl, inr, refl, subst, sym}
+-- What a file of records that was fetched reads as, and why it is refused where it was not read.
+use Rattle.std.proofs.Common.{◌≡◌, ◌≢◌, ◌⊎◌, ℕ, List, Option, Some, None, Result, Ok, Err, IfErr, IfOk, inl, inr, refl, subst, sym}
 use Rattle.edit_model.specs.declared.field.Field.{Field}
 use Rattle.record_text.specs.Sheets.{IsSheet, IsSheetFault, SheetParts}
 use Rattle.record_text.specs.declared.fault.SheetFault.{SheetFault}
 use Rattle.record_text.specs.declared.fault.SheetFault.TheVariants as sheet
 use Rattle.edit_desk.specs.Desk.{Files}
-use Rattle.run_parts.specs.Faults.{sheet_refusal}
-use Rattle.run_parts.specs.Readings.{AreNoRecords, HoldsBytes}
-use Rattle.run_parts.specs.Parts.{RefusesRecords}
+use Rattle.run_parts.specs.Faults.{records_fault_of, refusal_by}
+use Rattle.run_parts.specs.Limits.{most_bytes}
+use Rattle.run_parts.specs.Readings.{AreNoRecords, HoldsBytes, HoldsRecords, HoldsText, ReadsAsSheet}
 use Rattle.run_parts.specs.declared.fault.Fault.{Fault}
 use Rattle.run_parts.specs.declared.fault.Fault.TheVariants as fault
 use Rattle.run_parts.specs.declared.fault.RecordsFault.{RecordsFault}
 use Rattle.run_parts.proofs.HeldLaws.{holds}
-use Rattle.run_parts.specs.Limits.{most_bytes}
 
--- records that were not read are refused
+-- where something is said to be wrong, it is not want of memory
+something : (fields : List Field) (told : SheetFault) (what : RecordsFault) → records_fault_of fields told ≡ Some what → told ≢ sheet.OutOfMemory
+something fields told what same memory =
+    let nothing : None ≡ Some what = subst (λ (t : SheetFault). records_fault_of fields t ≡ Some what) memory same in cc
+
 module _ (files : Option Files) (name bytes : List ℕ) (fields : List Field) (held : HoldsBytes files name most_bytes bytes) where
-  refused-as : (told : SheetFault) (what : RecordsFault) → sheet_refusal fields told ≡ fault.Records what → IsSheetFault fields bytes told → ((t : SheetParts) → ¬ IsSheet fields bytes t) → RefusesRecords name fields files (fault.Records what)
-  refused-as told what shown is none = holds (AreNoRecords fields what) files name most_bytes bytes held (record { unread = none; found = told; first = is; told = shown })
+  -- the sheet that was read is the file's
+  pub sheet-held : (found : Result SheetParts SheetFault) → IfOk found (λ s. IsSheet fields bytes s)
+      → IfOk found (λ s. (other : SheetParts) → IsSheet fields bytes other → other ≡ s) → IfOk found (λ s. HoldsRecords files name fields s)
+  sheet-held (Ok s) is only =
+      holds (λ text. ReadsAsSheet fields text s) files name most_bytes bytes held (record { read = is; only = only })
+  sheet-held (Err told) is only = tt
 
-  records-unread : (told : SheetFault) → (told ≢ sheet.OutOfMemory → IsSheetFault fields bytes told) → (told ≢ sheet.OutOfMemory → (t : SheetParts) → ¬ IsSheet fields bytes t) → RefusesRecords name fields files (sheet_refusal fields told)
-  records-unread sheet.OutOfMemory is none = tt
-  records-unread sheet.NoHeader is none = refused-as sheet.NoHeader _ refl (is (λ e. cc e)) (none (λ e. cc e))
-  records-unread sheet.TooManyColumns is none = refused-as sheet.TooManyColumns _ refl (is (λ e. cc e)) (none (λ e. cc e))
-  records-unread (sheet.NoColumn n) is none = refused-as (sheet.NoColumn n) _ refl (is (λ e. cc e)) (none (λ e. cc e))
-  records-unread (sheet.DoubleColumn n) is none = refused-as (sheet.DoubleColumn n) _ refl (is (λ e. cc e)) (none (λ e. cc e))
-  records-unread sheet.TooManyRows is none = refused-as sheet.TooManyRows _ refl (is (λ e. cc e)) (none (λ e. cc e))
-  records-unread (sheet.RowLength n) is none = refused-as (sheet.RowLength n) _ refl (is (λ e. cc e)) (none (λ e. cc e))
+  -- or what is wrong with the bytes is wrong with the file
+  pub unread-held : (found : Result SheetParts SheetFault) → IfErr found (λ told. told ≢ sheet.OutOfMemory → IsSheetFault fields bytes told)
+      → IfErr found (λ told. told ≢ sheet.OutOfMemory → (s : SheetParts) → ¬ IsSheet fields bytes s)
+      → IfErr found (λ told. (what : RecordsFault) → records_fault_of fields told ≡ Some what → HoldsText files name (AreNoRecords fields what))
+  unread-held (Ok s) is none = tt
+  unread-held (Err told) is none = λ what same.
+      let by_fault = something fields told what same in
+      holds (AreNoRecords fields what) files name most_bytes bytes held
+      (record { unread = none by_fault; found = told; first = is by_fault; told = same })
 
--- unless for want of memory
-pub records-refused : (files : Option Files) (name bytes : List ℕ) (fields : List Field) (told : SheetFault) (f : Fault) → HoldsBytes files name most_bytes bytes
-    → (told ≢ sheet.OutOfMemory → IsSheetFault fields bytes told) → (told ≢ sheet.OutOfMemory → (t : SheetParts) → ¬ IsSheet fields bytes t) → (f ≡ sheet_refusal fields told) ⊎ (f ≡ fault.OutOfMemory)
-    → RefusesRecords name fields files f
-records-refused files name bytes fields told f held is none (inl same) = subst (RefusesRecords name fields files) (sym same) (records-unread files name bytes fields held told is none)
-records-refused files name bytes fields told f held is none (inr memory) = subst (RefusesRecords name fields files) (sym memory) tt
+-- what is so of the refusals for all that may be wrong, and of want of memory, is so of the refusal for this
+pub so-refused : (refuse : RecordsFault → Fault) (o : Option RecordsFault) (f : Fault) → (f ≡ refusal_by refuse o) ⊎ (f ≡ fault.OutOfMemory)
+    → (Q : Fault → Type 0) → ((what : RecordsFault) → o ≡ Some what → Q (refuse what)) → Q fault.OutOfMemory → Q f
+so-refused refuse None f (inl same) Q each memory = subst Q (sym same) memory
+so-refused refuse (Some what) f (inl same) Q each memory = subst Q (sym same) (each what refl)
+so-refused refuse o f (inr same) Q each memory = subst Q (sym same) memory

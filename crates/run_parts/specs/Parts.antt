@@ -49,6 +49,11 @@ abbrev pub IsOfRecords : List ℕ → Fault → Type 0
 IsOfRecords name (fault.Records what) = ⊤
 IsOfRecords name fault = IsOfFetch name fault
 
+-- a refusal that the fetch of the file of the last period, and its reading, may end with
+abbrev pub IsOfLast : List ℕ → Fault → Type 0
+IsOfLast name (fault.Last what) = ⊤
+IsOfLast name fault = IsOfFetch name fault
+
 -- why the fetch of a file is refused: it is too long; or it could not be read, or memory was refused, of which a file tells nothing
 abbrev pub RefusesLong : ℕ → Option Files → Fault → Type 0
 RefusesLong most files (fault.TooLong name) = HoldsLonger files name most
@@ -65,6 +70,11 @@ RefusesRules name files fault = RefusesLong most_bytes files fault
 abbrev pub RefusesRecords : List ℕ → List Field → Option Files → Fault → Type 0
 RefusesRecords name fields files (fault.Records what) = HoldsText files name (AreNoRecords fields what)
 RefusesRecords name fields files fault = RefusesLong most_bytes files fault
+
+-- why a file of the last period is refused: it holds no records of these fields, or is too long
+abbrev pub RefusesLast : List ℕ → List Field → Option Files → Fault → Type 0
+RefusesLast name fields files (fault.Last what) = HoldsText files name (AreNoRecords fields what)
+RefusesLast name fields files fault = RefusesLong most_bytes files fault
 
 -- ---- the stores
 

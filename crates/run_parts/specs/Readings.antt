@@ -9,7 +9,7 @@ use Rattle.record_text.specs.Sheets.{IsSheet, IsSheetFault, SheetParts}
 use Rattle.record_text.specs.declared.fault.SheetFault.{SheetFault}
 use Rattle.cert_check.specs.Releases.{Audit, IsFirstFailure, IsValidRelease}
 use Rattle.command_words.specs.Asked.{CheckAsked, EditAsked, RulesAsked}
-use Rattle.run_parts.specs.Faults.{sheet_refusal}
+use Rattle.run_parts.specs.Faults.{records_fault_of}
 use Rattle.run_parts.specs.declared.fault.Fault.{Fault}
 use Rattle.run_parts.specs.declared.fault.Fault.TheVariants as fault
 use Rattle.run_parts.specs.declared.fault.RecordsFault.{RecordsFault}
@@ -75,7 +75,7 @@ pub record AreNoRecords (fields : List Field) (what : RecordsFault) (bytes : Lis
   pub unread : (sheet : SheetParts) → ¬ IsSheet fields bytes sheet
   pub found : SheetFault
   pub first : IsSheetFault fields bytes found
-  pub told : sheet_refusal fields found ≡ fault.Records what
+  pub told : records_fault_of fields found ≡ Some what
 
 -- some survey is read from a file of this name, and the claim holds of it
 abbrev pub WithRules : Option Files → List ℕ → (SurveyParts → Type 0) → Type 0
@@ -101,6 +101,7 @@ RefusesInput rules records files (fault.Read name) = IsInputFile rules records f
 RefusesInput rules records files (fault.Write name) = ⊤
 RefusesInput rules records files fault.OutOfMemory = ⊤
 RefusesInput rules records files fault.Usage = ⊥
+RefusesInput rules records files (fault.Last what) = ⊥
 RefusesInput rules records files (fault.Rejected line why) = ⊥
 
 -- why the files of an edit are refused

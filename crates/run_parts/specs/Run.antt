@@ -58,6 +58,7 @@ abbrev pub AreCallsTo : List Asked → Fault → List Asked → Type 0
 AreCallsTo order fault.Usage calls = calls ≡ []
 AreCallsTo order (fault.Rules line kind) calls = calls ≡ take 1 order
 AreCallsTo order (fault.Records what) calls = calls ≡ take 2 order
+AreCallsTo order (fault.Last what) calls = calls ≡ take 3 order
 AreCallsTo order (fault.Rejected line why) calls = calls ≡ order
 AreCallsTo order (fault.TooLong name) calls = CallsEndAt order (fetched name) (fetched name) calls
 AreCallsTo order (fault.Read name) calls = CallsEndAt order (fetched name) (failing (fetched name)) calls

@@ -2,7 +2,7 @@ ghost use Rattle.std.specs.Prelude.{◌≡◌, ◌<◌, ◌++◌, IfOk, length};
 ghost use Rattle.run_parts.specs.Refused.{IsOfFields, check_fault, rules_fault};
 ghost use Rattle.edit_report.specs.Reasons.{name_of};
 ghost use Rattle.run_parts.specs.declared.fault.Fault.TheVariants as faults;
-ghost use Rattle.run_parts.specs.Faults.{fault_status, fault_text, sheet_refusal};
+ghost use Rattle.run_parts.specs.Faults.{fault_status, fault_text, last_refusal, records_fault_of, records_fault_text, sheet_refusal};
 
 use crate::status::Status;
 use cert_check::{CheckFault, Why};
@@ -49,7 +49,7 @@ impl<'a> FileName<'a> {
     }
 }
 
-/// Why the record file has no reading.
+/// Why a file of records has no reading.
 #[derive(Debug, Drop)]
 pub enum RecordsFault {
     /// There is no record at all.
@@ -64,6 +64,8 @@ pub enum RecordsFault {
     TooManyRows,
     /// The header has too many columns.
     TooManyColumns,
+    /// The key stands in no column, or in several.
+    NoKey,
 }
 
 /// Why a run ended before all was done.
@@ -75,6 +77,8 @@ pub enum Fault<'a> {
     Rules { line: u32, kind: RulesKind },
     /// The record file has no reading.
     Records { fault: RecordsFault },
+    /// The file of the last period has no reading.
+    Last { fault: RecordsFault },
     /// The file could not be read.
     Read { name: FileName<'a> },
     /// The file could not be written.
@@ -93,20 +97,21 @@ impl<'a> Fault<'a> {
         requires { IsOfFields fields.now fault }
         ensures { result ≡ sheet_refusal fields.now fault }
     {
-        let fault = match fault {
-            SheetFault::NoHeader => RecordsFault::NoHeader,
-            SheetFault::TooManyColumns => RecordsFault::TooManyColumns,
-            SheetFault::NoColumn { field } => RecordsFault::NoColumn {
-                field: name_of(fields, field),
-            },
-            SheetFault::DoubleColumn { field } => RecordsFault::DoubleColumn {
-                field: name_of(fields, field),
-            },
-            SheetFault::TooManyRows => RecordsFault::TooManyRows,
-            SheetFault::RowLength { row_no } => RecordsFault::RowLength { row_no },
-            SheetFault::OutOfMemory => return Fault::OutOfMemory,
-        };
-        Fault::Records { fault }
+        match RecordsFault::of(fields, fault) {
+            Some(fault) => Fault::Records { fault },
+            None => Fault::OutOfMemory,
+        }
+    }
+
+    /// The refusal for rows of the last period, of these fields, that were not read.
+    pub fn of_last(fields: &[Field], fault: SheetFault) -> Self
+        requires { IsOfFields fields.now fault }
+        ensures { result ≡ last_refusal fields.now fault }
+    {
+        match RecordsFault::of(fields, fault) {
+            Some(fault) => Fault::Last { fault },
+            None => Fault::OutOfMemory,
+        }
     }
 
     /// How a run that is refused ends.
@@ -117,6 +122,7 @@ impl<'a> Fault<'a> {
             Fault::Usage => Status::Usage,
             Fault::Rules { .. } => Status::Rules,
             Fault::Records { .. } => Status::Records,
+            Fault::Last { .. } => Status::Records,
             Fault::Read { .. } => Status::ReadFault,
             Fault::Write { .. } => Status::WriteFault,
             Fault::TooLong { .. } => Status::TooLong,
@@ -132,7 +138,8 @@ impl<'a> Fault<'a> {
         match self {
             Fault::Usage => Ok(USAGE.to_vec(alloc)?),
             Fault::Rules { line, kind } => rules_line(alloc, *line, *kind),
-            Fault::Records { fault } => fault.line(alloc),
+            Fault::Records { fault } => fault.line(alloc, b"fault: records "),
+            Fault::Last { fault } => fault.line(alloc, b"fault: last "),
             Fault::Read { name } => joined(alloc, b"fault: read ", name.as_bytes()),
             Fault::Write { name } => joined(alloc, b"fault: write ", name.as_bytes()),
             Fault::TooLong { name } => joined(alloc, b"fault: too long ", name.as_bytes()),
@@ -169,30 +176,54 @@ impl From<CheckFault> for Fault<'_> {
 }
 
 impl RecordsFault {
-    // The line that is printed of a record file without a reading.
-    fn line(&self, alloc: Global) -> Result<Vec<u8>, OutOfMemory>
-        ensures { IfOk result (λ line. line.items ≡ fault_text (faults.Records self.now)) }
+    // What is wrong with records of these fields that were not read; nothing is said where memory was refused.
+    fn of(fields: &[Field], fault: SheetFault) -> Option<RecordsFault>
+        requires { IsOfFields fields.now fault }
+        ensures { result ≡ records_fault_of fields.now fault }
+    {
+        let what = match fault {
+            SheetFault::NoHeader => RecordsFault::NoHeader,
+            SheetFault::TooManyColumns => RecordsFault::TooManyColumns,
+            SheetFault::NoColumn { field } => RecordsFault::NoColumn {
+                field: name_of(fields, field),
+            },
+            SheetFault::DoubleColumn { field } => RecordsFault::DoubleColumn {
+                field: name_of(fields, field),
+            },
+            SheetFault::TooManyRows => RecordsFault::TooManyRows,
+            SheetFault::RowLength { row_no } => RecordsFault::RowLength { row_no },
+            SheetFault::OutOfMemory => return None,
+        };
+        Some(what)
+    }
+
+    // The line that is printed of a file without a reading, behind the words that say which file it is.
+    fn line(&self, alloc: Global, file: &[u8]) -> Result<Vec<u8>, OutOfMemory>
+        ensures { IfOk result (λ line. line.items ≡ file.now ++ records_fault_text self.now) }
+    {
+        let text = self.text(alloc)?;
+        joined(alloc, file, &text)
+    }
+
+    // What is wrong, as it is printed.
+    fn text(&self, alloc: Global) -> Result<Vec<u8>, OutOfMemory>
+        ensures { IfOk result (λ text. text.items ≡ records_fault_text self.now) }
     {
         match self {
-            RecordsFault::NoHeader => Ok(b"fault: records kind 11 NoHeader".to_vec(alloc)?),
-            RecordsFault::NoColumn { field } => joined(
-                alloc,
-                b"fault: records kind 12 NoColumn field ",
-                field.as_bytes(),
-            ),
-            RecordsFault::DoubleColumn { field } => joined(
-                alloc,
-                b"fault: records kind 13 DoubleColumn field ",
-                field.as_bytes(),
-            ),
+            RecordsFault::NoHeader => Ok(b"kind 11 NoHeader".to_vec(alloc)?),
+            RecordsFault::NoColumn { field } => {
+                joined(alloc, b"kind 12 NoColumn field ", field.as_bytes())
+            }
+            RecordsFault::DoubleColumn { field } => {
+                joined(alloc, b"kind 13 DoubleColumn field ", field.as_bytes())
+            }
             RecordsFault::RowLength { row_no } => {
                 let number = u64::from(*row_no) + 1;
-                Ok(format!(in alloc; "fault: records kind 14 RowLength row {number}")?.into_bytes())
+                Ok(format!(in alloc; "kind 14 RowLength row {number}")?.into_bytes())
             }
-            RecordsFault::TooManyRows => Ok(b"fault: records kind 15 TooManyRows".to_vec(alloc)?),
-            RecordsFault::TooManyColumns => Ok(b"fault: records kind 16 TooManyColumns".to_vec(
-                alloc,
-            )?),
+            RecordsFault::TooManyRows => Ok(b"kind 15 TooManyRows".to_vec(alloc)?),
+            RecordsFault::TooManyColumns => Ok(b"kind 16 TooManyColumns".to_vec(alloc)?),
+            RecordsFault::NoKey => Ok(b"kind 17 NoKey".to_vec(alloc)?),
         }
     }
 }

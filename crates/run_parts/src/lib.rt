@@ -13,7 +13,9 @@ mod telling;
 
 pub use fault::{Fault, FileName, OUT_OF_MEMORY, RecordsFault, USAGE};
 pub use input::fetch_input;
-pub use reading::{MOST_BYTES, MOST_PROOF_BYTES, fetch_file, fetch_sheet, fetch_survey};
+pub use reading::{
+    MOST_BYTES, MOST_PROOF_BYTES, fetch_file, fetch_last, fetch_sheet, fetch_survey,
+};
 pub use refusal::Refusal;
 pub use status::Status;
 pub use storing::store_file;

@@ -1,12 +1,17 @@
 //! The files of a run as they are fetched and read.
-ghost use Rattle.std.specs.Prelude.{◌≡◌, ◌≤◌, ◌∷◌, [], ℕ, List, IfErr, IfOk, length};
+ghost use Rattle.std.specs.Prelude.{◌≡◌, ◌≤◌, ◌∷◌, [], ℕ, List, IfErr, IfOk, Some, length};
 ghost use Rattle.std.specs.List.{AllByRecursion};
 ghost use Rattle.edit_desk.specs.Desk.{PutsOnRecord, fetched};
 ghost use Rattle.edit_model.specs.PlainNumbers.{HasPlain};
 ghost use Rattle.edit_model.specs.Surveys.{IsWellFormed};
-ghost use Rattle.run_parts.specs.Readings.{HoldsBytes, HoldsRecords, HoldsRules};
+ghost use Rattle.run_parts.specs.Faults.{records_fault_of};
+ghost use Rattle.run_parts.specs.Limits.{most_bytes};
+ghost use Rattle.run_parts.specs.Readings.{AreNoRecords, HoldsBytes, HoldsRecords, HoldsRules, HoldsText};
+ghost use Rattle.run_parts.specs.Refused.{IsOfFields};
 ghost use Rattle.run_parts.specs.declared.fault.Fault.TheVariants as faults;
-ghost use Rattle.run_parts.specs.Parts.{AreCallsOf, IsOfFetch, IsOfRecords, IsOfRules, RefusesLong, RefusesRecords, RefusesRules, faults_after};
+ghost use Rattle.run_parts.specs.declared.fault.RecordsFault.{RecordsFault};
+ghost use Rattle.run_parts.specs.Parts.{AreCallsOf, IsOfFetch, IsOfLast, IsOfRecords, IsOfRules, faults_after};
+ghost use Rattle.run_parts.specs.Parts.{RefusesLast, RefusesLong, RefusesRecords, RefusesRules};
 ghost use Rattle.record_text.specs.Sheets.{IsSheet};
 
 use crate::fault::{Fault, FileName};
@@ -15,7 +20,7 @@ use edit_desk::{Desk, FetchError};
 use edit_language::read_rules;
 use edit_model::Survey;
 use foundation::OutOfMemory;
-use record_text::{Sheet, read_records};
+use record_text::{Sheet, SheetFault, read_records};
 use std::alloc::Global;
 
 /// The most bytes of a file of rules or records, and of a released file: 64 MiB.
@@ -61,11 +66,57 @@ pub fn fetch_sheet<'a, D: Desk>(
     ensures faults { D.faults desk.new ≡ faults_after result (D.faults desk.old) }
     ensures unchanged { D.files desk.new ≡ D.files desk.old }
 {
-    let bytes = fetch_file(alloc, name, MOST_BYTES, desk)?;
-    match read_records(alloc, survey, &bytes) {
+    let found = fetch_records(alloc, name, survey, desk)?;
+    match found {
         Ok(sheet) => Ok(sheet),
         Err(fault) => Err(Refusal::of(alloc, Fault::of_records(survey.fields(), fault))),
     }
+}
+
+/// The sheet of the survey's records that the file of the last period reads as.
+pub fn fetch_last<'a, D: Desk>(
+    alloc: Global,
+    name: &'a str,
+    survey: &Survey,
+    desk: &mut D,
+) -> Result<Sheet, Refusal<'a>>
+    ensures read { IfOk result (λ sheet. HoldsRecords (D.files desk.old) name.now survey.now.fields sheet) }
+    ensures sheet { IfOk result (λ sheet. (bytes : List ℕ) × IsSheet survey.now.fields bytes sheet) }
+    ensures plain { IfOk result (λ sheet. AllByRecursion HasPlain sheet.rows) }
+    ensures kind { IfErr result (IsOfLast name.now) }
+    ensures cause { IfErr result (λ fault. RefusesLast name.now survey.now.fields (D.files desk.old) fault) }
+    ensures asked { PutsOnRecord (D.calls desk.old) (D.calls desk.new) (AreCallsOf (fetched name.now ∷ []) result) }
+    ensures faults { D.faults desk.new ≡ faults_after result (D.faults desk.old) }
+    ensures unchanged { D.files desk.new ≡ D.files desk.old }
+{
+    let found = fetch_records(alloc, name, survey, desk)?;
+    match found {
+        Ok(sheet) => Ok(sheet),
+        Err(fault) => Err(Refusal::of(alloc, Fault::of_last(survey.fields(), fault))),
+    }
+}
+
+// The sheet of the survey's records that the file of this name reads as, or why its bytes were not read.
+fn fetch_records<'a, D: Desk>(
+    alloc: Global,
+    name: &'a str,
+    survey: &Survey,
+    desk: &mut D,
+) -> Result<Result<Sheet, SheetFault>, Refusal<'a>>
+    ensures read { IfOk result (λ found. IfOk found (λ sheet. HoldsRecords (D.files desk.old) name.now survey.now.fields sheet)) }
+    ensures sheet { IfOk result (λ found. IfOk found (λ sheet. (bytes : List ℕ) × IsSheet survey.now.fields bytes sheet)) }
+    ensures plain { IfOk result (λ found. IfOk found (λ sheet. AllByRecursion HasPlain sheet.rows)) }
+    ensures fields { IfOk result (λ found. IfErr found (IsOfFields survey.now.fields)) }
+    ensures unread { IfOk result (λ found. IfErr found (λ fault. (what : RecordsFault) → records_fault_of survey.now.fields fault ≡ Some what
+        → HoldsText (D.files desk.old) name.now (AreNoRecords survey.now.fields what))) }
+    ensures kind { IfErr result (IsOfFetch name.now) }
+    ensures cause { IfErr result (λ fault. RefusesLong most_bytes (D.files desk.old) fault) }
+    ensures asked { PutsOnRecord (D.calls desk.old) (D.calls desk.new) (AreCallsOf (fetched name.now ∷ []) result) }
+    ensures faults { D.faults desk.new ≡ faults_after result (D.faults desk.old) }
+    ensures unchanged { D.files desk.new ≡ D.files desk.old }
+{
+    let bytes = fetch_file(alloc, name, MOST_BYTES, desk)?;
+    Ok(read_records(alloc, survey, &bytes))
 }
 
 /// The bytes of a file, within the limit.

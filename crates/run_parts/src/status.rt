@@ -11,7 +11,7 @@ pub enum Status {
     Usage,
     /// The rule file has no reading.
     Rules,
-    /// The record file has no reading.
+    /// The record file has no reading, or that of the last period.
     Records,
     /// A file could not be read.
     ReadFault,

@@ -1,17 +1,27 @@
-use Rattle.run_parts.proofs.CallLaws.{sheet-calls}
-use Rattle.run_parts.proofs.FieldFaults.{fault_of_fields}
-use Rattle.run_parts.proofs.ReadingLaws.{records-refused}
+use Rattle.std.proofs.Common.{◌∷◌, []}
+use Rattle.edit_desk.specs.Desk.{fetched}
+use Rattle.run_parts.specs.Faults.{records_fault_of}
+use Rattle.run_parts.specs.Parts.{RefusesRecords}
+use Rattle.run_parts.specs.Run.{AreCallsTo}
+use Rattle.run_parts.specs.declared.fault.Fault.TheVariants as fault
+use Rattle.run_parts.proofs.CallLaws.{less-calls}
+use Rattle.run_parts.proofs.ReadingLaws.{so-refused}
 use Rattle.run_parts.proofs.reading.fetch_sheet.Goals as goal
 
 pub of_records-requires : goal.of_records-requires
-of_records-requires g c = rw c.fields.ensures.fields (fault_of_fields c.args.survey.now.fields c.deref.result.now c.in-Err.fault c.in-Err.ensures.fault)
+of_records-requires g c = rw c.fields.ensures.fields (rw c.in-Err.is at c.in_ok-found.ensures.fields)
 
-pub returns-clause-cause : goal.returns-clause-cause
-returns-clause-cause g c =
-    records-refused (g.D.Desk.files c.args.desk.now) c.args.name.now c.in_ok-bytes.bytes.items c.args.survey.now.fields c.in-Err.fault c.of.result c.in_ok-bytes.ensures.bytes
-    (rw c.deref.ensures.value at c.in-Err.ensures.fault) (rw c.deref.ensures.value at c.in-Err.ensures.unread) (rw (c.of_records.ensures, c.fields.ensures.fields) at c.of.ensures)
+pub returns-in-Err-clause-cause : goal.returns-in-Err-clause-cause
+returns-in-Err-clause-cause g c =
+    so-refused (λ what. fault.Records what) (records_fault_of c.args.survey.now.fields c.in-Err.fault) c.of.result
+    (rw (c.of_records.ensures, c.fields.ensures.fields) at c.of.ensures)
+    (RefusesRecords c.args.name.now c.args.survey.now.fields (g.D.Desk.files c.args.desk.now))
+    (rw c.in-Err.is at c.in_ok-found.ensures.unread) tt
 
-pub returns-clause-asked : goal.returns-clause-asked
-returns-clause-asked g c =
-    sheet-calls (g.D.Desk.calls c.args.desk.now) (g.D.Desk.calls c.fetch_file.new.desk) c.args.survey.now.fields c.args.name.now c.in-Err.fault c.of.result
-    (rw (c.of_records.ensures, c.fields.ensures.fields) at c.of.ensures) c.in_ok-bytes.ensures.asked
+pub returns-in-Err-clause-asked : goal.returns-in-Err-clause-asked
+returns-in-Err-clause-asked g c =
+    let one = fetched c.args.name.now ∷ [] in
+    less-calls (g.D.Desk.calls c.args.desk.now) _ (AreCallsTo one c.of.result)
+    (λ calls is. so-refused (λ what. fault.Records what) (records_fault_of c.args.survey.now.fields c.in-Err.fault) c.of.result
+    (rw (c.of_records.ensures, c.fields.ensures.fields) at c.of.ensures) (λ f. AreCallsTo one f calls) (λ what told. is) (1, is))
+    c.in_ok-found.ensures.asked
