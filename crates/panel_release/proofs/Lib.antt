@@ -1,0 +1,4 @@
+pub mod CountLaws
+pub mod EndLaws
+pub mod PanelLaws
+pub mod TellingLaws

@@ -1,0 +1,2 @@
+pub mod PanelReleases
+pub mod inner

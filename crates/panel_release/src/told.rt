@@ -1,0 +1,235 @@
+//! What is told of the records of a panel, one after the other.
+ghost use Rattle.std.specs.Prelude.{◌≡◌, ◌<◌, ◌++◌, ℕ, List, IfOk, OnOk, codes, length, not};
+ghost use Rattle.std.specs.List.{list_any};
+ghost use Rattle.foundation.specs.Limits.{most_records};
+ghost use Rattle.edit_report.specs.Ends.{IsEnd};
+ghost use Rattle.edit_report.specs.Layouts.{IsLayout};
+ghost use Rattle.panel_link.specs.declared.linked.Linked.TheVariants as linked;
+ghost use Rattle.panel_release.specs.PanelReleases.{end_of, head_text, proof_of};
+ghost use Rattle.panel_release.specs.inner.Counts.{AreFew, CountsOne};
+ghost use Rattle.panel_release.specs.inner.Tellings.{EndsAs, TellsCause, TellsEnd, TellsNone, TellsOne};
+
+use crate::counts::{Counts, resolution_of};
+use crate::release::PanelRelease;
+use back_subst::Gift;
+use bound_cert::{Cert, Outcome, Path, RowProof};
+use edit_model::Survey;
+use edit_report::{
+    Layout, Record, RowEnd, push_cause, push_reasons, push_reasons_header, push_released,
+};
+use foundation::OutOfMemory;
+use panel_link::Linked;
+use proof_text::row_text;
+use record_text::{RecordWriter, Sheet, Texts};
+use std::alloc::Global;
+
+/// What is told so far: the bytes of the released file, of the reasons and of the proof, and what is counted.
+#[derive(Drop)]
+pub(crate) struct Told {
+    released: RecordWriter,
+    reasons: RecordWriter,
+    proof: Vec<u8>,
+    counts: Counts,
+}
+
+impl Told {
+    /// The headers of both files, and the lines of the proof in front of the records'. Nothing is told of a record. `lines` is how
+    /// many lines the rules have.
+    pub(crate) fn start(
+        alloc: Global,
+        own: &Sheet,
+        lines: usize,
+        budget: u64,
+    ) -> Result<Told, OutOfMemory>
+        ensures { IfOk result (TellsNone own.now lines budget) }
+    {
+        let mut released = RecordWriter::new(alloc);
+        released.push(own.header())?;
+        let mut reasons = RecordWriter::new(alloc);
+        push_reasons_header(&mut reasons)?;
+        let proof = head_text(alloc, budget, lines, own.len())?;
+        Ok(Told {
+            released,
+            reasons,
+            proof,
+            counts: Counts::of_none(),
+        })
+    }
+
+    /// Tells what becomes of one record more: it has this number, from 0, these texts were read, and this is its answer. No part of the
+    /// answer is copied.
+    pub(crate) fn tell(
+        &mut self,
+        alloc: Global,
+        survey: &Survey,
+        layout: &Layout,
+        row_no: u32,
+        read: &Texts,
+        answer: Linked,
+    ) -> Result<(), OutOfMemory>
+        requires layout { IsLayout survey.now.fields layout.now }
+        requires width { length read.now ≡ layout.now.width }
+        requires end { IsEnd survey.now.fields (end_of answer) }
+        requires few { AreFew self.old.counts }
+        requires more { self.old.counts.records < most_records }
+        ensures told { OnOk result (TellsOne survey.now.fields layout.now.columns row_no read.now answer self.old self.new) }
+        ensures counts { OnOk result (CountsOne survey.now.fields (end_of answer) self.old.counts self.new.counts) }
+        ensures few { OnOk result (AreFew self.new.counts) }
+    {
+        let resolution = resolution_of(survey, &answer);
+        self.write(alloc, survey, layout, row_no, read, answer)?;
+        self.counts.add(resolution);
+        Ok(())
+    }
+
+    /// All that was told of all records.
+    pub(crate) fn end(self, alloc: Global) -> Result<PanelRelease, OutOfMemory>
+        ensures { IfOk result (EndsAs self) }
+    {
+        let Told {
+            released,
+            reasons,
+            mut proof,
+            counts,
+        } = self;
+        proof.extend_from_slice(b"end\n")?;
+        let summary = counts.summary(alloc)?;
+        Ok(PanelRelease {
+            released: released.into_bytes(),
+            reasons: reasons.into_bytes(),
+            proof,
+            summary,
+            whole: counts.none_unresolved(),
+        })
+    }
+
+    // Writes what is told of one record more, and counts nothing.
+    fn write(
+        &mut self,
+        alloc: Global,
+        survey: &Survey,
+        layout: &Layout,
+        row_no: u32,
+        read: &Texts,
+        answer: Linked,
+    ) -> Result<(), OutOfMemory>
+        requires layout { IsLayout survey.now.fields layout.now }
+        requires width { length read.now ≡ layout.now.width }
+        requires end { IsEnd survey.now.fields (end_of answer) }
+        ensures told { OnOk result (TellsOne survey.now.fields layout.now.columns row_no read.now answer self.old self.new) }
+        ensures counts { OnOk result (self.new.counts ≡ self.old.counts) }
+    {
+        match answer {
+            Linked::NoLast => self.write_cause(alloc, row_no, b"nolast", b"nolast\n"),
+            Linked::NoCorrection { cert } => {
+                let text = row_text(alloc, &uncorrected(cert))?;
+                self.write_cause(alloc, row_no, b"nocorrection", &text)
+            }
+            Linked::Change {
+                path,
+                weight,
+                cert,
+                gift,
+            } => {
+                let end = changed_end(path, weight, cert, gift);
+                let row = Record {
+                    number: row_no,
+                    read,
+                    end: &end,
+                };
+                self.write_end(alloc, survey, layout, &row)
+            }
+            Linked::Stopped(proof) => {
+                let end = stopped_end(proof);
+                let row = Record {
+                    number: row_no,
+                    read,
+                    end: &end,
+                };
+                self.write_end(alloc, survey, layout, &row)
+            }
+        }
+    }
+
+    // Writes what is told of a record as of any that ended so.
+    fn write_end(
+        &mut self,
+        alloc: Global,
+        survey: &Survey,
+        layout: &Layout,
+        row: &Record,
+    ) -> Result<(), OutOfMemory>
+        requires layout { IsLayout survey.now.fields layout.now }
+        requires width { length row.now.read.now ≡ layout.now.width }
+        requires end { IsEnd survey.now.fields row.now.end.now }
+        ensures told { OnOk result (TellsEnd survey.now.fields layout.now.columns row.now.number row.now.read.now row.now.end.now
+            self.old self.new) }
+        ensures counts { OnOk result (self.new.counts ≡ self.old.counts) }
+    {
+        push_released(alloc, &mut self.released, survey, layout, row.read, row.end)?;
+        push_reasons(alloc, &mut self.reasons, survey, layout, row)?;
+        let text = row_text(alloc, &row.end.proof)?;
+        self.proof.extend_from_slice(&text)?;
+        Ok(())
+    }
+
+    // Writes that a record is not released, for this cause. `text` is what the proof has of it.
+    fn write_cause(
+        &mut self,
+        alloc: Global,
+        row_no: u32,
+        cause: &[u8],
+        text: &[u8],
+    ) -> Result<(), OutOfMemory>
+        ensures told { OnOk result (TellsCause row_no cause.now text.now self.old self.new) }
+        ensures counts { OnOk result (self.new.counts ≡ self.old.counts) }
+    {
+        push_cause(alloc, &mut self.reasons, row_no, cause, b"")?;
+        self.proof.extend_from_slice(text)?;
+        Ok(())
+    }
+}
+
+// The lines of the proof in front of the records'.
+fn head_text(alloc: Global, budget: u64, lines: usize, records: u32) -> Result<Vec<u8>, OutOfMemory>
+    ensures { IfOk result (λ text. text.items ≡ head_text budget lines records) }
+{
+    Ok(format!(in alloc;
+        "fh-panel 1\nbudget {budget}\nlines {lines}\nrecords {records}\n"
+    )?.into_bytes())
+}
+
+// How a record ended that was given the values of this change.
+fn changed_end(path: Path, weight: u64, cert: Cert, gift: Gift) -> RowEnd
+    ensures { result ≡ end_of (linked.Change path weight cert gift) }
+{
+    RowEnd {
+        proof: RowProof {
+            outcome: Outcome::Change { path, weight, cert },
+            gift: None,
+        },
+        donor: None,
+        gift: Some(gift),
+    }
+}
+
+// How a record ended whose search, or whose giving of values, stopped.
+fn stopped_end(proof: RowProof) -> RowEnd
+    ensures { result ≡ end_of (linked.Stopped proof) }
+{
+    RowEnd {
+        proof,
+        donor: None,
+        gift: None,
+    }
+}
+
+// What was found of a record for which there is no correction.
+fn uncorrected(cert: Cert) -> RowProof
+    ensures { result ≡ proof_of (linked.NoCorrection cert) }
+{
+    RowProof {
+        outcome: Outcome::Contradictory { cert },
+        gift: None,
+    }
+}
