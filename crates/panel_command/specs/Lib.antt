@@ -1,0 +1,3 @@
+pub mod PanelInput
+pub mod PanelRun
+pub mod inner

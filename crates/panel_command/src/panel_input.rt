@@ -1,0 +1,112 @@
+//! The three files that the command reads.
+ghost use Rattle.std.specs.Prelude.{◌≡◌, ◌<◌, ◌∷◌, [], ℕ, List, IfErr, IfOk, IfSome, length};
+ghost use Rattle.edit_desk.specs.Desk.{PutsOnRecord, fetched};
+ghost use Rattle.edit_model.specs.Surveys.{IsWellFormed};
+ghost use Rattle.record_text.specs.Sheets.{IsSheet};
+ghost use Rattle.panel_files.specs.LastFields.{AreLastFields, last_fields, own_fields};
+ghost use Rattle.run_parts.specs.Parts.{AreCallsOf, done_end, faults_after};
+ghost use Rattle.run_parts.specs.Readings.{AnswersDue};
+ghost use Rattle.panel_command.specs.PanelInput.{HoldsPanel, IsOfPanelInput, IsPanelDue, RefusesPanel};
+
+use crate::keyed_rows::{fetch_last_rows, fetch_own_rows};
+use command_words::PanelWords;
+use edit_desk::Desk;
+use edit_model::{FieldSet, Survey};
+use foundation::OutOfMemory;
+use panel_files::{last_set, last_survey, own_survey};
+use panel_release::Panel;
+use record_text::Sheet;
+use run_parts::{Refusal, fetch_survey};
+use std::alloc::Global;
+use std::marker::Model;
+
+/// What is read of the three files: the survey, the set of its last fields, and the rows of both files with the column of their key.
+#[derive(Drop)]
+pub(crate) struct PanelInput {
+    pub(crate) survey: Survey,
+    pub(crate) set: FieldSet,
+    pub(crate) own: Sheet,
+    pub(crate) last: Sheet,
+    pub(crate) own_key: u32,
+    pub(crate) last_key: u32,
+}
+
+impl Model for PanelInput {
+    ghost use Rattle.panel_release.specs.PanelReleases.{PanelCase};
+
+    ghost Value = { PanelCase };
+
+    ghost view = { λ p. record {
+      survey = p.survey;
+      set = p.set;
+      files = record { own = p.own; last = p.last; own_key = p.own_key; last_key = p.last_key };
+    } };
+}
+
+impl PanelInput {
+    /// The panel of what was read. No memory.
+    pub(crate) fn panel(&self) -> Panel
+        ensures { result ≡ self.now }
+    {
+        Panel {
+            survey: &self.survey,
+            set: self.set,
+            own: &self.own,
+            last: &self.last,
+            own_key: self.own_key,
+            last_key: self.last_key,
+        }
+    }
+}
+
+/// Fetches and reads the rules, then the records with their key, then the rows of the last period with theirs.
+pub(crate) fn fetch_panel<'a, D: Desk>(
+    alloc: Global,
+    asked: &PanelWords<'a>,
+    desk: &mut D,
+) -> Result<PanelInput, Refusal<'a>>
+    ensures held { IfOk result (HoldsPanel (D.files desk.old) asked.now) }
+    ensures well_formed { IfOk result (λ panel. IsWellFormed panel.survey) }
+    ensures own { IfOk result (λ panel. (bytes : List ℕ) × IsSheet (own_fields panel.survey.fields panel.set) bytes panel.files.own) }
+    ensures last { IfOk result (λ panel. (bytes : List ℕ) × IsSheet (last_fields panel.survey.fields panel.set) bytes panel.files.last) }
+    ensures own_key { IfOk result (λ panel. panel.files.own_key < length panel.files.own.header) }
+    ensures last_key { IfOk result (λ panel. panel.files.last_key < length panel.files.last.header) }
+    ensures kind { IfErr result IsOfPanelInput }
+    ensures cause { IfErr result (λ fault. RefusesPanel asked.now (D.files desk.old) fault) }
+    ensures due { IfSome (D.files desk.old) (λ files. AnswersDue (IsPanelDue asked.now files) (done_end result)) }
+    ensures asked { PutsOnRecord (D.calls desk.old) (D.calls desk.new)
+        (AreCallsOf (fetched asked.now.rules ∷ fetched asked.now.records ∷ fetched asked.now.last ∷ []) result) }
+    ensures faults { D.faults desk.new ≡ faults_after result (D.faults desk.old) }
+    ensures unchanged { D.files desk.new ≡ D.files desk.old }
+{
+    let survey = fetch_survey(alloc, asked.rules, desk)?;
+    let set = last_set(&survey);
+    let Ok((of_own, of_last)) = part_surveys(alloc, &survey, set) else {
+        return Err(Refusal::out_of_memory());
+    };
+    let (own, own_key) = fetch_own_rows(alloc, asked.records, asked.key, &of_own, desk)?;
+    let (last, last_key) = fetch_last_rows(alloc, asked.last, asked.key, &of_last, desk)?;
+    Ok(PanelInput {
+        survey,
+        set,
+        own,
+        last,
+        own_key,
+        last_key,
+    })
+}
+
+// The surveys of the records and of the file of the last period.
+fn part_surveys(
+    alloc: Global,
+    survey: &Survey,
+    set: FieldSet,
+) -> Result<(Survey, Survey), OutOfMemory>
+    requires set { AreLastFields survey.now.fields set }
+    ensures own { IfOk result (λ both. both.0.fields ≡ own_fields survey.now.fields set) }
+    ensures last { IfOk result (λ both. both.1.fields ≡ last_fields survey.now.fields set) }
+{
+    let own = own_survey(alloc, survey, set)?;
+    let last = last_survey(alloc, survey, set)?;
+    Ok((own, last))
+}
