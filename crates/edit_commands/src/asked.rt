@@ -3,8 +3,8 @@ ghost use Rattle.std.specs.Prelude.{IfOk};
 ghost use Rattle.edit_commands.specs.inner.Asks.{Asks};
 
 use command_words::{
-    CheckWords, EditWords, FillWords, MakeWords, RulesWords, check_asked, edit_asked, fill_asked,
-    make_asked, rules_asked,
+    CheckWords, EditWords, FillWords, MakeWords, PanelWords, RulesWords, check_asked, edit_asked,
+    fill_asked, make_asked, panel_asked, rules_asked,
 };
 use foundation::OutOfMemory;
 use std::alloc::Global;
@@ -16,6 +16,7 @@ pub(crate) enum Asked<'a> {
     Check(CheckWords<'a>),
     Rules(RulesWords<'a>),
     Fill(FillWords<'a>),
+    Panel(PanelWords<'a>),
     Make(MakeWords<'a>),
     Nothing,
 }
@@ -41,6 +42,11 @@ pub(crate) fn read_words<'a>(alloc: Global, words: &'a [String]) -> Result<Asked
     }
     match fill_asked(alloc, words) {
         Ok(Some(fill)) => return Ok(Asked::Fill(fill)),
+        Ok(None) => {}
+        Err(OutOfMemory) => return Err(OutOfMemory),
+    }
+    match panel_asked(alloc, words) {
+        Ok(Some(panel)) => return Ok(Asked::Panel(panel)),
         Ok(None) => {}
         Err(OutOfMemory) => return Err(OutOfMemory),
     }

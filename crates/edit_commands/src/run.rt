@@ -1,8 +1,10 @@
 ghost use Rattle.std.specs.Prelude.{◌≡◌, ◌≢◌, IfSome};
-ghost use Rattle.command_words.specs.Asked.{ForCheck, ForEdit, ForFill, ForMake, ForRules, IsNoCommand};
+ghost use Rattle.command_words.specs.Asked.{ForCheck, ForEdit, ForFill, ForMake, ForPanel, ForRules, IsNoCommand};
 ghost use Rattle.edit_commands.specs.CheckRun.{IsCheckComplete, IsCheckStopped, IsChecked};
 ghost use Rattle.edit_commands.specs.EditRun.{IsEditComplete, IsEditStopped, IsEdited};
 ghost use Rattle.fill_command.specs.FillRun.{IsFillComplete, IsFillDue, IsFillRun, IsFillStopped};
+ghost use Rattle.panel_command.specs.PanelInput.{IsPanelDue};
+ghost use Rattle.panel_command.specs.PanelRun.{IsPanelComplete, IsPanelRun, IsPanelStopped};
 ghost use Rattle.edit_commands.specs.MakeRun.{IsMakeComplete, IsMakeStopped, IsSurveyMade};
 ghost use Rattle.run_parts.specs.Commands.{HasReleased};
 ghost use Rattle.run_parts.specs.Readings.{AnswersDue, IsCheckDue, IsDue, IsRulesDue};
@@ -17,6 +19,7 @@ use crate::rules_run::run_rules;
 use edit_desk::{Desk, Printer};
 use fill_command::run_fill;
 use foundation::OutOfMemory;
+use panel_command::run_panel;
 use record_workers::Gate;
 use run_parts::{OUT_OF_MEMORY, Status, USAGE, refuse};
 use std::alloc::Global;
@@ -29,9 +32,11 @@ use std::thread::Threads;
 /// draw. `check` fetches and reads the rules, then the records, fetches the released file, then the proof, and prints
 /// whether they are a valid release. `rules` fetches and reads the rules, and prints what becomes of each of their
 /// lines. `fill` fetches and reads the rules, then the records, gives each field without a value the value that the
-/// rules force, stores the released file, and prints how many fields were filled. `make` stores the rules of a survey
-/// that is made up, then records of it, and prints how many there are. The first refusal in this order ends the call,
-/// and is printed.
+/// rules force, stores the released file, and prints how many fields were filled. `panel` fetches and reads the rules,
+/// then the records, then the rows of the last period, corrects each record at the least weight that leaves its values
+/// of the last period alone, stores the proof, the reasons and the released file, and prints a summary. `make` stores
+/// the rules of a survey that is made up, then records of it, and prints how many there are. The first refusal in this
+/// order ends the call, and is printed.
 pub fn fh_main<R: Threads + Wait + Sync, D: Desk, P: Printer, G: Gate>(
     rt: &R,
     alloc: Global,
@@ -98,6 +103,20 @@ pub fn fh_main<R: Threads + Wait + Sync, D: Desk, P: Printer, G: Gate>(
     // A file that is too long or has no reading is told exactly where it is so.
     ensures fill_due { ForFill words.now (λ ask. IfSome (D.files desk.old) (λ files. AnswersDue (IsFillDue ask files) result)) }
 
+    // Records whose values of the last period are left alone: what stands in the three files, and what was printed, where `panel`
+    // ends with 0 or 1.
+    ensures linked { HasReleased result → ForPanel words.now (λ ask. IsPanelRun ask result (ran D.Desk P.Printer desk printer)) }
+
+    // Where it ends otherwise: the fault that ended it, where it ended, what is left and what was printed.
+    ensures panel_stopped { ¬ HasReleased result → ForPanel words.now
+        (λ ask. IsPanelStopped ask result (ran D.Desk P.Printer desk printer)) }
+
+    // Where the three files have readings with their keys and no fault is met, the records are corrected, but for want of memory.
+    ensures panel_complete { ForPanel words.now (λ ask. IsPanelComplete ask result (ran D.Desk P.Printer desk printer)) }
+
+    // A file that is too long, or has no reading with its key, is told exactly where it is so.
+    ensures panel_due { ForPanel words.now (λ ask. IfSome (D.files desk.old) (λ files. AnswersDue (IsPanelDue ask files) result)) }
+
     // A survey that is made: what stands in the two files, and what was printed, where `make` ends with 0.
     ensures made { result ≡ Status.Done → ForMake words.now (λ ask. IsSurveyMade ask (ran D.Desk P.Printer desk printer)) }
 
@@ -113,6 +132,7 @@ pub fn fh_main<R: Threads + Wait + Sync, D: Desk, P: Printer, G: Gate>(
         Ok(Asked::Check(check)) => run_check(alloc, &check, desk, printer),
         Ok(Asked::Rules(rules)) => run_rules(alloc, &rules, desk, printer),
         Ok(Asked::Fill(fill)) => run_fill(alloc, &fill, desk, printer),
+        Ok(Asked::Panel(panel)) => run_panel(alloc, &panel, desk, printer),
         Ok(Asked::Make(make)) => run_make(alloc, &make, desk, printer),
         Ok(Asked::Nothing) => refuse(printer, USAGE, Status::Usage),
         Err(OutOfMemory) => refuse(printer, OUT_OF_MEMORY, Status::OutOfMemory),

@@ -1,7 +1,7 @@
 -- What words ask for, of all commands.
 use Rattle.std.specs.Prelude.{◌≡◌, ℕ, List, String, map, string_bytes}
 use Rattle.std.specs.declared.alloc.Global.{Global}
-use Rattle.command_words.specs.Asked.{CheckAsked, EditAsked, FillAsked, IsCheck, IsEdit, IsFill, IsMake, IsNoCommand, IsRules, MakeAsked, RulesAsked}
+use Rattle.command_words.specs.Asked.{CheckAsked, EditAsked, FillAsked, IsCheck, IsEdit, IsFill, IsMake, IsNoCommand, IsPanel, IsRules, MakeAsked, PanelAsked, RulesAsked}
 use Rattle.edit_commands.specs.declared.asked.Asked.{Asked}
 use Rattle.edit_commands.specs.declared.asked.Asked.TheVariants as asks
 
@@ -25,6 +25,10 @@ AsksNoRules words = (other : RulesAsked) → ¬ IsRules (texts_of words) other
 abbrev pub AsksNoFill : List (String Global) → Type 0
 AsksNoFill words = (other : FillAsked) → ¬ IsFill (texts_of words) other
 
+-- for no panel
+abbrev pub AsksNoPanel : List (String Global) → Type 0
+AsksNoPanel words = (other : PanelAsked) → ¬ IsPanel (texts_of words) other
+
 -- for no survey that is made
 abbrev pub AsksNoMake : List (String Global) → Type 0
 AsksNoMake words = (other : MakeAsked) → ¬ IsMake (texts_of words) other
@@ -37,17 +41,20 @@ IsAll {A} Is asked = (other : A) → Is other → other ≡ asked
 abbrev pub Asks : List (String Global) → Asked → Type 0
 Asks words (asks.Edit edit) =
     IsEdit (texts_of words) edit × IsAll (IsEdit (texts_of words)) edit
-    × AsksNoCheck words × AsksNoRules words × AsksNoFill words × AsksNoMake words
+    × AsksNoCheck words × AsksNoRules words × AsksNoFill words × AsksNoPanel words × AsksNoMake words
 Asks words (asks.Check check) =
     IsCheck (texts_of words) check × IsAll (IsCheck (texts_of words)) check
-    × AsksNoEdit words × AsksNoRules words × AsksNoFill words × AsksNoMake words
+    × AsksNoEdit words × AsksNoRules words × AsksNoFill words × AsksNoPanel words × AsksNoMake words
 Asks words (asks.Rules rules) =
     IsRules (texts_of words) rules × IsAll (IsRules (texts_of words)) rules
-    × AsksNoEdit words × AsksNoCheck words × AsksNoFill words × AsksNoMake words
+    × AsksNoEdit words × AsksNoCheck words × AsksNoFill words × AsksNoPanel words × AsksNoMake words
 Asks words (asks.Fill fill) =
     IsFill (texts_of words) fill × IsAll (IsFill (texts_of words)) fill
-    × AsksNoEdit words × AsksNoCheck words × AsksNoRules words × AsksNoMake words
+    × AsksNoEdit words × AsksNoCheck words × AsksNoRules words × AsksNoPanel words × AsksNoMake words
+Asks words (asks.Panel panel) =
+    IsPanel (texts_of words) panel × IsAll (IsPanel (texts_of words)) panel
+    × AsksNoEdit words × AsksNoCheck words × AsksNoRules words × AsksNoFill words × AsksNoMake words
 Asks words (asks.Make make) =
     IsMake (texts_of words) make × IsAll (IsMake (texts_of words)) make
-    × AsksNoEdit words × AsksNoCheck words × AsksNoRules words × AsksNoFill words
+    × AsksNoEdit words × AsksNoCheck words × AsksNoRules words × AsksNoFill words × AsksNoPanel words
 Asks words asks.Nothing = IsNoCommand words

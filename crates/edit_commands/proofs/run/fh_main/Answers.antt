@@ -4,6 +4,7 @@ use Rattle.edit_commands.specs.EditRun.{edit_command}
 use Rattle.edit_commands.specs.MakeRun.{make_refusals}
 use Rattle.edit_commands.specs.RulesRun.{rules_refusals}
 use Rattle.fill_command.specs.FillRun.{fill_command}
+use Rattle.panel_command.specs.PanelRun.{panel_command}
 use Rattle.run_parts.specs.Commands.{refusals_of}
 use Rattle.run_parts.specs.Run.{word_refusals}
 use Rattle.run_parts.specs.declared.fault.Fault.TheVariants as fault
@@ -62,6 +63,24 @@ returns-in-Ok-Fill-clause-fill_complete g c = λ asked is. rw ((rw c.in-Ok-Fill.
 pub returns-in-Ok-Fill-clause-fill_due : goal.returns-in-Ok-Fill-clause-fill_due
 returns-in-Ok-Fill-clause-fill_due g c = λ asked is. rw ((rw c.in-Ok-Fill.field-0-is at c.in-Ok-Fill.ensures).1 asked is) c.run_fill.ensures.due
 
+-- ---- a panel
+
+pub returns-in-Ok-Panel-clause-unasked : goal.returns-in-Ok-Panel-clause-unasked
+returns-in-Ok-Panel-clause-unasked g c = λ none. absurd (none.no_panel c.in-Ok-Panel.panel (rw c.in-Ok-Panel.field-0-is at c.in-Ok-Panel.ensures).0)
+
+pub returns-in-Ok-Panel-clause-linked : goal.returns-in-Ok-Panel-clause-linked
+returns-in-Ok-Panel-clause-linked g c = λ ended asked is. rw ((rw c.in-Ok-Panel.field-0-is at c.in-Ok-Panel.ensures).1 asked is) (c.run_panel.ensures.linked ended)
+
+pub returns-in-Ok-Panel-clause-panel_stopped : goal.returns-in-Ok-Panel-clause-panel_stopped
+returns-in-Ok-Panel-clause-panel_stopped g c = λ not asked is.
+    rw ((rw c.in-Ok-Panel.field-0-is at c.in-Ok-Panel.ensures).1 asked is) (c.run_panel.ensures.stopped not)
+
+pub returns-in-Ok-Panel-clause-panel_complete : goal.returns-in-Ok-Panel-clause-panel_complete
+returns-in-Ok-Panel-clause-panel_complete g c = λ asked is. rw ((rw c.in-Ok-Panel.field-0-is at c.in-Ok-Panel.ensures).1 asked is) c.run_panel.ensures.complete
+
+pub returns-in-Ok-Panel-clause-panel_due : goal.returns-in-Ok-Panel-clause-panel_due
+returns-in-Ok-Panel-clause-panel_due g c = λ asked is. rw ((rw c.in-Ok-Panel.field-0-is at c.in-Ok-Panel.ensures).1 asked is) c.run_panel.ensures.due
+
 -- ---- a survey that is made
 
 pub returns-in-Ok-Make-clause-unasked : goal.returns-in-Ok-Make-clause-unasked
@@ -117,6 +136,15 @@ returns-in-Ok-Nothing-clause-fill_complete g c = λ asked is. absurd ((rw c.in-O
 pub returns-in-Ok-Nothing-clause-fill_due : goal.returns-in-Ok-Nothing-clause-fill_due
 returns-in-Ok-Nothing-clause-fill_due g c = λ asked is. absurd ((rw c.in-Ok-Nothing.field-0-is at c.in-Ok-Nothing.ensures).no_fill asked is)
 
+pub returns-in-Ok-Nothing-clause-panel_stopped : goal.returns-in-Ok-Nothing-clause-panel_stopped
+returns-in-Ok-Nothing-clause-panel_stopped g c = λ not asked is. absurd ((rw c.in-Ok-Nothing.field-0-is at c.in-Ok-Nothing.ensures).no_panel asked is)
+
+pub returns-in-Ok-Nothing-clause-panel_complete : goal.returns-in-Ok-Nothing-clause-panel_complete
+returns-in-Ok-Nothing-clause-panel_complete g c = λ asked is. absurd ((rw c.in-Ok-Nothing.field-0-is at c.in-Ok-Nothing.ensures).no_panel asked is)
+
+pub returns-in-Ok-Nothing-clause-panel_due : goal.returns-in-Ok-Nothing-clause-panel_due
+returns-in-Ok-Nothing-clause-panel_due g c = λ asked is. absurd ((rw c.in-Ok-Nothing.field-0-is at c.in-Ok-Nothing.ensures).no_panel asked is)
+
 pub returns-in-Ok-Nothing-clause-make_stopped : goal.returns-in-Ok-Nothing-clause-make_stopped
 returns-in-Ok-Nothing-clause-make_stopped g c = λ not asked is. absurd ((rw c.in-Ok-Nothing.field-0-is at c.in-Ok-Nothing.ensures).no_make asked is)
 
@@ -148,6 +176,11 @@ returns-in-Err-clause-rules_stopped g c = λ not asked is. inl (
 pub returns-in-Err-clause-fill_stopped : goal.returns-in-Err-clause-fill_stopped
 returns-in-Err-clause-fill_stopped g c = λ not asked is. inl (
     untouched-refused (refusals_of (fill_command asked)) fault.OutOfMemory c.refuse-in-Err.result _ (record { files = refl; calls = refl; faults = refl })
+    c.refuse-in-Err.ensures.printed c.refuse-in-Err.ensures.status tt (λ files. tt) (0, refl) (λ files. inl refl) (λ count. refl))
+
+pub returns-in-Err-clause-panel_stopped : goal.returns-in-Err-clause-panel_stopped
+returns-in-Err-clause-panel_stopped g c = λ not asked is. inl (
+    untouched-refused (refusals_of (panel_command asked)) fault.OutOfMemory c.refuse-in-Err.result _ (record { files = refl; calls = refl; faults = refl })
     c.refuse-in-Err.ensures.printed c.refuse-in-Err.ensures.status tt (λ files. tt) (0, refl) (λ files. inl refl) (λ count. refl))
 
 pub returns-in-Err-clause-make_stopped : goal.returns-in-Err-clause-make_stopped
