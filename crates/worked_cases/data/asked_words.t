@@ -384,6 +384,51 @@ The command that fills records takes three, and a budget.
   $ words fill fill --rules r --records c --released d
   nothing
 
+The command that edits records beside those of the last period takes six files and a key, and a budget. The key may be any text: it is no file.
+
+  $ words panel --rules r --records c --last l --released d --reasons w --proof p --key k
+  panel r c l d w p k 1000000
+  $ words panel --key k --proof p --budget 007 --last l --reasons w --released d --records c --rules r
+  panel r c l d w p k 7
+  $ words panel --rules r --records c --last l --released d --reasons w --proof p --key=r --budget=1000000000 --
+  panel r c l d w p r 1000000000
+  $ words panel --rules r --records c --last l --released d --reasons w --proof p --key ''
+  panel r c l d w p  1000000
+  $ words panel --rules r --records c --last l --released d --reasons w --proof p --key '7 9'
+  panel r c l d w p 7 9 1000000
+  $ words panel --rules r --records c --last l --released d --reasons w --proof p --key=-k
+  panel r c l d w p -k 1000000
+  $ words panel --rules r --records c --last l --released d --reasons w --proof p --key -k
+  nothing
+  $ words panel --rules r --records c --last l --released d --reasons w --proof p --key k --key k
+  nothing
+  $ words panel --rules r --records c --last l --released d --reasons w --proof p
+  nothing
+  $ words panel --rules r --records c --released d --reasons w --proof p --key k
+  nothing
+  $ words panel --rules r --records c --last l --released d --proof p --key k
+  nothing
+  $ words panel --rules r --records c --last l --released d --reasons w --proof p --key k --budget 0
+  nothing
+  $ words panel --rules r --records c --last l --released d --reasons w --proof p --key k --budget 1000000001
+  nothing
+  $ words panel --rules r --records c --last c --released d --reasons w --proof p --key k
+  nothing
+  $ words panel --rules r --records c --last ./l --released d --reasons w --proof l --key k
+  nothing
+  $ words panel --rules a/r --records c --last .//a/./r --released d --reasons w --proof p --key k
+  nothing
+  $ words panel --rules r --records c --last /c --released d --reasons w --proof p --key k
+  panel r c /c d w p k 1000000
+  $ words panel --rules r --records c --last l --released d --reasons w --proof p --key k --near 5
+  nothing
+  $ words panel --rules r --records c --last l --released d --reasons w --proof p --key k --class k
+  nothing
+  $ words panel --rules r --records c --last l --released d --reasons w --proof p --key k e
+  nothing
+  $ words edit --rules r --records c --last l --released d --reasons w --proof p
+  nothing
+
 Help and the version are no commands.
 
   $ words rules --rules r --help

@@ -36,6 +36,12 @@ that comes behind it is fetched.
   $ calls
   fetch rules
   fetch longer
+  $ forxainde panel --rules rules --records longer --last last --released released --reasons reasons --proof proof --key A
+  fault: too long longer
+  [8]
+  $ calls
+  fetch rules
+  fetch longer
   $ ls
   longer
   longest
@@ -99,6 +105,16 @@ others may have, and its first line is no proof's.
   fetch released
   fetch longer
 
+So it is of the file of the last period.
+
+  $ forxainde panel --rules rules --records records --last longer --released released --reasons reasons --proof proof --key A
+  fault: too long longer
+  [8]
+  $ calls
+  fetch rules
+  fetch records
+  fetch longer
+
 A file that can't be read is told before a later one that is too long, and so is one that has no reading.
 
   $ fail call 1 keep 0
@@ -129,6 +145,16 @@ A record file has at most 200,000 records. One with a record more has no reading
   $ forxainde fill --rules rules --records records --released released
   fault: records kind 15 TooManyRows
   [4]
+  $ cat >last <<EOF
+  > A
+  > EOF
+  $ forxainde panel --rules rules --records records --last last --released released --reasons reasons --proof proof --key A
+  fault: records kind 15 TooManyRows
+  [4]
+  $ forxainde panel --rules rules --records last --last records --released released --reasons reasons --proof proof --key A
+  fault: last kind 15 TooManyRows
+  [4]
+  $ rm last
   $ ls
   longer
   longest

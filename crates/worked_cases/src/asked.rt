@@ -1,11 +1,11 @@
 //! What the words of a command line ask for, as a line.
 
-use command_words::{check_asked, edit_asked, fill_asked, make_asked, rules_asked};
+use command_words::{check_asked, edit_asked, fill_asked, make_asked, panel_asked, rules_asked};
 use foundation::OutOfMemory;
 use std::alloc::Global;
 
-/// The line that tells what the words ask for, with its line feed: the command, its files in the order of its options, and
-/// then its numbers; or `nothing`. Where the words asked for two commands, both would be told.
+/// The line that tells what the words ask for, with its line feed: the command, its files and names in the order of its options,
+/// and then its numbers; or `nothing`. Where the words asked for two commands, both would be told.
 pub fn asked_line(alloc: Global, words: &[String]) -> Result<Vec<u8>, OutOfMemory> {
     let mut line = Vec::new(alloc);
     for told in [
@@ -13,6 +13,7 @@ pub fn asked_line(alloc: Global, words: &[String]) -> Result<Vec<u8>, OutOfMemor
         check_told(alloc, words)?,
         rules_told(alloc, words)?,
         fill_told(alloc, words)?,
+        panel_told(alloc, words)?,
         make_told(alloc, words)?,
     ] {
         line.extend_from_slice(told.as_bytes())?;
@@ -65,6 +66,19 @@ fn fill_told(alloc: Global, words: &[String]) -> Result<String, OutOfMemory> {
     let (rules, records) = (asked.rules, asked.records);
     let (released, budget) = (asked.released, asked.budget);
     Ok(format!(in alloc; "fill {rules} {records} {released} {budget}")?)
+}
+
+// The panel that the words ask for.
+fn panel_told(alloc: Global, words: &[String]) -> Result<String, OutOfMemory> {
+    let Some(asked) = panel_asked(alloc, words)? else {
+        return Ok(String::new(alloc));
+    };
+    let (rules, records, last) = (asked.rules, asked.records, asked.last);
+    let (released, reasons, proof) = (asked.released, asked.reasons, asked.proof);
+    let (key, budget) = (asked.key, asked.budget);
+    Ok(format!(in alloc;
+        "panel {rules} {records} {last} {released} {reasons} {proof} {key} {budget}"
+    )?)
 }
 
 // The survey that the words ask to be made.
