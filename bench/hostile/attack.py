@@ -2,7 +2,7 @@
 
 Usage: attack.py PROGRAM EXAMPLES SEED [GROUP..]
 
-The groups are words, little_memory, memory_a_byte, random_files, cut_files, changed_files, proofs, limits and hard_files; all of them where none is named.
+The groups are words, little_memory, memory_a_byte, random_files, cut_files, changed_files, panels, proofs, limits and hard_files; all of them where none is named.
 """
 import os
 import pathlib
@@ -50,11 +50,14 @@ CHECK = ["check", "--rules", "rules", "--records", "records", "--released", "rel
 RULES = ["rules", "--rules", "rules"]
 FILL = ["fill", "--rules", "rules", "--records", "records", "--released", "filled"]
 FILL_AGAIN = ["fill", "--rules", "rules", "--records", "filled", "--released", "again"]
+PANEL = ["panel", "--rules", "rules", "--records", "records", "--last", "last", "--reasons", "reasons", "--released", "released", "--proof", "proof", "--key", "firm"]
+PANEL_AGAIN = ["panel", "--rules", "rules", "--records", "again", "--last", "last", "--reasons", "reasons", "--released", "released", "--proof", "proof", "--key", "firm"]
 
 # Of the small files that are changed in thousands of ways, every so many edits that end with 0 or 1 are checked too.
 CHECK_EVERY = 4
 
 SUMMARY = re.compile(r"records (\d+) clean (\d+) changed (\d+) unresolved (\d+) weight \d+\nclaims (\d+) given (\d+)\n")
+PANELLED = re.compile(r"records (\d+) clean (\d+) changed (\d+) unresolved (\d+) weight \d+\n")
 FILLED = re.compile(r"records (\d+) filled (\d+) blocked (\d+) stopped (\d+)\n")
 REJECTED = re.compile(r"fault: proof line (\d+) (Grammar|Head|Drop|Table|Cert|RowText|Claims)\n")
 
@@ -196,6 +199,37 @@ class Attack:
         if later != f"records {told[1]} filled 0 blocked {told[3]} stopped {told[4]}\n" or (self.folder / "again").read_bytes() != filled:
             raise Failed(f"{self.group}: `fill` printed {printed!r}, and of what it wrote {later!r}")
 
+    def panel(self, rules, records, last, expected):
+        """Runs `panel` on these three files, and where it released something, once more on that: it is clean, each record beside its own last values."""
+        for name, text in (("rules", rules), ("records", records), ("last", last)):
+            (self.folder / name).write_bytes(text)
+        for name in WRITTEN:
+            (self.folder / name).write_bytes(BEFORE)
+        size = len(rules) + len(records) + len(last)
+        status, printed = self.words(PANEL, expected, size)
+        for name in WRITTEN:
+            if ((self.folder / name).read_bytes() == BEFORE) == (status in RELEASED):
+                raise Failed(f"{self.group}: `panel` ended with {status}, and the {name} file has {self.size(name)} bytes")
+        for name, text in (("rules", rules), ("records", records), ("last", last)):
+            if (self.folder / name).read_bytes() != text:
+                raise Failed(f"{self.group}: `panel` changed the file {name}")
+        if status not in RELEASED:
+            if printed.count("\n") != 1:
+                raise Failed(f"{self.group}: `panel` ended with {status} and printed {printed[:200]!r}")
+            return
+        told = PANELLED.fullmatch(printed)
+        if not told or (status == 1) != (told[4] != "0") or int(told[1]) != int(told[2]) + int(told[3]) + int(told[4]):
+            raise Failed(f"{self.group}: `panel` ended with {status} and printed {printed!r}")
+        proof = (self.folder / "proof").read_bytes()
+        if not proof.startswith(b"fh-panel 1\nbudget 1000000\nlines ") or not proof.endswith(b"end\n"):
+            raise Failed(f"{self.group}: the proof of a panel begins with {proof[:60]!r}")
+        released = (self.folder / "released").read_bytes()
+        (self.folder / "again").write_bytes(released)
+        count = int(told[2]) + int(told[3])
+        _, later = self.words(PANEL_AGAIN, {0}, size)
+        if later != f"records {count} clean {count} changed 0 unresolved 0 weight 0\n" or (self.folder / "released").read_bytes() != released:
+            raise Failed(f"{self.group}: `panel` printed {printed!r}, and of what it wrote {later!r}")
+
     def rules(self, rules, expected):
         """Runs `rules` on this rule file. It changes no file, and prints the lines where it ends with 0, and else one line."""
         (self.folder / "rules").write_bytes(rules)
@@ -287,6 +321,25 @@ def changed_files(attack, examples, dice):
                     attack.files(*((other, records) if is_rules else (rules, other)), ANY)
                     if is_rules:
                         attack.rules(other, {0, 3})
+    attack.end()
+
+
+def panels(attack, examples, dice):
+    """The three files of the panel that is an example, each cut off anywhere, with one byte changed, and replaced by random bytes."""
+    attack.begin("panels")
+    files = [(examples / name).read_bytes() for name in ("panel.rules", "panel.csv", "panel.last.csv")]
+    attack.panel(*files, {1})
+    for number, text in enumerate(files):
+        def tried(other):
+            attack.panel(*files[:number], other, *files[number + 1:], ANY)
+        for length in range(len(text)):
+            tried(text[:length])
+        for place in range(len(text)):
+            for byte in {0, 9, 10, 13, 34, 35, 44, 45, 48, 65, 239, 255, dice.randrange(256)}:
+                tried(text[:place] + bytes([byte]) + text[place + 1:])
+        for _ in range(300):
+            tried(bytes(dice.choice(b'firm,Staff\n"7 \xef\xbb\xbf0') for _ in range(dice.choice([1, 10, 100, 1000]))))
+            tried(text.split(b"\n")[0] + b"\n" + bytes(dice.choice(b'Miler,603"\n ./x') for _ in range(dice.choice([10, 100, 1000]))))
     attack.end()
 
 
@@ -606,12 +659,24 @@ def words(attack, examples, dice):
         attack.words(RULES + [option, "5"], {2})
         attack.words(FILL + [option, "5"], {0 if option == "--budget" else 2})
     attack.words(CHECK + ["--reasons", "why"], {2})
+    attack.panel(*((examples / name).read_bytes() for name in ("panel.rules", "panel.csv", "panel.last.csv")), {1})
+    attack.words(PANEL, {1})
+    for length in range(len(PANEL)):
+        attack.words(PANEL[:length], {2})
+    for option, status in (("--rules", 5), ("--records", 5), ("--last", 5), ("--reasons", 6), ("--released", 6), ("--proof", 6), ("--key", 4)):
+        place = PANEL.index(option) + 1
+        for name in ("missing/file", "folder", "rules/file"):
+            attack.words(PANEL[:place] + [name] + PANEL[place + 1:], {status})
+    for option in ("--workers", "--limit", "--near", "--class"):
+        attack.words(PANEL + [option, "5"], {2})
+    for budget, status in (("1", 1), ("007", 1), ("1000000000", 1), ("0", 2), ("1000000001", 2), ("+5", 2), ("", 2)):
+        attack.words(PANEL + ["--budget", budget], {status})
     attack.end()
 
 
 def main():
     program, examples, seed = sys.argv[1], pathlib.Path(sys.argv[2]), int(sys.argv[3])
-    groups = (words, little_memory, memory_a_byte, random_files, cut_files, changed_files, proofs, limits, hard_files)
+    groups = (words, little_memory, memory_a_byte, random_files, cut_files, changed_files, panels, proofs, limits, hard_files)
     named = [group for group in groups if group.__name__ in sys.argv[4:]]
     with tempfile.TemporaryDirectory() as folder:
         attack = Attack(program, folder)
