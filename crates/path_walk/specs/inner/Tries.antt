@@ -32,7 +32,9 @@ pub record IsAside (path : List Bool) (factors : List ℤ) : Type 0 where
 
 -- where the path keeps its last field, the line at this place did not close the path before
 abbrev pub HasPassed : SearchCase → List Bool → ℕ → LineParts → Type 0
-HasPassed c path i line = 0 < length path → last_letter path ≡ false → (next : PathState) → tried_line c (before_last path) i line next ≡ next
+HasPassed c path i line =
+    0 < length path → last_letter path ≡ false → (next : PathState)
+    → tried_line c (before_last path) i line next ≡ next
 
 -- ---- a categorical field that is treated
 
