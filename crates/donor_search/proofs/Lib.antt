@@ -1,4 +1,5 @@
 pub mod BlockLaws
+pub mod ClassLaws
 pub mod CleanLaws
 pub mod DeckLaws
 pub mod DonorLaws

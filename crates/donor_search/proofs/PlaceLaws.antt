@@ -1,7 +1,11 @@
-use Rattle.std.proofs.Common.{◌≡◌, ℕ, zero, suc, ◌+◌, ◌<◌, Bool, true, false, List, [], ◌∷◌, ◌++◌, All, Some, slice_get, slice_index_or, refl, subst, arith}
+use Rattle.std.proofs.Common.{◌≡◌, ℕ, zero, suc, ◌+◌, ◌<◌, ◌≤◌, Bool, true, false, List, [], ◌∷◌, ◌++◌, All, Some, append-nil, drop, length, slice_get}
+use Rattle.std.proofs.Common.{slice_index_or, refl, sym, ap, ◌∙◌, subst, arith}
 use Rattle.std.specs.List.{AllPairs}
+use Rattle.std.specs.List.Sorted.{IsStrictlyIncreasing}
+use Rattle.std.proofs.lemmas.List.{at_drop_all}
 use Rattle.std.proofs.lemmas.List.Elements.{All-append, All-cons, All-nil}
 use Rattle.std.proofs.lemmas.List.Kept.{AllPairs-cons}
+use Rattle.std.proofs.lemmas.Option.{slice_get_within}
 use Rattle.donor_search.specs.Places.{place_if, places_from}
 
 -- The places of the elements that pass a test.
@@ -44,3 +48,22 @@ module _ {X : Type 0} (test : X → Bool) where
       by true rest = AllPairs-cons (λ (a b : ℕ). a < b) i (places_from test (suc i) xs)
           (each-place (λ (n : ℕ). i < n) (suc i) xs (λ k y at passes. later k)) rest
       by false rest = rest
+
+  -- all places, counted from none: what holds of each at which the element passes
+  pub each-passing : (P : ℕ → Type 0) (xs : List X) (d : X) → ((k : ℕ) → k < length xs → test (slice_index_or xs k d) ≡ true → P k)
+      → All P (places_from test 0 xs)
+  each-passing P xs d each = each-place P 0 xs (λ k x at passes.
+      subst P (from_zero k) (each k (slice_get_within xs k x at) (ap test (get-at xs k x d at) ∙ passes)))
+    where
+      from_zero : (k : ℕ) → k ≡ 0 + k
+      from_zero k = omega arith
+
+  -- and they rise
+  pub all-rise : (xs : List X) → IsStrictlyIncreasing (places_from test 0 xs)
+  all-rise xs k within = places-rise 0 xs k (k + 1) 0 (omega arith) within
+
+  -- where none is left, all are found
+  pub found-all : (xs : List X) (i : ℕ) (found : List ℕ) → length xs ≤ i → found ++ places_from test i (drop i xs) ≡ places_from test 0 xs
+      → found ≡ places_from test 0 xs
+  found-all xs i found past before =
+      sym (append-nil found) ∙ ap (λ (ns : List ℕ). found ++ ns) (sym (at_drop_all (places_from test i) xs i past)) ∙ before

@@ -1,4 +1,4 @@
-use Rattle.std.proofs.Common.{◌≡◌, ℕ, zero, suc, ◌+◌, ◌<◌, ◌≤◌, Bool, false, List, [], ◌∷◌, ◌++◌, All, get_or, length, take, subst, append-nil, arith}
+use Rattle.std.proofs.Common.{◌≡◌, ℕ, zero, suc, ◌<◌, ◌≤◌, Bool, false, List, [], ◌∷◌, ◌++◌, All, get_or, length, take, subst, append-nil, arith}
 use Rattle.std.specs.Prelude.{nat_eq}
 use Rattle.std.specs.Cmp.{nat_eq_equiv}
 use Rattle.std.specs.List.{Contains, IsDistinct, fold, position_or_len}
@@ -15,9 +15,9 @@ use Rattle.edit_model.specs.declared.value.Value.{Value}
 use Rattle.donor_measure.specs.declared.yardstick.Yardstick.{Yardstick}
 use Rattle.donor_search.specs.CleanRows.{IsCleanRow, donors_of}
 use Rattle.donor_search.specs.Rankings.{distance_to, in_order, is_nearer, placed, ranking_of}
-use Rattle.donor_search.proofs.DonorLaws.{each_clean}
+use Rattle.donor_search.proofs.CleanLaws.{donors_clean}
 use Rattle.donor_search.proofs.OrderLaws.{all_take}
-use Rattle.donor_search.proofs.PlaceLaws.{places-rise}
+use Rattle.donor_search.proofs.PlaceLaws.{all-rise}
 
 -- Which donors a ranking has: some of the deck, no more than are asked for, and none twice.
 
@@ -50,17 +50,6 @@ once_rising xs rising = IsDistinct-from_apart nat_eq xs
   where
     apart : (a b : ℕ) → a < b → nat_eq a b ≡ false
     apart a b less = grind (arith, less)
-
--- ---- the donors
-
-module _ (survey : SurveyParts) where
-  -- the numbers of the clean rows rise
-  pub donors_rise : (rows : List (List Value)) → IsStrictlyIncreasing (donors_of survey rows)
-  donors_rise rows k within = places-rise (is_clean survey) 0 rows k (k + 1) 0 (omega arith) within
-
-  -- each is the number of a clean row
-  pub donors_clean : (rows : List (List Value)) → All (IsCleanRow survey rows) (donors_of survey rows)
-  donors_clean rows = each_clean (IsCleanRow survey rows) survey rows (λ k below clean. (below, clean))
 
 -- ---- a ranking
 
@@ -99,4 +88,4 @@ module _ (yardsticks : List Yardstick) where
   pub ranking-once : (survey : SurveyParts) (rows : List (List Value)) (row : List Value) (kept near : ℕ)
       → IsDistinct nat_eq (ranking_of yardsticks rows (donors_of survey rows) row kept near)
   ranking-once survey rows row kept near =
-      ranking_distinct rows (donors_of survey rows) row kept near (once_rising (donors_of survey rows) (donors_rise survey rows))
+      ranking_distinct rows (donors_of survey rows) row kept near (once_rising (donors_of survey rows) (all-rise (is_clean survey) rows))

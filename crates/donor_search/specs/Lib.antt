@@ -1,4 +1,5 @@
 pub mod Asked
+pub mod Classes
 pub mod CleanRows
 pub mod Decks
 pub mod Places

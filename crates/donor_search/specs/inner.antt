@@ -1,4 +1,5 @@
 pub mod Candidates
+pub mod Donors
 pub mod Passings
 pub mod Profiles
 pub mod Searches

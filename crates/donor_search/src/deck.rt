@@ -1,33 +1,38 @@
-ghost use Rattle.std.specs.Prelude.{◌≡◌, ℕ, ◌<◌, ◌++◌, length, All, IfOk, OnOk};
-ghost use Rattle.std.specs.List.{AllByRecursion};
+ghost use Rattle.std.specs.Prelude.{◌≡◌, ℕ, ◌<◌, length, All, IfOk};
+ghost use Rattle.std.specs.Arc.{arc_value};
+ghost use Rattle.std.specs.List.{AllByRecursion, flat_map};
 ghost use Rattle.std.specs.List.Sorted.{IsStrictlyIncreasing};
-ghost use Rattle.edit_model.specs.CleanRecords.{is_clean};
 ghost use Rattle.edit_model.specs.Rows.{IsRow};
 ghost use Rattle.edit_model.specs.PlainNumbers.{HasPlain};
+ghost use Rattle.donor_measure.specs.Buckets.{marks_of};
 ghost use Rattle.donor_measure.specs.Yardsticks.{yardstick_at, yardsticks_of};
-ghost use Rattle.donor_search.specs.CleanRows.{CanAllGive, IsCleanRow, donors_of, row_at};
+ghost use Rattle.donor_search.specs.Classes.{donors_of_class};
+ghost use Rattle.donor_search.specs.CleanRows.{CanAllGive, IsCleanRow, donors_of};
 ghost use Rattle.donor_search.specs.Decks.{AreSlots, IsDeckOf, slots_at};
 ghost use Rattle.donor_search.specs.declared.slot.Slot.{Slot as AnySlot};
-ghost use Rattle.donor_search.specs.Places.{place_if};
 
-use crate::index::{marks_of_rows, marks_of_slots, slots_of};
+use crate::class::{Class, donor_rows};
+use crate::index::{marks_of_slots, slots_of};
 use crate::profile::FIRST;
 use crate::ranges::{MarkRange, ranges_of};
+use crate::row_marks::RowMarks;
 use crate::slot::Slot;
 use donor_measure::Yardsticks;
-use edit_model::{Survey, is_clean};
+use edit_model::Survey;
 use foundation::{OutOfMemory, Sequence};
 use record_text::Sheet;
 use std::alloc::Global;
 use std::marker::Model;
+use std::sync::Arc;
 
-/// The donors of a sheet: the numbers of its clean rows, in rising order. Beside them it keeps, for each numerical field, the
-/// donors in the order of their buckets there, and marks with their ranges, which tell donors that are far away. Contracts see the lists.
+/// The donors of a sheet, or of one imputation class of it: the numbers of clean rows, in rising order. Beside them it keeps, for each
+/// numerical field, the donors in the order of their buckets there, and marks with their ranges, which tell donors that are far away.
+/// Contracts see the lists.
 #[derive(Debug, Drop)]
 pub struct Deck {
     rows: Vec<u32>,
     index: Vec<Sequence<Slot>>,
-    marks: Vec<u32>,
+    marks: Arc<RowMarks>,
     first: u32,
     walk_marks: Vec<u32>,
     first_marks: Vec<u32>,
@@ -35,6 +40,7 @@ pub struct Deck {
 }
 
 impl Model for Deck {
+    ghost use Rattle.std.specs.Arc.{arc_value};
     ghost use Rattle.std.specs.List.Sorted.{IsStrictlyIncreasing};
     ghost use Rattle.donor_search.specs.Decks.{DeckParts};
 
@@ -43,7 +49,7 @@ impl Model for Deck {
     ghost view = { λ d. record {
       donors = d.rows.items;
       index = d.index.items;
-      marks = d.marks.items;
+      marks = arc_value d.marks;
       first = d.first;
       walk_marks = d.walk_marks.items;
       first_marks = d.first_marks.items;
@@ -66,24 +72,35 @@ impl Deck {
         ensures index { IfOk result (λ deck. AllByRecursion HasPlain sheet.now.rows
             → IsDeckOf (yardsticks_of survey.now.fields) sheet.now.rows deck) }
     {
-        let rows = clean_rows(alloc, survey, sheet)?;
-        let index = index_of(alloc, survey, sheet, &rows)?;
-        let marks = marks_of_rows(alloc, survey, sheet)?;
-        let first = first_number(survey);
-        let slots = slots_in(&index, first);
-        let count = survey.fields().len();
-        let walk_marks = marks_of_slots(alloc, survey, sheet, slots, count as u32)?;
-        let first_marks = marks_of_slots(alloc, survey, sheet, slots, FIRST as u32)?;
-        let ranges = ranges_of(alloc, &walk_marks, count, slots.len())?;
-        Ok(Deck {
-            rows,
-            index,
-            marks,
-            first,
-            walk_marks,
-            first_marks,
-            ranges,
-        })
+        let rows = donor_rows(alloc, survey, sheet, None)?;
+        let marks = Arc::new(alloc, RowMarks::of(alloc, survey, sheet)?)?;
+        deck_of(alloc, survey, sheet, marks, rows)
+    }
+
+    /// The clean rows of the sheet that have this code at this field, in row order: the donors of one imputation class. There are none
+    /// where the field is numerical or past the last. The sheet is one of the survey, and these are the marks of its rows, which the
+    /// decks of all classes share. A ranking may be asked of them as of all donors.
+    pub fn of_class(
+        alloc: Global,
+        survey: &Survey,
+        sheet: &Sheet,
+        marks: &Arc<RowMarks>,
+        field: u32,
+        code: u8,
+    ) -> Result<Deck, OutOfMemory>
+        requires rows { AllByRecursion (IsRow survey.now.fields) sheet.now.rows }
+        requires marks { AllByRecursion HasPlain sheet.now.rows
+            → arc_value marks.now ≡ flat_map (marks_of (yardsticks_of survey.now.fields)) sheet.now.rows }
+        ensures of_class { IfOk result (λ deck. deck.donors ≡ donors_of_class survey.now sheet.now.rows field code) }
+        ensures rows { IfOk result (λ deck. All (IsCleanRow survey.now sheet.now.rows) deck.donors) }
+        ensures rising { IfOk result (λ deck. IsStrictlyIncreasing deck.donors) }
+        ensures measurable { IfOk result (λ deck. CanAllGive survey.now sheet.now.rows deck.donors) }
+        ensures index { IfOk result (λ deck. AllByRecursion HasPlain sheet.now.rows
+            → IsDeckOf (yardsticks_of survey.now.fields) sheet.now.rows deck) }
+    {
+        let class = Class { field, code };
+        let rows = donor_rows(alloc, survey, sheet, Some(class))?;
+        deck_of(alloc, survey, sheet, Arc::try_clone(marks)?, rows)
     }
 
     /// The numbers of the clean rows, in rising order. No memory.
@@ -141,6 +158,42 @@ impl Deck {
     }
 }
 
+// The deck of these donors, which are clean rows in rising order, over the marks of all rows.
+fn deck_of(
+    alloc: Global,
+    survey: &Survey,
+    sheet: &Sheet,
+    marks: Arc<RowMarks>,
+    rows: Vec<u32>,
+) -> Result<Deck, OutOfMemory>
+    requires marks { AllByRecursion HasPlain sheet.now.rows
+        → arc_value marks ≡ flat_map (marks_of (yardsticks_of survey.now.fields)) sheet.now.rows }
+    requires fits { AllByRecursion (IsRow survey.now.fields) sheet.now.rows }
+    requires clean { All (IsCleanRow survey.now sheet.now.rows) rows.items }
+    requires rising { IsStrictlyIncreasing rows.items }
+    ensures rows { IfOk result (λ deck. deck.donors ≡ rows.items) }
+    ensures measurable { IfOk result (λ deck. CanAllGive survey.now sheet.now.rows deck.donors) }
+    ensures index { IfOk result (λ deck. AllByRecursion HasPlain sheet.now.rows
+        → IsDeckOf (yardsticks_of survey.now.fields) sheet.now.rows deck) }
+{
+    let index = index_of(alloc, survey, sheet, &rows)?;
+    let first = first_number(survey);
+    let slots = slots_in(&index, first);
+    let count = survey.fields().len();
+    let walk_marks = marks_of_slots(alloc, survey, sheet, slots, count as u32)?;
+    let first_marks = marks_of_slots(alloc, survey, sheet, slots, FIRST as u32)?;
+    let ranges = ranges_of(alloc, &walk_marks, count, slots.len())?;
+    Ok(Deck {
+        rows,
+        index,
+        marks,
+        first,
+        walk_marks,
+        first_marks,
+        ranges,
+    })
+}
+
 // The slots of a field; none past the last.
 fn slots_in(index: &[Sequence<Slot>], field: u32) -> &[Slot]
     ensures { result.now ≡ slots_at index.now field }
@@ -184,33 +237,4 @@ fn index_of(
         index.push(slots_of(alloc, survey, sheet, donors, field, scale)?)?;
     }
     Ok(index)
-}
-
-// The numbers of the clean rows, in order.
-fn clean_rows(alloc: Global, survey: &Survey, sheet: &Sheet) -> Result<Vec<u32>, OutOfMemory>
-    requires { AllByRecursion (IsRow survey.now.fields) sheet.now.rows }
-    ensures { IfOk result (λ rows. rows.items ≡ donors_of survey.now sheet.now.rows) }
-{
-    let mut rows = Vec::new(alloc);
-    for row_no in 0..sheet.len() {
-        push_clean(&mut rows, survey, sheet, row_no)?;
-    }
-    Ok(rows)
-}
-
-// Puts the row's number last where the row is clean.
-fn push_clean(
-    rows: &mut Vec<u32>,
-    survey: &Survey,
-    sheet: &Sheet,
-    row_no: u32,
-) -> Result<(), OutOfMemory>
-    requires row { row_no < length sheet.now.rows }
-    requires fits { AllByRecursion (IsRow survey.now.fields) sheet.now.rows }
-    ensures { OnOk result (rows.new.items ≡ rows.old.items ++ place_if (is_clean survey.now (row_at sheet.now.rows row_no)) row_no) }
-{
-    if is_clean(survey, sheet.row(row_no)) {
-        rows.push(row_no)?;
-    }
-    Ok(())
 }

@@ -111,29 +111,6 @@ fn slot(survey: &Survey, sheet: &Sheet, donor: u32, field: u32, scale: u64) -> S
     }
 }
 
-/// The marks of all rows, one after the other.
-pub(crate) fn marks_of_rows(
-    alloc: Global,
-    survey: &Survey,
-    sheet: &Sheet,
-) -> Result<Vec<u32>, OutOfMemory>
-    requires { AllByRecursion (IsRow survey.now.fields) sheet.now.rows }
-    ensures { IfOk result (λ marks. AllByRecursion HasPlain sheet.now.rows
-        → marks.items ≡ flat_map (marks_of (yardsticks_of survey.now.fields)) sheet.now.rows) }
-{
-    let yardsticks = Yardsticks::of(survey);
-    let mut marks = Vec::new(alloc);
-    for row_no in 0..sheet.len() {
-        push_marks(
-            &mut marks,
-            &yardsticks,
-            yardsticks.count(),
-            sheet.row(row_no),
-        )?;
-    }
-    Ok(marks)
-}
-
 /// The marks of the donors at so many fields at most, in the order of these slots.
 pub(crate) fn marks_of_slots(
     alloc: Global,
@@ -156,8 +133,8 @@ pub(crate) fn marks_of_slots(
     Ok(marks)
 }
 
-// Puts the marks of a row at so many fields at most last.
-fn push_marks(
+/// Puts the marks of a row at so many fields at most last.
+pub(crate) fn push_marks(
     marks: &mut Vec<u32>,
     yardsticks: &Yardsticks,
     most: u32,

@@ -10,7 +10,7 @@ use Rattle.donor_search.specs.CleanRows.{row_at}
 use Rattle.donor_search.proofs.CleanLaws.{is_row_at}
 use Rattle.donor_search.proofs.MarkTables.{lists_more, row_put}
 use Rattle.donor_search.proofs.ProfileLaws.{marks_long}
-use Rattle.donor_search.proofs.index.marks_of_rows.Goals as goal
+use Rattle.donor_search.proofs.row_marks.RowMarks.of.Goals as goal
 
 pub push_marks-requires : goal.push_marks-requires
 push_marks-requires c =

@@ -3,7 +3,7 @@ use Rattle.std.specs.List.{AllByRecursion, flat_map}
 use Rattle.edit_model.specs.PlainNumbers.{HasPlain}
 use Rattle.donor_measure.specs.Buckets.{marks_of}
 use Rattle.donor_measure.specs.Yardsticks.{yardsticks_of}
-use Rattle.donor_search.proofs.index.marks_of_rows.Given as goal
+use Rattle.donor_search.proofs.row_marks.RowMarks.of.Given as goal
 
 abbrev pub invariant-loop-row_no : goal.invariant-loop-row_no
 invariant-loop-row_no l = AllByRecursion HasPlain l.sheet.rows
