@@ -36,7 +36,8 @@ impl Model for SharedClasses {
 
     ghost view = { λ s. name_of (arc_value s.classes) s.books.items };
 
-    ghost invariant = { λ s. SharesClasses (arc_value s.classes) s.books.items s.histories.items s.histories.cap };
+    ghost invariant = { λ s.
+        SharesClasses (arc_value s.classes) s.books.items s.histories.items s.histories.cap };
 }
 
 impl SharedClasses {
@@ -52,7 +53,12 @@ impl SharedClasses {
         requires passes { 0 < passes }
         requires rows { length class_of.items + 1 < 2 ^ 32 }
         requires classes { All (λ class. class < classes) class_of.items }
-        ensures terms { IfOk result (λ r. r.0.terms ≡ record { class_of = class_of.items; classes = classes; limit = limit; passes = passes }) }
+        ensures terms { IfOk result (λ r. r.0.terms ≡ record {
+          class_of = class_of.items;
+          classes = classes;
+          limit = limit;
+          passes = passes;
+        }) }
         ensures passes { IfOk result (λ r. length r.1.items ≡ passes) }
         ensures fresh { IfOk result (λ r. All (IsFreshPass r.0) r.1.items) }
     {
@@ -83,8 +89,10 @@ impl SharedClasses {
         requires few { length ranking.now ≤ most_near }
         requires donors { All (IsOfClass self.now.terms.class_of (class_at self.now row_no)) ranking.now }
         ensures classes { pass.new.classes ≡ pass.old.classes }
-        ensures others { (class : ℕ) → class ≢ class_at self.now row_no → pass_in class pass.new ≡ pass_in class pass.old }
-        ensures placed { let state = state_in (class_at self.now row_no) pass.new in ArePlaced state.seen state.mine }
+        ensures others { (class : ℕ) → class ≢ class_at self.now row_no
+            → pass_in class pass.new ≡ pass_in class pass.old }
+        ensures placed { let state = state_in (class_at self.now row_no) pass.new in
+            ArePlaced state.seen state.mine }
         ensures answered { let class = class_at self.now row_no in
             IsAnswered (pass_in class pass.old) row_no ranking.now result (pass_in class pass.new) }
     {
@@ -105,7 +113,8 @@ impl SharedClasses {
         requires all { length passes.items ≡ self.terms.passes }
         ensures histories { length result.items ≡ self.terms.classes }
         ensures whole { let histories = map (λ h. h.items) result.items in
-            EachClass self (λ class. IsWhole self.terms.limit (passes_in class passes.items) (history_in class histories)) }
+            EachClass self (λ class.
+            IsWhole self.terms.limit (passes_in class passes.items) (history_in class histories)) }
         ensures sound { let histories = map (λ h. h.items) result.items in
             EachClass self (λ class. IsSound (book_terms self.terms) (history_in class histories)) }
         ensures of_class { let histories = map (λ h. h.items) result.items in
@@ -138,7 +147,8 @@ fn passes_of(
     count: u32,
 ) -> Result<Vec<ClassPass>, OutOfMemory>
     ensures as_many { IfOk result (λ all. length all.items ≡ count) }
-    ensures fresh { IfOk result (λ all. All (λ pass. pass ≡ fresh_pass (arc_value classes.now) []) all.items) }
+    ensures fresh { IfOk result (λ all.
+        All (λ pass. pass ≡ fresh_pass (arc_value classes.now) []) all.items) }
 {
     let mut all = Vec::with_capacity(alloc, count as usize)?;
     for _ in 0..count {
@@ -152,8 +162,9 @@ fn deal(alloc: Global, all: &mut Vec<ClassPass>, passes: Vec<Pass>) -> Result<()
     requires as_many { length passes.items ≡ length all.old.items }
     requires next { All (λ class_pass. All (IsNext class_pass) passes.items) all.old.items }
     ensures as_many { OnOk result (length all.new.items ≡ length all.old.items) }
-    ensures dealt { OnOk result ((old : ClassPassState) (book : BookName) → All (λ pass. pass ≡ old) all.old.items
-        → All (λ pass. pass.book ≡ book) passes.items → All (λ pass. pass ≡ with_class old book) all.new.items) }
+    ensures dealt { OnOk result ((old : ClassPassState) (book : BookName)
+        → All (λ pass. pass ≡ old) all.old.items → All (λ pass. pass.book ≡ book) passes.items
+        → All (λ pass. pass ≡ with_class old book) all.new.items) }
 {
     let mut passes = passes;
     for class_pass in all.iter_mut() {

@@ -37,7 +37,11 @@ won_with class_of class w = record { row_no = row_with class_of class w.row_no; 
 
 abbrev pub entry_with : List ℕ → ℕ → Entry → Entry
 entry_with class_of class e =
-    record { row_no = row_with class_of class e.row_no; ranking = map (row_with class_of class) e.ranking; reply = donor_with class_of class e.reply }
+    record {
+      row_no = row_with class_of class e.row_no;
+      ranking = map (row_with class_of class) e.ranking;
+      reply = donor_with class_of class e.reply;
+    }
 
 abbrev pub placed_with : List ℕ → ℕ → Placed → Placed
 placed_with class_of class m = record { place = m.place; entry = entry_with class_of class m.entry }
@@ -60,7 +64,8 @@ states_from class_of class (pass ∷ passes) = state_with class_of class pass �
 -- the terms of the class's book, in the numbers of the class
 abbrev pub class_terms : ClassTerms → ℕ → Terms
 class_terms terms class =
-    record { limit = terms.limit; donors = length (rows_in terms.class_of class); rows = length (rows_in terms.class_of class); passes = terms.passes }
+    let count = length (rows_in terms.class_of class) in
+    record { limit = terms.limit; donors = count; rows = count; passes = terms.passes }
 
 -- the rows of each class, and the number of each row in its class
 pub record AreNumbered (class_of numbers : List ℕ) (rows : List (List ℕ)) : Type 0 where
