@@ -1,2 +1,3 @@
+pub mod ClassLaws
 pub mod NeedLaws
 pub mod RankingLaws

@@ -1,5 +1,6 @@
-use Rattle.std.proofs.Common.{◌≡◌, ◌<◌, ◌==◌, ℕ, not, Bool, true, false, List, [], All, Some, get_or, length, map, sym, ap}
+use Rattle.std.proofs.Common.{◌≡◌, ◌<◌, ℕ, not, Bool, true, false, List, [], All, Option, Some, IfSome, get_or, length, map, sym, ap}
 use Rattle.std.proofs.Common.{◌∙◌, subst, arith}
+use Rattle.std.proofs.lemmas.List.Elements.{All-weaker}
 use Rattle.std.specs.Borrow.{Bor}
 use Rattle.std.specs.Fn.{Shared}
 use Rattle.std.proofs.lemmas.List.{get_or-map, length-map, same_lists}
@@ -9,7 +10,6 @@ use Rattle.edit_model.specs.declared.value.Value.{Value}
 use Rattle.edit_model.proofs.OrderLaws.{order-length}
 use Rattle.bound_cert.specs.Paths.{keeps_bad, kept_set}
 use Rattle.bound_cert.specs.declared.cert.Cert.{Cert}
-use Rattle.bound_cert.specs.declared.outcome.Outcome.{Outcome}
 use Rattle.bound_cert.specs.declared.outcome.Outcome.TheVariants as outcome
 use Rattle.edit_paths.specs.Cases.{SearchCase, IsCase}
 use Rattle.edit_paths.specs.Outcomes.{outcome_of}
@@ -22,12 +22,11 @@ use Rattle.edit_paths.proofs.ChoiceLaws.{found-from, word-at}
 use Rattle.edit_paths.proofs.FieldPlaces.{place-of}
 use Rattle.edit_paths.proofs.KeptLines.{kept-number}
 use Rattle.back_subst.specs.Gifts.{path_of}
-use Rattle.donor_measure.specs.Yardsticks.{yardsticks_of}
 use Rattle.donor_search.specs.CleanRows.{IsCleanRow, row_at}
 use Rattle.donor_search.specs.Rankings.{ranking_of}
-use Rattle.donor_search.proofs.RankedLaws.{ranking-donors}
-use Rattle.record_pieces.specs.Needs.{IsRankingFor, IsRankingOf, Ranks}
-use Rattle.record_pieces.specs.Rests.{IsPieceIn, IsRest, case_in, rows_in}
+use Rattle.record_pieces.specs.Classes.{IsDonorIn}
+use Rattle.record_pieces.specs.Needs.{IsRankingOf, donors_for}
+use Rattle.record_pieces.specs.Rests.{IsPieceIn, IsRest, case_in, class_field_in, rows_in}
 use Rattle.record_pieces.specs.declared.piece.Piece.{Piece}
 use Rattle.record_pieces.specs.declared.rest.Rest.{Rest}
 
@@ -64,18 +63,20 @@ module _ (c : SearchCase) where
 
 -- ---- the ranking
 
--- the deck and the measure rank the clean records by the survey's yardsticks, at the fields that the path keeps
+-- the nearest donors of its class at the fields that the path keeps are what the record ranks
 pub ranks-path : {F : Type 0} (calls : Shared F (ℕ × (Bor Value × (Bor Value × Unit {0}))) ℕ) (e : Rest F) → IsRest calls e
     → (row_no : ℕ) (row : List Value) → row ≡ row_at (rows_in e) row_no
     → (path : List Bool) → IsCase (case_in e (row_at (rows_in e) row_no)) → length path ≡ length e.survey.fields
     → IsOpen (case_in e (row_at (rows_in e) row_no)) path
     → (kept : ℕ) → kept ≡ kept_set e.survey.fields row path
-    → (ranking items : List ℕ) → ranking ≡ items → items ≡ ranking_of e.measure.yardsticks (rows_in e) e.deck.donors row kept e.near
-    → IsRankingOf e.survey (rows_in e) e.near (row_at (rows_in e) row_no) path ranking
-ranks-path calls e is_rest row_no row there path is whole opened kept set ranking items taken ranked = record {
+    → (ranking : List ℕ)
+    → ranking ≡ ranking_of e.measure.yardsticks (rows_in e) (donors_for e.survey (rows_in e) (class_field_in e) row kept) row kept e.near
+    → IsRankingOf e.survey (rows_in e) (class_field_in e) e.near (row_at (rows_in e) row_no) path ranking
+ranks-path calls e is_rest row_no row there path is whole opened kept set ranking ranked = record {
   kept = kept;
   fields = (λ i. path_of e.survey.fields (number i)) ∙ kept-path (case_in e (row_at (rows_in e) row_no)) is path whole opened;
-  ranked = taken ∙ ranked ∙ (λ i. ranking_of (is_rest.yardsticks i) (rows_in e) (is_rest.deck i) (there i) kept e.near);
+  ranked = ranked ∙ (λ i. ranking_of (is_rest.yardsticks i) (rows_in e) (donors_for e.survey (rows_in e) (class_field_in e) (there i) kept)
+      (there i) kept e.near);
 }
   where
     number : kept ≡ kept_set e.survey.fields (row_at (rows_in e) row_no) path
@@ -86,19 +87,7 @@ ranks-path calls e is_rest row_no row there path is whole opened kept set rankin
 -- the donors that a piece ranks are clean records
 pub piece-clean : {F : Type 0} (rest : Rest F) (piece : Piece) → IsPieceIn rest piece → (ranking : List ℕ) → piece.ranking ≡ Some ranking
     → All (IsCleanRow rest.survey (rows_in rest)) ranking
-piece-clean rest piece is ranking there = by piece.outcome
-    (subst (IsRankingFor rest.survey (rows_in rest) rest.near (row_at (rows_in rest) piece.row_no) piece.outcome) there is.ranking)
-  where
-    ranked : (b : Bool) (path : List Bool) → Ranks b rest.survey (rows_in rest) rest.near (row_at (rows_in rest) piece.row_no) path (Some ranking)
-        → All (IsCleanRow rest.survey (rows_in rest)) ranking
-    ranked true path of =
-        subst (λ (ds : List ℕ). All (IsCleanRow rest.survey (rows_in rest)) ds) (sym of.ranked)
-        (ranking-donors (yardsticks_of rest.survey.fields) rest.survey (rows_in rest) (row_at (rows_in rest) piece.row_no) of.kept rest.near)
-    ranked false path none = absurd (cc)
-
-    by : (o : Outcome) → IsRankingFor rest.survey (rows_in rest) rest.near (row_at (rows_in rest) piece.row_no) o (Some ranking)
-        → All (IsCleanRow rest.survey (rows_in rest)) ranking
-    by (outcome.Change path weight cert) ranks = ranked (not (weight == 0)) path ranks
-    by (outcome.Budget path work) none = absurd (cc)
-    by (outcome.Overflow path event) none = absurd (cc)
-    by (outcome.Contradictory cert) none = absurd (cc)
+piece-clean rest piece is ranking there =
+    All-weaker (IsDonorIn rest.survey (rows_in rest) (class_field_in rest) piece.class) (IsCleanRow rest.survey (rows_in rest))
+    (λ d donor. donor.clean) ranking
+    (subst (λ (o : Option (List ℕ)). IfSome o (All (IsDonorIn rest.survey (rows_in rest) (class_field_in rest) piece.class))) there is.donors)

@@ -1,3 +1,4 @@
+pub mod Classes
 pub mod Needs
 pub mod Rests
 pub mod inner

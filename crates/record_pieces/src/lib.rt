@@ -3,10 +3,12 @@
 //! `specs/Needs.antt`.
 #![tactic(auto)]
 
+mod decks;
 mod piece;
 mod rest;
 mod search;
 
+pub use decks::Decks;
 pub use piece::Piece;
 pub use rest::Rest;
 pub use search::piece_of;

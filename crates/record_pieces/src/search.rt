@@ -1,18 +1,24 @@
 //! What is found of one record.
-ghost use Rattle.std.specs.Prelude.{◌≡◌, ◌<◌, ◌==◌, ℕ, IfOk, length, not, true};
+ghost use Rattle.std.specs.Prelude.{◌≡◌, ◌<◌, ◌==◌, ℕ, IfOk, IfSome, length, not, true};
+ghost use Rattle.std.specs.List.{All};
 ghost use Rattle.edit_line.specs.EditSets.{EditsParts};
 ghost use Rattle.edit_paths.specs.Cases.{IsCase};
 ghost use Rattle.edit_paths.specs.Outcomes.{outcome_of};
 ghost use Rattle.edit_paths.specs.States.{IsOpen};
+ghost use Rattle.bound_cert.specs.Paths.{kept_set};
+ghost use Rattle.donor_measure.specs.Measures.{HasMeasurable};
 ghost use Rattle.donor_search.specs.CleanRows.{row_at};
-ghost use Rattle.record_pieces.specs.Rests.{IsPieceIn, IsRest, KeepsFor, case_in, edits_in, rows_in};
-ghost use Rattle.record_pieces.specs.inner.Searches.{IsRankingIn, RanksIn};
+ghost use Rattle.donor_search.specs.Rankings.{ranking_of};
+ghost use Rattle.record_pieces.specs.Classes.{IsDonorIn, class_count, class_kept};
+ghost use Rattle.record_pieces.specs.Needs.{donors_for};
+ghost use Rattle.record_pieces.specs.Rests.{IsPieceIn, IsRest, KeepsFor, case_in, class_field_in, edits_in, rows_in};
+ghost use Rattle.record_pieces.specs.inner.Searches.{IsWishIn, RanksIn};
 
 use crate::piece::Piece;
 use crate::rest::Rest;
 use bound_cert::{Outcome, Path};
 use donor_search::ranking;
-use edit_model::Value;
+use edit_model::{FieldSet, Row, Value};
 use edit_paths::case_known;
 use foundation::{OutOfMemory, Sequence, Steps};
 use linear_elim::Systems;
@@ -48,66 +54,113 @@ pub fn piece_of<F: Fn(u32, &Value, &Value) -> u64, S: Systems, L: Ledger>(
         rest.budget,
         steps,
     )?;
-    let ranking = ranking_for(alloc, rest, row_no, &outcome, steps)?;
+    let Wish { class, ranking } = wish_for(alloc, rest, row_no, &outcome, steps)?;
     Ok(Piece {
         row_no,
         outcome,
+        class,
         ranking,
     })
 }
 
-// The donors that a record ranks of which this was found: none but where a change weighs something.
-fn ranking_for<F: Fn(u32, &Value, &Value) -> u64, L: Ledger>(
+/// What a record asks of the donors: its class, and the donors of this class that it ranks, if it needs one.
+#[derive(Debug, Drop)]
+struct Wish {
+    class: u32,
+    ranking: Option<Sequence<u32>>,
+}
+
+// What a record asks of the donors of which this was found: nothing but where a change weighs something.
+fn wish_for<F: Fn(u32, &Value, &Value) -> u64, L: Ledger>(
     alloc: Global,
     rest: &Rest<F>,
     row_no: u32,
     outcome: &Outcome,
     steps: &mut Steps<L>,
-) -> Result<Option<Sequence<u32>>, OutOfMemory>
+) -> Result<Wish, OutOfMemory>
     requires rest { IsRest F.Fn rest.now }
     requires row { row_no < length (rows_in rest.now) }
     requires case { IsCase (case_in rest.now (row_at (rows_in rest.now) row_no)) }
     requires found { outcome.now ≡ outcome_of (case_in rest.now (row_at (rows_in rest.now) row_no)) rest.now.budget }
-    ensures { IfOk result (IsRankingIn rest.now row_no outcome.now) }
+    ensures { IfOk result (IsWishIn rest.now row_no outcome.now) }
 {
     match outcome {
         Outcome::Change { path, weight, .. } => {
-            change_ranking(alloc, rest, row_no, path, *weight, steps)
+            change_wish(alloc, rest, row_no, path, *weight, steps)
         }
-        _ => Ok(None),
+        _ => Ok(Wish {
+            class: rest.decks.last(),
+            ranking: None,
+        }),
     }
 }
 
-// The donors that a record ranks of which a change of this path and weight was found: the nearest clean records at the
-// fields that are kept. None where the change weighs nothing.
-fn change_ranking<F: Fn(u32, &Value, &Value) -> u64, L: Ledger>(
+// What a record asks of the donors of which a change of this path and weight was found: the nearest of its class at the
+// fields that are kept; nothing where the change weighs nothing.
+fn change_wish<F: Fn(u32, &Value, &Value) -> u64, L: Ledger>(
     alloc: Global,
     rest: &Rest<F>,
     row_no: u32,
     path: &Path,
     weight: u64,
     steps: &mut Steps<L>,
-) -> Result<Option<Sequence<u32>>, OutOfMemory>
+) -> Result<Wish, OutOfMemory>
     requires rest { IsRest F.Fn rest.now }
     requires row { row_no < length (rows_in rest.now) }
     requires whole { length path.now ≡ length rest.now.survey.fields }
     requires case { IsCase (case_in rest.now (row_at (rows_in rest.now) row_no)) }
     requires opened { IsOpen (case_in rest.now (row_at (rows_in rest.now) row_no)) path.now }
-    ensures { IfOk result (RanksIn rest.now row_no (not (weight == 0)) path.now) }
+    ensures class { IfOk result (λ wish. let row = row_at (rows_in rest.now) row_no in wish.class
+        ≡ class_kept (class_count rest.now.survey.fields (class_field_in rest.now)) (class_field_in rest.now) row
+        (kept_set rest.now.survey.fields row path.now)) }
+    ensures ranking { IfOk result (λ wish. RanksIn rest.now row_no (not (weight == 0)) path.now wish.ranking) }
+    ensures donors { IfOk result (λ wish. IfSome wish.ranking
+        (All (IsDonorIn rest.now.survey (rows_in rest.now) (class_field_in rest.now) wish.class))) }
 {
-    if weight == 0 {
-        return Ok(None);
-    }
     let row = rest.sheet.row(row_no);
-    let ranking = ranking(
-        alloc,
-        &rest.deck,
-        &rest.sheet,
-        &rest.measure,
-        row,
-        path.kept_set(&rest.survey, row),
-        rest.near,
-        steps,
-    )?;
-    Ok(Some(Sequence::from_vec(ranking)))
+    let kept = path.kept_set(&rest.survey, row);
+    let class = rest.decks.class_kept(row, kept);
+    if weight == 0 {
+        return Ok(Wish {
+            class,
+            ranking: None,
+        });
+    }
+    let ranking = ranking_in(alloc, rest, class, row, kept, steps)?;
+    Ok(Wish {
+        class,
+        ranking: Some(Sequence::from_vec(ranking)),
+    })
+}
+
+// The nearest donors of its class for a record that keeps these fields; none in the last class.
+fn ranking_in<F: Fn(u32, &Value, &Value) -> u64, L: Ledger>(
+    alloc: Global,
+    rest: &Rest<F>,
+    class: u32,
+    row: &Row,
+    kept: FieldSet,
+    steps: &mut Steps<L>,
+) -> Result<Vec<u32>, OutOfMemory>
+    requires rest { IsRest F.Fn rest.now }
+    requires row { HasMeasurable rest.now.measure.yardsticks kept row.now }
+    requires class { class ≡ class_kept (class_count rest.now.survey.fields (class_field_in rest.now)) (class_field_in rest.now) row.now kept }
+    ensures ranking { IfOk result (λ ranking. ranking.items ≡ ranking_of rest.now.measure.yardsticks (rows_in rest.now)
+        (donors_for rest.now.survey (rows_in rest.now) (class_field_in rest.now) row.now kept) row.now kept rest.now.near) }
+    ensures donors { IfOk result (λ ranking. All (IsDonorIn rest.now.survey (rows_in rest.now) (class_field_in rest.now) class)
+        ranking.items) }
+{
+    match rest.decks.of_class.get(class as usize) {
+        Some(deck) => ranking(
+            alloc,
+            deck,
+            &rest.sheet,
+            &rest.measure,
+            row,
+            kept,
+            rest.near,
+            steps,
+        ),
+        None => Ok(Vec::new(alloc)),
+    }
 }
