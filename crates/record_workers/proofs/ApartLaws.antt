@@ -1,5 +1,7 @@
-use Rattle.std.proofs.Common.{◌≡◌, ℕ, zero, suc, ◌+◌, ◌<◌, ◌++◌, List, [], ◌∷◌, Option, Some, None, inl, inr, refl, ◌∙◌, arith}
+use Rattle.std.proofs.Common.{◌≡◌, ℕ, zero, suc, ◌+◌, ◌<◌, ◌++◌, List, [], ◌∷◌, Option, Some, None, length, inl, inr, refl, ◌∙◌, arith}
 use Rattle.std.specs.List.{range_with_len, sum_by}
+use Rattle.std.specs.List.Sorted.{IsNonDecreasing, IsNonDecreasingBy}
+use Rattle.std.proofs.lemmas.List.{get_or-map, length-map}
 use Rattle.std.proofs.lemmas.List.Sums.{sum_by-cons}
 use Rattle.edit_line.specs.Reductions.{IsIn}
 use Rattle.record_pieces.specs.Needs.{Need, needs_by, needs_of}
@@ -38,3 +40,14 @@ needs-apart (p ∷ pieces) apart = by p.row_no p.ranking apart.0 (needs-apart pi
     by row_no None lacks rest = rest
     by row_no (Some ranking) lacks rest =
         ((λ need there same. (let (p, in_pieces, row, is) = need-from need pieces there in lacks p in_pieces (row ∙ same))), rest)
+
+-- pieces that do not fall by their rows have rows that do not fall
+pub rows-sorted : (pieces : List Piece) → IsNonDecreasingBy (λ (p : Piece). p.row_no) pieces → IsNonDecreasing (rows_of pieces)
+rows-sorted [] sorted i j d le lt = absurd (omega (arith, lt))
+rows-sorted (p ∷ pieces) sorted i j d le lt =
+    let as_many = length-map (p ∷ pieces) (λ (q : Piece). q.row_no) in
+    let below : j < length (p ∷ pieces) = omega (arith, lt, as_many) in
+    let low = get_or-map (λ (q : Piece). q.row_no) (p ∷ pieces) i p d (omega (arith, le, below)) in
+    let high = get_or-map (λ (q : Piece). q.row_no) (p ∷ pieces) j p d below in
+    let step = sorted i j p le below in
+    omega (arith, low, high, step)

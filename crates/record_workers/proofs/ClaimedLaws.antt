@@ -1,6 +1,7 @@
-use Rattle.std.proofs.Common.{◌≡◌, ◌⊎◌, ℕ, ◌<◌, ◌++◌, Bool, true, false, cond, eqb, List, [], ◌∷◌, All, Option, Some, None, IsSome, length, map, inl, inr, refl}
+use Rattle.std.proofs.Common.{◌≡◌, ◌≢◌, ◌⊎◌, ℕ, ◌<◌, ◌++◌, Bool, true, false, cond, eqb, List, [], ◌∷◌, All, Option, Some, None, IsSome, length, map, inl, inr, refl}
 use Rattle.std.proofs.Common.{sym, ap, ◌∙◌, subst, arith}
 use Rattle.std.specs.List.Sorted.{IsStrictlyIncreasing}
+use Rattle.std.proofs.lemmas.Bool.Decides.{eqb_tells}
 use Rattle.std.proofs.lemmas.List.{get_or_append_left, get_or_push, length_push, map-append}
 use Rattle.std.proofs.lemmas.List.Kept.{AllPairs-from_increasing}
 use Rattle.std.proofs.lemmas.Option.{get_or_from_slice_get, slice_get_within}
@@ -10,14 +11,14 @@ use Rattle.edit_line.proofs.Members.{all-in, in-all, in-either, in-left, in-map,
 use Rattle.donor_book.specs.Claims.{claim_of}
 use Rattle.donor_book.specs.Passes.{PassState, StartsWith}
 use Rattle.donor_book.specs.declared.claim.Won.{Won}
+use Rattle.class_books.specs.ClassPasses.{ClassPassState, pass_in}
 use Rattle.record_pieces.specs.Needs.{Need, needs_of}
-use Rattle.record_pieces.specs.Rests.{IsPieceIn, rows_in, rows_of}
+use Rattle.record_pieces.specs.Rests.{rows_of}
 use Rattle.record_pieces.specs.declared.piece.Piece.{Piece}
-use Rattle.record_pieces.specs.declared.rest.Rest.{Rest}
 use Rattle.record_pieces.proofs.NeedLaws.{need-from, need-in, place-in}
-use Rattle.record_pieces.proofs.RankingLaws.{piece-clean}
-use Rattle.record_workers.specs.Workers.{AreClaimed, HasSeen, needs_in}
-use Rattle.record_workers.specs.inner.Draws.{HasAsked, HasClaimed, IsDrawnNext, RanksDonors}
+use Rattle.record_workers.specs.Workers.{AreClaimed, AreClaimedIn, HasSeen, needs_in, pieces_in}
+use Rattle.record_workers.specs.inner.Draws.{HasAsked, HasAskedIn, HasClaimed, IsDrawnNext}
+use Rattle.record_workers.proofs.ClassPieces.{none-more, of-class, one-more}
 
 -- The claims of a worker, after one record more.
 
@@ -74,7 +75,7 @@ module _ (pieces : List Piece) (piece : Piece) (old new : PassState) (claimed : 
       by need (inl before) = in-all (λ (need : Need). IsIn need (needs_in old) ⊎ HasSeen old need.row_no) need (needs_of pieces) claimed.claimed before
       by need (inr last) = absurd (cc (sym none ∙ last.1))
 
-  module _ (drawn : List ℕ) (next : IsDrawnNext (rows_of pieces) drawn piece.row_no) (ranking : List ℕ) (is : piece.ranking ≡ Some ranking)
+  module _ (above : (p : Piece) → IsIn p pieces → p.row_no < piece.row_no) (ranking : List ℕ) (is : piece.ranking ≡ Some ranking)
       (began : StartsWith new.seen old.seen) where
     abbrev last : Need
     last = record { row_no = piece.row_no; ranking = ranking }
@@ -93,8 +94,7 @@ module _ (pieces : List Piece) (piece : Piece) (old new : PassState) (claimed : 
     rows-below = all-in (λ (n : ℕ). n < piece.row_no) (map (λ (need : Need). need.row_no) (needs_in old)) (λ n there. (
         let (need, in_old, same) = in-map-out (λ (need : Need). need.row_no) n (needs_in old) there in
         let (p, in_pieces, row, ranked) = need-from need pieces (in-all (λ (n : Need). IsIn n (needs_of pieces)) need (needs_in old) claimed.needed in_old) in
-        let lt = below-last (rows_of pieces) piece.row_no (subst IsStrictlyIncreasing next.last next.rising) p.row_no
-        (in-map (λ (q : Piece). q.row_no) p pieces in_pieces) in
+        let lt = above p in_pieces in
         omega (arith, lt, row, same)))
 
     -- the pass has claimed for it
@@ -143,25 +143,43 @@ module _ (pieces : List Piece) (piece : Piece) (old new : PassState) (claimed : 
             (in-all (λ (need : Need). IsIn need (needs_in old) ⊎ HasSeen old need.row_no) need (needs_of pieces) claimed.claimed before)
         by need (inr same) = inr (subst (HasSeen new) same.0 had)
 
-  -- after a piece more the claims are for what is needed
-  pub claimed-more : (drawn : List ℕ) → IsDrawnNext (rows_of pieces) drawn piece.row_no → HasAsked piece.row_no piece.ranking old new → AreClaimed more new
-  claimed-more drawn next asked = by piece.ranking refl asked
+  -- after a piece more, of a row behind the others, the claims are for what is needed
+  pub claimed-more : ((p : Piece) → IsIn p pieces → p.row_no < piece.row_no) → HasAsked piece.row_no piece.ranking old new → AreClaimed more new
+  claimed-more above asked = by piece.ranking refl asked
     where
       by-claim : (ranking : List ℕ) → piece.ranking ≡ Some ranking → HasClaimed piece.row_no ranking old new → AreClaimed more new
-      by-claim ranking is (began, inl mine) = claimed-own drawn next ranking is began mine
-      by-claim ranking is (began, inr had) = claimed-had drawn next ranking is began had.0 had.1
+      by-claim ranking is (began, inl mine) = claimed-own above ranking is began mine
+      by-claim ranking is (began, inr had) = claimed-had above ranking is began had.0 had.1
 
       by : (o : Option (List ℕ)) → piece.ranking ≡ o → HasAsked piece.row_no o old new → AreClaimed more new
       by None is asked = claimed-none is asked
       by (Some ranking) is asked = by-claim ranking is asked
 
--- ---- what is claimed
+-- ---- class by class
 
--- the donors that a piece ranks are records
-pub piece-donors : {F : Type 0} (rest : Rest F) (piece : Piece) (donors : ℕ) → IsPieceIn rest piece → donors ≡ length (rows_in rest)
-    → RanksDonors donors piece.ranking
-piece-donors rest piece donors is as_many = by piece.ranking refl
+-- after a piece more, of the row that was drawn last, the claims of each class are for what is needed there
+pub claimed-in : (last : ℕ) (pieces : List Piece) (piece : Piece) (old new : ClassPassState) (drawn : List ℕ) → AreClaimedIn last pieces old
+    → IsDrawnNext (rows_of pieces) drawn piece.row_no → HasAskedIn last piece old new → AreClaimedIn last (pieces ++ piece ∷ []) new
+claimed-in last pieces piece old new drawn claimed next asked class lt = by (eqb_tells piece.class class)
   where
-    by : (o : Option (List ℕ)) → piece.ranking ≡ o → RanksDonors donors o
-    by None there = tt
-    by (Some ranking) there = λ k d lt. (let here = piece-clean rest piece is ranking there k d lt in omega (arith, here.0, as_many))
+    above : (p : Piece) → IsIn p (pieces_in class pieces) → p.row_no < piece.row_no
+    above p there = below-last (rows_of pieces) piece.row_no (subst IsStrictlyIncreasing next.last next.rising) p.row_no
+        (in-map (λ (q : Piece). q.row_no) p pieces (of-class class p pieces there).0)
+
+    own : piece.class ≡ class → AreClaimed (pieces_in class (pieces ++ piece ∷ [])) (pass_in class new)
+    own same =
+        let asks = asked.own (subst (λ (n : ℕ). n < last) (sym same) lt) in
+        let here = subst (λ (n : ℕ). HasAsked piece.row_no piece.ranking (pass_in n old) (pass_in n new)) same asks in
+        subst (λ (ps : List Piece). AreClaimed ps (pass_in class new)) (sym (one-more class piece pieces same))
+        (claimed-more (pieces_in class pieces) piece (pass_in class old) (pass_in class new) (claimed class lt) above here)
+
+    other : piece.class ≢ class → AreClaimed (pieces_in class (pieces ++ piece ∷ [])) (pass_in class new)
+    other apart =
+        let same = asked.others class lt (λ is. apart (sym is)) in
+        subst (λ (ps : List Piece). AreClaimed ps (pass_in class new)) (sym (none-more class piece pieces apart))
+        (subst (AreClaimed (pieces_in class pieces)) (sym same) (claimed class lt))
+
+    by : ((eqb piece.class class ≡ true) × (piece.class ≡ class)) ⊎ ((eqb piece.class class ≡ false) × (piece.class ≢ class))
+        → AreClaimed (pieces_in class (pieces ++ piece ∷ [])) (pass_in class new)
+    by (inl same) = own same.1
+    by (inr apart) = other apart.1

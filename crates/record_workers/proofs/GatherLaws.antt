@@ -18,18 +18,20 @@ use Rattle.donor_book.specs.Passes.{AreCollected, IsWhole, PassState, StartsWith
 use Rattle.donor_book.specs.declared.claim.Entry.{Entry}
 use Rattle.donor_book.specs.declared.claim.Won.{Won}
 use Rattle.donor_book.specs.declared.rule.Placed.{Placed}
+use Rattle.class_books.specs.ClassPasses.{pass_in, passes_in}
 use Rattle.record_pieces.specs.Needs.{Need, need_in, needs_of}
 use Rattle.record_pieces.specs.Rests.{rows_of}
 use Rattle.record_pieces.specs.declared.piece.Piece.{Piece}
 use Rattle.record_pieces.proofs.NeedLaws.{in-other-order, need-from, need-in, piece-at, place-in}
-use Rattle.record_workers.specs.Workers.{AreClaimed, HasSeen, needs_in}
+use Rattle.record_workers.specs.Workers.{AreClaimed, HasSeen, needs_in, pieces_in}
 use Rattle.record_workers.specs.declared.worker.Worker.{Worker}
 use Rattle.record_workers.specs.inner.Gatherings.{entry_by, passes_of, pieces_of, ranking_at, ranking_or, seats_of}
 use Rattle.record_workers.proofs.ApartLaws.{needs-apart, rows-apart, some-counts}
+use Rattle.record_workers.proofs.ClassPieces.{class-apart, in-class, of-class}
 use Rattle.record_workers.proofs.OrderLaws.{AreApart, Lacks, same-by-key, same-elements}
 use Rattle.record_workers.proofs.RangeLaws.{one-other, sorted-range}
 
--- What workers found and claimed, all together: a piece for each row, and one history.
+-- What workers found and claimed, all together: a piece for each row, and one history of each class.
 
 -- ---- the pieces
 
@@ -68,7 +70,7 @@ module _ (workers : List Worker) (count : ℕ) (drawn : DrawnBelow count (seats_
     past = λ x low. each-once x ∙ drawn.no_other x (omega (arith, low));
   })
 
--- ---- the claims
+-- ---- the claims of one class
 
 -- the claim at a place of the history is one of a pass
 is-at : (k : ℕ) (m : Placed) → 0 < cond (eqb m.place k) 1 0 → m.place ≡ k
@@ -89,7 +91,7 @@ found-in row (w ∷ history) some = by (eqb_tells w.row_no row) (λ more. found-
     by (inr other) later = let rest = later (subst IsSome (ap (λ b. cond b (Some w) (claim_of row history)) other.0) some) in (rest.0, inr rest.1, rest.2)
 
 -- rows that stand once are apart
-distinct-apart : (entries : List Entry) → IsDistinct nat_eq (map (λ (w : Won). w.row_no) (wins_of entries))
+pub distinct-apart : (entries : List Entry) → IsDistinct nat_eq (map (λ (w : Won). w.row_no) (wins_of entries))
     → AreApart (λ (need : Need). need.row_no) (map need_in entries)
 unfolding IsDistinct
 distinct-apart [] once = tt
@@ -102,39 +104,54 @@ distinct-apart (e ∷ entries) once = (lacks entries once.0, distinct-apart entr
         (λ (f : (eqb e.row_no x.row_no ≡ false) × (e.row_no ≢ x.row_no)). f.1 (sym same ∙ ap (λ (n : Need). n.row_no) is)) (eqb_tells e.row_no x.row_no)
     lacks (x ∷ rest) all need (inr there) same = lacks rest all.1 need there same
 
-module _ (workers : List Worker) (count : ℕ) (claimed : All (λ (w : Worker). AreClaimed w.pieces.items w.pass) workers)
+module _ (class : ℕ) (workers : List Worker) (count : ℕ)
+    (claimed : All (λ (w : Worker). AreClaimed (pieces_in class w.pieces.items) (pass_in class w.pass)) workers)
     (pieces : List Piece) (same : IsPermutation (pieces_of workers) pieces) (rows : rows_of pieces ≡ range_with_len 0 count)
-    (limit : ℕ) (history : List Won) (whole : IsWhole limit (passes_of workers) history)
-    (entries : List Entry) (collected : AreCollected limit (passes_of workers) history entries) where
-  apart : AreApart (λ (need : Need). need.row_no) (needs_of pieces)
-  apart = needs-apart pieces (rows-apart 0 count pieces rows)
+    (limit : ℕ) (history : List Won) (whole : IsWhole limit (passes_in class (passes_of workers)) history)
+    (entries : List Entry) (collected : AreCollected limit (passes_in class (passes_of workers)) history entries) where
+  abbrev mine : Worker → List Piece
+  mine w = pieces_in class w.pieces.items
+
+  abbrev pass : Worker → PassState
+  pass w = pass_in class w.pass
+
+  apart : AreApart (λ (need : Need). need.row_no) (needs_of (pieces_in class pieces))
+  apart = needs-apart (pieces_in class pieces) (class-apart class pieces (rows-apart 0 count pieces rows))
 
   -- what a worker's pieces need is among all needs
-  need-of-all : (w : Worker) (need : Need) → IsIn w workers → IsIn need (needs_of w.pieces.items) → IsIn need (needs_of pieces)
+  need-of-all : (w : Worker) (need : Need) → IsIn w workers → IsIn need (needs_of (mine w)) → IsIn need (needs_of (pieces_in class pieces))
   need-of-all w need there needed =
-      let (p, in_pieces, row, ranking) = need-from need w.pieces.items needed in
+      let (p, in_mine, row, ranking) = need-from need (mine w) needed in
+      let (in_pieces, is) = of-class class p w.pieces.items in_mine in
       let in_all = in-flat_map (λ (v : Worker). v.pieces.items) w p workers there in_pieces in
-      need-in need p pieces (in-other-order pieces (pieces_of workers) p (IsPermutation-sym (pieces_of workers) pieces same) in_all) row ranking
+      let found = in-other-order pieces (pieces_of workers) p (IsPermutation-sym (pieces_of workers) pieces same) in_all in
+      need-in need p (pieces_in class pieces) (in-class class p pieces found is) row ranking
+
+  -- the pass of a worker is one of all
+  pass-among : (w : Worker) → IsIn w workers → IsIn (pass w) (passes_in class (passes_of workers))
+  pass-among w there = in-map (pass_in class) w.pass (passes_of workers) (in-map (λ (w : Worker). w.pass) w workers there)
 
   -- each claim is of a worker's pass, at its place
-  pub claim-at : (place : ℕ) → place < length history → (w : Worker) × IsIn w workers × (m : Placed) × IsIn m w.pass.mine × (m.place ≡ place)
+  claim-at : (place : ℕ) → place < length history → (w : Worker) × IsIn w workers × (m : Placed) × IsIn m (pass w).mine × (m.place ≡ place)
   claim-at place lt =
-      let (pass, in_passes, some) = some-counts (λ (p : PassState). claims_at place p.mine) (passes_of workers) (omega (arith, whole.once place lt)) in
-      let (w, in_workers, is) = in-map-out (λ (w : Worker). w.pass) pass workers in_passes in
-      let (m, in_mine, here) = some-counts (λ (m : Placed). cond (eqb m.place place) 1 0) pass.mine some in
-      (w, in_workers, m, subst (λ (p : PassState). IsIn m p.mine) is in_mine, is-at place m here)
+      let (p, in_passes, some) = some-counts (λ (p : PassState). claims_at place p.mine) (passes_in class (passes_of workers))
+      (omega (arith, whole.once place lt)) in
+      let (c, in_all, of) = in-map-out (pass_in class) p (passes_of workers) in_passes in
+      let (w, in_workers, is) = in-map-out (λ (w : Worker). w.pass) c workers in_all in
+      let (m, in_mine, here) = some-counts (λ (m : Placed). cond (eqb m.place place) 1 0) p.mine some in
+      (w, in_workers, m, subst (λ (p : PassState). IsIn m p.mine) (of ∙ ap (pass_in class) is) in_mine, is-at place m here)
 
-  pub placed-of : (w : Worker) (m : Placed) → IsIn w workers → IsIn m w.pass.mine → slice_get entries m.place ≡ Some m.entry
+  placed-of : (w : Worker) (m : Placed) → IsIn w workers → IsIn m (pass w).mine → slice_get entries m.place ≡ Some m.entry
   placed-of w m in_workers in_mine =
-      in-all (λ (m : Placed). slice_get entries m.place ≡ Some m.entry) m w.pass.mine
-      (in-all (λ (p : PassState). All (λ (m : Placed). slice_get entries m.place ≡ Some m.entry) p.mine) w.pass (passes_of workers) collected.placed
-      (in-map (λ (w : Worker). w.pass) w workers in_workers)) in_mine
+      in-all (λ (m : Placed). slice_get entries m.place ≡ Some m.entry) m (pass w).mine
+      (in-all (λ (p : PassState). All (λ (m : Placed). slice_get entries m.place ≡ Some m.entry) p.mine) (pass w) (passes_in class (passes_of workers))
+      collected.placed (pass-among w in_workers)) in_mine
 
-  claims-of : (w : Worker) → IsIn w workers → AreClaimed w.pieces.items w.pass
-  claims-of w there = in-all (λ (w : Worker). AreClaimed w.pieces.items w.pass) w workers claimed there
+  claims-of : (w : Worker) → IsIn w workers → AreClaimed (mine w) (pass w)
+  claims-of w there = in-all (λ (w : Worker). AreClaimed (mine w) (pass w)) w workers claimed there
 
   -- each claim is for a need
-  claim-needed : (e : Entry) → IsIn e entries → IsIn (need_in e) (needs_of pieces)
+  claim-needed : (e : Entry) → IsIn e entries → IsIn (need_in e) (needs_of (pieces_in class pieces))
   claim-needed e there =
       let (place, at) = place-in e entries there in
       let as_many : length entries ≡ length history = sym (length-map entries won_of) ∙ ap length collected.wins in
@@ -142,48 +159,50 @@ module _ (workers : List Worker) (count : ℕ) (claimed : All (λ (w : Worker). 
       let (w, in_workers, m, in_mine, is) = claim-at place (omega (arith, lt, as_many)) in
       let own : m.entry ≡ e = same_Some m.entry e (sym (placed-of w m in_workers in_mine) ∙ ap (slice_get entries) is ∙ at) in
       need-of-all w (need_in e) in_workers
-      (in-all (λ (need : Need). IsIn need (needs_of w.pieces.items)) (need_in e) (needs_in w.pass) (claims-of w in_workers).needed
-      (subst (λ (x : Entry). IsIn (need_in x) (needs_in w.pass)) own (in-map (λ (m : Placed). need_in m.entry) m w.pass.mine in_mine)))
+      (in-all (λ (need : Need). IsIn need (needs_of (mine w))) (need_in e) (needs_in (pass w)) (claims-of w in_workers).needed
+      (subst (λ (x : Entry). IsIn (need_in x) (needs_in (pass w))) own (in-map (λ (m : Placed). need_in m.entry) m (pass w).mine in_mine)))
 
   -- a row in the history has the claim for its need
-  row-claimed : (need : Need) → IsIn need (needs_of pieces) → (x : Won) → IsIn x history → x.row_no ≡ need.row_no → IsIn need (map need_in entries)
+  row-claimed : (need : Need) → IsIn need (needs_of (pieces_in class pieces)) → (x : Won) → IsIn x history → x.row_no ≡ need.row_no
+      → IsIn need (map need_in entries)
   row-claimed need needed x there row =
       let (e, in_entries, is) = in-map-out won_of x entries (subst (IsIn x) (sym collected.wins) there) in
-      let own : need_in e ≡ need = same-by-key (λ (n : Need). n.row_no) (needs_of pieces) (need_in e) need apart (claim-needed e in_entries) needed
-      (sym (ap (λ (w : Won). w.row_no) is) ∙ row) in
+      let own : need_in e ≡ need = same-by-key (λ (n : Need). n.row_no) (needs_of (pieces_in class pieces)) (need_in e) need apart
+      (claim-needed e in_entries) needed (sym (ap (λ (w : Won). w.row_no) is) ∙ row) in
       subst (λ (n : Need). IsIn n (map need_in entries)) own (in-map need_in e entries in_entries)
 
   -- each need has a claim
-  need-claimed : (need : Need) → IsIn need (needs_of pieces) → IsIn need (map need_in entries)
+  need-claimed : (need : Need) → IsIn need (needs_of (pieces_in class pieces)) → IsIn need (map need_in entries)
   need-claimed need needed =
-      let (p, in_pieces, row, ranking) = need-from need pieces needed in
+      let (p, in_class, row, ranking) = need-from need (pieces_in class pieces) needed in
+      let (in_pieces, is) = of-class class p pieces in_class in
       let (w, in_workers, in_found) = in-flat_map-out (λ (v : Worker). v.pieces.items) p workers (in-other-order (pieces_of workers) pieces p same in_pieces) in
-      by w in_workers (in-all (λ (n : Need). IsIn n (needs_in w.pass) ⊎ HasSeen w.pass n.row_no) need (needs_of w.pieces.items)
-      (claims-of w in_workers).claimed (need-in need p w.pieces.items in_found row ranking))
+      by w in_workers (in-all (λ (n : Need). IsIn n (needs_in (pass w)) ⊎ HasSeen (pass w) n.row_no) need (needs_of (mine w))
+      (claims-of w in_workers).claimed (need-in need p (mine w) (in-class class p w.pieces.items in_found is) row ranking))
     where
-      by : (w : Worker) → IsIn w workers → IsIn need (needs_in w.pass) ⊎ HasSeen w.pass need.row_no → IsIn need (map need_in entries)
+      by : (w : Worker) → IsIn w workers → IsIn need (needs_in (pass w)) ⊎ HasSeen (pass w) need.row_no → IsIn need (map need_in entries)
       by w in_workers (inl own) =
-          let (m, in_mine, is) = in-map-out (λ (m : Placed). need_in m.entry) need w.pass.mine own in
+          let (m, in_mine, is) = in-map-out (λ (m : Placed). need_in m.entry) need (pass w).mine own in
           subst (λ (n : Need). IsIn n (map need_in entries)) (sym is)
           (in-map need_in m.entry entries (in-get m.entry entries m.place (placed-of w m in_workers in_mine)))
       by w in_workers (inr seen) =
-          let (x, in_seen, row) = found-in need.row_no w.pass.seen seen in
-          let (rest, is) = in-all (λ (p : PassState). StartsWith history p.seen) w.pass (passes_of workers) whole.seen
-          (in-map (λ (w : Worker). w.pass) w workers in_workers) in
-          row-claimed need needed x (subst (IsIn x) (sym is) (in-left x w.pass.seen rest in_seen)) row
+          let (x, in_seen, row) = found-in need.row_no (pass w).seen seen in
+          let (rest, is) = in-all (λ (p : PassState). StartsWith history p.seen) (pass w) (passes_in class (passes_of workers)) whole.seen
+          (pass-among w in_workers) in
+          row-claimed need needed x (subst (IsIn x) (sym is) (in-left x (pass w).seen rest in_seen)) row
 
   -- the claims are for the needs, each once
-  pub needs-claimed : IsPermutation (needs_of pieces) (map need_in entries)
-  needs-claimed = same-elements (λ (need : Need). need.row_no) (needs_of pieces) (map need_in entries) apart
+  pub needs-claimed : IsPermutation (needs_of (pieces_in class pieces)) (map need_in entries)
+  needs-claimed = same-elements (λ (need : Need). need.row_no) (needs_of (pieces_in class pieces)) (map need_in entries) apart
       (distinct-apart entries collected.legal.once) need-claimed
       (λ need there. (let (e, in_entries, is) = in-map-out need_in need entries there in
-      subst (λ (n : Need). IsIn n (needs_of pieces)) (sym is) (claim-needed e in_entries)))
+      subst (λ (n : Need). IsIn n (needs_of (pieces_in class pieces))) (sym is) (claim-needed e in_entries)))
 
   -- and have the rankings of the pieces
   ranked : (e : Entry) → IsIn e entries → entry_by pieces (won_of e) ≡ e
   ranked e there =
-      let (p, in_pieces, row, ranking) = need-from (need_in e) pieces (claim-needed e there) in
-      let at = piece-at 0 count pieces rows p in_pieces e.row_no (omega (arith, row)) in
+      let (p, in_class, row, ranking) = need-from (need_in e) (pieces_in class pieces) (claim-needed e there) in
+      let at = piece-at 0 count pieces rows p (of-class class p pieces in_class).0 e.row_no (omega (arith, row)) in
       ap (λ (o : Option Piece). entry_of e.row_no (ranking_at o) e.reply) at ∙ ap (λ (o : Option (List ℕ)). entry_of e.row_no (ranking_or o) e.reply) ranking
 
   all-ranked : (es : List Entry) → ((e : Entry) → IsIn e es → entry_by pieces (won_of e) ≡ e) → map (entry_by pieces) (wins_of es) ≡ es

@@ -1,9 +1,14 @@
 pub mod AloneLaws
+pub mod AnswerLaws
 pub mod ApartLaws
+pub mod AskedLaws
+pub mod BookLaws
 pub mod ClaimedLaws
+pub mod ClassPieces
 pub mod GatherLaws
+pub mod JoinedLaws
 pub mod KeepLaws
+pub mod LastClass
 pub mod OrderLaws
-pub mod OwnLaws
 pub mod RangeLaws
 pub mod RunLaws

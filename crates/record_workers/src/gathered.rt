@@ -1,16 +1,17 @@
 //! All workers, side by side.
 ghost use Rattle.std.specs.Prelude.{◌≡◌, ◌<◌, IfOk, length};
 ghost use Rattle.std.specs.List.{All};
-ghost use Rattle.record_pieces.specs.Needs.{AnswersNeeds, AreInRowOrder};
+ghost use Rattle.record_pieces.specs.Needs.{AnswersNeeds};
 ghost use Rattle.record_pieces.specs.Rests.{ArePiecesIn};
-ghost use Rattle.record_workers.specs.Workers.{IsReady, IsShared};
+ghost use Rattle.record_workers.specs.Workers.{AnswersInClasses, IsReady, IsShared, last_class};
 ghost use Rattle.record_workers.specs.inner.Gatherings.{HasRun};
 
 use crate::gate::Gate;
-use crate::history::entries_of;
+use crate::history::history_of;
 use crate::parts::{Parts, parts_of};
 use crate::shared::Shared;
 use crate::worker::Worker;
+use class_books::class_laws;
 use donor_book::Entry;
 use edit_model::Value;
 use foundation::OutOfMemory;
@@ -20,8 +21,8 @@ use std::sync::Wait;
 use std::thread;
 use std::thread::Threads;
 
-/// What workers found and claimed, all together: a piece for each record, in row order, the claims of donors in the
-/// order in which they were answered, and by what the records were edited.
+/// What workers found and claimed, all together: a piece for each record, in row order, the claims of donors class by
+/// class, in each in the order in which they were answered, and by what the records were edited.
 #[derive(Drop)]
 pub struct Gathered<F> {
     pub pieces: Vec<Piece>,
@@ -42,17 +43,18 @@ pub fn run_all<R: Threads + Wait + Sync, F: Fn(u32, &Value, &Value) -> u64 + Sen
     requires ready { All (IsReady shared) workers.items }
     requires some { 0 < length workers.items }
     requires seats { length workers.items ≡ shared.tickets.seats }
-    requires passes { length workers.items ≡ shared.book.terms.passes }
+    requires passes { length workers.items ≡ shared.books.terms.passes }
     ensures rest { IfOk result (λ gathered. gathered.rest ≡ shared.rest) }
     ensures pieces { IfOk result (λ gathered. ArePiecesIn shared.rest gathered.pieces.items) }
-    ensures history { IfOk result (λ gathered. AnswersNeeds shared.book.terms.limit gathered.pieces.items gathered.history.items) }
-    ensures order { IfOk result (λ gathered. length workers.items ≡ 1 → AreInRowOrder gathered.history.items) }
+    ensures history { IfOk result (λ gathered. AnswersNeeds shared.books.terms.limit gathered.pieces.items gathered.history.items) }
+    ensures classes { IfOk result (λ gathered. AnswersInClasses shared.books.terms.limit (last_class shared)
+        (length workers.items ≡ 1) gathered.pieces.items gathered.history.items) }
 {
     let ran = all_run(rt, alloc, &shared, workers, gate)?;
     let Shared {
         rest,
         tickets,
-        book,
+        books,
     } = shared;
     let Parts {
         seats,
@@ -60,9 +62,10 @@ pub fn run_all<R: Threads + Wait + Sync, F: Fn(u32, &Value, &Value) -> u64 + Sen
         mut pieces,
     } = parts_of(alloc, ran)?;
     tickets.close(seats);
-    let wins = book.close(passes);
+    let histories = books.close(passes);
+    class_laws();
     pieces.sort_unstable_by_key(|piece| piece.row_no);
-    let history = entries_of(alloc, &pieces, &wins)?;
+    let history = history_of(alloc, &pieces, &histories, rest.decks.last())?;
     Ok(Gathered {
         pieces,
         history,

@@ -1,29 +1,75 @@
 //! The claims of the records, with their rankings.
-ghost use Rattle.std.specs.Prelude.{◌≡◌, IfOk, map, slice_get};
-ghost use Rattle.record_workers.specs.inner.Gatherings.{entry_by, ranking_at};
+ghost use Rattle.std.specs.Prelude.{◌≡◌, ◌++◌, ◌≤◌, IfOk, OnOk, length, map, slice_get, take};
+ghost use Rattle.class_books.specs.Histories.{joined};
+ghost use Rattle.record_workers.specs.inner.Gatherings.{entry_by, ranking_at, unanswered, unanswered_by};
 
 use donor_book::{Entry, Won};
 use foundation::{OutOfMemory, Sequence};
 use record_pieces::Piece;
 use std::alloc::Global;
 
-/// The claims that were answered so, each with the ranking that its record's piece has. The pieces are in row order.
-pub(crate) fn entries_of(
+/// The claims class by class, each with the ranking that its record's piece has, and behind them those of the records of the last
+/// class, which has no donors: nobody was given to them. The pieces are in row order.
+pub(crate) fn history_of(
     alloc: Global,
     pieces: &[Piece],
-    wins: &[Won],
+    histories: &[Vec<Won>],
+    last: u32,
 ) -> Result<Vec<Entry>, OutOfMemory>
-    ensures { IfOk result (λ entries. entries.items ≡ map (entry_by pieces.now) wins.now) }
+    requires { last ≤ length histories.now }
+    ensures { IfOk result (λ history. history.items
+        ≡ map (entry_by pieces.now) (joined (take last (map (λ h. h.items) histories.now))) ++ unanswered last pieces.now) }
 {
-    let mut entries = Vec::with_capacity(alloc, wins.len())?;
+    let mut history = Vec::new(alloc);
+    for wins in &histories[..last as usize] {
+        push_claims(alloc, &mut history, pieces, wins.as_slice())?;
+    }
+    for piece in pieces {
+        push_unanswered(alloc, &mut history, piece, last)?;
+    }
+    Ok(history)
+}
+
+// Puts the claims that were answered so last, each with the ranking that its record's piece has.
+fn push_claims(
+    alloc: Global,
+    history: &mut Vec<Entry>,
+    pieces: &[Piece],
+    wins: &[Won],
+) -> Result<(), OutOfMemory>
+    ensures { OnOk result (history.new.items ≡ history.old.items ++ map (entry_by pieces.now) wins.now) }
+{
+    history.reserve(wins.len())?;
     for won in wins {
-        entries.push(Entry {
+        history.push(Entry {
             row_no: won.row_no,
             ranking: Sequence::from_vec(ranking_of(alloc, pieces, won.row_no)?),
             reply: won.reply,
         })?;
     }
-    Ok(entries)
+    Ok(())
+}
+
+// Puts the claim of a record of the last class last, if it needs a donor.
+fn push_unanswered(
+    alloc: Global,
+    history: &mut Vec<Entry>,
+    piece: &Piece,
+    last: u32,
+) -> Result<(), OutOfMemory>
+    ensures { OnOk result (history.new.items ≡ history.old.items ++ unanswered_by last piece.now) }
+{
+    if piece.class != last {
+        return Ok(());
+    }
+    if let Some(ranking) = &piece.ranking {
+        history.push(Entry {
+            row_no: piece.row_no,
+            ranking: Sequence::from_vec(Vec::from_slice(alloc, ranking.as_slice())?),
+            reply: None,
+        })?;
+    }
+    Ok(())
 }
 
 // The ranking that the piece of this row has, or no donors where it has none.

@@ -2,7 +2,7 @@ ghost use Rattle.std.specs.Prelude.{◌≡◌, IfOk};
 ghost use Rattle.record_workers.specs.inner.Gatherings.{passes_of, pieces_of, seats_of};
 
 use crate::worker::Worker;
-use donor_book::Pass;
+use class_books::ClassPass;
 use foundation::OutOfMemory;
 use record_pieces::Piece;
 use std::alloc::Global;
@@ -12,7 +12,7 @@ use ticket_row::Seat;
 #[derive(Drop)]
 pub(crate) struct Parts {
     pub(crate) seats: Vec<Seat>,
-    pub(crate) passes: Vec<Pass>,
+    pub(crate) passes: Vec<ClassPass>,
     pub(crate) pieces: Vec<Piece>,
 }
 

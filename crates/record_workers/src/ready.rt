@@ -2,14 +2,14 @@
 ghost use Rattle.std.specs.Prelude.{◌≡◌, ◌≤◌, IfOk, length};
 ghost use Rattle.std.specs.List.{All};
 ghost use Rattle.ticket_row.specs.Tickets.{IsFresh, Row};
-ghost use Rattle.donor_book.specs.Passes.{BookName};
+ghost use Rattle.class_books.specs.ClassPasses.{ClassesName, IsFreshPass};
 ghost use Rattle.record_pieces.specs.Rests.{IsRest};
 ghost use Rattle.record_workers.specs.Workers.{IsReady, IsShared};
-ghost use Rattle.record_workers.specs.inner.Gatherings.{IsFreshPass, IsReadyAt};
+ghost use Rattle.record_workers.specs.inner.Gatherings.{IsReadyAt};
 
 use crate::shared::Shared;
 use crate::worker::Worker;
-use donor_book::{Pass, SharedBook};
+use class_books::{ClassPass, SharedClasses};
 use edit_model::Value;
 use foundation::OutOfMemory;
 use record_pieces::Rest;
@@ -28,21 +28,23 @@ pub fn shared_by<F: Fn(u32, &Value, &Value) -> u64>(
     requires rest { IsRest F.Fn rest }
     requires workers { (1 ≤ workers) × (workers ≤ 64) }
     ensures rest { IfOk result (λ made. made.0.rest ≡ rest) }
-    ensures limit { IfOk result (λ made. made.0.book.terms.limit ≡ limit) }
+    ensures limit { IfOk result (λ made. made.0.books.terms.limit ≡ limit) }
     ensures shared { IfOk result (λ made. IsShared F.Fn made.0) }
     ensures ready { IfOk result (λ made. All (IsReady made.0) made.1.items) }
     ensures workers { IfOk result (λ made. length made.1.items ≡ workers) }
     ensures seats { IfOk result (λ made. made.0.tickets.seats ≡ workers) }
-    ensures passes { IfOk result (λ made. made.0.book.terms.passes ≡ workers) }
+    ensures passes { IfOk result (λ made. made.0.books.terms.passes ≡ workers) }
 {
     let rows = rest.sheet.len();
     let (tickets, seats) = Tickets::new(alloc, rows, workers)?;
-    let (book, passes) = SharedBook::share(alloc, rows, limit, rows, workers)?;
+    let class_of = rest.decks.classes_read(alloc, &rest.sheet)?;
+    let classes = rest.decks.last() + 1;
+    let (books, passes) = SharedClasses::share(alloc, class_of, classes, limit, workers)?;
     let ready = workers_at(alloc, &rest.pool, seats, passes, workers)?;
     let shared = Shared {
         rest,
         tickets,
-        book,
+        books,
     };
     Ok((shared, ready))
 }
@@ -52,14 +54,14 @@ fn workers_at(
     alloc: Global,
     pool: &Pool,
     seats: Vec<Seat>,
-    passes: Vec<Pass>,
+    passes: Vec<ClassPass>,
     count: u32,
 ) -> Result<Vec<Worker>, OutOfMemory>
     requires seats { length seats.items ≡ count }
     requires passes { length passes.items ≡ count }
     ensures as_many { IfOk result (λ workers. length workers.items ≡ count) }
-    ensures ready { IfOk result (λ workers. (row : Row) (book : BookName) → All (IsFresh row) seats.items
-        → All (IsFreshPass book) passes.items → All (IsReadyAt row book) workers.items) }
+    ensures ready { IfOk result (λ workers. (row : Row) (books : ClassesName) → All (IsFresh row) seats.items
+        → All (IsFreshPass books) passes.items → All (IsReadyAt row books) workers.items) }
 {
     let mut seats = seats;
     let mut passes = passes;

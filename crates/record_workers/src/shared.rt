@@ -1,12 +1,12 @@
-use donor_book::SharedBook;
+use class_books::SharedClasses;
 use record_pieces::Rest;
 use ticket_row::Tickets;
 
-/// What all workers share: by what records are edited, the tickets by which they draw them, and the book in which they
-/// claim donors.
+/// What all workers share: by what records are edited, the tickets by which they draw them, and the books in which they
+/// claim donors, one for each imputation class.
 #[derive(Drop)]
 pub struct Shared<F> {
     pub rest: Rest<F>,
     pub tickets: Tickets,
-    pub book: SharedBook,
+    pub books: SharedClasses,
 }

@@ -1,14 +1,13 @@
 //! One worker, which draws records until none is left.
 ghost use Rattle.std.specs.Prelude.{◌≡◌, ◌⊎◌, ◌<◌, OnErr, OnOk, length, true};
-ghost use Rattle.donor_book.specs.Passes.{ArePlaced};
-ghost use Rattle.record_pieces.specs.Rests.{rows_in, rows_of};
-ghost use Rattle.record_workers.specs.Workers.{FoundAll, HasWorked, IsReady, IsShared, MissesLast};
-ghost use Rattle.record_workers.specs.inner.Draws.{HasAsked, IsDrawnNext, RanksDonors};
+ghost use Rattle.record_pieces.specs.Rests.{IsPieceIn, rows_in, rows_of};
+ghost use Rattle.record_workers.specs.Workers.{ArePlacedIn, FoundAll, HasWorked, IsReady, IsShared, MissesLast, last_class};
+ghost use Rattle.record_workers.specs.inner.Draws.{HasAskedIn, IsDrawnNext};
 
 use crate::gate::Gate;
 use crate::shared::Shared;
 use crate::source::find_piece;
-use donor_book::{Pass, SharedBook};
+use class_books::{ClassPass, SharedClasses};
 use edit_model::Value;
 use foundation::{OutOfMemory, Steps};
 use record_pieces::Piece;
@@ -19,13 +18,13 @@ use std::sync::Wait;
 use std::sync::ledger::{Blank, Ledger};
 use ticket_row::Seat;
 
-/// A worker: its number, its seat at the tickets, from which it draws records, its pass to the book, from which it claims
+/// A worker: its number, its seat at the tickets, from which it draws records, its pass to the books, from which it claims
 /// donors, its reader of the pool, by which it finds derived systems, and what it has found.
 #[derive(Drop)]
 pub struct Worker {
     pub number: u32,
     pub seat: Seat,
-    pub pass: Pass,
+    pub pass: ClassPass,
     pub reader: Reader,
     pub pieces: Vec<Piece>,
 }
@@ -97,23 +96,30 @@ impl Worker {
     {
         let piece = find_piece(&mut self.reader, rt, alloc, &shared.rest, row_no, steps)?;
         self.pieces.reserve(1)?;
-        claim_for(&shared.book, &mut self.pass, &piece);
+        claim_for(shared, &mut self.pass, &piece);
         self.pieces.push_reserved(piece);
         Ok(())
     }
 }
 
-// Claims a donor for the record of the piece, if it needs one.
-fn claim_for(book: &SharedBook, pass: &mut Pass, piece: &Piece)
-    requires book { pass.old.book ≡ book.now }
-    requires row { piece.now.row_no < book.now.terms.rows }
-    requires donors { RanksDonors book.now.terms.donors piece.now.ranking }
-    requires placed { ArePlaced pass.old.seen pass.old.mine }
-    ensures book { pass.new.book ≡ pass.old.book }
-    ensures placed { ArePlaced pass.new.seen pass.new.mine }
-    ensures asked { HasAsked piece.now.row_no piece.now.ranking pass.old pass.new }
+// Claims a donor for the record of the piece, if it needs one and is of a class that has donors.
+fn claim_for<F: Fn(u32, &Value, &Value) -> u64>(
+    shared: &Shared<F>,
+    pass: &mut ClassPass,
+    piece: &Piece,
+)
+    requires shared { IsShared F.Fn shared.now }
+    requires piece { IsPieceIn shared.now.rest piece.now }
+    requires classes { pass.old.classes ≡ shared.now.books }
+    requires placed { ArePlacedIn (last_class shared.now) pass.old }
+    ensures classes { pass.new.classes ≡ pass.old.classes }
+    ensures placed { ArePlacedIn (last_class shared.now) pass.new }
+    ensures asked { HasAskedIn (last_class shared.now) piece.now pass.old pass.new }
 {
+    if piece.class == shared.rest.decks.last() {
+        return;
+    }
     if let Some(ranking) = &piece.ranking {
-        book.claim(pass, piece.row_no, ranking.as_slice());
+        shared.books.claim(pass, piece.row_no, ranking.as_slice());
     }
 }

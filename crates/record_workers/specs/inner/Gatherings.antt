@@ -1,11 +1,12 @@
 -- What some workers have, all together.
-use Rattle.std.specs.Prelude.{◌≡◌, ℕ, true, List, [], Option, Some, None, map, slice_get}
+use Rattle.std.specs.Prelude.{◌≡◌, ℕ, ◌==◌, true, if◌then◌else◌, List, [], Option, Some, None, map, slice_get}
 use Rattle.std.specs.List.{flat_map}
 use Rattle.ticket_row.specs.Tickets as tickets
 use Rattle.donor_book.specs.Entries.{entry_of}
-use Rattle.donor_book.specs.Passes as passes
 use Rattle.donor_book.specs.declared.claim.Entry.{Entry}
 use Rattle.donor_book.specs.declared.claim.Won.{Won}
+use Rattle.class_books.specs.ClassPasses.{ClassPassState, ClassesName, IsFreshPass}
+use Rattle.record_pieces.specs.Needs.{Need, needs_by}
 use Rattle.record_pieces.specs.declared.piece.Piece.{Piece}
 use Rattle.record_workers.specs.Workers.{FoundAll, HasWorked}
 use Rattle.record_workers.specs.declared.shared.Shared.{Shared}
@@ -15,7 +16,7 @@ use Rattle.record_workers.specs.declared.worker.Worker.{Worker}
 abbrev pub seats_of : List Worker → List tickets.SeatState
 seats_of workers = map (λ (w : Worker). w.seat) workers
 
-abbrev pub passes_of : List Worker → List passes.PassState
+abbrev pub passes_of : List Worker → List ClassPassState
 passes_of workers = map (λ (w : Worker). w.pass) workers
 
 abbrev pub pieces_of : List Worker → List Piece
@@ -34,14 +35,21 @@ ranking_at (Some piece) = ranking_or piece.ranking
 abbrev pub entry_by : List Piece → Won → Entry
 entry_by pieces w = entry_of w.row_no (ranking_at (slice_get pieces w.row_no)) w.reply
 
--- a pass of this book that has seen and claimed nothing
-abbrev pub IsFreshPass : passes.BookName → passes.PassState → Type 0
-IsFreshPass book p = passes.IsFresh book p
+-- the claim of a record of the last class, if it needs a donor: nobody is given to it
+abbrev pub unanswered_for : List Need → List Entry
+unanswered_for needs = map (λ (need : Need). entry_of need.row_no need.ranking None) needs
 
--- a worker at these tickets and at this book that has done nothing yet
-pub record IsReadyAt (row : tickets.Row) (book : passes.BookName) (worker : Worker) : Type 0 where
+abbrev pub unanswered_by : ℕ → Piece → List Entry
+unanswered_by last piece = if piece.class == last then unanswered_for (needs_by piece.row_no piece.ranking) else []
+
+-- the claims of the records of the last class, in row order
+abbrev pub unanswered : ℕ → List Piece → List Entry
+unanswered last pieces = flat_map (unanswered_by last) pieces
+
+-- a worker at these tickets and at these books that has done nothing yet
+pub record IsReadyAt (row : tickets.Row) (books : ClassesName) (worker : Worker) : Type 0 where
   pub seat : tickets.IsFresh row worker.seat
-  pub pass : passes.IsFresh book worker.pass
+  pub pass : IsFreshPass books worker.pass
   pub reader : worker.reader ≡ []
   pub pieces : worker.pieces.items ≡ []
 

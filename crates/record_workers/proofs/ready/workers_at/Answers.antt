@@ -1,9 +1,9 @@
 use Rattle.std.proofs.Common.{◌≡◌, ◌++◌, [], ◌∷◌, All, Option, IfSome, ap, arith, length, length-append, option_to_list, subst, sym, ◌∙◌}
 use Rattle.std.proofs.lemmas.List.Elements.{All-pop, All-push}
 use Rattle.ticket_row.specs.Tickets.{IsFresh, SeatState}
-use Rattle.donor_book.specs.Passes.{PassState}
+use Rattle.class_books.specs.ClassPasses.{ClassPassState, IsFreshPass}
 use Rattle.record_workers.specs.declared.worker.Worker.{Worker}
-use Rattle.record_workers.specs.inner.Gatherings.{IsFreshPass, IsReadyAt}
+use Rattle.record_workers.specs.inner.Gatherings.{IsReadyAt}
 use Rattle.record_workers.proofs.ready.workers_at.Goals as goal
 
 pub loop-number-preserved : goal.loop-number-preserved
@@ -15,7 +15,7 @@ loop-number-preserved c =
     let passes = c.pop-in-loop-number.new.self.items in
     let seats_were : loop.seats.items ≡ seats ++ some.seat ∷ [] = c.pop.ensures.items ∙ ap (λ (o : Option SeatState). seats ++ option_to_list o) some.is-0 in
     let passes_were : loop.passes.items ≡ passes ++ some.pass ∷ [] = c.pop-in-loop-number.ensures.items
-    ∙ ap (λ (o : Option PassState). passes ++ option_to_list o) some.is-1 in
+    ∙ ap (λ (o : Option ClassPassState). passes ++ option_to_list o) some.is-1 in
     let items = c.in_ok-push.ensures.items in
     let worker : Worker = record { number = loop.number; seat = some.seat; pass = some.pass; reader = c.in_ok-reader.field-0; pieces = c.new.result } in
     record {
@@ -23,14 +23,14 @@ loop-number-preserved c =
       passes = omega (arith, inv.passes, ap length passes_were, length-append passes (some.pass ∷ []));
       workers = omega (arith, inv.workers, ap length items, length-append loop.workers.items (worker ∷ []));
       fresh = λ row f. (All-pop (IsFresh row) loop.seats.items seats c.pop.result c.pop.ensures.items (inv.fresh row f)).0;
-      unspent = λ book u.
-          (All-pop (IsFreshPass book) loop.passes.items passes c.pop-in-loop-number.result c.pop-in-loop-number.ensures.items (inv.unspent book u)).0;
-      ready = λ row book f u. subst (All (IsReadyAt row book)) (sym items)
-          (All-push (IsReadyAt row book) loop.workers.items worker (inv.ready row book f u) (record {
+      unspent = λ books u.
+          (All-pop (IsFreshPass books) loop.passes.items passes c.pop-in-loop-number.result c.pop-in-loop-number.ensures.items (inv.unspent books u)).0;
+      ready = λ row books f u. subst (All (IsReadyAt row books)) (sym items)
+          (All-push (IsReadyAt row books) loop.workers.items worker (inv.ready row books f u) (record {
             seat = subst (λ (o : Option SeatState). IfSome o (IsFresh row)) some.is-0
                 (All-pop (IsFresh row) loop.seats.items seats c.pop.result c.pop.ensures.items (inv.fresh row f)).1;
-            pass = subst (λ (o : Option PassState). IfSome o (IsFreshPass book)) some.is-1
-                (All-pop (IsFreshPass book) loop.passes.items passes c.pop-in-loop-number.result c.pop-in-loop-number.ensures.items (inv.unspent book u)).1;
+            pass = subst (λ (o : Option ClassPassState). IfSome o (IsFreshPass books)) some.is-1
+                (All-pop (IsFreshPass books) loop.passes.items passes c.pop-in-loop-number.result c.pop-in-loop-number.ensures.items (inv.unspent books u)).1;
             reader = c.in_ok-reader.ensures;
             pieces = c.new.ensures.items;
           }));

@@ -3,15 +3,10 @@ use Rattle.std.specs.List.{All}
 use Rattle.std.proofs.lemmas.List.Elements.{All-push}
 use Rattle.record_pieces.specs.Rests.{IsPieceIn, KeepsFor}
 use Rattle.record_pieces.specs.declared.piece.Piece.{Piece}
-use Rattle.record_workers.specs.Workers.{AreClaimed, kept_by}
-use Rattle.record_workers.proofs.ClaimedLaws.{claimed-more, piece-donors}
+use Rattle.record_workers.specs.Workers.{AreClaimedIn, kept_by, last_class}
+use Rattle.record_workers.proofs.ClaimedLaws.{claimed-in}
 use Rattle.record_workers.proofs.KeepLaws.{keeps-later, keeps-more}
 use Rattle.record_workers.proofs.worker.Worker.work_on.Goals as goal
-
-pub claim_for-requires-clause-donors : goal.claim_for-requires-clause-donors
-claim_for-requires-clause-donors g c =
-    let shared = c.args.shared.now in
-    piece-donors shared.rest c.in_ok-piece.piece shared.book.terms.donors c.in_ok-piece.ensures.piece c.requires.shared.donors
 
 pub returns-in_err-piece-clause-worked : goal.returns-in_err-piece-clause-worked
 returns-in_err-piece-clause-worked g c =
@@ -42,7 +37,7 @@ returns-in_err-reserve-clause-worked g c =
       pass = worked.pass;
       reader = found.reader;
       pieces = subst (All (IsPieceIn rest)) same worked.pieces;
-      claims = subst (λ (ps : List Piece). AreClaimed ps c.args.self.now.pass) same worked.claims;
+      claims = subst (λ (ps : List Piece). AreClaimedIn (last_class c.args.shared.now) ps c.args.self.now.pass) same worked.claims;
       places = worked.places;
       kept = subst (All (KeepsFor rest keeps)) same kept;
     }
@@ -61,12 +56,12 @@ returns-clause-worked g c =
     let kept = keeps-more rest (kept_by rest c.args.self.now.reader) keeps found.keeps old worked.kept piece found.kept in
     record {
       seat = worked.seat;
-      pass = c.claim_for.ensures.book ∙ worked.pass;
+      pass = c.claim_for.ensures.classes ∙ worked.pass;
       reader = found.reader;
       pieces = subst (All (IsPieceIn rest)) (sym items) (All-push (IsPieceIn rest) old piece worked.pieces found.piece);
-      claims = subst (λ (ps : List Piece). AreClaimed ps pass) (sym items)
-          (claimed-more old piece c.args.self.now.pass pass worked.claims c.args.self.now.seat.drawn (rw found.row c.requires.drawn)
-          c.claim_for.ensures.asked);
+      claims = subst (λ (ps : List Piece). AreClaimedIn (last_class c.args.shared.now) ps pass) (sym items)
+          (claimed-in (last_class c.args.shared.now) old piece c.args.self.now.pass pass c.args.self.now.seat.drawn worked.claims
+          (rw found.row c.requires.drawn) c.claim_for.ensures.asked);
       places = c.claim_for.ensures.placed;
       kept = subst (All (KeepsFor rest keeps)) (sym items) kept;
     }
