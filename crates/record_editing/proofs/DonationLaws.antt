@@ -1,15 +1,16 @@
-use Rattle.std.proofs.Common.{◌≡◌, ℕ, zero, suc, ◌+◌, ◌<◌, ◌++◌, Bool, true, false, List, [], ◌∷◌, All, Option, Some, None, IsSomeAnd, length, map, inl, inr}
+use Rattle.std.proofs.Common.{◌≡◌, ℕ, zero, suc, ◌+◌, ◌<◌, ◌++◌, Bool, true, false, List, [], ◌∷◌, All, Option, Some, None, IfSome, IsSomeAnd, ◌==◌, length, map, inl, inr}
 use Rattle.std.proofs.Common.{refl, sym, ap, ◌∙◌, subst, arith}
 use Rattle.std.specs.Prelude.{slice_get}
 use Rattle.std.specs.List.{AllByRecursion, AllZip, range_with_len}
 use Rattle.std.specs.List.Sorted.{IsPermutation}
+use Rattle.std.proofs.lemmas.Bool.Decides.{Decides-eqb}
 use Rattle.std.proofs.lemmas.List.{map-append}
 use Rattle.std.proofs.lemmas.List.Elements.{All-head, All-tail}
 use Rattle.std.proofs.lemmas.List.Sorted.{IsPermutation-map}
 use Rattle.edit_model.specs.Parts.{SurveyParts}
 use Rattle.edit_model.specs.declared.value.Value.{Value}
 use Rattle.edit_line.specs.Reductions.{IsIn}
-use Rattle.edit_line.proofs.Members.{in-all, in-map}
+use Rattle.edit_line.proofs.Members.{all-in, in-all, in-filter-out, in-map}
 use Rattle.bound_cert.specs.Claims.{claims_donor}
 use Rattle.donor_book.specs.Entries.{IsLegalHistory}
 use Rattle.donor_book.specs.declared.claim.Entry.{Entry}
@@ -19,14 +20,18 @@ use Rattle.edit_report.specs.Ends.{path_found}
 use Rattle.edit_report.specs.declared.end.RowEnd.{RowEnd}
 use Rattle.bound_cert.specs.declared.outcome.Outcome.{Outcome}
 use Rattle.bound_cert.specs.declared.outcome.Outcome.TheVariants as outcome
-use Rattle.record_pieces.specs.Needs.{AnswersNeeds, IsRankingFor, IsRankingOf, Need, Ranks, need_in, needs_by, needs_of, rows_claimed}
-use Rattle.record_pieces.specs.Rests.{ArePiecesIn, IsPieceIn, rows_in, rows_of}
+use Rattle.class_books.specs.Histories.{history_in}
+use Rattle.record_pieces.specs.Classes.{IsDonorIn, class_count}
+use Rattle.record_pieces.specs.Needs.{AnswersNeeds, AreInRowOrder, IsRankingFor, IsRankingOf, Need, Ranks, class_found, need_in, needs_by, needs_of, rows_claimed}
+use Rattle.record_pieces.specs.Rests.{ArePiecesIn, IsPieceIn, class_field_in, rows_in, rows_of}
 use Rattle.record_pieces.specs.declared.piece.Piece.{Piece}
 use Rattle.record_pieces.specs.declared.rest.Rest.{Rest}
 use Rattle.record_pieces.proofs.NeedLaws.{in-other-order, need-from, piece-at, rows-asked}
 use Rattle.record_ends.specs.Givings.{EndsBy, IsEndIn, SaysIn, donor_in}
-use Rattle.record_editing.specs.Donations.{AreDonations, IsRanked, claimers_of, end_claims}
+use Rattle.record_workers.specs.Workers.{AnswersInClasses, pieces_in}
+use Rattle.record_editing.specs.Donations.{AreDonations, AreInOrder, ComeInClasses, IsClaimIn, IsRanked, claimers_of, claims_in, class_by, class_claimed, end_claims}
 use Rattle.record_editing.specs.declared.terms.Terms.{Terms}
+use Rattle.record_editing.proofs.OrderLaws.{class-in-order, first-alone}
 
 -- The claims of all records, by their ends.
 
@@ -88,12 +93,13 @@ zip-weaker R S (x ∷ xs) (y ∷ ys) turn each = (turn x y each.0, zip-weaker R 
 -- ---- the rankings of the records that claim
 
 -- a record ranks donors by the path that was found for it where it claims one
-ranks-by : (survey : SurveyParts) (rows : List (List Value)) (near : ℕ) (row : List Value) (found : Outcome) (ranking : Option (List ℕ))
-    → IsRankingFor survey rows near row found ranking → Ranks (claims_donor found) survey rows near row (path_found found) ranking
-ranks-by survey rows near row (outcome.Change path weight cert) ranking ranks = ranks
-ranks-by survey rows near row (outcome.Budget path work) ranking none = none
-ranks-by survey rows near row (outcome.Overflow path event) ranking none = none
-ranks-by survey rows near row (outcome.Contradictory cert) ranking none = none
+ranks-by : (survey : SurveyParts) (rows : List (List Value)) (class_field : Option ℕ) (near : ℕ) (row : List Value) (found : Outcome)
+    (ranking : Option (List ℕ)) → IsRankingFor survey rows class_field near row found ranking
+    → Ranks (claims_donor found) survey rows class_field near row (path_found found) ranking
+ranks-by survey rows class_field near row (outcome.Change path weight cert) ranking ranks = ranks
+ranks-by survey rows class_field near row (outcome.Budget path work) ranking none = none
+ranks-by survey rows class_field near row (outcome.Overflow path event) ranking none = none
+ranks-by survey rows class_field near row (outcome.Contradictory cert) ranking none = none
 
 -- ---- the claims, by the ends
 
@@ -131,7 +137,7 @@ module _ {F : Type 0} (rest : Rest F) (pieces : List Piece) (are : ArePiecesIn r
         let later : rows_of ps ≡ range_with_len (k + 1) n = cc in
         let rest_is = needs-claim (suc k) n ps es (subst (λ (m : ℕ). rows_of ps ≡ range_with_len m n) next later) (All-tail (IsPieceIn rest) p ps all) zip.1 in
         let is = All-head (IsPieceIn rest) p ps all in
-        let ranks = ranks-by rest.survey (rows_in rest) rest.near (row_at (rows_in rest) p.row_no) p.outcome p.ranking is.ranking in
+        let ranks = ranks-by rest.survey (rows_in rest) (class_field_in rest) rest.near (row_at (rows_in rest) p.row_no) p.outcome p.ranking is.ranking in
         let first = here (claims_donor p.outcome) p.ranking own ranks in
         let same : claims_donor p.outcome ≡ end_claims e = ap claims_donor (sym zip.0.outcome) in
         map-append (λ (need : Need). need.row_no) (needs_by p.row_no p.ranking) (needs_of ps)
@@ -139,7 +145,7 @@ module _ {F : Type 0} (rest : Rest F) (pieces : List Piece) (are : ArePiecesIn r
         ∙ ap (λ (ns : List ℕ). place_if (end_claims e) k ++ ns) rest_is
       where
         here : (b : Bool) (ranking : Option (List ℕ)) → p.row_no ≡ k
-            → Ranks b rest.survey (rows_in rest) rest.near (row_at (rows_in rest) p.row_no) (path_found p.outcome) ranking
+            → Ranks b rest.survey (rows_in rest) (class_field_in rest) rest.near (row_at (rows_in rest) p.row_no) (path_found p.outcome) ranking
             → map (λ (need : Need). need.row_no) (needs_by p.row_no ranking) ≡ place_if b k
         here true None own ranks = absurd ranks
         here true (Some r) own ranks = ap (λ (m : ℕ). m ∷ []) own
@@ -152,7 +158,7 @@ module _ {F : Type 0} (rest : Rest F) (pieces : List Piece) (are : ArePiecesIn r
         (IsPermutation-map (λ (need : Need). need.row_no) (needs_of pieces) (map need_in history) answers.needs))
 
     -- each claim has the ranking of its record
-    ranked-one : (e : Entry) → IsIn e history → IsRanked rest.survey (rows_in rest) rest.near ends e
+    ranked-one : (e : Entry) → IsIn e history → IsRanked rest.survey (rows_in rest) (class_field_in rest) rest.near ends e
     ranked-one e there =
         let (p, in_pieces, row, ranking) = need-from (need_in e) pieces
         (in-other-order (needs_of pieces) (map need_in history) (need_in e) answers.needs (in-map need_in e history there)) in
@@ -160,22 +166,22 @@ module _ {F : Type 0} (rest : Rest F) (pieces : List Piece) (are : ArePiecesIn r
         let (end, stands, becomes) = zip-get (EndsBy rest history) pieces ends each e.row_no p at in
         let is = in-all (IsPieceIn rest) p pieces are.each in_pieces in
         let of = by p (claims_donor p.outcome)
-        (ranks-by rest.survey (rows_in rest) rest.near (row_at (rows_in rest) p.row_no) p.outcome (Some e.ranking)
-        (subst (IsRankingFor rest.survey (rows_in rest) rest.near (row_at (rows_in rest) p.row_no) p.outcome) ranking is.ranking)) in
-        let mine = subst (λ (n : ℕ). IsRankingOf rest.survey (rows_in rest) rest.near (row_at (rows_in rest) n) (path_found p.outcome) e.ranking) row of in
-        let told = subst (λ (o : Outcome). IsRankingOf rest.survey (rows_in rest) rest.near (row_at (rows_in rest) e.row_no)
+        (ranks-by rest.survey (rows_in rest) (class_field_in rest) rest.near (row_at (rows_in rest) p.row_no) p.outcome (Some e.ranking)
+        (subst (IsRankingFor rest.survey (rows_in rest) (class_field_in rest) rest.near (row_at (rows_in rest) p.row_no) p.outcome) ranking is.ranking)) in
+        let mine = subst (λ (n : ℕ). IsRankingOf rest.survey (rows_in rest) (class_field_in rest) rest.near (row_at (rows_in rest) n) (path_found p.outcome) e.ranking) row of in
+        let told = subst (λ (o : Outcome). IsRankingOf rest.survey (rows_in rest) (class_field_in rest) rest.near (row_at (rows_in rest) e.row_no)
         (path_found o) e.ranking) (sym becomes.outcome) mine in
         subst (λ (o : Option RowEnd). IsSomeAnd o
-        (λ (end : RowEnd). IsRankingOf rest.survey (rows_in rest) rest.near (row_at (rows_in rest) e.row_no)
+        (λ (end : RowEnd). IsRankingOf rest.survey (rows_in rest) (class_field_in rest) rest.near (row_at (rows_in rest) e.row_no)
         (path_found end.proof.outcome) e.ranking)) (sym stands) told
       where
-        by : (p : Piece) (b : Bool) → Ranks b rest.survey (rows_in rest) rest.near (row_at (rows_in rest) p.row_no) (path_found p.outcome) (Some e.ranking)
-            → IsRankingOf rest.survey (rows_in rest) rest.near (row_at (rows_in rest) p.row_no) (path_found p.outcome) e.ranking
+        by : (p : Piece) (b : Bool) → Ranks b rest.survey (rows_in rest) (class_field_in rest) rest.near (row_at (rows_in rest) p.row_no) (path_found p.outcome) (Some e.ranking)
+            → IsRankingOf rest.survey (rows_in rest) (class_field_in rest) rest.near (row_at (rows_in rest) p.row_no) (path_found p.outcome) e.ranking
         by p true ranks = ranks
         by p false none = absurd (cc)
 
-    ranked-all : (es : List Entry) → ((e : Entry) → IsIn e es → IsRanked rest.survey (rows_in rest) rest.near ends e)
-        → AllByRecursion (IsRanked rest.survey (rows_in rest) rest.near ends) es
+    ranked-all : (es : List Entry) → ((e : Entry) → IsIn e es → IsRanked rest.survey (rows_in rest) (class_field_in rest) rest.near ends e)
+        → AllByRecursion (IsRanked rest.survey (rows_in rest) (class_field_in rest) rest.near ends) es
     ranked-all [] one = tt
     ranked-all (e ∷ es) one = (one e (inl refl), ranked-all es (λ x there. one x (inr there)))
 
@@ -185,11 +191,96 @@ module _ {F : Type 0} (rest : Rest F) (pieces : List Piece) (are : ArePiecesIn r
         let row = row-at 0 (length (rows_in rest)) pieces are.rows i p stands in
         becomes.given ∙ ap (donor_in history) (let same : p.row_no ≡ i = omega (arith, row) in same)
 
-    -- the claims are the donations of the records that ended so
-    pub donations-are : (terms : Terms) → terms.limit ≡ limit → terms.near ≡ rest.near → AreDonations rest.survey (rows_in rest) terms ends history
-    donations-are terms limit_is near_is = record {
-      legal = subst (λ (n : ℕ). IsLegalHistory n history) (sym limit_is) answers.legal;
-      claimers = claimers;
-      ranked = subst (λ (n : ℕ). AllByRecursion (IsRanked rest.survey (rows_in rest) n ends) history) (sym near_is) (ranked-all history ranked-one);
-      given = given;
-    }
+    -- ---- classes
+
+    abbrev key : Entry → ℕ
+    key e = class_claimed rest.survey (rows_in rest) (class_field_in rest) ends e
+
+    -- a claim for what a piece needs is in the class of the piece, and so are the donors that it ranks
+    claim-in : (e : Entry) (p : Piece) → IsIn p pieces → p.row_no ≡ e.row_no → p.ranking ≡ Some e.ranking
+        → IsClaimIn rest.survey (rows_in rest) (class_field_in rest) ends p.class e
+    claim-in e p there row ranking =
+        let at = piece-at 0 (length (rows_in rest)) pieces are.rows p there e.row_no (omega (arith, row)) in
+        let (end, stands, becomes) = zip-get (EndsBy rest history) pieces ends each e.row_no p at in
+        let is = in-all (IsPieceIn rest) p pieces are.each there in
+        record {
+          own = ap (class_by rest.survey (class_field_in rest) (row_at (rows_in rest) e.row_no)) stands
+              ∙ ap (class_found rest.survey (class_field_in rest) (row_at (rows_in rest) e.row_no)) becomes.outcome
+              ∙ ap (λ (n : ℕ). class_found rest.survey (class_field_in rest) (row_at (rows_in rest) n) p.outcome) (sym row)
+              ∙ sym is.class;
+          donors = subst (λ (o : Option (List ℕ)). IfSome o (All (IsDonorIn rest.survey (rows_in rest) (class_field_in rest) p.class))) ranking is.donors;
+        }
+
+    module _ (last : ℕ) (last_is : last ≡ class_count rest.survey.fields (class_field_in rest)) (alone : Type 0)
+        (classes : AnswersInClasses limit last alone pieces history) where
+      -- what a class's claim is for
+      class-piece : (class : ℕ) → class < length classes.histories → (e : Entry) → IsIn e (history_in class classes.histories)
+          → (p : Piece) × IsIn p pieces × (p.row_no ≡ e.row_no) × (p.ranking ≡ Some e.ranking) × (p.class ≡ class)
+      class-piece class lt e there =
+          let claims = history_in class classes.histories in
+          let (p, in_class, row, ranking) = need-from (need_in e) (pieces_in class pieces)
+          (in-other-order (needs_of (pieces_in class pieces)) (map need_in claims) (need_in e) (classes.each class lt).needs
+          (in-map need_in e claims there)) in
+          let (in_pieces, own) = in-filter-out (λ (q : Piece). q.class == class) p pieces in_class in
+          (p, in_pieces, row, ranking, (Decides-eqb p.class class).0 own)
+
+      claim-of : (class : ℕ) → class < length classes.histories → (e : Entry) → IsIn e (history_in class classes.histories)
+          → IsClaimIn rest.survey (rows_in rest) (class_field_in rest) ends class e
+      claim-of class lt e there =
+          let (p, in_pieces, row, ranking, own) = class-piece class lt e there in
+          subst (λ (c : ℕ). IsClaimIn rest.survey (rows_in rest) (class_field_in rest) ends c e) own (claim-in e p in_pieces row ranking)
+
+      come-in-classes : ComeInClasses rest.survey (rows_in rest) (class_field_in rest) limit ends history
+      come-in-classes = record {
+        histories = classes.histories;
+        as_many = classes.as_many ∙ ap (λ (n : ℕ). n + 1) last_is;
+        one_after_other = classes.one_after_other;
+        legal = λ class lt. (classes.each class lt).legal;
+        of_class = λ class lt. all-in (IsClaimIn rest.survey (rows_in rest) (class_field_in rest) ends class) (history_in class classes.histories)
+            (claim-of class lt);
+      }
+
+      -- a record that claims is in no other class than the first, where there is no class field
+      first-class : (none : class_field_in rest ≡ None) (e : Entry) → IsIn e (history_in 1 classes.histories) → 1 < length classes.histories → ⊥
+      first-class none e there lt =
+          let (p, in_pieces, row, ranking, own) = class-piece 1 lt e there in
+          let is = in-all (IsPieceIn rest) p pieces are.each in_pieces in
+          let zero = by p.outcome (row_at (rows_in rest) p.row_no) (subst (IsRankingFor rest.survey (rows_in rest) (class_field_in rest) rest.near (row_at (rows_in rest) p.row_no) p.outcome)
+          ranking is.ranking) in
+          let first : p.class ≡ 0 = is.class ∙ ap (λ (f : Option ℕ). class_found rest.survey f (row_at (rows_in rest) p.row_no) p.outcome) none ∙ zero in
+          absurd (omega (arith, own, first))
+        where
+          by : (o : Outcome) (row : List Value) → IsRankingFor rest.survey (rows_in rest) (class_field_in rest) rest.near row o (Some e.ranking)
+              → class_found rest.survey None row o ≡ 0
+          by (outcome.Change path weight cert) row ranks = refl
+          by (outcome.Budget path work) row ranks = absurd (cc)
+          by (outcome.Overflow path event) row ranks = absurd (cc)
+          by (outcome.Contradictory cert) row ranks = absurd (cc)
+
+      -- one worker alone claims in order
+      pub alone-in-order : alone → AreInOrder rest.survey (rows_in rest) (class_field_in rest) ends history
+      alone-in-order one = by (class_field_in rest) refl
+        where
+          by : (f : Option ℕ) → class_field_in rest ≡ f → AreInOrder rest.survey (rows_in rest) f ends history
+          by None none =
+              let many : length classes.histories ≡ 2 = classes.as_many
+              ∙ ap (λ (n : ℕ). n + 1) (last_is ∙ ap (class_count rest.survey.fields) none) in
+              subst AreInRowOrder (sym classes.one_after_other)
+              (first-alone classes.histories many (λ e there. first-class none e there (omega (arith, many))) (classes.order one 0 (omega (arith, many))))
+          by (Some field) some = λ class.
+              subst (λ (es : List Entry). AreInRowOrder (claims_in rest.survey (rows_in rest) (Some field) ends class es)) (sym classes.one_after_other)
+              (class-in-order (class_claimed rest.survey (rows_in rest) (Some field) ends) class 0 classes.histories
+              (λ c lt e there. (let plus : 0 + c ≡ c = omega arith in
+              subst (λ (f : Option ℕ). class_claimed rest.survey (rows_in rest) f ends e ≡ c) some (claim-of c lt e there).own ∙ sym plus))
+              (classes.order one))
+
+      -- the claims are the donations of the records that ended so
+      pub donations-are : (terms : Terms) → terms.limit ≡ limit → terms.near ≡ rest.near → terms.class_field ≡ class_field_in rest
+          → AreDonations rest.survey (rows_in rest) terms ends history
+      donations-are terms limit_is near_is field_is = record {
+        legal = subst (λ (n : ℕ). IsLegalHistory n history) (sym limit_is) answers.legal;
+        claimers = claimers;
+        ranked = rw (near_is, field_is) (ranked-all history ranked-one);
+        classes = rw (limit_is, field_is) come-in-classes;
+        given = given;
+      }

@@ -1,1 +1,2 @@
 pub mod DonationLaws
+pub mod OrderLaws

@@ -1,29 +1,28 @@
 //! What becomes of all records, by workers that run side by side.
-ghost use Rattle.std.specs.Prelude.{◌≡◌, ◌≤◌, IfOk};
+ghost use Rattle.std.specs.Prelude.{◌≡◌, ◌<◌, ◌≤◌, IfOk, IfSome, length};
 ghost use Rattle.std.specs.List.{AllByRecursion, AllZip};
+ghost use Rattle.foundation.specs.Limits.{most_near};
 ghost use Rattle.edit_line.specs.EditSets.{SayTheRules};
 ghost use Rattle.edit_line.specs.Shapes.{shape_of};
 ghost use Rattle.edit_model.specs.PlainNumbers.{HasPlain};
 ghost use Rattle.edit_model.specs.Rows.{IsRow};
 ghost use Rattle.donor_measure.specs.Measures.{Measures};
 ghost use Rattle.donor_measure.specs.Yardsticks.{yardsticks_of};
-ghost use Rattle.record_pieces.specs.Needs.{AreInRowOrder};
-ghost use Rattle.record_pieces.specs.Rests.{IsRest, rows_in};
+ghost use Rattle.record_pieces.specs.Rests.{IsRest, class_field_in, rows_in};
 ghost use Rattle.record_ends.specs.Ends.{IsEndOf};
 ghost use Rattle.record_ends.specs.Givings.{IsEndIn, SaysIn};
 ghost use Rattle.record_ends.specs.Said.{Says};
-ghost use Rattle.record_editing.specs.Donations.{AreDonations};
+ghost use Rattle.record_editing.specs.Donations.{AreDonations, AreInOrder};
 ghost use Rattle.record_editing.specs.inner.Givings.{AreDonationsIn};
 
 use crate::edited::Edited;
 use crate::terms::Terms;
 use donor_measure::Measure;
-use donor_search::Deck;
 use edit_line::Edits;
 use edit_model::{Survey, Value};
 use foundation::OutOfMemory;
 use record_ends::give_all;
-use record_pieces::Rest;
+use record_pieces::{Decks, Rest};
 use record_text::Sheet;
 use record_workers::{Gate, Gathered, run_all, shared_by};
 use shared_edits::Pool;
@@ -32,8 +31,8 @@ use std::sync::{Arc, Wait};
 use std::thread::Threads;
 
 /// What becomes of each record of a sheet, in order: the outcome of its search by the edits, and the values of its
-/// changed fields, for which it claims a donor among the clean records. From 1 to 64 workers draw the records side by
-/// side. The edits are over the survey's fields, and they say of a point with codes of these what the rules say. The
+/// changed fields, for which it claims a donor among the clean records, those of its own imputation class where the terms
+/// have a class field. From 1 to 64 workers draw the records side by side. The edits are over the survey's fields, and they say of a point with codes of these what the rules say. The
 /// measure is one of the survey, and the numbers of the records have numerators below 10^21 and denominators of at most
 /// 10^6.
 pub fn edit_records<
@@ -57,22 +56,25 @@ pub fn edit_records<
     requires plain { AllByRecursion HasPlain sheet.rows }
     requires measures { Measures F.Fn measure.closure measure.yardsticks }
     requires yardsticks { measure.yardsticks ≡ yardsticks_of survey.fields }
+    requires near { terms.near ≤ most_near }
+    requires field { IfSome terms.class_field (λ field. field < length survey.fields) }
     requires workers { (1 ≤ workers) × (workers ≤ 64) }
     ensures survey { IfOk result (λ edited. edited.rest.survey ≡ survey) }
     ensures sheet { IfOk result (λ edited. edited.rest.sheet ≡ sheet) }
     ensures ends { IfOk result (λ edited. AllZip (IsEndOf survey edits terms.budget sheet.rows) sheet.rows edited.ends.items) }
     ensures say { IfOk result (λ edited. AllZip (Says survey edits terms.budget) sheet.rows edited.ends.items) }
     ensures donations { IfOk result (λ edited. AreDonations survey sheet.rows terms edited.ends.items edited.history.items) }
-    ensures order { IfOk result (λ edited. workers ≡ 1 → AreInRowOrder edited.history.items) }
+    ensures order { IfOk result (λ edited. workers ≡ 1
+        → AreInOrder survey sheet.rows terms.class_field edited.ends.items edited.history.items) }
 {
-    let deck = Deck::new(alloc, &survey, &sheet)?;
+    let decks = Decks::new(alloc, &survey, &sheet, terms.class_field)?;
     let edits = Arc::new(alloc, edits)?;
     let pool = Pool::new(alloc, Arc::try_clone(&edits)?)?;
     let rest = Rest {
         survey,
         edits,
         sheet,
-        deck,
+        decks,
         measure,
         near: terms.near,
         budget: terms.budget,
@@ -96,7 +98,8 @@ fn edit_by<R: Threads + Wait + Sync, F: Fn(u32, &Value, &Value) -> u64 + Send + 
     ensures ends { IfOk result (λ edited. AllZip (IsEndIn rest) (rows_in rest) edited.ends.items) }
     ensures say { IfOk result (λ edited. AllZip (SaysIn rest) (rows_in rest) edited.ends.items) }
     ensures donations { IfOk result (λ edited. AreDonationsIn rest limit edited.ends.items edited.history.items) }
-    ensures order { IfOk result (λ edited. workers ≡ 1 → AreInRowOrder edited.history.items) }
+    ensures order { IfOk result (λ edited. workers ≡ 1
+        → AreInOrder rest.survey (rows_in rest) (class_field_in rest) edited.ends.items edited.history.items) }
 {
     let (shared, ready) = shared_by(alloc, rest, limit, workers)?;
     let Gathered {

@@ -7,4 +7,7 @@ pub struct Terms {
     pub limit: u32,
     /// How many donors a record ranks at most.
     pub near: u32,
+    /// The field by whose codes records are in imputation classes, if they are: a record takes values from donors of its own
+    /// class.
+    pub class_field: Option<u32>,
 }

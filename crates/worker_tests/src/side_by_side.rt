@@ -124,6 +124,7 @@ fn edited<R: Threads + Wait + Sync, G: Gate>(
         budget: 1_000_000,
         limit: 1,
         near: 1,
+        class_field: None,
     };
     let Edited {
         ends,

@@ -1,11 +1,13 @@
-use Rattle.std.proofs.Common.{◌≡◌, ◌∙◌, refl, subst, sym}
+use Rattle.std.proofs.Common.{◌≡◌, ◌∙◌, length, refl, subst, sym}
 use Rattle.std.specs.List.{AllZip}
-use Rattle.record_pieces.specs.Rests.{ArePiecesIn, IsRest, rows_in}
+use Rattle.record_pieces.specs.Rests.{ArePiecesIn, IsRest, class_field_in, rows_in}
 use Rattle.record_pieces.specs.declared.rest.Rest.{Rest}
 use Rattle.record_ends.specs.Givings.{IsEndIn, SaysIn}
+use Rattle.record_workers.specs.Workers.{AnswersInClasses}
+use Rattle.record_editing.specs.Donations.{AreInOrder}
 use Rattle.record_editing.specs.declared.terms.Terms.{Terms}
 use Rattle.record_editing.specs.inner.Givings.{AreDonationsIn}
-use Rattle.record_editing.proofs.DonationLaws.{donations-are, ends-become, ends-say}
+use Rattle.record_editing.proofs.DonationLaws.{alone-in-order, donations-are, ends-become, ends-say}
 use Rattle.record_editing.proofs.records.edit_by.Goals as goal
 
 pub give_all-requires-clause-rest : goal.give_all-requires-clause-rest
@@ -22,15 +24,21 @@ returns g c =
     let was : rest ≡ c.in_ok-shared.shared.rest = c.in_ok-pieces.ensures.rest in
     let same : rest ≡ c.args.rest = was ∙ c.in_ok-shared.ensures.rest in
     let are = subst (λ (r : Rest g.row.F.Denot). ArePiecesIn r pieces) (sym was) c.in_ok-pieces.ensures.pieces in
-    let limit = c.in_ok-shared.shared.book.terms.limit in
+    let limit = c.in_ok-shared.shared.books.terms.limit in
     let answers = c.in_ok-pieces.ensures.history in
+    let alone = length c.in_ok-shared.ready.items ≡ 1 in
+    let classes = subst (λ (r : Rest g.row.F.Denot). AnswersInClasses limit (length r.decks.of_class.items) alone pieces history) (sym was) c.in_ok-pieces.ensures.classes in
     let each = rw c.deref.ensures.value at c.in_ok-ends.ensures in
-    let terms : Terms = record { budget = rest.budget; limit = c.args.limit; near = rest.near } in
-    let donations = donations-are rest pieces are ends limit history answers each terms (sym c.in_ok-shared.ensures.limit) refl in
+    let terms : Terms = record { budget = rest.budget; limit = c.args.limit; near = rest.near; class_field = class_field_in rest } in
+    let last = length rest.decks.of_class.items in
+    let decks = subst (λ (r : Rest g.row.F.Denot). IsRest g.F.Fn r) (sym was) c.in_ok-shared.ensures.shared.rest in
+    let donations = donations-are rest pieces are ends limit history answers each last decks.decks.as_many alone classes terms (sym c.in_ok-shared.ensures.limit) refl refl in
+    let order = alone-in-order rest pieces are ends limit history answers each last decks.decks.as_many alone classes in
     record {
       rest = same;
       ends = subst (λ (r : Rest g.row.F.Denot). AllZip (IsEndIn r) (rows_in r) ends) same (ends-become rest pieces are ends limit history answers each);
       say = subst (λ (r : Rest g.row.F.Denot). AllZip (SaysIn r) (rows_in r) ends) same (ends-say rest pieces are ends limit history answers each);
       donations = subst (λ (r : Rest g.row.F.Denot). AreDonationsIn r c.args.limit ends history) same donations;
-      order = λ one. c.in_ok-pieces.ensures.order (c.in_ok-shared.ensures.workers ∙ one);
+      order = λ one. subst (λ (r : Rest g.row.F.Denot). AreInOrder r.survey (rows_in r) (class_field_in r) ends history) same
+          (order (c.in_ok-shared.ensures.workers ∙ one));
     }

@@ -5,3 +5,6 @@ returns-clause-ends g c = rw (← c.in_ok-edits.ensures.ok) c.edit_by.ensures.en
 
 pub returns-clause-say : goal.returns-clause-say
 returns-clause-say g c = rw (← c.in_ok-edits.ensures.ok) c.edit_by.ensures.say
+
+pub returns-clause-order : goal.returns-clause-order
+returns-clause-order g c = rw (← c.in_ok-decks.ensures.class_field) c.edit_by.ensures.order
