@@ -21,15 +21,17 @@ use Rattle.donor_book.specs.declared.claim.Entry.{Entry}
 use Rattle.donor_book.specs.declared.claim.Won.{Won}
 use Rattle.donor_book.proofs.IndexLaws.{no_row}
 use Rattle.donor_measure.specs.Yardsticks.{yardsticks_of}
-use Rattle.donor_search.specs.CleanRows.{donors_of, row_at}
+use Rattle.donor_search.specs.CleanRows.{IsCleanRow, row_at}
 use Rattle.donor_search.specs.Places.{place_if, places_from}
 use Rattle.donor_search.proofs.PlaceLaws.{each-place}
-use Rattle.donor_search.proofs.RankedLaws.{ranking-donors, ranking-few, ranking-once}
+use Rattle.donor_search.proofs.RankedLaws.{ranking-few, ranking_all, ranking_distinct}
 use Rattle.edit_report.specs.Ends.{path_found}
 use Rattle.edit_report.specs.declared.end.RowEnd.{RowEnd}
 use Rattle.record_editing.specs.Donations.{AreDonations, IsRanked, claimers_of, end_claims}
+use Rattle.record_pieces.specs.Classes.{class_count, class_kept, donors_in}
 use Rattle.record_pieces.specs.Needs.{IsRankingOf, rows_claimed}
 use Rattle.record_editing.specs.declared.terms.Terms.{Terms}
+use Rattle.record_pieces.proofs.ClassLaws.{class-clean, class-once}
 use Rattle.record_pieces.proofs.NeedLaws.{in-other-order}
 use Rattle.proof_grammar.specs.declared.proof.Proof.{Proof}
 use Rattle.cert_check.specs.Claims.{AllClaim, AreValidClaims, IsClaim, IsDonor}
@@ -108,18 +110,25 @@ module _ (survey : SurveyParts) (terms : Terms) (rows : List (List Value)) (ends
       there (row ∷ rows) zero below clean = clean
       there (row ∷ rows) (suc d) below clean = there rows d (omega (arith, below)) clean
 
-  claim-formed : (entry : Entry) → Claims entry.row_no → IsRanked survey rows terms.near ends entry → IsClaim survey rows p entry
+  claim-formed : (entry : Entry) → Claims entry.row_no → IsRanked survey rows terms.class_field terms.near ends entry → IsClaim survey rows p entry
   claim-formed entry (end, at, claims) ranked = record {
     row = subst (λ (o : Option RowProof). IsSomeAnd o (λ s. claims_donor s.outcome ≡ true)) (sym (slice_get-map said ends entry.row_no ∙ ap (option_map said) at)) (said-claims end ∙ claims);
-    few = subst (λ (ds : List ℕ). length ds ≤ terms.near) (sym r.ranked) (ranking-few (yardsticks_of survey.fields) rows (donors_of survey rows) (row_at rows entry.row_no) r.kept terms.near);
-    once = subst (IsDistinct nat_eq) (sym r.ranked) (ranking-once (yardsticks_of survey.fields) survey rows (row_at rows entry.row_no) r.kept terms.near);
-    donors = donors-are entry.ranking (subst (λ (ds : List ℕ). All (λ d. (d < length rows) × (is_clean survey (row_at rows d) ≡ true)) ds) (sym r.ranked) (ranking-donors (yardsticks_of survey.fields) survey rows (row_at rows entry.row_no) r.kept terms.near));
+    few = subst (λ (ds : List ℕ). length ds ≤ terms.near) (sym r.ranked) (ranking-few (yardsticks_of survey.fields) rows donors (row_at rows entry.row_no) r.kept terms.near);
+    once = subst (IsDistinct nat_eq) (sym r.ranked) (ranking_distinct (yardsticks_of survey.fields) rows donors (row_at rows entry.row_no) r.kept terms.near (class-once survey rows terms.class_field class));
+    donors = donors-are entry.ranking (subst (λ (ds : List ℕ). All (λ d. (d < length rows) × (is_clean survey (row_at rows d) ≡ true)) ds) (sym r.ranked) (ranking_all (yardsticks_of survey.fields) (IsCleanRow survey rows) rows donors (row_at rows entry.row_no) r.kept terms.near
+        (class-clean survey rows terms.class_field class)));
   }
     where
-      r : IsRankingOf survey rows terms.near (row_at rows entry.row_no) (path_found end.proof.outcome) entry.ranking
-      r = subst (λ (o : Option RowEnd). IsSomeAnd o (λ (e : RowEnd). IsRankingOf survey rows terms.near (row_at rows entry.row_no) (path_found e.proof.outcome) entry.ranking)) at ranked
+      r : IsRankingOf survey rows terms.class_field terms.near (row_at rows entry.row_no) (path_found end.proof.outcome) entry.ranking
+      r = subst (λ (o : Option RowEnd). IsSomeAnd o (λ (e : RowEnd). IsRankingOf survey rows terms.class_field terms.near (row_at rows entry.row_no) (path_found e.proof.outcome) entry.ranking)) at ranked
 
-  all-formed : (claims : List Entry) → All Claims (map (λ (entry : Entry). entry.row_no) claims) → AllByRecursion (IsRanked survey rows terms.near ends) claims → AllByRecursion (IsClaim survey rows p) claims
+      class : ℕ
+      class = class_kept (class_count survey.fields terms.class_field) terms.class_field (row_at rows entry.row_no) r.kept
+
+      donors : List ℕ
+      donors = donors_in survey rows terms.class_field class
+
+  all-formed : (claims : List Entry) → All Claims (map (λ (entry : Entry). entry.row_no) claims) → AllByRecursion (IsRanked survey rows terms.class_field terms.near ends) claims → AllByRecursion (IsClaim survey rows p) claims
   all-formed [] claim ranked = tt
   all-formed (entry ∷ claims) claim ranked = (claim-formed entry (claim 0 0 (omega arith)) ranked.0, all-formed claims (λ k d lt. claim (suc k) d (omega (arith, lt))) ranked.1)
 

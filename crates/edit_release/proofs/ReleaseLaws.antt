@@ -54,8 +54,7 @@ use Rattle.edit_release.proofs.TreeLaws.{has-trees, lines-many}
 use Rattle.donor_search.specs.CleanRows.{row_at}
 use Rattle.record_editing.specs.declared.terms.Terms.{Terms}
 use Rattle.donor_book.specs.declared.claim.Entry.{Entry}
-use Rattle.record_editing.specs.Donations.{AreDonations, AreTerms}
-use Rattle.record_pieces.specs.Needs.{AreInRowOrder}
+use Rattle.record_editing.specs.Donations.{AreDonations, AreInOrder, AreTerms}
 use Rattle.edit_release.proofs.ClaimLaws.{claims-valid}
 
 -- ---- the head of the proof
@@ -264,7 +263,7 @@ module _ (survey : SurveyParts) (sheet : SheetParts) (bytes : List ℕ) (terms :
 
   -- and is the edit of the sheet
   pub release-of : (release : Release) (p : Proof) → p ≡ written_proof survey terms ends history → IsSized p → release.proof.items ≡ proof_text p → release.reasons.items ≡ reasons_text_of survey sheet ends → release.released.items ≡ released_text_of survey sheet ends
-      → (written_in release).summary ≡ summary_lines survey ends history → (workers : ℕ) → (workers ≡ 1 → AreInRowOrder history) → (IsTrue release.whole ↔ AllGiven ends)
+      → (written_in release).summary ≡ summary_lines survey ends history → (workers : ℕ) → (workers ≡ 1 → AreInOrder survey sheet.rows terms.class_field ends history) → (IsTrue release.whole ↔ AllGiven ends)
       → IsReleaseOf survey sheet terms workers release
   release-of release p same sized proof reasons released summary workers order whole = record {
     ends = ends;

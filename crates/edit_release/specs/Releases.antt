@@ -11,7 +11,7 @@ use Rattle.proof_grammar.specs.declared.proof.Proof.{Proof}
 use Rattle.cert_check.specs.Dropped.{drop_fault, kept_flags}
 use Rattle.donor_book.specs.declared.claim.Entry.{Entry}
 use Rattle.record_text.specs.Sheets.{SheetParts}
-use Rattle.record_pieces.specs.Needs.{AreInRowOrder}
+use Rattle.record_editing.specs.Donations.{AreInOrder}
 use Rattle.record_editing.specs.declared.terms.Terms.{Terms}
 use Rattle.edit_release.specs.Edits.{IsEditOf, Written, said}
 use Rattle.edit_release.specs.Guarantee.{HasTrees, IsGuaranteed}
@@ -57,10 +57,10 @@ pub record HasGuarantee (survey : SurveyParts) (sheet : SheetParts) (terms : Ter
   pub tells : Tells survey sheet terms guaranteed.kept ends history told
 
 -- it is the edit of a sheet on these terms by so many workers, and tells whether all records are released; one worker alone
--- claims donors for the records in their order
+-- claims donors for the records, or for those of each class, in their order
 pub record IsReleaseOf (survey : SurveyParts) (sheet : SheetParts) (terms : Terms) (workers : ℕ) (release : Release) : Type 0 where
   pub ends : List RowEnd
   pub history : List Entry
   pub edit : IsEditOf survey sheet terms ends history (written_in release)
-  pub order : workers ≡ 1 → AreInRowOrder history
+  pub order : workers ≡ 1 → AreInOrder survey sheet.rows terms.class_field ends history
   pub whole : IsTrue release.whole ↔ AllGiven ends

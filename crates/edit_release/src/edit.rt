@@ -1,14 +1,13 @@
-ghost use Rattle.std.specs.Prelude.{◌≡◌, ◌≤◌, ◌↔◌, ℕ, List, IfOk, IsTrue};
+ghost use Rattle.std.specs.Prelude.{◌≡◌, ◌<◌, ◌≤◌, ◌↔◌, ℕ, List, IfOk, IfSome, IsTrue, length};
 ghost use Rattle.std.specs.List.{AllByRecursion, AllZip};
 ghost use Rattle.donor_measure.specs.Measures.{Measures};
 ghost use Rattle.donor_measure.specs.Yardsticks.{yardsticks_of};
 ghost use Rattle.edit_model.specs.PlainNumbers.{HasPlain};
 ghost use Rattle.record_text.specs.Sheets.{IsSheet};
 ghost use Rattle.pruned_rules.specs.Pruned.{kept_edits, rule_verdicts};
-ghost use Rattle.record_pieces.specs.Needs.{AreInRowOrder};
 ghost use Rattle.record_ends.specs.Ends.{IsEndOf};
 ghost use Rattle.record_ends.specs.Said.{Says};
-ghost use Rattle.record_editing.specs.Donations.{AreDonations, AreTerms};
+ghost use Rattle.record_editing.specs.Donations.{AreDonations, AreInOrder, AreTerms};
 ghost use Rattle.edit_release.specs.Releases.{AllGiven, HasGuarantee, IsReleaseOf};
 
 use crate::proof::proof_of;
@@ -30,7 +29,7 @@ use std::sync::Wait;
 use std::thread::Threads;
 
 /// The edit of a sheet of the survey's records on these terms: a budget from 1 to 1,000,000,000, a limit from 1 to
-/// 1,000, and 1 to 64 donors that a record ranks. Lines of the rules that follow from the others are dropped first, and
+/// 1,000, 1 to 64 donors that a record ranks, and a field of the survey by which records are in imputation classes, or none. Lines of the rules that follow from the others are dropped first, and
 /// the records are searched by those that are kept, by 1 to 64 workers side by side; the gate is told of each record
 /// that one draws. The measure, by which the nearest donors are found, is one of the survey, and the numbers of the
 /// records have numerators below 10^21 and denominators of at most 10^6.
@@ -53,6 +52,7 @@ pub fn edit_sheet<
     requires measures { Measures F.Fn measure.closure measure.yardsticks }
     requires yardsticks { measure.yardsticks ≡ yardsticks_of survey.fields }
     requires terms { AreTerms terms }
+    requires field { IfSome terms.class_field (λ field. field < length survey.fields) }
     requires workers { (1 ≤ workers) × (workers ≤ 64) }
     ensures guaranteed { IfOk result (HasGuarantee survey sheet terms) }
     ensures edit { IfOk result (IsReleaseOf survey sheet terms workers) }
@@ -96,7 +96,8 @@ fn release_of(
     requires say { AllZip (Says survey.now (kept_edits survey.now) terms.budget) sheet.now.rows ends.items }
     requires donations { AreDonations survey.now sheet.now.rows terms ends.items history.items }
     ensures guaranteed { IfOk result (HasGuarantee survey.now sheet.now terms) }
-    ensures edit { IfOk result (λ release. (workers : ℕ) → (workers ≡ 1 → AreInRowOrder history.items)
+    ensures edit { IfOk result (λ release. (workers : ℕ) → (workers ≡ 1
+        → AreInOrder survey.now sheet.now.rows terms.class_field ends.items history.items)
         → IsReleaseOf survey.now sheet.now terms workers release) }
 {
     let _fields = survey.fields(); // read for what it says: the survey is well formed

@@ -20,4 +20,4 @@ pub returns-clause-edit : goal.returns-clause-edit
 returns-clause-edit g c =
     let made = c.in_ok-edited.ensures in
     IfOk-weaker c.release_of.result _ (IsReleaseOf c.args.survey c.args.sheet c.args.terms c.args.workers)
-    (λ release of. rw (← made.survey, ← made.sheet) (of c.args.workers made.order)) c.release_of.ensures.edit
+    (λ release of. rw (← made.survey, ← made.sheet) (of c.args.workers (rw (made.survey, made.sheet) made.order))) c.release_of.ensures.edit
