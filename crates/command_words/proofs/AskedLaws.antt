@@ -1,10 +1,10 @@
 -- Words ask for one command at most.
-use Rattle.std.proofs.Common.{◌≡◌, ◌≢◌, ◌∙◌, ◌≤◌, ℕ, Option, Some, None, List, [], ◌∷◌, ap, subst, sym}
+use Rattle.std.proofs.Common.{◌≡◌, ◌≢◌, ◌∙◌, ◌≤◌, ℕ, Option, Some, None, List, [], ◌∷◌, ap, ap₂, subst, sym}
 use Rattle.std.specs.Prelude.{IfNone, IfSome}
 use Rattle.clap.specs.Words.{App, Row, fault_of, matches_of}
 use Rattle.clap.specs.declared.parser.matches.ArgMatches.{ArgMatches}
-use Rattle.command_words.specs.Asked.{CheckAsked, EditAsked, FillAsked, GivesCheck, GivesEdit, GivesFill, GivesMake, GivesPanel, GivesRules, IsCommand}
-use Rattle.command_words.specs.Asked.{MakeAsked, PanelAsked, RulesAsked}
+use Rattle.command_words.specs.Asked.{CheckAsked, ClassedAsked, EditAsked, FillAsked, MakeAsked, PanelAsked, RulesAsked}
+use Rattle.command_words.specs.Asked.{GivesCheck, GivesClassed, GivesEdit, GivesFill, GivesMake, GivesPanel, GivesRules, IsCommand}
 use Rattle.command_words.specs.Options.{GivesNumber}
 use Rattle.command_words.specs.inner.Found.{Takes, rows_in}
 
@@ -46,6 +46,14 @@ one_edit found a b p q =
     (one_text _ _ _ p.reasons q.reasons) (one_text _ _ _ p.proof q.proof)
     (one_number _ _ _ _ _ _ p.workers q.workers) (one_number _ _ _ _ _ _ p.budget q.budget)
     (one_number _ _ _ _ _ _ p.limit q.limit) (one_number _ _ _ _ _ _ p.near q.near)
+
+-- an edit by the classes of this field
+abbrev pub classed_of : EditAsked → List ℕ → ClassedAsked
+classed_of edit class = record { edit = edit; class = class }
+
+-- and one edit by classes
+pub one_classed : (found : List Row) (a b : ClassedAsked) → GivesClassed found a → GivesClassed found b → a ≡ b
+one_classed found a b p q = ap₂ classed_of (one_edit found a.edit b.edit p.edit q.edit) (one_text _ _ _ p.class q.class)
 
 -- a check of these files
 abbrev pub check_of : List ℕ → List ℕ → List ℕ → List ℕ → CheckAsked

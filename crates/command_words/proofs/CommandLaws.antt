@@ -4,7 +4,7 @@ use Rattle.clap.specs.Built.{AddsArg}
 use Rattle.clap.specs.Words.{App, Rule, app_of, is_simple_and_free, rule_of, with_rule}
 use Rattle.clap.specs.declared.builder.arg.Arg.{Arg}
 use Rattle.clap.specs.declared.builder.command.Command.{Command}
-use Rattle.command_words.specs.Asked.{check_command, edit_command, fill_command, make_command, panel_command}
+use Rattle.command_words.specs.Asked.{check_command, classed_command, edit_command, fill_command, make_command, panel_command}
 
 -- a command with one option more
 pub one_more : (before : App) (option : Rule) (old new : Command) (arg : Arg) → app_of old ≡ before → rule_of arg ≡ option → arg.global ≡ false
@@ -13,6 +13,9 @@ one_more before option old new arg is made local adds = adds.shape local ∙ ap�
 
 pub edit_simple : is_simple_and_free edit_command ≡ true
 edit_simple = refl
+
+pub classed_simple : is_simple_and_free classed_command ≡ true
+classed_simple = refl
 
 pub check_simple : is_simple_and_free check_command ≡ true
 check_simple = refl

@@ -1,8 +1,8 @@
 -- What the words of the command line ask for.
-use Rattle.std.specs.Prelude.{◌≡◌, ℕ, List, [], ◌∷◌, Some, codes, map, string_bytes, String}
+use Rattle.std.specs.Prelude.{◌≡◌, ℕ, List, [], ◌∷◌, ◌++◌, Some, codes, map, string_bytes, String}
 use Rattle.std.specs.declared.alloc.Global.{Global}
 use Rattle.foundation.specs.Limits.{most_workers, most_work, most_gifts, most_near, most_records}
-use Rattle.clap.specs.Words.{App, Row, fault_of, first_of, matches_of}
+use Rattle.clap.specs.Words.{App, Row, Rule, fault_of, first_of, matches_of}
 use Rattle.command_words.specs.FileNames.{AreApart}
 use Rattle.command_words.specs.Options.{GivesNumber, command_with, may_stand, must_stand}
 
@@ -34,11 +34,15 @@ pub record EditAsked : Type 0 where
   pub near : ℕ
 
 -- the options of an edit: five that name files and have to stand, and four that give numbers
-abbrev pub edit_command : App
-edit_command = command_with (codes "edit") (
+abbrev pub edit_options : List Rule
+edit_options =
     must_stand (codes "rules") ∷ must_stand (codes "records") ∷ must_stand (codes "released") ∷ must_stand (codes "reasons")
     ∷ must_stand (codes "proof") ∷ may_stand (codes "workers") ∷ may_stand (codes "budget") ∷ may_stand (codes "limit")
-    ∷ may_stand (codes "near") ∷ [])
+    ∷ may_stand (codes "near") ∷ []
+
+-- the command `edit` has these options
+abbrev pub edit_command : App
+edit_command = command_with (codes "edit") edit_options
 
 -- the names of the five files
 abbrev pub names_in : Names → List (List ℕ)
@@ -61,6 +65,27 @@ pub record GivesEdit (found : List Row) (asked : EditAsked) : Type 0 where
 -- the words ask for an edit: they are the command, and what is found gives it
 abbrev pub IsEdit : List (List ℕ) → EditAsked → Type 0
 IsEdit words asked = IsCommand edit_command words (λ found. GivesEdit found asked)
+
+-- ---- classed
+
+-- what the command `classed` is asked for: an edit, and the field by whose codes the records fall into classes, of which each takes
+-- its donors from its own
+pub record ClassedAsked : Type 0 where
+  pub edit : EditAsked
+  pub class : List ℕ
+
+-- the options of the command: those of an edit, and one that names a field and has to stand
+abbrev pub classed_command : App
+classed_command = command_with (codes "classed") (edit_options ++ must_stand (codes "class") ∷ [])
+
+-- what is found is what gives an edit; and a field's name, which may be any text
+pub record GivesClassed (found : List Row) (asked : ClassedAsked) : Type 0 where
+  pub edit : GivesEdit found asked.edit
+  pub class : first_of (codes "class") found ≡ Some asked.class
+
+-- the words ask for an edit by classes: they are the command, and what is found gives its edit and its field
+abbrev pub IsClassed : List (List ℕ) → ClassedAsked → Type 0
+IsClassed words asked = IsCommand classed_command words (λ found. GivesClassed found asked)
 
 -- ---- check
 
@@ -211,6 +236,7 @@ IsMake words asked = IsCommand make_command words (λ found. GivesMake found ask
 -- the words ask for none of these
 pub record IsNoCommand (words : List (String Global)) : Type 0 where
   pub no_edit : (asked : EditAsked) → ¬ IsEdit (map string_bytes words) asked
+  pub no_classed : (asked : ClassedAsked) → ¬ IsClassed (map string_bytes words) asked
   pub no_check : (asked : CheckAsked) → ¬ IsCheck (map string_bytes words) asked
   pub no_rules : (asked : RulesAsked) → ¬ IsRules (map string_bytes words) asked
   pub no_fill : (asked : FillAsked) → ¬ IsFill (map string_bytes words) asked
@@ -220,6 +246,10 @@ pub record IsNoCommand (words : List (String Global)) : Type 0 where
 -- whatever edit the words ask for, the claim holds of it
 abbrev pub ForEdit : List (String Global) → (EditAsked → Type 0) → Type 0
 ForEdit words P = (asked : EditAsked) → IsEdit (map string_bytes words) asked → P asked
+
+-- whatever edit by classes the words ask for, the claim holds of it
+abbrev pub ForClassed : List (String Global) → (ClassedAsked → Type 0) → Type 0
+ForClassed words P = (asked : ClassedAsked) → IsClassed (map string_bytes words) asked → P asked
 
 -- whatever check the words ask for, the claim holds of it
 abbrev pub ForCheck : List (String Global) → (CheckAsked → Type 0) → Type 0

@@ -1,7 +1,8 @@
 ghost use Rattle.std.specs.Prelude.{◌≡◌, ◌↔◌, ◌∷◌, [], IfOk, IfSome, IfNone, IsTrue, map, string_bytes};
 ghost use Rattle.clap.specs.Words.{app_of};
-ghost use Rattle.command_words.specs.Asked.{EditAsked, GivesEdit, IsEdit, edit_command};
+ghost use Rattle.command_words.specs.Asked.{EditAsked, GivesEdit, IsEdit, edit_options};
 ghost use Rattle.command_words.specs.FileNames.{AreApart};
+ghost use Rattle.command_words.specs.Options.{command_with};
 ghost use Rattle.command_words.specs.inner.Found.{rows_in};
 
 use crate::file_names::{is_apart_from, lead_to_one};
@@ -35,7 +36,7 @@ const LEAST_NEAR: u64 = 1;
 
 const MOST_NEAR: u64 = 64;
 
-/// What the command `edit` was asked for. No two names lead to one file.
+/// What an edit was asked for, by the command `edit` or by `classed`. No two names lead to one file.
 #[derive(Debug, Drop)]
 pub struct EditWords<'a> {
     /// The file of the rules.
@@ -84,11 +85,12 @@ impl<'a> Model for EditWords<'a> {
         × InBounds w.workers w.budget w.limit w.near };
 }
 
-/// Reads the words after the program's name as the command `edit` with the options `--rules`, `--records`, `--released`,
-/// `--reasons` and `--proof`, each with a file's name, and `--workers`, `--budget`, `--limit` and `--near`, each with a
-/// number of 1 to 10 digits, which may be left out: there is one worker then, the budget is 1,000,000, a donor is given
-/// once, and a record ranks 5 donors. The options stand as `clap` takes them, and no two of the five names lead to one file, as far as the names show it. What is asked
-/// for is all that the words can be read as, and there is None exactly where they are no such command.
+/// Reads the words after the program's name as the command `edit` with the options `--rules`, `--records`,
+/// `--released`, `--reasons` and `--proof`, each with a file's name, and `--workers`, `--budget`, `--limit` and
+/// `--near`, each with a number of 1 to 10 digits, which may be left out: there is one worker then, the budget is
+/// 1,000,000, a donor is given once, and a record ranks 5 donors. The options stand as `clap` takes them, and no two of
+/// the five names lead to one file, as far as the names show it. What is asked for is all that the words can be read
+/// as, and there is None exactly where they are no such command.
 pub fn edit_asked<'a>(
     alloc: Global,
     words: &'a [String],
@@ -101,17 +103,20 @@ pub fn edit_asked<'a>(
     let Some(others) = words_behind("edit", words) else {
         return Ok(None);
     };
-    let Some(found) = found_in(command(alloc)?, others)? else {
+    let Some(found) = found_in(edit_command_named(alloc, "edit")?, others)? else {
         return Ok(None);
     };
     Ok(edit_of(&found))
 }
 
-// The command and its options.
-fn command<'a>(alloc: Global) -> Result<Command<'a>, OutOfMemory>
-    ensures { IfOk result (λ command. app_of command ≡ edit_command) }
+/// The command of this name, with the options of an edit.
+pub(crate) fn edit_command_named<'a>(
+    alloc: Global,
+    name: &'a str,
+) -> Result<Command<'a>, OutOfMemory>
+    ensures { IfOk result (λ command. app_of command ≡ command_with name.entry.now edit_options) }
 {
-    let command = command_named(alloc, "edit")
+    let command = command_named(alloc, name)
         .arg(required(alloc, "rules"))?
         .arg(required(alloc, "records"))?
         .arg(required(alloc, "released"))?
@@ -124,8 +129,8 @@ fn command<'a>(alloc: Global) -> Result<Command<'a>, OutOfMemory>
     Ok(command)
 }
 
-// What an edit is asked for by what was found for its options.
-fn edit_of<'a>(found: &ArgMatches<'a>) -> Option<EditWords<'a>>
+/// What an edit is asked for by what was found for its options.
+pub(crate) fn edit_of<'a>(found: &ArgMatches<'a>) -> Option<EditWords<'a>>
     ensures some { IfSome result (GivesEdit (rows_in found.now)) }
     ensures none { IfNone result ((asked : EditAsked) → ¬ GivesEdit (rows_in found.now) asked) }
 {

@@ -1,9 +1,10 @@
 //! What the words of the command line ask for: a command, and its options with their values, as the crate `clap` takes
-//! them. Begin with [`edit_asked`], [`check_asked`], [`rules_asked`], [`fill_asked`], [`panel_asked`] and
-//! [`make_asked`]; which words are which command stands in `specs/Asked.antt`.
+//! them. Begin with [`edit_asked`], [`classed_asked`], [`check_asked`], [`rules_asked`], [`fill_asked`], [`panel_asked`]
+//! and [`make_asked`]; which words are which command stands in `specs/Asked.antt`.
 #![tactic(auto)]
 
 mod check_words;
+mod classed_words;
 mod edit_words;
 mod file_names;
 mod fill_words;
@@ -13,6 +14,7 @@ mod panel_words;
 mod rules_words;
 
 pub use check_words::{CheckWords, check_asked};
+pub use classed_words::{ClassedWords, classed_asked};
 pub use edit_words::{EditWords, edit_asked};
 pub use fill_words::{FillWords, fill_asked};
 pub use make_words::{MakeWords, make_asked};

@@ -6,29 +6,29 @@ use Rattle.command_words.proofs.CommandLaws.{edit_simple}
 use Rattle.command_words.proofs.edit_words.edit_asked.Goals as goal
 
 pub found_in-requires : goal.found_in-requires
-found_in-requires c = ap is_simple_and_free c.in_ok-command.ensures ∙ edit_simple
+found_in-requires c = ap is_simple_and_free c.in_ok-edit_command_named.ensures ∙ edit_simple
 
 pub returns-in_default-clause-none : goal.returns-in_default-clause-none
 returns-in_default-clause-none c = λ asked. not_named edit_command _ (λ rows. GivesEdit rows asked) c.in_default.ensures.none
 
 pub returns-in_default-2-clause-none : goal.returns-in_default-2-clause-none
 returns-in_default-2-clause-none c =
-    λ asked. not_taken edit_command _ (λ rows. GivesEdit rows asked) _ c.in-Some.ensures.some _ c.in_ok-command.ensures
+    λ asked. not_taken edit_command _ (λ rows. GivesEdit rows asked) _ c.in-Some.ensures.some _ c.in_ok-edit_command_named.ensures
     (rw c.in_default-2.is at c.in_ok-found.ensures.none)
 
 pub returns-clause-some : goal.returns-clause-some
 returns-clause-some c =
-    let takes = rw c.in_ok-command.ensures at (rw c.in-Some-2.is at c.in_ok-found.ensures.some) in
+    let takes = rw c.in_ok-edit_command_named.ensures at (rw c.in-Some-2.is at c.in_ok-found.ensures.some) in
     if_some c.edit_of.result (λ asked gives. asked_by edit_command _ (λ rows. GivesEdit rows asked) _ c.in-Some.ensures.some _ takes gives) c.edit_of.ensures.some
 
 pub returns-clause-only : goal.returns-clause-only
 returns-clause-only c =
-    let takes = rw c.in_ok-command.ensures at (rw c.in-Some-2.is at c.in_ok-found.ensures.some) in
+    let takes = rw c.in_ok-edit_command_named.ensures at (rw c.in-Some-2.is at c.in_ok-found.ensures.some) in
     if_some c.edit_of.result
     (λ asked gives other asks. one_edit _ other asked (found_by edit_command _ (λ rows. GivesEdit rows other) _ c.in-Some.ensures.some _ takes asks) gives) c.edit_of.ensures.some
 
 pub returns-clause-none : goal.returns-clause-none
 returns-clause-none c =
-    let takes = rw c.in_ok-command.ensures at (rw c.in-Some-2.is at c.in_ok-found.ensures.some) in
+    let takes = rw c.in_ok-edit_command_named.ensures at (rw c.in-Some-2.is at c.in_ok-found.ensures.some) in
     if_none c.edit_of.result (λ ungiven asked asks. ungiven asked (found_by edit_command _ (λ rows. GivesEdit rows asked) _ c.in-Some.ensures.some _ takes asks))
     c.edit_of.ensures.none

@@ -1,5 +1,5 @@
 use Rattle.command_words.proofs.CommandLaws.{one_more}
-use Rattle.command_words.proofs.edit_words.command.Goals as goal
+use Rattle.command_words.proofs.edit_words.edit_command_named.Goals as goal
 
 pub returns : goal.returns
 returns c =

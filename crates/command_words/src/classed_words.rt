@@ -1,0 +1,69 @@
+ghost use Rattle.std.specs.Prelude.{◌≡◌, IfOk, IfSome, IfNone, map, string_bytes};
+ghost use Rattle.clap.specs.Words.{app_of};
+ghost use Rattle.command_words.specs.Asked.{ClassedAsked, GivesClassed, IsClassed, classed_command};
+ghost use Rattle.command_words.specs.inner.Found.{rows_in};
+
+use crate::edit_words::{EditWords, edit_command_named, edit_of};
+use crate::options::{found_in, required, text_in, words_behind};
+use clap::{ArgMatches, Command};
+use foundation::OutOfMemory;
+use std::alloc::Global;
+use std::marker::Model;
+
+/// What the command `classed` was asked for: an edit, and a field's name, which is not compared with the names of files.
+#[derive(Debug, Drop)]
+pub struct ClassedWords<'a> {
+    /// The edit.
+    pub edit: EditWords<'a>,
+    /// The name of the field by whose codes the records fall into classes.
+    pub class: &'a str,
+}
+
+impl<'a> Model for ClassedWords<'a> {
+    ghost use Rattle.command_words.specs.Asked.{ClassedAsked};
+
+    ghost Value = { ClassedAsked };
+
+    ghost view = { λ w. record { edit = w.edit; class = w.class.now } };
+}
+
+/// Reads the words after the program's name as the command `classed` with the options that [`edit_asked`] takes, by the same
+/// rules, and `--class`, with a field's name, which has to stand. What is asked for is all that the words can be read as, and
+/// there is None exactly where they are no such command.
+///
+/// [`edit_asked`]: crate::edit_asked
+pub fn classed_asked<'a>(
+    alloc: Global,
+    words: &'a [String],
+) -> Result<Option<ClassedWords<'a>>, OutOfMemory>
+    ensures some { IfOk result (λ asked. IfSome asked (IsClassed (map string_bytes words.entry.now))) }
+    ensures only { IfOk result (λ asked. IfSome asked
+        (λ one. (other : ClassedAsked) → IsClassed (map string_bytes words.entry.now) other → other ≡ one)) }
+    ensures none { IfOk result (λ asked. IfNone asked ((one : ClassedAsked) → ¬ IsClassed (map string_bytes words.entry.now) one)) }
+{
+    let Some(others) = words_behind("classed", words) else {
+        return Ok(None);
+    };
+    let Some(found) = found_in(command(alloc)?, others)? else {
+        return Ok(None);
+    };
+    Ok(classed_of(&found))
+}
+
+// The command and its options.
+fn command<'a>(alloc: Global) -> Result<Command<'a>, OutOfMemory>
+    ensures { IfOk result (λ command. app_of command ≡ classed_command) }
+{
+    let command = edit_command_named(alloc, "classed")?.arg(required(alloc, "class"))?;
+    Ok(command)
+}
+
+// What is asked for by what was found for the options.
+fn classed_of<'a>(found: &ArgMatches<'a>) -> Option<ClassedWords<'a>>
+    ensures some { IfSome result (GivesClassed (rows_in found.now)) }
+    ensures none { IfNone result ((asked : ClassedAsked) → ¬ GivesClassed (rows_in found.now) asked) }
+{
+    let edit = edit_of(found)?;
+    let class = text_in(found, "class")?;
+    Some(ClassedWords { edit, class })
+}
