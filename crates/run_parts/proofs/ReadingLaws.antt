@@ -7,7 +7,8 @@ use Rattle.record_text.specs.declared.fault.SheetFault.TheVariants as sheet
 use Rattle.edit_desk.specs.Desk.{Files}
 use Rattle.run_parts.specs.Faults.{records_fault_of, refusal_by}
 use Rattle.run_parts.specs.Limits.{most_bytes}
-use Rattle.run_parts.specs.Readings.{AreNoRecords, HoldsBytes, HoldsRecords, HoldsText, ReadsAsSheet}
+use Rattle.run_parts.specs.Parts.{TellsUnread}
+use Rattle.run_parts.specs.Readings.{AreNoRecords, HoldsBytes, HoldsRecords, ReadsAsSheet}
 use Rattle.run_parts.specs.declared.fault.Fault.{Fault}
 use Rattle.run_parts.specs.declared.fault.Fault.TheVariants as fault
 use Rattle.run_parts.specs.declared.fault.RecordsFault.{RecordsFault}
@@ -29,7 +30,7 @@ module _ (files : Option Files) (name bytes : List ℕ) (fields : List Field) (h
   -- or what is wrong with the bytes is wrong with the file
   pub unread-held : (found : Result SheetParts SheetFault) → IfErr found (λ told. told ≢ sheet.OutOfMemory → IsSheetFault fields bytes told)
       → IfErr found (λ told. told ≢ sheet.OutOfMemory → (s : SheetParts) → ¬ IsSheet fields bytes s)
-      → IfErr found (λ told. (what : RecordsFault) → records_fault_of fields told ≡ Some what → HoldsText files name (AreNoRecords fields what))
+      → IfErr found (TellsUnread name fields files)
   unread-held (Ok s) is none = tt
   unread-held (Err told) is none = λ what same.
       let by_fault = something fields told what same in

@@ -8,7 +8,7 @@ use Rattle.record_text.specs.declared.fault.SheetFault.{SheetFault}
 use Rattle.record_text.specs.declared.fault.SheetFault.TheVariants as sheet
 use Rattle.cert_check.specs.Texts.{why_text}
 use Rattle.run_parts.specs.declared.fault.Fault.{Fault}
-use Rattle.run_parts.specs.declared.fault.Fault.TheVariants.{Usage, Rules, Records, Last, Read, Write, TooLong, Rejected, OutOfMemory}
+use Rattle.run_parts.specs.declared.fault.Fault.TheVariants.{Usage, Rules, Class, Records, Last, Read, Write, TooLong, Rejected, OutOfMemory}
 use Rattle.run_parts.specs.declared.fault.RecordsFault.{RecordsFault}
 use Rattle.run_parts.specs.declared.fault.RecordsFault.TheVariants as records
 use Rattle.run_parts.specs.declared.status.Status.{Status}
@@ -18,6 +18,7 @@ use Rattle.run_parts.specs.declared.status.Status.TheVariants as status
 abbrev pub fault_status : Fault → Status
 fault_status Usage = status.Usage
 fault_status (Rules line kind) = status.Rules
+fault_status (Class name) = status.Class
 fault_status (Records fault) = status.Records
 fault_status (Last fault) = status.Records
 fault_status (Read name) = status.ReadFault
@@ -41,6 +42,7 @@ abbrev pub fault_text : Fault → List ℕ
 fault_text Usage = codes "fault: usage"
 fault_text (Rules line kind) =
     codes "fault: rules line " ++ decimal line ++ codes " kind " ++ decimal (kind_number kind) ++ codes " " ++ kind_name kind
+fault_text (Class name) = codes "fault: class " ++ name
 fault_text (Records fault) = codes "fault: records " ++ records_fault_text fault
 fault_text (Last fault) = codes "fault: last " ++ records_fault_text fault
 fault_text (Read name) = codes "fault: read " ++ name
@@ -52,6 +54,7 @@ fault_text OutOfMemory = codes "fault: out of memory"
 -- a fault that the rules and the records may be refused for, as they are fetched and read
 abbrev pub IsOfInput : Fault → Type 0
 IsOfInput Usage = ⊥
+IsOfInput (Class name) = ⊥
 IsOfInput (Last what) = ⊥
 IsOfInput (Rejected line why) = ⊥
 IsOfInput (Write name) = ⊥
@@ -60,19 +63,27 @@ IsOfInput fault = ⊤
 -- a fault that a command may be refused for that reads rules and records and stores files
 abbrev pub IsOfEdit : Fault → Type 0
 IsOfEdit Usage = ⊥
+IsOfEdit (Class name) = ⊥
 IsOfEdit (Last what) = ⊥
 IsOfEdit (Rejected line why) = ⊥
 IsOfEdit fault = ⊤
 
+-- a fault that the command `classed` may be refused for: one of an edit, or that no categorical field has the name that was given
+abbrev pub IsOfClassed : Fault → Type 0
+IsOfClassed (Class name) = ⊤
+IsOfClassed fault = IsOfEdit fault
+
 -- a fault that the command `panel` may be refused for: it reads rules, records and the file of the last period, and stores files
 abbrev pub IsOfPanel : Fault → Type 0
 IsOfPanel Usage = ⊥
+IsOfPanel (Class name) = ⊥
 IsOfPanel (Rejected line why) = ⊥
 IsOfPanel fault = ⊤
 
 -- a fault that a check may be refused for: it writes nothing
 abbrev pub IsOfCheck : Fault → Type 0
 IsOfCheck Usage = ⊥
+IsOfCheck (Class name) = ⊥
 IsOfCheck (Last what) = ⊥
 IsOfCheck (Write name) = ⊥
 IsOfCheck fault = ⊤

@@ -1,16 +1,18 @@
 -- What the parts of a run do.
-use Rattle.std.specs.Prelude.{◌≡◌, ◌⊎◌, ⊤, ℕ, List, ◌++◌, Option, Result, Ok, Err, Vec, map}
+use Rattle.std.specs.Prelude.{◌≡◌, ◌⊎◌, ⊤, ℕ, List, ◌++◌, Option, Result, Some, Ok, Err, Vec, map}
 use Rattle.std.specs.declared.alloc.Global.{Global}
 use Rattle.std.specs.Borrow.{MutBor}
 use denote.Triple.Both.{Both}
 use Rattle.edit_desk.specs.Desk.{Asked, Files, Told, raised, stored}
 use Rattle.edit_desk.specs.declared.printer.Printer as printer
 use Rattle.edit_model.specs.declared.field.Field.{Field}
-use Rattle.run_parts.specs.Faults.{fault_status}
+use Rattle.record_text.specs.declared.fault.SheetFault.{SheetFault}
+use Rattle.run_parts.specs.Faults.{fault_status, records_fault_of}
 use Rattle.run_parts.specs.Readings.{AreNoRecords, AreNoRules, HoldsLonger, HoldsText}
 use Rattle.run_parts.specs.Run.{AreCallsTo, AreCutShort, AreStored, LeavesOf, bytes_of_lines, faults_by}
 use Rattle.run_parts.specs.declared.fault.Fault.{Fault}
 use Rattle.run_parts.specs.declared.fault.Fault.TheVariants as fault
+use Rattle.run_parts.specs.declared.fault.RecordsFault.{RecordsFault}
 use Rattle.run_parts.specs.declared.status.Status.{Status}
 use Rattle.run_parts.specs.declared.status.Status.TheVariants as status
 use Rattle.run_parts.specs.Limits.{most_bytes}
@@ -75,6 +77,11 @@ RefusesRecords name fields files fault = RefusesLong most_bytes files fault
 abbrev pub RefusesLast : List ℕ → List Field → Option Files → Fault → Type 0
 RefusesLast name fields files (fault.Last what) = HoldsText files name (AreNoRecords fields what)
 RefusesLast name fields files fault = RefusesLong most_bytes files fault
+
+-- what is said to be wrong with records of these fields is wrong with the file of this name
+abbrev pub TellsUnread : List ℕ → List Field → Option Files → SheetFault → Type 0
+TellsUnread name fields files fault =
+    (what : RecordsFault) → records_fault_of fields fault ≡ Some what → HoldsText files name (AreNoRecords fields what)
 
 -- ---- the stores
 

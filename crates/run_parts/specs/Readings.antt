@@ -101,6 +101,7 @@ RefusesInput rules records files (fault.Read name) = IsInputFile rules records f
 RefusesInput rules records files (fault.Write name) = ⊤
 RefusesInput rules records files fault.OutOfMemory = ⊤
 RefusesInput rules records files fault.Usage = ⊥
+RefusesInput rules records files (fault.Class name) = ⊥
 RefusesInput rules records files (fault.Last what) = ⊥
 RefusesInput rules records files (fault.Rejected line why) = ⊥
 

@@ -57,6 +57,7 @@ pub record CallsEndAt (order : List Asked) (call last : Asked) (calls : List Ask
 abbrev pub AreCallsTo : List Asked → Fault → List Asked → Type 0
 AreCallsTo order fault.Usage calls = calls ≡ []
 AreCallsTo order (fault.Rules line kind) calls = calls ≡ take 1 order
+AreCallsTo order (fault.Class name) calls = calls ≡ take 1 order
 AreCallsTo order (fault.Records what) calls = calls ≡ take 2 order
 AreCallsTo order (fault.Last what) calls = calls ≡ take 3 order
 AreCallsTo order (fault.Rejected line why) calls = calls ≡ order

@@ -1,7 +1,7 @@
 -- The numbers that the program ends with.
 use Rattle.std.specs.Prelude.{ℕ}
 use Rattle.run_parts.specs.declared.status.Status.{Status}
-use Rattle.run_parts.specs.declared.status.Status.TheVariants.{Done, SomeUnresolved, Usage, Rules, Records, ReadFault, WriteFault, OutOfMemory, TooLong, Rejected}
+use Rattle.run_parts.specs.declared.status.Status.TheVariants.{Done, SomeUnresolved, Usage, Rules, Records, ReadFault, WriteFault, OutOfMemory, TooLong, Rejected, Class}
 
 -- the number by which a caller of the program knows how it ended
 abbrev pub status_number : Status → ℕ
@@ -15,3 +15,4 @@ status_number WriteFault = 6
 status_number OutOfMemory = 7
 status_number TooLong = 8
 status_number Rejected = 9
+status_number Class = 11

@@ -19,13 +19,13 @@ pub const USAGE: &[u8] = b"fault: usage";
 /// What is printed where memory was refused. It takes none.
 pub const OUT_OF_MEMORY: &[u8] = b"fault: out of memory";
 
-/// The name of a file, as the command line gives it.
+/// The name of a file or of a field, as the command line gives it.
 #[derive(Debug, Drop)]
-pub struct FileName<'a> {
+pub struct AskedName<'a> {
     text: &'a str,
 }
 
-impl<'a> Model for FileName<'a> {
+impl<'a> Model for AskedName<'a> {
     ghost use Rattle.std.specs.Prelude.{ℕ, List};
 
     ghost Value = { List ℕ };
@@ -33,12 +33,12 @@ impl<'a> Model for FileName<'a> {
     ghost view = { λ n. n.text.now };
 }
 
-impl<'a> FileName<'a> {
+impl<'a> AskedName<'a> {
     /// The name of this text. No memory.
     pub fn new(text: &'a str) -> Self
         ensures { result ≡ text.now }
     {
-        FileName { text }
+        AskedName { text }
     }
 
     /// The text. No memory.
@@ -75,16 +75,18 @@ pub enum Fault<'a> {
     Usage,
     /// The rule file has no reading: its first faulty line, from 1, and the least kind of fault of that line.
     Rules { line: u32, kind: RulesKind },
+    /// No categorical field has this name, which was given for the field of the classes.
+    Class { name: AskedName<'a> },
     /// The record file has no reading.
     Records { fault: RecordsFault },
     /// The file of the last period has no reading.
     Last { fault: RecordsFault },
     /// The file could not be read.
-    Read { name: FileName<'a> },
+    Read { name: AskedName<'a> },
     /// The file could not be written.
-    Write { name: FileName<'a> },
+    Write { name: AskedName<'a> },
     /// The file has more bytes than its limit.
-    TooLong { name: FileName<'a> },
+    TooLong { name: AskedName<'a> },
     /// The files are no valid release: the line of the proof, from 1 or 0 for none, and which condition fails.
     Rejected { line: u64, why: Why },
     /// Memory was refused.
@@ -121,6 +123,7 @@ impl<'a> Fault<'a> {
         match self {
             Fault::Usage => Status::Usage,
             Fault::Rules { .. } => Status::Rules,
+            Fault::Class { .. } => Status::Class,
             Fault::Records { .. } => Status::Records,
             Fault::Last { .. } => Status::Records,
             Fault::Read { .. } => Status::ReadFault,
@@ -138,6 +141,7 @@ impl<'a> Fault<'a> {
         match self {
             Fault::Usage => Ok(USAGE.to_vec(alloc)?),
             Fault::Rules { line, kind } => rules_line(alloc, *line, *kind),
+            Fault::Class { name } => joined(alloc, b"fault: class ", name.as_bytes()),
             Fault::Records { fault } => fault.line(alloc, b"fault: records "),
             Fault::Last { fault } => fault.line(alloc, b"fault: last "),
             Fault::Read { name } => joined(alloc, b"fault: read ", name.as_bytes()),

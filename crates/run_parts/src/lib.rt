@@ -11,7 +11,7 @@ mod status;
 mod storing;
 mod telling;
 
-pub use fault::{Fault, FileName, OUT_OF_MEMORY, RecordsFault, USAGE};
+pub use fault::{AskedName, Fault, OUT_OF_MEMORY, RecordsFault, USAGE};
 pub use input::fetch_input;
 pub use reading::{
     MOST_BYTES, MOST_PROOF_BYTES, fetch_file, fetch_last, fetch_sheet, fetch_survey,

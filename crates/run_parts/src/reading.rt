@@ -1,20 +1,18 @@
 //! The files of a run as they are fetched and read.
-ghost use Rattle.std.specs.Prelude.{◌≡◌, ◌≤◌, ◌∷◌, [], ℕ, List, IfErr, IfOk, Some, length};
+ghost use Rattle.std.specs.Prelude.{◌≡◌, ◌≤◌, ◌∷◌, [], ℕ, List, IfErr, IfOk, length};
 ghost use Rattle.std.specs.List.{AllByRecursion};
 ghost use Rattle.edit_desk.specs.Desk.{PutsOnRecord, fetched};
 ghost use Rattle.edit_model.specs.PlainNumbers.{HasPlain};
 ghost use Rattle.edit_model.specs.Surveys.{IsWellFormed};
-ghost use Rattle.run_parts.specs.Faults.{records_fault_of};
 ghost use Rattle.run_parts.specs.Limits.{most_bytes};
-ghost use Rattle.run_parts.specs.Readings.{AreNoRecords, HoldsBytes, HoldsRecords, HoldsRules, HoldsText};
+ghost use Rattle.run_parts.specs.Readings.{HoldsBytes, HoldsRecords, HoldsRules};
 ghost use Rattle.run_parts.specs.Refused.{IsOfFields};
 ghost use Rattle.run_parts.specs.declared.fault.Fault.TheVariants as faults;
-ghost use Rattle.run_parts.specs.declared.fault.RecordsFault.{RecordsFault};
 ghost use Rattle.run_parts.specs.Parts.{AreCallsOf, IsOfFetch, IsOfLast, IsOfRecords, IsOfRules, faults_after};
-ghost use Rattle.run_parts.specs.Parts.{RefusesLast, RefusesLong, RefusesRecords, RefusesRules};
+ghost use Rattle.run_parts.specs.Parts.{RefusesLast, RefusesLong, RefusesRecords, RefusesRules, TellsUnread};
 ghost use Rattle.record_text.specs.Sheets.{IsSheet};
 
-use crate::fault::{Fault, FileName};
+use crate::fault::{AskedName, Fault};
 use crate::refusal::Refusal;
 use edit_desk::{Desk, FetchError};
 use edit_language::read_rules;
@@ -107,8 +105,7 @@ fn fetch_records<'a, D: Desk>(
     ensures sheet { IfOk result (λ found. IfOk found (λ sheet. (bytes : List ℕ) × IsSheet survey.now.fields bytes sheet)) }
     ensures plain { IfOk result (λ found. IfOk found (λ sheet. AllByRecursion HasPlain sheet.rows)) }
     ensures fields { IfOk result (λ found. IfErr found (IsOfFields survey.now.fields)) }
-    ensures unread { IfOk result (λ found. IfErr found (λ fault. (what : RecordsFault) → records_fault_of survey.now.fields fault ≡ Some what
-        → HoldsText (D.files desk.old) name.now (AreNoRecords survey.now.fields what))) }
+    ensures unread { IfOk result (λ found. IfErr found (TellsUnread name.now survey.now.fields (D.files desk.old))) }
     ensures kind { IfErr result (IsOfFetch name.now) }
     ensures cause { IfErr result (λ fault. RefusesLong most_bytes (D.files desk.old) fault) }
     ensures asked { PutsOnRecord (D.calls desk.old) (D.calls desk.new) (AreCallsOf (fetched name.now ∷ []) result) }
@@ -156,13 +153,13 @@ fn fetch_refusals<'a>(
     let failed = Refusal::new(
         alloc,
         Fault::Read {
-            name: FileName::new(name),
+            name: AskedName::new(name),
         },
     )?;
     let too_long = Refusal::new(
         alloc,
         Fault::TooLong {
-            name: FileName::new(name),
+            name: AskedName::new(name),
         },
     )?;
     Ok((failed, too_long))

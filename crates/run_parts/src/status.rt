@@ -23,6 +23,8 @@ pub enum Status {
     TooLong,
     /// The files are no valid release.
     Rejected,
+    /// No categorical field has the name of the field of the classes.
+    Class,
 }
 
 impl Status {
@@ -43,6 +45,7 @@ impl Status {
             Status::OutOfMemory => 7,
             Status::TooLong => 8,
             Status::Rejected => 9,
+            Status::Class => 11,
         }
     }
 }

@@ -4,7 +4,7 @@ ghost use Rattle.edit_desk.specs.Desk.{PutsOnRecord, Told, stored};
 ghost use Rattle.run_parts.specs.Faults.{IsOfStores};
 ghost use Rattle.run_parts.specs.Parts.{AreCallsOf, StoresOf, faults_after};
 
-use crate::fault::{Fault, FileName};
+use crate::fault::{AskedName, Fault};
 use crate::refusal::Refusal;
 use edit_desk::{Desk, StoreError};
 use std::alloc::Global;
@@ -24,7 +24,7 @@ pub fn store_file<'a, D: Desk>(
     let Ok(failed) = Refusal::new(
         alloc,
         Fault::Write {
-            name: FileName::new(name),
+            name: AskedName::new(name),
         },
     ) else {
         return Err(Refusal::out_of_memory());
