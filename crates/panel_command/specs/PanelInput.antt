@@ -20,7 +20,8 @@ use Rattle.run_parts.specs.declared.status.Status.TheVariants as status
 -- ---- one file of rows with a key
 
 -- a file of this name holds rows of these fields, and the key stands in this column of it
-pub record HoldsKeyed (files : Option Files) (name : List ℕ) (fields : List Field) (key : List ℕ) (sheet : SheetParts) (column : ℕ) : Type 0 where
+pub record HoldsKeyed (files : Option Files) (name : List ℕ) (fields : List Field) (key : List ℕ)
+    (sheet : SheetParts) (column : ℕ) : Type 0 where
   pub read : HoldsRecords files name fields sheet
   pub keyed : IsOneColumn key sheet.header (Some column)
 
@@ -69,6 +70,7 @@ IsPanelFile asked files name =
 -- a fault that the three files may be refused for, as they are fetched and read
 abbrev pub IsOfPanelInput : Fault → Type 0
 IsOfPanelInput fault.Usage = ⊥
+IsOfPanelInput (fault.Class name) = ⊥
 IsOfPanelInput (fault.Rejected line why) = ⊥
 IsOfPanelInput (fault.Write name) = ⊥
 IsOfPanelInput f = ⊤
@@ -85,6 +87,7 @@ RefusesPanel asked files (fault.Read name) = IsPanelFile asked files name
 RefusesPanel asked files (fault.Write name) = ⊤
 RefusesPanel asked files fault.OutOfMemory = ⊤
 RefusesPanel asked files fault.Usage = ⊥
+RefusesPanel asked files (fault.Class name) = ⊥
 RefusesPanel asked files (fault.Rejected line why) = ⊥
 
 -- the three files are to be refused with this status: one is too long, or has no reading with its key; the rules as for any command

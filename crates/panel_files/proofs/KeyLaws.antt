@@ -9,7 +9,7 @@ use Rattle.std.specs.Str.{bytes_eq}
 use Rattle.edit_model.proofs.NameLemmas.{false_unless}
 use Rattle.panel_files.specs.Joined.{key_of, only, row_with_key, rows_from}
 use Rattle.panel_files.specs.KeyRows.{row_in}
-use Rattle.panel_files.specs.inner.KeyEntries.{IsNoted, entry_of, row_after}
+use Rattle.panel_files.specs.inner.KeyEntries.{IsNoted, entry_after, entry_of, row_after}
 
 -- ---- entries
 
@@ -77,13 +77,13 @@ module _ {K : Type 0} (items : K → List ℕ) where
       lookup-spelled items other new ∙ at-key old new k value here others other
       ∙ ap (λ (name : List ℕ). if bytes_eq name other then Some value else lookup (λ j. bytes_eq other (items j)) old) spells
       ∙ ap (λ (v : Option ℕ). if bytes_eq key other then Some v else lookup (λ j. bytes_eq other (items j)) old) is
-      ∙ ap (λ (found : Option (Option ℕ)). if bytes_eq key other then Some (row_after (lookup (bytes_eq key) table) row) else found)
+      ∙ ap (λ (found : Option (Option ℕ)). if bytes_eq key other then entry_after (lookup (bytes_eq key) table) row else found)
       (sym (lookup-spelled items other old) ∙ ap (lookup (bytes_eq other)) are)
 
 -- ---- rows
 
 -- one row more
-entry-push : (rows : List ℕ) (row : ℕ) → entry_of (rows ++ row ∷ []) ≡ Some (row_after (entry_of rows) row)
+entry-push : (rows : List ℕ) (row : ℕ) → entry_of (rows ++ row ∷ []) ≡ entry_after (entry_of rows) row
 entry-push [] row = refl
 entry-push (i ∷ []) row = refl
 entry-push (i ∷ j ∷ rows) row = refl
@@ -157,10 +157,10 @@ module _ (column : ℕ) (row_texts : List (List (List ℕ))) where
       own : List ℕ
       own = key_of column (get_or row_texts n [])
 
-      by : (b : Bool) → bytes_eq own key ≡ b → (if b then Some (row_after (lookup (bytes_eq own) table) n) else lookup (bytes_eq key) table)
+      by : (b : Bool) → bytes_eq own key ≡ b → (if b then entry_after (lookup (bytes_eq own) table) n else lookup (bytes_eq key) table)
           ≡ entry_of (if b then rows_from 0 column key (take n row_texts) ++ n ∷ [] else rows_from 0 column key (take n row_texts))
       by true told =
-          ap (λ (found : Option (Option ℕ)). Some (row_after found n))
+          ap (λ (found : Option (Option ℕ)). entry_after found n)
           (before own ∙ ap (λ (k : List ℕ). entry_of (rows_from 0 column k (take n row_texts))) ((bytes_eq-Decides own key).0 told))
           ∙ sym (entry-push (rows_from 0 column key (take n row_texts)) n)
       by false told = before key

@@ -10,6 +10,7 @@ use Rattle.edit_model.specs.Rows.{value_of}
 use Rattle.edit_model.specs.declared.field.Field.{Field}
 use Rattle.edit_model.specs.declared.rule.Compare.TheVariants.{Eq}
 use Rattle.edit_model.specs.declared.rule.Rule.{Rule}
+use Rattle.edit_model.specs.declared.rule.Term.{Term}
 use Rattle.edit_model.specs.declared.rule.Test.TheVariants as test
 use Rattle.edit_model.specs.declared.value.Value.{Value}
 use Rattle.edit_model.specs.declared.value.Value.TheVariants.{Bad, Code, Number}
@@ -19,11 +20,15 @@ use Rattle.edit_normal.specs.RuleEdits.{rule_edits}
 use Rattle.edit_normal.specs.RuleLines.{normal_lines_of}
 use Rattle.edit_paths.specs.Cases.{SearchCase, case_of}
 
+-- the one term q times a field, of a number p/q
+abbrev pub times_field : ℕ → Fraction → List Term
+times_field f x = record { field = f; factor = x.denominator } ∷ []
+
 -- the rule that the number at a field is p/q: q times it, less p, is 0
 abbrev pub number_kept : ℕ → Fraction → Rule
 number_kept f x = record {
   conditions = [];
-  conclusion = test.Number (record { terms = record { field = f; factor = x.denominator } ∷ []; constant = neg_ℤ x.numerator; compare = Eq });
+  conclusion = test.Number (record { terms = times_field f x; constant = neg_ℤ x.numerator; compare = Eq });
 }
 
 -- the rule that the code at a field is this one

@@ -17,7 +17,8 @@ use Rattle.edit_report.specs.declared.end.RowEnd.{RowEnd}
 use Rattle.panel_link.specs.declared.linked.Linked.{Linked}
 use Rattle.panel_link.specs.declared.linked.Linked.TheVariants as linked
 use Rattle.proof_text.specs.RowTexts.{row_text}
-use Rattle.panel_release.specs.PanelReleases.{IsAnswerAmong, IsPanelRelease, PanelCase, answer_text, columns_in, end_of, ends_of, head_text, panel_lines, panel_lines_from, proof_of}
+use Rattle.panel_release.specs.PanelReleases.{IsAnswerAmong, IsPanelRelease, PanelCase, answer_text, columns_in, end_of, ends_of, head_text}
+use Rattle.panel_release.specs.PanelReleases.{panel_lines, panel_lines_from, proof_of, reasons_to, released_to}
 use Rattle.panel_release.specs.declared.release.PanelRelease.{PanelRelease}
 use Rattle.panel_release.specs.declared.told.Told.{Told}
 use Rattle.panel_release.specs.inner.Counts.{AreCountsOf, AreFew, CountsOne}
@@ -101,19 +102,12 @@ module _ (panel : PanelCase) (budget : ℕ) (texts_many : length panel.files.own
   abbrev Answers : List (List Value) → List Linked → Type 0
   Answers rows answers = AllZip (IsAnswerAmong panel.survey panel.set budget) rows answers
 
-  -- what is released of these records, and what is told of them
-  abbrev released_to : List (List (List ℕ)) → List Linked → List ℕ
-  released_to row_texts answers = records_text (panel.files.own.header ∷ released_rows fields columns row_texts (ends_of answers))
-
-  abbrev reasons_to : List (List (List ℕ)) → List Linked → List ℕ
-  reasons_to row_texts answers = records_text (reasons_header ∷ panel_lines_from fields columns 0 row_texts answers)
-
   abbrev head : List ℕ
   head = head_text budget (length (normal_lines_of panel.survey)) (length panel.files.own.rows)
 
   released-push : (row_texts : List (List (List ℕ))) (answers : List Linked) (texts : List (List ℕ)) (answer : Linked)
-      → length answers ≡ length row_texts → released_to row_texts answers ++ records_text (released_of fields columns texts (end_of answer))
-      ≡ released_to (row_texts ++ texts ∷ []) (answers ++ answer ∷ [])
+      → length answers ≡ length row_texts → released_to panel row_texts answers ++ records_text (released_of fields columns texts (end_of answer))
+      ≡ released_to panel (row_texts ++ texts ∷ []) (answers ++ answer ∷ [])
   released-push row_texts answers texts answer long =
       sym (records_text-append (panel.files.own.header ∷ released_rows fields columns row_texts (ends_of answers))
       (released_of fields columns texts (end_of answer)))
@@ -124,8 +118,8 @@ module _ (panel : PanelCase) (budget : ℕ) (texts_many : length panel.files.own
 
   reasons-push : (row_texts : List (List (List ℕ))) (answers : List Linked) (texts : List (List ℕ)) (answer : Linked) (number : ℕ)
       → length answers ≡ length row_texts → length row_texts ≡ number
-      → reasons_to row_texts answers ++ records_text (panel_lines fields columns number texts answer)
-      ≡ reasons_to (row_texts ++ texts ∷ []) (answers ++ answer ∷ [])
+      → reasons_to panel row_texts answers ++ records_text (panel_lines fields columns number texts answer)
+      ≡ reasons_to panel (row_texts ++ texts ∷ []) (answers ++ answer ∷ [])
   reasons-push row_texts answers texts answer number long is =
       sym (records_text-append (reasons_header ∷ panel_lines_from fields columns 0 row_texts answers) (panel_lines fields columns number texts answer))
       ∙ ap (λ n. records_text (reasons_header ∷ (panel_lines_from fields columns 0 row_texts answers ++ panel_lines fields columns n texts answer)))
@@ -171,11 +165,11 @@ module _ (panel : PanelCase) (budget : ℕ) (texts_many : length panel.files.own
         released =
             one.released ∙ ap (λ (bytes : List ℕ). bytes ++ records_text (released_of fields columns texts (end_of answer))) so_far.released
             ∙ released-push (take n panel.files.own.row_texts) answers texts answer long
-            ∙ ap (λ (ts : List (List (List ℕ))). released_to ts (answers ++ answer ∷ [])) (sym (take_more panel.files.own.row_texts n [] below_texts));
+            ∙ ap (λ (ts : List (List (List ℕ))). released_to panel ts (answers ++ answer ∷ [])) (sym (take_more panel.files.own.row_texts n [] below_texts));
         reasons =
             one.reasons ∙ ap (λ (bytes : List ℕ). bytes ++ records_text (panel_lines fields columns n texts answer)) so_far.reasons
             ∙ reasons-push (take n panel.files.own.row_texts) answers texts answer n long texts_long
-            ∙ ap (λ (ts : List (List (List ℕ))). reasons_to ts (answers ++ answer ∷ [])) (sym (take_more panel.files.own.row_texts n [] below_texts));
+            ∙ ap (λ (ts : List (List (List ℕ))). reasons_to panel ts (answers ++ answer ∷ [])) (sym (take_more panel.files.own.row_texts n [] below_texts));
         proof =
             one.proof ∙ ap (λ (bytes : List ℕ). bytes ++ answer_text answer) so_far.proof ∙ flat_map_more answer_text head answers answer;
         counted =
@@ -197,8 +191,8 @@ module _ (panel : PanelCase) (budget : ℕ) (texts_many : length panel.files.own
       record {
         answers = answers;
         each = each;
-        released = ends.released ∙ so_far.released ∙ ap (λ (ts : List (List (List ℕ))). released_to ts answers) texts_all;
-        reasons = ends.reasons ∙ so_far.reasons ∙ ap (λ (ts : List (List (List ℕ))). reasons_to ts answers) texts_all;
+        released = ends.released ∙ so_far.released ∙ ap (λ (ts : List (List (List ℕ))). released_to panel ts answers) texts_all;
+        reasons = ends.reasons ∙ so_far.reasons ∙ ap (λ (ts : List (List (List ℕ))). reasons_to panel ts answers) texts_all;
         proof =
             ends.proof ∙ ap (λ (bytes : List ℕ). bytes ++ codes "end\n") so_far.proof
             ∙ append_assoc head (flat_map answer_text answers) (codes "end\n")

@@ -58,10 +58,14 @@ ends_of answers = map end_of answers
 abbrev pub columns_in : PanelCase → List ℕ
 columns_in panel = both_columns panel.survey.fields panel.set panel.files.own.columns (length panel.files.own.header)
 
--- the header and the rows of the records that were given values, as csv writes them
+-- the header and the rows of the records with these texts and answers that were given values, as csv writes them
+abbrev pub released_to : PanelCase → List (List (List ℕ)) → List Linked → List ℕ
+released_to panel row_texts answers =
+    records_text (panel.files.own.header ∷ released_rows panel.survey.fields (columns_in panel) row_texts (ends_of answers))
+
+-- the same of all records
 abbrev pub panel_text : PanelCase → List Linked → List ℕ
-panel_text panel answers =
-    records_text (panel.files.own.header ∷ released_rows panel.survey.fields (columns_in panel) panel.files.own.row_texts (ends_of answers))
+panel_text panel answers = released_to panel panel.files.own.row_texts answers
 
 -- ---- the reasons
 
@@ -79,10 +83,14 @@ panel_lines_from fields columns number (texts ∷ row_texts) (answer ∷ answers
     panel_lines fields columns number texts answer ++ panel_lines_from fields columns (suc number) row_texts answers
 panel_lines_from fields columns number _ _ = []
 
--- the header and the lines of all records, as csv writes them
+-- the header and the lines of the records with these texts and answers, as csv writes them
+abbrev pub reasons_to : PanelCase → List (List (List ℕ)) → List Linked → List ℕ
+reasons_to panel row_texts answers =
+    records_text (reasons_header ∷ panel_lines_from panel.survey.fields (columns_in panel) 0 row_texts answers)
+
+-- the same of all records
 abbrev pub panel_reasons : PanelCase → List Linked → List ℕ
-panel_reasons panel answers = records_text
-    (reasons_header ∷ panel_lines_from panel.survey.fields (columns_in panel) 0 panel.files.own.row_texts answers)
+panel_reasons panel answers = reasons_to panel panel.files.own.row_texts answers
 
 -- ---- the proof
 
@@ -96,7 +104,9 @@ answer_text (linked.Stopped proof) = row_text proof
 -- the lines in front of the records': how much work a search may take, how many lines the rules have, and how many records there are
 abbrev pub head_text : ℕ → ℕ → ℕ → List ℕ
 head_text budget lines records =
-    codes "fh-panel 1\nbudget " ++ (decimal budget ++ (codes "\nlines " ++ (decimal lines ++ (codes "\nrecords " ++ (decimal records ++ codes "\n")))))
+    codes "fh-panel 1\nbudget " ++ (decimal budget
+    ++ (codes "\nlines " ++ (decimal lines
+    ++ (codes "\nrecords " ++ (decimal records ++ codes "\n")))))
 
 -- the proof
 abbrev pub panel_proof : PanelCase → ℕ → List Linked → List ℕ

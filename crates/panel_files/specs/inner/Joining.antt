@@ -10,4 +10,5 @@ pub record AreJoinedTo {A : Type 0} (fields : List Field) (set : ℕ) (own last 
   pub fewer : taken ≤ n
   pub own_left : length own ≡ (n - taken) + length (unflagged (flags_from set n (drop n fields)) (drop n fields))
   pub last_left : length last ≡ taken + length (flagged (flags_from set n (drop n fields)) (drop n fields))
-  pub rest : done ++ joined (flags_from set n (drop n fields)) (drop (n - taken) own) (drop taken last) ≡ joined (flags_of set fields) own last
+  pub rest : done ++ joined (flags_from set n (drop n fields)) (drop (n - taken) own) (drop taken last)
+      ≡ joined (flags_of set fields) own last

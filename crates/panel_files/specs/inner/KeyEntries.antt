@@ -14,7 +14,12 @@ abbrev pub row_after : Option (Option ℕ) → ℕ → Option ℕ
 row_after None row = Some row
 row_after (Some before) row = None
 
+-- the entry of a key, of which this one stood before, after one more row has the key
+abbrev pub entry_after : Option (Option ℕ) → ℕ → Option (Option ℕ)
+entry_after entry row = Some (row_after entry row)
+
 -- the table after it is noted that the row has the key
 abbrev pub IsNoted : List (List ℕ × Option ℕ) → List (List ℕ × Option ℕ) → List ℕ → ℕ → Type 0
 IsNoted old new key row = (other : List ℕ)
-    → lookup (bytes_eq other) new ≡ (if bytes_eq key other then Some (row_after (lookup (bytes_eq key) old) row) else lookup (bytes_eq other) old)
+    → lookup (bytes_eq other) new
+    ≡ (if bytes_eq key other then entry_after (lookup (bytes_eq key) old) row else lookup (bytes_eq other) old)

@@ -1,5 +1,6 @@
-use Rattle.std.proofs.Common.{◌≡◌, ◌<◌, ◌≤◌, ◌∙◌, ℕ, List, [], IfOk, Result, Ok, Err, ap, arith, get_or, length, rules, subst, sym, vec_len}
+use Rattle.std.proofs.Common.{◌≡◌, ◌<◌, ◌≤◌, ◌∙◌, ℕ, List, [], ap, arith, get_or, length, rules, subst, sym, vec_len}
 use Rattle.std.proofs.lemmas.List.{length-map}
+use Rattle.std.proofs.lemmas.Result.{IfOk-weaker}
 use Rattle.edit_model.specs.declared.value.Value.{Value}
 use Rattle.edit_normal.specs.RuleLines.{normal_lines_of}
 use Rattle.record_text.specs.Sheets.{IsSheet}
@@ -13,11 +14,6 @@ use Rattle.panel_release.specs.inner.Tellings.{TellsNone, TellsOne}
 use Rattle.panel_release.proofs.PanelLaws.{texts-within}
 use Rattle.panel_release.proofs.TellingLaws.{told-all, told-more, told-none}
 use Rattle.panel_release.proofs.release.release_panel.Goals as goal
-
--- less is said of what went well
-less-said : {A E : Type 0} (result : Result A E) {P Q : A → Type 0} → ((a : A) → P a → Q a) → IfOk result P → IfOk result Q
-less-said (Ok a) less said = less a said
-less-said (Err fault) less said = tt
 
 pub of-requires : goal.of-requires
 of-requires c =
@@ -77,6 +73,6 @@ returns c =
     let past_inside : length c.panel.inside.own.now.rows ≤ n = omega (arith, c.loop-row_no-test.false, c.len-row_no-end.ensures.rows) in
     let past = subst (λ (p : PanelCase). length p.files.own.rows ≤ n) c.panel.view_is past_inside in
     record {
-      released = less-said c.end.result
+      released = IfOk-weaker c.end.result _ _
           (λ release ends. told-all panel c.args.budget same many n c.loop-row_no.told release past c.loop-row_no.invariant ends) c.end.ensures;
     }
