@@ -1,9 +1,6 @@
-use Rattle.std.proofs.Common.{List, [], ap, arith, get_or, length, ◌++◌, ◌∙◌, ◌≡◌, ◌<◌, ◌∷◌, sym, ℕ}
+use Rattle.std.proofs.Common.{List, ap, arith, length, ◌∙◌, ◌≡◌, ◌<◌, sym, ℕ}
 use Rattle.back_subst.specs.declared.gift.How.{How}
-use Rattle.back_subst.specs.declared.gift.How.TheVariants.{Donor}
-use Rattle.record_text.specs.Texts.{records_text}
 use Rattle.edit_report.specs.Ends.{changed_fields, path_found}
-use Rattle.edit_report.specs.Reasons.{changed_line}
 use Rattle.edit_report.proofs.WrittenLaws.{lines-all, lines-more}
 use Rattle.edit_report.proofs.reasons.push_changes.Goals as goal
 

@@ -1,5 +1,4 @@
-use Rattle.std.proofs.Common.{List, [], ap, arith, length, get_or, ◌++◌, ◌∙◌, ◌<◌, ◌∷◌, sym, ℕ}
-use Rattle.record_text.specs.Texts.{records_text}
+use Rattle.std.proofs.Common.{List, [], ap, arith, length, ◌∙◌, ◌<◌, ◌∷◌, sym, ℕ}
 use Rattle.record_text.proofs.WritingLaws.{records_text-append}
 use Rattle.edit_report.specs.Reasons.{reasons_from, reasons_header}
 use Rattle.edit_report.proofs.SheetLaws.{raw-long, sheet-layout}

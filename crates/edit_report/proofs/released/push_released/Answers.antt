@@ -1,4 +1,4 @@
-use Rattle.std.proofs.Common.{◌≡◌, List, OnOk, Option, ◌++◌, subst, sym, ℕ}
+use Rattle.std.proofs.Common.{◌≡◌, OnOk, Option, ◌++◌, subst, sym}
 use Rattle.back_subst.specs.declared.gift.Gift.{Gift}
 use Rattle.record_text.specs.Texts.{records_text}
 use Rattle.edit_report.specs.Ends.{path_found}
