@@ -169,3 +169,9 @@ module _ (asked : CheckAsked) (files : Option Files) where
 pub memory-kind : (r : Result (Vec ℕ Global) Fault) → IfErr r (λ f. f ≡ fault.OutOfMemory) → IfErr r IsOfCheck
 memory-kind (Ok line) memory = tt
 memory-kind (Err f) memory = rw memory tt
+
+-- what the audit tells is a fault that a check may be refused for, and so is want of memory
+pub audit-kind : (told : CheckFault) (f : Fault) → (f ≡ check_fault told) ⊎ (f ≡ fault.OutOfMemory) → IsOfCheck f
+audit-kind told f (inr memory) = rw memory tt
+audit-kind (check.Rejected line why) f (inl same) = rw same tt
+audit-kind check.OutOfMemory f (inl same) = rw same tt

@@ -3,8 +3,8 @@ ghost use Rattle.std.specs.Prelude.{IfOk};
 ghost use Rattle.edit_commands.specs.inner.Asks.{Asks};
 
 use command_words::{
-    CheckWords, EditWords, FillWords, MakeWords, PanelWords, RulesWords, check_asked, edit_asked,
-    fill_asked, make_asked, panel_asked, rules_asked,
+    CheckWords, ClassedWords, EditWords, FillWords, MakeWords, PanelWords, RulesWords, check_asked,
+    classed_asked, edit_asked, fill_asked, make_asked, panel_asked, rules_asked,
 };
 use foundation::OutOfMemory;
 use std::alloc::Global;
@@ -13,6 +13,7 @@ use std::alloc::Global;
 #[derive(Drop)]
 pub(crate) enum Asked<'a> {
     Edit(EditWords<'a>),
+    Classed(ClassedWords<'a>),
     Check(CheckWords<'a>),
     Rules(RulesWords<'a>),
     Fill(FillWords<'a>),
@@ -27,6 +28,11 @@ pub(crate) fn read_words<'a>(alloc: Global, words: &'a [String]) -> Result<Asked
 {
     match edit_asked(alloc, words) {
         Ok(Some(edit)) => return Ok(Asked::Edit(edit)),
+        Ok(None) => {}
+        Err(OutOfMemory) => return Err(OutOfMemory),
+    }
+    match classed_asked(alloc, words) {
+        Ok(Some(classed)) => return Ok(Asked::Classed(classed)),
         Ok(None) => {}
         Err(OutOfMemory) => return Err(OutOfMemory),
     }

@@ -1,7 +1,8 @@
 ghost use Rattle.std.specs.Prelude.{◌≡◌, ◌≢◌, IfSome};
-ghost use Rattle.command_words.specs.Asked.{ForCheck, ForEdit, ForFill, ForMake, ForPanel, ForRules, IsNoCommand};
+ghost use Rattle.command_words.specs.Asked.{ForCheck, ForClassed, ForEdit, ForFill, ForMake, ForPanel, ForRules, IsNoCommand};
 ghost use Rattle.edit_commands.specs.CheckRun.{IsCheckComplete, IsCheckStopped, IsChecked};
-ghost use Rattle.edit_commands.specs.EditRun.{IsEditComplete, IsEditStopped, IsEdited};
+ghost use Rattle.edit_command.specs.ClassedRun.{IsClassedComplete, IsClassedDue, IsClassedRun, IsClassedStopped};
+ghost use Rattle.edit_command.specs.EditRun.{IsEditComplete, IsEditStopped, IsEdited};
 ghost use Rattle.fill_command.specs.FillRun.{IsFillComplete, IsFillDue, IsFillRun, IsFillStopped};
 ghost use Rattle.panel_command.specs.PanelInput.{IsPanelDue};
 ghost use Rattle.panel_command.specs.PanelRun.{IsPanelComplete, IsPanelRun, IsPanelStopped};
@@ -13,9 +14,9 @@ ghost use Rattle.run_parts.specs.Run.{IsRefused, ran, word_refusals};
 
 use crate::asked::{Asked, read_words};
 use crate::check_run::run_check;
-use crate::edit_run::run_edit;
 use crate::make_run::run_make;
 use crate::rules_run::run_rules;
+use edit_command::{run_classed, run_edit};
 use edit_desk::{Desk, Printer};
 use fill_command::run_fill;
 use foundation::OutOfMemory;
@@ -29,14 +30,15 @@ use std::thread::Threads;
 /// Serves the words after the program's name, over a desk and a printer. `edit` fetches and reads the rules, then
 /// the records, corrects each record at the least weight, stores the proof, the reasons and the released file, and
 /// prints a summary; as many workers as the words ask for draw the records side by side, and the gate is told of each
-/// draw. `check` fetches and reads the rules, then the records, fetches the released file, then the proof, and prints
-/// whether they are a valid release. `rules` fetches and reads the rules, and prints what becomes of each of their
-/// lines. `fill` fetches and reads the rules, then the records, gives each field without a value the value that the
-/// rules force, stores the released file, and prints how many fields were filled. `panel` fetches and reads the rules,
-/// then the records, then the rows of the last period, corrects each record at the least weight that leaves its values
-/// of the last period alone, stores the proof, the reasons and the released file, and prints a summary. `make` stores
-/// the rules of a survey that is made up, then records of it, and prints how many there are. The first refusal in this
-/// order ends the call, and is printed.
+/// draw. `classed` does the same, with donors that have the record's own code at a categorical field; it looks for the
+/// field by its name when the rules are read, before it fetches the records. `check` fetches and reads the rules, then
+/// the records, fetches the released file, then the proof, and prints whether they are a valid release. `rules` fetches
+/// and reads the rules, and prints what becomes of each of their lines. `fill` fetches and reads the rules, then the
+/// records, gives each field without a value the value that the rules force, stores the released file, and prints how
+/// many fields were filled. `panel` fetches and reads the rules, then the records, then the rows of the last period,
+/// corrects each record at the least weight that leaves its values of the last period alone, stores the proof, the
+/// reasons and the released file, and prints a summary. `make` stores the rules of a survey that is made up, then
+/// records of it, and prints how many there are. The first refusal in this order ends the call, and is printed.
 pub fn fh_main<R: Threads + Wait + Sync, D: Desk, P: Printer, G: Gate>(
     rt: &R,
     alloc: Global,
@@ -63,6 +65,19 @@ pub fn fh_main<R: Threads + Wait + Sync, D: Desk, P: Printer, G: Gate>(
 
     // A file that is too long or has no reading is told exactly where it is so.
     ensures edit_due { ForEdit words.now (λ ask. IfSome (D.files desk.old) (λ files. AnswersDue (IsDue ask files) result)) }
+
+    // Donors of the record's own class: what stands in the three files, and what was printed, where `classed` ends with 0 or 1.
+    ensures classed { HasReleased result → ForClassed words.now (λ ask. IsClassedRun ask result (ran D.Desk P.Printer desk printer)) }
+
+    // Where it ends otherwise: the fault that ended it, where it ended, what is left and what was printed.
+    ensures classed_stopped { ¬ HasReleased result → ForClassed words.now
+        (λ ask. IsClassedStopped ask result (ran D.Desk P.Printer desk printer)) }
+
+    // Where both files have readings, the rules with the class field, and no fault is met, it is done, but for want of memory.
+    ensures classed_complete { ForClassed words.now (λ ask. IsClassedComplete ask result (ran D.Desk P.Printer desk printer)) }
+
+    // A file that is too long or has no reading, and a class field that no categorical field is, are told exactly where they are so.
+    ensures classed_due { ForClassed words.now (λ ask. IfSome (D.files desk.old) (λ files. AnswersDue (IsClassedDue ask files) result)) }
 
     // The audit: what the files are, and what they show, where a check ends with 0.
     ensures checked { result ≡ Status.Done → ForCheck words.now (λ ask. IsChecked ask (ran D.Desk P.Printer desk printer)) }
@@ -129,6 +144,7 @@ pub fn fh_main<R: Threads + Wait + Sync, D: Desk, P: Printer, G: Gate>(
 {
     match read_words(alloc, words) {
         Ok(Asked::Edit(edit)) => run_edit(rt, alloc, &edit, desk, printer, gate),
+        Ok(Asked::Classed(classed)) => run_classed(rt, alloc, &classed, desk, printer, gate),
         Ok(Asked::Check(check)) => run_check(alloc, &check, desk, printer),
         Ok(Asked::Rules(rules)) => run_rules(alloc, &rules, desk, printer),
         Ok(Asked::Fill(fill)) => run_fill(alloc, &fill, desk, printer),

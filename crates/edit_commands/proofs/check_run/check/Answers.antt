@@ -16,7 +16,7 @@ use Rattle.edit_commands.specs.inner.CheckParts.{Accepts}
 use Rattle.run_parts.specs.Parts.{AreCallsOf, RefusesLong, RefusesRecords, done_end}
 use Rattle.command_words.specs.declared.check_words.CheckWords.TheInside.{Inside}
 use Rattle.command_words.proofs.AskedLaws.{check_of}
-use Rattle.edit_commands.proofs.AuditLaws.{accepted, all-held, check-due, check-refuse, input-check-due, memory-kind, memory-refused, valid-due}
+use Rattle.edit_commands.proofs.AuditLaws.{accepted, all-held, audit-kind, check-due, check-refuse, input-check-due, memory-kind, memory-refused, valid-due}
 use Rattle.edit_commands.proofs.AuditLaws.{proof-due, proof-refuse, released-due, released-refuse}
 use Rattle.run_parts.proofs.CallLaws.{all-calls, behind-calls, less-calls, memory-calls, memory-faults, of-fetch, records-calls, rules-calls}
 use Rattle.run_parts.proofs.CallLaws.{then-calls, told-calls}
@@ -271,3 +271,6 @@ pub returns-clause-faults : goal.returns-clause-faults
 returns-clause-faults g c =
     c.in_ok-proof.ensures.faults ∙ c.in_ok-released.ensures.faults ∙ c.in_ok-sheet.ensures.faults ∙ c.in_ok-survey.ensures.faults
     ∙ sym (told-faults c.in-Err.fault c.of.result (g.D.Desk.faults c.args.desk.now) (rw c.from.ensures at c.of.ensures))
+
+pub returns-clause-kind : goal.returns-clause-kind
+returns-clause-kind g c = audit-kind c.in-Err.fault c.of.result (rw c.from.ensures at c.of.ensures)

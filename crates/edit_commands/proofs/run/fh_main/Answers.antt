@@ -1,6 +1,7 @@
 use Rattle.std.proofs.Common.{inl, refl}
 use Rattle.edit_commands.specs.CheckRun.{check_refusals}
-use Rattle.edit_commands.specs.EditRun.{edit_command}
+use Rattle.edit_command.specs.ClassedRun.{classed_command}
+use Rattle.edit_command.specs.EditRun.{edit_command}
 use Rattle.edit_commands.specs.MakeRun.{make_refusals}
 use Rattle.edit_commands.specs.RulesRun.{rules_refusals}
 use Rattle.fill_command.specs.FillRun.{fill_command}
@@ -28,6 +29,26 @@ returns-in-Ok-Edit-clause-edit_complete g c = λ asked is. rw ((rw c.in-Ok-Edit.
 
 pub returns-in-Ok-Edit-clause-edit_due : goal.returns-in-Ok-Edit-clause-edit_due
 returns-in-Ok-Edit-clause-edit_due g c = λ asked is. rw ((rw c.in-Ok-Edit.field-0-is at c.in-Ok-Edit.ensures).1 asked is) c.run_edit.ensures.due
+
+-- ---- an edit by classes
+
+pub returns-in-Ok-Classed-clause-unasked : goal.returns-in-Ok-Classed-clause-unasked
+returns-in-Ok-Classed-clause-unasked g c = λ none. absurd (none.no_classed c.in-Ok-Classed.classed (rw c.in-Ok-Classed.field-0-is at c.in-Ok-Classed.ensures).0)
+
+pub returns-in-Ok-Classed-clause-classed : goal.returns-in-Ok-Classed-clause-classed
+returns-in-Ok-Classed-clause-classed g c = λ ended asked is.
+    rw ((rw c.in-Ok-Classed.field-0-is at c.in-Ok-Classed.ensures).1 asked is) (c.run_classed.ensures.classed ended)
+
+pub returns-in-Ok-Classed-clause-classed_stopped : goal.returns-in-Ok-Classed-clause-classed_stopped
+returns-in-Ok-Classed-clause-classed_stopped g c = λ not asked is.
+    rw ((rw c.in-Ok-Classed.field-0-is at c.in-Ok-Classed.ensures).1 asked is) (c.run_classed.ensures.stopped not)
+
+pub returns-in-Ok-Classed-clause-classed_complete : goal.returns-in-Ok-Classed-clause-classed_complete
+returns-in-Ok-Classed-clause-classed_complete g c = λ asked is.
+    rw ((rw c.in-Ok-Classed.field-0-is at c.in-Ok-Classed.ensures).1 asked is) c.run_classed.ensures.complete
+
+pub returns-in-Ok-Classed-clause-classed_due : goal.returns-in-Ok-Classed-clause-classed_due
+returns-in-Ok-Classed-clause-classed_due g c = λ asked is. rw ((rw c.in-Ok-Classed.field-0-is at c.in-Ok-Classed.ensures).1 asked is) c.run_classed.ensures.due
 
 -- ---- a check
 
@@ -69,7 +90,8 @@ pub returns-in-Ok-Panel-clause-unasked : goal.returns-in-Ok-Panel-clause-unasked
 returns-in-Ok-Panel-clause-unasked g c = λ none. absurd (none.no_panel c.in-Ok-Panel.panel (rw c.in-Ok-Panel.field-0-is at c.in-Ok-Panel.ensures).0)
 
 pub returns-in-Ok-Panel-clause-linked : goal.returns-in-Ok-Panel-clause-linked
-returns-in-Ok-Panel-clause-linked g c = λ ended asked is. rw ((rw c.in-Ok-Panel.field-0-is at c.in-Ok-Panel.ensures).1 asked is) (c.run_panel.ensures.linked ended)
+returns-in-Ok-Panel-clause-linked g c = λ ended asked is.
+    rw ((rw c.in-Ok-Panel.field-0-is at c.in-Ok-Panel.ensures).1 asked is) (c.run_panel.ensures.linked ended)
 
 pub returns-in-Ok-Panel-clause-panel_stopped : goal.returns-in-Ok-Panel-clause-panel_stopped
 returns-in-Ok-Panel-clause-panel_stopped g c = λ not asked is.
@@ -108,6 +130,15 @@ returns-in-Ok-Nothing-clause-edit_complete g c = λ asked is. absurd ((rw c.in-O
 
 pub returns-in-Ok-Nothing-clause-edit_due : goal.returns-in-Ok-Nothing-clause-edit_due
 returns-in-Ok-Nothing-clause-edit_due g c = λ asked is. absurd ((rw c.in-Ok-Nothing.field-0-is at c.in-Ok-Nothing.ensures).no_edit asked is)
+
+pub returns-in-Ok-Nothing-clause-classed_stopped : goal.returns-in-Ok-Nothing-clause-classed_stopped
+returns-in-Ok-Nothing-clause-classed_stopped g c = λ not asked is. absurd ((rw c.in-Ok-Nothing.field-0-is at c.in-Ok-Nothing.ensures).no_classed asked is)
+
+pub returns-in-Ok-Nothing-clause-classed_complete : goal.returns-in-Ok-Nothing-clause-classed_complete
+returns-in-Ok-Nothing-clause-classed_complete g c = λ asked is. absurd ((rw c.in-Ok-Nothing.field-0-is at c.in-Ok-Nothing.ensures).no_classed asked is)
+
+pub returns-in-Ok-Nothing-clause-classed_due : goal.returns-in-Ok-Nothing-clause-classed_due
+returns-in-Ok-Nothing-clause-classed_due g c = λ asked is. absurd ((rw c.in-Ok-Nothing.field-0-is at c.in-Ok-Nothing.ensures).no_classed asked is)
 
 pub returns-in-Ok-Nothing-clause-check_stopped : goal.returns-in-Ok-Nothing-clause-check_stopped
 returns-in-Ok-Nothing-clause-check_stopped g c = λ not asked is. absurd ((rw c.in-Ok-Nothing.field-0-is at c.in-Ok-Nothing.ensures).no_check asked is)
@@ -161,6 +192,11 @@ returns-in-Err-clause-unasked g c = λ none.
 pub returns-in-Err-clause-edit_stopped : goal.returns-in-Err-clause-edit_stopped
 returns-in-Err-clause-edit_stopped g c = λ not asked is. inl (
     untouched-refused (refusals_of (edit_command asked)) fault.OutOfMemory c.refuse-in-Err.result _ (record { files = refl; calls = refl; faults = refl })
+    c.refuse-in-Err.ensures.printed c.refuse-in-Err.ensures.status tt (λ files. tt) (0, refl) (λ files. inl refl) (λ count. refl))
+
+pub returns-in-Err-clause-classed_stopped : goal.returns-in-Err-clause-classed_stopped
+returns-in-Err-clause-classed_stopped g c = λ not asked is. inl (
+    untouched-refused (refusals_of (classed_command asked)) fault.OutOfMemory c.refuse-in-Err.result _ (record { files = refl; calls = refl; faults = refl })
     c.refuse-in-Err.ensures.printed c.refuse-in-Err.ensures.status tt (λ files. tt) (0, refl) (λ files. inl refl) (λ count. refl))
 
 pub returns-in-Err-clause-check_stopped : goal.returns-in-Err-clause-check_stopped

@@ -1,0 +1,38 @@
+use Rattle.std.proofs.Common.{◌∙◌, inl, option_copied, subst, sym}
+use Rattle.run_parts.specs.Commands.{HasReleased}
+use Rattle.run_parts.proofs.CommandLaws.{not-failed, released-by, untold-by, whole-by}
+use Rattle.edit_command.specs.inner.EditParts.{release_made}
+use Rattle.edit_command.specs.inner.EitherRun.{either_command}
+use Rattle.edit_command.proofs.RunLaws.{either-refused}
+use Rattle.edit_command.proofs.edit_run.run.Goals as goal
+
+pub returns-in-Ok-clause-whole : goal.returns-in-Ok-clause-whole
+returns-in-Ok-clause-whole g c = λ ended.
+    whole-by (either_command c.args.asked.now (option_copied c.args.class)) _ (release_made c.args.asked.now c.in-Ok.release) c.tell_all.result
+    (rw c.status_of.ensures at c.tell_all.ensures)
+    (record { files = c.in-Ok.ensures.files; calls = c.in-Ok.ensures.asked; faultless = c.in-Ok.ensures.faults })
+    (not-failed c.tell_all.result ended)
+
+pub returns-in-Ok-clause-stopped : goal.returns-in-Ok-clause-stopped
+returns-in-Ok-clause-stopped g c = λ not.
+    untold-by (either_command c.args.asked.now (option_copied c.args.class)) _ (release_made c.args.asked.now c.in-Ok.release) c.tell_all.result
+    (rw c.status_of.ensures at c.tell_all.ensures)
+    (record { files = c.in-Ok.ensures.files; calls = c.in-Ok.ensures.asked; faultless = c.in-Ok.ensures.faults })
+    (λ is. not (subst HasReleased (sym is) (released-by c.in-Ok.release.whole)))
+
+pub returns-in-Err-clause-stopped : goal.returns-in-Err-clause-stopped
+returns-in-Err-clause-stopped g c = λ not. inl (record {
+  fault = c.in-Err.refusal;
+  status = c.refuse.ensures.status ∙ c.status.ensures;
+  kind = c.in-Err.ensures.kind;
+  cause = c.in-Err.ensures.cause;
+  calls = c.in-Err.ensures.asked;
+  files = c.in-Err.ensures.files;
+  faults = c.in-Err.ensures.faults;
+  printed = rw c.line.ensures at c.refuse.ensures.printed;
+})
+
+pub returns-in-Err-clause-complete : goal.returns-in-Err-clause-complete
+returns-in-Err-clause-complete g c =
+    either-refused c.args.asked.now (option_copied c.args.class) _ c.in-Err.refusal c.refuse.result
+    (c.refuse.ensures.status ∙ c.status.ensures) c.in-Err.ensures.cause c.in-Err.ensures.faults

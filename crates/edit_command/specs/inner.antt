@@ -1,0 +1,2 @@
+pub mod EditParts
+pub mod EitherRun

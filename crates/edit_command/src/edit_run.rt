@@ -1,0 +1,213 @@
+//! A run of `edit`, and one of `classed`.
+ghost use Rattle.std.specs.Prelude.{◌≡◌, ◌≢◌, ◌<◌, ℕ, List, IfErr, IfOk, IfSome, length, option_copied};
+ghost use Rattle.std.specs.List.{AllByRecursion};
+ghost use Rattle.edit_desk.specs.Desk.{PutsOnRecord, Told};
+ghost use Rattle.edit_model.specs.PlainNumbers.{HasPlain};
+ghost use Rattle.record_text.specs.Sheets.{IsSheet};
+ghost use Rattle.record_editing.specs.Donations.{AreTerms};
+ghost use Rattle.edit_release.specs.Releases.{IsReleaseOf};
+ghost use Rattle.run_parts.specs.CommandParts.{CommandEnds, end_of};
+ghost use Rattle.run_parts.specs.Commands.{HasReleased, IsStopped, IsWhole};
+ghost use Rattle.run_parts.specs.Faults.{IsOfStores};
+ghost use Rattle.run_parts.specs.Parts.{AreCallsOf, StoresOf, faults_after, store_calls};
+ghost use Rattle.run_parts.specs.Readings.{AnswersDue, IsDue};
+ghost use Rattle.run_parts.specs.Run.{ran};
+ghost use Rattle.edit_command.specs.ClassedRun.{IsClassedComplete, IsClassedDue, IsClassedRun, IsClassedStopped};
+ghost use Rattle.edit_command.specs.EditRun.{IsEditComplete, IsEditStopped, IsEdited, edit_calls};
+ghost use Rattle.edit_command.specs.Edits.{terms_asked};
+ghost use Rattle.edit_command.specs.inner.EditParts.{edit_status, release_files, release_made};
+ghost use Rattle.edit_command.specs.inner.EitherRun.{IsEitherComplete, IsEitherDue, IsOfEither, RefusesEither, either_command};
+
+use crate::edit_input::{EditInput, fetch_edit};
+use command_words::{ClassedWords, EditWords};
+use donor_measure::{Measure, Yardsticks};
+use edit_desk::{Desk, Printer};
+use edit_model::{Survey, Value};
+use edit_release::{Release, edit_sheet};
+use foundation::OutOfMemory;
+use record_editing::Terms;
+use record_text::Sheet;
+use record_workers::Gate;
+use run_parts::{Refusal, Status, refuse, store_file, tell_all};
+use std::alloc::Global;
+use std::sync::Wait;
+use std::thread::Threads;
+
+/// Edits what the words ask for, and prints the summary, or why the run is refused.
+pub fn run_edit<R: Threads + Wait + Sync, D: Desk, P: Printer, G: Gate>(
+    rt: &R,
+    alloc: Global,
+    asked: &EditWords,
+    desk: &mut D,
+    printer: &mut P,
+    gate: &G,
+) -> Status
+    ensures command { result ≢ Status.Usage }
+    ensures edited { HasReleased result → IsEdited asked.now result (ran D.Desk P.Printer desk printer) }
+    ensures stopped { ¬ HasReleased result → IsEditStopped asked.now result (ran D.Desk P.Printer desk printer) }
+    ensures complete { IsEditComplete asked.now result (ran D.Desk P.Printer desk printer) }
+    ensures due { IfSome (D.files desk.old) (λ files. AnswersDue (IsDue asked.now files) result) }
+{
+    run(rt, alloc, asked, None, desk, printer, gate)
+}
+
+/// Edits what the words ask for, by the classes of the field that they name, and prints the summary, or why the run is refused.
+pub fn run_classed<R: Threads + Wait + Sync, D: Desk, P: Printer, G: Gate>(
+    rt: &R,
+    alloc: Global,
+    asked: &ClassedWords,
+    desk: &mut D,
+    printer: &mut P,
+    gate: &G,
+) -> Status
+    ensures command { result ≢ Status.Usage }
+    ensures classed { HasReleased result → IsClassedRun asked.now result (ran D.Desk P.Printer desk printer) }
+    ensures stopped { ¬ HasReleased result → IsClassedStopped asked.now result (ran D.Desk P.Printer desk printer) }
+    ensures complete { IsClassedComplete asked.now result (ran D.Desk P.Printer desk printer) }
+    ensures due { IfSome (D.files desk.old) (λ files. AnswersDue (IsClassedDue asked.now files) result) }
+{
+    run(
+        rt,
+        alloc,
+        &asked.edit,
+        Some(asked.class),
+        desk,
+        printer,
+        gate,
+    )
+}
+
+// Edits what the words ask for, by the classes of the field with this name, or by none, and prints the summary, or why the run is
+// refused.
+fn run<'a, R: Threads + Wait + Sync, D: Desk, P: Printer, G: Gate>(
+    rt: &R,
+    alloc: Global,
+    asked: &EditWords<'a>,
+    class: Option<&'a str>,
+    desk: &mut D,
+    printer: &mut P,
+    gate: &G,
+) -> Status
+    ensures command { result ≢ Status.Usage }
+    ensures whole { HasReleased result → IsWhole (either_command asked.now (option_copied class.entry)) result
+        (ran D.Desk P.Printer desk printer) }
+    ensures stopped { ¬ HasReleased result → IsStopped (either_command asked.now (option_copied class.entry)) result
+        (ran D.Desk P.Printer desk printer) }
+    ensures complete { IsEitherComplete asked.now (option_copied class.entry) result (ran D.Desk P.Printer desk printer) }
+    ensures due { IfSome (D.files desk.old) (λ files.
+        AnswersDue (IsEitherDue asked.now.names.rules asked.now.names.records (option_copied class.entry) files) result) }
+{
+    match edit(rt, alloc, asked, class, desk, gate) {
+        Ok(release) => tell_all(printer, &release.summary, status_of(&release)),
+        Err(refusal) => refuse(printer, refusal.line(), refusal.status()),
+    }
+}
+
+// How an edit ends that did all on the desk.
+fn status_of(release: &Release) -> Status
+    ensures { result ≡ edit_status release.now }
+{
+    if release.whole {
+        Status::Done
+    } else {
+        Status::SomeUnresolved
+    }
+}
+
+// Does on the desk all that an edit does there, up to the first fault.
+fn edit<'a, R: Threads + Wait + Sync, D: Desk, G: Gate>(
+    rt: &R,
+    alloc: Global,
+    asked: &EditWords<'a>,
+    class: Option<&'a str>,
+    desk: &mut D,
+    gate: &G,
+) -> Result<Release, Refusal<'a>>
+    ensures kind { IfErr result (IsOfEither (option_copied class.entry)) }
+    ensures cause { IfErr result (λ fault.
+        RefusesEither asked.now.names.rules asked.now.names.records (option_copied class.entry) (D.files desk.old) fault) }
+    ensures due { IfSome (D.files desk.old) (λ files.
+        AnswersDue (IsEitherDue asked.now.names.rules asked.now.names.records (option_copied class.entry) files)
+        (end_of (release_made asked.now) result)) }
+    ensures files { Told (D.files desk.old) (D.files desk.new)
+        (CommandEnds (either_command asked.now (option_copied class.entry)) (release_made asked.now) result) }
+    ensures asked { PutsOnRecord (D.calls desk.old) (D.calls desk.new) (AreCallsOf (edit_calls asked.now) result) }
+    ensures faults { D.faults desk.new ≡ faults_after result (D.faults desk.old) }
+{
+    let input = fetch_edit(alloc, asked.rules, asked.records, class, desk)?;
+    let EditInput {
+        survey,
+        class_field,
+        sheet,
+    } = input;
+    let Ok(release) = release_of(rt, alloc, survey, sheet, asked, class_field, gate) else {
+        return Err(Refusal::out_of_memory());
+    };
+    store_release(alloc, asked, &release, desk)?;
+    Ok(release)
+}
+
+// Stores the proof, the reasons, and then the released file.
+fn store_release<'a, D: Desk>(
+    alloc: Global,
+    asked: &EditWords<'a>,
+    release: &Release,
+    desk: &mut D,
+) -> Result<(), Refusal<'a>>
+    ensures kind { IfErr result IsOfStores }
+    ensures files { Told (D.files desk.old) (D.files desk.new) (StoresOf (release_files asked.now release.now) result) }
+    ensures asked { PutsOnRecord (D.calls desk.old) (D.calls desk.new)
+        (AreCallsOf (store_calls (release_files asked.now release.now)) result) }
+    ensures faults { D.faults desk.new ≡ faults_after result (D.faults desk.old) }
+{
+    store_file(alloc, asked.proof, &release.proof, desk)?;
+    store_file(alloc, asked.reasons, &release.reasons, desk)?;
+    store_file(alloc, asked.released, &release.released, desk)?;
+    Ok(())
+}
+
+// On what terms the records are edited, by the classes of this field or by none.
+fn terms_asked(asked: &EditWords, class_field: Option<u32>) -> Terms
+    ensures terms { result ≡ terms_asked asked.now class_field }
+    ensures are { AreTerms result }
+{
+    Terms {
+        budget: asked.budget,
+        limit: asked.limit,
+        near: asked.near,
+        class_field,
+    }
+}
+
+// What the edit of the sheet releases, on the terms and by as many workers as are asked for. How far records are apart is
+// told by the distances of their fields' values.
+fn release_of<R: Threads + Wait + Sync, G: Gate>(
+    rt: &R,
+    alloc: Global,
+    survey: Survey,
+    sheet: Sheet,
+    asked: &EditWords,
+    class_field: Option<u32>,
+    gate: &G,
+) -> Result<Release, OutOfMemory>
+    requires read { (bytes : List ℕ) × IsSheet survey.fields bytes sheet }
+    requires plain { AllByRecursion HasPlain sheet.rows }
+    requires field { IfSome class_field (λ number. number < length survey.fields) }
+    ensures edit { IfOk result (IsReleaseOf survey sheet (terms_asked asked.now class_field) asked.now.workers) }
+{
+    let yardsticks = Yardsticks::of(&survey);
+    let measure = Measure::new(&survey, move |field: u32, first: &Value, second: &Value| {
+        yardsticks.distance(field, first, second)
+    });
+    let terms = terms_asked(asked, class_field);
+    edit_sheet(
+        rt,
+        alloc,
+        survey,
+        sheet,
+        measure,
+        terms,
+        asked.workers,
+        gate,
+    )
+}
