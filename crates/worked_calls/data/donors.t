@@ -149,3 +149,56 @@ as near, and the 64 first are told.
   > EOF
   $ rank coarse records KC 71 64
   donors 1 2 3 4 5 6 7 8 9 10 11 12 13 14 15 16 17 18 19 20 21 22 23 24 25 26 27 28 29 30 31 32 33 34 35 36 37 38 39 40 41 42 43 44 45 46 47 48 49 50 51 52 53 54 55 56 57 58 59 60 61 62 63 64
+
+The nearest of the donors that have the record's code at the class field. The sixth record is 1 from the first, 3 from the second and 4 from the fourth, which
+are of its class; the third has its A, and another code, which is 1000 away; the fifth breaks a rule. The record's code counts for its class whether the
+path keeps it or not.
+
+  $ cat >classes <<EOF
+  > number A scale 1000
+  > number B
+  > code Reg in {n, s, e}
+  > A >= 0
+  > B >= 1
+  > EOF
+  $ cat >records <<EOF
+  > A,B,Reg
+  > 6,2,n
+  > 8,2,n
+  > 5,2,s
+  > 1,2,n
+  > 5,0,n
+  > 5,,n
+  > 5,,e
+  > 5,,
+  > EOF
+  $ rank classes records KCK 6 5
+  donors 1 2 4 3
+  $ rank classes records KCK 6 5 Reg
+  donors 1 2 4
+  $ rank classes records KCC 6 2 Reg
+  donors 1 2
+  $ rank classes records KCK 3 5 Reg
+  donors 3
+
+A class without donors, a record without a code there, a numerical field, and none.
+
+  $ rank classes records KCK 7 5 Reg
+  donors
+  $ rank classes records KCC 8 5 Reg
+  no such field or code
+  [1]
+  $ rank classes records KCK 6 5 A
+  no such field or code
+  [1]
+  $ rank classes records KCK 6 5 Region
+  no such field or code
+  [1]
+  $ rank classes records KCK 6 5 Reg Reg
+  words out of form
+  [1]
+
+No donor of another class is measured, and of the class one alone: the first, of which the next bucket tells nothing. The second is 2 whole buckets away.
+
+  $ measured classes records KCK 6 1 2 Reg
+  at most 2

@@ -1,6 +1,6 @@
 //! The calls, by the words of their commands.
 
-use crate::ranking::{measured_told, rank_told};
+use crate::ranking::{Asked, measured_told, rank_told};
 use case_files::{Commands, Files, Role, failing};
 use foundation::OutOfMemory;
 use line_calls::{
@@ -134,7 +134,7 @@ fn record_told(
     }
 }
 
-// What a call on rules and a record file answers: it names a path, a row and how many donors are asked for.
+// What a call on rules and a record file answers.
 fn donors_told(
     alloc: Global,
     files: &Files,
@@ -145,17 +145,34 @@ fn donors_told(
 ) -> Result<Texts, CallFault> {
     let survey = survey_in(alloc, files, rules)?;
     let records = bytes_in(files, records)?;
-    let [path, row, near, most @ ..] = others else {
-        return Err(CallFault::Words);
-    };
-    let row_no = place_in(row)? as u64;
-    let near = number_in(near)?;
-    match (name, most) {
-        ("rank", []) => rank_told(alloc, &survey, records, path, row_no, near),
-        ("measured", [most]) => {
-            let most = number_in(most)?;
-            measured_told(alloc, &survey, records, path, row_no, near, most)
+    match (name, others) {
+        ("rank", [path, row, near, class @ ..]) => {
+            rank_told(alloc, &survey, records, asked_by(path, row, near, class)?)
+        }
+        ("measured", [path, row, near, most, class @ ..]) => {
+            let asked = asked_by(path, row, near, class)?;
+            measured_told(alloc, &survey, records, asked, number_in(most)?)
         }
         _ => Err(CallFault::Words),
     }
+}
+
+// What is asked for by a path, a row, how many donors are asked for, and the name of a class field, if there is one.
+fn asked_by<'a>(
+    path: &'a str,
+    row: &str,
+    near: &str,
+    class: &[&'a str],
+) -> Result<Asked<'a>, CallFault> {
+    let class_field = match class {
+        [] => None,
+        [field] => Some(*field),
+        _ => return Err(CallFault::Words),
+    };
+    Ok(Asked {
+        path,
+        row_no: place_in(row)? as u64,
+        near: number_in(near)?,
+        class_field,
+    })
 }

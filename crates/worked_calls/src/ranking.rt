@@ -1,13 +1,16 @@
 //! The nearest donors for a record of a record file, and how often two values are measured to find them.
-ghost use Rattle.std.specs.Prelude.{◌≡◌, ◌<◌};
+ghost use Rattle.std.specs.Prelude.{◌≡◌, ◌<◌, IfOk};
 ghost use Rattle.std.specs.List.{AllByRecursion};
 ghost use Rattle.edit_model.specs.PlainNumbers.{HasPlain};
 ghost use Rattle.edit_model.specs.Rows.{IsRow};
+ghost use Rattle.donor_measure.specs.Yardsticks.{yardsticks_of};
+ghost use Rattle.donor_search.specs.CleanRows.{CanAllGive};
+ghost use Rattle.donor_search.specs.Decks.{IsDeckOf};
 
 use bound_cert::Path;
 use donor_measure::{Measure, field_distance};
-use donor_search::{Deck, ranking};
-use edit_model::{Survey, Value};
+use donor_search::{Deck, RowMarks, ranking};
+use edit_model::{Row, Survey, Value};
 use foundation::Steps;
 use line_calls::{CallFault, Texts, alone, from_one};
 use proof_calls::path_of;
@@ -15,7 +18,25 @@ use record_text::{Sheet, read_records};
 use std::alloc::Global;
 use std::cell::Cell;
 use std::marker::Brand;
+use std::sync::Arc;
 use std::sync::ledger::{Blank, Ledger};
+
+/// What a call asks for: the nearest donors, at most `near`, for the record of this number from 0, of which the path keeps
+/// fields; among all donors, or among those that have the record's code at the class field, by its name.
+#[derive(Clone, Copy, Debug)]
+pub struct Asked<'a> {
+    pub path: &'a str,
+    pub row_no: u64,
+    pub near: u64,
+    pub class_field: Option<&'a str>,
+}
+
+/// How many donors are ranked at most, and by which class field, if by one.
+#[derive(Clone, Copy, Debug)]
+struct Among {
+    near: u32,
+    class_field: Option<u32>,
+}
 
 /// What was found of a record's donors: the nearest ones, and how often two values were measured.
 #[derive(Drop)]
@@ -24,16 +45,14 @@ struct Found {
     measured: u64,
 }
 
-/// The nearest donors, at most so many, for the record of this number from 0, of which the path keeps fields.
+/// The nearest donors.
 pub fn rank_told(
     alloc: Global,
     survey: &Survey,
     records: &[u8],
-    path: &str,
-    row_no: u64,
-    near: u64,
+    asked: Asked,
 ) -> Result<Texts, CallFault> {
-    let found = found_in(alloc, survey, records, path, row_no, near)?;
+    let found = found_in(alloc, survey, records, asked)?;
     let mut text = String::from_str(alloc, "donors")?;
     for donor in &found.donors {
         let number = from_one(u64::from(*donor));
@@ -47,12 +66,10 @@ pub fn measured_told(
     alloc: Global,
     survey: &Survey,
     records: &[u8],
-    path: &str,
-    row_no: u64,
-    near: u64,
+    asked: Asked,
     most: u64,
 ) -> Result<Texts, CallFault> {
-    let measured = found_in(alloc, survey, records, path, row_no, near)?.measured;
+    let measured = found_in(alloc, survey, records, asked)?.measured;
     let text = if measured <= most {
         format!(in alloc; "at most {most}")?
     } else {
@@ -66,18 +83,54 @@ fn found_in(
     alloc: Global,
     survey: &Survey,
     records: &[u8],
-    path: &str,
-    row_no: u64,
-    near: u64,
+    asked: Asked,
 ) -> Result<Found, CallFault> {
-    let path = path_of(alloc, path)?;
-    let (Ok(row_no), Ok(near)) = (u32::try_from(row_no), u32::try_from(near)) else {
+    let path = path_of(alloc, asked.path)?;
+    let (Ok(row_no), Ok(near)) = (u32::try_from(asked.row_no), u32::try_from(asked.near)) else {
         return Err(CallFault::Number);
     };
+    let class_field = class_field_of(survey, asked.class_field)?;
+    let among = Among { near, class_field };
     let Ok(sheet) = read_records(alloc, survey, records) else {
         return Err(CallFault::Record);
     };
-    nearest::<Brand>(alloc, survey, &sheet, &path, row_no, near, Blank::new(1))
+    nearest::<Brand>(alloc, survey, &sheet, &path, row_no, among, Blank::new(1))
+}
+
+// The number of the class field, if one is named.
+fn class_field_of(survey: &Survey, name: Option<&str>) -> Result<Option<u32>, CallFault> {
+    let Some(name) = name else {
+        return Ok(None);
+    };
+    match survey.find(name.as_bytes()) {
+        Some(field) => Ok(Some(field)),
+        None => Err(CallFault::Field),
+    }
+}
+
+// All donors of the sheet, or those that have the row's code at the class field, where there is one.
+fn deck_for(
+    alloc: Global,
+    survey: &Survey,
+    sheet: &Sheet,
+    row: &Row,
+    class_field: Option<u32>,
+) -> Result<Deck, CallFault>
+    requires { AllByRecursion (IsRow survey.now.fields) sheet.now.rows }
+    ensures measurable { IfOk result (λ deck. CanAllGive survey.now sheet.now.rows deck.donors) }
+    ensures index { IfOk result (λ deck. AllByRecursion HasPlain sheet.now.rows
+        → IsDeckOf (yardsticks_of survey.now.fields) sheet.now.rows deck) }
+{
+    let Some(field) = class_field else {
+        return Ok(Deck::new(alloc, survey, sheet)?);
+    };
+    match row.values().get(field as usize) {
+        Some(Value::Code(code)) => {
+            let marks = Arc::new(alloc, RowMarks::of(alloc, survey, sheet)?)?;
+            Ok(Deck::of_class(alloc, survey, sheet, &marks, field, *code)?)
+        }
+        _ => Err(CallFault::Field),
+    }
 }
 
 // The nearest donors for a row of which the path keeps fields, and how often two values are measured for them.
@@ -87,7 +140,7 @@ fn nearest<L: Ledger>(
     sheet: &Sheet,
     path: &Path,
     row_no: u32,
-    near: u32,
+    among: Among,
     blank: Blank,
 ) -> Result<Found, CallFault>
     requires name { blank.name ≡ L.name }
@@ -97,7 +150,6 @@ fn nearest<L: Ledger>(
     requires plain { AllByRecursion HasPlain sheet.now.rows }
 {
     let mut steps = Steps::<L>::start(blank);
-    let deck = Deck::new(alloc, survey, sheet)?;
     let measured = Cell::new(0u64);
     let measure = Measure::new(survey, |field: u32, first: &Value, second: &Value| {
         measured.set(measured.get().wrapping_add(1));
@@ -110,6 +162,7 @@ fn nearest<L: Ledger>(
         return Err(CallFault::Path);
     }
     let row = sheet.row(row_no);
+    let deck = deck_for(alloc, survey, sheet, row, among.class_field)?;
     let donors = ranking(
         alloc,
         &deck,
@@ -117,7 +170,7 @@ fn nearest<L: Ledger>(
         &measure,
         row,
         path.kept_set(survey, row),
-        near,
+        among.near,
         &mut steps,
     )?;
     Ok(Found {

@@ -429,6 +429,97 @@ The command that edits records beside those of the last period takes six files a
   $ words edit --rules r --records c --last l --released d --reasons w --proof p
   nothing
 
+The edit by imputation classes takes what an edit takes, and the name of a field, which may be any text: it is no file.
+
+  $ words classed --rules r --records c --released d --reasons w --proof p --class f
+  classed r c d w p f 1 1000000 1 5
+  $ words classed --class f --proof p --near 9 --reasons w --workers 008 --released d --limit 2 --records c --budget 7 --rules r
+  classed r c d w p f 8 7 2 9
+  $ words classed --rules r --records c --released d --reasons w --proof p --class=r --workers 64 --budget=1000000000 --limit 1000 --near=64 --
+  classed r c d w p r 64 1000000000 1000 64
+  $ words classed --rules r --records c --released d --reasons w --proof p --class ''
+  classed r c d w p  1 1000000 1 5
+  $ words classed --rules r --records c --released d --reasons w --proof p --class=
+  classed r c d w p  1 1000000 1 5
+  $ words classed --rules r --records c --released d --reasons w --proof p --class 'f g'
+  classed r c d w p f g 1 1000000 1 5
+  $ words classed --rules r --records c --released d --reasons w --proof p --class=-f
+  classed r c d w p -f 1 1000000 1 5
+  $ words classed --rules r --records c --released d --reasons w --proof p --class=f=g
+  classed r c d w p f=g 1 1000000 1 5
+  $ words classed --rules r --records c --released d --reasons w --proof p --class ./r
+  classed r c d w p ./r 1 1000000 1 5
+  $ words classed --rules r --records c --released d --reasons w --proof p
+  nothing
+  $ words classed --rules r --records c --released d --reasons w --proof p --class
+  nothing
+  $ words classed --rules r --records c --released d --reasons w --proof p --class -f
+  nothing
+  $ words classed --rules r --records c --released d --reasons w --proof p --class f --class f
+  nothing
+  $ words classed --rules r --records c --released d --reasons w --proof p --class=f --class g
+  nothing
+  $ words classed --rules r --records c --released d --reasons w --proof p --Class f
+  nothing
+  $ words classed --rules r --records c --released d --reasons w --proof p --clas f
+  nothing
+  $ words classed --rules r --records c --released d --reasons w --proof p class f
+  nothing
+  $ words classed --rules r --records c --released d --reasons w --proof p --class f g
+  nothing
+  $ words classed --records c --released d --reasons w --proof p --class f
+  nothing
+  $ words classed --rules r --released d --reasons w --proof p --class f
+  nothing
+  $ words classed --rules r --records c --reasons w --proof p --class f
+  nothing
+  $ words classed --rules r --records c --released d --proof p --class f
+  nothing
+  $ words classed --rules r --records c --released d --reasons w --class f
+  nothing
+  $ words classed --rules r --records c --released d --reasons w --proof p --class f --workers 0
+  nothing
+  $ words classed --rules r --records c --released d --reasons w --proof p --class f --workers 65
+  nothing
+  $ words classed --rules r --records c --released d --reasons w --proof p --class f --budget 0
+  nothing
+  $ words classed --rules r --records c --released d --reasons w --proof p --class f --budget 1000000001
+  nothing
+  $ words classed --rules r --records c --released d --reasons w --proof p --class f --limit 0
+  nothing
+  $ words classed --rules r --records c --released d --reasons w --proof p --class f --limit 1001
+  nothing
+  $ words classed --rules r --records c --released d --reasons w --proof p --class f --near 0
+  nothing
+  $ words classed --rules r --records c --released d --reasons w --proof p --class f --near 65
+  nothing
+  $ words classed --rules r --records c --released d --reasons w --proof p --class f --near 5 --near 5
+  nothing
+  $ words classed --rules r --records r --released d --reasons w --proof p --class f
+  nothing
+  $ words classed --rules r --records c --released d --reasons w --proof ./d --class f
+  nothing
+  $ words classed --rules r --records c --released d --reasons w --proof p --class f --key k
+  nothing
+  $ words classed --rules r --records c --released d --reasons w --proof p --class f --last l
+  nothing
+  $ words classed --rules r --records c --released d --reasons w --proof p --class f --help
+  nothing
+  $ words Classed --rules r --records c --released d --reasons w --proof p --class f
+  nothing
+  $ words classed classed --rules r --records c --released d --reasons w --proof p --class f
+  nothing
+  $ words classed
+  nothing
+  $ words edit --rules r --records c --released d --reasons w --proof p --class f
+  nothing
+  $ words check --rules r --records c --released d --proof p --class f
+  nothing
+  $ words fill --rules r --records c --released d --class f
+  nothing
+  $ words rules --rules r --class f
+  nothing
+
 Help and the version are no commands.
 
   $ words rules --rules r --help

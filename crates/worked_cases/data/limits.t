@@ -42,6 +42,26 @@ that comes behind it is fetched.
   $ calls
   fetch rules
   fetch longer
+  $ cat >coded <<EOF
+  > code A in {a, b}
+  > EOF
+  $ forxainde classed --rules longer --records rules --released released --reasons reasons --proof proof --class B
+  fault: too long longer
+  [8]
+  $ calls
+  fetch longer
+  $ forxainde classed --rules coded --records longer --released released --reasons reasons --proof proof --class B
+  fault: class B
+  [11]
+  $ calls
+  fetch coded
+  $ forxainde classed --rules coded --records longer --released released --reasons reasons --proof proof --class A
+  fault: too long longer
+  [8]
+  $ calls
+  fetch coded
+  fetch longer
+  $ rm coded
   $ ls
   longer
   longest
@@ -145,6 +165,13 @@ A record file has at most 200,000 records. One with a record more has no reading
   $ forxainde fill --rules rules --records records --released released
   fault: records kind 15 TooManyRows
   [4]
+  $ cat >coded <<EOF
+  > code A in {a, b}
+  > EOF
+  $ forxainde classed --rules coded --records records --released released --reasons reasons --proof proof --class A
+  fault: records kind 15 TooManyRows
+  [4]
+  $ rm coded
   $ cat >last <<EOF
   > A
   > EOF
@@ -195,3 +222,11 @@ matter how long that record is itself. A header without a column is told before 
   claims 0 given 0
   $ cat reasons
   record,cause,field,before,after,donor,detail
+  $ cat >coded <<EOF
+  > code A in {a, b}
+  > EOF
+  $ yes b | head -n 200001 >records
+  $ sed -i -e '1c\A' records
+  $ forxainde classed --rules coded --records records --released released --reasons reasons --proof proof --class A
+  records 200000 clean 200000 changed 0 unresolved 0 weight 0
+  claims 0 given 0

@@ -52,6 +52,9 @@ No command, or another one.
   $ forxainde Fill --rules rules --records records --released released
   fault: usage
   [2]
+  $ forxainde Classed --rules rules --records records --released released --reasons reasons --proof proof --class A
+  fault: usage
+  [2]
   $ forxainde edit edit --rules rules --records records --released released --reasons reasons --proof proof
   fault: usage
   [2]
@@ -239,6 +242,12 @@ Options of other commands, and of none.
   fault: usage
   [2]
   $ forxainde fill --rules rules --records records --released released --proof proof
+  fault: usage
+  [2]
+  $ forxainde edit --rules rules --records records --released released --reasons reasons --proof proof --class A
+  fault: usage
+  [2]
+  $ forxainde classed --rules rules --records records --released released --reasons reasons --proof proof --class A --key A
   fault: usage
   [2]
 

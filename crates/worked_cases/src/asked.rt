@@ -1,6 +1,9 @@
 //! What the words of a command line ask for, as a line.
 
-use command_words::{check_asked, edit_asked, fill_asked, make_asked, panel_asked, rules_asked};
+use command_words::{
+    EditWords, check_asked, classed_asked, edit_asked, fill_asked, make_asked, panel_asked,
+    rules_asked,
+};
 use foundation::OutOfMemory;
 use std::alloc::Global;
 
@@ -10,6 +13,7 @@ pub fn asked_line(alloc: Global, words: &[String]) -> Result<Vec<u8>, OutOfMemor
     let mut line = Vec::new(alloc);
     for told in [
         edit_told(alloc, words)?,
+        classed_told(alloc, words)?,
         check_told(alloc, words)?,
         rules_told(alloc, words)?,
         fill_told(alloc, words)?,
@@ -30,13 +34,35 @@ fn edit_told(alloc: Global, words: &[String]) -> Result<String, OutOfMemory> {
     let Some(asked) = edit_asked(alloc, words)? else {
         return Ok(String::new(alloc));
     };
+    let (files, numbers) = (files_told(alloc, &asked)?, numbers_told(alloc, &asked)?);
+    Ok(format!(in alloc; "edit {files} {numbers}")?)
+}
+
+// The edit by classes that the words ask for.
+fn classed_told(alloc: Global, words: &[String]) -> Result<String, OutOfMemory> {
+    let Some(asked) = classed_asked(alloc, words)? else {
+        return Ok(String::new(alloc));
+    };
+    let class = asked.class;
+    let (files, numbers) = (
+        files_told(alloc, &asked.edit)?,
+        numbers_told(alloc, &asked.edit)?,
+    );
+    Ok(format!(in alloc; "classed {files} {class} {numbers}")?)
+}
+
+// The five files of an edit.
+fn files_told(alloc: Global, asked: &EditWords) -> Result<String, OutOfMemory> {
     let (rules, records, released) = (asked.rules, asked.records, asked.released);
     let (reasons, proof) = (asked.reasons, asked.proof);
+    Ok(format!(in alloc; "{rules} {records} {released} {reasons} {proof}")?)
+}
+
+// The four numbers of an edit.
+fn numbers_told(alloc: Global, asked: &EditWords) -> Result<String, OutOfMemory> {
     let (workers, budget) = (asked.workers, asked.budget);
     let (limit, near) = (asked.limit, asked.near);
-    Ok(format!(in alloc;
-        "edit {rules} {records} {released} {reasons} {proof} {workers} {budget} {limit} {near}"
-    )?)
+    Ok(format!(in alloc; "{workers} {budget} {limit} {near}")?)
 }
 
 // The check that the words ask for.
