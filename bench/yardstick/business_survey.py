@@ -1,9 +1,10 @@
 #!/usr/bin/env python3
-"""business_survey.py --rules FILE --records FILE [--start N] [--rows N] [--one-in K] [--wrong LEAST MOST]
+"""business_survey.py --rules FILE --records FILE [--start N] [--rows N] [--one-in K] [--wrong LEAST MOST] [--classes N]
 
 A business survey of 12 numerical and 4 categorical fields and 30 rules: balances, ratios, bounds by size
 class, and rules on codes alone. All rows satisfy the rules; then about one row in K (default 4) gets LEAST to
-MOST (default 1) wrong numbers, each blank or ten times itself plus 1.
+MOST (default 1) wrong numbers, each blank or ten times itself plus 1. With --classes there is a further
+categorical field Branch with the codes b1 to bN, drawn evenly, in no rule; all else is the same.
 """
 import argparse
 
@@ -57,12 +58,14 @@ if Invest > 1000000 then Size not in {micro}
 """
 
 
-def rule_file():
+def rule_file(classes):
     lines = []
     for name in NUMBERS:
         lines.append(f"number {name} weight {2 if name in ('Turnover', 'Costs') else 1} scale 1000")
     for name, codes in CODES.items():
         lines.append(f"code {name} in {{{', '.join(codes)}}}")
+    if classes:
+        lines.append(f"code Branch in {{{', '.join(f'b{number}' for number in range(1, classes + 1))}}}")
     return "\n".join(lines) + "\n" + RULES
 
 
@@ -113,14 +116,19 @@ def main():
     parser.add_argument("--rows", type=int, default=100)
     parser.add_argument("--one-in", type=int, default=4)
     parser.add_argument("--wrong", type=int, nargs=2, default=[1, 1], metavar=("LEAST", "MOST"))
+    parser.add_argument("--classes", type=int, default=0)
     args = parser.parse_args()
     with open(args.rules, "w") as file:
-        file.write(rule_file())
+        file.write(rule_file(args.classes))
     lcg = Lcg(args.start)
+    branches = Lcg(args.start)
+    further = ["Branch"] if args.classes else []
     with open(args.records, "w") as file:
-        file.write(",".join(["id", *NUMBERS, *CODES]) + "\n")
+        file.write(",".join(["id", *NUMBERS, *CODES, *further]) + "\n")
         for number in range(1, args.rows + 1):
             numbers, codes = right_row(lcg)
+            if further:
+                codes = [*codes, f"b{1 + branches.draw(args.classes)}"]
             file.write(",".join([str(number), *texts_of(numbers, codes, lcg, args.one_in, *args.wrong)]) + "\n")
 
 
