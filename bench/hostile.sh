@@ -9,7 +9,8 @@
 # be as they were. Where the rules of a file say which status is right, it has to be that one. What an edit wrote is checked,
 # and has to be valid, with as many records as it counted: after each edit, and of the random, cut and changed files
 # after each fourth that released something. On these files `fill` is run as well, and then on the file that it wrote, which has
-# to stay as it is. The group `panels` runs `panel` on three such files, and then on what it released, which has to be clean
+# to stay as it is. The group `classes` runs `classed` on two such files, and then `check`; a class field that is none is told where
+# the rules were read, and only there. The group `panels` runs `panel` on three such files, and then on what it released, which has to be clean
 # beside the same last values. The group `proofs` has rules, records and released files that are right, and proofs of both
 # versions that are not. The group `memory_a_byte` measures the most memory that a run has at a time, on proofs that
 # promise more than they have and on large files of one kind: beyond what a run of that command has over files of a few bytes it may be 32

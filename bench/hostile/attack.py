@@ -2,7 +2,7 @@
 
 Usage: attack.py PROGRAM EXAMPLES SEED [GROUP..]
 
-The groups are words, little_memory, memory_a_byte, random_files, cut_files, changed_files, panels, proofs, limits and hard_files; all of them where none is named.
+The groups are words, little_memory, memory_a_byte, random_files, cut_files, changed_files, classes, panels, proofs, limits and hard_files; all of them where none is named.
 """
 import os
 import pathlib
@@ -19,7 +19,7 @@ from first_version import first_version
 
 MOST_BYTES = 67108864
 MOST_PROOF_BYTES = 536870912
-STATUSES = set(range(10))
+STATUSES = set(range(10)) | {11}
 RELEASED = {0, 1}
 
 # Two seconds of the processor, and one more for each 4 MiB of input.
@@ -50,6 +50,7 @@ CHECK = ["check", "--rules", "rules", "--records", "records", "--released", "rel
 RULES = ["rules", "--rules", "rules"]
 FILL = ["fill", "--rules", "rules", "--records", "records", "--released", "filled"]
 FILL_AGAIN = ["fill", "--rules", "rules", "--records", "filled", "--released", "again"]
+CLASSED = ["classed", *EDIT[1:], "--class", "Branch"]
 PANEL = ["panel", "--rules", "rules", "--records", "records", "--last", "last", "--reasons", "reasons", "--released", "released", "--proof", "proof", "--key", "firm"]
 PANEL_AGAIN = ["panel", "--rules", "rules", "--records", "again", "--last", "last", "--reasons", "reasons", "--released", "released", "--proof", "proof", "--key", "firm"]
 
@@ -199,6 +200,26 @@ class Attack:
         if later != f"records {told[1]} filled 0 blocked {told[3]} stopped {told[4]}\n" or (self.folder / "again").read_bytes() != filled:
             raise Failed(f"{self.group}: `fill` printed {printed!r}, and of what it wrote {later!r}")
 
+    def classed(self, rules, records, expected):
+        """Runs `classed` on these two files, and where it released something, `check` on that. The class field is told only where the rules were read."""
+        for name, text in (("rules", rules), ("records", records)):
+            (self.folder / name).write_bytes(text)
+        for name in WRITTEN:
+            (self.folder / name).write_bytes(BEFORE)
+        status, printed = self.words(CLASSED, expected, len(rules) + len(records))
+        for name in WRITTEN:
+            if ((self.folder / name).read_bytes() == BEFORE) == (status in RELEASED):
+                raise Failed(f"{self.group}: `classed` ended with {status}, and the {name} file has {self.size(name)} bytes")
+        for name, text in (("rules", rules), ("records", records)):
+            if (self.folder / name).read_bytes() != text:
+                raise Failed(f"{self.group}: `classed` changed the file {name}")
+        if status in RELEASED:
+            self.check_edit(printed, set(), 0)
+        elif printed.count("\n") != 1 or (status == 11) != (printed == "fault: class Branch\n"):
+            raise Failed(f"{self.group}: `classed` ended with {status} and printed {printed[:200]!r}")
+        if status == 11:
+            self.rules(rules, {0})
+
     def panel(self, rules, records, last, expected):
         """Runs `panel` on these three files, and where it released something, once more on that: it is clean, each record beside its own last values."""
         for name, text in (("rules", rules), ("records", records), ("last", last)):
@@ -321,6 +342,24 @@ def changed_files(attack, examples, dice):
                     attack.files(*((other, records) if is_rules else (rules, other)), ANY)
                     if is_rules:
                         attack.rules(other, {0, 3})
+    attack.end()
+
+
+def classes(attack, examples, dice):
+    """The two files of the example of classes, each cut off anywhere, with one byte changed, and its records replaced by random bytes."""
+    attack.begin("classes")
+    rules, records = ((examples / name).read_bytes() for name in ("classes.rules", "classes.csv"))
+    attack.classed(rules, records, {0})
+    for text, is_rules in ((rules, True), (records, False)):
+        def tried(other):
+            attack.classed(*((other, records) if is_rules else (rules, other)), ANY | {11} if is_rules else ANY)
+        for length in range(len(text)):
+            tried(text[:length])
+        for place in range(len(text)):
+            for byte in {0, 9, 10, 13, 34, 35, 44, 45, 48, 65, 239, 255, dice.randrange(256)}:
+                tried(text[:place] + bytes([byte]) + text[place + 1:])
+        for _ in range(300):
+            tried(text.split(b"\n")[0] + b"\n" + bytes(dice.choice(b'Kern,fuelbakery56"\n ./x') for _ in range(dice.choice([10, 100, 1000]))))
     attack.end()
 
 
@@ -659,6 +698,21 @@ def words(attack, examples, dice):
         attack.words(RULES + [option, "5"], {2})
         attack.words(FILL + [option, "5"], {0 if option == "--budget" else 2})
     attack.words(CHECK + ["--reasons", "why"], {2})
+    attack.classed(*((examples / name).read_bytes() for name in ("classes.rules", "classes.csv")), {0})
+    for length in range(len(CLASSED)):
+        attack.words(CLASSED[:length], {2})
+    for name, status in (("Branch", 0), ("Staff", 11), ("branch", 11), ("", 11), ("nothing", 11)):
+        attack.words(CLASSED[:-1] + [name], {status})
+    for option, status in (("--rules", 5), ("--records", 5), ("--reasons", 6), ("--released", 6), ("--proof", 6)):
+        place = CLASSED.index(option) + 1
+        for name in ("missing/file", "folder", "rules/file"):
+            attack.words(CLASSED[:place] + [name] + CLASSED[place + 1:], {status})
+            attack.words(CLASSED[:place] + [name] + CLASSED[place + 1:-1] + ["Staff"], {5 if option == "--rules" else 11})
+    for option in ("--class", "--key", "--last", "--rows"):
+        attack.words(CLASSED + [option, "Branch"], {2})
+    for option, most in (("--limit", 1000), ("--near", 64), ("--workers", 64)):
+        for word, status in (("1", 0), (str(most), 0), ("0", 2), (str(most + 1), 2)):
+            attack.words(CLASSED + [option, word], {status})
     attack.panel(*((examples / name).read_bytes() for name in ("panel.rules", "panel.csv", "panel.last.csv")), {1})
     attack.words(PANEL, {1})
     for length in range(len(PANEL)):
@@ -676,7 +730,7 @@ def words(attack, examples, dice):
 
 def main():
     program, examples, seed = sys.argv[1], pathlib.Path(sys.argv[2]), int(sys.argv[3])
-    groups = (words, little_memory, memory_a_byte, random_files, cut_files, changed_files, panels, proofs, limits, hard_files)
+    groups = (words, little_memory, memory_a_byte, random_files, cut_files, changed_files, classes, panels, proofs, limits, hard_files)
     named = [group for group in groups if group.__name__ in sys.argv[4:]]
     with tempfile.TemporaryDirectory() as folder:
         attack = Attack(program, folder)
