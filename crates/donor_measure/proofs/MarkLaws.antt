@@ -1,4 +1,5 @@
-use Rattle.std.proofs.Common.{◌≡◌, ℕ, zero, suc, ◌-◌, ◌+◌, ◌*◌, ◌/◌, ◌%◌, ◌^◌, ◌<◌, ◌≤◌, ◌==◌, if◌then◌else◌, cond, min, ℤ, pos, negsuc, ◌+ℤ◌, ◌-ℤ◌, ◌*ℤ◌, ◌≤ℤ◌, ◌<ℤ◌, unsigned_abs, Bool, true, false, Option, Some, None, refl, ap, sym, ◌∙◌, subst, arith}
+use Rattle.std.proofs.Common.{◌≡◌, ℕ, ◌-◌, ◌+◌, ◌*◌, ◌^◌, ◌<◌, ◌≤◌, ◌==◌, if◌then◌else◌, min}
+use Rattle.std.proofs.Common.{ℤ, pos, negsuc, ◌+ℤ◌, ◌-ℤ◌, ◌*ℤ◌, ◌<ℤ◌, unsigned_abs, Option, Some, None, ap, sym, ◌∙◌, arith}
 use Rattle.std.proofs.Math.Nat.{div-le_self}
 use Rattle.std.proofs.lemmas.Int.{ints}
 use Rattle.std.specs.Int.{abs_diff, int_div_euclid}
@@ -7,7 +8,7 @@ use Rattle.edit_model.specs.PlainNumbers.{IsPlain}
 use Rattle.edit_model.specs.declared.value.Value.{Value}
 use Rattle.edit_model.specs.declared.value.Value.TheVariants.{Code, Number, Bad}
 use Rattle.donor_measure.specs.declared.yardstick.Yardstick.{Yardstick}
-use Rattle.donor_measure.specs.Buckets.{bucket_no, mark_of, number_bucket}
+use Rattle.donor_measure.specs.Buckets.{bucket_no, folded, mark_of, number_bucket}
 use Rattle.donor_measure.specs.Distances.{bucket_gap, bucket_of, buckets_between, value_distance}
 use Rattle.donor_measure.specs.Measures.{IsMeasurable}
 use Rattle.donor_measure.specs.Yardsticks.{IsScale}
@@ -49,12 +50,16 @@ gap_by_buckets yardstick scale Bad w is some first second = absurd first
 gap_by_buckets yardstick scale (Number x) (Code c) is some first second = absurd second
 gap_by_buckets yardstick scale (Number x) Bad is some first second = absurd second
 
--- marks are no farther apart than buckets
-marks_near : (a b k m : ℕ) → min 1000 (abs_diff (min m (a - k)) (min m (b - k)) - 1) ≤ min 1000 (abs_diff a b - 1)
-marks_near a b k m = grind arith
+-- folded numbers are no farther apart than the numbers
+folded_near : (a b : ℕ) → abs_diff (folded a) (folded b) ≤ abs_diff a b
+folded_near a b = omega arith
 
-codes_apart : (a b : ℕ) → min 1000 (abs_diff (2000 * a) (2000 * b) - 1) ≤ (if a == b then 0 else 1000)
-codes_apart a b = grind arith
+-- marks are no farther apart than buckets
+marks_near : (a b : ℕ) → min 1000 (abs_diff (folded (a + 2 ^ 15)) (folded (b + 2 ^ 15)) - 1) ≤ min 1000 (abs_diff a b - 1)
+marks_near a b = let near = folded_near (a + 2 ^ 15) (b + 2 ^ 15) in omega (arith, near)
+
+codes_apart : (a b : ℕ) → min 1000 (abs_diff (folded (1001 * a)) (folded (1001 * b)) - 1) ≤ (if a == b then 0 else 1000)
+codes_apart a b = let near = folded_near (1001 * a) (1001 * b) in grind (arith, near)
 
 -- the marks of two values tell no more than their distance
 pub marks_few : (scale : Option ℕ) (v w : Value) → IsScale scale → IsMeasurable scale v → IsMeasurable scale w
@@ -65,7 +70,7 @@ marks_few None (Code a) Bad is first second = absurd second
 marks_few None (Number x) w is first second = absurd first
 marks_few None Bad w is first second = absurd first
 marks_few (Some scale) (Number x) (Number y) is first second =
-    let near = marks_near (number_bucket scale x) (number_bucket scale y) (10 ^ 24 - 2 ^ 30) (2 ^ 31) in
+    let near = marks_near (number_bucket scale x) (number_bucket scale y) in
     let same = apart_same (bucket_of scale x) (bucket_of scale y) (bucket_low scale x is.0 first) (bucket_low scale y is.0 second) in
     let few = buckets_few (Some scale) (Number x) (Number y) is in
     omega (arith, near, same, few)

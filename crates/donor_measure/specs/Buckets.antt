@@ -1,5 +1,5 @@
 -- Buckets as numbers from 0 on, and marks: small numbers that tell donors that are far away.
-use Rattle.std.specs.Prelude.{ℕ, pos, unsigned_abs, ◌+◌, ◌-◌, ◌*◌, ◌^◌, ◌+ℤ◌, min, Option, Some, None, List, [], ◌∷◌, suc}
+use Rattle.std.specs.Prelude.{ℕ, pos, unsigned_abs, ◌+◌, ◌-◌, ◌*◌, ◌%◌, ◌^◌, ◌+ℤ◌, min, Option, Some, None, List, [], ◌∷◌, suc}
 use Rattle.fraction128.specs.declared.fraction.Fraction.{Fraction}
 use Rattle.edit_model.specs.RowPoints.{code_in}
 use Rattle.edit_model.specs.Rows.{value_of}
@@ -18,10 +18,14 @@ bucket_no scale (Number x) = number_bucket scale x
 bucket_no scale (Code c) = 0
 bucket_no scale Bad = 0
 
--- a value's mark: the bucket of a number, where that is not too far from 0, and 2000 times a code
+-- a number folded into 16 bits: as numbers rise, it runs up from 0 to 2 ^ 16 - 1, down again, and so on
+abbrev pub folded : ℕ → ℕ
+folded n = min (n % 2 ^ 17) (2 ^ 17 - 1 - n % 2 ^ 17)
+
+-- a value's mark: the bucket of a number, folded such that those nearest to 0 rise, and 1001 times a code, folded
 abbrev pub mark_of : Option ℕ → Value → ℕ
-mark_of (Some scale) v = min (2 ^ 31) (bucket_no scale v - (10 ^ 24 - 2 ^ 30))
-mark_of None v = 2000 * code_in v
+mark_of (Some scale) v = folded (bucket_no scale v + 2 ^ 15)
+mark_of None v = folded (1001 * code_in v)
 
 -- the marks of a record's values, from field i on
 abbrev pub marks_from : ℕ → List Yardstick → List Value → List ℕ

@@ -3,7 +3,7 @@ ghost use Rattle.std.specs.Prelude.{◌≡◌, ℕ, ◌+◌, ◌-◌, ◌*◌, �
 ghost use Rattle.std.specs.Int.{abs_diff, int_div_euclid};
 ghost use Rattle.edit_model.specs.PlainNumbers.{IsPlain, IsPlainValue};
 ghost use Rattle.donor_measure.specs.Distances.{bucket_of};
-ghost use Rattle.donor_measure.specs.Buckets.{bucket_no, mark_of, number_bucket};
+ghost use Rattle.donor_measure.specs.Buckets.{bucket_no, folded, mark_of, number_bucket};
 ghost use Rattle.donor_measure.specs.Yardsticks.{IsScale};
 
 use edit_model::Value;
@@ -12,11 +12,11 @@ use fraction128::Fraction;
 // No bucket of a plain number is further from 0.
 const LOWEST_BUCKET: i128 = 1_000_000_000_000_000_000_000_000;
 
-// The bucket of which the mark is 0: 2^30 below 0.
-const LOWEST_MARKED: u128 = 999_999_999_999_998_926_258_176;
+// Where folded numbers begin to be repeated: 2^17.
+const PERIOD: u128 = 131_072;
 
-// The greatest mark.
-const MOST_MARKED: u32 = 2_147_483_648;
+// What is added to buckets before they are folded: 2^15, so that those nearest to 0 lie in the middle of the way up.
+const MIDDLE: u128 = 32_768;
 
 /// The bucket of a number, how many thousandths of the scale it is, rounded down and counted from -10^24 on: the lowest that
 /// a number with a numerator below 10^21 has. 0 where the value is no such number. No memory.
@@ -111,27 +111,23 @@ fn counted(bucket: i128) -> u128
 }
 
 /// A value's mark: where two values have marks of which the difference is d, they are at least d - 1 apart, or 1000. It is the
-/// bucket of a number, where that is not too far from 0, and 2000 times a code. No memory.
-pub fn mark_of(scale: Option<u64>, value: &Value) -> u32
+/// bucket of a number, or 1001 times a code, folded into 16 bits. No memory.
+pub fn mark_of(scale: Option<u64>, value: &Value) -> u16
     requires { IsScale scale }
     ensures { IsPlainValue value.now → result ≡ mark_of scale value.now }
 {
     match scale {
-        Some(scale) => bucket_mark(bucket_no(scale, value)),
-        None => 2000 * u32::from(value.code_number()),
+        Some(scale) => folded(bucket_no(scale, value) + MIDDLE),
+        None => folded(1001 * u128::from(value.code_number())),
     }
 }
 
-// The mark of a bucket.
-fn bucket_mark(bucket: u128) -> u32
-    ensures { result ≡ min (2 ^ 31) (bucket - (10 ^ 24 - 2 ^ 30)) }
+// A number folded into 16 bits.
+fn folded(number: u128) -> u16
+    ensures { result ≡ folded number }
 {
-    let above = bucket.saturating_sub(LOWEST_MARKED);
-    if above >= u128::from(MOST_MARKED) {
-        MOST_MARKED
-    } else {
-        above as u32
-    }
+    let up = number % PERIOD;
+    up.min(PERIOD - 1 - up) as u16
 }
 
 /// The whole buckets that lie between two buckets, at most 1000. No memory.

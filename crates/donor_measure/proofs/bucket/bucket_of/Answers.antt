@@ -1,4 +1,4 @@
-use Rattle.std.proofs.Common.{◌≡◌, pos, ◌<ℤ◌, ◌*ℤ◌, ℤ, FitsSigned, rules, to_z, of_z, subst, sym, arith}
+use Rattle.std.proofs.Common.{pos, ◌<ℤ◌, ℤ, FitsSigned, rules, subst, sym, arith}
 use Rattle.std.proofs.lemmas.Int.{ints, to_z-of_z}
 use mir.Syntax.{w128}
 use Rattle.fraction128.proofs.Signs.{above-*}
