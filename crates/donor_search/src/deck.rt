@@ -34,8 +34,8 @@ pub struct Deck {
     index: Vec<Sequence<Slot>>,
     marks: Arc<RowMarks>,
     first: u32,
-    walk_marks: Vec<u32>,
-    first_marks: Vec<u32>,
+    walk_marks: Vec<u16>,
+    first_marks: Vec<u16>,
     ranges: Vec<MarkRange>,
 }
 
@@ -120,7 +120,7 @@ impl Deck {
 
     // The marks of all rows.
     #[inline(always)]
-    pub(crate) fn marks(&self) -> &[u32]
+    pub(crate) fn marks(&self) -> &[u16]
         ensures { result.now ≡ self.now.marks }
     {
         self.marks.as_slice()
@@ -135,7 +135,7 @@ impl Deck {
 
     // The marks of the donors in the order of the slots of that field.
     #[inline(always)]
-    pub(crate) fn walk_marks(&self) -> &[u32]
+    pub(crate) fn walk_marks(&self) -> &[u16]
         ensures { result.now ≡ self.now.walk_marks }
     {
         self.walk_marks.as_slice()
@@ -143,7 +143,7 @@ impl Deck {
 
     // These marks at the first fields alone.
     #[inline(always)]
-    pub(crate) fn first_marks(&self) -> &[u32]
+    pub(crate) fn first_marks(&self) -> &[u16]
         ensures { result.now ≡ self.now.first_marks }
     {
         self.first_marks.as_slice()

@@ -118,7 +118,7 @@ pub(crate) fn marks_of_slots(
     sheet: &Sheet,
     slots: &[Slot],
     most: u32,
-) -> Result<Vec<u32>, OutOfMemory>
+) -> Result<Vec<u16>, OutOfMemory>
     requires rows { AllByRecursion (IsRow survey.now.fields) sheet.now.rows }
     requires donors { All (λ (s : AnySlot). s.donor < length sheet.now.rows) slots.now }
     ensures size { IfOk result (λ marks. length marks.items ≡ length slots.now * min most (length survey.now.fields)) }
@@ -135,7 +135,7 @@ pub(crate) fn marks_of_slots(
 
 /// Puts the marks of a row at so many fields at most last.
 pub(crate) fn push_marks(
-    marks: &mut Vec<u32>,
+    marks: &mut Vec<u16>,
     yardsticks: &Yardsticks,
     most: u32,
     row: &Row,

@@ -9,19 +9,21 @@ ghost use Rattle.donor_search.specs.inner.Searches.{HasSlots, IsSearch, far_in, 
 ghost use Rattle.donor_search.specs.inner.Spans.{IsPast};
 
 use crate::candidate::{Candidate, farthest};
-use crate::profile::{Profile, are_farther, is_farther_with, told_first};
+use crate::profile::{Profile, Weighed, are_farther, is_farther_with, told_first};
 use crate::ranges::BLOCK;
 use crate::search::{Search, block_at, first_marks_in_walk, marks_in_walk};
+use crate::slot::Slot;
 use crate::span::Span;
 use edit_model::Value;
 
 /// What donors are passed over by: in a walk along the slots of a field, those that are farther than `most` from the record of the
-/// search, of which this is the profile.
+/// search, of which these are the own marks.
 #[derive(Clone, Copy)]
 pub(crate) struct Passing<'a, F> {
     pub search: &'a Search<'a, F>,
-    pub profile: &'a Profile,
+    pub own: &'a [Weighed],
     pub field: u32,
+    pub slots: &'a [Slot],
     pub most: u64,
 }
 
@@ -52,8 +54,9 @@ pub(crate) fn past<F: Fn(u32, &Value, &Value) -> u64>(
     };
     let passing = Passing {
         search,
-        profile,
+        own: profile.as_slice(),
         field,
+        slots: search.deck.slots(field),
         most,
     };
     if place < span.low {
@@ -78,11 +81,10 @@ fn far_above<F: Fn(u32, &Value, &Value) -> u64>(passing: &Passing<F>, start: usi
     ensures within { result ≤ length (slots_of passing.now) }
     ensures far { AreFar passing.now start result }
 {
-    let slots = passing.search.deck.slots(passing.field);
     if is_block_far(passing, start + BLOCK) {
         return start + BLOCK;
     }
-    let end = (start + (BLOCK - start % BLOCK)).min(slots.len());
+    let end = (start + (BLOCK - start % BLOCK)).min(passing.slots.len());
     let mut place = start;
     while place < end {
         if !is_far(passing, place) {
@@ -123,16 +125,14 @@ fn is_far<F: Fn(u32, &Value, &Value) -> u64>(passing: &Passing<F>, place: usize)
     requires place { place < length (slots_of passing.now) }
     ensures { result ≡ true → passing.now.most < far_in passing.now.search.now (slot_at (slots_of passing.now) place).donor }
 {
-    let search = passing.search;
-    let own = passing.profile.as_slice();
-    let donor = search.deck.slots(passing.field)[place].donor;
-    let first_marks = first_marks_in_walk(search, passing.field, place, donor);
-    let first = told_first(own, first_marks);
+    let donor = passing.slots[place].donor;
+    let first_marks = first_marks_in_walk(passing.search, passing.field, place, donor);
+    let first = told_first(passing.own, first_marks);
     if u64::from(first) > passing.most {
         return true;
     }
-    let marks = marks_in_walk(search, passing.field, place, donor);
-    is_farther_with(own, marks, first, passing.most)
+    let marks = marks_in_walk(passing.search, passing.field, place, donor);
+    is_farther_with(passing.own, marks, first, passing.most)
 }
 
 // Whether a whole block ends before the place, of which the ranges tell that each of its donors is farther than `most`. Only in the
@@ -144,8 +144,7 @@ fn is_block_far<F: Fn(u32, &Value, &Value) -> u64>(passing: &Passing<F>, end: us
     ensures within { result ≡ true → end ≤ length (slots_of passing.now) }
     ensures far { result ≡ true → AreFar passing.now (end - block_size) end }
 {
-    let deck = passing.search.deck;
-    if passing.field != deck.first() || end > deck.slots(passing.field).len() {
+    if passing.field != passing.search.deck.first() || end > passing.slots.len() {
         return false;
     }
     let blocks = end / BLOCK;
@@ -153,5 +152,5 @@ fn is_block_far<F: Fn(u32, &Value, &Value) -> u64>(passing: &Passing<F>, end: us
         return false;
     }
     let ranges = block_at(passing.search, blocks - 1);
-    are_farther(passing.profile.as_slice(), ranges, passing.most)
+    are_farther(passing.own, ranges, passing.most)
 }

@@ -16,8 +16,8 @@ use std::marker::Model;
 /// The mark of a record at a field, with the weight that counts there.
 #[derive(Clone, Copy, Debug, PartialEq, Eq)]
 pub(crate) struct Weighed {
-    pub weight: u32,
-    pub mark: u32,
+    pub weight: u16,
+    pub mark: u16,
 }
 
 /// How many fields are looked at first. The marks at them stand apart, so that few bytes of a donor are read. In a business survey of 16
@@ -29,7 +29,7 @@ const NONE: Weighed = Weighed { weight: 0, mark: 0 };
 
 /// Whether the marks of a donor tell that it is farther from a record than `most`: then nothing needs to be measured.
 #[inline(always)]
-pub(crate) fn is_farther(own: &[Weighed], marks: &[u32], most: u64) -> bool
+pub(crate) fn is_farther(own: &[Weighed], marks: &[u16], most: u64) -> bool
     requires equal { length own.now ≡ length marks.now }
     requires few { length own.now ≤ most_fields }
     requires weights { All (λ (w : AnyWeighed). w.weight ≤ most_weight) own.now }
@@ -40,7 +40,7 @@ pub(crate) fn is_farther(own: &[Weighed], marks: &[u32], most: u64) -> bool
 
 /// Whether they tell it, where it is known what those at the first fields tell.
 #[inline(always)]
-pub(crate) fn is_farther_with(own: &[Weighed], marks: &[u32], first: u32, most: u64) -> bool
+pub(crate) fn is_farther_with(own: &[Weighed], marks: &[u16], first: u32, most: u64) -> bool
     requires equal { length own.now ≡ length marks.now }
     requires first { first ≡ told own.now (take first_fields marks.now) }
     requires few { length own.now ≤ most_fields }
@@ -55,7 +55,7 @@ pub(crate) fn is_farther_with(own: &[Weighed], marks: &[u32], first: u32, most: 
 /// What the marks of a donor at the first fields tell. The test for fewer fields is there so that the others are always as many, which
 /// makes the loop over them straight.
 #[inline(always)]
-pub(crate) fn told_first(own: &[Weighed], first: &[u32]) -> u32
+pub(crate) fn told_first(own: &[Weighed], first: &[u16]) -> u32
     requires first { length first.now ≡ min first_fields (length own.now) }
     requires few { length own.now ≤ most_fields }
     requires weights { All (λ (w : AnyWeighed). w.weight ≤ most_weight) own.now }
@@ -69,7 +69,7 @@ pub(crate) fn told_first(own: &[Weighed], first: &[u32]) -> u32
 
 /// The marks at the first fields among all of a donor.
 #[inline(always)]
-pub(crate) fn first_of(marks: &[u32]) -> &[u32]
+pub(crate) fn first_of(marks: &[u16]) -> &[u16]
     ensures { result.now ≡ take first_fields marks.now }
 {
     &marks[..FIRST.min(marks.len())]
@@ -77,7 +77,7 @@ pub(crate) fn first_of(marks: &[u32]) -> &[u32]
 
 // What marks tell of how far the donor is. All these are looked at, since a test at each field would take more time than it spares.
 #[inline(always)]
-fn told(own: &[Weighed], marks: &[u32]) -> u32
+fn told(own: &[Weighed], marks: &[u16]) -> u32
     requires equal { length own.now ≡ length marks.now }
     requires few { length own.now ≤ most_fields }
     requires weights { All (λ (w : AnyWeighed). w.weight ≤ most_weight) own.now }
@@ -92,12 +92,13 @@ fn told(own: &[Weighed], marks: &[u32]) -> u32
 
 // What two marks tell of how far two values are apart.
 #[inline(always)]
-fn told_by(own: &Weighed, mark: u32) -> u32
+fn told_by(own: &Weighed, mark: u16) -> u32
     requires { own.now.weight ≤ most_weight }
     ensures told { result ≡ told_by own.now mark }
     ensures few { result ≤ most_weight * 1000 }
 {
-    own.weight * own.mark.abs_diff(mark).saturating_sub(1).min(1000)
+    let apart = own.mark.abs_diff(mark).saturating_sub(1).min(1000);
+    u32::from(own.weight) * u32::from(apart)
 }
 
 /// Whether the ranges of a block tell that each of its donors is farther from a record than `most`.
@@ -135,7 +136,8 @@ fn told_by_range(own: &Weighed, range: &MarkRange) -> u32
 {
     let under = range.low.saturating_sub(own.mark);
     let over = own.mark.saturating_sub(range.high);
-    own.weight * under.max(over).saturating_sub(1).min(1000)
+    let apart = under.max(over).saturating_sub(1).min(1000);
+    u32::from(own.weight) * u32::from(apart)
 }
 
 /// A record's marks at all fields, with their weights. Contracts see them as a list, in declared order.
@@ -203,7 +205,7 @@ fn weighed_at(yardsticks: &Yardsticks, field: u32, row: &Row, kept: FieldSet) ->
     if kept.has(field) {
         let yardstick = yardsticks.at(field);
         Weighed {
-            weight: yardstick.weight,
+            weight: yardstick.weight as u16,
             mark: mark_of(yardstick.scale, row.value(field)),
         }
     } else {

@@ -11,15 +11,15 @@ pub(crate) const BLOCK: usize = 32;
 /// The least and the greatest mark at a field in a block of donors.
 #[derive(Clone, Copy, Debug, PartialEq, Eq)]
 pub struct MarkRange {
-    pub low: u32,
-    pub high: u32,
+    pub low: u16,
+    pub high: u16,
 }
 
 /// The ranges of the marks at each field in each whole block of donors, one block after the other. The marks are those of the
 /// donors, one donor after the other.
 pub(crate) fn ranges_of(
     alloc: Global,
-    marks: &[u32],
+    marks: &[u16],
     count: usize,
     donors: usize,
 ) -> Result<Vec<MarkRange>, OutOfMemory>
@@ -42,7 +42,7 @@ pub(crate) fn ranges_of(
 // Puts the ranges of the block that begins with this donor last.
 fn push_ranges(
     ranges: &mut Vec<MarkRange>,
-    marks: &[u32],
+    marks: &[u16],
     count: usize,
     start: usize,
 ) -> Result<(), OutOfMemory>
@@ -59,13 +59,13 @@ fn push_ranges(
 }
 
 // The range of the marks at a field in the block that begins with this donor.
-fn range_of(marks: &[u32], count: usize, start: usize, field: usize) -> MarkRange
+fn range_of(marks: &[u16], count: usize, start: usize, field: usize) -> MarkRange
     requires marks { (start + block_size) * count ≤ length marks.now }
     requires field { field < count }
     ensures { (j : ℕ) → j < block_size → IsWithin result (mark_at marks.now count (start + j) field) }
 {
     let mut range = MarkRange {
-        low: u32::MAX,
+        low: u16::MAX,
         high: 0,
     };
     for j in 0..BLOCK {

@@ -17,7 +17,7 @@ use std::marker::Model;
 /// sheet share them.
 #[derive(Debug, Drop)]
 pub struct RowMarks {
-    marks: Vec<u32>,
+    marks: Vec<u16>,
 }
 
 impl Model for RowMarks {
@@ -50,7 +50,7 @@ impl RowMarks {
 
     // The marks, one row after the other.
     #[inline(always)]
-    pub(crate) fn as_slice(&self) -> &[u32]
+    pub(crate) fn as_slice(&self) -> &[u16]
         ensures { result.now ≡ self.now }
     {
         self.marks.as_slice()

@@ -35,7 +35,7 @@ pub(crate) struct Search<'a, F> {
 pub(crate) fn rank<F: Fn(u32, &Value, &Value) -> u64, L: Ledger>(
     best: &mut Vec<Candidate>,
     donor: u32,
-    marks: &[u32],
+    marks: &[u16],
     search: &Search<F>,
     profile: &Profile,
     steps: &mut Steps<L>,
@@ -91,7 +91,7 @@ fn rank_within<F: Fn(u32, &Value, &Value) -> u64, L: Ledger>(
 
 /// The marks of a donor.
 #[inline(always)]
-pub(crate) fn marks_at<'a, F>(search: &Search<'a, F>, donor: u32) -> &'a [u32]
+pub(crate) fn marks_at<'a, F>(search: &Search<'a, F>, donor: u32) -> &'a [u16]
     requires deck { IsDeckOf (yardsticks_in search.now) search.now.sheet.now.rows search.now.deck.now }
     requires donor { donor < length search.now.sheet.now.rows }
     ensures { result.now ≡ marks_of (yardsticks_in search.now) (row_at search.now.sheet.now.rows donor) }
@@ -109,7 +109,7 @@ pub(crate) fn marks_in_walk<'a, F>(
     field: u32,
     place: usize,
     donor: u32,
-) -> &'a [u32]
+) -> &'a [u16]
     requires deck { IsDeckOf (yardsticks_in search.now) search.now.sheet.now.rows search.now.deck.now }
     requires donor { donor < length search.now.sheet.now.rows }
     requires place { place < length (slots_at search.now.deck.now.index field) }
@@ -125,7 +125,7 @@ pub(crate) fn marks_in_walk<'a, F>(
 
 // The marks of the donor at a place of the walk by the first numerical field.
 #[inline(always)]
-fn marks_at_place<'a, F>(search: &Search<'a, F>, place: usize) -> &'a [u32]
+fn marks_at_place<'a, F>(search: &Search<'a, F>, place: usize) -> &'a [u16]
     requires deck { IsDeckOf (yardsticks_in search.now) search.now.sheet.now.rows search.now.deck.now }
     requires place { place < length (slots_at search.now.deck.now.index search.now.deck.now.first) }
     ensures { result.now ≡ slot_marks (yardsticks_in search.now) search.now.sheet.now.rows
@@ -145,7 +145,7 @@ pub(crate) fn first_marks_in_walk<'a, F>(
     field: u32,
     place: usize,
     donor: u32,
-) -> &'a [u32]
+) -> &'a [u16]
     requires deck { IsDeckOf (yardsticks_in search.now) search.now.sheet.now.rows search.now.deck.now }
     requires donor { donor < length search.now.sheet.now.rows }
     requires place { place < length (slots_at search.now.deck.now.index field) }
@@ -161,7 +161,7 @@ pub(crate) fn first_marks_in_walk<'a, F>(
 
 // The marks at the first fields of the donor at a place of the walk by the first numerical field.
 #[inline(always)]
-fn first_marks_at_place<'a, F>(search: &Search<'a, F>, place: usize) -> &'a [u32]
+fn first_marks_at_place<'a, F>(search: &Search<'a, F>, place: usize) -> &'a [u16]
     requires deck { IsDeckOf (yardsticks_in search.now) search.now.sheet.now.rows search.now.deck.now }
     requires place { place < length (slots_at search.now.deck.now.index search.now.deck.now.first) }
     ensures { result.now ≡ slot_first_marks first_fields (yardsticks_in search.now) search.now.sheet.now.rows
