@@ -23,7 +23,7 @@ use Rattle.record_text.proofs.ValueOnce.{rows_once}
 -- ---- one answer
 
 -- bytes have one list of records
-records_of : (bytes : List ℕ) (a b : List (List (List ℕ))) → AreRecordsOf bytes a → AreRecordsOf bytes b → b ≡ a
+pub records_of : (bytes : List ℕ) (a b : List (List (List ℕ))) → AreRecordsOf bytes a → AreRecordsOf bytes b → b ≡ a
 records_of bytes a b = same_records default_config st.StartRecord (strip_bom (strip_bom bytes)) a b
 
 -- bytes have one fault

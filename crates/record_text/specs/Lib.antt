@@ -3,6 +3,7 @@ pub mod Faults
 pub mod Messages
 pub mod Numerals
 pub mod Sheets
+pub mod Tables
 pub mod Texts
 pub mod Trimming
 pub mod Values

@@ -4,11 +4,12 @@ ghost use Rattle.edit_model.specs.PlainNumbers.{HasPlain};
 ghost use Rattle.edit_model.specs.Surveys.{IsKind};
 ghost use Rattle.record_text.specs.inner.Places.{AreRowsBehind, IsAt, IsRowFault, Place};
 ghost use Rattle.record_text.specs.Sheets.{IsOnlyFault, IsSheet, IsSheetFault, SheetParts};
-ghost use Rattle.record_text.specs.Values.{AreValues};
+ghost use Rattle.record_text.specs.Values.{AreRows, AreValues};
 
 use crate::columns::{MOST_COLUMNS, find_columns};
 use crate::fault::SheetFault;
 use crate::field_text::value_of_text;
+use crate::row_texts::read_row_texts;
 use crate::sheet::Sheet;
 use crate::stream::{open_records, read_next};
 use crate::texts::Texts;
@@ -79,24 +80,30 @@ fn read_rows(
     ensures fault { IfErr result (λ e. e ≢ SheetFault.OutOfMemory
         → (here : Place) → IsAt reader.old here → IsRowFault width here e) }
 {
-    let mut row_texts = Vec::new(alloc);
-    let mut rows = Vec::new(alloc);
-    for row_no in 0..MOST_ROWS {
-        if !read_next(reader, csv_record)? {
-            return Ok((row_texts, rows));
-        }
-        if csv_record.len() != width {
-            return Err(SheetFault::RowLength { row_no });
-        }
-        let texts = Texts::of_record(alloc, csv_record)?;
-        let row = read_row(alloc, survey, columns, &texts)?;
-        row_texts.push(texts)?;
+    let row_texts = read_row_texts(alloc, MOST_ROWS, width, reader, csv_record)?;
+    let rows = rows_of(alloc, survey, columns, width, &row_texts)?;
+    Ok((row_texts, rows))
+}
+
+/// The rows of these texts, in order.
+fn rows_of(
+    alloc: Global,
+    survey: &Survey,
+    columns: &[u32],
+    width: usize,
+    row_texts: &[Texts],
+) -> Result<Vec<Row>, OutOfMemory>
+    requires columns { length columns.now ≡ length survey.now.fields }
+    requires within { All (λ column. column < width) columns.now }
+    requires equal { All (λ texts. length texts ≡ width) row_texts.now }
+    ensures { IfOk result (λ rows. AreRows survey.now.fields columns.now row_texts.now rows.items) }
+{
+    let mut rows = Vec::with_capacity(alloc, row_texts.len())?;
+    for texts in row_texts {
+        let row = read_row(alloc, survey, columns, texts)?;
         rows.push(row)?;
     }
-    if read_next(reader, csv_record)? {
-        return Err(SheetFault::TooManyRows);
-    }
-    Ok((row_texts, rows))
+    Ok(rows)
 }
 
 /// The row of these texts.

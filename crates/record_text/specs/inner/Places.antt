@@ -9,7 +9,11 @@ use Rattle.edit_model.specs.declared.field.Field.{Field}
 use Rattle.edit_model.specs.declared.value.Value.{Value}
 use Rattle.record_text.specs.Faults.{row_fault}
 use Rattle.record_text.specs.Values.{AreRows}
+use Rattle.record_text.specs.Tables.{rows_fault}
 use Rattle.record_text.specs.declared.fault.SheetFault.{SheetFault}
+use Rattle.record_text.specs.declared.fault.SheetFault.TheVariants.{NoHeader, TooManyRows, RowLength, OutOfMemory}
+use Rattle.record_text.specs.declared.table_fault.TableFault.{TableFault}
+use Rattle.record_text.specs.declared.table_fault.TableFault.TheVariants as table
 
 -- a place in a record file: the state of csv's reader there, and the bytes that are left
 pub record Place : Type 0 where
@@ -53,3 +57,16 @@ pub record IsRowFault (width : ℕ) (here : Place) (fault : SheetFault) : Type 0
   pub row_texts : List (List (List ℕ))
   pub records : AreRecords default_config here.state here.left row_texts
   pub found : row_fault 0 width row_texts ≡ Some fault
+
+-- the first faulty record from a place on, where they are rows of a table of at most so many, has this fault
+pub record IsTextsFault (most width : ℕ) (here : Place) (fault : TableFault) : Type 0 where
+  pub row_texts : List (List (List ℕ))
+  pub records : AreRecords default_config here.state here.left row_texts
+  pub found : rows_fault most width 0 row_texts ≡ Some fault
+
+-- a row's fault, told of a record file
+abbrev pub sheet_fault_of : TableFault → SheetFault
+sheet_fault_of table.NoHeader = NoHeader
+sheet_fault_of table.TooManyRows = TooManyRows
+sheet_fault_of (table.RowLength row_no) = RowLength row_no
+sheet_fault_of table.OutOfMemory = OutOfMemory

@@ -1,39 +1,20 @@
-use Rattle.std.proofs.Common.{◌∷◌, [], refl, arith, length-append}
-use Rattle.csv.specs.Records.{fields_of}
-use Rattle.record_text.proofs.RowsRead.{faulty_row, read_all, read_more, read_none, row_too_many}
+use Rattle.std.proofs.lemmas.List.Elements.{All-from_recursion}
+use Rattle.std.proofs.lemmas.Result.{err_from_is_err_and}
+use Rattle.record_text.proofs.FaultLaws.{faultless_equally_long}
+use Rattle.record_text.proofs.RowsTold.{fault_behind, rows_behind}
 use Rattle.record_text.proofs.reading.read_rows.Goals as goal
 
-pub loop-row_no-init : goal.loop-row_no-init
-loop-row_no-init c = rw (c.new-row_texts.ensures.items, c.new-rows.ensures.items) (read_none c.args.survey.now.fields c.args.columns.now c.args.width c.args.reader.now, refl)
+pub returns-in_err-row_texts-clause-fault : goal.returns-in_err-row_texts-clause-fault
+returns-in_err-row_texts-clause-fault c =
+    let p = err_from_is_err_and c.from_residual.result c.from_residual.ensures.1 in
+    rw p.1 (fault_behind c.args.width c.args.reader.now c.in_err-row_texts.field-0.0 _ p.2 c.in_err-row_texts.ensures.fault)
 
-pub returns-then-not-branch-clause-rows : goal.returns-then-not-branch-clause-rows
-returns-then-not-branch-clause-rows c =
-    let reads = rw c.if-not-branch.true at c.in_ok-read_next.ensures in
-    read_all c.args.survey.now.fields c.args.columns.now c.args.width c.args.reader.now c.loop-row_no.reader c.read_next.new.reader c.loop-row_no.row_texts.items c.loop-row_no.rows.items (fields_of c.read_next.new.csv_record)
-    c.loop-row_no.invariant.0 reads
-
-pub returns-then-len-width-clause-fault : goal.returns-then-len-width-clause-fault
-returns-then-len-width-clause-fault c = λ other.
-    let reads = rw c.if-not-branch.false at c.in_ok-read_next.ensures in
-    faulty_row c.args.survey.now.fields c.args.columns.now c.args.width c.args.reader.now c.loop-row_no.reader c.read_next.new.reader c.loop-row_no.row_texts.items c.loop-row_no.rows.items (fields_of c.read_next.new.csv_record)
-    c.loop-row_no.invariant.0 c.loop-row_no.row_no reads c.loop-row_no.invariant.1 c.loop-row_no-test.true (rw c.len.ensures at c.if-len-width.true)
-
-pub loop-row_no-preserved : goal.loop-row_no-preserved
-loop-row_no-preserved c =
-    let reads = rw c.if-not-branch.false at c.in_ok-read_next.ensures in
-    let texts = fields_of c.read_next.new.csv_record in
-    let more = read_more c.args.survey.now.fields c.args.columns.now c.args.width c.args.reader.now c.loop-row_no.reader c.read_next.new.reader c.loop-row_no.row_texts.items c.loop-row_no.rows.items texts
-    c.loop-row_no.invariant.0 c.in_ok-row.row reads (omega (arith, c.loop-row_no.invariant.1, c.loop-row_no-test.true)) (rw c.len.ensures at c.if-len-width.false) (rw c.in_ok-texts.ensures at c.in_ok-row.ensures) in
-    (rw (c.in_ok-push.ensures.items, c.in_ok-push-2.ensures.items, c.in_ok-texts.ensures) more, rw c.in_ok-push.ensures.items (omega (arith, length-append c.loop-row_no.row_texts.items (c.in_ok-texts.texts ∷ []), c.loop-row_no.invariant.1)))
-
-pub returns-then-branch-clause-fault : goal.returns-then-branch-clause-fault
-returns-then-branch-clause-fault c = λ other.
-    let reads = rw c.if-branch.true at c.in_ok-read_next-2.ensures in
-    row_too_many c.args.survey.now.fields c.args.columns.now c.args.width c.args.reader.now c.loop-row_no.reader c.read_next-2.new.reader c.loop-row_no.row_texts.items c.loop-row_no.rows.items (fields_of c.read_next-2.new.csv_record)
-    c.loop-row_no.invariant.0 reads (omega arith)
+pub rows_of-requires-clause-equal : goal.rows_of-requires-clause-equal
+rows_of-requires-clause-equal c =
+    let equal = faultless_equally_long 200000 c.args.width 0 c.in_ok-row_texts.row_texts.items c.in_ok-row_texts.ensures.faultless in
+    rw c.deref.ensures.value (All-from_recursion _ _ equal)
 
 pub returns-clause-rows : goal.returns-clause-rows
 returns-clause-rows c =
-    let reads = rw c.if-branch.false at c.in_ok-read_next-2.ensures in
-    read_all c.args.survey.now.fields c.args.columns.now c.args.width c.args.reader.now c.loop-row_no.reader c.read_next-2.new.reader c.loop-row_no.row_texts.items c.loop-row_no.rows.items (fields_of c.read_next-2.new.csv_record)
-    c.loop-row_no.invariant.0 reads
+    rows_behind c.args.width c.args.reader.now c.args.survey.now.fields c.args.columns.now c.in_ok-row_texts.row_texts.items c.in_ok-rows.rows.items
+    c.in_ok-row_texts.ensures.records c.in_ok-row_texts.ensures.faultless (rw c.deref.ensures.value at c.in_ok-rows.ensures)

@@ -5,7 +5,8 @@ use Rattle.csv.specs.Records.{fields_of}
 use Rattle.record_text.proofs.ColumnLaws.{columns_within, one_column_each}
 use Rattle.record_text.proofs.FaultLaws.{few_rows}
 use Rattle.record_text.proofs.HeaderLaws.{header_length}
-use Rattle.record_text.proofs.SheetRead.{faulty_columns, faulty_rows, no_header, sheet_read, start_of, too_many_columns}
+use Rattle.record_text.proofs.FirstRecord.{start_of}
+use Rattle.record_text.proofs.SheetRead.{faulty_columns, faulty_rows, no_header, sheet_read, too_many_columns}
 use Rattle.record_text.proofs.ValueLaws.{rows_length}
 use Rattle.record_text.proofs.reading.read_sheet.Goals as goal
 

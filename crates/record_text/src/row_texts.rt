@@ -1,0 +1,41 @@
+ghost use Rattle.std.specs.Prelude.{◌≡◌, ◌≢◌, IfErr, IfOk, None};
+ghost use Rattle.csv.specs.Reading.{AreRecords, default_config};
+ghost use Rattle.record_text.specs.Tables.{rows_fault};
+ghost use Rattle.record_text.specs.inner.Places.{IsAt, IsTextsFault, Place};
+
+use crate::stream::read_next;
+use crate::table_fault::TableFault;
+use crate::texts::Texts;
+use csv::{ByteRecord, Reader};
+use std::alloc::Global;
+
+/// The texts of all further records, each of `width` texts, where there are at most so many records. `csv_record` is overwritten.
+pub(crate) fn read_row_texts(
+    alloc: Global,
+    most: u32,
+    width: usize,
+    reader: &mut Reader<&[u8]>,
+    csv_record: &mut ByteRecord,
+) -> Result<Vec<Texts>, TableFault>
+    ensures records { IfOk result (λ row_texts. (here : Place) → IsAt reader.old here
+        → AreRecords default_config here.state here.left row_texts.items) }
+    ensures faultless { IfOk result (λ row_texts. rows_fault most width 0 row_texts.items ≡ None) }
+    ensures fault { IfErr result (λ e. e ≢ TableFault.OutOfMemory
+        → (here : Place) → IsAt reader.old here → IsTextsFault most width here e) }
+{
+    let mut row_texts = Vec::new(alloc);
+    for row_no in 0..most {
+        if !read_next(reader, csv_record)? {
+            return Ok(row_texts);
+        }
+        if csv_record.len() != width {
+            return Err(TableFault::RowLength { row_no });
+        }
+        let texts = Texts::of_record(alloc, csv_record)?;
+        row_texts.push(texts)?;
+    }
+    if read_next(reader, csv_record)? {
+        return Err(TableFault::TooManyRows);
+    }
+    Ok(row_texts)
+}
