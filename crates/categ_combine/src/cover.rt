@@ -149,7 +149,8 @@ fn parts_of(origin: &BoxOrigin) -> &[u64]
 fn longer(alloc: Global, parts: &[u64], part: u64) -> Result<Vec<u64>, OutOfMemory>
     ensures { IfOk result (λ all. all.items ≡ parts.now ++ part ∷ []) }
 {
-    let mut all = Vec::from_slice(alloc, parts)?;
+    let mut all = Vec::with_capacity(alloc, parts.len().saturating_add(1))?;
+    all.extend_from_slice(parts)?;
     all.push(part)?;
     Ok(all)
 }
