@@ -1,0 +1,88 @@
+//! What is written of an element: its start and its end.
+ghost use Rattle.std.specs.Prelude.{◌≡◌, ◌++◌, OnOk};
+ghost use Rattle.std.specs.List.{flat_map};
+ghost use Rattle.page_markup.specs.Escapes.{escaped};
+ghost use Rattle.page_markup.specs.OpenPages.{given, value_words};
+ghost use Rattle.page_markup.specs.Trees.{attribute_text, end_text, start_text, void_text};
+
+use crate::attribute::{Attribute, Value};
+use crate::escaping::push_escaped;
+use crate::tag::{Tag, VoidTag};
+use foundation::OutOfMemory;
+use itoa::Buffer;
+
+/// Appends the start of an element.
+pub(crate) fn push_start(
+    text: &mut Vec<u8>,
+    tag: Tag,
+    attributes: &[(Attribute, Value)],
+) -> Result<(), OutOfMemory>
+    ensures { OnOk result (text.new.items ≡ text.old.items ++ start_text tag (given attributes.now)) }
+{
+    text.push(b'<')?;
+    text.extend_from_slice(tag.name())?;
+    push_attributes(text, attributes)?;
+    text.push(b'>')?;
+    Ok(())
+}
+
+/// Appends the end of an element.
+pub(crate) fn push_end(text: &mut Vec<u8>, tag: Tag) -> Result<(), OutOfMemory>
+    ensures { OnOk result (text.new.items ≡ text.old.items ++ end_text tag) }
+{
+    text.extend_from_slice(b"</")?;
+    text.extend_from_slice(tag.name())?;
+    text.push(b'>')?;
+    Ok(())
+}
+
+/// Appends an element that holds nothing.
+pub(crate) fn push_void(
+    text: &mut Vec<u8>,
+    tag: VoidTag,
+    attributes: &[(Attribute, Value)],
+) -> Result<(), OutOfMemory>
+    ensures { OnOk result (text.new.items ≡ text.old.items ++ void_text tag (given attributes.now)) }
+{
+    text.push(b'<')?;
+    text.extend_from_slice(tag.name())?;
+    push_attributes(text, attributes)?;
+    text.extend_from_slice(b" />")?;
+    Ok(())
+}
+
+/// Appends an attribute with its value, behind a space.
+pub(crate) fn push_attribute(
+    text: &mut Vec<u8>,
+    name: Attribute,
+    value: Value,
+) -> Result<(), OutOfMemory>
+    ensures { OnOk result (text.new.items ≡ text.old.items ++ attribute_text (name, value_words value.entry)) }
+{
+    text.push(b' ')?;
+    text.extend_from_slice(name.name())?;
+    text.extend_from_slice(b"=\"")?;
+    push_value(text, value)?;
+    text.push(b'"')?;
+    Ok(())
+}
+
+// Appends the attributes of an element.
+fn push_attributes(text: &mut Vec<u8>, attributes: &[(Attribute, Value)]) -> Result<(), OutOfMemory>
+    ensures { OnOk result (text.new.items ≡ text.old.items ++ flat_map attribute_text (given attributes.now)) }
+{
+    for attribute in attributes {
+        push_attribute(text, attribute.0, attribute.1)?;
+    }
+    Ok(())
+}
+
+// Appends the value of an attribute, as it stands between its quotation marks.
+fn push_value(text: &mut Vec<u8>, value: Value) -> Result<(), OutOfMemory>
+    ensures { OnOk result (text.new.items ≡ text.old.items ++ escaped (value_words value.entry)) }
+{
+    match value {
+        Value::Words(words) => push_escaped(text, words),
+        Value::Number(number) => push_escaped(text, Buffer::new().format(number).as_bytes()),
+    }
+}
