@@ -1,0 +1,5 @@
+pub mod FileLaws
+pub mod HeaderLaws
+pub mod LineLaws
+pub mod WithinLaws
+pub mod WordLaws
