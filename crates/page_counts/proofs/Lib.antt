@@ -1,0 +1,7 @@
+pub mod AmountLaws
+pub mod MarkLaws
+pub mod NumberLaws
+pub mod RuleLaws
+pub mod TallyLaws
+pub mod TrialLaws
+pub mod WeightLaws
