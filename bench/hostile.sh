@@ -4,7 +4,7 @@
 #
 # usage: bench/hostile.sh [SEED [GROUP..]]      (default: 1, and all groups)
 #
-# Each run has to end with a status of the README's table, never by a signal, and within a time that grows with
+# Each run has to end with a status of docs/commands.md, never by a signal, and within a time that grows with
 # the files and their wrong values; where nothing was released, the files under the three names that `edit` writes have to
 # be as they were. Where the rules of a file say which status is right, it has to be that one. What an edit wrote is checked,
 # and has to be valid, with as many records as it counted: after each edit, and of the random, cut and changed files

@@ -5,7 +5,7 @@
 #
 # For each two names of each command: one that leads to the file of the other, as `./records` does. For each name: a folder, a file that is not there, one below a file, and one that the user may not read or write; then a folder in
 # which nothing may be stored, a disk that is full, `/dev/full`, and output that is full, closed, or read by nobody. Each run has to end with the status
-# and the line that the README's table gives, with the files before the one that failed stored whole, that one with some first bytes or as it was,
+# and the line that docs/commands.md gives, with the files before the one that failed stored whole, that one with some first bytes or as it was,
 # and all later ones as they were. The last line counts the runs; the first that ends otherwise is printed, and ends the script with status 1.
 #
 # At the end stands what comes of one file by a link: no name shows it, so a hard link and a symbolic link to a file that is read, or to another
