@@ -61,7 +61,8 @@ fn push_donor(
 ) -> Result<(), OutOfMemory>
     requires row { row_no < length sheet.now.rows }
     requires fits { AllByRecursion (IsRow survey.now.fields) sheet.now.rows }
-    ensures { OnOk result (rows.new.items ≡ rows.old.items ++ place_if (is_donor_in survey.now class (row_at sheet.now.rows row_no)) row_no) }
+    ensures { OnOk result (rows.new.items
+        ≡ rows.old.items ++ place_if (is_donor_in survey.now class (row_at sheet.now.rows row_no)) row_no) }
 {
     if is_donor(survey, sheet.row(row_no), class) {
         rows.push(row_no)?;

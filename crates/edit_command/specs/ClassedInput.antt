@@ -20,7 +20,8 @@ abbrev pub WithoutClass : Option Files → List ℕ → List ℕ → Type 0
 WithoutClass files rules class = WithRules files rules (λ survey. ¬ HasClass survey.fields class)
 
 -- this is read from files of these names: a survey, whose categorical field of this number has this name, and the records
-pub record HoldsClassed (files : Option Files) (rules records class : List ℕ) (survey : SurveyParts) (number : ℕ) (sheet : SheetParts) : Type 0 where
+pub record HoldsClassed (files : Option Files) (rules records class : List ℕ)
+    (survey : SurveyParts) (number : ℕ) (sheet : SheetParts) : Type 0 where
   pub read_rules : HoldsRules files rules survey
   pub named : IsClassField survey.fields class number
   pub read_records : HoldsRecords files records survey.fields sheet
@@ -37,7 +38,8 @@ abbrev pub RefusesByClass : List ℕ → List ℕ → List ℕ → Option Files 
 RefusesByClass rules records class files (fault.Class name) = (name ≡ class) × WithoutClass files rules class
 RefusesByClass rules records class files (fault.Records what) =
     WithClass files rules class (λ survey. HoldsText files records (AreNoRecords survey.fields what))
-RefusesByClass rules records class files (fault.TooLong name) = IsClassedFile rules records class files name × HoldsLonger files name most_bytes
+RefusesByClass rules records class files (fault.TooLong name) =
+    IsClassedFile rules records class files name × HoldsLonger files name most_bytes
 RefusesByClass rules records class files (fault.Read name) = IsClassedFile rules records class files name
 RefusesByClass rules records class files f = RefusesInput rules records files f
 

@@ -29,9 +29,9 @@ use std::sync::Wait;
 use std::thread::Threads;
 
 /// The edit of a sheet of the survey's records on these terms: a budget from 1 to 1,000,000,000, a limit from 1 to
-/// 1,000, 1 to 64 donors that a record ranks, and a field of the survey by which records are in imputation classes, or none. Lines of the rules that follow from the others are dropped first, and
-/// the records are searched by those that are kept, by 1 to 64 workers side by side; the gate is told of each record
-/// that one draws. The measure, by which the nearest donors are found, is one of the survey, and the numbers of the
+/// 1,000, 1 to 64 donors that a record ranks, and a field of the survey by which records are in imputation classes, or
+/// none. Lines of the rules that follow from the others are dropped first, and the records are searched by those that
+/// are kept, by 1 to 64 workers side by side; the gate is told of each record that one draws. The measure, by which the nearest donors are found, is one of the survey, and the numbers of the
 /// records have numerators below 10^21 and denominators of at most 10^6.
 pub fn edit_sheet<
     R: Threads + Wait + Sync,

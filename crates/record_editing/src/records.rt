@@ -32,9 +32,9 @@ use std::thread::Threads;
 
 /// What becomes of each record of a sheet, in order: the outcome of its search by the edits, and the values of its
 /// changed fields, for which it claims a donor among the clean records, those of its own imputation class where the terms
-/// have a class field. From 1 to 64 workers draw the records side by side. The edits are over the survey's fields, and they say of a point with codes of these what the rules say. The
-/// measure is one of the survey, and the numbers of the records have numerators below 10^21 and denominators of at most
-/// 10^6.
+/// have a class field. From 1 to 64 workers draw the records side by side. The edits are over the survey's fields, and
+/// they say of a point with codes of these what the rules say. The measure is one of the survey, and the numbers of the
+/// records have numerators below 10^21 and denominators of at most 10^6.
 pub fn edit_records<
     R: Threads + Wait + Sync,
     F: Fn(u32, &Value, &Value) -> u64 + Send + Sync,

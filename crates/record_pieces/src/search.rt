@@ -144,7 +144,8 @@ fn ranking_in<F: Fn(u32, &Value, &Value) -> u64, L: Ledger>(
 ) -> Result<Vec<u32>, OutOfMemory>
     requires rest { IsRest F.Fn rest.now }
     requires row { HasMeasurable rest.now.measure.yardsticks kept row.now }
-    requires class { class ≡ class_kept (class_count rest.now.survey.fields (class_field_in rest.now)) (class_field_in rest.now) row.now kept }
+    requires class { class
+        ≡ class_kept (class_count rest.now.survey.fields (class_field_in rest.now)) (class_field_in rest.now) row.now kept }
     ensures ranking { IfOk result (λ ranking. ranking.items ≡ ranking_of rest.now.measure.yardsticks (rows_in rest.now)
         (donors_for rest.now.survey (rows_in rest.now) (class_field_in rest.now) row.now kept) row.now kept rest.now.near) }
     ensures donors { IfOk result (λ ranking. All (IsDonorIn rest.now.survey (rows_in rest.now) (class_field_in rest.now) class)
