@@ -1,8 +1,8 @@
 //! The rule language. A rule text declares the fields of a survey and sets its edits, one statement a
 //! line; [`read_rules`] reads one, [`print_rules`] writes one. What a text says is in `specs/Grammar.antt`,
 //! what a statement means in `specs/Meaning.antt`, what is wrong with one in `specs/Faults.antt`. Who prints
-//! an edit that is no rule of a survey writes it of the same parts: [`write_conditions`], [`write_term`],
-//! [`write_constant`] and [`compare_text`], by `specs/Printing.antt`.
+//! an edit that is no rule of a survey writes it of the same parts: [`conditions_text`], [`write_term`],
+//! [`write_constant`] and [`compare_text`], by `specs/Printing.antt`; [`rule_text`] is one rule's line.
 #![tactic(auto)]
 
 mod codes;
@@ -18,5 +18,7 @@ mod reading;
 mod sums;
 
 pub use fault::{RulesFault, RulesKind};
-pub use printing::{compare_text, conditions_text, print_rules, write_constant, write_term};
+pub use printing::{
+    compare_text, conditions_text, print_rules, rule_text, write_constant, write_term,
+};
 pub use reading::read_rules;

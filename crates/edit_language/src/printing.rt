@@ -11,8 +11,8 @@ mod sums;
 use edit_model::{Field, Rule, Survey};
 use fields::write_field;
 use foundation::OutOfMemory;
-pub use rules::conditions_text;
 use rules::write_rule;
+pub use rules::{conditions_text, rule_text};
 use std::alloc::Global;
 pub use sums::{compare_text, write_constant, write_term};
 

@@ -9,6 +9,15 @@ use edit_model::{Field, Kind, Name, Rule, Test};
 use foundation::OutOfMemory;
 use std::alloc::Global;
 
+/// The text of a rule over these fields, as it stands in a line of a printed survey.
+pub fn rule_text(alloc: Global, fields: &[Field], rule: &Rule) -> Result<Vec<u8>, OutOfMemory>
+    ensures { IfOk result (λ text. text.items ≡ rule_line fields.now rule.now) }
+{
+    let mut text = Vec::new(alloc);
+    write_rule(&mut text, fields, rule)?;
+    Ok(text)
+}
+
 // Appends the rule.
 pub(super) fn write_rule(
     text: &mut Vec<u8>,
