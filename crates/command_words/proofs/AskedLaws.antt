@@ -3,8 +3,8 @@ use Rattle.std.proofs.Common.{◌≡◌, ◌≢◌, ◌∙◌, ◌≤◌, ℕ, O
 use Rattle.std.specs.Prelude.{IfNone, IfSome}
 use Rattle.clap.specs.Words.{App, Row, fault_of, matches_of}
 use Rattle.clap.specs.declared.parser.matches.ArgMatches.{ArgMatches}
-use Rattle.command_words.specs.Asked.{CheckAsked, ClassedAsked, EditAsked, FillAsked, MakeAsked, PanelAsked, RulesAsked}
-use Rattle.command_words.specs.Asked.{GivesCheck, GivesClassed, GivesEdit, GivesFill, GivesMake, GivesPanel, GivesRules, IsCommand}
+use Rattle.command_words.specs.Asked.{CheckAsked, ClassedAsked, EditAsked, FillAsked, MakeAsked, PageAsked, PanelAsked, RulesAsked}
+use Rattle.command_words.specs.Asked.{GivesCheck, GivesClassed, GivesEdit, GivesFill, GivesMake, GivesPage, GivesPanel, GivesRules, IsCommand}
 use Rattle.command_words.specs.Options.{GivesNumber}
 use Rattle.command_words.specs.inner.Found.{Takes, rows_in}
 
@@ -118,6 +118,19 @@ pub one_make : (found : List Row) (a b : MakeAsked) → GivesMake found a → Gi
 one_make found a b p q =
     same_make _ _ _ _ _ _ _ _ (one_text _ _ _ p.rules q.rules) (one_text _ _ _ p.records q.records)
     (one_number _ _ _ _ _ _ p.start q.start) (one_number _ _ _ _ _ _ p.rows q.rows)
+
+-- a page of these files
+abbrev pub page_of : List ℕ → List ℕ → List ℕ → List ℕ → List ℕ → PageAsked
+page_of r c d s p = record { rules = r; records = c; released = d; reasons = s; page = p }
+
+same_page : (r c d s p r' c' d' s' p' : List ℕ) → r ≡ r' → c ≡ c' → d ≡ d' → s ≡ s' → p ≡ p' → page_of r c d s p ≡ page_of r' c' d' s' p'
+same_page r c d s p r' c' d' s' p' er ec ed es ep = cc
+
+-- and one page
+pub one_page : (found : List Row) (a b : PageAsked) → GivesPage found a → GivesPage found b → a ≡ b
+one_page found a b p q =
+    same_page _ _ _ _ _ _ _ _ _ _ (one_text _ _ _ p.rules q.rules) (one_text _ _ _ p.records q.records)
+    (one_text _ _ _ p.released q.released) (one_text _ _ _ p.reasons q.reasons) (one_text _ _ _ p.page q.page)
 
 -- ---- a command and what is found for it
 

@@ -4,7 +4,7 @@ use Rattle.clap.specs.Built.{AddsArg}
 use Rattle.clap.specs.Words.{App, Rule, app_of, is_simple_and_free, rule_of, with_rule}
 use Rattle.clap.specs.declared.builder.arg.Arg.{Arg}
 use Rattle.clap.specs.declared.builder.command.Command.{Command}
-use Rattle.command_words.specs.Asked.{check_command, classed_command, edit_command, fill_command, make_command, panel_command}
+use Rattle.command_words.specs.Asked.{check_command, classed_command, edit_command, fill_command, make_command, page_command, panel_command}
 
 -- a command with one option more
 pub one_more : (before : App) (option : Rule) (old new : Command) (arg : Arg) → app_of old ≡ before → rule_of arg ≡ option → arg.global ≡ false
@@ -28,3 +28,6 @@ panel_simple = refl
 
 pub make_simple : is_simple_and_free make_command ≡ true
 make_simple = refl
+
+pub page_simple : is_simple_and_free page_command ≡ true
+page_simple = refl

@@ -231,6 +231,43 @@ pub record GivesMake (found : List Row) (asked : MakeAsked) : Type 0 where
 abbrev pub IsMake : List (List ℕ) → MakeAsked → Type 0
 IsMake words asked = IsCommand make_command words (λ found. GivesMake found asked)
 
+-- ---- page
+
+-- the files that the command `page` names: the rules, the records, what was released of them, the reasons for that, and the page
+pub record PageAsked : Type 0 where
+  pub rules : List ℕ
+  pub records : List ℕ
+  pub released : List ℕ
+  pub reasons : List ℕ
+  pub page : List ℕ
+
+-- the options of the command: five that name files and have to stand
+abbrev pub page_command : App
+page_command = command_with (codes "page") (
+    must_stand (codes "rules") ∷ must_stand (codes "records") ∷ must_stand (codes "released") ∷ must_stand (codes "reasons")
+    ∷ must_stand (codes "page") ∷ [])
+
+-- the names of the five files
+abbrev pub page_files_in : PageAsked → List (List ℕ)
+page_files_in asked = asked.rules ∷ asked.records ∷ asked.released ∷ asked.reasons ∷ asked.page ∷ []
+
+-- what is found are five names of files, no two of which lead to one file
+pub record GivesPage (found : List Row) (asked : PageAsked) : Type 0 where
+  pub rules : first_of (codes "rules") found ≡ Some asked.rules
+  pub records : first_of (codes "records") found ≡ Some asked.records
+  pub released : first_of (codes "released") found ≡ Some asked.released
+  pub reasons : first_of (codes "reasons") found ≡ Some asked.reasons
+  pub page : first_of (codes "page") found ≡ Some asked.page
+  pub apart : AreApart (page_files_in asked)
+
+-- the words ask for a page about an edit: they are the command, and what is found gives its files
+abbrev pub IsPage : List (List ℕ) → PageAsked → Type 0
+IsPage words asked = IsCommand page_command words (λ found. GivesPage found asked)
+
+-- whatever page the words ask for, the claim holds of it
+abbrev pub ForPage : List (String Global) → (PageAsked → Type 0) → Type 0
+ForPage words P = (asked : PageAsked) → IsPage (map string_bytes words) asked → P asked
+
 -- ---- any words
 
 -- the words ask for none of these

@@ -159,8 +159,14 @@ pub(crate) fn edit_of<'a>(found: &ArgMatches<'a>) -> Option<EditWords<'a>>
     })
 }
 
-// Whether no two of the names lead to one file.
-fn are_apart(rules: &str, records: &str, released: &str, reasons: &str, proof: &str) -> bool
+/// Whether no two of the names lead to one file, as far as the names show. No memory.
+pub(crate) fn are_apart(
+    rules: &str,
+    records: &str,
+    released: &str,
+    reasons: &str,
+    proof: &str,
+) -> bool
     ensures { IsTrue result ↔ AreApart (rules.now ∷ records.now ∷ released.now ∷ reasons.now ∷ proof.now ∷ []) }
 {
     is_apart_from(rules, &[records, released, reasons, proof])
