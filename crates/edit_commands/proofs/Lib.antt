@@ -2,4 +2,3 @@ pub mod AuditLaws
 pub mod MakeLaws
 pub mod RulesLaws
 pub mod RunLaws
-mod WordLaws

@@ -2,12 +2,10 @@
 //! output. What it serves is the call `fh_main` of the crate `edit_commands`.
 #![tactic(auto)]
 
-mod words;
-
 use edit_commands::fh_main;
 use edit_desk::{FileDesk, OutPrinter};
 use record_workers::NoGate;
-use run_parts::{Status, refuse_words};
+use run_parts::{Status, refuse_words, words_after_program_name};
 use std::process::ExitCode;
 
 fn main(rt: HostRuntime) -> ExitCode {
@@ -19,7 +17,7 @@ fn main(rt: HostRuntime) -> ExitCode {
         return ExitCode::from(Status::OutOfMemory.number());
     };
     let mut printer = OutPrinter::new(out);
-    let status = match words::after_program_name(&rt) {
+    let status = match words_after_program_name(&rt) {
         Ok(words) => fh_main(
             &rt,
             alloc,

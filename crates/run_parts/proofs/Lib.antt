@@ -8,3 +8,4 @@ pub mod ReadingLaws
 pub mod StoreLaws
 pub mod TellingLaws
 pub mod ToldLaws
+pub mod WordLaws

@@ -1,6 +1,6 @@
 //! What the runs of all commands share: how they end, why they are refused and what is printed of that; files that are
-//! fetched and read, and files that are stored; lines that are printed. A run is over any desk and any printer: what is
-//! seen of them, and what a refused run leaves, is defined in `specs/Run.antt`.
+//! fetched and read, and files that are stored; lines that are printed; the words of a program. A run is over any desk and
+//! any printer: what is seen of them, and what a refused run leaves, is defined in `specs/Run.antt`.
 #![tactic(auto)]
 
 mod fault;
@@ -10,6 +10,7 @@ mod refusal;
 mod status;
 mod storing;
 mod telling;
+mod words;
 
 pub use fault::{AskedName, Fault, OUT_OF_MEMORY, RecordsFault, USAGE};
 pub use input::fetch_input;
@@ -20,3 +21,4 @@ pub use refusal::Refusal;
 pub use status::Status;
 pub use storing::store_file;
 pub use telling::{refuse, refuse_words, tell, tell_all};
+pub use words::words_after_program_name;

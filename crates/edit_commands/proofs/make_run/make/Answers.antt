@@ -6,7 +6,7 @@ use Rattle.run_parts.specs.Run.{AreCallsTo, LeavesOf}
 use Rattle.command_words.proofs.AskedLaws.{make_of}
 use Rattle.edit_commands.proofs.MakeLaws.{all-made}
 use Rattle.run_parts.proofs.ToldLaws.{handed, less-told}
-use Rattle.edit_commands.proofs.WordLaws.{told-same}
+use Rattle.run_parts.proofs.WordLaws.{told-same}
 use Rattle.edit_commands.proofs.make_run.make.Goals as goal
 
 pub returns-in_default-clause-asked : goal.returns-in_default-clause-asked

@@ -9,7 +9,7 @@ use Rattle.panel_command.specs.PanelRun.{panel_command}
 use Rattle.run_parts.specs.Commands.{refusals_of}
 use Rattle.run_parts.specs.Run.{word_refusals}
 use Rattle.run_parts.specs.declared.fault.Fault.TheVariants as fault
-use Rattle.edit_commands.proofs.WordLaws.{untouched-refused}
+use Rattle.run_parts.proofs.WordLaws.{untouched-refused}
 use Rattle.edit_commands.proofs.run.fh_main.Goals as goal
 
 -- ---- an edit

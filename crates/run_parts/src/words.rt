@@ -1,14 +1,14 @@
 //! The words after the program's name.
 ghost use Rattle.std.specs.Prelude.{◌≡◌, ◌⊎◌, IfErr};
 
+use crate::status::Status;
 use edit_desk::WordsFault;
-use run_parts::Status;
 use std::env;
 use std::rt::Env;
 
 /// The words after the program's name, or the status of a run that has none: a word that is not UTF-8 makes them
 /// no command.
-pub fn after_program_name<R: Env + AllocGlobal>(rt: &R) -> Result<Vec<String>, Status>
+pub fn words_after_program_name<R: Env + AllocGlobal>(rt: &R) -> Result<Vec<String>, Status>
     ensures { IfErr result (λ status. (status ≡ Status.Usage) ⊎ (status ≡ Status.OutOfMemory)) }
 {
     edit_desk::words_of(rt.alloc(), env::args(rt)).map_err(status_of)
