@@ -28,7 +28,8 @@ followed (Element tag attributes inside rest) next = Element tag attributes insi
 -- what a call does to the tree: an element is opened behind what is there; something is added behind it; the innermost element
 -- is ended, where one is open
 abbrev pub with_child : Tag → Attributes → Draft → Draft
-with_child tag attributes draft = record draft { frames = record { tag = tag; attributes = attributes; before = draft.here } ∷ draft.frames; here = Nothing }
+with_child tag attributes draft =
+    record draft { frames = record { tag = tag; attributes = attributes; before = draft.here } ∷ draft.frames; here = Nothing }
 
 abbrev pub with_more : Content → Draft → Draft
 with_more content draft = record draft { here = followed draft.here content }
@@ -59,8 +60,16 @@ frames_text language (frame ∷ frames) = frames_text language frames ++ content
 
 -- the page so far, as its writer has it
 abbrev pub shown : Draft → OpenPage
-shown draft = record { text = frames_text draft.language draft.frames ++ content_text draft.here; tags = map (λ frame. frame.tag) draft.frames }
+shown draft =
+    record {
+      text = frames_text draft.language draft.frames ++ content_text draft.here;
+      tags = map (λ frame. frame.tag) draft.frames;
+    }
 
 -- the page so far is that of some tree
 abbrev pub IsOfTree : OpenPage → Type 0
 IsOfTree page = (draft : Draft) × (page ≡ shown draft)
+
+-- a page goes on from another as its tree does
+abbrev pub Follows : (Draft → Draft) → OpenPage → OpenPage → Type 0
+Follows f old new = (draft : Draft) → old ≡ shown draft → new ≡ shown (f draft)

@@ -1,7 +1,7 @@
 //! A page that is written element by element.
 ghost use Rattle.std.specs.Prelude.{◌≡◌, ℕ, List, [], IfOk, length, OnErr, OnOk};
 ghost use Rattle.std.specs.Fmt.{decimal};
-ghost use Rattle.page_markup.specs.Drafts.{Draft, shown, whole, with_child, with_more, without_child};
+ghost use Rattle.page_markup.specs.Drafts.{Draft, Follows, shown, whole, with_child, with_more, without_child};
 ghost use Rattle.page_markup.specs.Escapes.{escaped, IsInert, IsKept};
 ghost use Rattle.page_markup.specs.OpenPages.{added, begun, closed, finished, given, opened};
 ghost use Rattle.page_markup.specs.Trees.{IsWellFormed, page_text};
@@ -57,10 +57,11 @@ impl PageWriter {
         })
     }
 
-    /// Opens an element in the innermost one that is open.
+    /// Opens an element in the innermost one that is open. An attribute that is given twice is written twice, which no browser reads
+    /// as meant: give each once.
     pub fn open(&mut self, tag: Tag, attributes: &[(Attribute, Value)]) -> Result<(), OutOfMemory>
         ensures written { OnOk result (self.new ≡ opened tag (given attributes.now) self.old) }
-        ensures tree { OnOk result ((draft : Draft) → self.old ≡ shown draft → self.new ≡ shown (with_child tag (given attributes.now) draft)) }
+        ensures tree { OnOk result (Follows (with_child tag (given attributes.now)) self.old self.new) }
         ensures refused { OnErr result (self.new ≡ self.old) }
     {
         self.mark.clear();
@@ -79,7 +80,7 @@ impl PageWriter {
     /// Ends the innermost element that is open. Where none is, it writes nothing.
     pub fn close(&mut self) -> Result<(), OutOfMemory>
         ensures written { OnOk result (self.new ≡ closed self.old) }
-        ensures tree { OnOk result ((draft : Draft) → self.old ≡ shown draft → self.new ≡ shown (without_child draft)) }
+        ensures tree { OnOk result (Follows without_child self.old self.new) }
         ensures refused { OnErr result (self.new ≡ self.old) }
     {
         let Some(tag) = self.tags.last() else {
@@ -92,14 +93,15 @@ impl PageWriter {
         Ok(())
     }
 
-    /// Writes an element that holds nothing.
+    /// Writes an element that holds nothing. An attribute that is given twice is written twice, which no browser reads as meant: give
+    /// each once.
     pub fn empty(
         &mut self,
         tag: VoidTag,
         attributes: &[(Attribute, Value)],
     ) -> Result<(), OutOfMemory>
         ensures written { OnOk result (self.new ≡ added (Void tag (given attributes.now) Nothing) self.old) }
-        ensures tree { OnOk result ((draft : Draft) → self.old ≡ shown draft → self.new ≡ shown (with_more (Void tag (given attributes.now) Nothing) draft)) }
+        ensures tree { OnOk result (Follows (with_more (Void tag (given attributes.now) Nothing)) self.old self.new) }
         ensures refused { OnErr result (self.new ≡ self.old) }
     {
         self.mark.clear();
@@ -111,7 +113,7 @@ impl PageWriter {
     /// Writes words, whatever their bytes are. None of them can open or end an element, and who reads the page reads them back.
     pub fn text(&mut self, words: &[u8]) -> Result<(), OutOfMemory>
         ensures written { OnOk result (self.new ≡ added (Words words.now Nothing) self.old) }
-        ensures tree { OnOk result ((draft : Draft) → self.old ≡ shown draft → self.new ≡ shown (with_more (Words words.now Nothing) draft)) }
+        ensures tree { OnOk result (Follows (with_more (Words words.now Nothing)) self.old self.new) }
         ensures refused { OnErr result (self.new ≡ self.old) }
         ensures inert { IsInert (escaped words.now) }
         ensures told { IsKept words.now → (other : List ℕ) → IsKept other → escaped other ≡ escaped words.now → other ≡ words.now }
@@ -125,7 +127,7 @@ impl PageWriter {
     /// Writes a number in decimal digits.
     pub fn number(&mut self, number: u64) -> Result<(), OutOfMemory>
         ensures written { OnOk result (self.new ≡ added (Words (decimal number) Nothing) self.old) }
-        ensures tree { OnOk result ((draft : Draft) → self.old ≡ shown draft → self.new ≡ shown (with_more (Words (decimal number) Nothing) draft)) }
+        ensures tree { OnOk result (Follows (with_more (Words (decimal number) Nothing)) self.old self.new) }
         ensures refused { OnErr result (self.new ≡ self.old) }
     {
         self.text(Buffer::new().format(number).as_bytes())
@@ -134,7 +136,7 @@ impl PageWriter {
     /// Writes the style sheet [`crate::STYLE`], which stands in the head.
     pub fn style(&mut self) -> Result<(), OutOfMemory>
         ensures written { OnOk result (self.new ≡ added (Style Nothing) self.old) }
-        ensures tree { OnOk result ((draft : Draft) → self.old ≡ shown draft → self.new ≡ shown (with_more (Style Nothing) draft)) }
+        ensures tree { OnOk result (Follows (with_more (Style Nothing)) self.old self.new) }
         ensures refused { OnErr result (self.new ≡ self.old) }
     {
         self.mark.clear();
