@@ -1,11 +1,9 @@
 -- What is said of a reasons file: its reasons, or one fault, and nothing else.
 use Rattle.std.proofs.Common.{◌≡◌, ◌≢◌, ◌∙◌, sym, ap, refl, ℕ, List, Some, None, Result, Ok, Err}
-use Rattle.std.specs.List.{flat_map}
 use Rattle.std.specs.Result.{IfErr, IfOk}
 use Rattle.edit_model.specs.declared.field.Field.{Field}
 use Rattle.record_text.proofs.TableLaws.{same_table, same_table_fault, table_excludes_fault}
-use Rattle.reason_lines.specs.ReasonFiles.{AreReasons, IsReasonFault, change_in, left_out_in, lines_fault}
-use Rattle.reason_lines.specs.ReasonLines.{entry_of}
+use Rattle.reason_lines.specs.ReasonFiles.{AreReasons, IsReasonFault, changes_in, left_outs_in, lines_fault}
 use Rattle.reason_lines.specs.declared.entry.Change.{Change}
 use Rattle.reason_lines.specs.declared.entry.LeftOut.{LeftOut}
 use Rattle.reason_lines.specs.declared.fault.ReasonFault.{ReasonFault}
@@ -17,10 +15,10 @@ module _ (fields : List Field) (rows : ℕ) (bytes : List ℕ) where
   pub same_reasons : (a b : Reasons) → AreReasons fields rows bytes a → AreReasons fields rows bytes b → a ≡ b
   same_reasons a b is other =
       let table = same_table bytes is.table other.table is.given other.given in
-      let changes : a.changes ≡ b.changes = is.changes ∙ ap (λ (t : _). flat_map (λ (texts : List (List ℕ)). change_in (entry_of fields rows texts)) t.rows)
+      let changes : a.changes ≡ b.changes = is.changes ∙ ap (λ (t : _). changes_in fields rows t.rows)
       table ∙ sym other.changes in
       let left_out : a.left_out ≡ b.left_out = is.left_out ∙ ap
-      (λ (t : _). flat_map (λ (texts : List (List ℕ)). left_out_in (entry_of fields rows texts)) t.rows) table ∙ sym other.left_out in
+      (λ (t : _). left_outs_in fields rows t.rows) table ∙ sym other.left_out in
       ap (λ (cs : List Change). record { changes = cs; left_out = a.left_out }) changes
       ∙ ap (λ (ls : List LeftOut). record { changes = b.changes; left_out = ls }) left_out
 

@@ -12,7 +12,7 @@ use Rattle.record_text.specs.declared.table_fault.TableFault.{TableFault}
 use Rattle.record_text.specs.declared.table_fault.TableFault.TheVariants as table_fault
 use Rattle.record_text.proofs.TableLaws.{table_rows_as_long_as_header}
 use Rattle.reason_lines.specs.inner.TableFaults.{told_of_table}
-use Rattle.reason_lines.specs.ReasonFiles.{AreReasons, IsReasonFault, change_in, first_fault, left_out_in, lines_fault, reasons_header, said}
+use Rattle.reason_lines.specs.ReasonFiles.{AreReasons, IsReasonFault, changes_in, first_fault, left_outs_in, lines_fault, reasons_header, said}
 use Rattle.reason_lines.specs.ReasonLines.{entry_of, line_fault}
 use Rattle.reason_lines.specs.declared.entry.Entry.{Entry}
 use Rattle.reason_lines.specs.declared.fault.LineFault.{LineFault}
@@ -95,8 +95,8 @@ module _ (fields : List Field) (rows : ℕ) (bytes : List ℕ) where
 
     -- so what is said of its lines is said of the file
     pub exact_by_lines : (r : Result Reasons ReasonFault) → IfOk r (λ reasons. lines_fault fields rows 0 None table.rows ≡ None)
-        → IfOk r (λ reasons. reasons.changes ≡ flat_map (λ (texts : List (List ℕ)). change_in (entry_of fields rows texts)) table.rows)
-        → IfOk r (λ reasons. reasons.left_out ≡ flat_map (λ (texts : List (List ℕ)). left_out_in (entry_of fields rows texts)) table.rows)
+        → IfOk r (λ reasons. reasons.changes ≡ changes_in fields rows table.rows)
+        → IfOk r (λ reasons. reasons.left_out ≡ left_outs_in fields rows table.rows)
         → IfOk r (λ reasons. AreReasons fields rows bytes reasons)
     exact_by_lines (Ok reasons) faultless changes left_out = record
         { table = table; given = given; header = header; faultless = faultless; changes = changes; left_out = left_out }

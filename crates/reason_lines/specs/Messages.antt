@@ -20,5 +20,6 @@ line_fault_text line.Order = codes "does not stand in the order of the records a
 abbrev pub fault_text : ReasonFault → List ℕ
 fault_text (Table fault) = codes "the reasons file was not read: " ++ table_fault_text fault
 fault_text Header = codes "the header of the reasons file is not record,cause,field,before,after,donor,detail"
-fault_text (Line line fault) = codes "line " ++ (decimal (line + 1) ++ (codes " behind the header of the reasons file " ++ line_fault_text fault))
+fault_text (Line line fault) =
+    codes "line " ++ (decimal (line + 1) ++ (codes " behind the header of the reasons file " ++ line_fault_text fault))
 fault_text OutOfMemory = codes "out of memory"

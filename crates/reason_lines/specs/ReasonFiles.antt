@@ -25,6 +25,13 @@ abbrev pub left_out_in : Result Entry LineFault → List LeftOut
 left_out_in (Ok (entry.LeftOut left_out)) = left_out ∷ []
 left_out_in _ = []
 
+-- the changes, the records left out, that lines say of so many records
+abbrev pub changes_in : List Field → ℕ → List (List (List ℕ)) → List Change
+changes_in fields rows lines = flat_map (λ texts. change_in (entry_of fields rows texts)) lines
+
+abbrev pub left_outs_in : List Field → ℕ → List (List (List ℕ)) → List LeftOut
+left_outs_in fields rows lines = flat_map (λ texts. left_out_in (entry_of fields rows texts)) lines
+
 -- what a line says, where nothing is wrong with it
 abbrev pub said : Result Entry LineFault → Option Entry
 said (Ok entry) = Some entry
@@ -47,8 +54,8 @@ pub record AreReasons (fields : List Field) (rows : ℕ) (bytes : List ℕ) (rea
   pub given : IsTable bytes table
   pub header : table.header ≡ reasons_header
   pub faultless : lines_fault fields rows 0 None table.rows ≡ None
-  pub changes : reasons.changes ≡ flat_map (λ texts. change_in (entry_of fields rows texts)) table.rows
-  pub left_out : reasons.left_out ≡ flat_map (λ texts. left_out_in (entry_of fields rows texts)) table.rows
+  pub changes : reasons.changes ≡ changes_in fields rows table.rows
+  pub left_out : reasons.left_out ≡ left_outs_in fields rows table.rows
 
 -- the first of what is wrong with the bytes: they are no table, its header is another, a line is wrong
 abbrev pub IsReasonFault : List Field → ℕ → List ℕ → ReasonFault → Type 0

@@ -1,9 +1,10 @@
 //! The lines of a reasons file.
-ghost use Rattle.std.specs.Prelude.{◌≡◌, ◌≢◌, ◌≤◌, ◌^◌, ◌-◌, ◌++◌, All, IfErr, IfOk, None, OnOk, Ok, Some, flat_map, length};
+ghost use Rattle.std.specs.Prelude.{◌≡◌, ◌≢◌, ◌≤◌, ◌^◌, ◌-◌, ◌++◌, All, IfErr, IfOk, None, OnOk, Ok, Some, length};
+ghost use Rattle.std.specs.List.Sorted.{IsNonDecreasingBy};
 ghost use Rattle.record_text.specs.Tables.{most_table_rows};
-ghost use Rattle.reason_lines.specs.ReasonFiles.{AreReasons, IsReasonFault, change_in, left_out_in, lines_fault};
+ghost use Rattle.reason_lines.specs.ReasonFiles.{AreReasons, IsReasonFault, change_in, changes_in, left_out_in, left_outs_in, lines_fault};
 ghost use Rattle.reason_lines.specs.ReasonLaws.{AreWithin};
-ghost use Rattle.reason_lines.specs.ReasonLines.{entry_of};
+ghost use Rattle.reason_lines.specs.declared.entry.Change.{Change as AnyChange};
 ghost use Rattle.reason_lines.specs.declared.reading.Reasons.{Reasons as Other};
 
 use crate::entry::{Change, Entry, LeftOut};
@@ -34,6 +35,7 @@ pub fn read_reasons(
 ) -> Result<Reasons, ReasonFault>
     ensures exact { IfOk result (λ reasons. AreReasons survey.now.fields rows bytes.now reasons) }
     ensures within { IfOk result (λ reasons. AreWithin survey.now.fields rows reasons) }
+    ensures rising { IfOk result (λ reasons. IsNonDecreasingBy (λ (c : AnyChange). c.record) reasons.changes) }
     ensures fault { IfErr result (λ e. e ≢ ReasonFault.OutOfMemory → IsReasonFault survey.now.fields rows bytes.now e) }
     ensures only { IfOk result (λ reasons. (other : Other) → AreReasons survey.now.fields rows bytes.now other → other ≡ reasons) }
     ensures first { IfErr result (λ e. e ≢ ReasonFault.OutOfMemory
@@ -71,9 +73,8 @@ fn read_lines(
     requires seven { All (λ texts. length texts ≡ 7) lines.now }
     requires few { length lines.now ≤ most_table_rows }
     ensures faultless { IfOk result (λ reasons. lines_fault survey.now.fields rows 0 None lines.now ≡ None) }
-    ensures changes { IfOk result (λ reasons. reasons.changes ≡ flat_map (λ texts. change_in (entry_of survey.now.fields rows texts)) lines.now) }
-    ensures left_out { IfOk result (λ reasons.
-        reasons.left_out ≡ flat_map (λ texts. left_out_in (entry_of survey.now.fields rows texts)) lines.now) }
+    ensures changes { IfOk result (λ reasons. reasons.changes ≡ changes_in survey.now.fields rows lines.now) }
+    ensures left_out { IfOk result (λ reasons. reasons.left_out ≡ left_outs_in survey.now.fields rows lines.now) }
     ensures fault { IfErr result (λ e. e ≢ ReasonFault.OutOfMemory → lines_fault survey.now.fields rows 0 None lines.now ≡ Some e) }
 {
     let mut changes = Vec::new(alloc);
