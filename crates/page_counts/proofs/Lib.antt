@@ -1,4 +1,6 @@
 pub mod AmountLaws
+pub mod BinLaws
+pub mod GivingLaws
 pub mod MarkLaws
 pub mod NumberLaws
 pub mod RuleLaws

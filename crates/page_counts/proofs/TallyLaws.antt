@@ -1,4 +1,5 @@
-use Rattle.std.proofs.Common.{◌≡◌, ◌∙◌, ◌==◌, cond, ℕ, ◌<◌, ◌≤◌, Bool, true, List, [], ◌∷◌, length, get_or, map, Any, Contains, Option, Some, None, IfSome, count_by, unwrap_or, refl, sym, ap, subst, arith}
+use Rattle.std.proofs.Common.{◌≡◌, ◌∙◌, ◌==◌, cond, ℕ, ◌<◌, ◌≤◌, Bool, true, List, [], ◌∷◌, length, get_or}
+use Rattle.std.proofs.Common.{map, Any, Contains, Option, Some, None, IfSome, count_by, unwrap_or, refl, sym, ap, subst, arith}
 use Rattle.std.specs.BTreeMap.{BTreeMap, IsOrdered, get, keys}
 use Rattle.std.specs.List.Sorted.{IsStrictlyIncreasing}
 use Rattle.std.specs.Ordering.{eq_by_cmp, nat_cmp}

@@ -5,21 +5,13 @@ use Rattle.reason_lines.specs.declared.entry.Change.{Change}
 use Rattle.reason_lines.specs.declared.entry.How.{How}
 use Rattle.reason_lines.specs.declared.entry.How.TheVariants.{Default, Donor, Nearest}
 
--- the donor's value
-abbrev pub is_donor : How → Bool
-is_donor Donor = true
-is_donor _ = false
+-- whether two ways are one
+abbrev pub is_how : How → How → Bool
+is_how Donor Donor = true
+is_how Nearest Nearest = true
+is_how Default Default = true
+is_how _ _ = false
 
--- the nearest value that the rules allow
-abbrev pub is_nearest : How → Bool
-is_nearest Nearest = true
-is_nearest _ = false
-
--- 0 or the first code
-abbrev pub is_default : How → Bool
-is_default Default = true
-is_default _ = false
-
--- how many changes of a field were made in such a way
-abbrev pub change_count : (How → Bool) → ℕ → List Change → ℕ
-change_count test field changes = count_by (λ (c : Change). (c.field == field) && test c.how) changes
+-- how many changes of a field were made in this way
+abbrev pub change_count : How → ℕ → List Change → ℕ
+change_count how field changes = count_by (λ (c : Change). (c.field == field) && is_how how c.how) changes

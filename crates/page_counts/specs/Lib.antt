@@ -1,7 +1,11 @@
 pub mod Amounts
+pub mod Bins
 pub mod Columns
+pub mod Donors
 pub mod Fields
 pub mod Numbers
 pub mod Records
 pub mod Rules
+pub mod Thousandths
 pub mod Weights
+pub mod inner

@@ -32,31 +32,15 @@ released_rows rows left_out = filter (λ number. not (is_left_out left_out numbe
 
 -- ---- why records were left out
 
--- for want of budget
-abbrev pub is_budget : Cause → Bool
-is_budget Budget = true
-is_budget _ = false
+-- whether two causes are one
+abbrev pub is_cause : Cause → Cause → Bool
+is_cause Budget Budget = true
+is_cause Overflow Overflow = true
+is_cause Contradictory Contradictory = true
+is_cause NoLast NoLast = true
+is_cause NoCorrection NoCorrection = true
+is_cause _ _ = false
 
--- since a number left the range
-abbrev pub is_overflow : Cause → Bool
-is_overflow Overflow = true
-is_overflow _ = false
-
--- since no values meet the rules
-abbrev pub is_contradictory : Cause → Bool
-is_contradictory Contradictory = true
-is_contradictory _ = false
-
--- since it has no values of the last period
-abbrev pub is_no_last : Cause → Bool
-is_no_last NoLast = true
-is_no_last _ = false
-
--- since no correction leaves the values of the last period alone
-abbrev pub is_no_correction : Cause → Bool
-is_no_correction NoCorrection = true
-is_no_correction _ = false
-
--- how many records were left out by such a cause
-abbrev pub left_out_count : (Cause → Bool) → List LeftOut → ℕ
-left_out_count test left_out = count_by (λ (l : LeftOut). test l.cause) left_out
+-- how many records were left out by this cause
+abbrev pub left_out_count : Cause → List LeftOut → ℕ
+left_out_count cause left_out = count_by (λ (l : LeftOut). is_cause cause l.cause) left_out

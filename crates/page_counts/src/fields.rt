@@ -1,6 +1,6 @@
 //! How often a field was changed.
 ghost use Rattle.std.specs.Prelude.{◌≡◌};
-ghost use Rattle.page_counts.specs.Fields.{change_count, is_default, is_donor, is_nearest};
+ghost use Rattle.page_counts.specs.Fields.{change_count, is_how};
 
 use reason_lines::{Change, How};
 
@@ -14,43 +14,34 @@ pub struct FieldCount {
 
 /// How many changes of the field there are, by how its new value was found. No memory.
 pub fn field_count(changes: &[Change], field: u32) -> FieldCount
-    ensures donor { result.donor ≡ change_count is_donor field changes.now }
-    ensures nearest { result.nearest ≡ change_count is_nearest field changes.now }
-    ensures default { result.default ≡ change_count is_default field changes.now }
+    ensures donor { result.donor ≡ change_count How.Donor field changes.now }
+    ensures nearest { result.nearest ≡ change_count How.Nearest field changes.now }
+    ensures default { result.default ≡ change_count How.Default field changes.now }
 {
     FieldCount {
-        donor: donor_count(changes, field),
-        nearest: nearest_count(changes, field),
-        default: default_count(changes, field),
+        donor: change_count(How::Donor, field, changes),
+        nearest: change_count(How::Nearest, field, changes),
+        default: change_count(How::Default, field, changes),
     }
 }
 
-// How many changes of the field took the donor's value.
-fn donor_count(changes: &[Change], field: u32) -> usize
-    ensures { result ≡ change_count is_donor field changes.now }
+// How many changes of the field were made in this way.
+fn change_count(how: How, field: u32, changes: &[Change]) -> usize
+    ensures { result ≡ change_count how field changes.now }
 {
     changes
         .iter()
-        .filter(|change| change.field == field && matches!(change.how, How::Donor))
+        .filter(|change| change.field == field && is_how(how, change.how))
         .count()
 }
 
-// How many changes of the field took the nearest value.
-fn nearest_count(changes: &[Change], field: u32) -> usize
-    ensures { result ≡ change_count is_nearest field changes.now }
+// Whether two ways are one.
+fn is_how(how: How, other: How) -> bool
+    ensures { result ≡ is_how how other }
 {
-    changes
-        .iter()
-        .filter(|change| change.field == field && matches!(change.how, How::Nearest))
-        .count()
-}
-
-// How many changes of the field took 0 or the first code.
-fn default_count(changes: &[Change], field: u32) -> usize
-    ensures { result ≡ change_count is_default field changes.now }
-{
-    changes
-        .iter()
-        .filter(|change| change.field == field && matches!(change.how, How::Default))
-        .count()
+    match how {
+        How::Donor => matches!(other, How::Donor),
+        How::Nearest => matches!(other, How::Nearest),
+        How::Default => matches!(other, How::Default),
+    }
 }

@@ -1,6 +1,6 @@
 //! How many records were clean, changed, and left out.
 ghost use Rattle.std.specs.Prelude.{◌≡◌, Bool, IfOk, count_by, not};
-ghost use Rattle.page_counts.specs.Records.{changed_count, clean_count, is_budget, is_contradictory, is_no_correction, is_no_last, is_overflow, left_out_count};
+ghost use Rattle.page_counts.specs.Records.{changed_count, clean_count, is_cause, left_out_count};
 
 use crate::marks::{changed_marks, unclean_marks};
 use foundation::OutOfMemory;
@@ -29,20 +29,20 @@ pub fn record_counts(
 ) -> Result<RecordCounts, OutOfMemory>
     ensures clean { IfOk result (λ counts. counts.clean ≡ clean_count rows changes.now left_out.now) }
     ensures changed { IfOk result (λ counts. counts.changed ≡ changed_count rows changes.now) }
-    ensures budget { IfOk result (λ counts. counts.budget ≡ left_out_count is_budget left_out.now) }
-    ensures overflow { IfOk result (λ counts. counts.overflow ≡ left_out_count is_overflow left_out.now) }
-    ensures contradictory { IfOk result (λ counts. counts.contradictory ≡ left_out_count is_contradictory left_out.now) }
-    ensures no_last { IfOk result (λ counts. counts.no_last ≡ left_out_count is_no_last left_out.now) }
-    ensures no_correction { IfOk result (λ counts. counts.no_correction ≡ left_out_count is_no_correction left_out.now) }
+    ensures budget { IfOk result (λ counts. counts.budget ≡ left_out_count Cause.Budget left_out.now) }
+    ensures overflow { IfOk result (λ counts. counts.overflow ≡ left_out_count Cause.Overflow left_out.now) }
+    ensures contradictory { IfOk result (λ counts. counts.contradictory ≡ left_out_count Cause.Contradictory left_out.now) }
+    ensures no_last { IfOk result (λ counts. counts.no_last ≡ left_out_count Cause.NoLast left_out.now) }
+    ensures no_correction { IfOk result (λ counts. counts.no_correction ≡ left_out_count Cause.NoCorrection left_out.now) }
 {
     Ok(RecordCounts {
         clean: clean_count(alloc, rows, changes, left_out)?,
         changed: changed_count(alloc, rows, changes)?,
-        budget: budget_count(left_out),
-        overflow: overflow_count(left_out),
-        contradictory: contradictory_count(left_out),
-        no_last: no_last_count(left_out),
-        no_correction: no_correction_count(left_out),
+        budget: left_out_count(Cause::Budget, left_out),
+        overflow: left_out_count(Cause::Overflow, left_out),
+        contradictory: left_out_count(Cause::Contradictory, left_out),
+        no_last: left_out_count(Cause::NoLast, left_out),
+        no_correction: left_out_count(Cause::NoCorrection, left_out),
     })
 }
 
@@ -81,52 +81,25 @@ fn unmarked(marks: &[bool]) -> usize
     marks.iter().filter(|mark| !**mark).count()
 }
 
-// How many records were left out for want of budget.
-fn budget_count(left_out: &[LeftOut]) -> usize
-    ensures { result ≡ left_out_count is_budget left_out.now }
+// How many records were left out by this cause.
+fn left_out_count(cause: Cause, left_out: &[LeftOut]) -> usize
+    ensures { result ≡ left_out_count cause left_out.now }
 {
     left_out
         .iter()
-        .filter(|left| matches!(left.cause, Cause::Budget))
+        .filter(|left| is_cause(cause, left.cause))
         .count()
 }
 
-// How many records were left out since a number left the range.
-fn overflow_count(left_out: &[LeftOut]) -> usize
-    ensures { result ≡ left_out_count is_overflow left_out.now }
+// Whether two causes are one.
+fn is_cause(cause: Cause, other: Cause) -> bool
+    ensures { result ≡ is_cause cause other }
 {
-    left_out
-        .iter()
-        .filter(|left| matches!(left.cause, Cause::Overflow))
-        .count()
-}
-
-// How many records were left out since no values meet the rules.
-fn contradictory_count(left_out: &[LeftOut]) -> usize
-    ensures { result ≡ left_out_count is_contradictory left_out.now }
-{
-    left_out
-        .iter()
-        .filter(|left| matches!(left.cause, Cause::Contradictory))
-        .count()
-}
-
-// How many records were left out since they have no values of the last period.
-fn no_last_count(left_out: &[LeftOut]) -> usize
-    ensures { result ≡ left_out_count is_no_last left_out.now }
-{
-    left_out
-        .iter()
-        .filter(|left| matches!(left.cause, Cause::NoLast))
-        .count()
-}
-
-// How many records were left out since no correction leaves the values of the last period alone.
-fn no_correction_count(left_out: &[LeftOut]) -> usize
-    ensures { result ≡ left_out_count is_no_correction left_out.now }
-{
-    left_out
-        .iter()
-        .filter(|left| matches!(left.cause, Cause::NoCorrection))
-        .count()
+    match cause {
+        Cause::Budget => matches!(other, Cause::Budget),
+        Cause::Overflow => matches!(other, Cause::Overflow),
+        Cause::Contradictory => matches!(other, Cause::Contradictory),
+        Cause::NoLast => matches!(other, Cause::NoLast),
+        Cause::NoCorrection => matches!(other, Cause::NoCorrection),
+    }
 }

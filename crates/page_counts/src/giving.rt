@@ -1,0 +1,102 @@
+//! How often donors gave.
+ghost use Rattle.std.specs.Prelude.{◌≡◌, ◌∷◌, ◌++◌, ◌≤◌, ◌^◌, [], All, IfOk, OnOk, if◌then◌else◌, nat_lt};
+ghost use Rattle.std.specs.List.Sorted.{IsNonDecreasingBy};
+ghost use Rattle.reason_lines.specs.declared.entry.Change.{Change as AnyChange};
+ghost use Rattle.page_counts.specs.Donors.{donors_of, is_from};
+ghost use Rattle.page_counts.specs.declared.giving.Gifts.{Gifts as AnyGifts};
+ghost use Rattle.page_counts.specs.inner.Gifts.{AreAllGifts, noted, with_gift};
+
+use crate::amounts::Amount;
+use foundation::OutOfMemory;
+use reason_lines::Change;
+use std::alloc::Global;
+
+// To how many records a donor gave so far, and the last of them.
+#[derive(Clone, Copy)]
+struct Gifts {
+    count: u64,
+    last: Option<u32>,
+}
+
+/// Those of `rows` records that gave values to others, by rising number, with the number of records to which each gave. The changes
+/// stand in the order of their records.
+pub fn donors(alloc: Global, rows: u32, changes: &[Change]) -> Result<Vec<Amount>, OutOfMemory>
+    requires { IsNonDecreasingBy (λ (c : AnyChange). c.record) changes.now }
+    ensures { IfOk result (λ donors. donors.items ≡ donors_of rows changes.now) }
+{
+    let gifts = gifts_of(alloc, rows, changes)?;
+    let mut donors = Vec::new(alloc);
+    for number in 0..rows {
+        keep(&mut donors, number, gifts[number as usize].count)?;
+    }
+    Ok(donors)
+}
+
+// Appends a donor, if it gave to some record.
+fn keep(donors: &mut Vec<Amount>, number: u32, count: u64) -> Result<(), OutOfMemory>
+    ensures { OnOk result (donors.new.items ≡ donors.old.items
+        ++ (if nat_lt 0 count then record { number = number; size = count } ∷ [] else [])) }
+{
+    if count > 0 {
+        donors.push(Amount {
+            number,
+            size: u128::from(count),
+        })?;
+    }
+    Ok(())
+}
+
+// For each of the records, to how many it gave, and the last of these.
+fn gifts_of(alloc: Global, rows: u32, changes: &[Change]) -> Result<Vec<Gifts>, OutOfMemory>
+    requires { IsNonDecreasingBy (λ (c : AnyChange). c.record) changes.now }
+    ensures { IfOk result (λ gifts. AreAllGifts rows changes.now gifts.items) }
+{
+    let none = Gifts {
+        count: 0,
+        last: None,
+    };
+    let mut gifts = vec![in alloc; none; rows as usize]?;
+    for change in changes {
+        if change.record < rows {
+            note(&mut gifts, change);
+        }
+    }
+    Ok(gifts)
+}
+
+// Notes what a change was given by its donor, where this is one of the records.
+fn note(gifts: &mut Vec<Gifts>, change: &Change)
+    requires { All (λ (g : AnyGifts). g.count ≤ 2 ^ 32) gifts.old.items }
+    ensures { gifts.new.items ≡ noted gifts.old.items change.now }
+{
+    if let Some(donor) = change.donor {
+        let place = donor as usize;
+        if place < gifts.len() {
+            gifts[place] = with_gift(gifts[place], change.record);
+        }
+    }
+}
+
+// A donor's gifts with one to this record; a record that is the last already counts once.
+fn with_gift(gifts: Gifts, number: u32) -> Gifts
+    requires { gifts.count ≤ 2 ^ 32 }
+    ensures { result ≡ with_gift gifts number }
+{
+    if is_last(gifts, number) {
+        return gifts;
+    }
+    Gifts {
+        count: gifts.count + 1,
+        last: Some(number),
+    }
+}
+
+// Whether this record is the last to which a donor gave.
+fn is_last(gifts: Gifts, number: u32) -> bool
+    ensures { result ≡ is_from number gifts.last }
+{
+    match gifts.last {
+        Some(last) => last == number,
+        None => false,
+    }
+}
