@@ -1,0 +1,166 @@
+//! Upright bars side by side, over the same bins.
+ghost use Rattle.std.specs.Prelude.{◌≡◌, [], map, OnOk};
+ghost use Rattle.page_markup.specs.OpenPages.{added};
+ghost use Rattle.page_markup.specs.Trees.Content.{Element, Nothing};
+ghost use Rattle.page_markup.specs.declared.tag.Tag.TheVariants.{Group};
+ghost use Rattle.page_figures.specs.Drawings.{bin_content, bin_drawing, bins_content, layout_of, level_content, next_wait};
+ghost use Rattle.page_figures.specs.Drawings.{parts_of, tick_content, uprights};
+ghost use Rattle.page_figures.specs.declared.colour.Colour.TheVariants.{First};
+
+use crate::colour::Colour;
+use crate::drawing::{Place, open_drawing, push_line, push_rectangle};
+use crate::elements::push_words;
+use crate::figure::{Bar, Figure};
+use crate::label::{push_label, push_number_at};
+use crate::scale::{longest_label, most_parts, scaled};
+use foundation::OutOfMemory;
+use page_markup::{PageWriter, Tag};
+use std::alloc::Global;
+
+// Bars stand on 264, and the greatest has 240 units. Bins begin at 88, and take 640 units together. A letter takes 14 units.
+const GROUND: u64 = 264;
+
+const GREATEST: u64 = 240;
+
+const LETTERS: usize = 12;
+
+/// Adds the drawing of the bins.
+pub(crate) fn push_bin_drawing(
+    alloc: Global,
+    page: &mut PageWriter,
+    figure: &Figure,
+    bins: &[Bar],
+    greatest: u64,
+) -> Result<(), OutOfMemory>
+    ensures { OnOk result (page.new ≡ added (bin_drawing figure.now greatest (map parts_of bins.now)) page.old) }
+{
+    open_drawing(alloc, page, figure, b"0 0 784 296")?;
+    push_level(page, b"grid", greatest, GROUND - GREATEST)?;
+    push_bins(page, bins, Layout::of(bins, greatest))?;
+    push_level(page, b"axis", 0, GROUND)?;
+    page.close()
+}
+
+// Adds a line for a number, with the number to its left.
+fn push_level(page: &mut PageWriter, class: &[u8], number: u64, y: u64) -> Result<(), OutOfMemory>
+    ensures { OnOk result (page.new ≡ added (level_content class.now number y Nothing) page.old) }
+{
+    page.open(Tag::Group, &[])?;
+    push_line(page, class, 88, y, 784, y)?;
+    push_number_at(page, 80, y, number)?;
+    page.close()
+}
+
+/// What all bins of a drawing share.
+#[derive(Clone, Copy)]
+pub(crate) struct Layout {
+    /// The number to whose scale they are drawn.
+    pub greatest: u64,
+    /// The width of a bin.
+    pub pitch: u64,
+    /// The middle of its bars.
+    pub middle: u64,
+    /// The width of a bar.
+    pub width: u64,
+    /// How many bins a label takes.
+    pub step: u64,
+}
+
+impl Layout {
+    // The layout of these bins. No memory.
+    fn of(bins: &[Bar], greatest: u64) -> Layout
+        ensures { result ≡ layout_of greatest (map parts_of bins.now) }
+    {
+        let pitch = (640 / (bins.len() as u64).max(1)).clamp(1, 80);
+        let letters = longest_label(bins).min(LETTERS) as u64;
+        Layout {
+            greatest,
+            pitch,
+            middle: pitch * 2 / 5,
+            width: (pitch * 4 / 5 / (most_parts(bins) as u64).max(1)).max(1),
+            step: 1 + (letters * 14 + 9) / pitch,
+        }
+    }
+}
+
+// Adds the bins, from the left.
+fn push_bins(page: &mut PageWriter, bins: &[Bar], layout: Layout) -> Result<(), OutOfMemory>
+    ensures { OnOk result (page.new ≡ added
+        (Element Group [] (bins_content layout 88 0 (map parts_of bins.now)) Nothing) page.old) }
+{
+    page.open(Tag::Group, &[])?;
+    let mut x = 88_u64;
+    let mut wait = 0;
+    for bin in bins {
+        push_bin(page, *bin, layout, x, wait)?;
+        x = x.saturating_add(layout.pitch);
+        wait = next_wait(wait, layout.step);
+    }
+    page.close()
+}
+
+// How many bins come before the next that has a label, one bin on. No memory.
+fn next_wait(wait: u64, step: u64) -> u64
+    ensures { result ≡ next_wait step wait }
+{
+    if wait == 0 {
+        step.saturating_sub(1)
+    } else {
+        wait - 1
+    }
+}
+
+// Adds a bin with its label. A mouse that rests on it shows the whole label.
+fn push_bin(
+    page: &mut PageWriter,
+    bin: Bar,
+    layout: Layout,
+    x: u64,
+    wait: u64,
+) -> Result<(), OutOfMemory>
+    ensures { OnOk result (page.new ≡ added (bin_content layout x wait (parts_of bin.entry) Nothing) page.old) }
+{
+    page.open(Tag::Group, &[])?;
+    push_words(page, Tag::Title, &[], bin.label)?;
+    push_uprights(page, bin.parts, layout, x)?;
+    push_tick(page, bin.label, x.saturating_add(layout.middle), wait)?;
+    page.close()
+}
+
+// Adds the label of a bin, where none is to wait for.
+fn push_tick(page: &mut PageWriter, label: &[u8], x: u64, wait: u64) -> Result<(), OutOfMemory>
+    ensures { OnOk result (page.new ≡ added (tick_content label.now x wait) page.old) }
+{
+    match wait {
+        0 => push_label(page, x, 288, b"middle", label, LETTERS),
+        _ => Ok(()),
+    }
+}
+
+// Adds the bars of a bin, from the left.
+fn push_uprights(
+    page: &mut PageWriter,
+    parts: &[u64],
+    layout: Layout,
+    start: u64,
+) -> Result<(), OutOfMemory>
+    ensures { OnOk result (page.new ≡ added
+        (Element Group [] (uprights layout.greatest layout.width start First parts.now) Nothing) page.old) }
+{
+    page.open(Tag::Group, &[])?;
+    let mut x = start;
+    let mut colour = Colour::First;
+    for part in parts {
+        let height = scaled(*part, layout.greatest, GREATEST);
+        let place = Place {
+            x,
+            y: GROUND.saturating_sub(height),
+            width: layout.width,
+            height,
+        };
+        push_rectangle(page, colour, place)?;
+        x = x.saturating_add(layout.width);
+        colour = colour.next();
+    }
+    page.close()
+}
