@@ -1,0 +1,62 @@
+//! The figures of a release.
+use foundation::Sequence;
+use fraction128::Fraction;
+use page_counts::{Amount, Bins, CodeCounts, FieldCount, RecordCounts, RuleCount, SizeCount};
+
+/// All that the page of a release says, counted.
+#[derive(Debug, Drop)]
+pub struct ReleaseFigures {
+    /// How many records were clean, changed, and left out by each cause.
+    pub records: RecordCounts,
+    /// For each field, in declared order, how often it was changed.
+    pub fields: Sequence<FieldCount>,
+    /// The fields with the number of their changes, that with the most first.
+    pub fields_by_changes: Sequence<Amount>,
+    /// For each rule, in declared order, how many records broke it as they came, and at how many it could not be tried.
+    pub rules: Sequence<RuleCount>,
+    /// The rules with the number of records that broke them, that which most broke first.
+    pub rules_by_breaks: Sequence<Amount>,
+    /// How many changed records have each weight, by rising weight.
+    pub weights: Sequence<SizeCount>,
+    /// The twenty records whose changes weigh most, the heaviest first.
+    pub greatest: Sequence<Amount>,
+    /// How many donors gave to so many records, by rising number of records.
+    pub gifts: Sequence<SizeCount>,
+    /// For each field, in declared order, its values in the released records, before and after.
+    pub values: Sequence<FieldValues>,
+}
+
+/// The values of a field before and after.
+#[derive(Debug, Drop)]
+pub enum FieldValues {
+    /// Those of a numerical field.
+    Numbers {
+        numbers: NumberValues,
+    },
+    /// Those of a categorical field.
+    Codes {
+        before: CodeCounts,
+        after: CodeCounts,
+    },
+}
+
+/// A numerical field's values before and after, over the same bins; no bins where there is no number.
+#[derive(Debug, Drop)]
+pub struct NumberValues {
+    pub bins: Option<Bins>,
+    pub before: NumberFigures,
+    pub after: NumberFigures,
+}
+
+/// What is counted of a numerical field's values.
+#[derive(Debug, Drop)]
+pub struct NumberFigures {
+    /// How many values each bin has.
+    pub counts: Sequence<usize>,
+    /// How many numbers are in no bin.
+    pub beyond: usize,
+    /// How many values are none.
+    pub none: usize,
+    /// The sum of the numbers, None where a number left the range.
+    pub sum: Option<Fraction>,
+}

@@ -1,0 +1,15 @@
+//! All that the page of a release says, counted from its files. What each figure is is stated in `specs/Figures.antt`. Begin with
+//! [`figures_of`] and [`ReleaseFigures`].
+#![tactic(auto)]
+
+mod counting;
+mod fields;
+mod figures;
+mod numbered;
+mod range;
+mod ranges;
+mod rules;
+mod values;
+
+pub use counting::figures_of;
+pub use figures::{FieldValues, NumberFigures, NumberValues, ReleaseFigures};
