@@ -1,0 +1,63 @@
+-- The records whose changes weigh most, change by change.
+use Rattle.std.specs.Prelude.{◌==◌, ◌+◌, ◌-◌, ◌^◌, ℕ, List, [], ◌∷◌, if◌then◌else◌}
+use Rattle.std.specs.Prelude.{codes, flat_map, length, min, position, slice_index_or}
+use Rattle.std.specs.Option.{option_map_or}
+use Rattle.edit_language.specs.Printing.{name_at}
+use Rattle.page_markup.specs.Trees.{Content}
+use Rattle.page_counts.specs.Records.{released_rows}
+use Rattle.page_counts.specs.declared.amounts.Amount.{Amount}
+use Rattle.page_figures.specs.Tables.{Entry, table_content}
+use Rattle.page_figures.specs.Tables.Entry.{Number, Text}
+use Rattle.page_sections.specs.Releases.{ReleaseParts}
+use Rattle.page_sections.specs.Sections.{section_content}
+use Rattle.reason_lines.specs.declared.entry.Change.{Change}
+use Rattle.record_text.specs.Sheets.{SheetParts, text_at}
+
+-- the bytes of a field in the row of this number
+abbrev pub text_in : SheetParts → ℕ → ℕ → List ℕ
+text_in sheet f number = text_at sheet.columns (slice_index_or sheet.row_texts number []) f
+
+-- the records that were released, in order: row k of the released file is the k-th of them
+abbrev pub numbers_of : ReleaseParts → List ℕ
+numbers_of release = released_rows (length release.records.rows) release.reasons.left_out
+
+-- the bytes of a field in the released row of the record of this number, none where it is not among the records that were released
+abbrev pub released_text : SheetParts → List ℕ → ℕ → ℕ → List ℕ
+released_text released records f number = option_map_or (text_in released f) (position (λ (n : ℕ). n == number) records) []
+
+-- a size, or the greatest number that can be shown
+abbrev pub shown : ℕ → ℕ
+shown size = min size (2 ^ 64 - 1)
+
+-- the row of a change: the record from 1, what its changes weigh, the field, and its bytes before and after
+abbrev pub change_row : ReleaseParts → Amount → Change → List Entry
+change_row release amount change =
+    Number (amount.number + 1) ∷ Number (shown amount.size) ∷ Text (name_at release.survey.fields change.field)
+    ∷ Text (text_in release.records change.field amount.number)
+    ∷ Text (released_text release.released (numbers_of release) change.field amount.number) ∷ []
+
+-- the row of a change, where it is one of this record
+abbrev pub rows_of_change : ReleaseParts → Amount → Change → List (List Entry)
+rows_of_change release amount change = if change.record == amount.number then change_row release amount change ∷ [] else []
+
+-- a row for each change of a record
+abbrev pub record_rows : ReleaseParts → Amount → List (List Entry)
+record_rows release amount = flat_map (rows_of_change release amount) release.reasons.changes
+
+-- the same of some records, in their order
+abbrev pub greatest_rows : ReleaseParts → List Amount → List (List Entry)
+greatest_rows release greatest = flat_map (record_rows release) greatest
+
+-- the names of the columns
+unfoldable pub greatest_columns : List (List ℕ)
+greatest_columns = codes "record" ∷ codes "weight" ∷ codes "field" ∷ codes "before" ∷ codes "after" ∷ []
+
+-- the note
+unfoldable pub greatest_note : List ℕ
+greatest_note = codes "A row for each changed field, with the bytes that were read and those that were released."
+
+-- the section
+abbrev pub greatest_section : ReleaseParts → List Amount → Content
+greatest_section release greatest =
+    section_content (codes "Greatest changes") greatest_note
+    (table_content (codes "The twenty records whose changes weigh most") greatest_columns (greatest_rows release greatest))

@@ -1,0 +1,10 @@
+pub mod DonorSection
+pub mod FieldSection
+pub mod GreatestSection
+pub mod RecordSection
+pub mod ReleasePages
+pub mod Releases
+pub mod RuleSection
+pub mod Sections
+pub mod ValueSection
+pub mod WeightSection

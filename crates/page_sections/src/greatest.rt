@@ -1,0 +1,132 @@
+//! The records whose changes weigh most, change by change.
+ghost use Rattle.std.specs.Prelude.{◌≡◌, ◌++◌, IfOk, OnOk, map};
+ghost use Rattle.page_markup.specs.OpenPages.{added};
+ghost use Rattle.page_figures.specs.Tables.{entry_of};
+ghost use Rattle.page_sections.specs.GreatestSection.{change_row, greatest_rows, greatest_section, numbers_of};
+ghost use Rattle.page_sections.specs.GreatestSection.{record_rows, rows_of_change, shown};
+ghost use Rattle.page_sections.specs.Releases.{release_parts};
+
+use crate::fields::name_at;
+use crate::release::Release;
+use crate::section::open_section;
+use crate::sheet_text::{released_text, text_in};
+use foundation::OutOfMemory;
+use page_counts::{Amount, released_rows};
+use page_figures::{Cell, push_table};
+use page_markup::PageWriter;
+use reason_lines::Change;
+use std::alloc::Global;
+
+const NOTE: &[u8] =
+    b"A row for each changed field, with the bytes that were read and those that were released.";
+
+const COLUMNS: &[&[u8]] = &[b"record", b"weight", b"field", b"before", b"after"];
+
+/// Adds the section on the records whose changes weigh most.
+pub(crate) fn push_greatest(
+    alloc: Global,
+    page: &mut PageWriter,
+    release: &Release,
+    greatest: &[Amount],
+) -> Result<(), OutOfMemory>
+    ensures { OnOk result (page.new ≡ added (greatest_section (release_parts release.now) greatest.now) page.old) }
+{
+    let rows = greatest_rows(alloc, release, greatest)?;
+    open_section(page, b"Greatest changes", NOTE)?;
+    push_table(
+        page,
+        b"The twenty records whose changes weigh most",
+        COLUMNS,
+        &rows,
+    )?;
+    page.close()
+}
+
+// The rows of these records, in their order.
+fn greatest_rows<'a>(
+    alloc: Global,
+    release: &Release<'a>,
+    greatest: &[Amount],
+) -> Result<Vec<Vec<Cell<'a>>>, OutOfMemory>
+    ensures { IfOk result (λ rows.
+        map (λ r. map entry_of r.items) rows.items ≡ greatest_rows (release_parts release.now) greatest.now) }
+{
+    let left_out = release.reasons.left_out.as_slice();
+    let numbers = released_rows(alloc, release.records.len(), left_out)?;
+    let mut rows = Vec::new(alloc);
+    for amount in greatest {
+        push_record_rows(alloc, &mut rows, release, &numbers, *amount)?;
+    }
+    Ok(rows)
+}
+
+// Appends a row for each change of a record. The numbers are those of the records that were released.
+fn push_record_rows<'a>(
+    alloc: Global,
+    rows: &mut Vec<Vec<Cell<'a>>>,
+    release: &Release<'a>,
+    numbers: &[u32],
+    amount: Amount,
+) -> Result<(), OutOfMemory>
+    requires { numbers.now ≡ numbers_of (release_parts release.now) }
+    ensures { OnOk result (map (λ r. map entry_of r.items) rows.new.items
+        ≡ map (λ r. map entry_of r.items) rows.old.items ++ record_rows (release_parts release.now) amount) }
+{
+    let changes = release.reasons.changes.as_slice();
+    for change in changes {
+        push_change(alloc, rows, release, numbers, amount, change)?;
+    }
+    Ok(())
+}
+
+// Appends the row of a change, where it is one of this record.
+fn push_change<'a>(
+    alloc: Global,
+    rows: &mut Vec<Vec<Cell<'a>>>,
+    release: &Release<'a>,
+    numbers: &[u32],
+    amount: Amount,
+    change: &Change,
+) -> Result<(), OutOfMemory>
+    requires { numbers.now ≡ numbers_of (release_parts release.now) }
+    ensures { OnOk result (map (λ r. map entry_of r.items) rows.new.items
+        ≡ map (λ r. map entry_of r.items) rows.old.items ++ rows_of_change (release_parts release.now) amount change.now) }
+{
+    if change.record == amount.number {
+        rows.push(change_row(alloc, release, numbers, amount, change)?)?;
+    }
+    Ok(())
+}
+
+// The row of a change.
+fn change_row<'a>(
+    alloc: Global,
+    release: &Release<'a>,
+    numbers: &[u32],
+    amount: Amount,
+    change: &Change,
+) -> Result<Vec<Cell<'a>>, OutOfMemory>
+    requires { numbers.now ≡ numbers_of (release_parts release.now) }
+    ensures { IfOk result (λ row. map entry_of row.items ≡ change_row (release_parts release.now) amount change.now) }
+{
+    let name = name_at(release.survey.fields(), change.field as usize);
+    let before = text_in(release.records, change.field, amount.number as usize);
+    let after = released_text(release.released, numbers, change.field, amount.number);
+    Ok(vec![in alloc;
+        Cell::Number(u64::from(amount.number) + 1),
+        Cell::Number(shown(amount.size)),
+        Cell::Text(name),
+        Cell::Text(before),
+        Cell::Text(after),
+    ]?)
+}
+
+// A size, or the greatest number that can be shown.
+fn shown(size: u128) -> u64
+    ensures { result ≡ shown size }
+{
+    match u64::try_from(size) {
+        Ok(size) => size,
+        Err(_) => u64::MAX,
+    }
+}

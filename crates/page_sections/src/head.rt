@@ -1,0 +1,83 @@
+//! What stands before the sections: the head of the page, and its header.
+ghost use Rattle.std.specs.Prelude.{◌≡◌, ◌+◌, ◌^◌, ◌<◌, IfOk, OnOk};
+ghost use Rattle.page_markup.specs.OpenPages.{added};
+ghost use Rattle.page_sections.specs.ReleasePages.{head_content, header_content, left_out_total, summary, viewport_content};
+
+use crate::section::push_element;
+use foundation::OutOfMemory;
+use page_counts::RecordCounts;
+use page_markup::{Attribute, PageWriter, Tag, Value, VoidTag};
+use std::alloc::Global;
+
+const TITLE: &[u8] = b"What an edit changed";
+
+/// Adds the head.
+pub(crate) fn push_head(page: &mut PageWriter) -> Result<(), OutOfMemory>
+    ensures { OnOk result (page.new ≡ added head_content page.old) }
+{
+    page.open(Tag::Head, &[])?;
+    page.empty(
+        VoidTag::Meta,
+        &[(Attribute::Charset, Value::Words(b"utf-8"))],
+    )?;
+    push_viewport(page)?;
+    push_element(page, Tag::Title, TITLE)?;
+    page.style()?;
+    page.close()
+}
+
+// Says that the page is as wide as the screen.
+fn push_viewport(page: &mut PageWriter) -> Result<(), OutOfMemory>
+    ensures { OnOk result (page.new ≡ added viewport_content page.old) }
+{
+    page.empty(
+        VoidTag::Meta,
+        &[
+            (Attribute::Name, Value::Words(b"viewport")),
+            (
+                Attribute::Content,
+                Value::Words(b"width=device-width, initial-scale=1"),
+            ),
+        ],
+    )
+}
+
+/// Adds the first heading, and what became of the records.
+pub(crate) fn push_header(
+    alloc: Global,
+    page: &mut PageWriter,
+    rows: u32,
+    counts: &RecordCounts,
+) -> Result<(), OutOfMemory>
+    ensures { OnOk result (page.new ≡ added (header_content rows counts.now) page.old) }
+{
+    let words = summary(alloc, rows, counts)?;
+    page.open(Tag::Header, &[])?;
+    push_element(page, Tag::Heading1, TITLE)?;
+    push_element(page, Tag::Paragraph, &words)?;
+    page.close()
+}
+
+// How many records there are, and what became of them.
+fn summary(alloc: Global, rows: u32, counts: &RecordCounts) -> Result<Vec<u8>, OutOfMemory>
+    ensures { IfOk result (λ words. words.items ≡ summary rows counts.now) }
+{
+    let clean = counts.clean;
+    let changed = counts.changed;
+    let left_out = left_out_total(counts);
+    let words = format!(in alloc;
+        "{rows} records: {clean} clean, {changed} changed, {left_out} left out."
+    )?;
+    Ok(words.into_bytes())
+}
+
+// How many records were left out.
+fn left_out_total(counts: &RecordCounts) -> u128
+    ensures { result ≡ left_out_total counts.now }
+{
+    counts.budget as u128
+        + counts.overflow as u128
+        + counts.contradictory as u128
+        + counts.no_last as u128
+        + counts.no_correction as u128
+}

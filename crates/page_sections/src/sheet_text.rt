@@ -1,0 +1,58 @@
+//! The bytes of a field, as they were read and as they were released.
+ghost use Rattle.std.specs.Prelude.{◌≡◌, ◌==◌, [], ℕ, position, slice_index_or};
+ghost use Rattle.page_sections.specs.GreatestSection.{released_text, text_in};
+
+use record_text::{Sheet, Texts};
+
+/// The bytes of a field in the row of this number, none where there is no such row. No memory.
+pub(crate) fn text_in(sheet: &Sheet, field: u32, row: usize) -> &[u8]
+    ensures { result.now ≡ text_in sheet.now field row }
+{
+    if row >= sheet.len() as usize {
+        return b"";
+    }
+    text_at(sheet.raw(row as u32), column(sheet, field))
+}
+
+// The text of a column, no byte where there is none.
+fn text_at(texts: &Texts, column: u32) -> &[u8]
+    ensures { result.now ≡ slice_index_or texts.now column [] }
+{
+    if column as usize >= texts.len() {
+        return b"";
+    }
+    texts.get(column as usize)
+}
+
+// The column of a field, the first where there is no such field.
+fn column(sheet: &Sheet, field: u32) -> u32
+    ensures { result ≡ slice_index_or sheet.now.columns field 0 }
+{
+    match sheet.columns().get(field as usize) {
+        Some(column) => *column,
+        None => 0,
+    }
+}
+
+/// The bytes of a field in the released row of the record of this number, none where it was not released: row k of the released file is
+/// the k-th of the released records. No memory.
+pub(crate) fn released_text<'a>(
+    released: &'a Sheet,
+    records: &[u32],
+    field: u32,
+    number: u32,
+) -> &'a [u8]
+    ensures { result.now ≡ released_text released.now records.now field number }
+{
+    match place_of(records, number) {
+        Some(row) => text_in(released, field, row),
+        None => b"",
+    }
+}
+
+// The place of a number among others.
+fn place_of(numbers: &[u32], number: u32) -> Option<usize>
+    ensures { result ≡ position (λ (n : ℕ). n == number) numbers.now }
+{
+    numbers.iter().position(|n| *n == number)
+}
