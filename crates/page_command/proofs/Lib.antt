@@ -1,0 +1,5 @@
+pub mod DueLaws
+pub mod ReadingLaws
+pub mod RefusalLaws
+pub mod RunLaws
+pub mod SourceLaws

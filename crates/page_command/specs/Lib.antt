@@ -1,0 +1,4 @@
+pub mod PageFaults
+pub mod PageRun
+pub mod PageSources
+pub mod inner
