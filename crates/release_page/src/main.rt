@@ -1,0 +1,24 @@
+//! The program of pages: it takes the words of the command line, and has them served over the files of the system and
+//! standard output. What it serves is the call `page_main` of the crate `page_command`.
+#![tactic(auto)]
+
+use edit_desk::{FileDesk, OutPrinter};
+use page_command::page_main;
+use run_parts::{Status, refuse_words, words_after_program_name};
+use std::process::ExitCode;
+
+fn main(rt: HostRuntime) -> ExitCode {
+    let alloc = rt.alloc();
+    let Ok(out) = rt.clone() else {
+        return ExitCode::from(Status::OutOfMemory.number());
+    };
+    let Ok(files) = rt.clone() else {
+        return ExitCode::from(Status::OutOfMemory.number());
+    };
+    let mut printer = OutPrinter::new(out);
+    let status = match words_after_program_name(&rt) {
+        Ok(words) => page_main(alloc, &words, &mut FileDesk::new(files), &mut printer),
+        Err(status) => refuse_words(&mut printer, status),
+    };
+    ExitCode::from(status.number())
+}
