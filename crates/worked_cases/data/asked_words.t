@@ -606,3 +606,20 @@ No words at all.
 
   $ words
   nothing
+
+A page of four files.
+
+  $ words page --rules r --records c --released d --reasons w --page p
+  page r c d w p
+  $ words page --page=p --reasons=w --released=d --records=c --rules=r
+  page r c d w p
+  $ words page --rules r --records c --released d --reasons w
+  nothing
+  $ words page --rules r --records c --released d --reasons w --page ./w
+  nothing
+  $ words page --rules r --records c --released d --reasons w --page p --page p
+  nothing
+  $ words page --rules r --records c --released d --reasons w --page p --proof q
+  nothing
+  $ words pages --rules r --records c --released d --reasons w --page p
+  nothing

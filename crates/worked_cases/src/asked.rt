@@ -1,8 +1,8 @@
 //! What the words of a command line ask for, as a line.
 
 use command_words::{
-    EditWords, check_asked, classed_asked, edit_asked, fill_asked, make_asked, panel_asked,
-    rules_asked,
+    EditWords, check_asked, classed_asked, edit_asked, fill_asked, make_asked, page_asked,
+    panel_asked, rules_asked,
 };
 use foundation::OutOfMemory;
 use std::alloc::Global;
@@ -19,6 +19,7 @@ pub fn asked_line(alloc: Global, words: &[String]) -> Result<Vec<u8>, OutOfMemor
         fill_told(alloc, words)?,
         panel_told(alloc, words)?,
         make_told(alloc, words)?,
+        page_told(alloc, words)?,
     ] {
         line.extend_from_slice(told.as_bytes())?;
     }
@@ -115,4 +116,14 @@ fn make_told(alloc: Global, words: &[String]) -> Result<String, OutOfMemory> {
     let (rules, records) = (asked.rules, asked.records);
     let (start, rows) = (asked.start, asked.rows);
     Ok(format!(in alloc; "make {rules} {records} {start} {rows}")?)
+}
+
+// The page that the words ask for.
+fn page_told(alloc: Global, words: &[String]) -> Result<String, OutOfMemory> {
+    let Some(asked) = page_asked(alloc, words)? else {
+        return Ok(String::new(alloc));
+    };
+    let (rules, records, released) = (asked.rules, asked.records, asked.released);
+    let (reasons, page) = (asked.reasons, asked.page);
+    Ok(format!(in alloc; "page {rules} {records} {released} {reasons} {page}")?)
 }

@@ -6,6 +6,7 @@ use case_files::{Commands, Files, Role, spelled_lines};
 use edit_commands::fh_main;
 use edit_desk::{Call, Failure, MemoryDesk, MemoryPrinter};
 use foundation::OutOfMemory;
+use page_command::page_main;
 use record_workers::NoGate;
 use std::alloc::{AllocError, Global};
 use std::mem;
@@ -58,7 +59,7 @@ impl Commands for Runs {
 }
 
 impl Runs {
-    // Runs the program over the files, and gives the lines that it prints and, where it is not 0, its status.
+    // Runs the program over the files, that of pages for the word `page`, and gives the lines that it prints and, where it is not 0, its status.
     fn run<R: Threads + Wait + Sync>(
         &mut self,
         rt: &R,
@@ -70,7 +71,13 @@ impl Runs {
         let failures = mem::replace(&mut self.failures, Vec::new(alloc));
         let mut printer = MemoryPrinter::new(alloc, self.failing_line.take())?;
         let mut desk = MemoryDesk::new(alloc, files.take(alloc), failures);
-        let status = fh_main(rt, alloc, &words, &mut desk, &mut printer, &NoGate).number();
+        let status = match words.first() {
+            Some(word) if word.as_str() == "page" => {
+                page_main(alloc, &words, &mut desk, &mut printer)
+            }
+            _ => fh_main(rt, alloc, &words, &mut desk, &mut printer, &NoGate),
+        };
+        let status = status.number();
         self.calls = call_lines(alloc, desk.calls())?;
         files.restore(desk.into_files());
         let mut lines = spelled_lines(alloc, printer.text())?;
