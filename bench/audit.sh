@@ -24,6 +24,6 @@
 # kind of file, with the statuses, and how often each came. There 0 comes where the byte is in a comment, or changes a
 # rule, a weight or a number of which the release says nothing.
 set -eu
-top=$(cd "$(dirname "$0")/.." && pwd)
-program=${PROGRAM:-$("$top/forxainde" --where)}      # another build, or the checkout's, which is built first where it is not
+. "$(dirname "$0")/lib.sh"
+find_program
 exec python3 "$top/bench/audit/change_tokens.py" "$program" "$top/examples" "${1:-1}"

@@ -15,31 +15,11 @@
 # the system's, for the memory: a million steps take some 95 MB. The two verdicts are compared, also where the
 # last step names a line that is not there, and a difference ends the run with status 1.
 set -eu
-top=$(cd "$(dirname "$0")/.." && pwd)
-program="$top/crates/certificate_bench/out/certificate_bench"
-script="$top/bench/yardstick/certificates.py"
+. "$(dirname "$0")/lib.sh"
+script="$yardstick/certificates.py"
 runs=${1:-5}
-work=$(mktemp -d)
-trap 'rm -rf "$work"' EXIT
-
-is_fresh() {
-    [ -x "$program" ] && [ -z "$(find "$top/crates" "$top/crates.txt" -name out -prune -o -type f -newer "$program" -print -quit)" ]
-}
-
-build() {
-    echo "certificates.sh: proving and building the program; this takes minutes the first time" >&2
-    rm -f "$program"
-    (cd "$top/crates/certificate_bench" && rt run >"$work/log" 2>&1 </dev/null) || true
-    [ -x "$program" ] || { cat "$work/log" >&2; exit 1; }
-}
-
-# The best seconds of the runs of the program with these words, which end with status 0.
-best() {
-    local TIMEFORMAT='%U %S'
-    for _ in $(seq "$runs"); do
-        { time "$program" "$@" >"$work/program"; } 2>&1 || { echo "the program failed" >&2; exit 1; }
-    done | awk '{ print $1 + $2 }' | sort -n | head -n 1
-}
+make_work_folder
+build_bench certificate_bench
 
 # The script's best seconds.
 script_best() {
@@ -60,7 +40,7 @@ certificate() {
     compare "$kind" "$number"
     compare "$kind" "$number" broken
     local ours theirs
-    ours=$(best "$kind" "$number")
+    ours=$(least_seconds "$runs" "$program" "$kind" "$number")
     theirs=$(script_best "$kind" "$number")
     awk -v kind="$kind" -v number="$number" -v leaves="$leaves" -v steps="$steps" -v w="$ours" \
         -v s="$start" -v t="$theirs" 'BEGIN {
@@ -70,8 +50,7 @@ certificate() {
     }'
 }
 
-is_fresh || build
-start=$(best steps 1)
+start=$(least_seconds "$runs" "$program" steps 1)
 echo "kind number leaves steps | program: s a-second | script: s times-as-fast"
 for depth in 15 16 17; do certificate leaves "$depth" $((2 ** depth)) $((2 ** depth)); done
 for count in 250000 500000 1000000; do certificate steps "$count" 1 "$count"; done

@@ -14,34 +14,21 @@
 # what a draw and a claim cost, with more what they cost where nothing is done but drawing and claiming.
 # The counts that are printed have to be those of the count, whatever the schedule, and else the run ends with status 1.
 set -eu
-top=$(cd "$(dirname "$0")/.." && pwd)
-program="$top/crates/claims_bench/out/claims_bench"
+. "$(dirname "$0")/lib.sh"
 count=${1:-200000}
 runs=${2:-5}
-work=$(mktemp -d)
-trap 'rm -rf "$work"' EXIT
-
-is_fresh() {
-    [ -x "$program" ] && [ -z "$(find "$top/crates" "$top/crates.txt" -name out -prune -o -type f -newer "$program" -print -quit)" ]
-}
-
-build() {
-    echo "claims.sh: proving and building the program; this takes minutes the first time" >&2
-    rm -f "$program"
-    (cd "$top/crates/claims_bench" && rt run >"$work/log" 2>&1 </dev/null) || true
-    [ -x "$program" ] || { cat "$work/log" >&2; exit 1; }
-}
+make_work_folder
+build_bench claims_bench
 
 # The best seconds of the runs with so many tickets and threads: of the clock, and of the processors.
 best() {
-    local TIMEFORMAT='%R %U %S'
     for _ in $(seq "$runs"); do
-        { time "$program" "$1" "$2" >"$work/printed"; } 2>&1 || { echo "the program failed" >&2; exit 1; }
+        times_of 1 "$program" "$1" "$2"
         echo "drawn $1 claimed $1 given $1 nobody 0" | cmp - "$work/printed" >&2 || exit 1
-    done | awk '{ print $1, $2 + $3 }' | sort -n | head -n 1
+    done >"$work/times"
+    sort -n "$work/times" | head -n 1
 }
 
-is_fresh || build
 echo "threads | seconds | nanoseconds a ticket and its claim | seconds of all processors"
 for threads in 1 2 4; do
     start=$(best 1 "$threads")

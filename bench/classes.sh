@@ -11,38 +11,25 @@
 # what was claimed there, as far as it has seen: WORKERS=64 shows what that takes beside the one book of an edit, which is a book of
 # one class.
 set -eu
-top=$(cd "$(dirname "$0")/.." && pwd)
-program=${PROGRAM:-$("$top/forxainde" --where)}      # another build, or the checkout's, which is built first where it is not
-yardstick="$top/bench/yardstick"
-work=$(mktemp -d)
-trap 'rm -rf "$work"' EXIT
-
-files=(--rules "$work/rules" --records "$work/records" --released "$work/released" --proof "$work/proof")
-
-# Runs the program with these words, and puts what it prints, its status and what it used into the file `measured`.
-measure() {
-    python3 "$yardstick/measure.py" "$program" "$@" >"$work/measured"
-    read -r status seconds peak processor < <(tail -n 1 "$work/measured")
-    [ "$status" -le 1 ] || { head -n 1 "$work/measured" >&2; echo "the program ended with status $status" >&2; exit 1; }
-}
+. "$(dirname "$0")/lib.sh"
+find_program
+make_work_folder
 
 # Times the command with these further words, and the check of what it wrote.
 tell() {
-    measure "$1" "${files[@]}" --reasons "$work/reasons" --workers "${WORKERS:-1}" "${@:2}"
+    measure 1 "$1" "${edit_words[@]:1}" --workers "${WORKERS:-1}" "${@:2}"
     read -r _ claims _ given < <(sed -n 2p "$work/measured")
     local took=$seconds most=$peak
-    measure check "${files[@]}"
+    measure 1 "${check_words[@]}"
     awk -v name="$1" -v n="$count" -v claims="$claims" -v given="$given" -v s="$took" -v peak="$most" -v size="$size" -v checked="$seconds" 'BEGIN {
         printf "%s: %d rows, %d claims, %d given: %.2f s, %.0f MiB, %.1f bytes a byte; check %.2f s\n", \
             name, n, claims, given, s, peak / 1048576, peak / size, checked }'
 }
 
-for rows in "${@:-10000 50000 200000}"; do
-    for count in $rows; do
-        python3 "$yardstick/business_survey.py" --rules "$work/rules" --records "$work/records" --rows "$count" \
-            --one-in "${ONE_IN:-20}" --classes "${CLASSES:-8}"
-        size=$(stat -c %s "$work/records")
-        tell edit
-        tell classed --class Branch
-    done
+read_counts '10000 50000 200000' "$@"
+for count in "${counts[@]}"; do
+    make_business_survey "$count" --one-in "${ONE_IN:-20}" --classes "${CLASSES:-8}"
+    size=$(stat -c %s "$work/records")
+    tell edit
+    tell classed --class Branch
 done

@@ -12,30 +12,28 @@
 # How to read a line: the kind; the records; the seconds of the processor a record, the leaves of its tree, and the KiB that it
 # takes of the proof; and the seconds of the check a record.
 set -eu
-top=$(cd "$(dirname "$0")/.." && pwd)
-program=${PROGRAM:-$("$top/forxainde" --where)}      # another build, or the checkout's, which is built first where it is not
+. "$(dirname "$0")/lib.sh"
+find_program
 rows=${1:-10}
-work=$(mktemp -d)
-trap 'rm -rf "$work"' EXIT
+make_work_folder
 
-# The seconds of the processor of the program with these words; it ends with the status that is wanted.
+# The seconds of the processor of the program with these words behind the status that it has to end with.
 seconds_of() {
-    local wanted=$1 status=0
-    local TIMEFORMAT='%U %S'
-    { time "$program" "${@:2}" >"$work/printed" || status=$?; } 2>"$work/time"
-    [ "$status" = "$wanted" ] || { cat "$work/printed" >&2; echo "the program ended with status $status" >&2; exit 1; }
-    awk '{ print $1 + $2 }' "$work/time"
+    measure "$1" "${@:2}"
+    [ "$status" = "$1" ] || fail "the program ended with status $status"
+    echo "$processor"
 }
 
-python3 "$top/bench/yardstick/business_survey.py" --rules "$work/survey" --records "$work/records" --rows "$rows"
+make_business_survey "$rows"
+mv "$work/rules" "$work/survey"
 for kind in numbers codes; do
     cp "$work/survey" "$work/rules"
     case $kind in
         numbers) printf 'Invest >= 5\nInvest <= 3\n' ;;
         codes) printf 'Form in {sole}\nForm in {company}\n' ;;
     esac >>"$work/rules"
-    edit=$(seconds_of 1 edit --rules "$work/rules" --records "$work/records" --released "$work/released" --reasons "$work/reasons" --proof "$work/proof")
-    check=$(seconds_of 0 check --rules "$work/rules" --records "$work/records" --released "$work/released" --proof "$work/proof")
+    edit=$(seconds_of 1 "${edit_words[@]}")
+    check=$(seconds_of 0 "${check_words[@]}")
     leaves=$(awk '$1 == "contradictory" { sum += $2 } END { print sum }' "$work/proof")
     awk -v kind="$kind" -v n="$rows" -v edit="$edit" -v check="$check" -v leaves="$leaves" -v size="$(stat -c %s "$work/proof")" 'BEGIN {
         printf "%s: %d records, %.3f s, %.0f leaves and %.0f KiB a record; check %.3f s\n", kind, n, edit / n, leaves / n, size / 1024 / n, check / n

@@ -4,6 +4,8 @@
 #
 # usage: [ONE_IN=K] bench/edit.sh [ROWS..]      (default: 10000 50000 100000, and one in 20; ONE_IN=1000000000: none is wrong)
 #
+# It needs g++, by which the branch and bound is compiled.
+#
 # The business survey (bench/yardstick/business_survey.py): about one row in K has a wrong number. Each line has the
 # rows, how many of them were changed, the MiB of the record file, the seconds, the rows a second, and the peak bytes of
 # memory for each byte of input. Memory should grow in proportion to the rows, and so should the time of `check`; that of `edit`
@@ -19,59 +21,38 @@
 # wrote, with its share of the edit's: small, since most of the edit is search; the best of five runs each. The line
 # `several` has the same of 1,000 records of the business survey, of which about one in 3 has two or three wrong numbers.
 set -eu
-top=$(cd "$(dirname "$0")/.." && pwd)
-program=${PROGRAM:-$("$top/forxainde" --where)}      # another build, or the checkout's, which is built first where it is not
-yardstick="$top/bench/yardstick"
-work=$(mktemp -d)
-trap 'rm -rf "$work"' EXIT
-
-edit_words=(edit --rules "$work/rules" --records "$work/records" --released "$work/released" --reasons "$work/reasons" --proof "$work/proof")
-check_words=(check --rules "$work/rules" --records "$work/records" --released "$work/released" --proof "$work/proof")
-
-# Runs the program with these words, and puts what it prints, its status and what it used into the file `measured`.
-measure() {
-    python3 "$yardstick/measure.py" "$program" "$@" >"$work/measured"
-    read -r status seconds peak processor < <(tail -n 1 "$work/measured")
-    [ "$status" = 0 ] || { head -n 1 "$work/measured" >&2; echo "the program ended with status $status" >&2; exit 1; }
-}
-
-# The best seconds, of the processor, of five runs of a command.
-best() {
-    local TIMEFORMAT='%U %S'
-    for _ in 1 2 3 4 5; do
-        { time "$@" >"$work/printed" 2>"$work/said"; } 2>&1 || { cat "$work/printed" "$work/said" >&2; exit 1; }
-    done | awk '{ print $1 + $2 }' | sort -n | head -n 1
-}
+. "$(dirname "$0")/lib.sh"
+find_program
+make_work_folder
 
 # Times the program beside the branch and bound, over the survey of this name.
 beside() {
     local ours theirs check
-    ours=$(best "$program" "${edit_words[@]}")
-    theirs=$(best "$work/yardstick" --rules "$work/rules" --records "$work/records" --out "$work/weights")
-    check=$(best "$program" "${check_words[@]}")
+    ours=$(least_seconds 5 "$program" "${edit_words[@]}")
+    theirs=$(least_seconds 5 "$work/yardstick" --rules "$work/rules" --records "$work/records" --out "$work/weights")
+    check=$(least_seconds 5 "$program" "${check_words[@]}")
     awk -v name="$1" -v ours="$ours" -v theirs="$theirs" -v check="$check" 'BEGIN {
         printf "%s: program %.3f s | branch and bound %.3f s | %.1f times as long | check %.3f s, %.2f of edit\n", \
             name, ours, theirs, ours / theirs, check, check / ours
     }'
 }
 
-for rows in "${@:-10000 50000 100000}"; do
-    for count in $rows; do
-        python3 "$yardstick/business_survey.py" --rules "$work/rules" --records "$work/records" --rows "$count" --one-in "${ONE_IN:-20}"
-        size=$(stat -c %s "$work/records")
-        measure "${edit_words[@]}"
-        changed=$(awk 'NR == 1 { print $6 }' "$work/measured")
-        edited="$seconds $peak $processor"
-        measure "${check_words[@]}"
-        echo "$edited $seconds $processor" | awk -v n="$count" -v changed="$changed" -v size="$size" '{
-            printf "business: %d rows, %d changed, %.1f MiB: %.2f s, %d rows a second, %.1f bytes a byte; check %.2f s, %.2f of edit\n", \
-                n, changed, size / 1048576, $1, n / $1, $2 / size, $4, $5 / $3
-        }'
-    done
+read_counts '10000 50000 100000' "$@"
+for count in "${counts[@]}"; do
+    make_business_survey "$count" --one-in "${ONE_IN:-20}"
+    size=$(stat -c %s "$work/records")
+    measure 0 "${edit_words[@]}"
+    changed=$(awk 'NR == 1 { print $6 }' "$work/measured")
+    edited="$seconds $peak $processor"
+    measure 0 "${check_words[@]}"
+    echo "$edited $seconds $processor" | awk -v n="$count" -v changed="$changed" -v size="$size" '{
+        printf "business: %d rows, %d changed, %.1f MiB: %.2f s, %d rows a second, %.1f bytes a byte; check %.2f s, %.2f of edit\n", \
+            n, changed, size / 1048576, $1, n / $1, $2 / size, $4, $5 / $3
+    }'
 done
 
-g++ -O3 -march=native -std=c++17 -o "$work/yardstick" "$yardstick/branch_and_bound.cpp"
-python3 "$yardstick/labour_survey.py" --rules "$work/rules" --records "$work/records" --rows 1000
+build_branch_and_bound
+make_labour_survey 1000
 beside labour
-python3 "$yardstick/business_survey.py" --rules "$work/rules" --records "$work/records" --rows 1000 --one-in 3 --wrong 2 3
+make_business_survey 1000 --one-in 3 --wrong 2 3
 beside several

@@ -23,31 +23,11 @@
 # second, which should stay the same however many steps there are. `given` steps name given lines, `sums` add
 # two lines of 32 fields each.
 set -eu
-top=$(cd "$(dirname "$0")/.." && pwd)
-program="$top/crates/elimination_bench/out/elimination_bench"
-script="$top/bench/yardstick/elimination.py"
+. "$(dirname "$0")/lib.sh"
+script="$yardstick/elimination.py"
 runs=${1:-5}
-work=$(mktemp -d)
-trap 'rm -rf "$work"' EXIT
-
-is_fresh() {
-    [ -x "$program" ] && [ -z "$(find "$top/crates" "$top/crates.txt" -name out -prune -o -type f -newer "$program" -print -quit)" ]
-}
-
-build() {
-    echo "elimination.sh: proving and building the program; this takes minutes the first time" >&2
-    rm -f "$program"
-    (cd "$top/crates/elimination_bench" && rt run >"$work/log" 2>&1 </dev/null) || true
-    [ -x "$program" ] || { cat "$work/log" >&2; exit 1; }
-}
-
-# The best seconds of the runs of the program with these words, which end with status 0.
-best() {
-    local TIMEFORMAT='%U %S'
-    for _ in $(seq "$runs"); do
-        { time "$program" "$@" >"$work/printed"; } 2>&1 || { echo "the program failed" >&2; exit 1; }
-    done | awk '{ print $1 + $2 }' | sort -n | head -n 1
-}
+make_work_folder
+build_bench elimination_bench
 
 # The script's seconds for the fold; its steps and totals have to be the program's.
 compared() {
@@ -65,8 +45,8 @@ fold() {
     local pairs edits lines start whole theirs
     pairs=$(awk '$1 == "field" { sum += $4 } END { print sum }' "$work/program")
     read -r _ _ _ edits _ lines < <(tail -n 1 "$work/program")
-    start=$(best fold 0 "${words[@]}")
-    whole=$(best fold "$count" "${words[@]}")
+    start=$(least_seconds "$runs" "$program" fold 0 "${words[@]}")
+    whole=$(least_seconds "$runs" "$program" fold "$count" "${words[@]}")
     theirs=
     [ "$with_script" = no ] || theirs=$(compared "$count" "${words[@]}")
     awk -v kind="$kind" -v count="$count" -v edits="$edits" -v pairs="$pairs" -v lines="$lines" \
@@ -83,11 +63,11 @@ steps() {
     local kind=$1 count=$2
     local words=()
     [ "$kind" = given ] || words=("$kind")
-    best steps "$count" "${words[@]}" |
-        awk -v kind="$kind" -v n="$count" '{ printf "%s %d | %.3f %.0f\n", kind, n, $1, n / $1 }'
+    local whole
+    whole=$(least_seconds "$runs" "$program" steps "$count" "${words[@]}")
+    awk -v kind="$kind" -v n="$count" -v w="$whole" 'BEGIN { printf "%s %d | %.3f %.0f\n", kind, n, w, n / w }'
 }
 
-is_fresh || build
 echo "edits fields edits pairs lines | program: s pairs/s | script: s times-as-fast"
 for count in 8 12 16; do fold plain "$count" yes; done
 fold codes 8 yes

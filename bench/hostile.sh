@@ -18,6 +18,6 @@
 # A line for each group of cases counts the runs and how many of them were checks,
 # and names the slowest; the first failure is printed with its files, and ends the script with status 1.
 set -eu
-top=$(cd "$(dirname "$0")/.." && pwd)
-program=${PROGRAM:-$("$top/forxainde" --where)}      # another build, or the checkout's, which is built first where it is not
+. "$(dirname "$0")/lib.sh"
+find_program
 exec python3 "$top/bench/hostile/attack.py" "$program" "$top/examples" "${@:-1}"

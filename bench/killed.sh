@@ -12,6 +12,6 @@
 #
 # The last lines count the runs by what stood, and the statuses of `check`. The first that is otherwise is printed, and ends the script with status 1.
 set -eu
-top=$(cd "$(dirname "$0")/.." && pwd)
-program=${PROGRAM:-$("$top/forxainde" --where)}      # another build, or the checkout's, which is built first where it is not
-exec python3 "$top/bench/hostile/killed.py" "$(realpath "$program")" "${1:-1}" "${2:-200}" "${3:-20000}"
+. "$(dirname "$0")/lib.sh"
+find_program
+exec python3 "$top/bench/hostile/killed.py" "$program" "${1:-1}" "${2:-200}" "${3:-20000}"

@@ -14,9 +14,8 @@
 # runs, those with 7, and how many files stood after these. The first run that ends otherwise is printed, and ends the script with status 1.
 # `rt try --fail-alloc N` refuses the N-th request as well, before anything is proved, but the kit compiles the program anew for each N.
 set -eu
-top=$(cd "$(dirname "$0")/.." && pwd)
-program=${PROGRAM:-$("$top/forxainde" --where)}      # another build, or the checkout's, which is built first where it is not
-work=$(mktemp -d)
-trap 'rm -rf "$work"' EXIT
-gcc -O2 -shared -fPIC -o "$work/refuse.so" "$top/bench/hostile/refuse.c" -ldl
-python3 "$top/bench/hostile/memory.py" "$(realpath "$program")" "$work/refuse.so" "$work" "$@"
+. "$(dirname "$0")/lib.sh"
+find_program
+make_work_folder
+gcc -O2 -shared -fPIC -o "$work/refuse.so" "$top/bench/hostile/refuse.c" -ldl || fail "refuse.so was not built"
+python3 "$top/bench/hostile/memory.py" "$program" "$work/refuse.so" "$work" "$@"

@@ -9,10 +9,9 @@
 # Each is compared with the counts of bench/page_counts.py and the text of bench/page_text.py. Where the browser chromium is there, a picture
 # of each is taken at two widths, and each is printed to PDF: look at them. docs/page.png is the picture of the top of the third.
 set -eu
-top=$(cd "$(dirname "$0")/.." && pwd)
-program=${PROGRAM:-$("$top/forxainde" --where)}                # another build, or the checkout's, which is built first where it is not
-pages=${PAGES:-"$top/forxainde"}                               # the same of the program of pages
-yardstick="$top/bench/yardstick"
+. "$(dirname "$0")/lib.sh"
+find_program
+find_pages
 
 # Edits the records $2 by the rules $1, and writes the page, all in the folder $3.
 make_page() {
@@ -39,8 +38,7 @@ take_pictures() {
 }
 
 time_page() {
-    work=$(mktemp -d)
-    trap 'rm -rf "$work"' EXIT
+    make_work_folder
     local rows
     for rows in ${ROWS:-200000}; do
         "$program" make --rules "$work/rules" --records "$work/records" --rows "$rows"

@@ -9,31 +9,20 @@
 # `edit` on the records alone, by the rules without the last fields. Time and memory should grow in proportion to the rows: a
 # record's row of the last period is found by its key, and nothing is kept of a record that was told.
 set -eu
-top=$(cd "$(dirname "$0")/.." && pwd)
-program=${PROGRAM:-$("$top/forxainde" --where)}      # another build, or the checkout's, which is built first where it is not
-yardstick="$top/bench/yardstick"
-work=$(mktemp -d)
-trap 'rm -rf "$work"' EXIT
+. "$(dirname "$0")/lib.sh"
+find_program
+make_work_folder
 
-# Runs the program with these words, and puts what it prints, its status and what it used into the file `measured`.
-measure() {
-    python3 "$yardstick/measure.py" "$program" "$@" >"$work/measured"
-    read -r status seconds peak processor < <(tail -n 1 "$work/measured")
-    [ "$status" -le 1 ] || { head -n 1 "$work/measured" >&2; echo "the program ended with status $status" >&2; exit 1; }
-}
-
-for rows in "${@:-10000 50000 200000}"; do
-    for count in $rows; do
-        python3 "$yardstick/business_survey.py" --rules "$work/rules" --records "$work/records" --rows "$count" --one-in "${ONE_IN:-20}"
-        measure edit --rules "$work/rules" --records "$work/records" --released "$work/released" --reasons "$work/reasons" --proof "$work/proof"
-        edited=$seconds
-        python3 "$yardstick/last_period.py" --rules "$work/rules" --records "$work/records" --last "$work/last"
-        size=$(($(stat -c %s "$work/records") + $(stat -c %s "$work/last")))
-        measure panel --rules "$work/rules" --records "$work/records" --last "$work/last" --released "$work/released" \
-            --reasons "$work/reasons" --proof "$work/proof" --key id
-        read -r _ _ _ _ _ changed _ unresolved _ < <(head -n 1 "$work/measured")
-        awk -v n="$count" -v changed="$changed" -v out="$unresolved" -v size="$size" -v s="$seconds" -v peak="$peak" -v edited="$edited" 'BEGIN {
-            printf "panel: %d rows, %d changed, %d left out, %.1f MiB: %.2f s, %d rows a second, %.1f bytes a byte; edit %.2f s\n", \
-                n, changed, out, size / 1048576, s, n / s, peak / size, edited }'
-    done
+read_counts '10000 50000 200000' "$@"
+for count in "${counts[@]}"; do
+    make_business_survey "$count" --one-in "${ONE_IN:-20}"
+    measure 1 "${edit_words[@]}"
+    edited=$seconds
+    python3 "$yardstick/last_period.py" --rules "$work/rules" --records "$work/records" --last "$work/last"
+    size=$(($(stat -c %s "$work/records") + $(stat -c %s "$work/last")))
+    measure 1 panel "${edit_words[@]:1}" --last "$work/last" --key id
+    read -r _ _ _ _ _ changed _ unresolved _ < <(head -n 1 "$work/measured")
+    awk -v n="$count" -v changed="$changed" -v out="$unresolved" -v size="$size" -v s="$seconds" -v peak="$peak" -v edited="$edited" 'BEGIN {
+        printf "panel: %d rows, %d changed, %d left out, %.1f MiB: %.2f s, %d rows a second, %.1f bytes a byte; edit %.2f s\n", \
+            n, changed, out, size / 1048576, s, n / s, peak / size, edited }'
 done

@@ -16,23 +16,11 @@
 # `bad`, below 12 bytes a byte. At 512 MiB it needs 7 GiB of memory, and 14 for the last two kinds, which are
 # then left out.
 set -eu
-top=$(cd "$(dirname "$0")/.." && pwd)
-program="$top/crates/proof_bench/out/proof_bench"
+. "$(dirname "$0")/lib.sh"
 mib=${1:-64}
 runs=${2:-3}
-work=$(mktemp -d)
-trap 'rm -rf "$work"' EXIT
-
-is_fresh() {
-    [ -x "$program" ] && [ -z "$(find "$top/crates" "$top/crates.txt" -name out -prune -o -type f -newer "$program" -print -quit)" ]
-}
-
-build() {
-    echo "proof_text.sh: proving and building the program; this takes minutes the first time" >&2
-    rm -f "$program"
-    (cd "$top/crates/proof_bench" && rt run >"$work/log" 2>&1 </dev/null) || true
-    [ -x "$program" ] || { cat "$work/log" >&2; exit 1; }
-}
+make_work_folder
+build_bench proof_bench
 
 # A file of this version (1 where none is named) with so many times this text, behind this front and before this end.
 file_of() {
@@ -61,30 +49,26 @@ tree() {
     printf 'claims 0\nend\n'
 }
 
-# The best run on the file: its seconds, and its peak of memory in KiB.
-measure() {
+# The best run on the file: its seconds, and its peak of memory in bytes.
+best() {
     for _ in $(seq "$runs"); do
-        python3 - "$program" "$work/file" <<'PYTHON'
-import resource, subprocess, sys
-printed = subprocess.run(sys.argv[1:], capture_output=True)
-used = resource.getrusage(resource.RUSAGE_CHILDREN)
-if printed.returncode != 0 or not printed.stdout.startswith(b"lines "):
-    sys.exit(printed.stdout.decode() + printed.stderr.decode())
-print(f"{used.ru_utime + used.ru_stime:.3f} {used.ru_maxrss}")
-PYTHON
-    done | sort -n | head -n 1
+        measure 0 "$work/file"
+        grep -q '^lines ' "$work/measured" || { head -n 1 "$work/measured" >&2; fail "the program failed"; }
+        echo "$processor $peak"
+    done >"$work/times"
+    sort -n "$work/times" | head -n 1
 }
 
 tell() {
     local kind=$1 size
     size=$(stat -c %s "$work/file")
-    measure | awk -v kind="$kind" -v size="$size" '{
+    best >"$work/best"
+    awk -v kind="$kind" -v size="$size" '{
         seconds = $1 < 0.001 ? 0.001 : $1
-        printf "%s %.1f | %.3f s %.0f MiB/s | %.2f bytes a byte\n", kind, size / 1048576, seconds, size / 1048576 / seconds, ($2 * 1024 - size) / size
-    }'
+        printf "%s %.1f | %.3f s %.0f MiB/s | %.2f bytes a byte\n", kind, size / 1048576, seconds, size / 1048576 / seconds, ($2 - size) / size
+    }' "$work/best"
 }
 
-is_fresh || build
 echo "kind MiB | seconds MiB/s | memory"
 for step in 'given 1' 'fail 1' 'fix 1 1' 'combine 1 1 2 1 1' 'cover 1 1 2 3'; do
     steps_of "$step\n" >"$work/file"
@@ -111,8 +95,8 @@ fi
 counted() {
     local word=$1
     "$program" "$work/file"
-    python3 "$top/bench/yardstick/measure.py" "$program" "$work/file" |
-        awk -v word="$word" 'NR == 2 { printf "%s 4000000000: %s s, %.1f MiB\n", word, $2, $3 / 1048576 }'
+    measure 255 "$work/file"
+    awk -v word="$word" -v s="$seconds" -v peak="$peak" 'BEGIN { printf "%s 4000000000: %s s, %.1f MiB\n", word, s, peak / 1048576 }'
 }
 
 printf 'fh-proof 1\nlimit 1 near 5 budget 1000000\nlines 4000000000\nkeep\nkeep\n' >"$work/file"

@@ -11,6 +11,6 @@
 # At the end stands what comes of one file by a link: no name shows it, so a hard link and a symbolic link to a file that is read, or to another
 # that is written, are taken. What then holds is printed, and not judged.
 set -eu
-top=$(cd "$(dirname "$0")/.." && pwd)
-program=${PROGRAM:-$("$top/forxainde" --where)}      # another build, or the checkout's, which is built first where it is not
-exec python3 "$top/bench/hostile/real_files.py" "$(realpath "$program")"
+. "$(dirname "$0")/lib.sh"
+find_program
+exec python3 "$top/bench/hostile/real_files.py" "$program"

@@ -15,40 +15,35 @@
 # Whatever the workers, the first line of the summary is the same, where no number leaves 128 bits while values are given; the
 # script says whether it was.
 set -eu
-top=$(cd "$(dirname "$0")/.." && pwd)
-program=${PROGRAM:-$("$top/forxainde" --where)}      # another build, or the checkout's, which is built first where it is not
-yardstick="$top/bench/yardstick"
-work=$(mktemp -d)
-trap 'rm -rf "$work"' EXIT
-
-words=(edit --rules "$work/rules" --records "$work/records" --released "$work/released" --reasons "$work/reasons" --proof "$work/proof")
+. "$(dirname "$0")/lib.sh"
+find_program
+make_work_folder
 
 # The best seconds of the clock of three runs by so many workers, and the seconds of all processors in that run.
 best() {
     for _ in 1 2 3; do
-        python3 "$yardstick/measure.py" "$program" "${words[@]}" --workers "$1" >"$work/measured"
-        read -r status seconds _ processor < <(tail -n 1 "$work/measured")
-        [ "$status" -le 1 ] || { cat "$work/measured" >&2; exit 1; }
+        measure 1 "${edit_words[@]}" --workers "$1"
         head -n 1 "$work/measured" >>"$work/summaries"
         echo "$seconds $processor"
-    done | sort -n | head -n 1
+    done >"$work/times"
+    sort -n "$work/times" | head -n 1
 }
 
-for rows in "${@:-20000 50000}"; do
-    for count in $rows; do
-        "$program" make --rules "$work/rules" --records "$work/records" --rows "$count" >"$work/made"
-        : >"$work/summaries"
-        one=
-        for workers in ${WORKERS:-1 2 4 8}; do
-            found=$(best "$workers")
-            one=${one:-$found}
-            echo "$one $found" | awk -v rows="$count" -v n="$workers" '{
-                printf "%d records, %d workers: %.2f s, %.2f times as fast, %.2f s of all processors", rows, n, $3, $1 / $3, $4
-                if (n > 1) printf ", one thread has %.0f %%", 100 * (n * $3 - $1) / (n - 1) / $1
-                print "" }'
-        done
-        sort -u "$work/summaries" | awk 'END { if (NR > 1) print "the summaries differ"; else print $0, "(each time)" }'
-        python3 "$yardstick/business_survey.py" --rules "$work/rules" --records "$work/records" --rows "$count" --one-in 1000000000
-        best 1 | awk -v rows="$count" '{ printf "%d records, clean, 1 worker: %.2f s\n", rows, $1 }'
+read_counts '20000 50000' "$@"
+for count in "${counts[@]}"; do
+    "$program" make --rules "$work/rules" --records "$work/records" --rows "$count" >"$work/made"
+    : >"$work/summaries"
+    one=
+    for workers in ${WORKERS:-1 2 4 8}; do
+        found=$(best "$workers")
+        one=${one:-$found}
+        echo "$one $found" | awk -v rows="$count" -v n="$workers" '{
+            printf "%d records, %d workers: %.2f s, %.2f times as fast, %.2f s of all processors", rows, n, $3, $1 / $3, $4
+            if (n > 1) printf ", one thread has %.0f %%", 100 * (n * $3 - $1) / (n - 1) / $1
+            print "" }'
     done
+    sort -u "$work/summaries" | awk 'END { if (NR > 1) print "the summaries differ"; else print $0, "(each time)" }'
+    make_business_survey "$count" --one-in 1000000000
+    found=$(best 1)
+    echo "$found" | awk -v rows="$count" '{ printf "%d records, clean, 1 worker: %.2f s\n", rows, $1 }'
 done
