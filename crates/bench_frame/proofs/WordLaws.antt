@@ -1,4 +1,5 @@
-use Rattle.std.proofs.Common.{◌≡◌, ◌≢◌, ℕ, ◌<◌, ◌≤◌, ◌^◌, Bool, true, false, ◌&&◌, if◌then◌else◌, List, [], ◌∷◌, slice_get, Some, None, Ok, Err, arith, get_or, length, le-leb, leb-true, nat_le, refl, ap, ◌∙◌}
+use Rattle.std.proofs.Common.{◌≡◌, ◌≢◌, ℕ, ◌<◌, ◌≤◌, ◌^◌, Bool, true, false, ◌&&◌, if◌then◌else◌, List, [], ◌∷◌, slice_get, Some, None, Ok, Err, arith, get_or}
+use Rattle.std.proofs.Common.{length, le-leb, leb-true, nat_le, refl, ap, ◌∙◌}
 use Rattle.std.specs.Prelude.{⊤}
 use Rattle.std.specs.Str.{all_ascii_digits}
 use Rattle.std.specs.Str.Parse.{ParsesUnsigned, digits_value}
@@ -36,13 +37,15 @@ module _ (text : List ℕ) (least most : ℕ) (plain : get_or text 0 0 ≢ 43) w
       let read = parse_plain numerals {E = ⊤} 64 text (Ok number) parses plain in
       let value_above : least ≤ digits_value 10 text = omega (arith, above, read.1) in
       let value_below : digits_value 10 text ≤ most = omega (arith, below, read.1) in
-      ap Some read.1 ∙ taken _ (digits_value 10 text) (and_from _ _ (le-leb 1 (length text) read.0.1) (and_from _ _ read.0.0 (and_from _ _ (le-leb least (digits_value 10 text) value_above) (le-leb (digits_value 10 text) most value_below))))
+      ap Some read.1 ∙ taken _ (digits_value 10 text) (and_from _ _ (le-leb 1 (length text) read.0.1)
+      (and_from _ _ read.0.0 (and_from _ _ (le-leb least (digits_value 10 text) value_above) (le-leb (digits_value 10 text) most value_below))))
 
   -- where a number stands, its digits spell it, and it is at least and at most so much
   spelled : nat_le 1 (length text) && (all_ascii_digits text && (nat_le least (digits_value 10 text) && nat_le (digits_value 10 text) most)) ≡ true
       → ((all_ascii_digits text ≡ true) × (1 ≤ length text)) × (least ≤ digits_value 10 text) × (digits_value 10 text ≤ most)
   spelled holds =
-      let parts = and_parts (nat_le 1 (length text)) (all_ascii_digits text && (nat_le least (digits_value 10 text) && nat_le (digits_value 10 text) most)) holds in
+      let parts = and_parts (nat_le 1 (length text)) (all_ascii_digits text && (nat_le least (digits_value 10 text) && nat_le (digits_value 10 text) most))
+      holds in
       let digits = and_parts (all_ascii_digits text) (nat_le least (digits_value 10 text) && nat_le (digits_value 10 text) most) parts.1 in
       let within = and_parts (nat_le least (digits_value 10 text)) (nat_le (digits_value 10 text) most) digits.1 in
       ((digits.0, leb-true 1 (length text) parts.0), leb-true least (digits_value 10 text) within.0, leb-true (digits_value 10 text) most within.1)

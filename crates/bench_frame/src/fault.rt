@@ -1,3 +1,4 @@
+//! Why a program that is timed tells nothing, with its exit status and its words.
 ghost use Rattle.std.specs.Prelude.{◌≡◌};
 ghost use Rattle.bench_frame.specs.Faults.{status_of, text_of};
 
@@ -25,7 +26,7 @@ pub enum Fault {
 }
 
 impl Fault {
-    /// The exit status.
+    /// The exit status of a bench that ends with this fault.
     pub fn status(self) -> u8
         ensures { result ≡ status_of self }
     {
@@ -38,7 +39,8 @@ impl Fault {
         }
     }
 
-    /// What a bench with this usage prints of the fault.
+    /// The words that a bench prints of the fault, without the line feed behind them. Where the words with
+    /// which it was called are not in form, they are `usage`, its text of how it is called.
     pub fn text<'a>(self, usage: &'a str) -> &'a str
         ensures { result.now ≡ text_of usage.now self }
     {
@@ -60,6 +62,7 @@ impl From<WordsFault> for Fault {
 
     ghost from_gives = { λ cause fault. fault ≡ fault_of cause };
 
+    // Words that are no text are not in form; else memory was refused as they were taken.
     fn from(cause: WordsFault) -> Self {
         match cause {
             WordsFault::NotText => Fault::Usage,
@@ -74,6 +77,7 @@ impl From<OutOfMemory> for Fault {
 
     ghost from_gives = { λ _ fault. fault ≡ faults.OutOfMemory };
 
+    // Memory that is refused is one of the faults.
     fn from(_refused: OutOfMemory) -> Self {
         Fault::OutOfMemory
     }
@@ -85,6 +89,7 @@ impl From<AllocError> for Fault {
 
     ghost from_gives = { λ _ fault. fault ≡ faults.OutOfMemory };
 
+    // Memory that the standard library refuses is one of the faults.
     fn from(_refused: AllocError) -> Self {
         Fault::OutOfMemory
     }
@@ -96,6 +101,7 @@ impl<T: Drop> From<AllocFailed<T>> for Fault {
 
     ghost from_gives = { λ _ fault. fault ≡ faults.OutOfMemory };
 
+    // Memory that is refused is one of the faults. What found no room is dropped.
     fn from(_refused: AllocFailed<T>) -> Self {
         Fault::OutOfMemory
     }

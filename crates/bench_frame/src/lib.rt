@@ -1,5 +1,5 @@
-//! What the programs that are timed share: why one tells nothing, the numbers in its words, and how it ends. What a
-//! bench does is its own.
+//! What the programs that are timed share: why one tells nothing, the numbers in its words, and how it
+//! ends. What a bench does is its own.
 #![tactic(auto)]
 
 mod fault;

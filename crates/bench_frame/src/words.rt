@@ -1,7 +1,9 @@
+//! Numbers among the words with which a bench is called.
 ghost use Rattle.std.specs.Prelude.{◌≡◌};
 ghost use Rattle.bench_frame.specs.Numbers.{number_in};
 
-/// The number that the text writes in decimal digits, if it is at least and at most this.
+/// The number that the text writes in decimal digits. None where it is no such text, as with a sign, or the
+/// number is below `least` or above `most`.
 pub fn number_in(text: &str, least: u64, most: u64) -> Option<u64>
     ensures { result ≡ number_in text.now least most }
 {

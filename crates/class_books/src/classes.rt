@@ -1,4 +1,5 @@
-//! The rows of each class, and the numbers that they have in the book of their class.
+//! The rows of each class, and the numbers that they have in the book of their class. A class's book
+//! numbers its rows from 0, in the order of the file.
 ghost use Rattle.std.specs.Prelude.{◌≡◌, ℕ, ◌+◌, ◌<◌, ◌≤◌, ◌^◌, [], IfOk, length, map, slice_get, slice_index, take};
 ghost use Rattle.std.specs.List.{All};
 ghost use Rattle.class_books.specs.Classes.{IsOfClass};
@@ -9,11 +10,12 @@ use foundation::OutOfMemory;
 use std::alloc::Global;
 use std::marker::Model;
 
-/// The most donors of a ranking.
+/// The most donors of a ranking: their numbers stand in an array, so that a claim takes no memory.
 pub const MOST_DONORS: usize = 64;
 
-/// The class of each row, the rows of each class in order, and the place of each row among those of its class, which is its
-/// number in the book of the class. And how often a donor is given at most, and how many passes there are.
+/// The class of each row, and the rows of each class in order. The place of a row among those of its class
+/// is its number in the book of the class. And how often a donor is given at most, and how many passes
+/// there are.
 #[derive(Drop)]
 pub struct Classes {
     class_of: Vec<u32>,
@@ -41,7 +43,8 @@ impl Model for Classes {
 }
 
 impl Classes {
-    /// The tables of these classes.
+    /// The tables of these classes. `class_of` has the class of each row, which is below `classes`. A
+    /// donor is given at most `limit` times, and there are `passes` passes.
     pub fn of(
         alloc: Global,
         class_of: Vec<u32>,
@@ -76,7 +79,8 @@ impl Classes {
         self.passes
     }
 
-    /// The rows of a class, in order. No memory.
+    /// The rows of a class, in the order of the file: a row's place here is its number in the class's book.
+    /// No memory.
     pub fn rows_of(&self, class: usize) -> &[u32]
         requires { class < self.now.classes }
         ensures rows { result.now ≡ rows_in self.now.class_of class }
@@ -94,7 +98,7 @@ impl Classes {
         self.class_of[row_no as usize] as usize
     }
 
-    /// The number of a row in its class. No memory.
+    /// The number of a row in the book of its class. No memory.
     pub fn number_of(&self, row_no: u32) -> u32
         requires { row_no < length self.now.class_of }
         ensures { (class : ℕ) → IsOfClass self.now.class_of class row_no
@@ -103,7 +107,8 @@ impl Classes {
         self.numbers[row_no as usize]
     }
 
-    /// The numbers of at most 64 rows of one class, in order, and 0 behind them. No memory.
+    /// The numbers of at most 64 rows of one class in the class's book, in order, and 0 behind them. No
+    /// memory.
     pub fn numbers_of(&self, rows: &[u32]) -> [u32; MOST_DONORS]
         requires few { length rows.now ≤ MOST_DONORS }
         requires rows { All (λ row. row < length self.now.class_of) rows.now }
@@ -117,7 +122,7 @@ impl Classes {
         numbers
     }
 
-    /// What the class's book answers, with the numbers of the whole file. No memory.
+    /// What the class's book answered, with the numbers that donors have in the whole file. No memory.
     pub fn in_file(&self, class: usize, answer: Claim) -> Claim
         requires class { class < self.now.classes }
         requires given { IsGivenWithin (length (rows_in self.now.class_of class)) answer }
@@ -130,7 +135,8 @@ impl Classes {
         }
     }
 
-    /// The history of the class's book, with the numbers of the whole file. No memory.
+    /// The history of the class's book, with the numbers that rows and donors have in the whole file. No
+    /// memory.
     pub fn history_in_file(&self, class: usize, history: Vec<Won>) -> Vec<Won>
         requires class { class < self.now.classes }
         requires rows { All (λ w. w.row_no < length (rows_in self.now.class_of class)) history.items }
@@ -147,7 +153,7 @@ impl Classes {
         history
     }
 
-    // The donor that has this number in the class, or nobody.
+    // The donor that has this number in the class's book, by its number in the whole file; None for nobody.
     fn donor_with(&self, class: usize, reply: Option<u32>) -> Option<u32>
         requires { class < self.now.classes }
         ensures { result ≡ donor_with self.now.class_of class reply }
@@ -157,7 +163,7 @@ impl Classes {
     }
 }
 
-// No rows of any class.
+// A list without rows for each class.
 fn no_rows(alloc: Global, classes: u32) -> Result<Vec<Vec<u32>>, OutOfMemory>
     ensures as_many { IfOk result (λ rows. length rows.items ≡ classes) }
     ensures empty { IfOk result (λ rows. All (λ r. r.items ≡ []) rows.items) }

@@ -1,3 +1,5 @@
+//! What a class pass has of one class: a pass of the class's book, and the room that closing the book
+//! needs.
 ghost use Rattle.std.specs.Prelude.{◌≡◌, ◌<◌, ◌≤◌, [], IfOk};
 ghost use Rattle.std.specs.List.{All};
 ghost use Rattle.donor_book.specs.Passes.{ArePlaced, IsAnswered};
@@ -8,8 +10,8 @@ use foundation::OutOfMemory;
 use std::alloc::Global;
 use std::marker::Model;
 
-/// A pass of one class's book, and room for all passes of that book, in which they come together when the book is closed:
-/// closing takes no memory.
+/// A pass of one class's book, and room for all passes of that book. They come together in it when the book
+/// is closed, so that closing takes no memory.
 #[derive(Drop)]
 pub struct Hand {
     pass: Pass,
@@ -28,7 +30,7 @@ impl Model for Hand {
 }
 
 impl Hand {
-    /// A pass that has claimed nothing, and room for as many as there are.
+    /// A pass that has claimed nothing, and room for all `passes` of its book.
     pub fn of(alloc: Global, pass: Pass, passes: u32) -> Result<Hand, OutOfMemory>
         requires passes { pass.book.terms.passes ≡ passes }
         requires mine { pass.mine ≡ [] }
@@ -50,7 +52,7 @@ impl Hand {
         book.claim(&mut self.pass, row_no, ranking)
     }
 
-    /// The pass and the room. No memory.
+    /// The pass, and the room, in which no pass stands yet. No memory.
     pub fn into_parts(self) -> (Pass, Vec<Pass>)
         ensures pass { result.0 ≡ self }
         ensures ranks { RanksOwn self }

@@ -1,3 +1,5 @@
+//! The pass of a worker over all classes: one pass of each class's book. Contracts see it with the numbers
+//! that rows and donors have in the whole file.
 ghost use Rattle.std.specs.Prelude.{◌≡◌, ◌<◌, [], OnOk, length};
 ghost use Rattle.std.specs.Arc.{arc_value};
 ghost use Rattle.class_books.specs.ClassPasses.{state_in};
@@ -12,8 +14,8 @@ use std::alloc::Global;
 use std::marker::Model;
 use std::sync::Arc;
 
-/// A place at shared classes, from which one worker claims at a time: a pass of the book of each class. It may be sent to
-/// another thread.
+/// A place at shared classes, from which one worker claims at a time: a pass of the book of each class. It
+/// may be sent to another thread.
 #[derive(Drop)]
 pub struct ClassPass {
     pub(crate) classes: Arc<Classes>,
@@ -33,7 +35,8 @@ impl Model for ClassPass {
 }
 
 impl ClassPass {
-    /// A pass of the classes, with a pass of no book yet. No memory.
+    /// A pass of the classes that has no pass of a book yet; `add` takes them in, class by class. No
+    /// memory.
     pub fn of(alloc: Global, classes: Arc<Classes>) -> ClassPass
         ensures { result ≡ class_pass_of (arc_value classes) [] }
     {
@@ -43,7 +46,7 @@ impl ClassPass {
         }
     }
 
-    /// Takes in a pass of the next class's book, which has seen and claimed nothing.
+    /// Takes in a pass of the book of the next class, which has seen and claimed nothing.
     pub fn add(&mut self, alloc: Global, pass: Pass) -> Result<(), OutOfMemory>
         requires { IsNext self.old pass }
         ensures { OnOk result (self.new ≡ with_class self.old pass.book) }
@@ -53,7 +56,8 @@ impl ClassPass {
         Ok(())
     }
 
-    /// Gives away what it has of the last class. No memory.
+    /// Gives away what it has of the last class, of which there is one; it then has those before it alone.
+    /// Books are closed from the last class on. No memory.
     pub fn take_last(&mut self) -> Hand
         requires { 0 < length self.old.classes.books }
         ensures rest { self.new ≡ first_classes (last_class self.old) self.old }

@@ -1,3 +1,9 @@
+//! The books of all classes, which threads share. A claim goes to the book of the row's class, in the
+//! numbers of that class, and its answer comes back in the file's.
+//!
+//! In contracts, `pass_in` has what a pass has of one class, as a pass of that class's book. `EachClass`
+//! says something of each class, and `IsFreshPass` that a pass has seen and claimed nothing in any.
+//! `IsAnswered`, `IsWhole` and `IsSound` are those of `donor_book`.
 ghost use Rattle.std.specs.Prelude.{◌≡◌, ◌≢◌, ℕ, ◌+◌, ◌++◌, ◌<◌, ◌≤◌, ◌^◌, List, [], ◌∷◌, IfOk, OnOk, length, map};
 ghost use Rattle.std.specs.List.{All};
 ghost use Rattle.std.specs.Arc.{arc_value};
@@ -18,8 +24,8 @@ use std::alloc::Global;
 use std::marker::Model;
 use std::sync::Arc;
 
-/// A book of claims for each class of rows, which threads share, without a lock. A row claims donors of its own class. Each
-/// thread claims from a [`ClassPass`] of its own.
+/// A book of claims for each class of rows, which threads share, without a lock. A row claims donors of its
+/// own class. Each thread claims from a [`ClassPass`] of its own.
 #[derive(Drop)]
 pub struct SharedClasses {
     classes: Arc<Classes>,
@@ -41,8 +47,9 @@ impl Model for SharedClasses {
 }
 
 impl SharedClasses {
-    /// A book for each class, in which a donor is given at most `limit` times, and its passes. `class_of` has the class of
-    /// each row; a row claims and is a donor in its class alone. Nobody has claimed. All memory is taken here.
+    /// A book for each class, in which a donor is given at most `limit` times, and `passes` passes.
+    /// `class_of` has the class of each row, below `classes`; a row claims, and is a donor, in its class
+    /// alone. Nobody has claimed. All memory is taken here.
     pub fn share(
         alloc: Global,
         class_of: Vec<u32>,
@@ -81,8 +88,8 @@ impl SharedClasses {
         Ok((shared, all))
     }
 
-    /// Claims a donor for a row in the book of its class, as `SharedBook::claim` does. The donors of the ranking are at most
-    /// 64 rows of that class. No memory, no waiting.
+    /// Claims a donor for a row in the book of its class, as `SharedBook::claim` does. The donors of the
+    /// ranking are at most 64 rows of that class. No memory, no waiting.
     pub fn claim(&self, pass: &mut ClassPass, row_no: u32, ranking: &[u32]) -> Claim
         requires classes { pass.old.classes ≡ self.now }
         requires row { row_no < length self.now.terms.class_of }
@@ -107,7 +114,9 @@ impl SharedClasses {
         self.classes.in_file(class, answer)
     }
 
-    /// The history of each class, in order, once all passes are handed back. No memory, no waiting.
+    /// The history of each class, in the order of the classes, once all passes are handed back. Each is
+    /// legal, and made of the claims of the passes in that class. One after the other they are one legal
+    /// history. No memory, no waiting.
     pub fn close(self, passes: Vec<ClassPass>) -> Vec<Vec<Won>>
         requires classes { All (λ pass. pass.classes ≡ self) passes.items }
         requires all { length passes.items ≡ self.terms.passes }
@@ -140,7 +149,7 @@ impl SharedClasses {
     }
 }
 
-// So many passes of the classes, with passes of no book yet.
+// As many passes of the classes as `count`, with passes of no book yet.
 fn passes_of(
     alloc: Global,
     classes: &Arc<Classes>,
@@ -157,7 +166,8 @@ fn passes_of(
     Ok(all)
 }
 
-// Gives each pass of the classes a pass of the next class's book.
+// Gives each of `all`, the passes of the classes, a pass of the next class's book. In `passes` there are
+// as many.
 fn deal(alloc: Global, all: &mut Vec<ClassPass>, passes: Vec<Pass>) -> Result<(), OutOfMemory>
     requires as_many { length passes.items ≡ length all.old.items }
     requires next { All (λ class_pass. All (IsNext class_pass) passes.items) all.old.items }
@@ -176,7 +186,8 @@ fn deal(alloc: Global, all: &mut Vec<ClassPass>, passes: Vec<Pass>) -> Result<()
     Ok(())
 }
 
-// The passes of the last class's book, of all passes of the classes, in the room that the last of these has for them.
+// The passes of the last class's book, taken from `others` and then from `last`, which together are all
+// passes of the classes. They come in the room that `last` has for them, so that no memory is taken.
 fn gather(others: &mut Vec<ClassPass>, last: &mut ClassPass) -> Vec<Pass>
     requires some { 0 < length last.old.classes.books }
     requires same { All (λ pass. pass.classes ≡ last.old.classes) others.old.items }

@@ -15,7 +15,8 @@ none_found p (x ∷ xs) none = let apart = first_none (p x) x (find p xs) none i
 
 found_none : (p : ℕ → Bool) (xs : List ℕ) → All (λ x. p x ≡ false) xs → find p xs ≡ None
 found_none p [] all = refl
-found_none p (x ∷ xs) all = ap (λ b. cond b (Some x) (find p xs)) (All-head (λ (y : ℕ). p y ≡ false) x xs all) ∙ found_none p xs (All-tail (λ (y : ℕ). p y ≡ false) x xs all)
+found_none p (x ∷ xs) all = ap (λ b. cond b (Some x) (find p xs)) (All-head (λ (y : ℕ). p y ≡ false) x xs all)
+    ∙ found_none p xs (All-tail (λ (y : ℕ). p y ≡ false) x xs all)
 
 neither : (o : Option Won) (reply : Option ℕ) → had_or o (given reply) ≡ claim.Nobody → (o ≡ None) × (reply ≡ None)
 neither None None is = (refl, refl)
@@ -23,7 +24,8 @@ neither None (Some d) is = absurd (cc)
 neither (Some w) reply is = absurd (cc)
 
 -- nobody is the answer exactly where the row has not claimed and each donor of its ranking was given as often as the limit
-nobody_is : (limit : ℕ) (history : List Won) (row : ℕ) (ranking : List ℕ) → (answer_to limit history row ranking ≡ claim.Nobody) ↔ ((claim_of row history ≡ None) × All (λ donor. limit ≤ uses_of donor history) ranking)
+nobody_is : (limit : ℕ) (history : List Won) (row : ℕ) (ranking : List ℕ) → (answer_to limit history row ranking ≡ claim.Nobody) ↔
+    ((claim_of row history ≡ None) × All (λ donor. limit ≤ uses_of donor history) ranking)
 nobody_is limit history row ranking = (
   (λ is. let both = neither (claim_of row history) (first_free limit history ranking) is in
       (both.0, λ k d lt. let used = none_found has_left ranking both.1 k d lt in grind (arith, used))),
@@ -35,5 +37,8 @@ nobody_is limit history row ranking = (
     has_left donor = nat_lt (uses_of donor history) limit
 
 -- and so it is of each call that gives the answer
-pub nobody_when : (answer : Claim) (limit : ℕ) (history : List Won) (row : ℕ) (ranking : List ℕ) → answer ≡ answer_to limit history row ranking → (answer ≡ claim.Nobody) ↔ ((claim_of row history ≡ None) × All (λ donor. limit ≤ uses_of donor history) ranking)
-nobody_when answer limit history row ranking is = subst (λ (a : Claim). (a ≡ claim.Nobody) ↔ ((claim_of row history ≡ None) × All (λ donor. limit ≤ uses_of donor history) ranking)) (sym is) (nobody_is limit history row ranking)
+pub nobody_when : (answer : Claim) (limit : ℕ) (history : List Won) (row : ℕ) (ranking : List ℕ) → answer ≡ answer_to limit history row ranking
+    → (answer ≡ claim.Nobody) ↔ ((claim_of row history ≡ None) × All (λ donor. limit ≤ uses_of donor history) ranking)
+nobody_when answer limit history row ranking is =
+    subst (λ (a : Claim). (a ≡ claim.Nobody) ↔ ((claim_of row history ≡ None) × All (λ donor. limit ≤ uses_of donor history) ranking)) (sym is)
+    (nobody_is limit history row ranking)

@@ -1,5 +1,6 @@
 -- The claims of the passes, each at its place, are a legal history.
-use Rattle.std.proofs.Common.{◌≡◌, ℕ, zero, suc, ◌+◌, ◌<◌, ◌≤◌, Bool, true, false, cond, List, [], ◌∷◌, map, length, take, Some, None, Option, refl, sym, ap, ◌∙◌, subst, nat_eq, eqb, arith}
+use Rattle.std.proofs.Common.{◌≡◌, ℕ, zero, suc, ◌+◌, ◌<◌, ◌≤◌, Bool, true, false, cond, List, [], ◌∷◌, map, length, take, Some, None, Option, refl, sym, ap}
+use Rattle.std.proofs.Common.{◌∙◌, subst, nat_eq, eqb, arith}
 use Rattle.std.specs.Prelude.{slice_get}
 use Rattle.std.specs.List.{All, IsDistinct, find}
 use Rattle.std.proofs.lemmas.Bool.{eq-eqb, eqb-true}
@@ -43,7 +44,8 @@ counts b = cond b 1 0
 abbrev Found : (Placed → Type 0) → ℕ → List Placed → Type 0
 Found P k mine = (m : Placed) × (claim_with k mine ≡ Some m) × (m.place ≡ k) × P m
 
-found_by : (P : Placed → Type 0) (k : ℕ) (x : Placed) (xs : List Placed) (b : Bool) → nat_eq x.place k ≡ b → P x → 0 < claims_at k (x ∷ xs) → (0 < claims_at k xs → Found P k xs) → Found P k (x ∷ xs)
+found_by : (P : Placed → Type 0) (k : ℕ) (x : Placed) (xs : List Placed) (b : Bool) → nat_eq x.place k ≡ b → P x → 0 < claims_at k (x ∷ xs)
+    → (0 < claims_at k xs → Found P k xs) → Found P k (x ∷ xs)
 found_by P k x xs true is holds some later = (x, ap (λ b. cond b (Some x) (claim_with k xs)) is, eqb-true x.place k is, holds)
 found_by P k x xs false is holds some later =
     let none : counts (nat_eq x.place k) ≡ counts false = ap counts is in
@@ -55,7 +57,8 @@ found : (P : Placed → Type 0) (k : ℕ) (mine : List Placed) → All P mine �
 found P k [] all some = absurd (omega (arith, some))
 found P k (x ∷ xs) all some = found_by P k x xs (nat_eq x.place k) refl (All-head P x xs all) some (λ more. found P k xs (All-tail P x xs all) more)
 
-alone_by : (k : ℕ) (x : Placed) (xs : List Placed) (i : ℕ) (d : Placed) (b : Bool) → nat_eq x.place k ≡ b → i < length xs → (get_or xs i d).place ≡ k → claims_at k (x ∷ xs) ≤ 1 → (claims_at k xs ≤ 1 → claim_with k xs ≡ Some (get_or xs i d))
+alone_by : (k : ℕ) (x : Placed) (xs : List Placed) (i : ℕ) (d : Placed) (b : Bool) → nat_eq x.place k ≡ b → i < length xs → (get_or xs i d).place ≡ k
+    → claims_at k (x ∷ xs) ≤ 1 → (claims_at k xs ≤ 1 → claim_with k xs ≡ Some (get_or xs i d))
     → claim_with k (x ∷ xs) ≡ Some (get_or xs i d)
 alone_by k x xs i d true is lt at few later =
     let one : counts (nat_eq x.place k) ≡ counts true = ap counts is in
@@ -67,32 +70,38 @@ alone_by k x xs i d false is lt at few later =
     ap (λ b. cond b (Some x) (claim_with k xs)) is ∙ later (omega (arith, none, few, sum_by-cons (here_at k) x xs))
 
 -- and where it is claimed once, it is the only one
-alone : (k : ℕ) (mine : List Placed) (i : ℕ) (d : Placed) → i < length mine → (get_or mine i d).place ≡ k → claims_at k mine ≤ 1 → claim_with k mine ≡ Some (get_or mine i d)
+alone : (k : ℕ) (mine : List Placed) (i : ℕ) (d : Placed) → i < length mine → (get_or mine i d).place ≡ k → claims_at k mine ≤ 1 → claim_with k mine
+    ≡ Some (get_or mine i d)
 alone k [] i d lt at few = absurd (omega (arith, lt))
 alone k (x ∷ xs) zero d lt at few = ap (λ b. cond b (Some x) (claim_with k xs)) (eq-eqb x.place k at)
-alone k (x ∷ xs) (suc i) d lt at few = alone_by k x xs i d (nat_eq x.place k) refl (omega (arith, lt)) at few (λ less. alone k xs i d (omega (arith, lt)) at less)
+alone k (x ∷ xs) (suc i) d lt at few = alone_by k x xs i d (nat_eq x.place k) refl (omega (arith, lt)) at few
+    (λ less. alone k xs i d (omega (arith, lt)) at less)
 
 -- the entry at a place
 entries_at : (mine : List Placed) (k n j : ℕ) → j < n → slice_get (entries_from mine k n) j ≡ Some (entry_or (claim_with (k + j) mine))
 unfolding entries_from
 entries_at mine k zero j lt = absurd (omega (arith, lt))
 entries_at mine k (suc n) zero lt = let same : k ≡ k + 0 = omega arith in ap (λ i. Some (entry_or (claim_with i mine))) same
-entries_at mine k (suc n) (suc j) lt = let same : suc k + j ≡ k + suc j = omega arith in entries_at mine (suc k) n j (omega (arith, lt)) ∙ ap (λ i. Some (entry_or (claim_with i mine))) same
+entries_at mine k (suc n) (suc j) lt = let same : suc k + j ≡ k + suc j = omega arith in entries_at mine (suc k) n j (omega (arith, lt))
+    ∙ ap (λ i. Some (entry_or (claim_with i mine))) same
 
 -- where each claim is in the history at its place, the entries are those of the history
-wins_are : (mine : List Placed) (k : ℕ) (history : List Won) → ((j : ℕ) (x : Won) → slice_get history j ≡ Some x → won_of (entry_or (claim_with (k + j) mine)) ≡ x) → wins_of (entries_from mine k (length history)) ≡ history
+wins_are : (mine : List Placed) (k : ℕ) (history : List Won) → ((j : ℕ) (x : Won) → slice_get history j ≡ Some x → won_of (entry_or (claim_with (k + j) mine))
+    ≡ x) → wins_of (entries_from mine k (length history)) ≡ history
 unfolding entries_from
 wins_are mine k [] each = refl
 wins_are mine k (x ∷ history) each =
     let same : k ≡ k + 0 = omega arith in
     let first : won_of (entry_or (claim_with k mine)) ≡ x = ap (λ i. won_of (entry_or (claim_with i mine))) same ∙ each 0 x refl in
-    let rest = wins_are mine (suc k) history (λ j y is. (let next : suc k + j ≡ k + suc j = omega arith in ap (λ i. won_of (entry_or (claim_with i mine))) next ∙ each (suc j) y is)) in
+    let rest = wins_are mine (suc k) history (λ j y is. (let next : suc k + j ≡ k + suc j = omega arith in ap (λ i. won_of (entry_or (claim_with i mine))) next
+    ∙ each (suc j) y is)) in
     λ i. first i ∷ rest i
 
 same_entry : (e x : Entry) → Some e ≡ Some x → e ≡ x
 same_entry e x is = cc
 
-module _ (limit : ℕ) (passes : List PassState) (history : List Won) (whole : IsWhole limit passes history) (once : IsDistinct eqb (map (λ (w : Won). w.row_no) history)) where
+module _ (limit : ℕ) (passes : List PassState) (history : List Won) (whole : IsWhole limit passes history)
+    (once : IsDistinct eqb (map (λ (w : Won). w.row_no) history)) where
   -- all claims of the passes
   abbrev mine : List Placed
   mine = claims_of passes
@@ -127,7 +136,8 @@ module _ (limit : ℕ) (passes : List PassState) (history : List Won) (whole : I
     once = subst (λ (ws : List Won). IsDistinct eqb (map (λ (w : Won). w.row_no) ws)) (sym wins_is) once;
   }
     where
-      each : (place : ℕ) (entry : Entry) → slice_get entries place ≡ Some entry → place < length history → Found (IsClaim limit history) place mine → entry.reply ≡ first_free limit (take place (wins_of entries)) entry.ranking
+      each : (place : ℕ) (entry : Entry) → slice_get entries place ≡ Some entry → place < length history → Found (IsClaim limit history) place mine
+          → entry.reply ≡ first_free limit (take place (wins_of entries)) entry.ranking
       each place entry is lt m =
           let same : m.0.entry ≡ entry = same_entry m.0.entry entry (sym (entry_at place lt ∙ ap (λ o. Some (entry_or o)) m.1) ∙ is) in
           subst (λ (x : Entry). x.reply ≡ first_free limit (take place (wins_of entries)) x.ranking) same

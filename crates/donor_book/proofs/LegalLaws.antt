@@ -1,4 +1,5 @@
-use Rattle.std.proofs.Common.{◌≡◌, ◌≢◌, ℕ, zero, suc, ◌+◌, ◌<◌, ◌≤◌, ◌^◌, Bool, true, false, cond, nat_lt, ⊎_elim, List, [], ◌∷◌, ◌++◌, map, length, get_or, set, take, Some, None, Option, refl, sym, ap, ◌∙◌, subst, eqb, arith}
+use Rattle.std.proofs.Common.{◌≡◌, ◌≢◌, ℕ, zero, suc, ◌+◌, ◌<◌, ◌≤◌, ◌^◌, Bool, true, false, cond, nat_lt, ⊎_elim, List, [], ◌∷◌, ◌++◌, map, length, get_or}
+use Rattle.std.proofs.Common.{set, take, Some, None, Option, refl, sym, ap, ◌∙◌, subst, eqb, arith}
 use Rattle.std.specs.Prelude.{replicate, slice_get}
 use Rattle.std.proofs.Math.ListN.{length-replicate}
 use Rattle.std.specs.List.{All, IsDistinct, find, take-map}
@@ -31,12 +32,14 @@ each_push P (y ∷ history) e each last zero x is = each 0 x is
 each_push P (y ∷ history) e each last (suc k) x is = each_push (λ k x. P (suc k) x) history e (λ k x is. each (suc k) x is) last k x is
 
 -- an entry that the others leave free, of a row that has not claimed, keeps a history legal
-pub legal_push : (limit : ℕ) (history : List Entry) (e : Entry) → IsLegalHistory limit history → claim_of e.row_no (wins_of history) ≡ None → e.reply ≡ first_free limit (wins_of history) e.ranking → IsLegalHistory limit (history ++ e ∷ [])
+pub legal_push : (limit : ℕ) (history : List Entry) (e : Entry) → IsLegalHistory limit history → claim_of e.row_no (wins_of history) ≡ None → e.reply
+    ≡ first_free limit (wins_of history) e.ranking → IsLegalHistory limit (history ++ e ∷ [])
 legal_push limit history e legal none free = record {
   replies = each_push (λ k (x : Entry). x.reply ≡ first_free limit (take k (wins_of (history ++ e ∷ []))) x.ranking) history e
       (λ k x is. legal.replies k x is ∙ ap (λ l. first_free limit l x.ranking) (sym (before k (let w = slice_get_within history k x is in omega (arith, w)))))
       (free ∙ ap (λ l. first_free limit l e.ranking) (sym (before (length history) (omega arith) ∙ all_before)));
-  once = subst (IsDistinct eqb) (sym (ap (λ l. map (λ (w : Won). w.row_no) l) (wins_push history e) ∙ map-append (λ (w : Won). w.row_no) (wins_of history) (won_of e ∷ []))) (once_more (wins_of history) e.row_no legal.once none);
+  once = subst (IsDistinct eqb) (sym (ap (λ l. map (λ (w : Won). w.row_no) l) (wins_push history e)
+      ∙ map-append (λ (w : Won). w.row_no) (wins_of history) (won_of e ∷ []))) (once_more (wins_of history) e.row_no legal.once none);
 }
   where
     as_many : length (wins_of history) ≡ length history
@@ -60,7 +63,8 @@ legal_fresh limit = record { replies = λ k x is. absurd (none k x is); once = t
 
 -- what a book keeps
 abbrev pub Keeps : ℕ → List Entry → List ℕ → List (Option (Option ℕ)) → ℕ → Type 0
-Keeps limit history uses replies places = IsLegalHistory limit history × All (IsWithin (length uses) (length replies)) (wins_of history) × IsReplay (wins_of history) uses replies × (length replies ≤ places) × (length replies < 2 ^ 32)
+Keeps limit history uses replies places = IsLegalHistory limit history × All (IsWithin (length uses) (length replies)) (wins_of history)
+    × IsReplay (wins_of history) uses replies × (length replies ≤ places) × (length replies < 2 ^ 32)
 
 pub keeps_fresh : (limit donors rows places : ℕ) → rows ≤ places → rows < 4294967296 → Keeps limit [] (replicate donors 0) (replicate rows None) places
 keeps_fresh limit donors rows places room few =
@@ -70,7 +74,8 @@ keeps_fresh limit donors rows places room few =
 -- ---- the entry of a row that has not claimed, in a book
 
 module _ (limit : ℕ) (history : List Entry) (uses : List ℕ) (replies : List (Option (Option ℕ))) (places : ℕ) (e : Entry) (book : BookParts)
-    (is : book_of limit uses replies history ≡ book) (keeps : Keeps limit history uses replies places) (row : e.row_no < book.rows) (first : claim_of e.row_no (wins_of book.history) ≡ None) where
+    (is : book_of limit uses replies history ≡ book) (keeps : Keeps limit history uses replies places) (row : e.row_no < book.rows)
+    (first : claim_of e.row_no (wins_of book.history) ≡ None) where
   as_many : length (wins_of history) ≡ length history
   as_many = length-map history won_of
 
@@ -82,7 +87,8 @@ module _ (limit : ℕ) (history : List Entry) (uses : List ℕ) (replies : List 
 
   -- there are fewer entries than rows
   pub room_is : length history < length replies
-  room_is = let less = room (length uses) (length replies) (wins_of history) e.row_no keeps.1 keeps.0.once row_is first_is in let same = as_many in omega (arith, less, same)
+  room_is = let less = room (length uses) (length replies) (wins_of history) e.row_no keeps.1 keeps.0.once row_is first_is in let same = as_many in
+      omega (arith, less, same)
 
   -- so each donor can be counted once more
   pub count_is : (k d : ℕ) → k < length uses → get_or uses k d + 1 < 4294967296
@@ -104,7 +110,8 @@ module _ (limit : ℕ) (history : List Entry) (uses : List ℕ) (replies : List 
     free_is = subst (λ (b : BookParts). e.reply ≡ first_free b.limit (wins_of b.history) e.ranking) (sym is) free
 
     within_is : All (IsWithin (length uses) (length replies)) (wins_of (history ++ e ∷ []))
-    within_is = subst (λ (ws : List Won). All (IsWithin (length uses) (length replies)) ws) (sym (wins_push history e)) (All-push (IsWithin (length uses) (length replies)) (wins_of history) (won_of e) keeps.1 (row_is, donor_is))
+    within_is = subst (λ (ws : List Won). All (IsWithin (length uses) (length replies)) ws) (sym (wins_push history e))
+        (All-push (IsWithin (length uses) (length replies)) (wins_of history) (won_of e) keeps.1 (row_is, donor_is))
 
     -- the book keeps what it kept
     pub keeps_push : Keeps limit (history ++ e ∷ []) (with_use e.reply uses) (set replies e.row_no (Some e.reply)) places
@@ -114,7 +121,8 @@ module _ (limit : ℕ) (history : List Entry) (uses : List ℕ) (replies : List 
           legal_push limit history e keeps.0 first_is free_is,
           subst (λ n. All (IsWithin n (length (set replies e.row_no (Some e.reply)))) (wins_of (history ++ e ∷ []))) (sym same_uses)
               (subst (λ n. All (IsWithin (length uses) n) (wins_of (history ++ e ∷ []))) (sym same_rows) within_is),
-          subst (λ (ws : List Won). IsReplay ws (with_use e.reply uses) (set replies e.row_no (Some e.reply))) (sym (wins_push history e)) (replay_push (wins_of history) uses replies (won_of e) keeps.2 (row_is, donor_is) first_is),
+          subst (λ (ws : List Won). IsReplay ws (with_use e.reply uses) (set replies e.row_no (Some e.reply))) (sym (wins_push history e))
+              (replay_push (wins_of history) uses replies (won_of e) keeps.2 (row_is, donor_is) first_is),
           (let p = keeps.3 in omega (arith, same_rows, p)),
           (let p = keeps.4 in omega (arith, same_rows, p)),
         )
@@ -136,9 +144,11 @@ abbrev counts : Bool → ℕ
 counts b = cond b 1 0
 
 -- a donor that is given is used less often before
-one_more : (limit : ℕ) (history : List Won) (ranking : List ℕ) (reply : Option ℕ) (donor : ℕ) → reply ≡ first_free limit history ranking → uses_of donor history ≤ limit → uses_of donor history + cond (gave donor reply) 1 0 ≤ limit
+one_more : (limit : ℕ) (history : List Won) (ranking : List ℕ) (reply : Option ℕ) (donor : ℕ) → reply ≡ first_free limit history ranking
+    → uses_of donor history ≤ limit → uses_of donor history + cond (gave donor reply) 1 0 ≤ limit
 one_more limit history ranking None donor is few = omega (arith, few)
-one_more limit history ranking (Some d) donor is few = ⊎_elim (λ (t : (eqb donor d ≡ true) × (donor ≡ d)). here t) (λ (f : (eqb donor d ≡ false) × (donor ≢ d)). else_where f) (eqb_tells donor d)
+one_more limit history ranking (Some d) donor is few = ⊎_elim (λ (t : (eqb donor d ≡ true) × (donor ≡ d)). here t)
+    (λ (f : (eqb donor d ≡ false) × (donor ≢ d)). else_where f) (eqb_tells donor d)
   where
     less : nat_lt (uses_of d history) limit ≡ true
     less = found_passes (λ x. nat_lt (uses_of x history) limit) ranking d (sym is)
@@ -153,7 +163,8 @@ one_more limit history ranking (Some d) donor is few = ⊎_elim (λ (t : (eqb do
 
 -- no donor stands in a legal history more often than the limit
 pub uses_within : (limit : ℕ) (history : List Entry) (donor : ℕ) → IsLegalHistory limit history → uses_of donor (wins_of history) ≤ limit
-uses_within limit history donor legal = subst (λ (ws : List Won). uses_of donor ws ≤ limit) (take_all (length history) (wins_of history) (omega (arith, as_many))) (up_to (length history) (omega arith))
+uses_within limit history donor legal = subst (λ (ws : List Won). uses_of donor ws ≤ limit)
+    (take_all (length history) (wins_of history) (omega (arith, as_many))) (up_to (length history) (omega arith))
   where
     as_many : length (wins_of history) ≡ length history
     as_many = length-map history won_of
@@ -167,8 +178,10 @@ uses_within limit history donor legal = subst (λ (ws : List Won). uses_of donor
         let e = get_or history k nobody in
         let at : slice_get history k ≡ Some e = slice_get-get_or history k nobody (omega (arith, le)) in
         let more : take (k + 1) (wins_of history) ≡ take k (wins_of history) ++ won_of e ∷ [] =
-        take-map won_of (k + 1) history ∙ map_more won_of history k nobody (omega (arith, le)) ∙ ap (λ (ws : List Won). ws ++ won_of e ∷ []) (sym (take-map won_of k history)) in
+        take-map won_of (k + 1) history ∙ map_more won_of history k nobody (omega (arith, le))
+        ∙ ap (λ (ws : List Won). ws ++ won_of e ∷ []) (sym (take-map won_of k history)) in
         let push = sum_by_push (λ (w : Won). cond (gave donor w.reply) 1 0) (take k (wins_of history)) (won_of e) in
         let few = one_more limit (take k (wins_of history)) e.ranking e.reply donor (legal.replies k e at) (up_to k (omega (arith, le))) in
         let next : k + 1 ≡ suc k = omega arith in
-        subst (λ n. uses_of donor (take n (wins_of history)) ≤ limit) next (subst (λ (ws : List Won). uses_of donor ws ≤ limit) (sym more) (omega (arith, push, few)))
+        subst (λ n. uses_of donor (take n (wins_of history)) ≤ limit) next (subst (λ (ws : List Won). uses_of donor ws ≤ limit) (sym more)
+        (omega (arith, push, few)))

@@ -1,5 +1,6 @@
 -- Each kind of step keeps the rule: the first pass, a try, a split, a join.
-use Rattle.std.proofs.Common.{◌≡◌, ◌≢◌, ℕ, zero, suc, ◌+◌, ◌-◌, ◌<◌, ◌≤◌, Bool, true, false, true≢false, List, [], ◌∷◌, ◌++◌, map, length, take, set, Some, None, cond, refl, sym, ap, ◌∙◌, subst, ⊎_elim, nat_eq, eqb, arith, append_assoc, append-nil, length-append}
+use Rattle.std.proofs.Common.{◌≡◌, ◌≢◌, ℕ, zero, suc, ◌+◌, ◌-◌, ◌<◌, ◌≤◌, Bool, true, false, true≢false, List, [], ◌∷◌, ◌++◌, map, length, take, set, Some}
+use Rattle.std.proofs.Common.{None, cond, refl, sym, ap, ◌∙◌, subst, ⊎_elim, nat_eq, eqb, arith, append_assoc, append-nil, length-append}
 use Rattle.std.specs.Prelude.{slice_get, slice_index}
 use Rattle.std.specs.List.{All, IsDistinct}
 use Rattle.std.proofs.lemmas.List.{map-append, take-append-le}
@@ -24,18 +25,22 @@ use Rattle.donor_book.specs.declared.rule.Terms.{Terms}
 use Rattle.donor_book.specs.Claims.{IsWithin, claim_of, first_free}
 use Rattle.donor_book.specs.Entries.{won_of}
 use Rattle.donor_book.specs.Passes.{IsClaim, StartsWith, claims_at}
-use Rattle.donor_book.specs.inner.Rule.{AreClaims, HasTried, IsFair, IsHistory, both_known, first_known, new_known, once_below, seeing, spent_known, with_entry, without_a_pass, word_of, words_of}
+use Rattle.donor_book.specs.inner.Rule.{AreClaims, HasTried, IsFair, IsHistory, both_known, first_known, new_known, once_below, seeing, spent_known, with_entry}
+use Rattle.donor_book.specs.inner.Rule.{without_a_pass, word_of, words_of}
 use Rattle.donor_book.proofs.IndexLaws.{none_before, once_more}
 use Rattle.donor_book.proofs.WordLaws.{set_same, some_at, some_same, word_is_not_0, words_behind, words_front, words_push, zeros}
 
 -- one view changes, and the others stay fair
-fair_set : (terms : Terms) (history : List Won) (views : List Known) (by : ℕ) (w : Known) → ((j : ℕ) (u : Known) → get_elem? views j ≡ some u → IsFair terms history u) → IsFair terms history w → (j : ℕ) (u : Known) → get_elem? (set views by w) j ≡ some u → IsFair terms history u
-fair_set terms history views by w fair mine j u at = ⊎_elim (λ (x : (j ≡ by) × (w ≡ u)). subst (IsFair terms history) x.1 mine) (λ (x : (j ≢ by) × (get_elem? views j ≡ some u)). fair j u x.1) (at_set views by j w u at)
+fair_set : (terms : Terms) (history : List Won) (views : List Known) (by : ℕ) (w : Known) → ((j : ℕ) (u : Known) → get_elem? views j ≡ some u
+    → IsFair terms history u) → IsFair terms history w → (j : ℕ) (u : Known) → get_elem? (set views by w) j ≡ some u → IsFair terms history u
+fair_set terms history views by w fair mine j u at = ⊎_elim (λ (x : (j ≡ by) × (w ≡ u)). subst (IsFair terms history) x.1 mine)
+    (λ (x : (j ≢ by) × (get_elem? views j ≡ some u)). fair j u x.1) (at_set views by j w u at)
 
 -- a list that begins a list of its own length is that list
 whole : (history seen : List Won) → StartsWith history seen → length history ≡ length seen → history ≡ seen
 whole history seen (([], is)) same = is ∙ append-nil seen
-whole history seen ((x ∷ rest, is)) same = let l : length history ≡ length seen + length (x ∷ rest) = ap length is ∙ length-append seen (x ∷ rest) in absurd (omega arith)
+whole history seen ((x ∷ rest, is)) same = let l : length history ≡ length seen + length (x ∷ rest) = ap length is ∙ length-append seen (x ∷ rest) in
+    absurd (omega arith)
 
 -- what is seen at a place is seen there in a longer list
 get_longer : (xs ys : List Won) (k : ℕ) (x : Won) → slice_get xs k ≡ Some x → slice_get (xs ++ ys) k ≡ Some x
@@ -60,7 +65,8 @@ take_front (x ∷ xs) ys = ap (λ l. x ∷ l) (take_front xs ys)
 
 one_more : (k n : ℕ) (b : Bool) → nat_eq n k ≡ b → once_below k (n + 1) ≡ once_below k n + cond b 1 0
 one_more k n true is = let e = eqb-true n k is in omega (arith, e)
-one_more k n false is = ⊎_elim (λ (t : (nat_eq n k ≡ true) × (n ≡ k)). absurd (true≢false (sym t.0 ∙ is))) (λ (f : (nat_eq n k ≡ false) × (n ≢ k)). apart f.1) (eqb_tells n k)
+one_more k n false is = ⊎_elim (λ (t : (nat_eq n k ≡ true) × (n ≡ k)). absurd (true≢false (sym t.0 ∙ is))) (λ (f : (nat_eq n k ≡ false) × (n ≢ k)). apart f.1)
+    (eqb_tells n k)
   where
     apart : n ≢ k → once_below k (n + 1) ≡ once_below k n + 0
     apart ne = omega (arith, ne)
@@ -79,8 +85,10 @@ fair_longer terms history w z f = record {
 }
 
 -- the claim is entered behind the history, which the claimer had seen whole
-pub claims : (terms : Terms) (history : List Won) (views : List Known) (by : ℕ) (v : Known) (e : Entry) → IsHistory terms history views → get_elem? views by ≡ some v → 0 < v.passes → length history ≡ length v.seen
-    → IsWithin terms.donors terms.rows (won_of e) → claim_of e.row_no v.seen ≡ None → e.reply ≡ first_free terms.limit v.seen e.ranking → IsHistory terms (history ++ won_of e ∷ []) (set views by (with_entry e v))
+pub claims : (terms : Terms) (history : List Won) (views : List Known) (by : ℕ) (v : Known) (e : Entry) → IsHistory terms history views → get_elem? views by
+    ≡ some v → 0 < v.passes → length history ≡ length v.seen
+    → IsWithin terms.donors terms.rows (won_of e) → claim_of e.row_no v.seen ≡ None → e.reply ≡ first_free terms.limit v.seen e.ranking
+    → IsHistory terms (history ++ won_of e ∷ []) (set views by (with_entry e v))
 claims terms history views by v e rule at share same within first free =
     let mine = rule.fair by v at in
     let is : history ≡ v.seen = whole history v.seen mine.seen same in
@@ -102,8 +110,10 @@ claims terms history views by v e rule at share same within first free =
           record {
             seen = ([], ap (λ l. l ++ w ∷ []) is ∙ sym (append-nil (v.seen ++ w ∷ [])));
             heard = (fair_longer terms history w v mine).heard;
-            mine = All-push (IsClaim terms.limit (history ++ w ∷ [])) v.mine record { place = length v.seen; entry = e } (fair_longer terms history w v mine).mine
-                (subst (λ h. IsClaim terms.limit (h ++ w ∷ []) record { place = length v.seen; entry = e }) (sym is) (get_behind v.seen w, free ∙ ap (λ l. first_free terms.limit l e.ranking) (sym (take_front v.seen (w ∷ [])))));
+            mine = All-push (IsClaim terms.limit (history ++ w ∷ [])) v.mine record { place = length v.seen; entry = e }
+                (fair_longer terms history w v mine).mine
+                (subst (λ h. IsClaim terms.limit (h ++ w ∷ []) record { place = length v.seen; entry = e }) (sym is)
+                (get_behind v.seen w, free ∙ ap (λ l. first_free terms.limit l e.ranking) (sym (take_front v.seen (w ∷ [])))));
             idle = λ none. absurd (omega arith);
             knows = mine.knows;
           };
@@ -115,7 +125,8 @@ behind [] (y ∷ rest) x is = (rest, ap (λ z. z ∷ rest) (some_same y x is))
 behind (y ∷ seen) rest x is = behind seen rest x is
 
 -- the claim that stands behind what was seen is seen
-pub sees : (terms : Terms) (history : List Won) (views : List Known) (by : ℕ) (v : Known) (x : Won) → IsHistory terms history views → get_elem? views by ≡ some v → slice_get history (length v.seen) ≡ Some x
+pub sees : (terms : Terms) (history : List Won) (views : List Known) (by : ℕ) (v : Known) (x : Won) → IsHistory terms history views → get_elem? views by
+    ≡ some v → slice_get history (length v.seen) ≡ Some x
     → IsHistory terms history (set views by (seeing (v.seen ++ x ∷ []) v.mine v))
 sees terms history views by v x rule at here =
     let mine = rule.fair by v at in
@@ -141,9 +152,11 @@ sees terms history views by v x rule at here =
         (next.0, begins.1 ∙ ap (λ l. seen ++ l) next.1 ∙ sym (append_assoc seen (x ∷ []) next.0))
 
 prefix_length : (history seen : List Won) → StartsWith history seen → length seen ≤ length history
-prefix_length history seen begins = let l : length history ≡ length seen + length begins.0 = ap length begins.1 ∙ length-append seen begins.0 in omega (arith, l)
+prefix_length history seen begins = let l : length history ≡ length seen + length begins.0 = ap length begins.1 ∙ length-append seen begins.0 in
+    omega (arith, l)
 
-new_row : (history seen : List Won) (x : Won) → IsDistinct eqb (map (λ (w : Won). w.row_no) history) → StartsWith history seen → slice_get history (length seen) ≡ Some x → claim_of x.row_no seen ≡ None
+new_row : (history seen : List Won) (x : Won) → IsDistinct eqb (map (λ (w : Won). w.row_no) history) → StartsWith history seen → slice_get history (length seen)
+    ≡ Some x → claim_of x.row_no seen ≡ None
 new_row history seen x once begins here =
     let next = behind seen begins.0 x (subst (λ h. slice_get h (length seen) ≡ Some x) begins.1 here) in
     none_before seen next.0 x (subst (λ h. IsDistinct eqb (map (λ (w : Won). w.row_no) h)) (begins.1 ∙ ap (λ l. seen ++ l) next.1) once)
@@ -156,7 +169,8 @@ MayTry terms state by me e s n =
     × HasTried e s me n (u, carried_after me.1 a)
 
 -- a try keeps the rule, whichever way it goes
-pub tries : (terms : Terms) (slots by : ℕ) (me : Me (Unit {0}) Known) (s : Step (Unit {0})) (e : Entry) → me.0.terms ≡ terms → 0 < me.0.passes → length me.0.seen < terms.rows + 1
+pub tries : (terms : Terms) (slots by : ℕ) (me : Me (Unit {0}) Known) (s : Step (Unit {0})) (e : Entry) → me.0.terms ≡ terms → 0 < me.0.passes
+    → length me.0.seen < terms.rows + 1
     → IsWithin terms.donors terms.rows (won_of e) → claim_of e.row_no me.0.seen ≡ None → e.reply ≡ first_free terms.limit me.0.seen e.ranking
     → Allows (AreClaims terms) slots by me (length me.0.seen) (λ n. either (nat_eq n 0) (word_of (won_of e)) n) (HasTried e s me)
 tries terms slots by me s e same_terms share room within first free state rule homes at small =
@@ -165,14 +179,16 @@ tries terms slots by me s e same_terms share room within first free state rule h
     let le = prefix_length history me.0.seen begins in
     dite (ℕ_discrete (length me.0.seen) (length history))
     (λ (same : length me.0.seen ≡ length history).
-    (let found : slice_index state.words (length me.0.seen) ≡ 0 = ap (λ ws. slice_index ws (length me.0.seen)) rule.1 ∙ ap (slice_index (words_of terms history)) same ∙ words_behind terms history (omega (arith, same, room)) in
+    (let found : slice_index state.words (length me.0.seen) ≡ 0 = ap (λ ws. slice_index ws (length me.0.seen)) rule.1
+    ∙ ap (slice_index (words_of terms history)) same ∙ words_behind terms history (omega (arith, same, room)) in
     subst (MayTry terms state by me e s) (sym found) (
       with_entry e me.0,
       keeps,
       tt,
       (
         history ++ won_of e ∷ [],
-        ap (λ ws. set ws (length me.0.seen) (word_of (won_of e))) rule.1 ∙ ap (λ k. set (words_of terms history) k (word_of (won_of e))) same ∙ words_push terms history (won_of e) (omega (arith, same, room)),
+        ap (λ ws. set ws (length me.0.seen) (word_of (won_of e))) rule.1 ∙ ap (λ k. set (words_of terms history) k (word_of (won_of e))) same
+            ∙ words_push terms history (won_of e) (omega (arith, same, room)),
         claims terms history state.views by me.0 e rule.2 at share (sym same) within first free,
       ),
       refl,
@@ -181,31 +197,60 @@ tries terms slots by me s e same_terms share room within first free state rule h
     (let there = some_at history (length me.0.seen) (omega (arith, le, apart)) in
     let x = there.0 in
     let u = seeing (me.0.seen ++ x ∷ []) me.0.mine me.0 in
-    let found : slice_index state.words (length me.0.seen) ≡ word_of x = ap (λ ws. slice_index ws (length me.0.seen)) rule.1 ∙ words_front history (zeros (terms.rows + 1 - length history)) (length me.0.seen) x there.1 in
-    let same_words : set state.words (length me.0.seen) (word_of x) ≡ state.words = ap (λ n. set state.words (length me.0.seen) n) (sym found) ∙ set_same state.words (length me.0.seen) in
-    let mine : IsWithin me.0.terms.donors me.0.terms.rows x = subst (λ (t : Terms). IsWithin t.donors t.rows x) (sym same_terms) (within_at terms history (length me.0.seen) x rule.2.within there.1) in
+    let found : slice_index state.words (length me.0.seen) ≡ word_of x = ap (λ ws. slice_index ws (length me.0.seen)) rule.1
+    ∙ words_front history (zeros (terms.rows + 1 - length history)) (length me.0.seen) x there.1 in
+    let same_words : set state.words (length me.0.seen) (word_of x) ≡ state.words = ap (λ n. set state.words (length me.0.seen) n) (sym found)
+    ∙ set_same state.words (length me.0.seen) in
+    let mine : IsWithin me.0.terms.donors me.0.terms.rows x = subst (λ (t : Terms). IsWithin t.donors t.rows x) (sym same_terms)
+    (within_at terms history (length me.0.seen) x rule.2.within there.1) in
     subst (MayTry terms state by me e s) (sym found) (
       u,
       keeps,
       tt,
-      (history, ap (λ (b : Bool). set state.words (length me.0.seen) (either b (word_of (won_of e)) (word_of x))) (word_is_not_0 x) ∙ same_words ∙ rule.1, sees terms history state.views by me.0 x rule.2 at there.1),
+      (
+        history,
+        ap (λ (b : Bool). set state.words (length me.0.seen) (either b (word_of (won_of e)) (word_of x))) (word_is_not_0 x) ∙ same_words
+            ∙ rule.1,
+        sees terms history state.views by me.0 x rule.2 at there.1,
+      ),
       rw (word_is_not_0 x) (x, refl, mine, new_row history me.0.seen x rule.2.once begins there.1, refl),
     )))
   where
-    within_at : (terms : Terms) (history : List Won) (k : ℕ) (x : Won) → All (IsWithin terms.donors terms.rows) history → slice_get history k ≡ Some x → IsWithin terms.donors terms.rows x
-    within_at terms history k x all is = subst (IsWithin terms.donors terms.rows) (get_or_from_slice_get history k x x is) (all k x (slice_get_within history k x is))
+    within_at : (terms : Terms) (history : List Won) (k : ℕ) (x : Won) → All (IsWithin terms.donors terms.rows) history → slice_get history k ≡ Some x
+        → IsWithin terms.donors terms.rows x
+    within_at terms history k x all is = subst (IsWithin terms.donors terms.rows) (get_or_from_slice_get history k x x is)
+        (all k x (slice_get_within history k x is))
 
 -- at the start nobody has claimed, and the first pass stands for all
 pub begins : (terms : Terms) → AreClaims terms (opening (zeros (terms.rows + 1)) [] (first_known terms))
 unfolding IsDistinct
-begins terms = ([], ap zeros (omega arith), record { within = λ k d lt. absurd (omega (arith, lt)); once = tt; passes_are = omega arith; places = λ k. omega arith; fair = one })
+begins terms = (
+  [],
+  ap zeros (omega arith),
+  record {
+    within = λ k d lt. absurd (omega (arith, lt));
+    once = tt;
+    passes_are = omega arith;
+    places =
+        λ k. omega arith;
+    fair = one;
+  },
+)
   where
     one : (by : ℕ) (v : Known) → get_elem? (first_known terms ∷ []) by ≡ some v → IsFair terms [] v
-    one zero v at = subst (IsFair terms []) (some-injective _ _ at) record { seen = ([], refl); heard = λ k d lt. absurd (omega (arith, lt)); mine = λ k d lt. absurd (omega (arith, lt)); idle = λ _. refl; knows = λ _. refl }
+    one zero v at = subst (IsFair terms []) (some-injective _ _ at) record {
+      seen = ([], refl);
+      heard = λ k d lt. absurd (omega (arith, lt));
+      mine =
+          λ k d lt. absurd (omega (arith, lt));
+      idle = λ _. refl;
+      knows = λ _. refl;
+    }
     one (suc by) v at = absurd (some-ne-none v (sym at))
 
 -- where a pass is split off, the rule is kept
-pub splits : (terms : Terms) (history : List Won) (views : List Known) (by : ℕ) (v : Known) → IsHistory terms history views → get_elem? views by ≡ some v → 1 < v.passes → IsHistory terms history (set views by (without_a_pass v) ++ new_known v ∷ [])
+pub splits : (terms : Terms) (history : List Won) (views : List Known) (by : ℕ) (v : Known) → IsHistory terms history views → get_elem? views by ≡ some v
+    → 1 < v.passes → IsHistory terms history (set views by (without_a_pass v) ++ new_known v ∷ [])
 splits terms history views by v rule at two =
     let left = without_a_pass v in
     let rest = set views by left in
@@ -214,26 +259,45 @@ splits terms history views by v rule at two =
     record {
       within = rule.within;
       once = rule.once;
-      passes_are = (let s = sum_by_set (λ (z : Known). z.passes) views by v left at in let t = sum_by_push (λ (z : Known). z.passes) rest new in let p = rule.passes_are in omega arith);
-      places = λ k. (let s = sum_by_set (λ (z : Known). claims_at k z.mine) views by v left at in let t = sum_by_push (λ (z : Known). claims_at k z.mine) rest new in let p = rule.places k in omega (arith, s, t, p));
+      passes_are = (let s = sum_by_set (λ (z : Known). z.passes) views by v left at in let t = sum_by_push (λ (z : Known). z.passes) rest new in
+          let p = rule.passes_are in omega arith);
+      places = λ k. (let s = sum_by_set (λ (z : Known). claims_at k z.mine) views by v left at in
+          let t = sum_by_push (λ (z : Known). claims_at k z.mine) rest new in let p = rule.places k in omega (arith, s, t, p));
       fair = λ j u a. ⊎_elim
-          (λ e. fair_set terms history views by left rule.fair record { seen = mine.seen; heard = mine.heard; mine = mine.mine; idle = λ none. absurd (omega (arith, none, two)); knows = λ _. mine.knows (omega (arith, two)) } j u e)
-          (λ e. subst (IsFair terms history) e record { seen = (history, refl); heard = λ k d lt. absurd (omega (arith, lt)); mine = λ k d lt. absurd (omega (arith, lt)); idle = λ _. refl; knows = λ _. mine.knows (omega (arith, two)) })
+          (λ e. fair_set terms history views by left rule.fair record {
+            seen = mine.seen;
+            heard = mine.heard;
+            mine = mine.mine;
+            idle =
+                λ none. absurd (omega (arith, none, two));
+            knows = λ _. mine.knows (omega (arith, two));
+          } j u e)
+          (λ e. subst (IsFair terms history) e record {
+            seen = (history, refl);
+            heard = λ k d lt. absurd (omega (arith, lt));
+            mine =
+                λ k d lt. absurd (omega (arith, lt));
+            idle = λ _. refl;
+            knows = λ _. mine.knows (omega (arith, two));
+          })
           (at_snoc rest new u j a);
     }
 
 -- and where one takes in another
-pub joins : (terms : Terms) (history : List Won) (views : List Known) (by : ℕ) (v : Known) (other : ℕ) (u : Known) → IsHistory terms history views → get_elem? views by ≡ some v → ¬ (other ≡ by) → get_elem? (set views by (both_known v u)) other ≡ some u → 0 < v.passes
+pub joins : (terms : Terms) (history : List Won) (views : List Known) (by : ℕ) (v : Known) (other : ℕ) (u : Known) → IsHistory terms history views
+    → get_elem? views by ≡ some v → ¬ (other ≡ by) → get_elem? (set views by (both_known v u)) other ≡ some u → 0 < v.passes
     → IsHistory terms history (set (set views by (both_known v u)) other spent_known)
 joins terms history views by v other u rule at apart there share =
     let w = both_known v u in
     let mid = set views by w in
     let mine = rule.fair by v at in
-    let theirs : IsFair terms history u = ⊎_elim (λ (t : (other ≡ by) × (w ≡ u)). absurd (apart t.0)) (λ (t : (other ≢ by) × (get_elem? views other ≡ some u)). rule.fair other u t.1) (at_set views by other w u there) in
+    let theirs : IsFair terms history u = ⊎_elim (λ (t : (other ≡ by) × (w ≡ u)). absurd (apart t.0))
+    (λ (t : (other ≢ by) × (get_elem? views other ≡ some u)). rule.fair other u t.1) (at_set views by other w u there) in
     record {
       within = rule.within;
       once = rule.once;
-      passes_are = (let s = sum_by_set (λ (z : Known). z.passes) views by v w at in let t = sum_by_set (λ (z : Known). z.passes) mid other u spent_known there in let p = rule.passes_are in omega arith);
+      passes_are = (let s = sum_by_set (λ (z : Known). z.passes) views by v w at in let t = sum_by_set (λ (z : Known). z.passes) mid other u spent_known
+          there in let p = rule.passes_are in omega arith);
       places = λ k.
           (let s = sum_by_set (λ (z : Known). claims_at k z.mine) views by v w at in
           let t = sum_by_set (λ (z : Known). claims_at k z.mine) mid other u spent_known there in
@@ -243,12 +307,20 @@ joins terms history views by v other u rule at apart there share =
           (fair_set terms history views by w rule.fair
           record {
             seen = mine.seen;
-            heard = All-append (StartsWith history) v.heard (u.seen ∷ u.heard) mine.heard (All-cons (StartsWith history) u.seen u.heard theirs.seen theirs.heard);
+            heard = All-append (StartsWith history) v.heard (u.seen ∷ u.heard) mine.heard (All-cons (StartsWith history) u.seen u.heard theirs.seen
+                theirs.heard);
             mine = All-append (IsClaim terms.limit history) v.mine u.mine mine.mine theirs.mine;
             idle = λ none. absurd (omega (arith, none, share));
             knows = λ _. mine.knows share;
           })
-          record { seen = (history, refl); heard = λ k d lt. absurd (omega (arith, lt)); mine = λ k d lt. absurd (omega (arith, lt)); idle = λ _. refl; knows = λ some_share. absurd (omega (arith, some_share)) };
+          record {
+            seen = (history, refl);
+            heard = λ k d lt. absurd (omega (arith, lt));
+            mine = λ k d lt. absurd (omega (arith, lt));
+            idle = λ _. refl;
+            knows =
+                λ some_share. absurd (omega (arith, some_share));
+          };
     }
 
 -- the same, as the table asks it
@@ -259,11 +331,13 @@ pub joins_as : (terms : Terms) (by : ℕ) (v : Known) (other : ℕ) (u : Known) 
 joins_as terms by v other u share s rule at apart there = (rule.0, rule.1, joins terms rule.0 s.views by v other u rule.2 at apart there share)
 
 -- who has every share has every claim of the history
-pub all_claimed : (terms : Terms) (history : List Won) (views : List Known) (by : ℕ) (v : Known) → IsHistory terms history views → get_elem? views by ≡ some v → v.passes ≡ terms.passes
+pub all_claimed : (terms : Terms) (history : List Won) (views : List Known) (by : ℕ) (v : Known) → IsHistory terms history views → get_elem? views by ≡ some v
+    → v.passes ≡ terms.passes
     → ((k : ℕ) → claims_at k v.mine ≡ once_below k (length history)) × All (IsClaim terms.limit history) v.mine
 all_claimed terms history views by v rule at all =
     let whole_share = rule.passes_are ∙ sym all in
     let mine = rule.fair by v at in (
-      (λ k. sym (sum_of_one (λ (u : Known). claims_at k u.mine) (λ (u : Known). u.passes) views by v (λ j u a none. ap (claims_at k) ((rule.fair j u a).idle none)) at whole_share) ∙ rule.places k),
+      (λ k. sym (sum_of_one (λ (u : Known). claims_at k u.mine) (λ (u : Known). u.passes) views by v
+          (λ j u a none. ap (claims_at k) ((rule.fair j u a).idle none)) at whole_share) ∙ rule.places k),
       mine.mine,
     )

@@ -1,5 +1,6 @@
 -- What a pass knows of its own: a sound beginning of the history, indexed, and its claims placed in it.
-use Rattle.std.proofs.Common.{◌≡◌, ℕ, ◌+◌, ◌<◌, ◌≤◌, Bool, true, false, List, [], ◌∷◌, ◌++◌, map, length, get_or, Some, None, Option, sym, ap, ◌∙◌, subst, eqb, arith, length-append}
+use Rattle.std.proofs.Common.{◌≡◌, ℕ, ◌+◌, ◌<◌, ◌≤◌, Bool, true, false, List, [], ◌∷◌, ◌++◌, map, length, get_or, Some, None, Option, sym, ap, ◌∙◌, subst, eqb}
+use Rattle.std.proofs.Common.{arith, length-append}
 use Rattle.std.specs.Prelude.{MatchBool, option_map}
 use Rattle.std.specs.List.{All, IsDistinct}
 use Rattle.std.specs.List.Sorted.{IsStrictlyIncreasing}
@@ -27,7 +28,8 @@ unfolding IsDistinct
 sound_fresh terms = record { within = λ k d lt. absurd (omega (arith, lt)); once = tt }
 
 -- and so it is with a claim of a row that was not among it
-pub sound_push : (terms : Terms) (seen : List Won) (x : Won) → IsSound terms seen → IsWithin terms.donors terms.rows x → claim_of x.row_no seen ≡ None → IsSound terms (seen ++ x ∷ [])
+pub sound_push : (terms : Terms) (seen : List Won) (x : Won) → IsSound terms seen → IsWithin terms.donors terms.rows x → claim_of x.row_no seen ≡ None
+    → IsSound terms (seen ++ x ∷ [])
 sound_push terms seen x sound within none = record {
   within = All-push (IsWithin terms.donors terms.rows) seen x sound.within within;
   once = subst (IsDistinct eqb) (sym (map-append (λ (w : Won). w.row_no) seen (x ∷ []))) (once_more seen x.row_no sound.once none);
@@ -37,19 +39,22 @@ sound_push terms seen x sound within none = record {
 pub most_rows : (terms : Terms) (seen : List Won) → IsSound terms seen → length seen ≤ terms.rows
 most_rows terms seen sound =
     let rows = map (λ (w : Won). w.row_no) seen in
-    let most = length-le_from_distinct_below rows terms.rows sound.once (λ q any. any_below terms.rows q rows (All-map (λ (x : ℕ). x < terms.rows) (λ (w : Won). w.row_no) seen (λ k d l. (sound.within k d l).0)) any) in
+    let most = length-le_from_distinct_below rows terms.rows sound.once
+    (λ q any. any_below terms.rows q rows (All-map (λ (x : ℕ). x < terms.rows) (λ (w : Won). w.row_no) seen (λ k d l. (sound.within k d l).0)) any) in
     let len = length-map seen (λ (w : Won). w.row_no) in
     omega (arith, most, len)
 
 -- while a row has no reply, there are fewer claims than rows
-pub room_if : (terms : Terms) (seen : List Won) (row : ℕ) (o : Option (Option ℕ)) → IsSound terms seen → row < terms.rows → o ≡ option_map (λ (w : Won). w.reply) (claim_of row seen) → IfNone o (length seen < terms.rows)
+pub room_if : (terms : Terms) (seen : List Won) (row : ℕ) (o : Option (Option ℕ)) → IsSound terms seen → row < terms.rows → o
+    ≡ option_map (λ (w : Won). w.reply) (claim_of row seen) → IfNone o (length seen < terms.rows)
 room_if terms seen row None sound lt is = room terms.donors terms.rows seen row sound.within sound.once lt (no_claim (claim_of row seen) (sym is))
 room_if terms seen row (Some r) sound lt is = tt
 
 -- ---- and indexed
 
 -- a claim of a row and a donor that there are is one of the tables
-pub in_tables : (terms : Terms) (uses : List ℕ) (replies : List (Option (Option ℕ))) (x : Won) → length uses ≡ terms.donors → length replies ≡ terms.rows → IsWithin terms.donors terms.rows x → IsWithin (length uses) (length replies) x
+pub in_tables : (terms : Terms) (uses : List ℕ) (replies : List (Option (Option ℕ))) (x : Won) → length uses ≡ terms.donors → length replies ≡ terms.rows
+    → IsWithin terms.donors terms.rows x → IsWithin (length uses) (length replies) x
 in_tables terms uses replies x donors rows within = (subst (λ n. x.row_no < n) (sym rows) within.0, subst (λ n. IsDonor n x.reply) (sym donors) within.1)
 
 -- ---- one try
@@ -65,7 +70,8 @@ pub record HasSeen (terms : Terms) (e : Entry) (old : Known) (entered : Bool) (x
   pub first : claim_of x.row_no old.seen ≡ None
   pub mine : MatchBool entered ((x ≡ won_of e) × (new.0.mine ≡ old.mine ++ record { place = length old.seen; entry = e } ∷ [])) (new.0.mine ≡ old.mine)
 
-pub tried_is : (terms : Terms) (e : Entry) (old : Known) (found : ℕ) (x : Won) (new : Known × List (ℕ × Unit {0})) → old.terms ≡ terms → terms.donors + 1 < 4294967296 → IsWithin terms.donors terms.rows (won_of e) → claim_of e.row_no old.seen ≡ None
+pub tried_is : (terms : Terms) (e : Entry) (old : Known) (found : ℕ) (x : Won) (new : Known × List (ℕ × Unit {0})) → old.terms ≡ terms
+    → terms.donors + 1 < 4294967296 → IsWithin terms.donors terms.rows (won_of e) → claim_of e.row_no old.seen ≡ None
     → HasTriedTo e (old, []) found new → IsRead (won_of e) found x → HasSeen terms e old (eqb found 0) x new
 tried_is terms e old found x new same small within first tried read = go (eqb found 0) tried read
   where
@@ -73,7 +79,8 @@ tried_is terms e old found x new same small within first tried read = go (eqb fo
     in_word None d = tt
     in_word (Some d) lt = omega (arith, lt, small)
 
-    go : (b : Bool) → MatchBool b (new ≡ (with_entry e old, [])) ((y : Won) × (word_of y ≡ found) × IsWithin old.terms.donors old.terms.rows y × (claim_of y.row_no old.seen ≡ None) × (new ≡ (seeing (old.seen ++ y ∷ []) old.mine old, [])))
+    go : (b : Bool) → MatchBool b (new ≡ (with_entry e old, [])) ((y : Won) × (word_of y ≡ found) × IsWithin old.terms.donors old.terms.rows y
+        × (claim_of y.row_no old.seen ≡ None) × (new ≡ (seeing (old.seen ++ y ∷ []) old.mine old, [])))
         → MatchBool b (x ≡ won_of e) ((y : Won) → word_of y ≡ found → IsDonor 4294967295 y.reply → x ≡ y) → HasSeen terms e old b x new
     go true t r = record {
       slots = ap (λ (p : Known × List (ℕ × Unit {0})). p.1) t;
@@ -105,7 +112,8 @@ tried_is terms e old found x new same small within first tried read = go (eqb fo
 pub placed_fresh : (seen : List Won) → ArePlaced seen []
 placed_fresh seen = record { within = λ k d lt. absurd (omega (arith, lt)); rising = λ k lt. absurd (omega (arith, lt)) }
 
-pub placed_on : (terms : Terms) (e : Entry) (old : Known) (entered : Bool) (x : Won) (new : Known × List (ℕ × Unit {0})) → HasSeen terms e old entered x new → ArePlaced old.seen old.mine → ArePlaced new.0.seen new.0.mine
+pub placed_on : (terms : Terms) (e : Entry) (old : Known) (entered : Bool) (x : Won) (new : Known × List (ℕ × Unit {0})) → HasSeen terms e old entered x new
+    → ArePlaced old.seen old.mine → ArePlaced new.0.seen new.0.mine
 placed_on terms e old entered x new h placed = go entered h.mine
   where
     more : length new.0.seen ≡ length old.seen + 1
@@ -121,7 +129,8 @@ placed_on terms e old entered x new h placed = go entered h.mine
     longer = record {
       within = All-push (λ (m : Placed). m.place < length new.0.seen) old.mine last still (omega (arith, more));
       rising = subst IsStrictlyIncreasing (sym (map-append (λ (m : Placed). m.place) old.mine (last ∷ [])))
-          (rising_push (map (λ (m : Placed). m.place) old.mine) (length old.seen) placed.rising (All-map (λ (n : ℕ). n < length old.seen) (λ (m : Placed). m.place) old.mine placed.within));
+          (rising_push (map (λ (m : Placed). m.place) old.mine) (length old.seen) placed.rising
+          (All-map (λ (n : ℕ). n < length old.seen) (λ (m : Placed). m.place) old.mine placed.within));
     }
 
     go : (b : Bool) → MatchBool b ((x ≡ won_of e) × (new.0.mine ≡ old.mine ++ last ∷ [])) (new.0.mine ≡ old.mine) → ArePlaced new.0.seen new.0.mine

@@ -1,5 +1,6 @@
 -- Claims that are read one after another, with the uses and the replies of those that were read.
-use Rattle.std.proofs.Common.{◌≡◌, ℕ, ◌+◌, ◌<◌, false, true≢false, List, [], ◌∷◌, ◌++◌, map, length, set, get_or, take, Some, None, Option, refl, sym, ap, ◌∙◌, subst, nat_lt, eqb, arith}
+use Rattle.std.proofs.Common.{◌≡◌, ℕ, ◌+◌, ◌<◌, false, true≢false, List, [], ◌∷◌, ◌++◌, map, length, set, get_or, take, Some, None, Option, refl, sym, ap, ◌∙◌}
+use Rattle.std.proofs.Common.{subst, nat_lt, eqb, arith}
 use Rattle.std.specs.Prelude.{replicate, slice_get, slice_index}
 use Rattle.std.specs.Bool.{Decides}
 use Rattle.std.specs.List.{All, IsDistinct, find}
@@ -33,7 +34,8 @@ not_some None is = refl
 not_some (Some d) is = absurd (true≢false is)
 
 -- a row that has no reply yet may claim next, with the first donor whose uses are below the limit
-pub may_follow : (limit : ℕ) (history : List Won) (uses : List ℕ) (replies : List (Option (Option ℕ))) (e : Entry) → IsReplay history uses replies → IsEntryWithin (length uses) (length replies) e → is_some (get_or replies e.row_no None) ≡ false
+pub may_follow : (limit : ℕ) (history : List Won) (uses : List ℕ) (replies : List (Option (Option ℕ))) (e : Entry) → IsReplay history uses replies
+    → IsEntryWithin (length uses) (length replies) e → is_some (get_or replies e.row_no None) ≡ false
     → Decides (option_eq eqb (find (λ d. nat_lt (slice_index uses d) limit) e.ranking) e.reply) (IsNext limit history e)
 may_follow limit history uses replies e replay within new = Decides-like (option_eq eqb (find (λ d. nat_lt (slice_index uses d) limit) e.ranking) e.reply)
     (λ is. (no_claim (claim_of e.row_no history) (sym (replay.answered e.row_no None within.0) ∙ not_some (get_or replies e.row_no None) new), sym is ∙ free))
@@ -51,10 +53,12 @@ legal_last limit history e legal = (
 )
   where
     at : slice_get (history ++ e ∷ []) (length history) ≡ Some e
-    at = slice_get-get_or (history ++ e ∷ []) (length history) e (let l = length-append history (e ∷ []) in omega (arith, l)) ∙ ap Some (get_or-append_seam history e [] e)
+    at = slice_get-get_or (history ++ e ∷ []) (length history) e (let l = length-append history (e ∷ []) in omega (arith, l))
+        ∙ ap Some (get_or-append_seam history e [] e)
 
     before : take (length history) (wins_of (history ++ e ∷ [])) ≡ wins_of history
-    before = ap (take (length history)) (wins_push history e) ∙ ap (λ n. take n (wins_of history ++ won_of e ∷ [])) (sym (length-map history won_of)) ∙ take-append_seam (wins_of history) (won_of e ∷ [])
+    before = ap (take (length history)) (wins_push history e) ∙ ap (λ n. take n (wins_of history ++ won_of e ∷ [])) (sym (length-map history won_of))
+        ∙ take-append_seam (wins_of history) (won_of e ∷ [])
 
 -- ---- the entry that is read
 
@@ -72,7 +76,12 @@ module _ (limit donors rows : ℕ) (claims : List Entry) (place : ℕ) (e : Entr
 
   -- if it may not stand there, the history is no longer legal
   pub first_at : ¬ IsNext limit (wins_of (take place claims)) e → IsFirstIllegal limit claims place
-  first_at unfit = record { within = lt; before = read.0.0; illegal = λ legal. unfit (legal_last limit (take place claims) e (subst (IsLegalHistory limit) more legal)) }
+  first_at unfit = record {
+    within = lt;
+    before = read.0.0;
+    illegal =
+        λ legal. unfit (legal_last limit (take place claims) e (subst (IsLegalHistory limit) more legal));
+  }
 
   module _ (all : All (IsEntryWithin donors rows) claims) (next : IsNext limit (wins_of (take place claims)) e) where
     within : IsEntryWithin (length uses) (length replies) e
@@ -80,7 +89,8 @@ module _ (limit donors rows : ℕ) (claims : List Entry) (place : ℕ) (e : Entr
 
     -- a donor that is left is one of so many
     pub donor_within : IsDonor (length uses) e.reply
-    donor_within = subst (IsDonor (length uses)) (sym next.1) (found_within (length uses) (λ d. nat_lt (uses_of d (wins_of (take place claims))) limit) e.ranking within.1)
+    donor_within = subst (IsDonor (length uses)) (sym next.1) (found_within (length uses) (λ d. nat_lt (uses_of d (wins_of (take place claims))) limit)
+        e.ranking within.1)
 
     -- there is room to count it
     pub room_within : (k d : ℕ) → k < length uses → get_or uses k d + 1 < 4294967296
@@ -90,7 +100,8 @@ module _ (limit donors rows : ℕ) (claims : List Entry) (place : ℕ) (e : Entr
     pub read_more : HasRead limit donors rows (take (place + 1) claims) (with_use e.reply uses) (set replies e.row_no (Some e.reply))
     read_more = (
       subst (λ h. Keeps limit h (with_use e.reply uses) (set replies e.row_no (Some e.reply)) rows) (sym more)
-          (keeps_push limit (take place claims) uses replies rows e (book_of limit uses replies (take place claims)) refl read.0 within.0 next.0 donor_within next.1),
+          (keeps_push limit (take place claims) uses replies rows e (book_of limit uses replies (take place claims)) refl read.0 within.0 next.0 donor_within
+          next.1),
       length_use e.reply uses ∙ read.1,
       length-set replies e.row_no (Some e.reply) ∙ read.2,
     )

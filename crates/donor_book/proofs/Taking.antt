@@ -1,5 +1,6 @@
 -- One pass takes in the others.
-use Rattle.std.proofs.Common.{◌≡◌, ℕ, ◌+◌, ◌<◌, List, [], ◌∷◌, ◌++◌, map, length, cond, refl, sym, ap, ◌∙◌, subst, nat_eq, arith, append_assoc, append-nil, length-append}
+use Rattle.std.proofs.Common.{◌≡◌, ℕ, ◌+◌, ◌<◌, List, [], ◌∷◌, ◌++◌, map, length, cond, refl, sym, ap, ◌∙◌, subst, nat_eq, arith, append_assoc, append-nil}
+use Rattle.std.proofs.Common.{length-append}
 use Rattle.std.specs.List.{sum_by, All}
 use Rattle.std.proofs.lemmas.List.{map-append, get_or-append-add}
 use Rattle.std.proofs.lemmas.List.Sums.{sum_by-cons, sum_by-append}
@@ -44,7 +45,8 @@ pub takes_first : (p : PassState) (rest : List PassState) → HasTaken (p ∷ re
 takes_first p rest = record { taken = p ∷ []; split = refl; passes = refl; some_pass = omega arith; mine = sym (append-nil p.mine); heard = refl }
 
 -- and takes in the next
-pub takes_next : (all : List PassState) (p : PassState) (rest : List PassState) (v : Known) → HasTaken all (p ∷ rest) v → HasTaken all rest (both_known v (known_of p))
+pub takes_next : (all : List PassState) (p : PassState) (rest : List PassState) (v : Known) → HasTaken all (p ∷ rest) v
+    → HasTaken all rest (both_known v (known_of p))
 takes_next all p rest v had = record {
   taken = had.taken ++ p ∷ [];
   split = had.split ∙ sym (append_assoc had.taken (p ∷ []) rest);
@@ -64,42 +66,51 @@ module _ {X : Type 0} (P : X → Type 0) where
 -- what holds of all that was seen holds of what each pass has seen
 all_seen : (P : List Won → Type 0) (ps : List PassState) → All P (map (λ (p : PassState). p.seen) ps) → All (λ (p : PassState). P p.seen) ps
 all_seen P [] all = All-nil (λ (p : PassState). P p.seen)
-all_seen P (p ∷ ps) all = All-cons (λ (q : PassState). P q.seen) p ps (All-head P p.seen (map (λ (q : PassState). q.seen) ps) all) (all_seen P ps (All-tail P p.seen (map (λ (q : PassState). q.seen) ps) all))
+all_seen P (p ∷ ps) all = All-cons (λ (q : PassState). P q.seen) p ps (All-head P p.seen (map (λ (q : PassState). q.seen) ps) all)
+    (all_seen P ps (All-tail P p.seen (map (λ (q : PassState). q.seen) ps) all))
 
 -- what holds of all claims of the passes holds of those of each
 pub all_mine : (P : Placed → Type 0) (ps : List PassState) → All P (claims_of ps) → All (λ (p : PassState). All P p.mine) ps
 all_mine P [] all = All-nil (λ (p : PassState). All P p.mine)
-all_mine P (p ∷ ps) all = All-cons (λ (q : PassState). All P q.mine) p ps (all_left P p.mine (claims_of ps) all) (all_mine P ps (all_right P p.mine (claims_of ps) all))
+all_mine P (p ∷ ps) all = All-cons (λ (q : PassState). All P q.mine) p ps (all_left P p.mine (claims_of ps) all)
+    (all_mine P ps (all_right P p.mine (claims_of ps) all))
 
 -- the claims of the passes at a place are those of each there
 pub places_of : (k : ℕ) (ps : List PassState) → claims_at k (claims_of ps) ≡ sum_by (λ (p : PassState). claims_at k p.mine) ps
 places_of k [] = refl
-places_of k (p ∷ ps) = sum_by-append (λ (m : Placed). cond (nat_eq m.place k) 1 0) p.mine (claims_of ps) ∙ ap (λ n. claims_at k p.mine + n) (places_of k ps) ∙ sym (sum_by-cons (λ (q : PassState). claims_at k q.mine) p ps)
+places_of k (p ∷ ps) = sum_by-append (λ (m : Placed). cond (nat_eq m.place k) 1 0) p.mine (claims_of ps) ∙ ap (λ n. claims_at k p.mine + n) (places_of k ps)
+    ∙ sym (sum_by-cons (λ (q : PassState). claims_at k q.mine) p ps)
 
 -- what holds of all claims of each pass holds of all claims of the passes
 pub all_claims : (P : Placed → Type 0) (ps : List PassState) → All (λ (p : PassState). All P p.mine) ps → All P (claims_of ps)
 all_claims P [] all = All-nil P
-all_claims P (p ∷ ps) all = All-append P p.mine (claims_of ps) (All-head (λ (q : PassState). All P q.mine) p ps all) (all_claims P ps (All-tail (λ (q : PassState). All P q.mine) p ps all))
+all_claims P (p ∷ ps) all = All-append P p.mine (claims_of ps) (All-head (λ (q : PassState). All P q.mine) p ps all)
+    (all_claims P ps (All-tail (λ (q : PassState). All P q.mine) p ps all))
 
 -- who has taken in all passes has the whole history
-pub whole_of : (terms : Terms) (history : List Won) (views : List Known) (by : ℕ) (v : Known) (all rest : List PassState) → IsHistory terms history views → get_elem? views by ≡ some v → HasTaken all rest v → length rest ≡ 0 → length all ≡ terms.passes → IsWhole terms.limit all history
+pub whole_of : (terms : Terms) (history : List Won) (views : List Known) (by : ℕ) (v : Known) (all rest : List PassState) → IsHistory terms history views
+    → get_elem? views by ≡ some v → HasTaken all rest v → length rest ≡ 0 → length all ≡ terms.passes → IsWhole terms.limit all history
 whole_of terms history views by v all (p ∷ rest) rule at had none passes = absurd (omega (arith, none))
 whole_of terms history views by v all [] rule at had none passes =
     let taken : all ≡ had.taken = had.split ∙ append-nil had.taken in
     let fair = rule.fair by v at in
     let known = all_claimed terms history views by v rule at (let s = had.passes in omega (arith, s, ap length taken, passes)) in
-    let each : (place : ℕ) → claimed_at place had.taken ≡ once_below place (length history) = λ place. sym (places_of place had.taken) ∙ ap (claims_at place) (sym had.mine) ∙ known.0 place in
+    let each : (place : ℕ) → claimed_at place had.taken ≡ once_below place (length history) = λ place. sym (places_of place had.taken)
+    ∙ ap (claims_at place) (sym had.mine) ∙ known.0 place in
     subst (λ l. IsWhole terms.limit l history) (sym taken) (
     record {
-      seen = all_seen (StartsWith history) had.taken (subst (All (StartsWith history)) had.heard (All-cons (StartsWith history) v.seen v.heard fair.seen fair.heard));
+      seen = all_seen (StartsWith history) had.taken (subst (All (StartsWith history)) had.heard
+          (All-cons (StartsWith history) v.seen v.heard fair.seen fair.heard));
       mine = all_mine (IsClaim terms.limit history) had.taken (subst (All (IsClaim terms.limit history)) had.mine known.1);
       once = λ place lt. (let e = each place in omega (arith, e, lt));
       no_other = λ place ge. (let e = each place in omega (arith, e, ge));
     })
 
 -- the history that is read is the last one
-pub closes : (terms key : Terms) (history : List Won) (views : List Known) (words : List ℕ) (by : ℕ) (v : Known) (all rest : List PassState) (result : List Won) → key ≡ terms → words ≡ words_of key history → IsHistory key history views → get_elem? views by ≡ some v
-    → HasTaken all rest v → length rest ≡ 0 → length all ≡ terms.passes → ((h : List Won) → AreWordsOf terms words h → result ≡ h) → IsWhole terms.limit all result × IsSound terms result
+pub closes : (terms key : Terms) (history : List Won) (views : List Known) (words : List ℕ) (by : ℕ) (v : Known) (all rest : List PassState) (result : List Won)
+    → key ≡ terms → words ≡ words_of key history → IsHistory key history views → get_elem? views by ≡ some v
+    → HasTaken all rest v → length rest ≡ 0 → length all ≡ terms.passes → ((h : List Won) → AreWordsOf terms words h → result ≡ h)
+    → IsWhole terms.limit all result × IsSound terms result
 closes terms key history views words by v all rest result same words_are rule at had none passes reads =
     let here : IsHistory terms history views = subst (λ t. IsHistory t history views) same rule in
     let sound : IsSound terms history = record { within = here.within; once = here.once } in

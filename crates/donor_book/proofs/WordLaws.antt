@@ -1,5 +1,6 @@
 -- The words of a history.
-use Rattle.std.proofs.Common.{◌≡◌, ◌≢◌, ℕ, zero, suc, ◌+◌, ◌-◌, ◌<◌, true, false, List, [], ◌∷◌, ◌++◌, map, length, set, replicate, Some, refl, sym, ap, ◌∙◌, ⊎_elim, eqb, arith, append_assoc, length-append}
+use Rattle.std.proofs.Common.{◌≡◌, ◌≢◌, ℕ, zero, suc, ◌+◌, ◌-◌, ◌<◌, true, false, List, [], ◌∷◌, ◌++◌, map, length, set, replicate, Some, refl, sym, ap, ◌∙◌}
+use Rattle.std.proofs.Common.{⊎_elim, eqb, arith, append_assoc, length-append}
 use Rattle.std.specs.Prelude.{slice_get, slice_index}
 use Rattle.std.proofs.lemmas.List.{map-append, length-map}
 use Rattle.std.proofs.Math.Seq.{set-append_seam, get_or-append_seam}
@@ -38,7 +39,8 @@ words_behind terms history lt =
     ∙ get_or-append_seam (map word_of history) 0 (zeros (terms.rows + 1 - suc (length history))) 0
 
 -- a claim written there is one more of the history
-pub words_push : (terms : Terms) (history : List Won) (w : Won) → length history < terms.rows + 1 → set (words_of terms history) (length history) (word_of w) ≡ words_of terms (history ++ w ∷ [])
+pub words_push : (terms : Terms) (history : List Won) (w : Won) → length history < terms.rows + 1 → set (words_of terms history) (length history) (word_of w)
+    ≡ words_of terms (history ++ w ∷ [])
 words_push terms history w lt =
     let rest : List ℕ = zeros (terms.rows + 1 - suc (length history)) in
     let len : length (history ++ w ∷ []) ≡ suc (length history) = length-append history (w ∷ []) ∙ omega arith in
@@ -56,4 +58,5 @@ set_same (w ∷ ws) zero = refl
 set_same (w ∷ ws) (suc k) = ap (λ l. w ∷ l) (set_same ws k)
 
 pub word_is_not_0 : (w : Won) → eqb (word_of w) 0 ≡ false
-word_is_not_0 w = ⊎_elim (λ (t : (eqb (word_of w) 0 ≡ true) × (word_of w ≡ 0)). absurd (omega (arith, t.1))) (λ (f : (eqb (word_of w) 0 ≡ false) × (word_of w ≢ 0)). f.0) (eqb_tells (word_of w) 0)
+word_is_not_0 w = ⊎_elim (λ (t : (eqb (word_of w) 0 ≡ true) × (word_of w ≡ 0)). absurd (omega (arith, t.1)))
+    (λ (f : (eqb (word_of w) 0 ≡ false) × (word_of w ≢ 0)). f.0) (eqb_tells (word_of w) 0)

@@ -1,3 +1,6 @@
+//! The book of claims for one thread: who gives values to whom, so that no donor gives more often than a
+//! limit allows. In contracts, `answer_to` has what a claim is answered after a history, and
+//! `history_after` the history with the claim. `wins_of` has the history without its rankings.
 ghost use Rattle.std.specs.Prelude.{◌≡◌, ℕ, ◌<◌, ◌≤◌, ◌↔◌, ◌++◌, [], ◌∷◌, None, All, IfOk, option_map};
 ghost use Rattle.donor_book.specs.Claims.{GetsNobody, IsDonor, answer_to, claim_of, first_free, uses_of};
 ghost use Rattle.donor_book.specs.Entries.{IsLegalHistory, history_after, wins_of, with_history};
@@ -9,7 +12,8 @@ use std::alloc::Global;
 use std::marker::Model;
 
 /// The claims of donors so far. Its history is legal: each entry has the first donor of its ranking that
-/// fewer than the limit of earlier entries were given, and no row stands twice.
+/// fewer than the limit of earlier entries were given, and no row stands twice. Beside it stand how often
+/// each donor was given, and what each row was given, so that a claim needs no look at the history.
 #[derive(Drop)]
 pub struct Book {
     limit: u32,
@@ -44,9 +48,9 @@ impl Book {
         })
     }
 
-    /// Claims a donor for a row: the first of its ranking that fewer than the limit of entries were
-    /// given, nobody where there is none, and the reply that it had where the row has claimed before. A
-    /// first claim stands at the end of the history. No memory.
+    /// Claims a donor for a row: the first of its ranking that was given fewer than `limit` times so far.
+    /// Where there is none the answer is nobody. Where the row has claimed before, it is the reply that it
+    /// had then. A first claim stands at the end of the history. No memory.
     pub fn claim_on(&mut self, row_no: u32, ranking: Vec<u32>) -> Claim
         requires row { row_no < self.old.rows }
         requires donors { All (λ donor. donor < self.old.donors) ranking.items }
@@ -78,7 +82,7 @@ impl Book {
         self.history.as_slice()
     }
 
-    /// The claims, in order, and the book is gone. No memory.
+    /// The claims so far, in order. The book is used up. No memory.
     pub fn close(self) -> Vec<Entry>
         ensures history { result.items ≡ self.history }
         ensures legal { IsLegalHistory self.limit self.history }
@@ -93,7 +97,8 @@ impl Book {
         self.limit
     }
 
-    // What the row was given, if it has claimed.
+    // What the row was given: None where it has not claimed yet, and else a donor, or a None inside for
+    // nobody.
     fn reply_of(&self, row_no: u32) -> Option<Option<u32>>
         requires { row_no < self.now.rows }
         ensures { result ≡ option_map (λ w. w.reply) (claim_of row_no (wins_of self.now.history)) }
@@ -101,7 +106,7 @@ impl Book {
         self.replies[row_no as usize]
     }
 
-    // The first donor of the ranking that has uses left.
+    // The first donor of the ranking that has uses left, None where none has.
     fn first_free(&self, ranking: &[u32]) -> Option<u32>
         requires { All (λ donor. donor < self.now.donors) ranking.now }
         ensures free { result ≡ first_free self.now.limit (wins_of self.now.history) ranking.now }
@@ -110,7 +115,8 @@ impl Book {
         first_below(&self.uses, self.limit, ranking)
     }
 
-    // Puts the entry of a row that has not claimed at the end of the history.
+    // Puts the entry of a row that has not claimed at the end of the history, counts its donor, and notes
+    // its reply. The room was taken at the start.
     fn enter(&mut self, entry: Entry)
         requires row { entry.row_no < self.old.rows }
         requires donor { IsDonor self.old.donors entry.reply }

@@ -1,3 +1,4 @@
+//! Claims of donors, and what they are answered. Whoever claims is called a row.
 use foundation::Sequence;
 
 /// What a claim is answered.
@@ -11,7 +12,8 @@ pub enum Claim {
     Had(Option<u32>),
 }
 
-/// A row that has claimed, with the donor that it was given, or None for nobody. Rows and donors are numbered from 0.
+/// A row that has claimed, with the donor that it was given, or None for nobody. Rows and donors are
+/// numbered from 0.
 #[derive(Clone, Copy, Debug, PartialEq, Eq)]
 pub struct Won {
     /// The row that claimed.

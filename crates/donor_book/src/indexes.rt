@@ -1,4 +1,6 @@
-//! How often each donor was given, and what each row was given, for a history.
+//! Two tables that stand for a history, so that a claim is answered without a look at it. `uses` has how
+//! often each donor was given. `replies` has what each row was given: None where it has not claimed, and a
+//! None inside for nobody.
 ghost use Rattle.std.specs.Prelude.{◌≡◌, ◌<◌, ◌+◌, ◌^◌, None, Some, length, replicate, All, IfOk, nat_lt, slice_index, slice_set};
 ghost use Rattle.std.specs.List.{find};
 ghost use Rattle.donor_book.specs.Claims.{IsDonor};
@@ -8,7 +10,8 @@ use crate::claim::Won;
 use foundation::OutOfMemory;
 use std::alloc::Global;
 
-// The first donor of the ranking that was given less often than the limit.
+// The first donor of the ranking that was given less often than the limit, None where none was. `uses` has
+// how often each donor was given.
 pub fn first_below(uses: &[u32], limit: u32, ranking: &[u32]) -> Option<u32>
     requires { All (λ donor. donor < length uses.now) ranking.now }
     ensures { result ≡ find (λ donor. nat_lt (slice_index uses.now donor) limit) ranking.now }
@@ -19,7 +22,8 @@ pub fn first_below(uses: &[u32], limit: u32, ranking: &[u32]) -> Option<u32>
         .find(|donor| uses[*donor as usize] < limit)
 }
 
-// Counts the donor of a claim, and notes what its row was given.
+// Notes a claim in both tables: it counts the donor, if one was given, and keeps what the row was given.
+// Each count can grow by one within 32 bits.
 pub fn note(uses: &mut Vec<u32>, replies: &mut Vec<Option<Option<u32>>>, won: Won)
     requires row { won.row_no < length replies.old.items }
     requires donor { IsDonor (length uses.old.items) won.reply }
@@ -33,7 +37,7 @@ pub fn note(uses: &mut Vec<u32>, replies: &mut Vec<Option<Option<u32>>>, won: Wo
     replies[won.row_no as usize] = Some(won.reply);
 }
 
-// That no row has claimed.
+// The table of replies, with a place for each of `rows` rows, in which no row has claimed.
 pub fn no_replies(alloc: Global, rows: u32) -> Result<Vec<Option<Option<u32>>>, OutOfMemory>
     ensures { IfOk result (λ replies. replies.items ≡ replicate rows None) }
 {

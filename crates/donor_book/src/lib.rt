@@ -1,7 +1,8 @@
-//! Claims of donors: each row claims a donor once, and no donor is given more often than a limit allows. What a row
-//! is answered after a history is defined in `specs/Claims.antt`, and a legal history in `specs/Entries.antt`.
-//! Begin with [`Book`], the book of one thread. A [`SharedBook`] is one that threads share, without a lock.
-//! [`first_illegal`] tells whether claims that somebody else wrote are a legal history.
+//! Claims of donors: each row claims a donor once, and no donor is given more often than a limit allows.
+//! What a row is answered after a history is defined in `specs/Claims.antt`, and a legal history in
+//! `specs/Entries.antt`. Begin with [`Book`], the book of one thread. A [`SharedBook`] is one that threads
+//! share, without a lock. [`first_illegal`] tells whether claims that somebody else wrote are a legal
+//! history.
 #![tactic(auto)]
 
 mod book;

@@ -1,4 +1,6 @@
-//! Whether claims are a legal history.
+//! Whether claims that somebody else wrote, as in a proof file, are a legal history: they are claimed once
+//! more. In contracts, `IsReplay` says that the tables of uses and replies are those of a history.
+//! `IsEntryWithin` says that an entry names rows and donors that there are.
 ghost use Rattle.std.specs.Prelude.{◌≡◌, List, All, length, IfOk, IfNone, IfSome};
 ghost use Rattle.std.specs.Bool.{Decides};
 ghost use Rattle.donor_book.specs.declared.claim.Won.{Won as Claimed};
@@ -10,9 +12,10 @@ use crate::indexes::{first_below, no_replies, note};
 use foundation::OutOfMemory;
 use std::alloc::Global;
 
-/// The place of the first entry with which the claims are no legal history any more: it has not the reply that the
-/// entries before it leave to its ranking, or its row has claimed before. None where all are legal. Donors and rows
-/// are named by the numbers below these. All memory is taken before the first entry is read.
+/// The place of the first entry with which the claims are no legal history any more; None where all are
+/// legal. Such an entry has not the reply that the entries before it leave to its ranking, or its row has
+/// claimed before. Donors and rows are named by the numbers below `donors` and `rows`. All memory is taken
+/// before the first entry is read.
 pub fn first_illegal(
     alloc: Global,
     claims: &[Entry],
@@ -39,7 +42,8 @@ pub fn first_illegal(
     Ok(None)
 }
 
-// Whether the entry may stand behind a history of which these are the uses and the replies.
+// Whether the entry may stand behind a history: its row has not claimed there, and its reply is the first
+// donor with uses left. `uses` and `replies` are the tables of that history.
 fn is_next(uses: &[u32], replies: &[Option<Option<u32>>], limit: u32, entry: &Entry) -> bool
     requires { IsEntryWithin (length uses.now) (length replies.now) entry.now }
     ensures { (history : List Claimed) → IsReplay history uses.now replies.now → Decides result (IsNext limit history entry.now) }

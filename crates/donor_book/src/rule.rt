@@ -20,8 +20,9 @@ pub struct Placed {
     pub entry: Entry,
 }
 
-/// What a pass knows: the terms, for how many passes it stands, the beginning of the history that it has seen, its own
-/// claims, and what the passes that it took in had seen. Contracts alone speak of it: no value of it is made.
+/// What a pass knows: the terms, and for how many passes it stands. Then the beginning of the history that
+/// it has seen, its own claims, and what the passes that it took in had seen. Contracts alone speak of it:
+/// no value of it is made.
 pub struct Known {
     pub terms: Terms,
     pub passes: u64,
@@ -41,7 +42,8 @@ impl TableRule<(), Known, Terms> for HistoryRule {
     ghost first = { first_known };
 }
 
-/// The entry that a try is to enter. A step sees a word and not the ranking behind it, so the proof names the entry.
+/// The entry that a try is to enter. A step sees a word and not the ranking behind it, so the proof names
+/// the entry.
 pub trait Tried {
     ghost use Rattle.donor_book.specs.declared.claim.Entry.{Entry};
 

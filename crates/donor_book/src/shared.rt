@@ -1,3 +1,10 @@
+//! The book of claims that threads share. A claim is one word of a shared table, written by compare and
+//! exchange, so nobody waits and no two claims have one place.
+//!
+//! In contracts, `IsFresh` says that a pass has seen and claimed nothing. `IsAnswered` says that a claim
+//! is answered as after a history that begins with what its pass had seen. `ArePlaced` says that a pass
+//! has seen its own claims. `IsWhole` and `AreCollected` say that a history is made of the claims of the
+//! passes, and is legal.
 ghost use Rattle.std.specs.Prelude.{◌≡◌, ◌+◌, ◌<◌, ◌≤◌, ◌^◌, [], None, length, option_map, IfOk, IfNone, List, MatchBool};
 ghost use Rattle.std.specs.List.{All};
 ghost use Rattle.std.specs.List.Sorted.{IsStrictlyIncreasing};
@@ -17,7 +24,8 @@ use foundation::OutOfMemory;
 use std::alloc::Global;
 use std::marker::{Brand, Model};
 
-/// A book of claims that threads share, without a lock. Each claims from a [`Pass`] of its own.
+/// A book of claims that threads share, without a lock. Each claims from a [`Pass`] of its own. `history`
+/// is the room for the history, which is read into it at the end.
 #[derive(Drop)]
 pub struct SharedBook {
     table: Table<(), Known, Terms, HistoryRule, Global>,
@@ -37,6 +45,7 @@ impl Model for SharedBook {
 }
 
 /// A place at a shared book, from which one worker claims at a time. It may be sent to another thread.
+/// `len` is how many claims it has seen, and `uses` and `replies` are the tables of these.
 #[derive(Drop)]
 pub struct Pass {
     seat: Seat<(), Known>,
@@ -58,7 +67,8 @@ impl Model for Pass {
 }
 
 impl Pass {
-    // A pass that has seen nothing.
+    // A pass that has seen and claimed nothing, at this seat of the table. The seat stands for one pass of
+    // a book with these terms.
     fn fresh(alloc: Global, seat: Seat<(), Known>, terms: Terms) -> Result<Pass, OutOfMemory>
         requires seat { seat.me ≡ (known terms 1 [] [], []) }
         requires small { (terms.rows + 1 < 2 ^ 32) × (terms.donors + 1 < 2 ^ 32) }
@@ -73,6 +83,7 @@ impl Pass {
         })
     }
 
+    // The pass's seat at the table, which is handed back when the book is closed.
     fn into_seat(self) -> Seat<(), Known>
         ensures table { result.table_id ≡ self.book.table }
         ensures view { result.me ≡ (known self.book.terms 1 self.seen self.mine, []) }
@@ -80,7 +91,8 @@ impl Pass {
         self.seat
     }
 
-    // What the row was given, if its claim has been seen.
+    // What the row was given: None where no claim of it has been seen, and else a donor, or a None inside
+    // for nobody.
     fn reply_of(&self, row_no: u32) -> Option<Option<u32>>
         requires { row_no < self.now.book.terms.rows }
         ensures reply { result ≡ option_map (λ w. w.reply) (claim_of row_no self.now.seen) }
@@ -90,7 +102,8 @@ impl Pass {
         self.replies[row_no as usize]
     }
 
-    // The first donor of the ranking that has uses left.
+    // The first donor of the ranking that has uses left after the claims that were seen, None where none
+    // has.
     fn first_free(&self, ranking: &[u32]) -> Option<u32>
         requires { All (λ donor. donor < self.now.book.terms.donors) ranking.now }
         ensures free { result ≡ first_free self.now.book.terms.limit self.now.seen ranking.now }
@@ -101,8 +114,9 @@ impl Pass {
 }
 
 impl SharedBook {
-    /// A book of this many donors, each given at most `limit` times, for this many rows, and its passes. Donors and
-    /// rows are named by the numbers below these. Nobody has claimed. All memory is taken here.
+    /// A book of this many donors, each given at most `limit` times, for this many rows, and its `passes`
+    /// passes, one for each worker. Donors and rows are named by the numbers below these. Nobody has
+    /// claimed. All memory is taken here.
     pub fn share(
         alloc: Global,
         donors: u32,
@@ -140,10 +154,11 @@ impl SharedBook {
         Ok((book, all))
     }
 
-    /// Claims a donor for a row: the first of its ranking that fewer than the limit of the claims before it were given,
-    /// nobody where there is none, and the reply that it had where the row has claimed before. A first claim stands
-    /// behind all that the pass has seen. No memory, no waiting: a try fails only where another claim came before it,
-    /// so there are at most as many tries as rows.
+    /// Claims a donor for a row: the first of its ranking that was given fewer than `limit` times by the
+    /// claims before. Where there is none the answer is nobody. Where the row has claimed before, it is the
+    /// reply that it had then. The claims before begin with those that the pass had seen, and the pass has
+    /// then seen them all. A first claim stands right behind them. No memory, no waiting: a try fails only
+    /// where another claim came before it, so there are at most as many tries as rows.
     pub fn claim(&self, pass: &mut Pass, row_no: u32, ranking: &[u32]) -> Claim
         requires book { pass.old.book ≡ self.now }
         requires row { row_no < self.now.terms.rows }
@@ -166,7 +181,8 @@ impl SharedBook {
         }
     }
 
-    /// The history, in order, once all passes are handed back. No memory, no waiting.
+    /// The history, in order, once all passes are handed back. It is legal, and made of the claims of the
+    /// passes, each at its place. No memory, no waiting.
     pub fn close(self, passes: Vec<Pass>) -> Vec<Won>
         requires book { All (λ pass. pass.book ≡ self) passes.items }
         requires all { length passes.items ≡ self.terms.passes }
@@ -195,7 +211,8 @@ impl SharedBook {
         history
     }
 
-    // Enters the claim behind all that the pass has seen. False where another claim came before it, which is then seen.
+    // Enters the claim behind all that the pass has seen; its reply was found by `ranking`. False where
+    // another claim came before it, which is then seen. Either way the pass has seen one claim more.
     fn try_claim(&self, pass: &mut Pass, ranking: &[u32], claim: Won) -> bool
         requires book { pass.old.book ≡ self.now }
         requires claim { IsWithin self.now.terms.donors self.now.terms.rows claim }
@@ -213,7 +230,9 @@ impl SharedBook {
         found == 0
     }
 
-    // One try: the claim is entered behind what was seen, or the claim that stands there is seen.
+    // One try at the place `at` of the table, behind what was seen. The answer is 0 where the claim was
+    // entered, and else the word of the claim that stands there. `A` names the entry with its ranking, for
+    // contracts alone: the word leaves the ranking out.
     fn enter<A: Tried>(
         &self,
         seat: &mut Seat<(), Known>,

@@ -1,4 +1,6 @@
-//! The words of a row of claims: one for each claim, and 0 behind the last.
+//! The words of a shared book, numbers of 64 bits: one for each claim, in order, and 0 behind the last. In
+//! contracts, `word_of` has a claim's word. `MatchBool` says its first part where a test is true, and else
+//! its second.
 ghost use Rattle.std.specs.Prelude.{◌≡◌, ◌+◌, ◌-◌, ◌*◌, ◌/◌, ◌%◌, ◌<◌, ◌≤◌, ◌^◌, ◌==◌, [], List, MatchBool};
 ghost use Rattle.std.specs.Slots.{IsFull, slots_items, slots_len};
 ghost use Rattle.donor_book.specs.Claims.{IsDonor};
@@ -10,12 +12,13 @@ use crate::rule::Terms;
 use atomic_table::Closed;
 use std::alloc::Global;
 
+// What stands for the claim that was tried, where none was.
 const NO_CLAIM: Won = Won {
     row_no: 0,
     reply: None,
 };
 
-// Nobody is 0, and a donor is one more than its number.
+// The lower 32 bits of a claim's word. Nobody is 0, and a donor is one more than its number.
 fn reply_code(reply: Option<u32>) -> u64
     requires { IsDonor (2 ^ 32 - 1) reply }
     ensures code { result ≡ code_of_reply reply }
@@ -27,7 +30,8 @@ fn reply_code(reply: Option<u32>) -> u64
     }
 }
 
-// The word of a claim. It is not 0.
+// The word of a claim. Its upper 32 bits are one more than the row's number, so that no claim's word is 0.
+// The lower ones are the reply.
 pub fn word(claim: Won) -> u64
     requires row { claim.row_no + 1 < 2 ^ 32 }
     requires donor { IsDonor (2 ^ 32 - 1) claim.reply }
@@ -36,7 +40,8 @@ pub fn word(claim: Won) -> u64
     (claim.row_no as u64 + 1) * 4294967296 + reply_code(claim.reply)
 }
 
-// The claim of a word that a try found, where 0 stands for the claim that was tried.
+// The claim that stands at a place after a try to enter one there. A try that found 0 entered its own,
+// `claim`; else the word that it found is that of another.
 pub fn read(found: u64, claim: Won) -> Won
     requires { MatchBool (found == 0) (Unit {0}) ((x : Won) × (word_of x ≡ found) × (x.row_no + 1 < 2 ^ 32)
         × IsDonor (2 ^ 32 - 1) x.reply) }
@@ -56,7 +61,9 @@ pub fn read(found: u64, claim: Won) -> Won
     }
 }
 
-// Puts the history that these words are into the vector, which has room for it.
+// Reads the words of a closed table into `history`, which is empty and has room for a claim of each row,
+// and answers it. The first word 0 ends it. In the contract, `AreWordsOf` says that words are those of a
+// history.
 pub fn read_history(closed: &Closed<(), Global>, terms: Terms, mut history: Vec<Won>) -> Vec<Won>
     requires full { IsFull closed.now.words × (slots_len closed.now.words ≡ terms.rows + 1) }
     requires small { (terms.rows + 1 < 2 ^ 32) × (terms.donors + 1 < 2 ^ 32) }

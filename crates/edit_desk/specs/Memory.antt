@@ -1,5 +1,6 @@
 -- A desk in memory: what it holds, and which of its calls are to fail.
-use Rattle.std.specs.Prelude.{◌≡◌, ◌==◌, ℕ, ◌+◌, Option, Some, None, IsErr, IsErrOf, Result, List, [], ◌∷◌, length, map, take, find, count_by, if◌then◌else◌, string_bytes, String, Vec}
+use Rattle.std.specs.Prelude.{◌≡◌, ◌==◌, ℕ, ◌+◌, Option, Some, None, IsErr, IsErrOf, Result, List, [], ◌∷◌, length, map, take, find}
+use Rattle.std.specs.Prelude.{count_by, if◌then◌else◌, string_bytes, String, Vec}
 use Rattle.std.specs.Str.{bytes_eq}
 use Rattle.std.specs.BTreeMap.{BTreeMap}
 use Rattle.std.specs.declared.alloc.Global.{Global}

@@ -1,5 +1,13 @@
+//! Desks: what files are fetched from and stored to. A command is written over any of them, be it the
+//! system's files or files in memory.
+//!
+//! In contracts `Told` is said of what a desk may tell or not, as its files and its calls. Both values are
+//! told and stand in the relation, or neither is told. `Fetches` says what a fetch may answer of such
+//! files, and `Stores` what a store may leave. `fetch_record` and `store_record` are what a call puts on
+//! record: itself, or nothing for want of memory.
 ghost use Rattle.std.specs.Prelude.{◌≡◌, ◌≤◌, ◌++◌, ℕ, List, Option, IfErr, IfOk, IfSome, IsErrOf, length};
-ghost use Rattle.edit_desk.specs.Desk.{Files, Asked, Fetches, Stores, Told, TakesOneMore, after_fetch, after_store, fetch_record, store_record};
+ghost use Rattle.edit_desk.specs.Desk.{Files, Asked, Fetches, Stores, Told, TakesOneMore, after_fetch, after_store, fetch_record};
+ghost use Rattle.edit_desk.specs.Desk.{store_record};
 ghost use Rattle.edit_desk.specs.declared.calls.FetchError.TheVariants as fetch;
 ghost use Rattle.edit_desk.specs.declared.calls.StoreError.TheVariants as store;
 
@@ -29,6 +37,7 @@ pub enum StoreError {
 impl From<AllocError> for FetchError {
     ghost from_gives = { λ _ error. error ≡ fetch.OutOfMemory };
 
+    // Refused memory becomes the fault `OutOfMemory`, so that `?` passes it on.
     fn from(_refused: AllocError) -> Self {
         FetchError::OutOfMemory
     }
@@ -37,6 +46,7 @@ impl From<AllocError> for FetchError {
 impl From<AllocError> for StoreError {
     ghost from_gives = { λ _ error. error ≡ store.OutOfMemory };
 
+    // Refused memory becomes the fault `OutOfMemory`, so that `?` passes it on.
     fn from(_refused: AllocError) -> Self {
         StoreError::OutOfMemory
     }
@@ -45,6 +55,7 @@ impl From<AllocError> for StoreError {
 impl From<OutOfMemory> for StoreError {
     ghost from_gives = { λ _ error. error ≡ store.OutOfMemory };
 
+    // Refused memory becomes the fault `OutOfMemory`, so that `?` passes it on.
     fn from(_refused: OutOfMemory) -> Self {
         StoreError::OutOfMemory
     }
@@ -61,7 +72,9 @@ pub trait Desk {
     /// How many calls failed. At the last number of 64 bits the count stands still.
     ghost faults: { Self → ℕ };
 
-    /// The bytes of a file, at most `limit` of them. No file is changed.
+    /// The bytes of the file of this `name`, which has at most `limit` of them. `TooLong` where it has
+    /// more, `Failed` where it is not there or can't be read, `OutOfMemory` where memory was refused. No
+    /// file is changed.
     fn fetch(&mut self, alloc: Global, name: &str, limit: u64) -> Result<Vec<u8>, FetchError>
         ensures files { files self.new ≡ files self.old }
         ensures within { IfOk result (λ bytes. length bytes.items ≤ limit) }
@@ -70,7 +83,8 @@ pub trait Desk {
         ensures calls { Told (calls self.old) (calls self.new) (λ old new. new ≡ old ++ fetch_record name.now result) }
         ensures faults { faults self.new ≡ after_fetch result (faults self.old) };
 
-    /// Puts the bytes under the name, in the place of what stood there.
+    /// Puts the bytes under `name`, in the place of what stood there. Where it is `Failed`, some first
+    /// bytes may stand there. Where it is `OutOfMemory`, no file is changed.
     fn store(&mut self, alloc: Global, name: &str, bytes: &[u8]) -> Result<(), StoreError>
         ensures files { Told (files self.old) (files self.new) (λ old new. Stores old new name.now bytes.now result) }
         ensures calls { Told (calls self.old) (calls self.new) (λ old new. new ≡ old ++ store_record name.now result) }

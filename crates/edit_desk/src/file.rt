@@ -1,3 +1,4 @@
+//! The desk over the files of the system, which the program has.
 ghost use Rattle.std.specs.Prelude.{◌≡◌, ◌≤◌, ◌<◌, None, IfErr, IfOk, IfSome, length, vec_len};
 ghost use Rattle.edit_desk.specs.Desk.{TakesOneMore};
 ghost use Rattle.edit_desk.specs.inner.Reads.{ReadsWhole};
@@ -46,6 +47,8 @@ impl<R: Files + Drop> Desk for FileDesk<R> {
 
     ghost faults = { λ d. d };
 
+    // Reads the file, and counts a fault where that failed. A file that is too long is no fault, and
+    // neither is refused memory.
     fn fetch(&mut self, alloc: Global, name: &str, limit: u64) -> Result<Vec<u8>, FetchError> {
         let answer = read_file(&self.rt, alloc, name, limit);
         if let Err(FetchError::Failed) = answer {
@@ -54,6 +57,7 @@ impl<R: Files + Drop> Desk for FileDesk<R> {
         answer
     }
 
+    // Writes the file, and counts a fault where that failed.
     fn store(&mut self, _alloc: Global, name: &str, bytes: &[u8]) -> Result<(), StoreError> {
         let answer = write_file(&self.rt, name, bytes);
         if let Err(StoreError::Failed) = answer {
@@ -63,7 +67,8 @@ impl<R: Files + Drop> Desk for FileDesk<R> {
     }
 }
 
-// The bytes of a file, at most `limit` of them.
+// The bytes of the file `name`, which has at most `limit` of them. `Failed` where it can't be opened or
+// read, `TooLong` where it has more, `OutOfMemory` where memory was refused.
 fn read_file<R: Files>(rt: &R, alloc: Global, name: &str, limit: u64) -> Result<Vec<u8>, FetchError>
     ensures within { IfOk result (λ bytes. length bytes.items ≤ limit) }
     ensures taken { IfErr result (TakesOneMore limit) }
@@ -77,7 +82,8 @@ fn read_file<R: Files>(rt: &R, alloc: Global, name: &str, limit: u64) -> Result<
     }
 }
 
-// Puts the bytes into the file, in the place of what it held.
+// Puts the bytes into the file, in the place of what it held; a file that is not there is made. Where it
+// fails, some first bytes may stand there.
 fn write_file<R: Files>(rt: &R, name: &str, bytes: &[u8]) -> Result<(), StoreError> {
     match fs::create(rt, name) {
         Ok(mut file) => Ok(write_whole(&mut file, bytes)?),
@@ -85,15 +91,16 @@ fn write_file<R: Files>(rt: &R, name: &str, bytes: &[u8]) -> Result<(), StoreErr
     }
 }
 
-// A buffer of this many bytes.
+// A buffer of this many bytes, each of them 0.
 fn zeros(alloc: Global, len: usize) -> Result<Vec<u8>, AllocError>
     ensures { IfOk result (λ buffer. vec_len buffer ≡ len) }
 {
     vec![in alloc; 0; len]
 }
 
-// Reads a file to its end by way of the chunk, or to the first byte past the limit. An interrupted read
-// is tried again.
+// The bytes of `file` to its end, read piece by piece into `chunk`. Each read asks for at most one byte
+// more than the limit leaves, so the first byte past the limit is seen. `TooLong` where there are more
+// than `limit` bytes. An interrupted read is tried again; any other fault is `Failed`.
 fn read_within<F: Read>(
     alloc: Global,
     file: &mut F,

@@ -1,5 +1,6 @@
-//! Where files come from and go to, and where lines are printed: a trait for each, one of each in memory,
-//! and those of the system; and the words that the system hands to a program. Begin with [`Desk`] and [`Printer`].
+//! Where files come from and go to, and where lines are printed: traits for both, with one of each in
+//! memory and one of the system. Also the words that the system hands to a program. Begin with [`Desk`]
+//! and [`Printer`].
 #![tactic(auto)]
 
 mod calls;

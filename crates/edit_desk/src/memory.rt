@@ -1,4 +1,7 @@
-ghost use Rattle.std.specs.Prelude.{◌≡◌, ◌⊎◌, ◌+◌, ◌==◌, ◌≤◌, ◌++◌, [], Some, None, IfErr, IfOk, IfSome, IfNone, IsSome, IsErr, IsErrOf, OnOk, OnErr, length, map, take, find, option_copied};
+//! A desk in memory, for tests and worked cases. Its files can be looked at, its calls are on record, and
+//! calls can be made to fail.
+ghost use Rattle.std.specs.Prelude.{◌≡◌, ◌⊎◌, ◌+◌, ◌==◌, ◌≤◌, ◌++◌, [], Some, None, IfErr, IfOk, IfSome, IfNone, IsSome, IsErr, IsErrOf};
+ghost use Rattle.std.specs.Prelude.{OnOk, OnErr, length, map, take, find, option_copied};
 ghost use Rattle.edit_desk.specs.Desk.{Fetches, Stores, SameElsewhere, TakesOneMore, after_fetch, after_store, fetch_record, store_record};
 ghost use Rattle.edit_desk.specs.Memory.{FailsAs, asked, faults_of, named_files, next_failure, under};
 
@@ -11,6 +14,7 @@ use std::marker::Model;
 /// A call that is to fail, by its number: fetches and stores are counted together, from 1.
 #[derive(Clone, Copy, Debug, PartialEq, Eq)]
 pub struct Failure {
+    /// The number of the call.
     pub call: u64,
     /// How many of the first bytes a store that fails puts all the same.
     pub keep: u64,
@@ -42,7 +46,7 @@ impl Model for MemoryDesk {
 }
 
 impl MemoryDesk {
-    /// A desk with these files, no calls on record, and these failures to come.
+    /// A desk with these files and no calls on record, whose calls fail as `failures` says.
     pub fn new(alloc: Global, files: BTreeMap<String, Vec<u8>>, failures: Vec<Failure>) -> Self
         ensures { result ≡ record { files = named_files files; calls = []; failures = failures.items } }
     {
@@ -53,7 +57,8 @@ impl MemoryDesk {
         }
     }
 
-    /// The bytes under a name, where a file has it.
+    /// The bytes under `name`, or None where no file has it. In contracts, `under` has the bytes under
+    /// each name. No memory.
     #[tactic(auto, using(crate::proofs::MemoryLaws::under_named))]
     pub fn file(&self, name: &str) -> Option<&[u8]>
         ensures { option_copied result ≡ under self.now.files name.now }
@@ -71,14 +76,15 @@ impl MemoryDesk {
         self.calls.as_slice()
     }
 
-    /// The files by name. No memory.
+    /// The files that the desk holds, by name. No memory.
     pub fn into_files(self) -> BTreeMap<String, Vec<u8>>
         ensures { named_files result ≡ self.files }
     {
         self.files
     }
 
-    // The failure that was asked for the next call.
+    // The failure that was asked for the next call, whose number is one more than that of the calls on
+    // record. None where none was asked for.
     fn due_failure(&self) -> Option<Failure>
         ensures { result ≡ next_failure self.now }
     {
@@ -95,6 +101,9 @@ impl Desk for MemoryDesk {
 
     ghost faults = { faults_of };
 
+    // Answers a copy of the file's bytes. Memory for the record of the call is taken first, so that a call
+    // that is refused memory is not on record. It is `Failed` where a failure was asked for, or no file
+    // has the name.
     fn fetch(&mut self, alloc: Global, name: &str, limit: u64) -> Result<Vec<u8>, FetchError>
         ensures files { self.new.files ≡ self.old.files }
         ensures within { IfOk result (λ bytes. length bytes.items ≤ limit) }
@@ -121,6 +130,9 @@ impl Desk for MemoryDesk {
         answer
     }
 
+    // Puts a copy of the bytes under `name`, or of the first ones that an asked failure keeps. Memory for
+    // the record of the call is taken first. So a call that is refused memory changes nothing and is not
+    // on record.
     fn store(&mut self, alloc: Global, name: &str, bytes: &[u8]) -> Result<(), StoreError>
         ensures files { Stores (under self.old.files) (under self.new.files) name.now bytes.now result }
         ensures calls { self.new.calls ≡ self.old.calls ++ store_record name.now result }
@@ -132,7 +144,7 @@ impl Desk for MemoryDesk {
         let failure = self.due_failure();
         self.calls.reserve(1)?;
         let asked = String::from_str(alloc, name)?;
-        put(alloc, &mut self.files, name, kept(bytes, failure))?;
+        put(alloc, &mut self.files, name, kept_bytes(bytes, failure))?;
         self.calls.push_reserved(Call {
             store: true,
             name: asked,
@@ -145,15 +157,16 @@ impl Desk for MemoryDesk {
     }
 }
 
-// The failure that was asked for the call of this number.
+// The failure that was asked for the call of this `number`; the first where there are several, and None
+// where there is none.
 fn failure_of(failures: &[Failure], number: u64) -> Option<Failure>
     ensures { result ≡ find (λ f. f.call == number) failures.now }
 {
     failures.iter().copied().find(|f| f.call == number)
 }
 
-// The bytes that a store puts: all, or the first that a failure keeps.
-fn kept(bytes: &[u8], failure: Option<Failure>) -> &[u8]
+// The bytes that a store puts: all without a failure, and else the first `keep` of them.
+fn kept_bytes(bytes: &[u8], failure: Option<Failure>) -> &[u8]
     ensures all { IfNone failure (result.now ≡ bytes.now) }
     ensures some { IfSome failure (λ f. result.now ≡ take f.keep bytes.now) }
 {
@@ -163,7 +176,9 @@ fn kept(bytes: &[u8], failure: Option<Failure>) -> &[u8]
     }
 }
 
-// The bytes of a file that has at most `limit` of them, where no failure was asked for.
+// A copy of the bytes of the file `name`, which has at most `limit` of them. `Failed` where a failure was
+// asked for (`failure`), or no file has the name; `TooLong` where it has more; `OutOfMemory` where memory
+// was refused.
 #[tactic(auto, using(crate::proofs::MemoryLaws::under_named))]
 fn bytes_within(
     alloc: Global,
@@ -188,7 +203,8 @@ fn bytes_within(
     Ok(bytes.to_vec(alloc)?)
 }
 
-// Puts the bytes under the name, or changes nothing.
+// Puts the bytes under the name, or changes nothing where memory is refused: both copies are made before
+// the map is touched.
 #[tactic(auto, using(crate::proofs::MemoryLaws::under_named))]
 fn put(
     alloc: Global,

@@ -1,3 +1,5 @@
+//! A printer in memory, for tests and worked cases: what was printed can be looked at, and a line can be
+//! made to fail.
 ghost use Rattle.std.specs.Prelude.{◌≡◌, ◌↔◌, ◌⊎◌, ◌≤◌, ◌-◌, ◌+◌, ◌++◌, [], Some, None, IfOk, IsErr, IsTrue, length, take, vec_capacity};
 ghost use Rattle.edit_desk.specs.Desk.{raised};
 ghost use Rattle.edit_desk.specs.Page.{IsDue, IsTooMuch, free, printer_room};
@@ -51,14 +53,15 @@ impl MemoryPrinter {
         })
     }
 
-    /// What was printed.
+    /// What was printed so far. No memory.
     pub fn text(&self) -> &[u8]
         ensures { result.now ≡ self.now.text }
     {
         self.text.as_slice()
     }
 
-    // Whether the next line is the one that is to fail.
+    // Whether the next line is the one that is to fail. The numbers are compared without adding 1 to
+    // `lines`, which might pass 64 bits.
     fn is_due(&self) -> bool
         ensures { IsTrue result ↔ IsDue self.now }
     {
@@ -74,6 +77,8 @@ impl Printer for MemoryPrinter {
 
     ghost faults = { λ p. p.faults };
 
+    // Appends the line with its line feed, unless it is the one that is to fail. Where there is no room
+    // for all of it, the bytes that fit stand there, and it fails. Each line is counted.
     fn line(&mut self, text: &[u8]) -> Result<(), PrintFailed>
         ensures printed { Prints self.old.text self.new.text text.now result }
         ensures faults { self.new.faults ≡ after_line result self.old.faults }
@@ -94,7 +99,8 @@ impl Printer for MemoryPrinter {
     }
 }
 
-// Appends the bytes of the line, as far as there is room, and says whether there was for all.
+// Appends the text of the line and a line feed, as far as there is room. The answer says whether there was
+// room for all.
 fn append_line(page: &mut Vec<u8>, text: &[u8]) -> bool
     ensures whole { IsTrue result ↔ length (line_of text.now) ≤ vec_capacity page.old - length page.old.items }
     ensures items { page.new.items ≡ page.old.items ++ take (vec_capacity page.old - length page.old.items) (line_of text.now) }
@@ -103,7 +109,8 @@ fn append_line(page: &mut Vec<u8>, text: &[u8]) -> bool
     append(page, text) && append(page, b"\n")
 }
 
-// Appends the bytes, as far as there is room, and says whether there was for all.
+// Appends the bytes, as far as there is room in what `page` has reserved. The answer says whether there
+// was room for all.
 fn append(page: &mut Vec<u8>, bytes: &[u8]) -> bool
     ensures whole { IsTrue result ↔ length bytes.now ≤ vec_capacity page.old - length page.old.items }
     ensures items { page.new.items ≡ page.old.items ++ take (vec_capacity page.old - length page.old.items) bytes.now }

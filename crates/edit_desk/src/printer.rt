@@ -1,3 +1,8 @@
+//! Printers: what lines are printed to. A command is written over any of them.
+//!
+//! In contracts `Told` is said of what a printer may tell or not. Both values are told and stand in the
+//! relation, or neither is told. `Prints` says that the text and one line feed stand behind what was
+//! printed before, or first bytes of them where the line fails.
 ghost use Rattle.std.specs.Prelude.{◌≡◌, ℕ, List, Option};
 ghost use Rattle.edit_desk.specs.Desk.{Told};
 ghost use Rattle.edit_desk.specs.Printer.{Prints, after_line};

@@ -1,3 +1,4 @@
+//! The printer over standard output, which the program has.
 ghost use Rattle.std.specs.Prelude.{◌≡◌, ℕ, None, OnOk, take};
 ghost use Rattle.std.specs.Io.KnownBytes.{Appends};
 ghost use Rattle.edit_desk.specs.Printer.{line_of};
@@ -38,6 +39,7 @@ impl<R: Print + Drop> Printer for OutPrinter<R> {
 
     ghost faults = { λ p. p };
 
+    // Writes the line with its line feed, and counts a fault where that failed.
     fn line(&mut self, text: &[u8]) -> Result<(), PrintFailed> {
         let answer = write_line(&mut io::writer(&self.rt), text);
         if answer.is_err() {
@@ -47,7 +49,8 @@ impl<R: Print + Drop> Printer for OutPrinter<R> {
     }
 }
 
-// Writes the text and one line feed, and hands on what the writer still holds.
+// Writes the text and one line feed, and has the writer hand on what it still holds. Where it fails, some
+// first bytes may be written. In the contract, `Appends` says what was written behind what stood before.
 fn write_line<W: Write>(to: &mut W, text: &[u8]) -> Result<(), PrintFailed>
     ensures whole { OnOk result (Appends (W.contents to.old) (W.contents to.new) (line_of text.now)) }
     ensures part { (kept : ℕ) × Appends (W.contents to.old) (W.contents to.new) (take kept (line_of text.now)) }

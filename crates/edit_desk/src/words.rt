@@ -1,3 +1,4 @@
+//! The words that the system hands to a program, without the program's name.
 ghost use Rattle.std.specs.Prelude.{◌≡◌, ◌≢◌, ◌↔◌, IfOk, IsErrAnd, IsOkAnd, drop};
 ghost use Rattle.std.specs.IoError.{error_kind};
 ghost use Rattle.std.specs.Vec.Iter.{into_iter_items};
@@ -21,13 +22,15 @@ impl From<AllocError> for WordsFault {
 
     ghost from_gives = { λ _ fault. fault ≡ faults.OutOfMemory };
 
+    // Refused memory becomes the fault `OutOfMemory`, so that `?` passes it on.
     fn from(_refused: AllocError) -> Self {
         WordsFault::OutOfMemory
     }
 }
 
-/// The words behind the first of those that were read, which is the program's name: no texts exactly where they were not
-/// read, and that not for want of memory. Of what the runtime tells, which `std::env::args` reads, no contract speaks.
+/// The words behind the first one, which is the program's name. `read` is the answer of `std::env::args`.
+/// `NotText` exactly where that is an error other than want of memory. No contract says which words the
+/// runtime hands to the program.
 pub fn words_of(alloc: Global, read: io::Result<Args>) -> Result<Vec<String>, WordsFault>
     ensures words { IfOk result (λ words. IsOkAnd read (λ all. words.items ≡ drop 1 (into_iter_items all))) }
     ensures not_text { result ≡ Err WordsFault.NotText ↔ IsErrAnd read (λ error. error_kind error ≢ ErrorKind.OutOfMemory) }

@@ -1,3 +1,4 @@
+//! Bytes that are written as a whole, to a file or to standard output.
 ghost use Rattle.std.specs.Prelude.{◌≡◌, ℕ, OnOk, take};
 ghost use Rattle.std.specs.Io.KnownBytes.{Appends};
 
@@ -5,7 +6,7 @@ use crate::calls::StoreError;
 use crate::printer::PrintFailed;
 use std::io::{ErrorKind, Write};
 
-/// A writer did not take all the bytes.
+/// A writer did not take all the bytes; it may have taken some first ones.
 #[derive(Clone, Copy, Debug, PartialEq, Eq)]
 pub struct NotWritten;
 
@@ -14,18 +15,22 @@ impl From<NotWritten> for StoreError {
 
     ghost from_gives = { λ _ error. error ≡ store.Failed };
 
+    // Bytes that were not all written make a store fail.
     fn from(_cause: NotWritten) -> Self {
         StoreError::Failed
     }
 }
 
 impl From<NotWritten> for PrintFailed {
+    // Bytes that were not all written make a line fail.
     fn from(_cause: NotWritten) -> Self {
         PrintFailed
     }
 }
 
-/// Writes all the bytes. An interrupted write is tried again, and a writer that takes nothing is a fault.
+/// Writes all the bytes, by as many writes as the writer needs. An interrupted write is tried again. A
+/// writer that takes nothing is a fault, since it might never take more. Where it fails, some first bytes
+/// may be written.
 pub fn write_whole<W: Write>(to: &mut W, bytes: &[u8]) -> Result<(), NotWritten>
     ensures whole { OnOk result (Appends (W.contents to.old) (W.contents to.new) bytes.now) }
     ensures part { (kept : ℕ) × Appends (W.contents to.old) (W.contents to.new) (take kept bytes.now) }

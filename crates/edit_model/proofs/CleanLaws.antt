@@ -1,4 +1,5 @@
-use Rattle.std.proofs.Common.{◌≡◌, ◌≢◌, ℕ, suc, ◌<◌, Bool, true, false, not, List, [], ◌∷◌, length, get_or, All, Option, Some, None, slice_get, refl, sym, ap, ◌∙◌, arith}
+use Rattle.std.proofs.Common.{◌≡◌, ◌≢◌, ℕ, suc, ◌<◌, Bool, true, false, not, List, [], ◌∷◌, length, get_or, All, Option, Some, None, slice_get, refl, sym, ap}
+use Rattle.std.proofs.Common.{◌∙◌, arith}
 use Rattle.std.specs.List.{AllByRecursion, list_all, list_any}
 use Rattle.std.proofs.lemmas.Bool.{and_parts}
 use Rattle.std.proofs.lemmas.List.Folds.{list_any_at}
@@ -28,7 +29,8 @@ bad-none (Code c ∷ row) held = bad-none row (λ f below. held (suc f) (omega a
 bad-none (Number x ∷ row) held = bad-none row (λ f below. held (suc f) (omega arith))
 
 -- the rules of a survey can be tried at a record of it without Bad fields
-pub can_try-all : (fields : List Field) (row : List Value) (rules : List Rule) → IsRow fields row → list_any is_bad row ≡ false → All (IsRule fields) rules → All (CanTry row) rules
+pub can_try-all : (fields : List Field) (row : List Value) (rules : List Rule) → IsRow fields row → list_any is_bad row ≡ false → All (IsRule fields) rules
+    → All (CanTry row) rules
 can_try-all fields row rules is none fit k d below = can_try fields row is (λ f within. none-bad row f none within) (get_or rules k d) (fit k d below)
 
 not-none : (b : Bool) → not b ≡ true → b ≡ false
@@ -64,5 +66,6 @@ module _ (survey : SurveyParts) (row : List Value) where
   hold-all (rule ∷ rules) each = rw (each 0 rule refl) (hold-all rules (λ k r at. each (suc k) r at))
 
   -- such a record is clean
-  pub held-clean : ((f : ℕ) → f < length row → value_of row f ≢ Bad) → ((k : ℕ) (rule : Rule) → slice_get survey.rules k ≡ Some rule → rule_at rule row ≡ Some true) → is_clean survey row ≡ true
+  pub held-clean : ((f : ℕ) → f < length row → value_of row f ≢ Bad) → ((k : ℕ) (rule : Rule) → slice_get survey.rules k ≡ Some rule → rule_at rule row
+      ≡ Some true) → is_clean survey row ≡ true
   held-clean held each = rw (bad-none row held) (hold-all survey.rules each)

@@ -1,4 +1,5 @@
-use Rattle.std.proofs.Common.{◌≡◌, ◌≢◌, inl, inr, ℕ, ◌+◌, ◌<◌, ◌≤◌, Bool, true, false, not, All, AllPairs, List, [], ◌∷◌, ◌++◌, get_or, length, take, position, nat_lt, refl, sym, ap, ◌∙◌, subst, arith, Some, None, IsSomeAnd, slice_get}
+use Rattle.std.proofs.Common.{◌≡◌, ◌≢◌, inl, inr, ℕ, ◌+◌, ◌<◌, ◌≤◌, Bool, true, false, not, All, AllPairs, List, [], ◌∷◌, ◌++◌, get_or, length, take, position}
+use Rattle.std.proofs.Common.{nat_lt, refl, sym, ap, ◌∙◌, subst, arith, Some, None, IsSomeAnd, slice_get}
 use Rattle.std.specs.List.{position_or_len}
 use Rattle.std.specs.Str.{bytes_eq}
 use Rattle.std.proofs.lemmas.Bool.{cases_lt}
@@ -33,21 +34,25 @@ module _ (fields : List Field) (i : ℕ) (field : Field) (below : i < length fie
       distinct j i d earlier below (ap (λ (f : Field). f.name) (sym (get_or-take i fields j d earlier)) ∙ same ∙ sym (named_here d))
 
   -- where the fields before it have distinct names and none has its name, the fields up to it have distinct names
-  pub distinct_more : ((j k : ℕ) (d : Field) → j < k → k < i → (get_or fields j d).name ≢ (get_or fields k d).name) → All (λ (f : Field). f.name ≢ field.name) (take i fields)
+  pub distinct_more : ((j k : ℕ) (d : Field) → j < k → k < i → (get_or fields j d).name ≢ (get_or fields k d).name)
+      → All (λ (f : Field). f.name ≢ field.name) (take i fields)
       → (j k : ℕ) (d : Field) → j < k → k < i + 1 → (get_or fields j d).name ≢ (get_or fields k d).name
   distinct_more before new j k d earlier under same = elim (cases_lt k i) [
     | inl first ↦ before j k d earlier first same
     | inr last ↦
         let many = many_before in
         let at : k ≡ i = omega arith in
-        new j d (omega arith) (ap (λ (f : Field). f.name) (get_or-take i fields j d (omega arith)) ∙ same ∙ ap (λ (n : ℕ). (get_or fields n d).name) at ∙ named_here d)
+        new j d (omega arith) (ap (λ (f : Field). f.name) (get_or-take i fields j d (omega arith)) ∙ same ∙ ap (λ (n : ℕ). (get_or fields n d).name) at
+        ∙ named_here d)
   ]
 
 -- a table of the fields' names, up to the field at a place
-module _ (fields : List Field) (i : ℕ) (table : List (List ℕ)) (field : Field) (below : i < length fields) (are : table ≡ names_of (take i fields)) (here : field ≡ get_or fields i field) where
+module _ (fields : List Field) (i : ℕ) (table : List (List ℕ)) (field : Field) (below : i < length fields) (are : table ≡ names_of (take i fields))
+    (here : field ≡ get_or fields i field) where
   -- with the field's name
   pub names_more : table ++ field.name ∷ [] ≡ names_of (take (i + 1) fields)
-  names_more = ap (λ (ns : List (List ℕ)). ns ++ field.name ∷ []) are ∙ ap (λ (f : Field). names_of (take i fields) ++ f.name ∷ []) here ∙ sym (map_more (λ (f : Field). f.name) fields i field below)
+  names_more = ap (λ (ns : List (List ℕ)). ns ++ field.name ∷ []) are ∙ ap (λ (f : Field). names_of (take i fields) ++ f.name ∷ []) here
+      ∙ sym (map_more (λ (f : Field). f.name) fields i field below)
 
   -- which is new to it, where the fields have distinct names
   pub still_new : AllPairs (λ (f : Field) (g : Field). f.name ≢ g.name) fields → All (λ n. n ≢ field.name) table
@@ -73,7 +78,8 @@ found_field fields names name i are found =
     let here : name ≡ get_or names i [] = (bytes_eq-Decides name (get_or names i [])).0 place.1 in
     elim ((slice_get_cases fields i).1) [
       | inl at ↦
-          let named : (at.0).name ≡ name = ap (λ (f : Field). f.name) (sym at.3) ∙ sym (name_at fields i at.0 [] at.1) ∙ ap (λ (ns : List (List ℕ)). get_or ns i []) (sym are) ∙ sym here in
+          let named : (at.0).name ≡ name = ap (λ (f : Field). f.name) (sym at.3) ∙ sym (name_at fields i at.0 [] at.1)
+          ∙ ap (λ (ns : List (List ℕ)). get_or ns i []) (sym are) ∙ sym here in
           rw at.2 named
       | inr past ↦ absurd (omega (arith, past.0, place.0, many))
     ]

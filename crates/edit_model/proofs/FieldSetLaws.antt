@@ -35,7 +35,13 @@ has-with_other set n f apart = ap (λ (b : ℕ). b == 1) (omega (arith, bit_at_o
 -- a set without a field has it not
 pub has-without_same : (set n : ℕ) → has_number (without_number set n) n ≡ false
 has-without_same set n =
-    let taken : bit_at (without_number set n) n ≡ 0 = omega (arith, bit_at_xor (with_number set n) (2 ^ n) n, bit_at_or set (2 ^ n) n, bit_at-pow_same n, bit_at-lt set n) in
+    let taken : bit_at (without_number set n) n ≡ 0 = omega (
+      arith,
+      bit_at_xor (with_number set n) (2 ^ n) n,
+      bit_at_or set (2 ^ n) n,
+      bit_at-pow_same n,
+      bit_at-lt set n,
+    ) in
     ap (λ (b : ℕ). b == 1) taken
 
 -- and of the others those that it had
@@ -82,7 +88,8 @@ without-is set n next out others =
 
 has-fold : (set : ℕ) (fields : List ℕ) (f : ℕ) → has_number (fold with_number set fields) f ≡ (has_field fields f || has_number set f)
 has-fold set [] f = refl
-has-fold set (n ∷ fields) f = has-fold (with_number set n) fields f ∙ ap (λ (b : Bool). has_field fields f || b) (has-with set n f) ∙ moved (has_field fields f) (n == f) (has_number set f)
+has-fold set (n ∷ fields) f = has-fold (with_number set n) fields f ∙ ap (λ (b : Bool). has_field fields f || b) (has-with set n f)
+    ∙ moved (has_field fields f) (n == f) (has_number set f)
   where
     moved : (a b c : Bool) → (a || (b || c)) ≡ ((b || a) || c)
     moved true true c = refl

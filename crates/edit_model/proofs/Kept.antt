@@ -7,7 +7,8 @@ use Rattle.edit_model.specs.declared.field.Field.{Field}
 use Rattle.edit_model.specs.declared.rule.Rule.{Rule}
 
 -- what a survey of well-formed parts keeps, of lists that are seen through a loan
-pub kept : (fields declared : List Field) (rules : List Rule) (names : List (List ℕ)) (numbers categories : List ℕ) → declared ≡ fields → IsWellFormed (survey_of fields rules)
+pub kept : (fields declared : List Field) (rules : List Rule) (names : List (List ℕ)) (numbers categories : List ℕ) → declared ≡ fields
+    → IsWellFormed (survey_of fields rules)
     → names ≡ names_of declared → numbers ≡ numbers_from (is_of_sort true) 0 declared → categories ≡ numbers_from (is_of_sort false) 0 declared
     → IsKept (survey_of fields rules) names numbers categories
 kept fields declared rules names numbers categories same well_formed named numerical categorical = record {

@@ -20,9 +20,11 @@ none_of_words name words = (differs, none)
   where
     differs : not (list_any (λ word. bytes_eq name word) words) ≡ true → All (λ word. name ≢ word) words
     differs h k d below same =
-        let found : list_any (λ word. bytes_eq name word) words ≡ true = list_any_at (λ word. bytes_eq name word) words k d below ((bytes_eq-Decides name (get_or words k d)).1 same) in
+        let found : list_any (λ word. bytes_eq name word) words ≡ true = list_any_at (λ word. bytes_eq name word) words k d below
+        ((bytes_eq-Decides name (get_or words k d)).1 same) in
         let missing : list_any (λ word. bytes_eq name word) words ≡ false = false_from_not _ h in cc
 
     none : All (λ word. name ≢ word) words → not (list_any (λ word. bytes_eq name word) words) ≡ true
     none h =
-        let e : list_any (λ word. bytes_eq name word) words ≡ false = list_any_none (λ word. bytes_eq name word) words (λ k d below. false_unless _ (λ same. h k d below ((bytes_eq-Decides name (get_or words k d)).0 same))) in rw e refl
+        let e : list_any (λ word. bytes_eq name word) words ≡ false = list_any_none (λ word. bytes_eq name word) words
+        (λ k d below. false_unless _ (λ same. h k d below ((bytes_eq-Decides name (get_or words k d)).0 same))) in rw e refl

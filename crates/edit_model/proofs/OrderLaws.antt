@@ -1,4 +1,5 @@
-use Rattle.std.proofs.Common.{◌≡◌, ℕ, suc, ◌+◌, ◌-◌, ◌<◌, ◌≤◌, ◌==◌, ◌||◌, not, Bool, true, false, if◌then◌else◌, List, [], ◌∷◌, All, IsSomeAnd, slice_get, get_or, length, refl, sym, ◌∙◌, subst, arith}
+use Rattle.std.proofs.Common.{◌≡◌, ℕ, suc, ◌+◌, ◌-◌, ◌<◌, ◌≤◌, ◌==◌, ◌||◌, not, Bool, true, false, if◌then◌else◌, List, [], ◌∷◌, All, IsSomeAnd, slice_get}
+use Rattle.std.proofs.Common.{get_or, length, refl, sym, ◌∙◌, subst, arith}
 use Rattle.std.proofs.lemmas.Bool.Decides.{Decides-eqb}
 use Rattle.std.proofs.lemmas.List.{length-append}
 use Rattle.std.proofs.lemmas.List.Elements.{All-append, All-cons, All-head, All-tail}
@@ -11,7 +12,8 @@ use Rattle.edit_model.specs.declared.field.Kind.{Kind}
 
 -- ---- how many there are
 
-parts-length : (i : ℕ) (fields : List Field) → length (numbers_from is_numerical i fields) + length (numbers_from (λ k. not (is_numerical k)) i fields) ≡ length fields
+parts-length : (i : ℕ) (fields : List Field) → length (numbers_from is_numerical i fields) + length (numbers_from (λ k. not (is_numerical k)) i fields)
+    ≡ length fields
 parts-length i [] = omega arith
 parts-length i (field ∷ fields) = by (is_numerical field.kind) (parts-length (suc i) fields)
   where
@@ -36,16 +38,19 @@ below-from : (test : Kind → Bool) (i count : ℕ) (fields : List Field) → i 
 below-from test i count [] fits = λ k d below. absurd (omega arith)
 below-from test i count (field ∷ fields) fits = by (test field.kind) (below-from test (suc i) count fields (omega arith))
   where
-    by : (b : Bool) → All (λ f. f < count) (numbers_from test (suc i) fields) → All (λ f. f < count) (if b then i ∷ numbers_from test (suc i) fields else numbers_from test (suc i) fields)
+    by : (b : Bool) → All (λ f. f < count) (numbers_from test (suc i) fields) → All (λ f. f < count)
+        (if b then i ∷ numbers_from test (suc i) fields else numbers_from test (suc i) fields)
     by true rest = All-cons (λ f. f < count) i (numbers_from test (suc i) fields) (omega arith) rest
     by false rest = rest
 
 -- those of one kind are below any bound on the number of fields
-pub numbers-below : (test : Kind → Bool) (count : ℕ) (fields : List Field) (numbers : List ℕ) → length fields ≤ count → numbers ≡ numbers_from test 0 fields → All (λ f. f < count) numbers
+pub numbers-below : (test : Kind → Bool) (count : ℕ) (fields : List Field) (numbers : List ℕ) → length fields ≤ count → numbers ≡ numbers_from test 0 fields
+    → All (λ f. f < count) numbers
 numbers-below test count fields numbers few are = subst (λ (ns : List ℕ). All (λ f. f < count) ns) (sym are) (below-from test 0 count fields (omega arith))
 
 -- the number at a place is that of a field
-pub own-number : (test : Kind → Bool) (fields : List Field) (numbers : List ℕ) (k : ℕ) → numbers ≡ numbers_from test 0 fields → k < length numbers → get_or numbers k 0 < length fields
+pub own-number : (test : Kind → Bool) (fields : List Field) (numbers : List ℕ) (k : ℕ) → numbers ≡ numbers_from test 0 fields → k < length numbers
+    → get_or numbers k 0 < length fields
 own-number test fields numbers k are below = numbers-below test (length fields) fields numbers (omega arith) are k 0 below
 
 -- what holds of all numbers of a list holds of one that is there
@@ -59,13 +64,16 @@ number-there P (i ∷ numbers) f there all = by (i == f) (Decides-eqb i f).0 the
 
 -- a field of one kind is one of the fields
 pub field-below : (test : Kind → Bool) (fields : List Field) (f : ℕ) → has_field (numbers_from test 0 fields) f ≡ true → f < length fields
-field-below test fields f there = number-there (λ g. g < length fields) (numbers_from test 0 fields) f there (below-from test 0 (length fields) fields (omega arith))
+field-below test fields f there = number-there (λ g. g < length fields) (numbers_from test 0 fields) f there
+    (below-from test 0 (length fields) fields (omega arith))
 
-kind-from : (test : Kind → Bool) (i f : ℕ) (fields : List Field) → has_field (numbers_from test i fields) f ≡ true → (i ≤ f) × IsSomeAnd (slice_get fields (f - i)) (λ (field : Field). test field.kind ≡ true)
+kind-from : (test : Kind → Bool) (i f : ℕ) (fields : List Field) → has_field (numbers_from test i fields) f ≡ true → (i ≤ f)
+    × IsSomeAnd (slice_get fields (f - i)) (λ (field : Field). test field.kind ≡ true)
 kind-from test i f [] there = absurd (cc)
 kind-from test i f (field ∷ fields) there = by (test field.kind) refl (kind-from test (suc i) f fields) there
   where
-    later : (suc i ≤ f) × IsSomeAnd (slice_get fields (f - suc i)) (λ (g : Field). test g.kind ≡ true) → (i ≤ f) × IsSomeAnd (slice_get (field ∷ fields) (f - i)) (λ (g : Field). test g.kind ≡ true)
+    later : (suc i ≤ f) × IsSomeAnd (slice_get fields (f - suc i)) (λ (g : Field). test g.kind ≡ true) → (i ≤ f)
+        × IsSomeAnd (slice_get (field ∷ fields) (f - i)) (λ (g : Field). test g.kind ≡ true)
     later (past, there) =
         let next : suc (f - suc i) ≡ f - i = omega arith in
         (omega arith, subst (λ (k : ℕ). IsSomeAnd (slice_get (field ∷ fields) k) (λ (g : Field). test g.kind ≡ true)) next there)
@@ -75,17 +83,21 @@ kind-from test i f (field ∷ fields) there = by (test field.kind) refl (kind-fr
         let first : 0 ≡ f - i = omega arith in
         (omega arith, subst (λ (k : ℕ). IsSomeAnd (slice_get (field ∷ fields) k) (λ (g : Field). test g.kind ≡ true)) first passes)
 
-    by : (b : Bool) → test field.kind ≡ b → (has_field (numbers_from test (suc i) fields) f ≡ true → (suc i ≤ f) × IsSomeAnd (slice_get fields (f - suc i)) (λ (g : Field). test g.kind ≡ true))
-        → has_field (if b then i ∷ numbers_from test (suc i) fields else numbers_from test (suc i) fields) f ≡ true → (i ≤ f) × IsSomeAnd (slice_get (field ∷ fields) (f - i)) (λ (g : Field). test g.kind ≡ true)
+    by : (b : Bool) → test field.kind ≡ b → (has_field (numbers_from test (suc i) fields) f ≡ true → (suc i ≤ f)
+        × IsSomeAnd (slice_get fields (f - suc i)) (λ (g : Field). test g.kind ≡ true))
+        → has_field (if b then i ∷ numbers_from test (suc i) fields else numbers_from test (suc i) fields) f ≡ true → (i ≤ f)
+        × IsSomeAnd (slice_get (field ∷ fields) (f - i)) (λ (g : Field). test g.kind ≡ true)
     by false passes rest found = later (rest found)
     by true passes rest found = at (i == f) (Decides-eqb i f).0 found
       where
-        at : (b : Bool) → (b ≡ true → i ≡ f) → (b || has_field (numbers_from test (suc i) fields) f) ≡ true → (i ≤ f) × IsSomeAnd (slice_get (field ∷ fields) (f - i)) (λ (g : Field). test g.kind ≡ true)
+        at : (b : Bool) → (b ≡ true → i ≡ f) → (b || has_field (numbers_from test (suc i) fields) f) ≡ true → (i ≤ f)
+            × IsSomeAnd (slice_get (field ∷ fields) (f - i)) (λ (g : Field). test g.kind ≡ true)
         at true same h = here passes (same refl)
         at false same h = later (rest h)
 
 -- and is of that kind
-pub kind-there : (test : Kind → Bool) (fields : List Field) (f : ℕ) → has_field (numbers_from test 0 fields) f ≡ true → IsSomeAnd (slice_get fields f) (λ (field : Field). test field.kind ≡ true)
+pub kind-there : (test : Kind → Bool) (fields : List Field) (f : ℕ) → has_field (numbers_from test 0 fields) f ≡ true
+    → IsSomeAnd (slice_get fields f) (λ (field : Field). test field.kind ≡ true)
 kind-there test fields f there =
     let own : f - 0 ≡ f = omega arith in
     subst (λ (k : ℕ). IsSomeAnd (slice_get fields k) (λ (field : Field). test field.kind ≡ true)) own (kind-from test 0 f fields there).1
@@ -93,5 +105,6 @@ kind-there test fields f there =
 -- a number in path order is that of a field
 pub order-below : (fields : List Field) (place : ℕ) → place < length fields → get_or (path_order fields) place 0 < length fields
 order-below fields place within =
-    All-append (λ f. f < length fields) (number_fields fields) (code_fields fields) (below-from is_numerical 0 (length fields) fields (omega arith)) (below-from (λ k. not (is_numerical k)) 0 (length fields) fields (omega arith)) place 0
+    All-append (λ f. f < length fields) (number_fields fields) (code_fields fields) (below-from is_numerical 0 (length fields) fields (omega arith))
+    (below-from (λ k. not (is_numerical k)) 0 (length fields) fields (omega arith)) place 0
     (omega (arith, order-length fields))

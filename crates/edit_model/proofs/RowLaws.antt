@@ -1,4 +1,5 @@
-use Rattle.std.proofs.Common.{◌≡◌, ◌≢◌, ℕ, zero, suc, ◌<◌, not, Bool, true, List, [], ◌∷◌, length, Option, Some, None, IsSomeAnd, slice_get, set, subst, refl, arith}
+use Rattle.std.proofs.Common.{◌≡◌, ◌≢◌, ℕ, zero, suc, ◌<◌, not, Bool, true, List, [], ◌∷◌, length, Option, Some, None, IsSomeAnd, slice_get, set, subst, refl}
+use Rattle.std.proofs.Common.{arith}
 use Rattle.edit_model.proofs.OrderLaws.{field-below, kind-there}
 use Rattle.edit_model.specs.Corrections.{code_fields, is_numerical, number_fields, numbers_from}
 use Rattle.edit_model.specs.FieldSets.{has_field}
@@ -50,7 +51,8 @@ row-length (field ∷ fields) [] are = absurd are
 row-length (field ∷ fields) (v ∷ row) are = let rest = row-length fields row are.1 in omega arith
 
 -- the value at a field is of the field's kind
-pub value-held : (fields : List Field) (row : List Value) (f : ℕ) → IsRow fields row → f < length fields → IsSomeAnd (slice_get fields f) (λ (field : Field). IsOfKind field.kind (value_of row f))
+pub value-held : (fields : List Field) (row : List Value) (f : ℕ) → IsRow fields row → f < length fields
+    → IsSomeAnd (slice_get fields f) (λ (field : Field). IsOfKind field.kind (value_of row f))
 value-held [] row f are below = absurd (omega arith)
 value-held (field ∷ fields) [] f are below = absurd are
 value-held (field ∷ fields) (v ∷ row) zero are below = are.0
@@ -58,14 +60,16 @@ value-held (field ∷ fields) (v ∷ row) (suc f) are below = value-held fields 
 
 module _ (fields : List Field) (row : List Value) (f : ℕ) (are : IsRow fields row) where
   -- a field of one kind, and the value there
-  at_kind : (test : Kind → Bool) → has_field (numbers_from test 0 fields) f ≡ true → ((k : Kind) × (test k ≡ true) × IsOfKind k (value_of row f)) × (f < length row)
+  at_kind : (test : Kind → Bool) → has_field (numbers_from test 0 fields) f ≡ true → ((k : Kind) × (test k ≡ true) × IsOfKind k (value_of row f))
+      × (f < length row)
   at_kind test there =
       let below = field-below test fields f there in (
         both (slice_get fields f) (kind-there test fields f there) (value-held fields row f are below),
         omega (arith, below, row-length fields row are),
       )
     where
-      both : (o : Option Field) → IsSomeAnd o (λ (field : Field). test field.kind ≡ true) → IsSomeAnd o (λ (field : Field). IsOfKind field.kind (value_of row f)) → (k : Kind) × (test k ≡ true) × IsOfKind k (value_of row f)
+      both : (o : Option Field) → IsSomeAnd o (λ (field : Field). test field.kind ≡ true) → IsSomeAnd o
+          (λ (field : Field). IsOfKind field.kind (value_of row f)) → (k : Kind) × (test k ≡ true) × IsOfKind k (value_of row f)
       both None passes is = absurd passes
       both (Some field) passes is = (field.kind, passes, is)
 
@@ -87,7 +91,8 @@ module _ (fields : List Field) (row : List Value) (f : ℕ) (are : IsRow fields 
       own (kind.Code codes) (Number x) same fits = absurd fits
       own (kind.Code codes) Bad same fits = absurd (cc)
 
-      held : (o : Option Field) → IsSomeAnd o (λ (field : Field). IsOfKind field.kind (value_of row f)) → IsSomeAnd o (λ (field : Field). IsInDomain field.kind c)
+      held : (o : Option Field) → IsSomeAnd o (λ (field : Field). IsOfKind field.kind (value_of row f))
+          → IsSomeAnd o (λ (field : Field). IsInDomain field.kind c)
       held None fits = absurd fits
       held (Some field) fits = own field.kind (value_of row f) is fits
 
@@ -105,7 +110,8 @@ field-within (field ∷ fields) zero P there = omega arith
 field-within (field ∷ fields) (suc f) P there = let rest = field-within fields f P there in omega arith
 
 -- with a value of a field's kind put there a record is a record
-pub row-set : (fields : List Field) (row : List Value) (f : ℕ) (v : Value) → IsRow fields row → IsSomeAnd (slice_get fields f) (λ (field : Field). IsOfKind field.kind v) → IsRow fields (set row f v)
+pub row-set : (fields : List Field) (row : List Value) (f : ℕ) (v : Value) → IsRow fields row
+    → IsSomeAnd (slice_get fields f) (λ (field : Field). IsOfKind field.kind v) → IsRow fields (set row f v)
 row-set [] row f v are fits = absurd fits
 row-set (field ∷ fields) [] f v are fits = absurd are
 row-set (field ∷ fields) (old ∷ row) zero v are fits = (fits, are.1)

@@ -59,9 +59,11 @@ number_over : (row : List Value) (before : ℤ) (i : ℕ) (x : Fraction) → val
 number_over [] before i x is = cc
 number_over (Number y ∷ values) before zero x is =
     let same : y ≡ x = cc in
-    subst (λ (z : Fraction). y.numerator *ℤ (before *ℤ product_of_denominators values) *ℤ z.denominator ≡ z.numerator *ℤ (before *ℤ (y.denominator *ℤ product_of_denominators values))) same
+    subst (λ (z : Fraction). y.numerator *ℤ (before *ℤ product_of_denominators values) *ℤ z.denominator
+    ≡ z.numerator *ℤ (before *ℤ (y.denominator *ℤ product_of_denominators values))) same
     (first_over y.numerator y.denominator before (product_of_denominators values))
-number_over (Number y ∷ values) before (suc i) x is = number_over values (before *ℤ y.denominator) i x is ∙ ap (λ (z : ℤ). x.numerator *ℤ z) (sym (later_over y.denominator before _))
+number_over (Number y ∷ values) before (suc i) x is = number_over values (before *ℤ y.denominator) i x is
+    ∙ ap (λ (z : ℤ). x.numerator *ℤ z) (sym (later_over y.denominator before _))
 number_over (Code c ∷ values) before zero x is = cc
 number_over (Code c ∷ values) before (suc i) x is = number_over values before i x is
 number_over (Bad ∷ values) before zero x is = cc
@@ -88,7 +90,8 @@ pub agreeing_point : (row : List Value) → ((f : ℕ) → f < length row → va
 agreeing_point row held = (point_of row, λ f within. point_of-agrees row f (held f within))
 
 -- the value of a record from a field on
-value_after : (row values : List Value) (i : ℕ) (v : Value) → ((j : ℕ) → value_of row (i + j) ≡ value_of (v ∷ values) j) → (j : ℕ) → value_of row (suc i + j) ≡ value_of values j
+value_after : (row values : List Value) (i : ℕ) (v : Value) → ((j : ℕ) → value_of row (i + j) ≡ value_of (v ∷ values) j) → (j : ℕ) → value_of row (suc i + j)
+    ≡ value_of values j
 value_after row values i v same j = ap (λ (n : ℕ). value_of row n) (omega arith) ∙ same (suc j)
 
 -- the code of a value of the kind is of the kind's domain, and so is the first, which stands for Bad
@@ -99,7 +102,8 @@ in_domain (kind.Code codes) (Number x) fits is = absurd is
 in_domain (kind.Code codes) Bad fits is = omega (arith, fits.0)
 
 -- the codes of the point of a record, from a field on, are of their fields' domains
-codes_from : (fields : List Field) (values row : List Value) (i : ℕ) → All IsField fields → IsRow fields values → ((j : ℕ) → value_of row (i + j) ≡ value_of values j) → HasCodesFrom i fields (point_of row)
+codes_from : (fields : List Field) (values row : List Value) (i : ℕ) → All IsField fields → IsRow fields values
+    → ((j : ℕ) → value_of row (i + j) ≡ value_of values j) → HasCodesFrom i fields (point_of row)
 unfolding point_of
 codes_from [] values row i fit is same = tt
 codes_from (field ∷ fields) [] row i fit is same = absurd is

@@ -1,4 +1,5 @@
-use Rattle.std.proofs.Common.{◌≡◌, ◌≢◌, ℕ, ◌+◌, Bool, true, false, not, cond, if◌then◌else◌, ◌||◌, All, List, [], ◌∷◌, ◌++◌, get_or, map, position, refl, sym, ap, ◌∙◌, MatchBool}
+use Rattle.std.proofs.Common.{◌≡◌, ◌≢◌, ℕ, ◌+◌, Bool, true, false, not, cond, if◌then◌else◌, ◌||◌, All, List, [], ◌∷◌, ◌++◌, get_or, map, position, refl, sym}
+use Rattle.std.proofs.Common.{ap, ◌∙◌, MatchBool}
 use Rattle.std.specs.List.{list_any, prefix_len}
 use Rattle.std.specs.Str.{bytes_eq}
 use Rattle.std.proofs.lemmas.List.{length-map, map-append}
@@ -10,12 +11,14 @@ use Rattle.edit_model.proofs.NameLemmas.{false_unless}
 -- a name that the comparisons find is among the names
 pub found_name : (name : List ℕ) (names : List (List ℕ)) → list_any (bytes_eq name) names ≡ true → ¬ All (λ n. n ≢ name) names
 found_name name names found all =
-    let missing : list_any (bytes_eq name) names ≡ false = list_any_none (bytes_eq name) names (λ k d below. false_unless _ (λ same. all k d below (sym ((bytes_eq-Decides name (get_or names k d)).0 same)))) in cc
+    let missing : list_any (bytes_eq name) names ≡ false = list_any_none (bytes_eq name) names
+    (λ k d below. false_unless _ (λ same. all k d below (sym ((bytes_eq-Decides name (get_or names k d)).0 same)))) in cc
 
 -- a name that the comparisons do not find is not among them
 pub missing_name : (name : List ℕ) (names : List (List ℕ)) → list_any (bytes_eq name) names ≡ false → All (λ n. n ≢ name) names
 missing_name name names missing k d below same =
-    let found : list_any (bytes_eq name) names ≡ true = list_any_at (bytes_eq name) names k d below ((bytes_eq-Decides name (get_or names k d)).1 (sym same)) in cc
+    let found : list_any (bytes_eq name) names ≡ true = list_any_at (bytes_eq name) names k d below ((bytes_eq-Decides name (get_or names k d)).1 (sym same)) in
+    cc
 
 module _ {X : Type 0} (items : X → List ℕ) where
   -- how many names stand before the one that is looked for, in the table and in the list of its names
@@ -37,23 +40,30 @@ module _ {X : Type 0} (items : X → List ℕ) where
       → MatchBool added ((map items more ≡ map items keys ++ name ∷ []) × All (λ n. n ≢ name) (map items keys)) (¬ All (λ n. n ≢ name) (map items keys))
   inserted key name keys more added named is answer = by (list_any (λ k. bytes_eq (items key) (items k)) keys) refl
     where
-      by : (b : Bool) → list_any (λ k. bytes_eq (items key) (items k)) keys ≡ b → MatchBool added ((map items more ≡ map items keys ++ name ∷ []) × All (λ n. n ≢ name) (map items keys)) (¬ All (λ n. n ≢ name) (map items keys))
+      by : (b : Bool) → list_any (λ k. bytes_eq (items key) (items k)) keys ≡ b → MatchBool added
+          ((map items more ≡ map items keys ++ name ∷ []) × All (λ n. n ≢ name) (map items keys)) (¬ All (λ n. n ≢ name) (map items keys))
       by true there =
           let old : added ≡ false = answer ∙ ap not there in
-          let found : list_any (bytes_eq name) (map items keys) ≡ true = sym (found_in_table name keys) ∙ ap (λ (n : List ℕ). list_any (λ k. bytes_eq n (items k)) keys) (sym named) ∙ there in
+          let found : list_any (bytes_eq name) (map items keys) ≡ true = sym (found_in_table name keys)
+          ∙ ap (λ (n : List ℕ). list_any (λ k. bytes_eq n (items k)) keys) (sym named) ∙ there in
           rw old (found_name name (map items keys) found)
       by false absent =
           let new : added ≡ true = answer ∙ ap not absent in
-          let missing : list_any (bytes_eq name) (map items keys) ≡ false = sym (found_in_table name keys) ∙ ap (λ (n : List ℕ). list_any (λ k. bytes_eq n (items k)) keys) (sym named) ∙ absent in
+          let missing : list_any (bytes_eq name) (map items keys) ≡ false = sym (found_in_table name keys)
+          ∙ ap (λ (n : List ℕ). list_any (λ k. bytes_eq n (items k)) keys) (sym named) ∙ absent in
           let longer : more ≡ keys ++ key ∷ [] = is ∙ ap (λ (b : Bool). if b then keys else keys ++ key ∷ []) absent in
-          rw new ((ap (map items) longer ∙ map-append items keys (key ∷ []) ∙ ap (λ (n : List ℕ). map items keys ++ n ∷ []) named), missing_name name (map items keys) missing)
+          rw new (
+            (ap (map items) longer ∙ map-append items keys (key ∷ []) ∙ ap (λ (n : List ℕ). map items keys ++ n ∷ []) named),
+            missing_name name (map items keys) missing,
+          )
 
   -- a new name is put last
   pub new_last : (key : X) (name : List ℕ) (keys more : List X) → items key ≡ name → more ≡ insert_key (λ a b. bytes_eq (items a) (items b)) keys key
       → All (λ n. n ≢ name) (map items keys) → map items more ≡ map items keys ++ name ∷ []
   new_last key name keys more named is new = by (not (list_any (λ k. bytes_eq (items key) (items k)) keys)) (inserted key name keys more _ named is refl)
     where
-      by : (added : Bool) → MatchBool added ((map items more ≡ map items keys ++ name ∷ []) × All (λ n. n ≢ name) (map items keys)) (¬ All (λ n. n ≢ name) (map items keys))
+      by : (added : Bool) → MatchBool added ((map items more ≡ map items keys ++ name ∷ []) × All (λ n. n ≢ name) (map items keys))
+          (¬ All (λ n. n ≢ name) (map items keys))
           → map items more ≡ map items keys ++ name ∷ []
       by true put = put.0
       by false there = absurd (there new)

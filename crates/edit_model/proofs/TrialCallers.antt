@@ -15,7 +15,8 @@ use Rattle.edit_model.proofs.RowPointLaws.{point_of, point_of-agrees}
 -- What a caller of `holds` shows: the rules of a survey can be tried at its records without Bad fields, and the point that such a record is agrees with it.
 
 -- a record's value at a field of its survey
-at_field : (fields : List Field) (row : List Value) (i : ℕ) (P : Field → Type 0) → IsRow fields row → IsSomeAnd (slice_get fields i) P → (f : Field) × P f × (i < length row) × IsOfKind f.kind (value_of row i)
+at_field : (fields : List Field) (row : List Value) (i : ℕ) (P : Field → Type 0) → IsRow fields row → IsSomeAnd (slice_get fields i) P → (f : Field) × P f
+    × (i < length row) × IsOfKind f.kind (value_of row i)
 at_field [] row i P is has = absurd has
 at_field (f ∷ fields) [] i P is has = absurd is
 at_field (f ∷ fields) (v ∷ row) zero P is has = (f, has, omega arith, is.0)

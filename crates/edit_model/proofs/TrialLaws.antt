@@ -1,4 +1,5 @@
-use Rattle.std.proofs.Common.{◌≡◌, ℕ, suc, ◌<◌, Bool, true, false, not, ◌||◌, if◌then◌else◌, List, [], ◌∷◌, All, Option, Some, None, length, ℤ, pos, ◌<ℤ◌, ◌≤ℤ◌, int_le, int_lt, ◌+ℤ◌, ◌*ℤ◌, refl, sym, ap, ◌∙◌, subst, arith}
+use Rattle.std.proofs.Common.{◌≡◌, ℕ, suc, ◌<◌, Bool, true, false, not, ◌||◌, if◌then◌else◌, List, [], ◌∷◌, All, Option, Some, None, length, ℤ, pos, ◌<ℤ◌, ◌≤ℤ◌}
+use Rattle.std.proofs.Common.{int_le, int_lt, ◌+ℤ◌, ◌*ℤ◌, refl, sym, ap, ◌∙◌, subst, arith}
 use Rattle.std.specs.Bool.{Decides, one_answer}
 use Rattle.std.specs.List.{list_any}
 use Rattle.std.specs.Prelude.{◌==◌}
@@ -15,7 +16,8 @@ use Rattle.edit_model.specs.Points.{Point, compares, linear_sum, rule_holds, sum
 use Rattle.edit_model.specs.RowPoints.{Agrees, code_in}
 use Rattle.edit_model.specs.Rows.{value_of}
 use Rattle.edit_model.specs.Corrections.{differs_from}
-use Rattle.edit_model.specs.Trials.{AgreesOnTest, AgreesOnRule, CanTry, HasValues, IsCodeValue, IsNumberValue, code_test, rule_at, trial_sum, sum_over, sum_with, test_at, tests_at}
+use Rattle.edit_model.specs.Trials.{AgreesOnTest, AgreesOnRule, CanTry, HasValues, IsCodeValue, IsNumberValue, code_test, rule_at, trial_sum, sum_over}
+use Rattle.edit_model.specs.Trials.{sum_with, test_at, tests_at}
 use Rattle.edit_model.specs.declared.rule.Compare.{Compare}
 use Rattle.edit_model.specs.declared.rule.Compare.TheVariants.{Ge, Gt, Le, Lt, Eq}
 use Rattle.edit_model.specs.declared.rule.Linear.{Linear}
@@ -60,7 +62,8 @@ module _ (p : Point) where
   unfoldable pub IsOverPoint : Ratio → ℤ → Type 0
   IsOverPoint s l = (s.numerator *ℤ p.denominator ≡ l *ℤ s.denominator) × (pos 0 <ℤ s.denominator)
 
-  pub sum_with-over : (sum s : Ratio) (k l : ℤ) (v : Value) (f : ℕ) → IsNumberValue v → differs_from v p f ≡ false → IsOverPoint sum l → sum_with sum k v ≡ Some s
+  pub sum_with-over : (sum s : Ratio) (k l : ℤ) (v : Value) (f : ℕ) → IsNumberValue v → differs_from v p f ≡ false → IsOverPoint sum l → sum_with sum k v
+      ≡ Some s
       → IsOverPoint s (l +ℤ p.numerator f *ℤ k)
   unfolding IsOverPoint
   sum_with-over sum s k l Bad f is same before e = absurd is
@@ -70,23 +73,29 @@ module _ (p : Point) where
       let product = scaled-value (ratio_of x) k y x.positive first in
       let total = added-value sum y s before.1 product.1 second in
       let y_over : y.numerator *ℤ p.denominator ≡ p.numerator f *ℤ k *ℤ y.denominator =
-      over_product x.numerator x.denominator y.numerator y.denominator (p.numerator f) p.denominator k x.positive (number_agrees x p f same) product.0 in
-      (over_sum sum.numerator sum.denominator y.numerator y.denominator s.numerator s.denominator l (p.numerator f *ℤ k) p.denominator before.1 product.1 before.0 y_over total.0, total.1)
+      over_product x.numerator x.denominator y.numerator y.denominator (p.numerator f) p.denominator k x.positive (number_agrees x p f same) product.0 in (
+        over_sum sum.numerator sum.denominator y.numerator y.denominator s.numerator s.denominator l (p.numerator f *ℤ k) p.denominator before.1 product.1
+            before.0 y_over total.0,
+        total.1,
+      )
 
   -- and with all terms
-  sum_over-over : (terms : List Term) (row : List Value) (sum s : Ratio) (l : ℤ) → All (λ (t : Term). (t.field < length row) × IsNumberValue (value_of row t.field)) terms → All (λ (t : Term). Agrees row p t.field) terms
+  sum_over-over : (terms : List Term) (row : List Value) (sum s : Ratio) (l : ℤ) → All (λ (t : Term). (t.field < length row)
+      × IsNumberValue (value_of row t.field)) terms → All (λ (t : Term). Agrees row p t.field) terms
       → IsOverPoint sum l → sum_over terms row sum ≡ Some s → IsOverPoint s (sum_of_terms terms p +ℤ l)
   unfolding IsOverPoint
   sum_over-over [] row sum s l held agreed before e =
       let P : ℤ → Type 0 = λ n. (s.numerator *ℤ p.denominator ≡ n *ℤ s.denominator) × (pos 0 <ℤ s.denominator) in
-      subst P (sym (nothing_more l)) (subst (λ (r : Ratio). (r.numerator *ℤ p.denominator ≡ l *ℤ r.denominator) × (pos 0 <ℤ r.denominator)) (some_same sum s e) before)
+      subst P (sym (nothing_more l)) (subst (λ (r : Ratio). (r.numerator *ℤ p.denominator ≡ l *ℤ r.denominator) × (pos 0 <ℤ r.denominator)) (some_same sum s e)
+      before)
   sum_over-over (term ∷ terms) row sum s l held agreed before e =
       let P : ℤ → Type 0 = λ n. (s.numerator *ℤ p.denominator ≡ n *ℤ s.denominator) × (pos 0 <ℤ s.denominator) in
       let (next, first, second) = led_on (sum_with sum term.factor (value_of row term.field)) (λ next. sum_over terms row next) s e in
       let number : IsNumberValue (value_of row term.field) = (held 0 term (omega arith)).1 in
       let agrees : Agrees row p term.field = agreed 0 term (omega arith) in
       let here = sum_with-over sum next term.factor l (value_of row term.field) term.field number agrees before first in
-      let rest = sum_over-over terms row next s (l +ℤ p.numerator term.field *ℤ term.factor) (λ k d below. held (suc k) d (omega arith)) (λ k d below. agreed (suc k) d (omega arith)) here second in
+      let rest = sum_over-over terms row next s (l +ℤ p.numerator term.field *ℤ term.factor) (λ k d below. held (suc k) d (omega arith))
+      (λ k d below. agreed (suc k) d (omega arith)) here second in
       subst P (regrouped (sum_of_terms terms p) l (p.numerator term.field) term.factor) rest
 
   -- the sum of a test is its linear sum, over the point's denominator
@@ -142,7 +151,8 @@ compares_alike c a b d e d_above e_above same = by c
     by Gt = gt
     by Le = at_most_not_above a ∙ ap not gt ∙ sym (at_most_not_above b)
     by Lt = below_not_at_least a ∙ ap not ge ∙ sym (below_not_at_least b)
-    by Eq = same_tests _ _ (Decides-int_eq a (pos 0)) (Decides-int_eq b (pos 0)) (zero_too d e d_above e_above a b same) (zero_too e d e_above d_above b a (sym same))
+    by Eq = same_tests _ _ (Decides-int_eq a (pos 0)) (Decides-int_eq b (pos 0)) (zero_too d e d_above e_above a b same)
+        (zero_too e d e_above d_above b a (sym same))
 
 -- a code test is true at a record exactly where it is at a point with the record's code
 code_at : (v : Value) (p : Point) (f : ℕ) → IsCodeValue v → differs_from v p f ≡ false → code_in v ≡ p.code f
@@ -165,13 +175,15 @@ test_at-holds (test.Codes field negated set) row p b held agreed e =
     sym (some_same _ b e) ∙ ap (code_test negated set) (code_at (value_of row field) p field held.1 agreed)
 
 -- a false condition settles the rule, and else the later tests do
-first_decides : (first here some_false last b : Bool) (later : Option Bool) → first ≡ here → (later ≡ Some b → b ≡ (some_false || last)) → (if first then later else Some true) ≡ Some b
+first_decides : (first here some_false last b : Bool) (later : Option Bool) → first ≡ here → (later ≡ Some b → b ≡ (some_false || last))
+    → (if first then later else Some true) ≡ Some b
     → b ≡ ((not here || some_false) || last)
 first_decides true here some_false last b later same rest e = rw (← same) (rest e)
 first_decides false here some_false last b later same rest e = rw (← same) (sym (some_same true b e))
 
 -- what a rule answers at a record is its truth at a point that agrees with the record
-tests_at-holds : (conditions : List Test) (conclusion : Test) (row : List Value) (p : Point) (b : Bool) → All (HasValues row) conditions → HasValues row conclusion
+tests_at-holds : (conditions : List Test) (conclusion : Test) (row : List Value) (p : Point) (b : Bool) → All (HasValues row) conditions
+    → HasValues row conclusion
     → All (AgreesOnTest row p) conditions → AgreesOnTest row p conclusion → tests_at conditions conclusion row ≡ Some b
     → b ≡ (list_any (λ (t : Test). not (test_holds t p)) conditions || test_holds conclusion p)
 tests_at-holds [] conclusion row p b held last agreed last_agreed e = test_at-holds conclusion row p b last last_agreed e
@@ -180,7 +192,10 @@ tests_at-holds (t ∷ ts) conclusion row p b held last agreed last_agreed e =
     let here : first ≡ test_holds t p = test_at-holds t row p first (held 0 t (omega arith)) (agreed 0 t (omega arith)) one in
     let later : tests_at ts conclusion row ≡ Some b → b ≡ (list_any (λ (t : Test). not (test_holds t p)) ts || test_holds conclusion p) =
     tests_at-holds ts conclusion row p b (λ k d below. held (suc k) d (omega arith)) last (λ k d below. agreed (suc k) d (omega arith)) last_agreed in
-    first_decides first (test_holds t p) (list_any (λ (t : Test). not (test_holds t p)) ts) (test_holds conclusion p) b (tests_at ts conclusion row) here later rest
+    first_decides first (test_holds t p) (list_any (λ (t : Test). not (test_holds t p)) ts) (test_holds conclusion p) b (tests_at ts conclusion row) here later
+    rest
 
-pub rule_at-holds : (rule : Rule) (row : List Value) (p : Point) (b : Bool) → CanTry row rule → AgreesOnRule row p rule → rule_at rule row ≡ Some b → b ≡ rule_holds rule p
-rule_at-holds rule row p b can agreed e = tests_at-holds rule.conditions rule.conclusion row p b can.conditions can.conclusion agreed.conditions agreed.conclusion e
+pub rule_at-holds : (rule : Rule) (row : List Value) (p : Point) (b : Bool) → CanTry row rule → AgreesOnRule row p rule → rule_at rule row ≡ Some b → b
+    ≡ rule_holds rule p
+rule_at-holds rule row p b can agreed e = tests_at-holds rule.conditions rule.conclusion row p b can.conditions can.conclusion agreed.conditions
+    agreed.conclusion e

@@ -10,13 +10,16 @@ use Rattle.edit_model.specs.declared.value.Value.TheVariants.{Number}
 -- One step of a trial: what a call answers, and what the sum or the rule is from there on.
 
 -- the sum with a number times a factor, where the product is in range
-pub with_number : {E F : Type 0} (sum x y : Fraction) (k given : ℤ) (v : Value) (first : Result Fraction E) (second : Result Fraction F) → v ≡ Number x → given ≡ k
-    → answered first ≡ scaled (ratio_of x) given → first ≡ Ok y → answered second ≡ added (ratio_of sum) (ratio_of y) → answered second ≡ sum_with (ratio_of sum) k v
+pub with_number : {E F : Type 0} (sum x y : Fraction) (k given : ℤ) (v : Value) (first : Result Fraction E) (second : Result Fraction F) → v ≡ Number x → given
+    ≡ k
+    → answered first ≡ scaled (ratio_of x) given → first ≡ Ok y → answered second ≡ added (ratio_of sum) (ratio_of y) → answered second
+    ≡ sum_with (ratio_of sum) k v
 with_number sum x y k given v first second is same product was total =
     let scale_is : scaled (ratio_of x) k ≡ Some (ratio_of y) = ap (λ (n : ℤ). scaled (ratio_of x) n) (sym same) ∙ sym product ∙ ap answered was in
     rw is (total ∙ ap (λ (o : Option Ratio). (o >>? (λ z. added (ratio_of sum) z))) (sym scale_is))
 
 -- a whole number over 1
-pub over_one : (x : Fraction) (n given : ℤ) → given ≡ n → x.numerator *ℤ pos 1 ≡ given *ℤ x.denominator → ratio_of x ≡ record { numerator = n; denominator = pos 1 }
+pub over_one : (x : Fraction) (n given : ℤ) → given ≡ n → x.numerator *ℤ pos 1 ≡ given *ℤ x.denominator → ratio_of x
+    ≡ record { numerator = n; denominator = pos 1 }
 over_one x n given same is =
     let whole = whole_is x n (is ∙ ap (λ (z : ℤ). z *ℤ x.denominator) same) in λ i. record { numerator = whole.0 i; denominator = whole.1 i }

@@ -16,5 +16,5 @@ IsPlainValue (Number x) = IsPlain x
 IsPlainValue Bad = Unit {0}
 
 -- the numbers of a record are plain
-abbrev pub HasPlain : List Value → Type 0
-HasPlain row = AllByRecursion IsPlainValue row
+abbrev pub HasPlainNumbers : List Value → Type 0
+HasPlainNumbers row = AllByRecursion IsPlainValue row

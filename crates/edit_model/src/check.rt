@@ -1,4 +1,5 @@
-//! Whether the parts of a survey are well formed: one question a function.
+//! Whether a survey is well formed. Each function here and in `check/` asks one question of a part, such
+//! as a field, a rule or a name. The definitions in their contracts are those of `specs/Surveys.antt`.
 ghost use Rattle.std.specs.Prelude.{◌≢◌, ◌↔◌, All, AllPairs, IsTrue};
 ghost use Rattle.edit_model.specs.Parts.{survey_of};
 ghost use Rattle.edit_model.specs.Surveys.{IsField, IsRule, IsWellFormed};
@@ -22,12 +23,14 @@ const MOST_FIELDS: usize = 64;
 /// How many rules a survey may have.
 const MOST_RULES: usize = 500;
 
+// Whether each field is well formed.
 fn are_fields(fields: &[Field]) -> bool
     ensures { IsTrue result ↔ All IsField fields.now }
 {
     fields.iter().all(is_field)
 }
 
+// Whether each rule fits these fields.
 fn are_rules(fields: &[Field], rules: &[Rule]) -> bool
     ensures { IsTrue result ↔ All (IsRule fields.now) rules.now }
 {
@@ -53,7 +56,8 @@ fn have_distinct_names(fields: &[Field]) -> bool
     true
 }
 
-/// Whether the survey of these fields and rules is well formed.
+/// Whether the survey of these fields and rules is well formed: few enough of each, distinct names, and
+/// each field and rule well formed.
 pub(crate) fn is_well_formed(fields: &[Field], rules: &[Rule]) -> bool
     ensures { IsTrue result ↔ IsWellFormed (survey_of fields.now rules.now) }
 {

@@ -1,3 +1,4 @@
+//! A field of a survey: its name, its weight, and what values it takes.
 ghost use Rattle.std.specs.Prelude.{◌≡◌};
 ghost use Rattle.edit_model.specs.Corrections.{is_numerical};
 

@@ -1,3 +1,5 @@
+//! Sets of fields of a survey, which has at most 64, as the bits of one number. Fields are named by their
+//! numbers, from 0 in declared order.
 ghost use Rattle.std.specs.Prelude.{◌≡◌, ◌≢◌, ℕ, ◌<◌, true, false};
 ghost use Rattle.edit_model.specs.FieldSets.{has_number, with_number, without_number};
 
@@ -28,7 +30,7 @@ impl FieldSet {
         FieldSet { bits: 0 }
     }
 
-    /// The set with one field more, which may be in it already.
+    /// The set and this field, which may be in the set already.
     pub fn with(self, field: u32) -> FieldSet
         requires { field < 64 }
         ensures set { result ≡ with_number self field }
@@ -40,7 +42,7 @@ impl FieldSet {
         }
     }
 
-    /// The set without one field, which need not be in it.
+    /// The set but for this field, which need not be in the set.
     pub fn without(self, field: u32) -> FieldSet
         requires { field < 64 }
         ensures set { result ≡ without_number self field }

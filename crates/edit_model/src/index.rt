@@ -1,4 +1,5 @@
-//! What a survey keeps beside its parts, so that it is not looked for each time.
+//! What a survey keeps beside its parts, so that it is not looked for each time: the table of its names,
+//! and the numbers of its fields of each kind.
 ghost use Rattle.std.specs.Prelude.{◌≡◌, ◌≢◌, ◌∷◌, ◌++◌, [], ◌≤◌, if◌then◌else◌, AllPairs, IfOk, OnOk, length};
 ghost use Rattle.edit_model.specs.Corrections.{numbers_from};
 ghost use Rattle.edit_model.specs.inner.Indexes.{is_of_sort, names_of};
@@ -8,7 +9,8 @@ use crate::name_table::NameTable;
 use foundation::OutOfMemory;
 use std::alloc::Global;
 
-/// The table of the fields' names, which are distinct.
+/// The table of the fields' names, which are distinct. The place of a name in it is the number of its
+/// field.
 pub(crate) fn name_table(alloc: Global, fields: &[Field]) -> Result<NameTable, OutOfMemory>
     requires { AllPairs (λ f g. f.name ≢ g.name) fields.now }
     ensures { IfOk result (λ table. table ≡ names_of fields.now) }
@@ -20,7 +22,7 @@ pub(crate) fn name_table(alloc: Global, fields: &[Field]) -> Result<NameTable, O
     Ok(table)
 }
 
-// Puts the number last where it is wanted.
+// Puts the number last in the list where it is wanted, and else leaves the list.
 fn push_if(wanted: bool, numbers: &mut Vec<u32>, number: u32) -> Result<(), OutOfMemory>
     ensures { OnOk result (numbers.new.items ≡ (if wanted then numbers.old.items ++ number ∷ [] else numbers.old.items)) }
 {
@@ -30,7 +32,8 @@ fn push_if(wanted: bool, numbers: &mut Vec<u32>, number: u32) -> Result<(), OutO
     Ok(())
 }
 
-/// The numbers of the numerical fields, or else of the categorical ones, in declared order.
+/// The numbers of the numerical fields where `numerical` is true, and else those of the categorical ones,
+/// in declared order.
 pub(crate) fn field_numbers(
     alloc: Global,
     fields: &[Field],

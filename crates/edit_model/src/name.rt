@@ -1,3 +1,5 @@
+//! Names of fields, and codes, as short texts of bytes that need no memory of their own. Which bytes they
+//! may have is asked in `check/name.rt`.
 ghost use Rattle.std.specs.Prelude.{◌≡◌, ◌≤◌, ◌<◌, ◌⊎◌, length, take, IfSome, IfNone};
 
 use std::marker::Model;
@@ -39,7 +41,7 @@ impl Name {
         })
     }
 
-    /// The bytes. No memory.
+    /// The bytes of the name, 1 to 32. No memory.
     pub fn as_bytes(&self) -> &[u8]
         ensures bytes { result.now ≡ self.now }
         ensures size { (1 ≤ length self.now) × (length self.now ≤ 32) }

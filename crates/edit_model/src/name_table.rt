@@ -1,3 +1,4 @@
+//! A table of names, in which a survey finds a field by its name in constant time.
 ghost use Rattle.std.specs.Prelude.{◌≡◌, ◌≢◌, ◌∷◌, ◌++◌, [], All, OnOk, position};
 ghost use Rattle.std.specs.Str.{bytes_eq};
 
@@ -31,7 +32,7 @@ impl NameTable {
         }
     }
 
-    /// Puts a new name last.
+    /// Puts a name last that is not in the table yet.
     pub(crate) fn push(&mut self, alloc: Global, name: &Name) -> Result<(), OutOfMemory>
         requires { All (λ n. n ≢ name.now) self.old }
         ensures { OnOk result (self.new ≡ self.old ++ name.now ∷ []) }
@@ -41,7 +42,7 @@ impl NameTable {
         Ok(())
     }
 
-    /// The place of the name, from 0. No memory.
+    /// The place of the name, from 0, or None where the table lacks it. No memory.
     pub(crate) fn find(&self, name: &[u8]) -> Option<usize>
         ensures { result ≡ position (bytes_eq name.now) self.now }
     {

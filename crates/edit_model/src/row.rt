@@ -1,3 +1,5 @@
+//! A record of a survey, as all of the editor sees it: a list of values. That these fit the survey is asked
+//! of whoever makes or changes one.
 ghost use Rattle.std.specs.Prelude.{◌≡◌, ◌<◌, List, length, slice_get, slice_set, IfOk, IsSomeAnd};
 ghost use Rattle.edit_model.specs.Rows.{IsOfKind, IsRow, value_of};
 
@@ -23,8 +25,8 @@ impl Model for Row {
 }
 
 impl Row {
-    /// The record of these values. There is one for each field of the survey, of the field's kind or
-    /// Bad. No memory.
+    /// The record of these values: one for each field of the survey, of the field's kind or Bad. The survey
+    /// is an argument for contracts alone. No memory.
     pub fn new(survey: &Survey, values: Vec<Value>) -> Row
         requires { IsRow survey.now.fields values.items }
         ensures { result ≡ values.items }
@@ -33,7 +35,7 @@ impl Row {
         Row { values }
     }
 
-    /// The value at the field of this number. No memory.
+    /// The value at the field of this number, from 0. No memory.
     pub fn value(&self, field: u32) -> &Value
         requires { field < length self.now }
         ensures { result.now ≡ value_of self.now field }
@@ -48,7 +50,8 @@ impl Row {
         self.values.as_slice()
     }
 
-    /// Puts a value at the field of this number: one of the field's kind, or Bad. No memory.
+    /// Puts a value at the field of this number: one of the field's kind, or Bad. The survey is an argument
+    /// for contracts alone. No memory.
     pub fn set(&mut self, survey: &Survey, field: u32, value: Value)
         requires row { IsRow survey.now.fields self.old }
         requires kind { IsSomeAnd (slice_get survey.now.fields field) (λ f. IsOfKind f.kind value) }

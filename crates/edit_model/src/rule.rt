@@ -1,6 +1,8 @@
+//! Edit rules as a survey keeps them: conditions and a conclusion, each of which tests a sum of numbers or
+//! a code.
 use foundation::Sequence;
 
-/// How a sum is compared with 0.
+/// How a sum is compared with 0: at least 0, above 0, at most 0, below 0, or equal to 0.
 #[derive(Clone, Copy, Debug, PartialEq, Eq)]
 pub enum Compare {
     Ge,

@@ -1,3 +1,5 @@
+//! The survey: its fields and rules, which are well formed once it is made, and what is looked up in them
+//! for each record.
 ghost use Rattle.std.specs.Prelude.{◌≡◌, ◌≢◌, ◌<◌, All, IfNone, IfOk, IfSome, IsSomeAnd, length, slice_get, slice_index_or};
 ghost use Rattle.edit_model.specs.Corrections.{code_fields, number_fields, path_order};
 ghost use Rattle.edit_model.specs.Parts.{SurveyParts, survey_of};
@@ -13,7 +15,8 @@ use foundation::OutOfMemory;
 use std::alloc::Global;
 use std::marker::Model;
 
-/// A questionnaire's fields and the edit rules over them, in declared order. It is well formed.
+/// A questionnaire's fields and the edit rules over them, in declared order. It is well formed. Beside
+/// them stand the table of the names, and the numbers of the numerical and of the categorical fields.
 #[derive(Debug, Drop)]
 pub struct Survey {
     fields: Vec<Field>,
@@ -35,7 +38,9 @@ impl Model for Survey {
 }
 
 impl Survey {
-    /// The survey of these fields and rules, or Malformed exactly where they are not well formed.
+    /// The survey of these fields and rules, or Malformed exactly where they are not well formed. They are
+    /// where they are few enough, names differ, and each field and rule keeps its limits. Memory may also
+    /// be refused.
     pub fn new(alloc: Global, fields: Vec<Field>, rules: Vec<Rule>) -> Result<Survey, SurveyFault>
         ensures ok { IfOk result (λ survey. (survey ≡ survey_of fields.items rules.items) × IsWellFormed survey) }
         ensures malformed { result ≡ Err SurveyFault.Malformed → ¬ IsWellFormed (survey_of fields.items rules.items) }
@@ -46,7 +51,8 @@ impl Survey {
         Ok(Survey::of(alloc, fields, rules)?)
     }
 
-    /// The survey of these fields and rules, which are well formed.
+    /// The survey of these fields and rules, which the caller knows to be well formed. They are not looked
+    /// at again.
     pub fn of(alloc: Global, fields: Vec<Field>, rules: Vec<Rule>) -> Result<Survey, OutOfMemory>
         requires { IsWellFormed (survey_of fields.items rules.items) }
         ensures { IfOk result (λ survey. survey ≡ survey_of fields.items rules.items) }
@@ -80,7 +86,7 @@ impl Survey {
         self.rules.as_slice()
     }
 
-    /// The number of the field with this name. No memory.
+    /// The number of the field with this name, from 0, or None where there is none. No memory.
     pub fn find(&self, name: &[u8]) -> Option<u32>
         ensures found { IfSome result (λ i. IsSomeAnd (slice_get self.now.fields i) (λ f. f.name ≡ name.now)) }
         ensures none { IfNone result (All (λ f. f.name ≢ name.now) self.now.fields) }
@@ -105,8 +111,8 @@ impl Survey {
         self.categories.as_slice()
     }
 
-    /// The number of the field at a place of the order in which fields are looked at: the numerical
-    /// ones as declared, and then the categorical ones. No memory.
+    /// The number of the field at a place, from 0, in path order: the numerical fields as declared, and
+    /// then the categorical ones. No memory.
     pub fn path_field(&self, place: u32) -> u32
         requires { place < length self.now.fields }
         ensures field { result ≡ slice_index_or (path_order self.now.fields) place 0 }

@@ -1,4 +1,6 @@
-//! Whether a rule holds at a record, in exact fractions of 128 bits.
+//! Whether a rule holds at a record, in exact fractions of 128 bits. In contracts, `rule_at`, `test_at`
+//! and `trial_sum` have what is computed at a record, None for an overflow. `AgreesOnRule` says that a
+//! point has the record's values where the rule's tests read them.
 ghost use Rattle.std.specs.Prelude.{◌≡◌, ◌<◌, All, IfOk, OnErr, length, pos};
 ghost use Rattle.fraction128.specs.Formulas.{answered, ratio_of};
 ghost use Rattle.edit_model.specs.Points.{Point, compares, has_code, rule_holds};
@@ -10,9 +12,9 @@ use crate::rule::{Compare, Linear, Rule, Term, Test};
 use crate::value::Value;
 use fraction128::{Fraction, Overflow};
 
-/// Whether the rule holds at the record, which has the values that the rule's tests need. The conditions
-/// are tried in order up to the first false one, and where none is false the conclusion is. Overflow
-/// exactly where a number of the sum of a test that is tried is out of range. No memory.
+/// Whether the rule holds at the record, which has the values that the rule's tests need (`CanTry`). The
+/// conditions are tried in order up to the first false one, and where none is false the conclusion is.
+/// Overflow exactly where a product or a sum on the way overflows, in a test that is tried. No memory.
 pub fn holds(rule: &Rule, row: &Row) -> Result<bool, Overflow>
     requires { CanTry row.now rule.now }
     ensures truth { IfOk result (λ b. (p : Point) → AgreesOnRule row.now p rule.now → b ≡ rule_holds rule.now p) }
@@ -27,7 +29,8 @@ pub fn holds(rule: &Rule, row: &Row) -> Result<bool, Overflow>
     is_true(&rule.conclusion, row)
 }
 
-// Whether the test is true at the record.
+// Whether the test is true at the record, or Overflow exactly where a product or a sum on the way
+// overflows. A test on codes is that the code is in the set, or is not where the test is negated.
 fn is_true(test: &Test, row: &Row) -> Result<bool, Overflow>
     requires { HasValues row.now test.now }
     ensures in_range { IfOk result (λ b. test_at test.now row.now ≡ Some b) }
@@ -46,7 +49,8 @@ fn is_true(test: &Test, row: &Row) -> Result<bool, Overflow>
     }
 }
 
-// The sum of the test at the record.
+// The sum of the test at the record: its constant, and then factor * value term by term. Overflow where
+// one of the products or sums overflows.
 fn sum_of(linear: &Linear, row: &Row) -> Result<Fraction, Overflow>
     requires { All (λ t. (t.field < length row.now) × IsNumberValue (value_of row.now t.field)) linear.now.terms }
     ensures { answered result ≡ trial_sum linear.now row.now }
@@ -58,14 +62,15 @@ fn sum_of(linear: &Linear, row: &Row) -> Result<Fraction, Overflow>
     Ok(sum)
 }
 
-// The constant over 1.
+// The test's constant as a fraction, to which the terms are added.
 fn constant_of(linear: &Linear) -> Fraction
     ensures { ratio_of result ≡ record { numerator = linear.now.constant; denominator = pos 1 } }
 {
     Fraction::whole(i128::from(linear.constant))
 }
 
-// The sum with the factor times the record's value; a value that is no number adds nothing.
+// The sum with the factor times the record's value; a value that is no number adds nothing. Overflow where
+// the product or the new sum does.
 #[inline(always)]
 fn with_term(sum: Fraction, term: &Term, row: &Row) -> Result<Fraction, Overflow>
     requires { term.now.field < length row.now }
@@ -77,6 +82,7 @@ fn with_term(sum: Fraction, term: &Term, row: &Row) -> Result<Fraction, Overflow
     }
 }
 
+// Whether the number, the numerator of a sum, compares with 0 as the test asks. It has the sum's sign.
 fn compares_with_zero(compare: Compare, number: i128) -> bool
     ensures { result ≡ compares compare number }
 {
@@ -89,7 +95,7 @@ fn compares_with_zero(compare: Compare, number: i128) -> bool
     }
 }
 
-// Whether the set of codes, as bits, has the code.
+// Whether the set of codes, as bits, has the code; no set has one past 63.
 fn is_among(code: u8, codes: u64) -> bool
     ensures { result ≡ has_code codes code }
 {

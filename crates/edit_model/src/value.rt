@@ -1,3 +1,4 @@
+//! What a record holds at a field: a code, a number, or no value.
 ghost use Rattle.std.specs.Prelude.{◌≡◌};
 ghost use Rattle.edit_model.specs.RowPoints.{code_in};
 ghost use Rattle.edit_model.specs.Rows.{is_bad};
@@ -16,14 +17,15 @@ pub enum Value {
 }
 
 impl Value {
-    /// Whether there is no value.
+    /// Whether there is no value. No memory.
     pub fn is_bad(&self) -> bool
         ensures { result ≡ is_bad self.now }
     {
         matches!(self, Value::Bad)
     }
 
-    /// The number of the code that the value is, 0 where it is none.
+    /// The number of the code that the value is. It is 0 where the value is no code, so a missing code
+    /// counts as the first one. No memory.
     pub fn code_number(&self) -> u8
         ensures { result ≡ code_in self.now }
     {

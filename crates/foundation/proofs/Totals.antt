@@ -27,10 +27,12 @@ module _ {V : Type 0} where
   -- sums are ordered as their terms are
   pub sums_ordered : (f g : V → ℕ) (views : List V) → ((j : ℕ) (u : V) → get_elem? views j ≡ some u → f u ≤ g u) → sum_by f views ≤ sum_by g views
   sums_ordered f g [] le = omega arith
-  sums_ordered f g (x ∷ xs) le = let here = le zero x refl in let rest = sums_ordered f g xs (λ j u at. le (suc j) u at) in omega (arith, here, rest, sum_by-cons f x xs, sum_by-cons g x xs)
+  sums_ordered f g (x ∷ xs) le = let here = le zero x refl in let rest = sums_ordered f g xs (λ j u at. le (suc j) u at) in
+      omega (arith, here, rest, sum_by-cons f x xs, sum_by-cons g x xs)
 
   -- and strictly where the terms of one view are
-  pub sums_apart : (f g : V → ℕ) (views : List V) (by : ℕ) (v : V) → ((j : ℕ) (u : V) → get_elem? views j ≡ some u → f u ≤ g u) → get_elem? views by ≡ some v → f v < g v → sum_by f views < sum_by g views
+  pub sums_apart : (f g : V → ℕ) (views : List V) (by : ℕ) (v : V) → ((j : ℕ) (u : V) → get_elem? views j ≡ some u → f u ≤ g u) → get_elem? views by ≡ some v
+      → f v < g v → sum_by f views < sum_by g views
   sums_apart f g [] by v le at lt = absurd (some-ne-none v (sym at))
   sums_apart f g (x ∷ xs) zero v le at lt =
       let e : f x ≡ f v = ap f (some-injective x v at) in
@@ -41,7 +43,8 @@ module _ {V : Type 0} where
       let rest = sums_apart f g xs by v (λ j u a. le (suc j) u a) at lt in omega (arith, here, rest, sum_by-cons f x xs, sum_by-cons g x xs)
 
   -- a sum of terms that are all 0
-  pub sum_of_none : (f g : V → ℕ) (views : List V) → ((j : ℕ) (u : V) → get_elem? views j ≡ some u → g u ≡ 0 → f u ≡ 0) → sum_by g views ≡ 0 → sum_by f views ≡ 0
+  pub sum_of_none : (f g : V → ℕ) (views : List V) → ((j : ℕ) (u : V) → get_elem? views j ≡ some u → g u ≡ 0 → f u ≡ 0) → sum_by g views ≡ 0 → sum_by f views
+      ≡ 0
   sum_of_none f g [] idle none = refl
   sum_of_none f g (x ∷ xs) idle none =
       let sums = sum_by-cons g x xs in
@@ -49,7 +52,8 @@ module _ {V : Type 0} where
       let rest : sum_by f xs ≡ 0 = sum_of_none f g xs (λ j u a. idle (suc j) u a) (omega (arith, none, sums)) in omega (arith, here, rest, sum_by-cons f x xs)
 
   -- where one view has all of g, it has all of an f that is 0 where g is
-  pub sum_of_one : (f g : V → ℕ) (views : List V) (by : ℕ) (v : V) → ((j : ℕ) (u : V) → get_elem? views j ≡ some u → g u ≡ 0 → f u ≡ 0) → get_elem? views by ≡ some v → sum_by g views ≡ g v → sum_by f views ≡ f v
+  pub sum_of_one : (f g : V → ℕ) (views : List V) (by : ℕ) (v : V) → ((j : ℕ) (u : V) → get_elem? views j ≡ some u → g u ≡ 0 → f u ≡ 0) → get_elem? views by
+      ≡ some v → sum_by g views ≡ g v → sum_by f views ≡ f v
   sum_of_one f g [] by v idle at all = absurd (some-ne-none v (sym at))
   sum_of_one f g (x ∷ xs) zero v idle at all =
       let e : f x ≡ f v = ap f (some-injective x v at) in

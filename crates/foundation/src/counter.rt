@@ -1,3 +1,5 @@
+//! A counter of steps of work, which exists for contracts alone: with it a call's contract says how many
+//! steps the call takes.
 ghost use Rattle.std.specs.Prelude.{◌≡◌, ℕ, ◌+◌, ◌<◌};
 
 use std::marker::Model;
@@ -21,7 +23,9 @@ impl<L: Ledger> Model for Steps<L> {
 }
 
 impl<L: Ledger> Steps<L> {
-    /// A counter at 0, from the blank of its ledger. A caller that counts nothing passes `Blank::new(1)`.
+    /// A counter at 0, from a blank of the ledger `L` that is not yet used. The blank has the ledger's
+    /// name, and its number of parts, which is not 0. A ledger is the standard library's account of
+    /// numbers that contracts alone see. A caller that counts nothing passes `Blank::new(1)`.
     pub fn start(blank: Blank) -> Self
         requires name { blank.name ≡ L.name }
         requires parts { blank.parts ≡ L.parts }
@@ -32,7 +36,7 @@ impl<L: Ledger> Steps<L> {
         Steps { book, share }
     }
 
-    /// Counts one step.
+    /// Counts one step. It costs nothing when the program runs.
     pub fn tick(&mut self)
         ensures { self.new ≡ self.old + 1 }
     {

@@ -1,3 +1,5 @@
+//! A list of values, for the fields of public types. Contracts see it as a list, and not as a `Vec` with
+//! its memory.
 ghost use Rattle.std.specs.Prelude.{◌≡◌, ◌==◌, List, length};
 
 use std::marker::Model;

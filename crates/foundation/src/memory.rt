@@ -1,7 +1,8 @@
+//! The answer that memory was refused, which each call that takes memory may give.
 use std::alloc::{AllocError, AllocFailed};
 use std::{error, fmt};
 
-/// Memory was refused. No contract ties this answer to a cause.
+/// Memory was refused. Any call that takes memory may answer so: no contract ties this answer to a cause.
 #[derive(Clone, Copy, Debug, PartialEq, Eq)]
 pub struct OutOfMemory;
 
@@ -10,6 +11,7 @@ impl fmt::Display for OutOfMemory {
 
     ghost output = { λ _. Some (codes "out of memory") };
 
+    // Writes what is printed of the refusal, without a line feed.
     fn fmt<W: fmt::Write>(&self, f: &mut fmt::Formatter<W>) -> fmt::Result {
         f.write_str("out of memory")
     }
@@ -18,12 +20,15 @@ impl fmt::Display for OutOfMemory {
 impl error::Error for OutOfMemory {}
 
 impl From<AllocError> for OutOfMemory {
+    // Lets `?` turn the refusal of a call of the standard library into this answer.
     fn from(_refused: AllocError) -> Self {
         OutOfMemory
     }
 }
 
 impl<T: Drop> From<AllocFailed<T>> for OutOfMemory {
+    // Lets `?` turn the refusal of a call that gives back what found no room, which is dropped, into this
+    // answer.
     fn from(_refused: AllocFailed<T>) -> Self {
         OutOfMemory
     }

@@ -3,7 +3,8 @@ use Rattle.std.proofs.lemmas.Int.{ints}
 use Rattle.std.specs.Int.{IsGcd, ◌∣◌}
 use Rattle.fraction128.specs.Divisor.{gcd, int_gcd}
 use Rattle.fraction128.specs.Range.{InRange}
-use Rattle.fraction128.proofs.DivisorLaws.{IsGcd-gcd, gcd-above, quotient-exact, quotient-divides, quotient-above, quotient-in_range, quotients-coprime, quotients-cross}
+use Rattle.fraction128.proofs.DivisorLaws.{IsGcd-gcd, gcd-above, quotient-exact, quotient-divides, quotient-above, quotient-in_range, quotients-coprime}
+use Rattle.fraction128.proofs.DivisorLaws.{quotients-cross}
 
 -- a number that is not 0 has a size
 size-above : (b : ℤ) → b ≢ pos 0 → 0 < unsigned_abs b

@@ -35,7 +35,8 @@ IsOver-unique x y a d above p q =
     ∙ swap_last y.numerator d x.denominator))
 
 -- the order of two fractions is that of their numbers over one denominator
-pub IsOver-order : (x y : Fraction) (a b d : ℤ) → pos 0 <ℤ d → IsOver x a d → IsOver y b d → int_cmp (x.numerator *ℤ y.denominator) (y.numerator *ℤ x.denominator) ≡ int_cmp a b
+pub IsOver-order : (x y : Fraction) (a b d : ℤ) → pos 0 <ℤ d → IsOver x a d → IsOver y b d
+    → int_cmp (x.numerator *ℤ y.denominator) (y.numerator *ℤ x.denominator) ≡ int_cmp a b
 IsOver-order x y a b d above p q =
     let t = x.denominator *ℤ y.denominator in
     let t_above = above-* x.denominator y.denominator x.positive y.positive in

@@ -95,7 +95,8 @@ quotient-above z q g e d h = at_sign z q (quotient-exact z q g e d) h
     at_sign z (negsuc n) e h = omega (arith, ints)
 
 -- the quotients by the greatest common divisor have none but 1
-pub quotients-coprime : (a b p q : ℤ) (g : ℕ) → p ≡ int_div a (pos g) → q ≡ int_div b (pos g) → 0 < g → IsGcd (unsigned_abs a) (unsigned_abs b) g → IsGcd (unsigned_abs p) (unsigned_abs q) 1
+pub quotients-coprime : (a b p q : ℤ) (g : ℕ) → p ≡ int_div a (pos g) → q ≡ int_div b (pos g) → 0 < g → IsGcd (unsigned_abs a) (unsigned_abs b) g
+    → IsGcd (unsigned_abs p) (unsigned_abs q) 1
 quotients-coprime a b p q g e f h is =
     rw (e, f, unsigned_abs-int_div a g, unsigned_abs-int_div b g) (IsGcd-quotients _ _ g h is)
 

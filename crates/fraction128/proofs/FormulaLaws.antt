@@ -7,7 +7,8 @@ use Rattle.fraction128.specs.Arithmetic.{sum_of_quotients, divided_numbers}
 use Rattle.fraction128.specs.declared.fraction.Fraction.{Fraction}
 use Rattle.fraction128.specs.Range.{InRange, AllInRange}
 use Rattle.fraction128.specs.Divisor.{gcd, int_gcd}
-use Rattle.fraction128.proofs.CofactorLaws.{above-apart, first-exact, second-exact, second-above, first-divides, second-divides, cofactors-coprime, cofactors-cross}
+use Rattle.fraction128.proofs.CofactorLaws.{above-apart, first-exact, second-exact, second-above, first-divides, second-divides, cofactors-coprime}
+use Rattle.fraction128.proofs.CofactorLaws.{cofactors-cross}
 use Rattle.fraction128.proofs.DivisorLaws.{unsigned_abs-int_div, quotient-in_range}
 use Rattle.fraction128.proofs.LowestLaws.{coprime-product, coprime-divisor}
 use Rattle.fraction128.proofs.Signs.{positive_size}
@@ -26,14 +27,16 @@ sum_of_parts a p c q g zn zd h = left zn p q g ∙ ap (λ (n : ℤ). n *ℤ g) h
     right a p c q g zd = rw (parts a, parts p, parts c, parts q, parts g, parts zd) (simp ring (same_dif _ _ _ _ (omega arith)))
 
 -- the sum, by the parts p and q of the denominators
-pub sum_is : (a b c d p q u v zn zd : ℤ) → p ≡ int_div b (int_gcd b d) → q ≡ int_div d (int_gcd b d) → u ≡ a *ℤ q +ℤ c *ℤ p → v ≡ p *ℤ d → zn *ℤ v ≡ u *ℤ zd → zn *ℤ (b *ℤ d) ≡ (a *ℤ d +ℤ c *ℤ b) *ℤ zd
+pub sum_is : (a b c d p q u v zn zd : ℤ) → p ≡ int_div b (int_gcd b d) → q ≡ int_div d (int_gcd b d) → u ≡ a *ℤ q +ℤ c *ℤ p → v ≡ p *ℤ d → zn *ℤ v ≡ u *ℤ zd
+    → zn *ℤ (b *ℤ d) ≡ (a *ℤ d +ℤ c *ℤ b) *ℤ zd
 sum_is a b c d p q u v zn zd e f u_is v_is h = with_divisor (int_gcd b d) (first-exact b d p q e f) (second-exact b d p q e f)
   where
     with_divisor : (g : ℤ) → p *ℤ g ≡ b → q *ℤ g ≡ d → zn *ℤ (b *ℤ d) ≡ (a *ℤ d +ℤ c *ℤ b) *ℤ zd
     with_divisor g i j = rw (← i, ← j) (sum_of_parts a p c q g zn zd (rw (j, ← u_is, ← v_is) h))
 
 -- where the parts' products leave the range, so do the sum's numbers
-pub sum_numerator_overflow : (a b c d p q : ℤ) → p ≡ int_div b (int_gcd b d) → q ≡ int_div d (int_gcd b d) → ¬ AllInRange ((a *ℤ q) ∷ (c *ℤ p) ∷ (a *ℤ q +ℤ c *ℤ p) ∷ []) → ¬ AllInRange (sum_of_quotients a b c d)
+pub sum_numerator_overflow : (a b c d p q : ℤ) → p ≡ int_div b (int_gcd b d) → q ≡ int_div d (int_gcd b d)
+    → ¬ AllInRange ((a *ℤ q) ∷ (c *ℤ p) ∷ (a *ℤ q +ℤ c *ℤ p) ∷ []) → ¬ AllInRange (sum_of_quotients a b c d)
 sum_numerator_overflow a b c d p q e f h all = h (rw (e, f) (all.0, (all.1.0, (all.1.1.0, tt))))
 
 -- and where the product of the denominators does
@@ -46,7 +49,8 @@ product_is a b k m p zn zd e f zn_is zd_is =
     rw (zn_is, zd_is) (assoc a m b ∙ ap (λ (n : ℤ). a *ℤ n) (cofactors-cross k b m p e f) ∙ sym (assoc a k p))
 
 -- and it is in lowest terms
-pub product-coprime : (a b k m p u : ℤ) → m ≡ int_div k (int_gcd k b) → p ≡ int_div b (int_gcd k b) → u ≡ a *ℤ m → pos 0 <ℤ b → IsGcd (unsigned_abs a) (unsigned_abs b) 1 → IsGcd (unsigned_abs u) (unsigned_abs p) 1
+pub product-coprime : (a b k m p u : ℤ) → m ≡ int_div k (int_gcd k b) → p ≡ int_div b (int_gcd k b) → u ≡ a *ℤ m → pos 0 <ℤ b
+    → IsGcd (unsigned_abs a) (unsigned_abs b) 1 → IsGcd (unsigned_abs u) (unsigned_abs p) 1
 product-coprime a b k m p u e f u_is above is =
     rw (u_is, unsigned_abs-mul a m)
     (coprime-product (unsigned_abs a) (unsigned_abs m) (unsigned_abs p)
@@ -54,13 +58,15 @@ product-coprime a b k m p u e f u_is above is =
     (cofactors-coprime k b m p e f (above-apart b above)))
 
 -- a/b divided by a positive k, whose part is its own size
-pub quotient_is : (a b k p q zn zd : ℤ) → p ≡ int_div a (int_gcd a k) → q ≡ int_div k (int_gcd a k) → pos 0 <ℤ k → zn ≡ p → zd ≡ b *ℤ pos (unsigned_abs q) → a *ℤ zd ≡ zn *ℤ k *ℤ b
+pub quotient_is : (a b k p q zn zd : ℤ) → p ≡ int_div a (int_gcd a k) → q ≡ int_div k (int_gcd a k) → pos 0 <ℤ k → zn ≡ p → zd ≡ b *ℤ pos (unsigned_abs q)
+    → a *ℤ zd ≡ zn *ℤ k *ℤ b
 quotient_is a b k p q zn zd e f above zn_is zd_is =
     rw (zn_is, zd_is, positive_size q (second-above a k p q e f above))
     (sym (assoc a b q) ∙ swap_last a b q ∙ ap (λ (n : ℤ). n *ℤ b) (sym (cofactors-cross a k p q e f)))
 
 -- and by a negative k, whose part is the negative of its size
-pub quotient_is_negative : (a b k p q zn zd : ℤ) → p ≡ int_div a (int_gcd a k) → q ≡ int_div k (int_gcd a k) → k <ℤ pos 0 → zn ≡ neg_ℤ p → zd ≡ b *ℤ pos (unsigned_abs q) → a *ℤ zd ≡ zn *ℤ k *ℤ b
+pub quotient_is_negative : (a b k p q zn zd : ℤ) → p ≡ int_div a (int_gcd a k) → q ≡ int_div k (int_gcd a k) → k <ℤ pos 0 → zn ≡ neg_ℤ p → zd
+    ≡ b *ℤ pos (unsigned_abs q) → a *ℤ zd ≡ zn *ℤ k *ℤ b
 quotient_is_negative a b k p q zn zd e f below zn_is zd_is =
     rw (zn_is, zd_is, sized q (second-exact a k p q e f)) (turned a q ∙ ap neg_ℤ (ap (λ (n : ℤ). n *ℤ b) (sym (cofactors-cross a k p q e f))) ∙ back p k)
   where
@@ -75,7 +81,8 @@ quotient_is_negative a b k p q zn zd e f below zn_is zd_is =
     back p k = rw (parts p, parts k, parts b) (simp ring (same_dif _ _ _ _ (omega arith)))
 
 -- and it is in lowest terms
-pub quotient-coprime : (a b k p q v : ℤ) → p ≡ int_div a (int_gcd a k) → q ≡ int_div k (int_gcd a k) → v ≡ b *ℤ pos (unsigned_abs q) → k ≢ pos 0 → IsGcd (unsigned_abs a) (unsigned_abs b) 1 → IsGcd (unsigned_abs p) (unsigned_abs v) 1
+pub quotient-coprime : (a b k p q v : ℤ) → p ≡ int_div a (int_gcd a k) → q ≡ int_div k (int_gcd a k) → v ≡ b *ℤ pos (unsigned_abs q) → k ≢ pos 0
+    → IsGcd (unsigned_abs a) (unsigned_abs b) 1 → IsGcd (unsigned_abs p) (unsigned_abs v) 1
 quotient-coprime a b k p q v e f v_is apart is =
     rw (v_is, unsigned_abs-mul b (pos (unsigned_abs q)))
     (IsGcd-swap _ _ 1 (coprime-product (unsigned_abs b) (unsigned_abs q) (unsigned_abs p)
@@ -99,7 +106,8 @@ pub part_size : (a k q : ℤ) → q ≡ int_div k (int_gcd a k) → pos (unsigne
 part_size a k q e = ap (λ (z : ℤ). pos (unsigned_abs z)) e ∙ ap pos (unsigned_abs-int_div k (gcd (unsigned_abs a) (unsigned_abs k)))
 
 -- the numbers of a quotient are in range where its denominator is
-pub quotient_in_range : (x : Fraction) (k q size : ℤ) → q ≡ int_div k (int_gcd x.numerator k) → size ≡ pos (unsigned_abs q) → InRange (x.denominator *ℤ size) → AllInRange (divided_numbers x k)
+pub quotient_in_range : (x : Fraction) (k q size : ℤ) → q ≡ int_div k (int_gcd x.numerator k) → size ≡ pos (unsigned_abs q) → InRange (x.denominator *ℤ size)
+    → AllInRange (divided_numbers x k)
 quotient_in_range x k q size e size_is h = (
   subst (λ (n : ℤ). InRange (x.denominator *ℤ n)) (size_is ∙ part_size x.numerator k q e) h,
   (quotient-in_range x.numerator _ (gcd (unsigned_abs x.numerator) (unsigned_abs k)) refl x.numerator_in_range, tt),

@@ -20,10 +20,12 @@ abbrev pub IsAtMost : Fraction → Fraction → Type 0
 IsAtMost x y = (x.numerator *ℤ y.denominator) ≤ℤ (y.numerator *ℤ x.denominator)
 
 -- what an answer of `compare` says
-pub compared : (x y : Fraction) (r : Ordering) → r ≡ int_cmp (x.numerator *ℤ y.denominator) (y.numerator *ℤ x.denominator) → MatchOrdering r (IsBelow x y) (x ≡ y) (IsBelow y x)
+pub compared : (x y : Fraction) (r : Ordering) → r ≡ int_cmp (x.numerator *ℤ y.denominator) (y.numerator *ℤ x.denominator)
+    → MatchOrdering r (IsBelow x y) (x ≡ y) (IsBelow y x)
 compared x y r e = at_order r (int_ranked (x.numerator *ℤ y.denominator) (y.numerator *ℤ x.denominator) r e)
   where
-    at_order : (r : Ordering) → MatchOrdering r (IsBelow x y) (x.numerator *ℤ y.denominator ≡ y.numerator *ℤ x.denominator) (IsBelow y x) → MatchOrdering r (IsBelow x y) (x ≡ y) (IsBelow y x)
+    at_order : (r : Ordering) → MatchOrdering r (IsBelow x y) (x.numerator *ℤ y.denominator ≡ y.numerator *ℤ x.denominator) (IsBelow y x)
+        → MatchOrdering r (IsBelow x y) (x ≡ y) (IsBelow y x)
     at_order Less h = h
     at_order Equal h = let same = fraction_unique x y h in Fraction-same x y same.0 same.1
     at_order Greater h = h

@@ -61,7 +61,8 @@ lowest_terms_unique a b c d above first second e =
     (eq_of_mul-eq-mul_right d above a c (e ∙ ap (λ n. c * n) same), same)
 
 -- and so of whole numbers over positive ones
-pub lowest_unique : (a b c d : ℤ) → pos 0 <ℤ b → pos 0 <ℤ d → IsGcd (unsigned_abs a) (unsigned_abs b) 1 → IsGcd (unsigned_abs c) (unsigned_abs d) 1 → a *ℤ d ≡ c *ℤ b → (a ≡ c) × (b ≡ d)
+pub lowest_unique : (a b c d : ℤ) → pos 0 <ℤ b → pos 0 <ℤ d → IsGcd (unsigned_abs a) (unsigned_abs b) 1 → IsGcd (unsigned_abs c) (unsigned_abs d) 1 → a *ℤ d
+    ≡ c *ℤ b → (a ≡ c) × (b ≡ d)
 lowest_unique a b c d b_above d_above first second e =
     let sizes = sym (unsigned_abs-mul a d) ∙ ap unsigned_abs e ∙ unsigned_abs-mul c b in
     let same =
@@ -70,7 +71,8 @@ lowest_unique a b c d b_above d_above first second e =
     (same_cancel a c d d_above (e ∙ ap (λ n. c *ℤ n) denominators), denominators)
 
 -- two fractions of the same value have the same numbers
-pub fraction_unique : (x y : Fraction) → x.numerator *ℤ y.denominator ≡ y.numerator *ℤ x.denominator → (x.numerator ≡ y.numerator) × (x.denominator ≡ y.denominator)
+pub fraction_unique : (x y : Fraction) → x.numerator *ℤ y.denominator ≡ y.numerator *ℤ x.denominator → (x.numerator ≡ y.numerator)
+    × (x.denominator ≡ y.denominator)
 fraction_unique x y e =
     lowest_unique x.numerator x.denominator y.numerator y.denominator x.positive y.positive x.reduced y.reduced e
 

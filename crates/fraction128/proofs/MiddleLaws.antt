@@ -29,14 +29,17 @@ two_apart same = omega (arith, ints)
 
 -- the middle by the formula is half of the sum, over a positive denominator
 pub middle-value : (x y z : Ratio) → pos 0 <ℤ x.denominator → pos 0 <ℤ y.denominator → middle x y ≡ Some z
-    → (pos 2 *ℤ z.numerator *ℤ (x.denominator *ℤ y.denominator) ≡ (x.numerator *ℤ y.denominator +ℤ y.numerator *ℤ x.denominator) *ℤ z.denominator) × (pos 0 <ℤ z.denominator)
+    → (pos 2 *ℤ z.numerator *ℤ (x.denominator *ℤ y.denominator) ≡ (x.numerator *ℤ y.denominator +ℤ y.numerator *ℤ x.denominator) *ℤ z.denominator)
+    × (pos 0 <ℤ z.denominator)
 middle-value x y z x_above y_above e = by (added x y) (added-value x y) e
   where
     by : (o : Option Ratio)
         → ((s : Ratio) → pos 0 <ℤ x.denominator → pos 0 <ℤ y.denominator → o ≡ Some s
-        → (s.numerator *ℤ (x.denominator *ℤ y.denominator) ≡ (x.numerator *ℤ y.denominator +ℤ y.numerator *ℤ x.denominator) *ℤ s.denominator) × (pos 0 <ℤ s.denominator))
+        → (s.numerator *ℤ (x.denominator *ℤ y.denominator) ≡ (x.numerator *ℤ y.denominator +ℤ y.numerator *ℤ x.denominator) *ℤ s.denominator)
+        × (pos 0 <ℤ s.denominator))
         → (o >>? (λ sum. divided sum (pos 2))) ≡ Some z
-        → (pos 2 *ℤ z.numerator *ℤ (x.denominator *ℤ y.denominator) ≡ (x.numerator *ℤ y.denominator +ℤ y.numerator *ℤ x.denominator) *ℤ z.denominator) × (pos 0 <ℤ z.denominator)
+        → (pos 2 *ℤ z.numerator *ℤ (x.denominator *ℤ y.denominator) ≡ (x.numerator *ℤ y.denominator +ℤ y.numerator *ℤ x.denominator) *ℤ z.denominator)
+        × (pos 0 <ℤ z.denominator)
     by None sum h = absurd (cc)
     by (Some s) sum h =
         let (whole, s_above) = sum s x_above y_above (λ i. Some s) in
@@ -44,7 +47,8 @@ middle-value x y z x_above y_above e = by (added x y) (added-value x y) e
         (middle_is _ _ s.numerator s.denominator z.numerator z.denominator s_above whole half, z_above)
 
 -- what is answered for the half of a sum is the middle
-pub half-answered : {E : Type 0} (x y w : Fraction) (r : Result Fraction E) → Some (ratio_of w) ≡ added (ratio_of x) (ratio_of y) → answered r ≡ divided (ratio_of w) (pos 2)
+pub half-answered : {E : Type 0} (x y w : Fraction) (r : Result Fraction E) → Some (ratio_of w) ≡ added (ratio_of x) (ratio_of y) → answered r
+    ≡ divided (ratio_of w) (pos 2)
     → answered r ≡ middle (ratio_of x) (ratio_of y)
 half-answered x y w r sum half = half ∙ ap (λ (o : Option Ratio). (o >>? (λ s. divided s (pos 2)))) sum
 

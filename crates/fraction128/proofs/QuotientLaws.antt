@@ -1,4 +1,5 @@
-use Rattle.std.proofs.Common.{◌≡◌, ◌≢◌, ◌⊎◌, inl, inr, zero, suc, if◌then◌else◌, ℤ, pos, negsuc, ◌<ℤ◌, ◌*ℤ◌, Bool, true, false, Some, Result, Ok, Err, IfOk, OnOk, OnErr, [], ◌∷◌, int_div, int_lt, unsigned_abs, refl, sym, ap, ◌∙◌, subst, arith}
+use Rattle.std.proofs.Common.{◌≡◌, ◌≢◌, ◌⊎◌, inl, inr, zero, suc, if◌then◌else◌, ℤ, pos, negsuc, ◌<ℤ◌, ◌*ℤ◌, Bool, true, false, Some, Result, Ok, Err, IfOk}
+use Rattle.std.proofs.Common.{OnOk, OnErr, [], ◌∷◌, int_div, int_lt, unsigned_abs, refl, sym, ap, ◌∙◌, subst, arith}
 use lib.IntN.{neg_ℤ}
 use Rattle.std.specs.Int.{IsGcd}
 use Rattle.std.proofs.lemmas.Int.{ints}
@@ -71,7 +72,8 @@ module _ (x : Ratio) (k : ℤ) (some : k ≢ pos 0) where
   }
 
   quotient-above : pos 0 <ℤ x.denominator → pos 0 <ℤ quotient.denominator
-  quotient-above above = subst (λ (z : ℤ). pos 0 <ℤ (x.denominator *ℤ z)) size (above-* x.denominator _ above (second-size_above x.numerator k _ _ refl refl some))
+  quotient-above above = subst (λ (z : ℤ). pos 0 <ℤ (x.denominator *ℤ z)) size
+      (above-* x.denominator _ above (second-size_above x.numerator k _ _ refl refl some))
 
   quotient-value : x.numerator *ℤ quotient.denominator ≡ quotient.numerator *ℤ k *ℤ x.denominator
   quotient-value = by (int_lt k (pos 0)) refl
@@ -82,24 +84,29 @@ module _ (x : Ratio) (k : ℤ) (some : k ≢ pos 0) where
       by true h = quotient_is_negative x.numerator x.denominator k _ _ _ _ refl refl (below k h) refl (ap (λ (z : ℤ). x.denominator *ℤ z) (sym size))
       by false h = quotient_is x.numerator x.denominator k _ _ _ _ refl refl (over k h some) refl (ap (λ (z : ℤ). x.denominator *ℤ z) (sym size))
 
-  quotient-lowest : IsGcd (unsigned_abs x.numerator) (unsigned_abs x.denominator) 1 → IsGcd (unsigned_abs quotient.numerator) (unsigned_abs quotient.denominator) 1
+  quotient-lowest : IsGcd (unsigned_abs x.numerator) (unsigned_abs x.denominator) 1 → IsGcd (unsigned_abs quotient.numerator)
+      (unsigned_abs quotient.denominator) 1
   quotient-lowest lowest = by (int_lt k (pos 0))
     where
       plain : IsGcd (unsigned_abs (int_div x.numerator (int_gcd x.numerator k))) (unsigned_abs quotient.denominator) 1
       plain = quotient-coprime x.numerator x.denominator k _ _ quotient.denominator refl refl (ap (λ (z : ℤ). x.denominator *ℤ z) (sym size)) some lowest
 
-      by : (b : Bool) → IsGcd (unsigned_abs (if b then neg_ℤ (int_div x.numerator (int_gcd x.numerator k)) else int_div x.numerator (int_gcd x.numerator k))) (unsigned_abs quotient.denominator) 1
+      by : (b : Bool) → IsGcd (unsigned_abs (if b then neg_ℤ (int_div x.numerator (int_gcd x.numerator k)) else int_div x.numerator (int_gcd x.numerator k)))
+          (unsigned_abs quotient.denominator) 1
       by true = subst (λ n. IsGcd n (unsigned_abs quotient.denominator) 1) (sym (size_neg _)) plain
       by false = plain
 
 -- the quotient by the formula is the quotient, over a positive denominator
-pub divided-value : (x : Ratio) (k : ℤ) (s : Ratio) → pos 0 <ℤ x.denominator → k ≢ pos 0 → divided x k ≡ Some s → (x.numerator *ℤ s.denominator ≡ s.numerator *ℤ k *ℤ x.denominator) × (pos 0 <ℤ s.denominator)
+pub divided-value : (x : Ratio) (k : ℤ) (s : Ratio) → pos 0 <ℤ x.denominator → k ≢ pos 0 → divided x k ≡ Some s
+    → (x.numerator *ℤ s.denominator ≡ s.numerator *ℤ k *ℤ x.denominator) × (pos 0 <ℤ s.denominator)
 divided-value x k s above some e =
     subst (λ (z : Ratio). (x.numerator *ℤ z.denominator ≡ z.numerator *ℤ k *ℤ x.denominator) × (pos 0 <ℤ z.denominator))
-    (answer_is ((x.denominator *ℤ int_div (pos (unsigned_abs k)) (int_gcd x.numerator k)) ∷ int_div x.numerator (int_gcd x.numerator k) ∷ []) (quotient x k some) s e) (quotient-value x k some, quotient-above x k some above)
+    (answer_is ((x.denominator *ℤ int_div (pos (unsigned_abs k)) (int_gcd x.numerator k)) ∷ int_div x.numerator (int_gcd x.numerator k) ∷ [])
+    (quotient x k some) s e) (quotient-value x k some, quotient-above x k some above)
 
 -- what is answered for a quotient is the quotient by the formula
-pub divided-answered : {E : Type 0} (x : Fraction) (k : ℤ) (r : Result Fraction E) → k ≢ pos 0 → IfOk r (λ z. IsQuotient x k z) → OnOk r (AllInRange (divided_numbers x k)) → OnErr r (¬ AllInRange (divided_numbers x k))
+pub divided-answered : {E : Type 0} (x : Fraction) (k : ℤ) (r : Result Fraction E) → k ≢ pos 0 → IfOk r (λ z. IsQuotient x k z)
+    → OnOk r (AllInRange (divided_numbers x k)) → OnErr r (¬ AllInRange (divided_numbers x k))
     → answered r ≡ divided (ratio_of x) k
 divided-answered x k (Err e) some value fits overflow = sym (overflow_answer (divided_numbers x k) _ overflow)
 divided-answered x k (Ok z) some value fits overflow =
@@ -130,4 +137,5 @@ divided-answered x k (Ok z) some value fits overflow =
         ∙ ap (λ (n : ℤ). n *ℤ z.denominator) (quotient-value (ratio_of x) k some) ∙ sym (grouped q.numerator z.denominator k x.denominator))
 
     unique : (z.numerator ≡ q.numerator) × (z.denominator ≡ q.denominator)
-    unique = lowest_unique z.numerator z.denominator q.numerator q.denominator z.positive (quotient-above (ratio_of x) k some x.positive) z.reduced (quotient-lowest (ratio_of x) k some x.reduced) cross
+    unique = lowest_unique z.numerator z.denominator q.numerator q.denominator z.positive (quotient-above (ratio_of x) k some x.positive) z.reduced
+        (quotient-lowest (ratio_of x) k some x.reduced) cross

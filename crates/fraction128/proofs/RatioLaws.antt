@@ -1,4 +1,5 @@
-use Rattle.std.proofs.Common.{◌≡◌, ◌^◌, nat_lt, ◌&&◌, if◌then◌else◌, ℤ, pos, ◌<ℤ◌, ◌+ℤ◌, ◌*ℤ◌, Bool, true, false, Some, None, Result, Ok, Err, IfOk, OnOk, OnErr, List, [], ◌∷◌, int_div, unsigned_abs, refl, sym, ap, ◌∙◌, subst, arith}
+use Rattle.std.proofs.Common.{◌≡◌, ◌^◌, nat_lt, ◌&&◌, if◌then◌else◌, ℤ, pos, ◌<ℤ◌, ◌+ℤ◌, ◌*ℤ◌, Bool, true, false, Some, None, Result, Ok, Err, IfOk, OnOk}
+use Rattle.std.proofs.Common.{OnErr, List, [], ◌∷◌, int_div, unsigned_abs, refl, sym, ap, ◌∙◌, subst, arith}
 use Rattle.std.specs.Bool.{Decides}
 use Rattle.std.proofs.lemmas.Bool.Decides.{Decides-ltb}
 use Rattle.fraction128.specs.Arithmetic.{IsSum, IsProduct, sum_numbers, sum_of_quotients, scaled_numbers}
@@ -6,7 +7,8 @@ use Rattle.fraction128.specs.Divisor.{int_gcd}
 use Rattle.fraction128.specs.Formulas.{Ratio, added, answered, are_in_range, in_lowest_terms, ratio_of, scaled}
 use Rattle.fraction128.specs.Range.{AllInRange}
 use Rattle.fraction128.specs.declared.fraction.Fraction.{Fraction}
-use Rattle.fraction128.proofs.CofactorLaws.{above-apart, cofactors-coprime, cofactors-cross, first-above, first-exact, common_divisor-above, second-above, second-exact}
+use Rattle.fraction128.proofs.CofactorLaws.{above-apart, cofactors-coprime, cofactors-cross, first-above, first-exact, common_divisor-above, second-above}
+use Rattle.fraction128.proofs.CofactorLaws.{second-exact}
 use Rattle.fraction128.proofs.FormulaLaws.{product-coprime, product_is, sum_is}
 use Rattle.fraction128.proofs.LowestLaws.{lowest_unique}
 use Rattle.fraction128.proofs.Signs.{above-*, same_cancel}
@@ -19,7 +21,8 @@ use Rattle.fraction128.proofs.Whole.{parts, ring, same_dif}
 -- the numbers are tested in range exactly where they are
 pub in_range_decides : (numbers : List ℤ) → Decides (are_in_range numbers) (AllInRange numbers)
 in_range_decides [] = (λ _. tt, λ _. refl)
-in_range_decides (z ∷ numbers) = both (nat_lt (unsigned_abs z) (2 ^ 127)) (are_in_range numbers) (Decides-ltb (unsigned_abs z) (2 ^ 127)) (in_range_decides numbers)
+in_range_decides (z ∷ numbers) = both (nat_lt (unsigned_abs z) (2 ^ 127)) (are_in_range numbers) (Decides-ltb (unsigned_abs z) (2 ^ 127))
+    (in_range_decides numbers)
   where
     both : {P Q : Type 0} (a b : Bool) → Decides a P → Decides b Q → Decides (a && b) (P × Q)
     both true b p q = (λ h. (p.0 refl, q.0 h), λ h. q.1 h.1)
@@ -58,8 +61,10 @@ lowest_is : (z : Fraction) (p q : ℤ) → pos 0 <ℤ q → z.numerator *ℤ q �
 lowest_is z p q above same =
     let low = in_lowest_terms p q in
     let cross : z.numerator *ℤ low.denominator ≡ low.numerator *ℤ z.denominator =
-    same_cancel _ _ q above (swapped z.numerator low.denominator q ∙ ap (λ (n : ℤ). n *ℤ low.denominator) same ∙ turned p z.denominator low.denominator ∙ ap (λ (n : ℤ). n *ℤ z.denominator) (sym (lowest_cross p q)) ∙ swapped low.numerator q z.denominator) in
-    let unique = lowest_unique z.numerator z.denominator low.numerator low.denominator z.positive (lowest_above p q above) z.reduced (cofactors-coprime p q _ _ refl refl (above-apart q above)) cross in
+    same_cancel _ _ q above (swapped z.numerator low.denominator q ∙ ap (λ (n : ℤ). n *ℤ low.denominator) same ∙ turned p z.denominator low.denominator
+    ∙ ap (λ (n : ℤ). n *ℤ z.denominator) (sym (lowest_cross p q)) ∙ swapped low.numerator q z.denominator) in
+    let unique = lowest_unique z.numerator z.denominator low.numerator low.denominator z.positive (lowest_above p q above) z.reduced
+    (cofactors-coprime p q _ _ refl refl (above-apart q above)) cross in
     λ i. record { numerator = sym unique.0 i; denominator = sym unique.1 i }
   where
     swapped : (a b c : ℤ) → a *ℤ b *ℤ c ≡ a *ℤ c *ℤ b
@@ -71,7 +76,8 @@ lowest_is z p q above same =
 -- ---- sums
 
 -- the sum of two fractions whose denominators share the factor g, over their least common multiple
-sum_over_parts : (zn zd xn yn m n g : ℤ) → pos 0 <ℤ g → zn *ℤ (m *ℤ g *ℤ (n *ℤ g)) ≡ (xn *ℤ (n *ℤ g) +ℤ yn *ℤ (m *ℤ g)) *ℤ zd → zn *ℤ (m *ℤ (n *ℤ g)) ≡ (xn *ℤ n +ℤ yn *ℤ m) *ℤ zd
+sum_over_parts : (zn zd xn yn m n g : ℤ) → pos 0 <ℤ g → zn *ℤ (m *ℤ g *ℤ (n *ℤ g)) ≡ (xn *ℤ (n *ℤ g) +ℤ yn *ℤ (m *ℤ g)) *ℤ zd → zn *ℤ (m *ℤ (n *ℤ g))
+    ≡ (xn *ℤ n +ℤ yn *ℤ m) *ℤ zd
 sum_over_parts zn zd xn yn m n g above e = same_cancel _ _ g above (left ∙ e ∙ right)
   where
     left : zn *ℤ (m *ℤ (n *ℤ g)) *ℤ g ≡ zn *ℤ (m *ℤ g *ℤ (n *ℤ g))
@@ -86,7 +92,8 @@ module _ (b d : ℤ) (b_above : pos 0 <ℤ b) (d_above : pos 0 <ℤ d) where
   multiple_above = above-* _ d (first-above b d _ _ refl refl b_above) d_above
 
 -- what is answered for a sum is the sum by the formula
-pub added-answered : {E : Type 0} (x y : Fraction) (r : Result Fraction E) → IfOk r (λ z. IsSum x y z) → OnOk r (AllInRange (sum_numbers x y)) → OnErr r (¬ AllInRange (sum_numbers x y))
+pub added-answered : {E : Type 0} (x y : Fraction) (r : Result Fraction E) → IfOk r (λ z. IsSum x y z) → OnOk r (AllInRange (sum_numbers x y))
+    → OnErr r (¬ AllInRange (sum_numbers x y))
     → answered r ≡ added (ratio_of x) (ratio_of y)
 added-answered x y (Err e) value fits overflow = sym (overflow_answer (sum_numbers x y) _ overflow)
 added-answered x y (Ok z) value fits overflow =
@@ -110,9 +117,11 @@ added-answered x y (Ok z) value fits overflow =
 
 -- the sum by the formula is the sum, over a positive denominator
 pub added-value : (x y s : Ratio) → pos 0 <ℤ x.denominator → pos 0 <ℤ y.denominator → added x y ≡ Some s
-    → (s.numerator *ℤ (x.denominator *ℤ y.denominator) ≡ (x.numerator *ℤ y.denominator +ℤ y.numerator *ℤ x.denominator) *ℤ s.denominator) × (pos 0 <ℤ s.denominator)
+    → (s.numerator *ℤ (x.denominator *ℤ y.denominator) ≡ (x.numerator *ℤ y.denominator +ℤ y.numerator *ℤ x.denominator) *ℤ s.denominator)
+    × (pos 0 <ℤ s.denominator)
 added-value x y s x_above y_above e =
-    let P : Ratio → Type 0 = λ z. (z.numerator *ℤ (x.denominator *ℤ y.denominator) ≡ (x.numerator *ℤ y.denominator +ℤ y.numerator *ℤ x.denominator) *ℤ z.denominator) × (pos 0 <ℤ z.denominator) in
+    let P : Ratio → Type 0 = λ z. (z.numerator *ℤ (x.denominator *ℤ y.denominator) ≡ (x.numerator *ℤ y.denominator +ℤ y.numerator *ℤ x.denominator) *ℤ
+    z.denominator) × (pos 0 <ℤ z.denominator) in
     let g = int_gcd x.denominator y.denominator in
     let p = x.numerator *ℤ int_div y.denominator g +ℤ y.numerator *ℤ int_div x.denominator g in
     subst P (answer_is (sum_of_quotients x.numerator x.denominator y.numerator y.denominator) _ s e) (
@@ -133,7 +142,8 @@ product_over_parts zn zd xn m n g above e = same_cancel _ _ g above (left ∙ e 
     right = rw (parts xn, parts m, parts g, parts zd) (simp ring (same_dif _ _ _ _ (omega arith)))
 
 -- what is answered for a product with a whole number is the product by the formula
-pub scaled-answered : {E : Type 0} (x : Fraction) (k : ℤ) (r : Result Fraction E) → IfOk r (λ z. IsProduct x k z) → OnOk r (AllInRange (scaled_numbers x k)) → OnErr r (¬ AllInRange (scaled_numbers x k))
+pub scaled-answered : {E : Type 0} (x : Fraction) (k : ℤ) (r : Result Fraction E) → IfOk r (λ z. IsProduct x k z) → OnOk r (AllInRange (scaled_numbers x k))
+    → OnErr r (¬ AllInRange (scaled_numbers x k))
     → answered r ≡ scaled (ratio_of x) k
 scaled-answered x k (Err e) value fits overflow = sym (overflow_answer (scaled_numbers x k) _ overflow)
 scaled-answered x k (Ok z) value fits overflow =

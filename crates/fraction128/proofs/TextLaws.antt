@@ -1,4 +1,5 @@
-use Rattle.std.proofs.Common.{◌≡◌, ◌≢◌, ℕ, zero, suc, ◌<◌, ◌^◌, ℤ, ◌<ℤ◌, lit<, if◌then◌else◌, pos, negsuc, List, ◌∷◌, ◌++◌, length, get_or, Some, refl, sym, ap, ◌∙◌, subst, arith}
+use Rattle.std.proofs.Common.{◌≡◌, ◌≢◌, ℕ, zero, suc, ◌<◌, ◌^◌, ℤ, ◌<ℤ◌, lit<, if◌then◌else◌, pos, negsuc, List, ◌∷◌, ◌++◌, length, get_or, Some, refl, sym, ap}
+use Rattle.std.proofs.Common.{◌∙◌, subst, arith}
 use Rattle.std.specs.Prelude.{Result, Ok, Err, OkIff, None}
 use Rattle.std.specs.Fmt.{decimal, signed_decimal}
 use Rattle.std.specs.Str.{IsAscii}
@@ -60,7 +61,8 @@ signed_decimal-ascii (negsuc n) h zero = lit< tt
 signed_decimal-ascii (negsuc n) h (suc i) = IsAscii-decimal_wide (suc n) (wide (suc n) h) i
 
 -- a fraction is spelled as its numerator, or as both numbers with a stroke between them
-pub by_denominator : {G : Type 0} (x : Fraction) (bs : List ℕ) → spelling x ≡ bs → (x.denominator ≡ pos 1 → signed_decimal x.numerator ≡ bs → G) → (x.denominator ≢ pos 1 → signed_decimal x.numerator ++ (47 ∷ signed_decimal x.denominator) ≡ bs → G) → G
+pub by_denominator : {G : Type 0} (x : Fraction) (bs : List ℕ) → spelling x ≡ bs → (x.denominator ≡ pos 1 → signed_decimal x.numerator ≡ bs → G)
+    → (x.denominator ≢ pos 1 → signed_decimal x.numerator ++ (47 ∷ signed_decimal x.denominator) ≡ bs → G) → G
 by_denominator x bs e whole parts =
     let o = int_cmp x.denominator (pos 1) in
     by_ranked (x.denominator <ℤ pos 1) (x.denominator ≡ pos 1) (pos 1 <ℤ x.denominator) o (int_ranked x.denominator (pos 1) o refl)
@@ -97,12 +99,14 @@ spelled_whole x bs e split =
     stroke_at is = rw (← is) (get_or-append_seam (signed_decimal x.numerator) 47 (signed_decimal x.denominator) 0)
 
 -- a text with a stroke spells a fraction by its two parts
-pub spelled_parts : (x : Fraction) (bs : List ℕ) (above below : Bor (List ℕ)) → spelling x ≡ bs → IsSplitOnceResult 47 bs (Some (above, below)) → (x.denominator ≢ pos 1) × (signed_decimal x.numerator ≡ above.now) × (signed_decimal x.denominator ≡ below.now)
+pub spelled_parts : (x : Fraction) (bs : List ℕ) (above below : Bor (List ℕ)) → spelling x ≡ bs → IsSplitOnceResult 47 bs (Some (above, below))
+    → (x.denominator ≢ pos 1) × (signed_decimal x.numerator ≡ above.now) × (signed_decimal x.denominator ≡ below.now)
 spelled_parts x bs above below e split =
     by_denominator x bs e
     (λ one is. absurd (unlike is (split_parts 47 bs (Some (above, below)) split (lit< tt)).0))
     (λ more is.
-    let parts = split_after 47 bs (signed_decimal x.numerator) (signed_decimal x.denominator) (Some (above, below)) split (lit< tt) (sym is) (signed_decimal-no_stroke x.numerator x.numerator_in_range) in
+    let parts = split_after 47 bs (signed_decimal x.numerator) (signed_decimal x.denominator) (Some (above, below)) split (lit< tt) (sym is)
+    (signed_decimal-no_stroke x.numerator x.numerator_in_range) in
     (more, sym parts.0, sym parts.1))
   where
     unlike : signed_decimal x.numerator ≡ bs → bs ≡ above.now ++ (47 ∷ below.now) → ⊥

@@ -1,3 +1,5 @@
+//! Greatest common divisors, and numbers divided by them, with which fractions are reduced. A number is in
+//! range where its absolute value is at most 2^127 - 1.
 ghost use Rattle.std.specs.Prelude.{◌≡◌, ◌≢◌, pos, ◌<ℤ◌, unsigned_abs, int_div};
 ghost use Rattle.std.specs.Int.{IsGcd};
 ghost use Rattle.fraction128.specs.Divisor.{gcd, int_gcd};
@@ -14,7 +16,7 @@ pub fn gcd(a: i128, b: i128) -> i128
     gcd_of_sizes(a.unsigned_abs(), b.unsigned_abs()) as i128
 }
 
-/// Euclid's remainders.
+/// The greatest common divisor of two sizes, by Euclid's remainders; 0 for two zeros.
 fn gcd_of_sizes(a: u128, b: u128) -> u128
     ensures { result ≡ gcd a b }
 {
@@ -36,7 +38,7 @@ pub(crate) struct Cofactors {
 }
 
 impl Cofactors {
-    /// The cofactors of two numbers in range, of which the second is not 0.
+    /// The cofactors of two numbers in range. The second is not 0, so that the divisor is above 0.
     pub(crate) fn of(a: i128, b: i128) -> Cofactors
         requires a_in_range { InRange a }
         requires b_in_range { InRange b }

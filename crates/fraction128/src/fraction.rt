@@ -1,3 +1,5 @@
+//! The exact fraction, which is always in lowest terms: how one is made, and its two numbers. The files in
+//! `fraction/` add, multiply, compare, read and write it.
 ghost use Rattle.std.specs.Prelude.{◌≡◌, pos, ◌<ℤ◌, ◌*ℤ◌, true, unsigned_abs};
 ghost use lib.IntN.{neg_ℤ};
 ghost use Rattle.std.specs.Int.{IsGcd};
@@ -39,7 +41,7 @@ impl Fraction {
         Fraction::from_lowest_terms(lowest.first, lowest.second)
     }
 
-    /// The whole number, over 1. It is in range.
+    /// The whole number, which is in range, as a fraction over 1.
     pub fn whole(number: i128) -> Fraction
         requires { InRange number }
         ensures numerator { result.numerator ≡ number }
@@ -51,28 +53,28 @@ impl Fraction {
         }
     }
 
-    /// The number above the line. It has the sign of the fraction.
+    /// The numerator, which has the sign of the fraction.
     pub fn numerator(&self) -> i128
         ensures { result ≡ self.now.numerator }
     {
         self.numerator
     }
 
-    /// The number below the line, which is positive.
+    /// The denominator, which is positive.
     pub fn denominator(&self) -> i128
         ensures { result ≡ self.now.denominator }
     {
         self.denominator
     }
 
-    /// Whether the denominator is 1.
+    /// Whether the denominator is 1. Sums and products of such fractions go shorter ways.
     fn is_whole(&self) -> bool
         ensures { result ≡ true → self.now.denominator ≡ pos 1 }
     {
         self.denominator == 1
     }
 
-    /// The fraction of two numbers in range that have no common divisor. The denominator is positive.
+    /// The fraction of two numbers in range that have no common divisor but 1. The denominator is positive.
     fn from_lowest_terms(numerator: i128, denominator: i128) -> Fraction
         requires numerator_in_range { InRange numerator }
         requires denominator_in_range { InRange denominator }
@@ -87,7 +89,7 @@ impl Fraction {
         }
     }
 
-    /// The fraction with the other sign.
+    /// The fraction with the other sign. It is always in range, since -2^127 is no numerator.
     fn negated(self) -> Fraction
         ensures numerator { result.numerator ≡ neg_ℤ self.numerator }
         ensures denominator { result.denominator ≡ self.denominator }

@@ -1,6 +1,8 @@
+//! The answer of exact arithmetic whose numbers pass 128 bits.
 use std::{error, fmt};
 
-/// A number of the formula is out of range: its absolute value is above `2^127 - 1`.
+/// A number that a call has to form is out of range: its absolute value is above `2^127 - 1`. The call's
+/// own comment says which numbers these are.
 #[derive(Clone, Copy, Debug, PartialEq, Eq)]
 pub struct Overflow;
 
@@ -9,6 +11,7 @@ impl fmt::Display for Overflow {
 
     ghost output = { λ _. Some (codes "a number is out of range") };
 
+    // Writes what is printed of the fault, without a line feed.
     fn fmt<W: fmt::Write>(&self, f: &mut fmt::Formatter<W>) -> fmt::Result {
         f.write_str("a number is out of range")
     }

@@ -1,9 +1,13 @@
+//! Sums and products in range, which means of absolute value at most 2^127 - 1. The least i128, -2^127, is
+//! out of range: no i128 is its negative. In contracts, `OkIff` says that a call answers the number
+//! exactly where it is in range.
 ghost use Rattle.std.specs.Prelude.{◌≡◌, ◌+ℤ◌, ◌*ℤ◌, OkIff, IfOk, OnOk, OnErr, [], ◌∷◌};
 ghost use Rattle.fraction128.specs.Range.{InRange, AllInRange};
 
 use crate::Overflow;
 
-/// The product, where it is in range. Where both numbers have 64 bits no check is needed.
+/// The product of two numbers, or Overflow exactly where it is out of range. Two numbers of 64 bits go a
+/// way of their own, for speed: their product always fits, so the compiler can leave the check out.
 #[inline(always)]
 pub(crate) fn product(a: i128, b: i128) -> Result<i128, Overflow>
     ensures { OkIff result (InRange (a *ℤ b)) (a *ℤ b) }
@@ -14,7 +18,7 @@ pub(crate) fn product(a: i128, b: i128) -> Result<i128, Overflow>
     }
 }
 
-/// The product of any two numbers, where it is in range.
+/// The product of any two numbers, or Overflow exactly where it is out of range, as -2^127 is.
 #[inline(always)]
 fn product_of(a: i128, b: i128) -> Result<i128, Overflow>
     ensures { OkIff result (InRange (a *ℤ b)) (a *ℤ b) }
@@ -25,7 +29,7 @@ fn product_of(a: i128, b: i128) -> Result<i128, Overflow>
     }
 }
 
-/// The sum, where it is in range.
+/// The sum of two numbers, or Overflow exactly where it is out of range, as -2^127 is.
 #[inline(always)]
 pub(crate) fn sum(a: i128, b: i128) -> Result<i128, Overflow>
     ensures { OkIff result (InRange (a +ℤ b)) (a +ℤ b) }
@@ -36,7 +40,7 @@ pub(crate) fn sum(a: i128, b: i128) -> Result<i128, Overflow>
     }
 }
 
-/// `a * b + c * d`, where both products and their sum are in range.
+/// `a * b + c * d`, or Overflow exactly where one of the products or their sum is out of range.
 pub(crate) fn sum_of_products(a: i128, b: i128, c: i128, d: i128) -> Result<i128, Overflow>
     ensures value { IfOk result (λ sum. sum ≡ a *ℤ b +ℤ c *ℤ d) }
     ensures fits { OnOk result (AllInRange ((a *ℤ b) ∷ (c *ℤ d) ∷ (a *ℤ b +ℤ c *ℤ d) ∷ [])) }

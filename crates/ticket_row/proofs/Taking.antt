@@ -35,11 +35,17 @@ takes_first seat rest = record {
 }
 
 -- and takes in the next
-pub takes_next : (all : List SeatState) (seat : SeatState) (rest : List SeatState) (hand : Hand) → HasTaken all (seat ∷ rest) hand → HasTaken all rest (both_hands hand (hand_of seat))
+pub takes_next : (all : List SeatState) (seat : SeatState) (rest : List SeatState) (hand : Hand) → HasTaken all (seat ∷ rest) hand
+    → HasTaken all rest (both_hands hand (hand_of seat))
 takes_next all seat rest hand had = record {
   some_seat = (let p = had.some_seat in omega arith);
   seats = (let p = had.seats in omega arith);
-  drawn = λ x. (let p = had.drawn x in omega (arith, p, sum_by-cons (λ (s : SeatState). times x s.drawn) seat rest, sum_by-append (λ y. cond (nat_eq y x) 1 0) hand.drawn seat.drawn));
+  drawn = λ x. (let p = had.drawn x in omega (
+    arith,
+    p,
+    sum_by-cons (λ (s : SeatState). times x s.drawn) seat rest,
+    sum_by-append (λ y. cond (nat_eq y x) 1 0) hand.drawn seat.drawn,
+  ));
   ends = (let p = had.ends in omega (arith, p, sum_by-cons (λ (s : SeatState). one_if s.ended) seat rest));
 }
 
@@ -50,8 +56,10 @@ some_end all any =
     let one : one_if (get_or all any.0 any.1).ended ≡ 1 = ap (λ (seat : SeatState). one_if seat.ended) any.3 ∙ ap one_if any.4 in omega (arith, within, one)
 
 -- a seat that has taken in all others knows what was drawn
-pub closes : (count seats n : ℕ) (words : List ℕ) (hands : List Hand) (by drawn : ℕ) (all rest : List SeatState) (hand : Hand) → words ≡ n ∷ [] → EachOnce count seats n hands → get_elem? hands by ≡ some hand → get_elem? words 0 ≡ some drawn
-    → HasTaken all rest hand → length rest ≡ 0 → length all ≡ seats → DrawnBelow (min drawn count) all × (Any (λ (seat : SeatState). seat.ended ≡ true) all → min drawn count ≡ count)
+pub closes : (count seats n : ℕ) (words : List ℕ) (hands : List Hand) (by drawn : ℕ) (all rest : List SeatState) (hand : Hand) → words ≡ n ∷ []
+    → EachOnce count seats n hands → get_elem? hands by ≡ some hand → get_elem? words 0 ≡ some drawn
+    → HasTaken all rest hand → length rest ≡ 0 → length all ≡ seats
+    → DrawnBelow (min drawn count) all × (Any (λ (seat : SeatState). seat.ended ≡ true) all → min drawn count ≡ count)
 closes count seats n words hands by drawn all (seat ∷ rest) hand one rule at read had none whole = absurd (omega arith)
 closes count seats n words hands by drawn all [] hand one rule at read had none whole =
     let n_is : n ≡ drawn = some-injective n drawn (ap (λ ws. get_elem? ws 0) (sym one) ∙ read) in

@@ -3,8 +3,9 @@
 use atomic_table::{Join, Play, Split, TableRule};
 use std::collections::LinkedList;
 
-/// What a seat knows: how many tickets there are, for how many seats it stands, the numbers that it drew, and how
-/// often it drew past the last one. Contracts alone speak of it: no value of it is made.
+/// What a seat knows: how many tickets there are (`count`), and for how many `seats` it stands. Also the
+/// numbers that it drew, and how often it drew past the last one (`ends`). Contracts alone speak of it: no
+/// value of it is made. A seat stands for several until these are split off from it.
 pub struct Hand {
     pub count: u64,
     pub seats: u64,
@@ -30,7 +31,8 @@ impl TableRule<(), Hand, Terms> for TicketRule {
     ghost first = { first_hand };
 }
 
-/// A draw.
+/// A draw: the seat takes the number that it found. Where that is past the last ticket, it counts an end
+/// instead.
 pub struct Draw;
 
 impl Play<(), Hand> for Draw {
@@ -50,7 +52,8 @@ impl Split<Hand> for NewSeat {
     ghost right = { new_hand };
 }
 
-/// A seat takes in what another knows, which is then spent.
+/// A seat takes in what another knows. The other is then spent: it stands for no seat, and has drawn
+/// nothing.
 pub struct TakeIn;
 
 impl Join<Hand> for TakeIn {

@@ -1,3 +1,5 @@
+//! Tickets: the numbers below a count, which workers draw one after another without a lock, and the seats
+//! that they draw from.
 ghost use Rattle.std.specs.Prelude.{◌≡◌, ◌+◌, ◌<◌, ◌≤◌, ◌^◌, ◌++◌, [], ◌∷◌, true, false, length, IfOk, IfSome, IfNone};
 ghost use Rattle.std.specs.List.{All, Any};
 ghost use Rattle.std.specs.List.Sorted.{IsStrictlyIncreasing};
@@ -48,7 +50,7 @@ impl Model for Seat {
 }
 
 impl Seat {
-    // The seat at a place from which nothing was drawn.
+    // The seat at a place from which nothing was drawn, which stands for one seat (`new_hand`).
     fn fresh(place: Place<(), Hand>) -> Self
         requires { place.me ≡ (new_hand place.me.0, []) }
         ensures { IsFresh (row_of place.table_id place.me.0) result }
@@ -59,6 +61,7 @@ impl Seat {
         }
     }
 
+    // The place of the seat, by which `close` hands it back to the table.
     fn into_place(self) -> Place<(), Hand>
         ensures row { result.table_id ≡ self.row.name }
         ensures hand { result.me ≡ (hand_of self, []) }
@@ -68,7 +71,9 @@ impl Seat {
 }
 
 impl Tickets {
-    /// A row of `count` tickets, and its seats, from which nothing was drawn yet. All memory is taken here.
+    /// A row of `count` tickets, and its seats, from which nothing was drawn yet. Both together are below
+    /// 2^32: each seat may draw once past the last ticket, so the word that counts the draws stays in
+    /// range. All memory is taken here.
     pub fn new(alloc: Global, count: u32, seats: u32) -> Result<(Tickets, Vec<Seat>), OutOfMemory>
         requires seats { 0 < seats }
         requires room { count + seats < 2 ^ 32 }
@@ -86,8 +91,8 @@ impl Tickets {
         Ok((Tickets { table, count }, row))
     }
 
-    /// The next number, or None where none is left: one atomic step. From a seat that was answered None before, None
-    /// again, without a step. No memory, no waiting.
+    /// The next number, or None where none is left: one atomic step. `seat` is one of this row. From a
+    /// seat that was answered None before, None again, without a step. No memory, no waiting.
     pub fn draw(&self, seat: &mut Seat) -> Option<u32>
         requires { seat.old.row ≡ self.now.row }
         ensures row { seat.new.row ≡ seat.old.row }
@@ -110,7 +115,9 @@ impl Tickets {
         }
     }
 
-    /// How many tickets were drawn, once all seats are handed back. No memory, no waiting.
+    /// How many tickets were drawn, once all seats of the row are handed back: these have drawn each
+    /// number below the answer once. Draws past the last ticket are in the word that counts draws, but not
+    /// in the answer. There is a seat at least, since `new` asks for one. No memory, no waiting.
     pub fn close(self, seats: Vec<Seat>) -> u32
         requires row { All (λ s. s.row ≡ self.row) seats.items }
         requires all { length seats.items ≡ self.seats }

@@ -1,3 +1,4 @@
+//! Whether one field of a survey is well formed.
 ghost use Rattle.std.specs.Prelude.{◌↔◌, IsTrue};
 ghost use Rattle.edit_model.specs.Surveys.{IsField};
 

@@ -1,3 +1,4 @@
+//! Whether what a field holds, a scale or a list of codes, is within the limits.
 ghost use Rattle.std.specs.Prelude.{◌≢◌, ◌↔◌, All, AllPairs, IsTrue};
 ghost use Rattle.edit_model.specs.Surveys.{AreCodes, IsKind};
 
@@ -40,7 +41,7 @@ fn are_codes(codes: &[Name]) -> bool
         && are_distinct(codes)
 }
 
-/// Whether the scale is within its limits, or the codes are.
+/// Whether the scale of a numerical field, or the list of codes of a categorical one, is within its limits.
 pub(crate) fn is_kind(kind: &Kind) -> bool
     ensures { IsTrue result ↔ IsKind kind.now }
 {

@@ -1,3 +1,4 @@
+//! Whether a linear test fits the fields of a survey.
 ghost use Rattle.std.specs.Prelude.{◌↔◌, All, IsTrue, map, unsigned_abs};
 ghost use Rattle.std.specs.List.Sorted.{IsStrictlyIncreasing};
 ghost use Rattle.edit_model.specs.Surveys.{IsTerm, IsTest};
@@ -12,7 +13,7 @@ const MOST_FACTOR: u64 = 1_000_000_000;
 /// The largest constant of a test, in absolute value.
 const MOST_CONSTANT: u64 = 1_000_000_000_000_000;
 
-// Whether the term is of a numerical field, with a factor within the limits.
+// Whether the term's field is there and numerical, and its factor is not 0 and within its limit.
 fn is_term(fields: &[Field], term: &Term) -> bool
     ensures { IsTrue result ↔ IsTerm fields.now term.now }
 {
@@ -44,7 +45,8 @@ fn has_terms(fields: &[Field], linear: &Linear) -> bool
     are_rising(terms) && terms.iter().all(|term| is_term(fields, term))
 }
 
-/// Whether the terms are in rising field order and within the limits, and the constant is.
+/// Whether a linear test fits the fields: its terms are in rising field order and within the limits, and so
+/// is its constant.
 pub(crate) fn is_linear(fields: &[Field], linear: &Linear) -> bool
     ensures { IsTrue result ↔ IsTest fields.now (Number linear.now) }
 {

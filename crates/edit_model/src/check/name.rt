@@ -1,3 +1,4 @@
+//! Which names fields may have, and which texts may be codes, in ASCII.
 ghost use Rattle.std.specs.Prelude.{◌≡◌, ◌≢◌, ◌==◌, ◌||◌, ◌≤◌, ◌↔◌, All, IsTrue, length};
 ghost use Rattle.std.specs.List.{list_all, list_any};
 ghost use Rattle.std.specs.Str.{bytes_eq};
@@ -5,12 +6,14 @@ ghost use Rattle.edit_model.specs.Surveys.{IsName, has_code_form, is_digit, is_l
 
 use crate::name::Name;
 
+// Whether the byte is a letter of ASCII.
 fn is_ascii_letter(byte: u8) -> bool
     ensures { result ≡ is_letter byte }
 {
     matches!(byte, b'A'..=b'Z' | b'a'..=b'z')
 }
 
+// Whether the byte is a digit of ASCII.
 fn is_ascii_digit(byte: u8) -> bool
     ensures { result ≡ is_digit byte }
 {
@@ -24,7 +27,7 @@ fn are_name_bytes(bytes: &[u8]) -> bool
     bytes.iter().all(|b| is_ascii_letter(*b) || is_ascii_digit(*b) || *b == b'_')
 }
 
-// A letter, then letters, digits and `_`.
+// Whether the bytes are a letter with letters, digits and `_` behind it. There is no name of 0 bytes.
 fn has_name_form(bytes: &[u8]) -> bool
     ensures { result ≡ has_name_form bytes.now }
 {
@@ -34,7 +37,7 @@ fn has_name_form(bytes: &[u8]) -> bool
     }
 }
 
-// Whether the bytes are a word of the rule language.
+// Whether the bytes are a word of the rule language, which no field may have as its name.
 fn is_reserved(bytes: &[u8]) -> bool
     ensures { result ≡ list_any (λ word. bytes_eq bytes.now word) reserved_words }
 {
@@ -49,7 +52,8 @@ fn is_reserved(bytes: &[u8]) -> bool
         || bytes == b"then".as_slice()
 }
 
-/// Whether a field may have the name: a letter with letters, digits and `_` behind it, and none of the words of the rules. No memory.
+/// Whether a field may have the name: a letter with letters, digits and `_` behind it, and none of the
+/// words of the rules. No memory.
 pub fn is_field_name(name: &Name) -> bool
     ensures { IsTrue result ↔ IsName name.now }
 {
@@ -57,7 +61,7 @@ pub fn is_field_name(name: &Name) -> bool
     has_name_form(bytes) && !is_reserved(bytes)
 }
 
-// Whether each byte may stand in a code.
+// Whether each byte may stand in a code: letters, digits, `_`, `-` and `.`.
 fn are_code_bytes(bytes: &[u8]) -> bool
     ensures { result ≡ has_code_form bytes.now }
 {
@@ -66,7 +70,8 @@ fn are_code_bytes(bytes: &[u8]) -> bool
     })
 }
 
-/// Whether the name may be a code.
+/// Whether the name may be a code. That it has 1 to 32 bytes is in its type. The words of the rules may be
+/// codes.
 pub(crate) fn is_code_name(name: &Name) -> bool
     ensures { IsTrue result ↔ (IsTrue (has_code_form name.now) × (1 ≤ length name.now) × (length name.now ≤ 32)) }
 {

@@ -1,3 +1,4 @@
+//! Whether a rule fits the fields of a survey, and has a form that the editor takes.
 ghost use Rattle.std.specs.Prelude.{◌<◌, ◌^◌, ◌↔◌, IsTrue};
 ghost use Rattle.edit_model.specs.Surveys.{IsSetOf, HasForm, IsCodeTest, IsOrderTest, IsRule, IsTest};
 
@@ -5,14 +6,16 @@ use crate::check::linear::is_linear;
 use crate::field::{Field, Kind};
 use crate::rule::{Compare, Rule, Test};
 
-// Whether the set, as bits, has no code but the first `count` ones, and is not empty.
+// Whether the set, as bits, has no code but the first `count` ones, and is not empty. No shift by 64 is
+// made, which would be out of range for a number of 64 bits.
 fn fits_codes(set: u64, count: usize) -> bool
     ensures { IsTrue result ↔ ((0 < set) × (set < 2 ^ count)) }
 {
     set != 0 && (count >= 64 || set >> count == 0)
 }
 
-// Whether the set of codes, as bits, is inside the field's codes and not empty.
+// Whether the set of codes, as bits, is inside the field's codes and not empty; never where the field is
+// numerical.
 fn has_codes(kind: &Kind, set: u64) -> bool
     ensures { IsTrue result ↔ IsSetOf kind.now set }
 {
@@ -22,7 +25,8 @@ fn has_codes(kind: &Kind, set: u64) -> bool
     }
 }
 
-// Whether the test's fields are there, of the kind that it needs, and its numbers are within the limits.
+// Whether the test fits the fields: its fields are there, of the kind that it needs, and its numbers and
+// codes are within their limits.
 fn is_test(fields: &[Field], test: &Test) -> bool
     ensures { IsTrue result ↔ IsTest fields.now test.now }
 {
@@ -35,13 +39,14 @@ fn is_test(fields: &[Field], test: &Test) -> bool
     }
 }
 
+// Whether the test is on codes.
 fn is_code_test(test: &Test) -> bool
     ensures { IsTrue result ↔ IsCodeTest test.now }
 {
     matches!(test, Test::Codes { .. })
 }
 
-// Whether the test is a comparison that is no equation.
+// Whether the test compares a sum with 0, but not by `=`.
 fn is_order_test(test: &Test) -> bool
     ensures { IsTrue result ↔ IsOrderTest test.now }
 {
@@ -51,7 +56,8 @@ fn is_order_test(test: &Test) -> bool
     }
 }
 
-// Whether the rule has one of the two forms that the editor takes.
+// Whether the rule has one of the two forms that the editor takes: all its conditions are tests on codes,
+// or its only condition compares a sum, not by `=`, and its conclusion is a test on codes.
 fn has_form(rule: &Rule) -> bool
     ensures { IsTrue result ↔ HasForm rule.now }
 {

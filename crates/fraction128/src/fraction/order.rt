@@ -1,3 +1,4 @@
+//! The order of fractions, told without products of their numbers, so that nothing can overflow.
 ghost use Rattle.std.specs.Prelude.{◌≡◌, ◌<◌, ◌*◌, ◌*ℤ◌};
 ghost use Rattle.std.specs.Ordering.{nat_cmp, int_cmp};
 
@@ -5,7 +6,8 @@ use crate::Fraction;
 use std::cmp::Ordering;
 
 impl Fraction {
-    /// The order of the two fractions. It is exact and never refuses.
+    /// The order of the two fractions a/b and c/d, as `a * d` compares with `c * b`. It is exact and never
+    /// refuses.
     pub fn compare(self, other: Fraction) -> Ordering
         ensures { result ≡
             int_cmp (self.numerator *ℤ other.denominator) (other.numerator *ℤ self.denominator) }
@@ -21,8 +23,9 @@ impl Fraction {
     }
 }
 
-/// The order of `a/b` and `c/d`. Whole parts decide, and where they are equal, the remainders turned
-/// upside down: no product is formed, so none can overflow.
+/// The order of `a/b` and `c/d`, whose denominators are not 0. Whole parts decide. Where they are equal,
+/// what is left of each numerator decides: `r/b` and `s/d` compare as `d/s` and `b/r`. No product is
+/// formed, so none can overflow.
 fn compare_sizes(a: u128, b: u128, c: u128, d: u128) -> Ordering
     requires first { 0 < b }
     requires second { 0 < d }

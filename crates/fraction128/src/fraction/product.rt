@@ -1,3 +1,6 @@
+//! Fractions times, and divided by, whole numbers in range, of absolute value at most 2^127 - 1. In
+//! contracts, `scaled_numbers` and `divided_numbers` list the two numbers of the answer, but for a sign.
+//! `IsProduct` and `IsQuotient` say that the answer is exact.
 ghost use Rattle.std.specs.Prelude.{◌≡◌, ◌≢◌, pos, IfOk, OnOk, OnErr};
 ghost use Rattle.fraction128.specs.Arithmetic.{IsProduct, IsQuotient, scaled_numbers, divided_numbers};
 ghost use Rattle.fraction128.specs.Range.{InRange, AllInRange};
@@ -23,7 +26,7 @@ impl Fraction {
         }
     }
 
-    /// A whole number times a whole number in range.
+    /// A whole number times a whole number in range; Overflow where the product is out of range.
     #[inline(always)]
     fn scale_whole(self, factor: i128) -> Result<Fraction, Overflow>
         requires whole { self.denominator ≡ pos 1 }
@@ -36,7 +39,8 @@ impl Fraction {
         Ok(Fraction::whole(numerator))
     }
 
-    /// Any fraction times a whole number in range.
+    /// Any fraction times a whole number in range; Overflow where the numerator leaves the range. What is
+    /// left of the factor and the denominator has no common divisor, so the product is in lowest terms.
     #[inline(never)]
     fn scale_parts(self, factor: i128) -> Result<Fraction, Overflow>
         requires { InRange factor }
@@ -51,6 +55,7 @@ impl Fraction {
 
     /// The fraction divided by a whole number in range that is not 0. What the divisor and the numerator
     /// share is divided out first, and then it overflows exactly where the denominator leaves the range.
+    /// The sign of the divisor goes to the numerator, since a denominator is positive.
     pub fn divide(self, divisor: i128) -> Result<Fraction, Overflow>
         requires in_range { InRange divisor }
         requires not_zero { divisor ≢ pos 0 }

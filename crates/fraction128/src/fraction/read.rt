@@ -1,3 +1,4 @@
+//! Fractions read from their canonical spelling, such as `-3` or `1/2`: one text for each fraction.
 ghost use Rattle.std.specs.Prelude.{◌≡◌, IfSome, ℤ};
 ghost use Rattle.std.specs.Fmt.{signed_decimal};
 ghost use Rattle.fraction128.specs.declared.fraction.Fraction.{Fraction};
@@ -8,7 +9,8 @@ use crate::{Fraction, gcd};
 use itoa::Buffer;
 
 impl Fraction {
-    /// The fraction of which the bytes are the canonical spelling, where they are one. No memory.
+    /// The fraction that the bytes spell canonically; None for any other text, such as `2/4`, `3/1`, `+1`
+    /// or `-0`. No memory.
     pub fn read_text(bytes: &[u8]) -> Option<Fraction>
         ensures canonical { IfSome result (λ x. spelling x ≡ bytes.now) }
         ensures reads { (x : Fraction) → spelling x ≡ bytes.now → result ≡ Some x }
@@ -30,7 +32,8 @@ impl Fraction {
     }
 }
 
-/// The fraction with these numbers, where the denominator is positive and they have no common divisor.
+/// The fraction with these numbers, or None where the denominator is not positive or they have a common
+/// divisor above 1.
 fn in_lowest_terms(numerator: i128, denominator: i128) -> Option<Fraction>
     requires numerator_in_range { InRange numerator }
     requires denominator_in_range { InRange denominator }
@@ -45,8 +48,8 @@ fn in_lowest_terms(numerator: i128, denominator: i128) -> Option<Fraction>
     }
 }
 
-/// The whole number in range that the text spells as it is printed: no plus, no zero in front, and no
-/// minus at 0.
+/// The whole number in range that the text spells as it is printed: no plus, no zero in front, and no minus
+/// at 0. None for any other text. That it was printed so is seen by printing it again.
 fn read_whole(text: &str) -> Option<i128>
     ensures canonical { IfSome result (λ n. InRange n × (signed_decimal n ≡ text.now)) }
     ensures reads { (n : ℤ) → InRange n → signed_decimal n ≡ text.now → result ≡ Some n }

@@ -1,3 +1,6 @@
+//! Sums, differences and middles of fractions. In contracts, `sum_numbers` and `difference_numbers` list
+//! the numbers that [`Fraction::add`] names. `IsSum`, `IsDifference` and `IsMiddle` say that the answer is
+//! exact.
 ghost use Rattle.std.specs.Prelude.{◌≡◌, pos, IfOk, OnOk, OnErr};
 ghost use Rattle.fraction128.specs.Arithmetic.{IsSum, IsDifference, IsMiddle, sum_numbers, difference_numbers};
 ghost use Rattle.fraction128.specs.Formulas.{answered, middle, ratio_of};
@@ -8,8 +11,8 @@ use crate::range::{product, sum, sum_of_products};
 use crate::{Fraction, Overflow};
 
 impl Fraction {
-    /// The sum. It overflows exactly where a number of the formula over the least common multiple of
-    /// the denominators is out of range.
+    /// The sum of a/b and c/d. It overflows exactly where one of `a * d'`, `c * b'`, their sum and
+    /// `b' * d` is out of range. Here b' and d' are b and d, divided by their greatest common divisor.
     #[inline(always)]
     pub fn add(self, other: Fraction) -> Result<Fraction, Overflow>
         ensures value { IfOk result (λ z. IsSum self other z) }
@@ -23,7 +26,7 @@ impl Fraction {
         }
     }
 
-    /// The sum of two whole numbers.
+    /// The sum of two whole numbers; Overflow where it is out of range.
     #[inline(always)]
     fn add_whole(self, other: Fraction) -> Result<Fraction, Overflow>
         requires first { self.denominator ≡ pos 1 }
@@ -36,7 +39,8 @@ impl Fraction {
         Ok(Fraction::whole(numerator))
     }
 
-    /// The sum of any two fractions.
+    /// The sum of any two fractions, which overflows as `add` says. Each numerator is multiplied by the
+    /// other denominator without the common divisor, and the result is reduced.
     #[inline(never)]
     fn add_parts(self, other: Fraction) -> Result<Fraction, Overflow>
         ensures value { IfOk result (λ z. IsSum self other z) }
@@ -54,7 +58,8 @@ impl Fraction {
         Ok(Fraction::reduced(numerator, denominator))
     }
 
-    /// The difference. It overflows where the sum with the negative does.
+    /// The difference. It overflows exactly where the sum with the negative of `other` does, as `add`
+    /// says.
     pub fn sub(self, other: Fraction) -> Result<Fraction, Overflow>
         ensures value { IfOk result (λ z. IsDifference self other z) }
         ensures fits { OnOk result (AllInRange (difference_numbers self other)) }
@@ -63,7 +68,8 @@ impl Fraction {
         self.add(other.negated())
     }
 
-    /// The fraction half way between the two. It overflows where the sum does, or the sum divided by 2.
+    /// The fraction half way between the two: half of their sum. It overflows exactly where `add` does, or
+    /// `divide` of the sum by 2.
     pub fn middle(self, other: Fraction) -> Result<Fraction, Overflow>
         ensures value { IfOk result (λ z. IsMiddle self other z) }
         ensures formula { answered result ≡ middle (ratio_of self) (ratio_of other) }

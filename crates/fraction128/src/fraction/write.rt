@@ -1,3 +1,4 @@
+//! The canonical spelling of a fraction, which `read_text` reads.
 ghost use Rattle.std.specs.Prelude.{◌≡◌, IfOk};
 ghost use Rattle.fraction128.specs.Spelling.{spelling};
 

@@ -8,30 +8,37 @@ use Rattle.donor_book.proofs.replay.first_illegal.Goals as goal
 use Rattle.donor_book.proofs.replay.first_illegal.Goals.{After-is_next}
 
 pub loop-place-init : goal.loop-place-init
-loop-place-init c = rw (c.in_ok-uses.ensures.items_if_clones_equal (λ y e. e), c.in_ok-replies.ensures) (read_none c.args.limit c.args.donors c.args.rows (search rules))
+loop-place-init c = rw (c.in_ok-uses.ensures.items_if_clones_equal (λ y e. e), c.in_ok-replies.ensures)
+    (read_none c.args.limit c.args.donors c.args.rows (search rules))
 
 module _ (c : After-is_next) where
   -- whether the entry may stand behind those that were read
   told : Decides c.is_next.result (IsNext c.args.limit (wins_of (take c.loop-place.place c.args.claims.now)) c.index-claims-place.result)
-  told = c.is_next.ensures (wins_of (take c.loop-place.place c.args.claims.now)) (rw (c.deref.ensures.value, c.deref-in-loop-place.ensures.value) c.loop-place.invariant.0.2)
+  told = c.is_next.ensures (wins_of (take c.loop-place.place c.args.claims.now)) (rw (c.deref.ensures.value, c.deref-in-loop-place.ensures.value)
+      c.loop-place.invariant.0.2)
 
 pub returns-then-not-is_next-clause-illegal : goal.returns-then-not-is_next-clause-illegal
 returns-then-not-is_next-clause-illegal c =
     let at = (goal.at.returns-then-not-is_next-clause-illegal c).After-is_next in
-    first_at c.args.limit c.args.donors c.args.rows c.args.claims.now c.loop-place.place c.index-claims-place.result c.loop-place.uses.items c.loop-place.replies.items c.loop-place.invariant c.loop-place-test.true c.index-claims-place.is (not_from_Decides c.is_next.result (told at) c.if-not-is_next.true)
+    first_at c.args.limit c.args.donors c.args.rows c.args.claims.now c.loop-place.place c.index-claims-place.result c.loop-place.uses.items
+    c.loop-place.replies.items c.loop-place.invariant c.loop-place-test.true c.index-claims-place.is
+    (not_from_Decides c.is_next.result (told at) c.if-not-is_next.true)
 
 pub note-requires-clause-donor : goal.note-requires-clause-donor
 note-requires-clause-donor c =
     let at = (goal.at.note-requires-clause-donor c).After-is_next in
-    donor_within c.args.limit c.args.donors c.args.rows c.args.claims.now c.loop-place.place c.index-claims-place.result c.loop-place.uses.items c.loop-place.replies.items c.loop-place.invariant c.loop-place-test.true c.index-claims-place.is c.requires.within ((told at).0 c.if-not-is_next.false)
+    donor_within c.args.limit c.args.donors c.args.rows c.args.claims.now c.loop-place.place c.index-claims-place.result c.loop-place.uses.items
+    c.loop-place.replies.items c.loop-place.invariant c.loop-place-test.true c.index-claims-place.is c.requires.within ((told at).0 c.if-not-is_next.false)
 
 pub note-requires-clause-room : goal.note-requires-clause-room
 note-requires-clause-room c =
     let at = (goal.at.note-requires-clause-room c).After-is_next in
-    room_within c.args.limit c.args.donors c.args.rows c.args.claims.now c.loop-place.place c.index-claims-place.result c.loop-place.uses.items c.loop-place.replies.items c.loop-place.invariant c.loop-place-test.true c.index-claims-place.is c.requires.within ((told at).0 c.if-not-is_next.false)
+    room_within c.args.limit c.args.donors c.args.rows c.args.claims.now c.loop-place.place c.index-claims-place.result c.loop-place.uses.items
+    c.loop-place.replies.items c.loop-place.invariant c.loop-place-test.true c.index-claims-place.is c.requires.within ((told at).0 c.if-not-is_next.false)
 
 pub loop-place-preserved : goal.loop-place-preserved
 loop-place-preserved c =
     let at = (goal.at.loop-place-preserved c).After-is_next in
     rw (c.note.ensures.uses, c.note.ensures.replies)
-    (read_more c.args.limit c.args.donors c.args.rows c.args.claims.now c.loop-place.place c.index-claims-place.result c.loop-place.uses.items c.loop-place.replies.items c.loop-place.invariant c.loop-place-test.true c.index-claims-place.is c.requires.within ((told at).0 c.if-not-is_next.false))
+    (read_more c.args.limit c.args.donors c.args.rows c.args.claims.now c.loop-place.place c.index-claims-place.result c.loop-place.uses.items
+    c.loop-place.replies.items c.loop-place.invariant c.loop-place-test.true c.index-claims-place.is c.requires.within ((told at).0 c.if-not-is_next.false))

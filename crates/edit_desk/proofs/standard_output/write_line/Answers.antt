@@ -13,10 +13,16 @@ returns-in_err-write_whole-clause-part g c =
 
 pub returns-in_err-write_whole-2-clause-part : goal.returns-in_err-write_whole-2-clause-part
 returns-in_err-write_whole-2-clause-part g c =
-    let (kept, written) = c.write_whole-2.ensures.part in
-    (length c.args.text.now + kept, subst (Appends _ _) (sym (of_line c.args.text.now kept)) (Appends-trans _ _ _ _ _ c.in_ok-write_whole.ensures.whole written))
+    let (kept, written) = c.write_whole-2.ensures.part in (
+      length c.args.text.now + kept,
+      subst (Appends _ _) (sym (of_line c.args.text.now kept))
+          (Appends-trans _ _ _ _ _ c.in_ok-write_whole.ensures.whole written),
+    )
 
 pub returns-clause-part : goal.returns-clause-part
 returns-clause-part g c =
-    let whole : take (length c.args.text.now + 1) (line_of c.args.text.now) ≡ line_of c.args.text.now = of_line c.args.text.now 1 in
-    (length c.args.text.now + 1, subst (Appends _ _) (sym whole) (Appends-kept _ _ _ _ (Appends-trans _ _ _ _ _ c.in_ok-write_whole.ensures.whole c.in_ok-write_whole-2.ensures.whole) c.flush.ensures.bytes))
+    let whole : take (length c.args.text.now + 1) (line_of c.args.text.now) ≡ line_of c.args.text.now = of_line c.args.text.now 1 in (
+      length c.args.text.now + 1,
+      subst (Appends _ _) (sym whole)
+          (Appends-kept _ _ _ _ (Appends-trans _ _ _ _ _ c.in_ok-write_whole.ensures.whole c.in_ok-write_whole-2.ensures.whole) c.flush.ensures.bytes),
+    )

@@ -9,6 +9,8 @@ use Rattle.edit_model.proofs.clean.is_clean.Goals as goal
 
 pub hold_all-requires : goal.hold_all-requires
 hold_all-requires c =
-    let none : list_any is_bad c.args.row.now ≡ false = ap (λ (vs : List Value). list_any is_bad vs) (sym c.values.ensures) ∙ sym c.has_bad.ensures ∙ c.if-not-has_bad.true in
-    let fit : All (IsRule c.args.survey.now.fields) c.rules.result.now = subst (λ (rules : List Rule). All (IsRule c.args.survey.now.fields) rules) (sym c.rules.ensures.rules) c.rules.ensures.well_formed.rules in
+    let none : list_any is_bad c.args.row.now ≡ false = ap (λ (vs : List Value). list_any is_bad vs) (sym c.values.ensures) ∙ sym c.has_bad.ensures
+    ∙ c.if-not-has_bad.true in
+    let fit : All (IsRule c.args.survey.now.fields) c.rules.result.now = subst (λ (rules : List Rule). All (IsRule c.args.survey.now.fields) rules)
+    (sym c.rules.ensures.rules) c.rules.ensures.well_formed.rules in
     can_try-all c.args.survey.now.fields c.args.row.now c.rules.result.now c.requires none fit

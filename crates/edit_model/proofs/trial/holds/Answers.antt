@@ -15,7 +15,9 @@ returns-then-not-branch-clause-truth c = λ p agrees.
 pub returns-clause-truth : goal.returns-clause-truth
 returns-clause-truth c =
     let none_left : drop c.loop-condition.condition-index c.args.rule.now.conditions ≡ [] =
-    drop_all c.loop-condition.condition-index c.args.rule.now.conditions (subst (λ (ts : List Test). length ts ≤ c.loop-condition.condition-index) c.as_slice-condition-items.ensures c.loop-condition-test.false) in
+    drop_all c.loop-condition.condition-index c.args.rule.now.conditions (subst (λ (ts : List Test). length ts ≤ c.loop-condition.condition-index)
+    c.as_slice-condition-items.ensures c.loop-condition-test.false) in
     let whole : rule_at c.args.rule.now c.args.row.now ≡ test_at c.args.rule.now.conclusion c.args.row.now =
     sym c.loop-condition.invariant ∙ ap (λ (ts : List Test). tests_at ts c.args.rule.now.conclusion c.args.row.now) none_left in
-    IfOk-weaker c.is_true-2.result _ _ (λ b e p agrees. rule_at-holds c.args.rule.now c.args.row.now p b c.requires agrees (whole ∙ e)) c.is_true-2.ensures.in_range
+    IfOk-weaker c.is_true-2.result _ _ (λ b e p agrees. rule_at-holds c.args.rule.now c.args.row.now p b c.requires agrees (whole ∙ e))
+    c.is_true-2.ensures.in_range

@@ -10,6 +10,7 @@ returns-in_ok-scale-in-Number c =
     let factor_fits : FitsSigned w64 c.args.term.now.factor = search rules in
     let wide_fits : FitsSigned w128 c.from.result = search rules in
     let given : to_z w128 (of_z w128 c.from.result) ≡ c.args.term.now.factor = simp to_z-of_z (simp to_z-of_z at c.from.ensures) in
-    with_number c.args.sum c.in-Number.number c.in_ok-scale-in-Number.field-0 c.args.term.now.factor _ _ c.scale.result c.add.result (sym c.value.ensures ∙ c.in-Number.is) given
+    with_number c.args.sum c.in-Number.number c.in_ok-scale-in-Number.field-0 c.args.term.now.factor _ _ c.scale.result c.add.result
+    (sym c.value.ensures ∙ c.in-Number.is) given
     (scaled-answered c.in-Number.number _ c.scale.result c.scale.ensures.value c.scale.ensures.fits c.scale.ensures.overflow) c.in_ok-scale-in-Number.was
     (added-answered c.args.sum c.in_ok-scale-in-Number.field-0 c.add.result c.add.ensures.value c.add.ensures.fits c.add.ensures.overflow)

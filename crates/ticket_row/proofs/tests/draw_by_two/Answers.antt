@@ -17,7 +17,11 @@ close-requires-clause-row g c =
     let row = c.in_ok-tickets.tickets.row in
     let seats = c.in-Some-Some in
     let all = All-weaker (IsFresh row) (IsOf row) (λ s fresh. fresh.row) c.in_ok-tickets.seats.items c.in_ok-tickets.ensures.fresh in
-    let one = popped row c.pop.new.self.items seats.one (subst (λ r. All (IsOf row) (c.pop.new.self.items ++ option_to_list r)) seats.is-0 (subst (All (IsOf row)) c.pop.ensures.items all)) in
-    let two = popped row c.pop-2.new.self.items seats.two (subst (λ r. All (IsOf row) (c.pop-2.new.self.items ++ option_to_list r)) seats.is-1 (subst (All (IsOf row)) c.pop-2.ensures.items one.0)) in
-    let with_one = subst (All (IsOf row)) (sym c.push_reserved.ensures.items) (All-push (IsOf row) c.pop-2.new.self.items c.join-left.result.0.0 two.0 (c.join-left.ensures.first ∙ one.1)) in
-    subst (All (IsOf row)) (sym c.push_reserved-2.ensures.items) (All-push (IsOf row) c.push_reserved.new.self.items c.join-left.result.1.0 with_one (c.join-left.ensures.second ∙ two.1))
+    let one = popped row c.pop.new.self.items seats.one
+    (subst (λ r. All (IsOf row) (c.pop.new.self.items ++ option_to_list r)) seats.is-0 (subst (All (IsOf row)) c.pop.ensures.items all)) in
+    let two = popped row c.pop-2.new.self.items seats.two
+    (subst (λ r. All (IsOf row) (c.pop-2.new.self.items ++ option_to_list r)) seats.is-1 (subst (All (IsOf row)) c.pop-2.ensures.items one.0)) in
+    let with_one = subst (All (IsOf row)) (sym c.push_reserved.ensures.items)
+    (All-push (IsOf row) c.pop-2.new.self.items c.join-left.result.0.0 two.0 (c.join-left.ensures.first ∙ one.1)) in
+    subst (All (IsOf row)) (sym c.push_reserved-2.ensures.items)
+    (All-push (IsOf row) c.push_reserved.new.self.items c.join-left.result.1.0 with_one (c.join-left.ensures.second ∙ two.1))

@@ -17,7 +17,10 @@ compare_exchange-requires g c =
       r.seat.0 ∙ sym (ap (λ b. b.table) c.self.view_is),
       (let a = r.at.1 in omega (arith, a, own.0, ap (λ (t : Terms). t.rows) own.2, rows)),
       rw (r.at.0, c.word.ensures, r.entry)
-          (tries c.self.inside.table.shared.key c.self.inside.table.shared.table_id.slots c.args.seat.now.id me (step c.self.inside.table.shared.table_id.slots (length me.0.seen) 0 c.word.result none) (entry_of c.args.claim.row_no c.args.ranking.now c.args.claim.reply)
+          (tries c.self.inside.table.shared.key c.self.inside.table.shared.table_id.slots c.args.seat.now.id me
+          (step c.self.inside.table.shared.table_id.slots (length me.0.seen) 0 c.word.result none)
+          (entry_of c.args.claim.row_no c.args.ranking.now c.args.claim.reply)
           (r.seat.2 ∙ terms) r.seat.3 (let a = r.at.1 in omega (arith, a, r.at.0, rows))
-          (subst (λ (t : Terms). IsWithin t.donors t.rows c.args.claim) terms r.claim) r.first (r.free ∙ ap (λ (t : Terms). first_free t.limit me.0.seen c.args.ranking.now) terms)),
+          (subst (λ (t : Terms). IsWithin t.donors t.rows c.args.claim) terms r.claim) r.first
+          (r.free ∙ ap (λ (t : Terms). first_free t.limit me.0.seen c.args.ranking.now) terms)),
     )

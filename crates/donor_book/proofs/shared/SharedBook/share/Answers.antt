@@ -22,8 +22,12 @@ of_words-requires c =
 
 pub split_seat-seat-requires : goal.split_seat-seat-requires
 split_seat-seat-requires c =
-    let inv = c.loop.invariant in
-    (search rules, search rules, splits_as c.in_ok-table.table.shared.key c.loop.first.id c.loop.first.me.0 (let more = c.loop-test.true in omega (arith, inv.9, more)))
+    let inv = c.loop.invariant in (
+      search rules,
+      search rules,
+      splits_as c.in_ok-table.table.shared.key c.loop.first.id c.loop.first.me.0 (let more = c.loop-test.true in
+          omega (arith, inv.9, more)),
+    )
 
 pub loop-preserved : goal.loop-preserved
 loop-preserved c =

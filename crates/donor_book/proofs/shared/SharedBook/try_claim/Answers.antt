@@ -15,7 +15,8 @@ note-requires-clause-room c k d lt =
     let inv = c.pass.invariant in
     let few = uses_few c.pass.inside.seat.me.0.seen c.pass.inside.uses.items c.pass.inside.replies.items k d inv.10 lt in
     let room : length c.pass.inside.seat.me.0.seen < c.pass.inside.terms.rows =
-    subst (λ (p : PassState). length p.seen < p.book.terms.rows) (sym c.pass.view_is) (subst (λ (n : BookName). length c.args.pass.now.seen < n.terms.rows) (sym c.requires.book) c.requires.room) in
+    subst (λ (p : PassState). length p.seen < p.book.terms.rows) (sym c.pass.view_is) (subst (λ (n : BookName). length c.args.pass.now.seen < n.terms.rows)
+    (sym c.requires.book) c.requires.room) in
     omega (arith, few, room, inv.4)
 
 module _ (c : goal.After-pass-1) where
@@ -41,7 +42,8 @@ module _ (c : goal.After-pass-1) where
 
   -- and its place is behind those of the pass's other claims
   placed_is : ArePlaced c.enter-found.new.seat.me.0.seen c.enter-found.new.seat.me.0.mine
-  placed_is = placed_on c.pass.inside.terms entry c.pass.inside.seat.me.0 (eqb c.enter-found.result 0) c.read.result c.enter-found.new.seat.me seen_is c.pass.invariant.11
+  placed_is = placed_on c.pass.inside.terms entry c.pass.inside.seat.me.0 (eqb c.enter-found.result 0) c.read.result c.enter-found.new.seat.me seen_is
+      c.pass.invariant.11
 
 pub returns-clause-placed : goal.returns-clause-placed
 returns-clause-placed c = placed_is c
@@ -62,6 +64,7 @@ invariant_of-pass c =
       rw h.seen (sound_push c.pass.inside.terms seen c.read.result inv.7 h.within h.first),
       rw c.note.ensures.uses (length_use c.read.result.reply c.pass.inside.uses.items ∙ inv.8),
       rw c.note.ensures.replies (length-set c.pass.inside.replies.items c.read.result.row_no (Some c.read.result.reply) ∙ inv.9),
-      rw (h.seen, c.note.ensures.uses, c.note.ensures.replies) (replay_push seen c.pass.inside.uses.items c.pass.inside.replies.items c.read.result inv.10 (in_tables c.pass.inside.terms c.pass.inside.uses.items c.pass.inside.replies.items c.read.result inv.8 inv.9 h.within) h.first),
+      rw (h.seen, c.note.ensures.uses, c.note.ensures.replies) (replay_push seen c.pass.inside.uses.items c.pass.inside.replies.items c.read.result inv.10
+          (in_tables c.pass.inside.terms c.pass.inside.uses.items c.pass.inside.replies.items c.read.result inv.8 inv.9 h.within) h.first),
       placed_is c,
     )

@@ -9,7 +9,8 @@ pub returns-then-has_name_form : goal.returns-then-has_name_form
 returns-then-has_name_form c =
     let same : c.is_reserved.result ≡ list_any (λ word. bytes_eq c.args.name.now word) reserved_words =
     c.is_reserved.ensures ∙ ap (λ (name : List ℕ). list_any (λ word. bytes_eq name word) reserved_words) c.as_bytes-bytes.ensures.bytes in
-    let form : has_name_form c.args.name.now ≡ true = ap has_name_form (sym c.as_bytes-bytes.ensures.bytes) ∙ sym c.has_name_form.ensures ∙ c.if-has_name_form.true in (
+    let form : has_name_form c.args.name.now ≡ true = ap has_name_form (sym c.as_bytes-bytes.ensures.bytes) ∙ sym c.has_name_form.ensures
+    ∙ c.if-has_name_form.true in (
       λ free. record {
         size = c.as_bytes-bytes.ensures.size;
         form = form;

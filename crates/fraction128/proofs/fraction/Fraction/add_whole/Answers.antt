@@ -44,4 +44,5 @@ returns-clause-fits c =
     let a_fits = FitsSigned-in_range x.numerator x.numerator_in_range in
     let c_fits = FitsSigned-in_range y.numerator y.numerator_in_range in
     let fits = simp to_z-of_z at c.in_ok-numerator.ensures in
-    whole_sum-fits x.numerator x.denominator y.numerator y.denominator c.requires.first c.requires.second x.numerator_in_range y.numerator_in_range fits.0 x.denominator_in_range
+    whole_sum-fits x.numerator x.denominator y.numerator y.denominator c.requires.first c.requires.second x.numerator_in_range y.numerator_in_range fits.0
+    x.denominator_in_range

@@ -57,7 +57,8 @@ from_lowest_terms-quotient-requires-clause-coprime c =
     let second_fits : FitsSigned w128 c.of-parts.result.second = search rules in
     let size_is = simp to_z-of_z at c.abs.ensures.value in
     let is = simp to_z-of_z at c.in_ok-denominator.ensures.1 in
-    simp to_z-of_z (quotient-coprime x.numerator x.denominator c.args.divisor _ _ _ (first at) (second at) (is ∙ ap (λ (n : ℤ). x.denominator *ℤ n) size_is) c.requires.not_zero x.reduced)
+    simp to_z-of_z (quotient-coprime x.numerator x.denominator c.args.divisor _ _ _ (first at) (second at) (is ∙ ap (λ (n : ℤ). x.denominator *ℤ n) size_is)
+    c.requires.not_zero x.reduced)
 
 pub returns-then-divisor-lt0-clause-value : goal.returns-then-divisor-lt0-clause-value
 returns-then-divisor-lt0-clause-value c =

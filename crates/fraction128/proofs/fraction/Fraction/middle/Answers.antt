@@ -20,7 +20,8 @@ returns-clause-value c =
 pub returns-clause-formula : goal.returns-clause-formula
 returns-clause-formula c =
     let w = c.in_ok-add.field-0 in
-    half-answered c.args.self c.args.other w c.divide.result (added-answered {E = ℕ} c.args.self c.args.other (Ok w) c.in_ok-add.ensures.value c.in_ok-add.ensures.fits tt)
+    half-answered c.args.self c.args.other w c.divide.result (added-answered {E = ℕ} c.args.self c.args.other (Ok w) c.in_ok-add.ensures.value
+    c.in_ok-add.ensures.fits tt)
     (divided-answered w (pos 2) c.divide.result two_apart c.divide.ensures.value c.divide.ensures.fits c.divide.ensures.overflow)
 
 pub returns-in_err-add-clause-formula : goal.returns-in_err-add-clause-formula

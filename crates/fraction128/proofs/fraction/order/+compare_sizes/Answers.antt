@@ -1,7 +1,8 @@
 use Rattle.std.proofs.Common.{◌≡◌, ◌%◌, ◌⊎◌, ◌∙◌, inl, inr}
 use Rattle.fraction128.proofs.OrderLaws.{nat_cmp-over, nat_cmp-wholes, nat_cmp-rests, nat_cmp-end, nat_cmp-turned}
 use Rattle.fraction128.proofs.fraction.order.+compare_sizes.Goals as goal
-use Rattle.fraction128.proofs.fraction.order.+compare_sizes.Goals.{then-first_rest-eq0-via-then-first_rest-eq0, then-first_rest-eq0-via-else-first_rest-eq0+then-second_rest-eq0}
+use Rattle.fraction128.proofs.fraction.order.+compare_sizes.Goals.{then-first_rest-eq0-via-then-first_rest-eq0}
+use Rattle.fraction128.proofs.fraction.order.+compare_sizes.Goals.{then-first_rest-eq0-via-else-first_rest-eq0+then-second_rest-eq0}
 
 pub returns-then-b-d : goal.returns-then-b-d
 returns-then-b-d t c = c.cmp.ensures ∙ nat_cmp-over _ _ _ _ c.requires.first c.if-b-d.true

@@ -6,7 +6,8 @@ use Rattle.fraction128.specs.Divisor.{gcd}
 use Rattle.fraction128.proofs.DivisorLaws.{gcd-from_IsGcd}
 use Rattle.fraction128.proofs.LowestLaws.{Fraction-same}
 use Rattle.fraction128.proofs.fraction.read.in_lowest_terms.Goals as goal
-use Rattle.fraction128.proofs.fraction.read.in_lowest_terms.Goals.{else-denominator-gt0-via-then-denominator-gt0+else-gcd-eq1, else-denominator-gt0-via-else-denominator-gt0}
+use Rattle.fraction128.proofs.fraction.read.in_lowest_terms.Goals.{else-denominator-gt0-via-then-denominator-gt0+else-gcd-eq1}
+use Rattle.fraction128.proofs.fraction.read.in_lowest_terms.Goals.{else-denominator-gt0-via-else-denominator-gt0}
 
 pub from_lowest_terms-requires-clause-coprime : goal.from_lowest_terms-requires-clause-coprime
 from_lowest_terms-requires-clause-coprime c =
@@ -35,7 +36,8 @@ returns-else-denominator-gt0-clause-found c x p q =
           let gcd_fits : FitsSigned w128 w.gcd.result = search rules in
           let value = simp to_z-of_z at w.gcd.ensures.value in
           let coprime = gcd-from_IsGcd _ _ 1 x.reduced in
-          let one : w.gcd.result ≡ pos 1 = value ∙ ap pos (ap (λ (n : ℤ). gcd (unsigned_abs n) (unsigned_abs c.args.denominator)) (sym p) ∙ ap (λ (n : ℤ). gcd (unsigned_abs x.numerator) (unsigned_abs n)) (sym q) ∙ sym coprime) in
+          let one : w.gcd.result ≡ pos 1 = value ∙ ap pos (ap (λ (n : ℤ). gcd (unsigned_abs n) (unsigned_abs c.args.denominator)) (sym p)
+          ∙ ap (λ (n : ℤ). gcd (unsigned_abs x.numerator) (unsigned_abs n)) (sym q) ∙ sym coprime) in
           absurd (omega (arith, ints, w.if-gcd-eq1.false))
       | else-denominator-gt0-via-else-denominator-gt0 w ↦ absurd (omega (arith, ints, x.positive, w.if-denominator-gt0.false))
     ]

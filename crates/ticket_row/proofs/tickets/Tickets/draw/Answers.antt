@@ -17,7 +17,8 @@ fetch_add-found-requires c =
     let no_end : c.seat.inside.place.me.0.ends ≡ 0 = inv.2 ∙ ap one_if c.if-seat.false in (
       ap (λ d. d.row.name) c.seat.view_is ∙ ap (λ r. r.name) c.requires ∙ sym (ap (λ t. t.row.name) c.self.view_is),
       search rules,
-      draws_as c.self.inside.table.shared.key c.self.inside.table.shared.table_id.slots c.seat.inside.place.id c.seat.inside.place.me (step c.self.inside.table.shared.table_id.slots 0 1 0 none) (omega (arith, own.2, own.4)) (omega (arith, no_end, inv.1)),
+      draws_as c.self.inside.table.shared.key c.self.inside.table.shared.table_id.slots c.seat.inside.place.id c.seat.inside.place.me
+          (step c.self.inside.table.shared.table_id.slots 0 1 0 none) (omega (arith, own.2, own.4)) (omega (arith, no_end, inv.1)),
     )
 
 -- a number was drawn
@@ -57,7 +58,11 @@ invariant_of-seat c =
 pub returns-then-found-self-clause-row : goal.returns-then-found-self-clause-row
 returns-then-found-self-clause-row c =
     let e = me_is c in
-    let here : record { name = c.fetch_add-found.new.seat.table_id; count = c.fetch_add-found.new.seat.me.0.count } ≡ record { name = c.seat.inside.place.table_id; count = (hand c).count } = λ i. record { name = c.fetch_add-found.ensures.0 i; count = (e i).0.count } in
+    let here : record {
+      name = c.fetch_add-found.new.seat.table_id;
+      count = c.fetch_add-found.new.seat.me.0.count;
+    } ≡ record { name = c.seat.inside.place.table_id; count = (hand c).count } =
+    λ i. record { name = c.fetch_add-found.ensures.0 i; count = (e i).0.count } in
     here ∙ ap (λ d. d.row) c.seat.view_is
 
 pub returns-then-found-self-clause-some : goal.returns-then-found-self-clause-some
@@ -68,7 +73,8 @@ returns-then-found-self-clause-some c =
 pub returns-then-found-self-clause-few : goal.returns-then-found-self-clause-few
 returns-then-found-self-clause-few c =
     let e = me_is c in
-    subst (λ n. length c.fetch_add-found.new.seat.me.0.drawn ≤ n) (count_is c ∙ ap (λ t. t.row.count) c.self.view_is) (subst (λ m. length m.0.drawn ≤ (hand c).count) (sym e) (rising_few ((hand c).drawn ++ number c ∷ []) (hand c).count (rises c) (stays_below c)))
+    subst (λ n. length c.fetch_add-found.new.seat.me.0.drawn ≤ n) (count_is c ∙ ap (λ t. t.row.count) c.self.view_is)
+    (subst (λ m. length m.0.drawn ≤ (hand c).count) (sym e) (rising_few ((hand c).drawn ++ number c ∷ []) (hand c).count (rises c) (stays_below c)))
 
 -- none was left
 module _ (c : goal.After-seat-1) where
@@ -77,7 +83,8 @@ module _ (c : goal.After-seat-1) where
 
   me_past : c.fetch_add-found.new.seat.me ≡ (hand_with old.count old.seats old.drawn (old.ends + 1), c.seat.inside.place.me.1)
   me_past = c.fetch_add-found.ensures.2.0 ∙ ap (λ h. (h, c.seat.inside.place.me.1)) (drew_past c.fetch_add-found.result old
-      (let e = ap (λ d. d.row.count) c.seat.view_is ∙ ap (λ r. r.count) c.requires ∙ sym (ap (λ t. t.row.count) c.self.view_is) in let ge = c.if-found-self.false in omega (arith, e, ge)))
+      (let e = ap (λ d. d.row.count) c.seat.view_is ∙ ap (λ r. r.count) c.requires ∙ sym (ap (λ t. t.row.count) c.self.view_is) in
+      let ge = c.if-found-self.false in omega (arith, e, ge)))
 
 pub invariant_of-seat-else-found-self : goal.invariant_of-seat-else-found-self
 invariant_of-seat-else-found-self c =
@@ -100,11 +107,13 @@ pub returns-else-found-self-clause-few : goal.returns-else-found-self-clause-few
 returns-else-found-self-clause-few c =
     let inv = c.seat.invariant in
     let few = rising_few (old c).drawn (old c).count inv.3 inv.4 in
-    subst (λ n. length c.fetch_add-found.new.seat.me.0.drawn ≤ n) (ap (λ d. d.row.count) c.seat.view_is ∙ ap (λ r. r.count) c.requires) (subst (λ m. length m.0.drawn ≤ (old c).count) (sym (me_past c)) few)
+    subst (λ n. length c.fetch_add-found.new.seat.me.0.drawn ≤ n) (ap (λ d. d.row.count) c.seat.view_is ∙ ap (λ r. r.count) c.requires)
+    (subst (λ m. length m.0.drawn ≤ (old c).count) (sym (me_past c)) few)
 
 -- the seat met the end before
 pub returns-then-seat-clause-few : goal.returns-then-seat-clause-few
 returns-then-seat-clause-few c =
     let hand = c.seat.inside.place.me.0 in
-    let few : length c.args.seat.now.drawn ≤ c.args.seat.now.row.count = subst (λ seat. length seat.drawn ≤ seat.row.count) c.seat.view_is (rising_few hand.drawn hand.count c.seat.invariant.3 c.seat.invariant.4) in
+    let few : length c.args.seat.now.drawn ≤ c.args.seat.now.row.count =
+    subst (λ seat. length seat.drawn ≤ seat.row.count) c.seat.view_is (rising_few hand.drawn hand.count c.seat.invariant.3 c.seat.invariant.4) in
     subst (λ row. length c.args.seat.now.drawn ≤ row.count) c.requires few
